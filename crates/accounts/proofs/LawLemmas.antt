@@ -1,0 +1,232 @@
+-- Names and numbers of a table are distinct, no number is too great, and there are not too many rows.
+use Rattle.std.proofs.Common.{◌≡◌, ◌⊎◌, ℕ, zero, suc, ◌+◌, ◌-◌, ◌<◌, ◌≤◌, Bool, true, false, cond, List, [], ◌∷◌, ◌++◌, length, map, get_or, refl, sym, ap, ◌∙◌, arith, Option, Some, None, Result, Ok, Err, bytes_eq, nat_eq, subst, inl, inr}
+use Rattle.std.specs.Prelude.{◌&&◌, ◌||◌, nat_le, nat_lt}
+use Rattle.std.specs.List.{list_any, list_all}
+use Rattle.std.specs.Char.{digit_value}
+use Rattle.std.specs.Str.Parse.{digits_value}
+use Rattle.std.proofs.lemmas.Bool.{true≢false, and_parts, or_parts, both_ways, eq-eqb, ltb-false, leb-true, cases_Bool}
+use Rattle.std.proofs.lemmas.List.{append-nil, append_assoc, map_push, get_or_append_left, get_or-append_right, length-append, length-map}
+use Rattle.std.proofs.lemmas.Slice.Eq.{bytes_eq-Decides}
+use Rattle.idtext.specs.declared.faults.TextCode.{TextCode}
+use Rattle.idtext.specs.declared.faults.TextCode.TheVariants.{NameTwice, SharedNumber}
+use Rattle.idtext.specs.declared.faults.TextFault.{TextFault}
+use Rattle.idtext.specs.First.{◌>>=◌, or_else, first_fault, unless}
+use Rattle.idtext.specs.Numbers.{id_of, numeral, is_numeral}
+use Rattle.idtext.specs.Pieces.{lines, fields_of}
+use Rattle.accounts.specs.Laws.{AreDistinct, IsTable, IsPasswdTable, IsGroupTable}
+use Rattle.idtext.specs.Names.{is_lawful_name}
+use Rattle.accounts.specs.Lines.{is_kept}
+use Rattle.accounts.specs.Rows.{Passwd, Group, passwd_from, passwd_line, group_from, group_line, named, numbered}
+use Rattle.accounts.specs.Tables.{row_in, rows_from, shared, shared_fault, fault_in, line_fault, table, passwd_table, group_table}
+use Rattle.accounts.proofs.ListLemmas.{list_any-map}
+use Rattle.accounts.proofs.TableLemmas.{rows_from-push}
+
+-- ---- lists without repeats
+
+not_there : {K : Type 0} (test : K → K → Bool) (reflexive : (a : K) → test a a ≡ true) (xs : List K) (x d : K) (i : ℕ) → list_any (test x) xs ≡ false → i < length xs → get_or xs i d ≡ x → ⊥
+not_there test reflexive [] x d i none lt e = omega (arith, lt)
+not_there test reflexive (y ∷ ys) x d zero none lt e =
+    true≢false (sym (reflexive x) ∙ ap (test x) (sym e) ∙ (or_parts (test x y) (list_any (test x) ys) none).0)
+not_there test reflexive (y ∷ ys) x d (suc i) none lt e = not_there test reflexive ys x d i (or_parts (test x y) (list_any (test x) ys) none).1 (omega arith) e
+
+at_last : {K : Type 0} (xs : List K) (x d : K) → get_or (xs ++ x ∷ []) (length xs) d ≡ x
+at_last [] x d = refl
+at_last (y ∷ ys) x d = at_last ys x d
+
+before_last : (n i : ℕ) → i < n + 1 → (i < n) ⊎ (i ≡ n)
+before_last zero zero lt = inr refl
+before_last zero (suc i) lt = absurd (omega (arith, lt))
+before_last (suc n) zero lt = inl (omega arith)
+before_last (suc n) (suc i) lt = further (before_last n i (omega arith))
+  where
+    further : (i < n) ⊎ (i ≡ n) → (suc i < suc n) ⊎ (suc i ≡ suc n)
+    further (inl l) = inl (omega arith)
+    further (inr e) = inr (ap suc e)
+
+pub distinct-push : {K : Type 0} (test : K → K → Bool) (reflexive : (a : K) → test a a ≡ true) (xs : List K) (x : K) → list_any (test x) xs ≡ false → AreDistinct xs → AreDistinct (xs ++ x ∷ [])
+distinct-push {K} test reflexive xs x none apart = λ i j d hi hj e.
+    by i j d e (before_last (length xs) i (omega (arith, hi, length-append xs (x ∷ [])))) (before_last (length xs) j (omega (arith, hj, length-append xs (x ∷ []))))
+  where
+    by : (i j : ℕ) (d : K) → get_or (xs ++ x ∷ []) i d ≡ get_or (xs ++ x ∷ []) j d → (i < length xs) ⊎ (i ≡ length xs) → (j < length xs) ⊎ (j ≡ length xs) → i ≡ j
+    by i j d e (inl a) (inl b) = apart i j d a b (sym (get_or_append_left xs (x ∷ []) d i a) ∙ e ∙ get_or_append_left xs (x ∷ []) d j b)
+    by i j d e (inl a) (inr b) = absurd (not_there test reflexive xs x d i none a (sym (get_or_append_left xs (x ∷ []) d i a) ∙ e ∙ ap (λ k. get_or (xs ++ x ∷ []) k d) b ∙ at_last xs x d))
+    by i j d e (inr a) (inl b) = absurd (not_there test reflexive xs x d j none b (sym (get_or_append_left xs (x ∷ []) d j b) ∙ sym e ∙ ap (λ k. get_or (xs ++ x ∷ []) k d) a ∙ at_last xs x d))
+    by i j d e (inr a) (inr b) = a ∙ sym b
+
+bytes_refl : (a : List ℕ) → bytes_eq a a ≡ true
+bytes_refl a = (bytes_eq-Decides a a).1 refl
+
+number_refl : (n : ℕ) → nat_eq n n ≡ true
+number_refl n = eq-eqb n n refl
+
+-- ---- tables
+
+none_of_both : {F : Type 0} (a b : Option F) → or_else a b ≡ None → (a ≡ None) × (b ≡ None)
+none_of_both None b e = (refl, e)
+none_of_both (Some f) b e = cc
+
+module _ {Row : Type 0} (line_of : ℕ → List ℕ → Result (Option Row) TextFault) (name : Row → List ℕ) (number : Row → ℕ) (lawful : (n : ℕ) (line : List ℕ) (row : Row) → line_of n line ≡ Ok (Some row) → (n ≤ 65536) × (number row ≤ 4294967294)) where
+  few_rows : (n : ℕ) (ls : List (List ℕ)) → length (rows_from line_of name number n ls) ≤ 65537 - n
+  unfolding rows_from
+  few_rows n [] = omega arith
+  few_rows n (line ∷ more) = by (line_of n line) refl (few_rows (n + 1) more)
+    where
+      by : (told : Result (Option Row) TextFault) → line_of n line ≡ told → length (rows_from line_of name number (n + 1) more) ≤ 65537 - (n + 1) → length (row_in line_of name number told ++ rows_from line_of name number (n + 1) more) ≤ 65537 - n
+      by (Err fault) e later = omega (arith, later)
+      by (Ok None) e later = omega (arith, later)
+      by (Ok (Some row)) e later = omega (arith, later, (lawful n line row e).0)
+
+  least_of : (n : ℕ) (ls : List (List ℕ)) (i : ℕ) → i < length (map number (rows_from line_of name number n ls)) → get_or (map number (rows_from line_of name number n ls)) i 0 ≤ 4294967294
+  unfolding rows_from
+  least_of n [] i lt = omega arith
+  least_of n (line ∷ more) i lt = by (line_of n line) refl (λ j l. least_of (n + 1) more j l) i lt
+    where
+      by : (told : Result (Option Row) TextFault) → line_of n line ≡ told → ((j : ℕ) → j < length (map number (rows_from line_of name number (n + 1) more)) → get_or (map number (rows_from line_of name number (n + 1) more)) j 0 ≤ 4294967294) → (i : ℕ) → i < length (map number (row_in line_of name number told ++ rows_from line_of name number (n + 1) more)) → get_or (map number (row_in line_of name number told ++ rows_from line_of name number (n + 1) more)) i 0 ≤ 4294967294
+      by (Err fault) e later i lt = later i lt
+      by (Ok None) e later i lt = later i lt
+      by (Ok (Some row)) e later zero lt = (lawful n line row e).1
+      by (Ok (Some row)) e later (suc i) lt = later i (omega arith)
+
+  pub record Apart (rows : List Row) : Type 0 where
+    pub names : AreDistinct (map name rows)
+    pub numbers : AreDistinct (map number rows)
+
+  push_row : (rows : List Row) (row : Row) → shared line_of name number rows row ≡ None → Apart rows → Apart (rows ++ row ∷ [])
+  push_row rows row none apart =
+      by (list_any (λ r. bytes_eq (name row) (name r)) rows) (list_any (λ r. nat_eq (number row) (number r)) rows) refl refl none
+    where
+      by : (a b : Bool) → list_any (λ r. bytes_eq (name row) (name r)) rows ≡ a → list_any (λ r. nat_eq (number row) (number r)) rows ≡ b → cond a (Some NameTwice) (cond b (Some SharedNumber) None) ≡ None → Apart (rows ++ row ∷ [])
+      by true b ea eb e = absurd (cc)
+      by false true ea eb e = absurd (cc)
+      by false false ea eb e = record {
+        names = subst (λ (ks : List (List ℕ)). AreDistinct ks) (sym (map_push name rows row)) (distinct-push bytes_eq bytes_refl (map name rows) (name row) (list_any-map (bytes_eq (name row)) name rows ∙ ea) apart.names);
+        numbers = subst (λ (ks : List ℕ). AreDistinct ks) (sym (map_push number rows row)) (distinct-push nat_eq number_refl (map number rows) (number row) (list_any-map (nat_eq (number row)) number rows ∙ eb) apart.numbers);
+      }
+
+  one_line : (rows : List Row) (n : ℕ) (told : Result (Option Row) TextFault) → fault_in line_of name number rows n told ≡ None → Apart rows → Apart (rows ++ row_in line_of name number told)
+  one_line rows n (Err fault) e apart = absurd (cc)
+  one_line rows n (Ok None) e apart = subst (λ (rs : List Row). Apart rs) (sym (append-nil rows)) apart
+  one_line rows n (Ok (Some row)) e apart = push_row rows row (no_code (shared line_of name number rows row) e) apart
+    where
+      no_code : (code : Option TextCode) → shared_fault line_of name number n code ≡ None → code ≡ None
+      no_code None e = refl
+      no_code (Some code) e = cc
+
+  all_lines : (before more : List (List ℕ)) → Apart (rows_from line_of name number 1 before) → first_fault (line_fault line_of name number) before more ≡ None → Apart (rows_from line_of name number 1 (before ++ more))
+  unfolding first_fault line_fault
+  all_lines before [] apart e = subst (λ (ls : List (List ℕ)). Apart (rows_from line_of name number 1 ls)) (sym (append-nil before)) apart
+  all_lines before (line ∷ more) apart e =
+      let both = none_of_both (line_fault line_of name number before line) (first_fault (line_fault line_of name number) (before ++ line ∷ []) more) e in
+      let one = one_line (rows_from line_of name number 1 before) (length before + 1) (line_of (length before + 1) line) both.0 apart in
+      let next = subst (λ (rs : List Row). Apart rs) (sym (rows_from-push line_of name number 1 before line)) one in
+      subst (λ (ls : List (List ℕ)). Apart (rows_from line_of name number 1 ls)) (append_assoc before (line ∷ []) more) (all_lines (before ++ line ∷ []) more next both.1)
+
+  none_at_first : Apart (rows_from line_of name number 1 [])
+  unfolding rows_from
+  none_at_first = record { names = λ i j d hi hj e. absurd (omega (arith, hi)); numbers = λ i j d hi hj e. absurd (omega (arith, hi)) }
+
+  told_ok : (fault : Option TextFault) (made rows : List Row) → unless fault made ≡ Ok rows → (fault ≡ None) × (made ≡ rows)
+  told_ok None made rows e = (refl, cc)
+  told_ok (Some fault) made rows e = cc
+
+  pub table-law : (text : List ℕ) (rows : List Row) → table line_of name number text ≡ Ok rows → IsTable (map name rows) (map number rows)
+  table-law text rows e =
+      let told = told_ok (first_fault (line_fault line_of name number) [] (lines text)) (rows_from line_of name number 1 (lines text)) rows e in
+      let apart = all_lines [] (lines text) none_at_first told.0 in
+      let law : IsTable (map name (rows_from line_of name number 1 (lines text))) (map number (rows_from line_of name number 1 (lines text))) = record {
+        names_differ = apart.names;
+        numbers_differ = apart.numbers;
+        least = least_of 1 (lines text);
+        few = omega (arith, few_rows 1 (lines text), length-map (rows_from line_of name number 1 (lines text)) number);
+      } in
+      subst (λ (rs : List Row). IsTable (map name rs) (map number rs)) told.1 law
+
+-- ---- the rows of lines
+
+id-small : (text : List ℕ) (id : ℕ) → id_of text ≡ Some id → id ≤ 4294967294
+unfolding numeral
+id-small [] id e = absurd (cc)
+id-small (c ∷ cs) id e = by (list_all (λ d. nat_lt (digit_value d) 10) (c ∷ cs)) (nat_le (digits_value 10 (c ∷ cs)) 4294967294) refl e
+  where
+    by : (a b : Bool) → nat_le (digits_value 10 (c ∷ cs)) 4294967294 ≡ b → cond (a && b) (Some (digits_value 10 (c ∷ cs))) None ≡ Some id → id ≤ 4294967294
+    by true true le e = small (cc)
+      where
+        small : digits_value 10 (c ∷ cs) ≡ id → id ≤ 4294967294
+        small is = omega (arith, is, leb-true _ _ le)
+    by true false le e = absurd (cc)
+    by false b le e = absurd (cc)
+
+kept-few : (n : ℕ) (line : List ℕ) (kept : Bool) → is_kept n line ≡ Ok kept → n ≤ 65536
+kept-few n line kept e = ltb-false 65536 n (not_refused (nat_lt 65536 n) _ _ e)
+  where
+    not_refused : {X : Type 0} (a : Bool) (fault : TextFault) (told : Result X TextFault) {x : X} → cond a (Err fault) told ≡ Ok x → a ≡ false
+    not_refused true fault told e = absurd (cc)
+    not_refused false fault told e = refl
+
+named-ok : {X : Type 0} (n : ℕ) (name : List ℕ) (rest : Result X TextFault) (x : X) → named n name rest ≡ Ok x → rest ≡ Ok x
+named-ok {X} n name rest x e = by (is_lawful_name name) e
+  where
+    by : (a : Bool) → cond a rest (Err (record { code = Rattle.idtext.specs.declared.faults.TextCode.TheVariants.BadName; line = n })) ≡ Ok x → rest ≡ Ok x
+    by true e = e
+    by false e = absurd (cc)
+
+numbered-ok : {X : Type 0} (n : ℕ) (id : Option ℕ) (rest : ℕ → Result X TextFault) (x : X) → numbered n id rest ≡ Ok x → (v : ℕ) × (id ≡ Some v) × (rest v ≡ Ok x)
+numbered-ok n None rest x e = absurd (cc)
+numbered-ok n (Some v) rest x e = (v, refl, e)
+
+passwd_from-small : (n : ℕ) (fields : List (List ℕ)) (row : Passwd) → passwd_from n fields ≡ Ok row → row.uid ≤ 4294967294
+passwd_from-small n [] row e = absurd (cc)
+passwd_from-small n (a ∷ []) row e = absurd (cc)
+passwd_from-small n (a ∷ b ∷ []) row e = absurd (cc)
+passwd_from-small n (a ∷ b ∷ c ∷ []) row e = absurd (cc)
+passwd_from-small n (a ∷ b ∷ c ∷ d ∷ []) row e = absurd (cc)
+passwd_from-small n (a ∷ b ∷ c ∷ d ∷ f ∷ []) row e = absurd (cc)
+passwd_from-small n (a ∷ b ∷ c ∷ d ∷ f ∷ g ∷ []) row e = absurd (cc)
+passwd_from-small n (a ∷ b ∷ c ∷ d ∷ f ∷ g ∷ h ∷ i ∷ more) row e = absurd (cc)
+passwd_from-small n (name ∷ password ∷ uid ∷ gid ∷ comment ∷ home ∷ shell ∷ []) row e =
+    let user = numbered-ok n (id_of uid) _ row (named-ok n name _ row e) in
+    let group = numbered-ok n (id_of gid) _ row user.2 in
+    let same : user.0 ≡ row.uid = cc in
+    omega (arith, same, id-small uid user.0 user.1)
+
+group_from-small : (n : ℕ) (fields : List (List ℕ)) (row : Group) → group_from n fields ≡ Ok row → row.gid ≤ 4294967294
+group_from-small n [] row e = absurd (cc)
+group_from-small n (a ∷ []) row e = absurd (cc)
+group_from-small n (a ∷ b ∷ []) row e = absurd (cc)
+group_from-small n (a ∷ b ∷ c ∷ []) row e = absurd (cc)
+group_from-small n (a ∷ b ∷ c ∷ d ∷ f ∷ more) row e = absurd (cc)
+group_from-small n (name ∷ password ∷ gid ∷ members ∷ []) row e =
+    let group = numbered-ok n (id_of gid) _ row (named-ok n name _ row e) in
+    let same : group.0 ≡ row.gid = cc in
+    omega (arith, same, id-small gid group.0 group.1)
+
+bind-ok : {X Y : Type 0} (first : Result X TextFault) (next : X → Result Y TextFault) (y : Y) → first >>= next ≡ Ok y → (x : X) × (first ≡ Ok x) × (next x ≡ Ok y)
+bind-ok (Ok x) next y e = (x, refl, e)
+bind-ok (Err fault) next y e = absurd (cc)
+
+kept-row : {Row : Type 0} (kept : Bool) (told : Result Row TextFault) (row : Row) → cond kept (told >>= λ r. Ok (Some r)) (Ok None) ≡ Ok (Some row) → told ≡ Ok row
+kept-row true (Ok r) row e = cc
+kept-row true (Err fault) row e = absurd (cc)
+kept-row false told row e = absurd (cc)
+
+pub passwd_line-lawful : (n : ℕ) (line : List ℕ) (row : Passwd) → passwd_line n line ≡ Ok (Some row) → (n ≤ 65536) × (row.uid ≤ 4294967294)
+unfolding passwd_line
+passwd_line-lawful n line row e =
+    let kept = bind-ok (is_kept n line) _ (Some row) e in
+    (kept-few n line kept.0 kept.1, passwd_from-small n (fields_of line) row (kept-row kept.0 (passwd_from n (fields_of line)) row kept.2))
+
+pub group_line-lawful : (n : ℕ) (line : List ℕ) (row : Group) → group_line n line ≡ Ok (Some row) → (n ≤ 65536) × (row.gid ≤ 4294967294)
+unfolding group_line
+group_line-lawful n line row e =
+    let kept = bind-ok (is_kept n line) _ (Some row) e in
+    (kept-few n line kept.0 kept.1, group_from-small n (fields_of line) row (kept-row kept.0 (group_from n (fields_of line)) row kept.2))
+
+-- ---- the laws
+
+pub passwd-law : (text : List ℕ) (rows : List Passwd) → passwd_table text ≡ Ok rows → IsPasswdTable rows
+unfolding passwd_table
+passwd-law text rows e = table-law passwd_line (λ row. row.name) (λ row. row.uid) passwd_line-lawful text rows e
+
+pub group-law : (text : List ℕ) (rows : List Group) → group_table text ≡ Ok rows → IsGroupTable rows
+unfolding group_table
+group-law text rows e = table-law group_line (λ row. row.name) (λ row. row.gid) group_line-lawful text rows e

@@ -1,0 +1,213 @@
+//! The file group.
+#![tactic(auto)]
+
+ghost use Rattle.std.specs.Prelude.{◌≡◌, ◌≢◌, [], ◌∷◌, ℕ, Some, length, filter, not, ◌==◌, find, option_copied, nat_eq, bytes_eq, List, MatchOption, IfOk};
+ghost use Rattle.std.specs.Iterator.{YieldsFirstRef, item_count};
+ghost use Rattle.idtext.specs.Faults.{fault_told};
+ghost use Rattle.idtext.specs.First.{Gives};
+ghost use Rattle.idtext.specs.Pieces.{fields_of};
+ghost use Rattle.accounts.specs.Known.{known_of};
+ghost use Rattle.accounts.specs.Laws.{IsGroupTable};
+ghost use Rattle.accounts.specs.Tables.{group_table};
+ghost use Rattle.accounts.specs.Rows.{Group, group_from, group_line, members_of};
+
+use crate::index::Index;
+use crate::lines::keeps;
+use crate::table::{Row, read_rows};
+use idtext::{Pieces, ReadError, TextCode, TextFault, decimal, fields, is_lawful_name};
+use std::alloc::Global;
+use std::marker::Model;
+
+/// A row of group, whose texts are slices of the file.
+#[derive(Drop)]
+pub struct GroupRow<'a> {
+    pub line: u64,
+    pub name: &'a [u8],
+    pub password: &'a [u8],
+    pub gid: u32,
+    pub members: &'a [u8],
+}
+
+impl<'a> Model for GroupRow<'a> {
+    ghost Value = { Group };
+
+    ghost view = { λ row. record {
+      line = row.line;
+      name = row.name.now;
+      password = row.password.now;
+      gid = row.gid;
+      members = row.members.now;
+    } };
+}
+
+impl<'a> Row<'a> for GroupRow<'a> {
+    ghost line_of = { group_line };
+
+    ghost name_of = { λ row. row.name };
+
+    ghost number_of = { λ row. row.gid };
+
+    fn read(number: u64, line: &'a [u8]) -> Result<Option<Self>, TextFault> {
+        line_of(number, line)
+    }
+
+    fn name(&self) -> &'a [u8] {
+        self.name
+    }
+
+    fn number(&self) -> u32 {
+        self.gid
+    }
+}
+
+// The texts of a row.
+#[derive(Clone, Copy)]
+struct GroupFields<'a> {
+    name: &'a [u8],
+    password: &'a [u8],
+    gid: &'a [u8],
+    members: &'a [u8],
+}
+
+// The four fields of a line.
+fn four_fields(line: &[u8]) -> Option<GroupFields<'_>>
+    ensures { MatchOption result (length (fields_of line.now) ≢ 4) (λ found. fields_of line.now ≡
+        found.name.now ∷ found.password.now ∷ found.gid.now ∷ found.members.now ∷ []) }
+{
+    let mut rest = fields(line);
+    let found = GroupFields {
+        name: rest.next()?,
+        password: rest.next()?,
+        gid: rest.next()?,
+        members: rest.next()?,
+    };
+    if rest.next().is_some() {
+        return None;
+    }
+    Some(found)
+}
+
+// The row of a line that is kept.
+fn row_of(number: u64, line: &[u8]) -> Result<GroupRow<'_>, TextFault>
+    ensures { Gives (λ row. row) (λ fault. Some fault) result (group_from number (fields_of line.now)) }
+{
+    let refused = |code| TextFault { code, line: number };
+    let Some(found) = four_fields(line) else {
+        return Err(refused(TextCode::BadFields));
+    };
+    if !is_lawful_name(found.name) {
+        return Err(refused(TextCode::BadName));
+    }
+    let Some(gid) = decimal(found.gid) else {
+        return Err(refused(TextCode::BadNumber));
+    };
+    Ok(GroupRow {
+        line: number,
+        name: found.name,
+        password: found.password,
+        gid,
+        members: found.members,
+    })
+}
+
+// The row of a line, if it has one, or what is wrong with the line.
+#[tactic(auto, unfolding(crate::specs::Rows::group_line))]
+fn line_of(number: u64, line: &[u8]) -> Result<Option<GroupRow<'_>>, TextFault>
+    ensures { Gives (λ row. row) (λ fault. Some fault) result (group_line number line.now) }
+{
+    if !keeps(number, line)? {
+        return Ok(None);
+    }
+    Ok(Some(row_of(number, line)?))
+}
+
+/// The rows of group, whose names are distinct, and whose numbers are.
+#[derive(Drop)]
+pub struct GroupTable<'a> {
+    rows: Vec<GroupRow<'a>>,
+    index: Index<'a>,
+}
+
+impl<'a> Model for GroupTable<'a> {
+    ghost Value = { List Group };
+
+    ghost view = { λ it. it.rows.items };
+
+    ghost invariant = { λ it. it.index ≡ known_of (λ row. row.name) (λ row. row.gid) it.rows.items };
+}
+
+impl<'a> GroupTable<'a> {
+    /// The rows, in the order of the file.
+    pub fn rows(&self) -> &[GroupRow<'a>]
+        ensures { result.now ≡ self.now }
+    {
+        &self.rows
+    }
+
+    /// The row with this name.
+    pub fn by_name(&self, name: &[u8]) -> Option<&GroupRow<'a>>
+        ensures { option_copied result ≡ find (λ row. bytes_eq name.now row.name) self.now }
+    {
+        let place = self.index.place_of_name(name)?;
+        Some(&self.rows[place])
+    }
+
+    /// The row with this number.
+    pub fn by_number(&self, gid: u32) -> Option<&GroupRow<'a>>
+        ensures { option_copied result ≡ find (λ row. nat_eq gid row.gid) self.now }
+    {
+        let place = self.index.place_of_number(gid)?;
+        Some(&self.rows[place])
+    }
+}
+
+/// Reads group: the rows of its lines, or its first fault.
+#[tactic(auto, unfolding(crate::specs::Tables::group_table))]
+pub fn read_group(alloc: Global, text: &[u8]) -> Result<GroupTable<'_>, ReadError>
+    ensures exact { Gives (λ table. table) fault_told result (group_table text.now) }
+    ensures table { IfOk result (λ table. IsGroupTable table) }
+{
+    let (rows, index) = read_rows(alloc, text)?;
+    Ok(GroupTable { rows, index })
+}
+
+impl<'a> GroupRow<'a> {
+    /// The users of the group, as its list names them, without empty items.
+    #[tactic(auto, unfolding(crate::specs::Rows::members_of))]
+    pub fn members_of(&self) -> Members<'a>
+        ensures { result ≡ members_of self.now.members }
+    {
+        Members {
+            rest: Pieces::new(b',', self.members),
+        }
+    }
+}
+
+/// The users of a group that are still to come.
+#[derive(Drop)]
+pub struct Members<'a> {
+    rest: Pieces<'a>,
+}
+
+impl<'a> Model for Members<'a> {
+    ghost Value = { List (List ℕ) };
+
+    ghost view = { λ it. filter (λ name. not (length name == 0)) it.rest };
+}
+
+impl<'a> Iterator for Members<'a> {
+    type Item = &'a [u8];
+
+    ghost next_gives = { YieldsFirstRef (λ rest. rest) };
+
+    ghost remaining = { item_count (λ rest. rest) };
+
+    fn next(&mut self) -> Option<&'a [u8]> {
+        while let Some(name) = self.rest.next() {
+            if !name.is_empty() {
+                return Some(name);
+            }
+        }
+        None
+    }
+}

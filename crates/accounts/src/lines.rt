@@ -1,0 +1,31 @@
+//! Lines of account files.
+#![tactic(auto)]
+
+ghost use Rattle.std.specs.Prelude.{◌≡◌, Some};
+ghost use Rattle.idtext.specs.First.{Gives};
+ghost use Rattle.accounts.specs.Lines.{is_kept};
+
+use idtext::{MOST_BYTES, TextCode, TextFault, is_skipped};
+
+/// How many lines an account file may have.
+pub const MOST_LINES: u64 = 65536;
+
+/// Whether a line has a row, or what is wrong with it as a whole.
+pub fn keeps(number: u64, line: &[u8]) -> Result<bool, TextFault>
+    ensures { Gives (λ kept. kept) (λ fault. Some fault) result (is_kept number line.now) }
+{
+    let refused = |code| TextFault { code, line: number };
+    if number > MOST_LINES {
+        return Err(refused(TextCode::TooManyLines));
+    }
+    if line.len() > MOST_BYTES {
+        return Err(refused(TextCode::LineTooLong));
+    }
+    if is_skipped(line) {
+        return Ok(false);
+    }
+    match line {
+        [b'+' | b'-', ..] => Err(refused(TextCode::CompatLine)),
+        _ => Ok(true),
+    }
+}

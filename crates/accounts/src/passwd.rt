@@ -1,0 +1,189 @@
+//! The file passwd.
+#![tactic(auto)]
+
+ghost use Rattle.std.specs.Prelude.{◌≡◌, ◌≢◌, [], ◌∷◌, ℕ, Some, length, find, option_copied, nat_eq, bytes_eq, List, MatchOption, IfOk};
+ghost use Rattle.idtext.specs.Faults.{fault_told};
+ghost use Rattle.idtext.specs.First.{Gives};
+ghost use Rattle.idtext.specs.Pieces.{fields_of};
+ghost use Rattle.accounts.specs.Known.{known_of};
+ghost use Rattle.accounts.specs.Laws.{IsPasswdTable};
+ghost use Rattle.accounts.specs.Tables.{passwd_table};
+ghost use Rattle.accounts.specs.Rows.{Passwd, passwd_from, passwd_line};
+
+use crate::index::Index;
+use crate::lines::keeps;
+use crate::table::{Row, read_rows};
+use idtext::{ReadError, TextCode, TextFault, decimal, fields, is_lawful_name};
+use std::alloc::Global;
+use std::marker::Model;
+
+/// A row of passwd, whose texts are slices of the file.
+#[derive(Drop)]
+pub struct PasswdRow<'a> {
+    pub line: u64,
+    pub name: &'a [u8],
+    pub password: &'a [u8],
+    pub uid: u32,
+    pub gid: u32,
+    pub comment: &'a [u8],
+    pub home: &'a [u8],
+    pub shell: &'a [u8],
+}
+
+impl<'a> Model for PasswdRow<'a> {
+    ghost Value = { Passwd };
+
+    ghost view = { λ row. record {
+      line = row.line;
+      name = row.name.now;
+      password = row.password.now;
+      uid = row.uid;
+      gid = row.gid;
+      comment = row.comment.now;
+      home = row.home.now;
+      shell = row.shell.now;
+    } };
+}
+
+impl<'a> Row<'a> for PasswdRow<'a> {
+    ghost line_of = { passwd_line };
+
+    ghost name_of = { λ row. row.name };
+
+    ghost number_of = { λ row. row.uid };
+
+    fn read(number: u64, line: &'a [u8]) -> Result<Option<Self>, TextFault> {
+        line_of(number, line)
+    }
+
+    fn name(&self) -> &'a [u8] {
+        self.name
+    }
+
+    fn number(&self) -> u32 {
+        self.uid
+    }
+}
+
+// The texts of a row.
+#[derive(Clone, Copy)]
+struct PasswdFields<'a> {
+    name: &'a [u8],
+    password: &'a [u8],
+    uid: &'a [u8],
+    gid: &'a [u8],
+    comment: &'a [u8],
+    home: &'a [u8],
+    shell: &'a [u8],
+}
+
+// The seven fields of a line.
+fn seven_fields(line: &[u8]) -> Option<PasswdFields<'_>>
+    ensures { MatchOption result (length (fields_of line.now) ≢ 7) (λ found. fields_of line.now ≡
+        found.name.now ∷ found.password.now ∷ found.uid.now ∷ found.gid.now ∷ found.comment.now ∷ found.home.now ∷ found.shell.now ∷ []) }
+{
+    let mut rest = fields(line);
+    let found = PasswdFields {
+        name: rest.next()?,
+        password: rest.next()?,
+        uid: rest.next()?,
+        gid: rest.next()?,
+        comment: rest.next()?,
+        home: rest.next()?,
+        shell: rest.next()?,
+    };
+    if rest.next().is_some() {
+        return None;
+    }
+    Some(found)
+}
+
+// The row of a line that is kept.
+fn row_of(number: u64, line: &[u8]) -> Result<PasswdRow<'_>, TextFault>
+    ensures { Gives (λ row. row) (λ fault. Some fault) result (passwd_from number (fields_of line.now)) }
+{
+    let refused = |code| TextFault { code, line: number };
+    let Some(found) = seven_fields(line) else {
+        return Err(refused(TextCode::BadFields));
+    };
+    if !is_lawful_name(found.name) {
+        return Err(refused(TextCode::BadName));
+    }
+    let Some(uid) = decimal(found.uid) else {
+        return Err(refused(TextCode::BadNumber));
+    };
+    let Some(gid) = decimal(found.gid) else {
+        return Err(refused(TextCode::BadNumber));
+    };
+    Ok(PasswdRow {
+        line: number,
+        name: found.name,
+        password: found.password,
+        uid,
+        gid,
+        comment: found.comment,
+        home: found.home,
+        shell: found.shell,
+    })
+}
+
+// The row of a line, if it has one, or what is wrong with the line.
+#[tactic(auto, unfolding(crate::specs::Rows::passwd_line))]
+fn line_of(number: u64, line: &[u8]) -> Result<Option<PasswdRow<'_>>, TextFault>
+    ensures { Gives (λ row. row) (λ fault. Some fault) result (passwd_line number line.now) }
+{
+    if !keeps(number, line)? {
+        return Ok(None);
+    }
+    Ok(Some(row_of(number, line)?))
+}
+
+/// The rows of passwd, whose names are distinct, and whose numbers are.
+#[derive(Drop)]
+pub struct PasswdTable<'a> {
+    rows: Vec<PasswdRow<'a>>,
+    index: Index<'a>,
+}
+
+impl<'a> Model for PasswdTable<'a> {
+    ghost Value = { List Passwd };
+
+    ghost view = { λ it. it.rows.items };
+
+    ghost invariant = { λ it. it.index ≡ known_of (λ row. row.name) (λ row. row.uid) it.rows.items };
+}
+
+impl<'a> PasswdTable<'a> {
+    /// The rows, in the order of the file.
+    pub fn rows(&self) -> &[PasswdRow<'a>]
+        ensures { result.now ≡ self.now }
+    {
+        &self.rows
+    }
+
+    /// The row with this name.
+    pub fn by_name(&self, name: &[u8]) -> Option<&PasswdRow<'a>>
+        ensures { option_copied result ≡ find (λ row. bytes_eq name.now row.name) self.now }
+    {
+        let place = self.index.place_of_name(name)?;
+        Some(&self.rows[place])
+    }
+
+    /// The row with this number.
+    pub fn by_number(&self, uid: u32) -> Option<&PasswdRow<'a>>
+        ensures { option_copied result ≡ find (λ row. nat_eq uid row.uid) self.now }
+    {
+        let place = self.index.place_of_number(uid)?;
+        Some(&self.rows[place])
+    }
+}
+
+/// Reads passwd: the rows of its lines, or its first fault.
+#[tactic(auto, unfolding(crate::specs::Tables::passwd_table))]
+pub fn read_passwd(alloc: Global, text: &[u8]) -> Result<PasswdTable<'_>, ReadError>
+    ensures exact { Gives (λ table. table) fault_told result (passwd_table text.now) }
+    ensures table { IfOk result (λ table. IsPasswdTable table) }
+{
+    let (rows, index) = read_rows(alloc, text)?;
+    Ok(PasswdTable { rows, index })
+}

@@ -1,0 +1,8 @@
+use Rattle.std.proofs.Common.{◌≡◌, take}
+use Rattle.hosts_join.specs.Index.{accounts_in}
+use Rattle.hosts_join.specs.Rules.{pinned_names}
+use Rattle.hosts_join.specs.Views.{pairs_of}
+use Rattle.hosts_join.proofs.members.pinned_names.Given as goal
+
+abbrev pub invariant-loop-place : goal.invariant-loop-place
+invariant-loop-place l = pairs_of l.claims.items ≡ pinned_names l.fn.pins (take l.place (accounts_in l.index))

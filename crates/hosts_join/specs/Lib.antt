@@ -1,0 +1,16 @@
+pub mod Accounts
+pub mod Rules
+pub mod Count
+pub mod Fault
+pub mod Pool
+pub mod Index
+pub mod Views
+pub mod Pairs
+pub mod PairTable
+pub mod PairLines
+pub mod Clash
+pub mod PoolInside
+pub mod NamesInside
+pub mod Kinds
+pub mod Site
+pub mod Checks

@@ -1,0 +1,25 @@
+-- What the tables of names stand for.
+use Rattle.std.specs.Prelude.{◌≡◌, ℕ, ◌<◌, ◌≤◌, ◌^◌, false, map, length, slice_index_or}
+use Rattle.hosts_join.specs.Accounts.{Accounts, all_lines, IsOnceEach, nobody}
+use Rattle.hosts_join.specs.Index.{accounts_in, IsIndex}
+use Rattle.hosts_join.specs.Pool.{in_runs}
+use Rattle.hosts_join.specs.Rules.{class_of, in_pool, names_in, pool_size}
+use Rattle.hosts_join.specs.Views.{entry_of, pairs_of}
+use Rattle.hosts_join.specs.declared.Class.TheVariants.{Regular, System}
+use Rattle.hosts_join.specs.declared.names.Names.TheInside.{Inside}
+
+abbrev pub accounts_of : Inside → Accounts
+accounts_of n = record { hosts = map entry_of n.hosts.items; names = accounts_in n.index; pins = pairs_of n.pins.items }
+
+pub record IsNames (n : Inside) : Type 0 where
+  pub index : IsIndex n.index
+  pub few : length (accounts_in n.index) < 2 ^ 32
+  pub once : (i : ℕ) → IsOnceEach (slice_index_or (accounts_in n.index) i nobody).spots
+  pub lines : n.all_lines ≡ all_lines (accounts_in n.index)
+  pub few_lines : n.all_lines ≤ 4194304
+  pub classes : n.classes.items ≡ map (class_of (pairs_of n.pins.items)) (accounts_in n.index)
+  pub regular : (v : ℕ) → in_runs n.regular v ≡ in_pool (accounts_of n) Regular v
+  pub system : (v : ℕ) → in_runs n.system v ≡ in_pool (accounts_of n) System v
+  pub none : (v : ℕ) → in_runs n.none v ≡ false
+  pub enough_regular : names_in (accounts_of n) Regular ≤ pool_size (accounts_of n) Regular
+  pub enough_system : names_in (accounts_of n) System ≤ pool_size (accounts_of n) System

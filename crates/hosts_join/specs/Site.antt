@@ -1,0 +1,35 @@
+-- The accounts of a kind on hosts, and a site.
+use Rattle.std.specs.Prelude.{ℕ, List, map, length, Result, Ok}
+use Rattle.idtext.specs.First.{◌>>=◌}
+use Rattle.hosts_join.specs.Fault.{Fault}
+use Rattle.hosts_join.specs.Kinds.{user_rows, group_rows}
+use Rattle.hosts_join.specs.Rules.{joined}
+use Rattle.hosts_join.specs.declared.Which.TheVariants.{User, Group}
+use Rattle.hosts_join.specs.declared.host.Pins.{Pins}
+use Rattle.logindefs.specs.declared.ranges.IdRange.{IdRange}
+use Rattle.logindefs.specs.declared.ranges.HostRanges.{HostRanges}
+use Rattle.hosts_join.specs.Accounts.{Accounts, HostEntry, Pair, rows_from, grouped}
+use Rattle.hosts_join.specs.declared.host.Host.{Host}
+
+abbrev pub entry_on : (HostRanges → IdRange) → (HostRanges → IdRange) → Host → HostEntry
+entry_on regular system h = record { name = h.name.now; regular = regular h.ranges; system = system h.ranges }
+
+-- the accounts of a kind: on each host its rows, which stand in its regular or its system range or in neither
+abbrev pub accounts_of : (HostRanges → IdRange) → (HostRanges → IdRange) → (Host → List (List ℕ × ℕ)) → List Host → List Pair → Accounts
+accounts_of regular system rows hosts pins = record { hosts = map (entry_on regular system) hosts; names = grouped (rows_from (λ h. regular h.ranges) (λ h. system h.ranges) rows 0 hosts); pins = pins }
+
+-- the users and the groups of a site, and how many hosts it has
+pub record Joined : Type 0 where
+  pub users : Accounts
+  pub groups : Accounts
+  pub hosts : ℕ
+
+abbrev pub users_of : List Host → Pins → Accounts
+users_of hosts pins = accounts_of (λ r. r.uid) (λ r. r.sys_uid) (λ h. user_rows h.users) hosts pins.users
+
+abbrev pub groups_of : List Host → Pins → Accounts
+groups_of hosts pins = accounts_of (λ r. r.gid) (λ r. r.sys_gid) (λ h. group_rows h.groups) hosts pins.groups
+
+-- users first, then groups
+abbrev pub joined_site : List Host → Pins → Result Joined Fault
+joined_site hosts pins = joined User (users_of hosts pins) >>= λ users. joined Group (groups_of hosts pins) >>= λ groups. Ok (record { users = users; groups = groups; hosts = length hosts })

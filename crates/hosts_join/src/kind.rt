@@ -1,0 +1,182 @@
+//! Users and groups.
+ghost use Rattle.std.specs.Prelude.{◌≡◌, ◌<◌, length, map, slice_index_or};
+
+use crate::{Host, Pair, PairTable, Pins, Which};
+use logindefs::{HostRanges, IdRange};
+
+/// Users or groups: what a host, its ranges and the pins have of the kind.
+pub trait Kind {
+    ghost use Rattle.std.specs.Prelude.{◌≡◌, ℕ, ◌<◌, ◌≤◌, List, map, length, slice_index_or, true, false};
+    ghost use Rattle.accounts.specs.Laws.{IsTable};
+    ghost use Rattle.logindefs.specs.Ranges.{in_range, AreApart};
+    ghost use Rattle.logindefs.specs.declared.ranges.IdRange.{IdRange};
+    ghost use Rattle.logindefs.specs.declared.ranges.HostRanges.{HostRanges};
+    ghost use Rattle.hosts_join.specs.declared.Which.{Which};
+    ghost use Rattle.hosts_join.specs.declared.host.Host.{Host};
+    ghost use Rattle.hosts_join.specs.declared.host.Pins.{Pins};
+    ghost use Rattle.hosts_join.specs.Accounts as spec;
+
+    // Which kind it is.
+    ghost kind: { Which };
+
+    // The names of a host with their numbers, in order.
+    ghost rows: { Host → List (List ℕ × ℕ) };
+
+    ghost regular_range: { HostRanges → IdRange };
+
+    ghost system_range: { HostRanges → IdRange };
+
+    // The pins of the kind, in order of their lines.
+    ghost pinned: { Pins → List spec.Pair };
+
+    // The number of the kind among an owner's two.
+    ghost number_of: { ℕ → ℕ → ℕ };
+
+    fn which() -> Which
+        ensures { result ≡ kind };
+
+    fn count(host: &Host<'_>) -> usize
+        ensures { result ≡ length (rows host.now) };
+
+    fn name<'a>(host: &Host<'a>, place: usize) -> &'a [u8]
+        requires { place < length (rows host.now) }
+        ensures { result.now ≡ (slice_index_or (rows host.now) place (spec.no_row)).0 };
+
+    fn number(host: &Host<'_>, place: usize) -> u32
+        requires { place < length (rows host.now) }
+        ensures { result ≡ (slice_index_or (rows host.now) place (spec.no_row)).1 };
+
+    fn regular(ranges: &HostRanges) -> IdRange
+        ensures { result ≡ regular_range ranges.now };
+
+    fn system(ranges: &HostRanges) -> IdRange
+        ensures { result ≡ system_range ranges.now };
+
+    fn pins<'p, 'a>(pins: &'p Pins<'a>) -> &'p PairTable<'a>
+        ensures { result.now ≡ pinned pins.now };
+
+    fn pick(uid: u32, gid: u32) -> u32
+        ensures { result ≡ number_of uid gid };
+
+    // On one host names are distinct, numbers are distinct, and no number is above 4294967294.
+    ghost table: { (h : Host) → IsTable (map (λ p. p.0) (rows h)) (map (λ p. p.1) (rows h)) };
+
+    // No number is both regular and system on one host.
+    ghost apart: { (h : Host) → AreApart (regular_range h.ranges) (system_range h.ranges) };
+}
+
+/// The users of a passwd file.
+pub enum Users {}
+
+/// The groups of a group file.
+pub enum Groups {}
+
+impl Kind for Users {
+    ghost use Rattle.hosts_join.specs.declared.Which.TheVariants.{User};
+    ghost use Rattle.hosts_join.specs.Kinds.{user_rows, user_rows-table};
+
+    ghost kind = { User };
+
+    ghost rows = { λ h. user_rows h.users };
+
+    ghost regular_range = { λ r. r.uid };
+
+    ghost system_range = { λ r. r.sys_uid };
+
+    ghost pinned = { λ p. p.users };
+
+    ghost number_of = { λ uid gid. uid };
+
+    fn which() -> Which {
+        Which::User
+    }
+
+    fn count(host: &Host<'_>) -> usize {
+        host.users.rows().len()
+    }
+
+    fn name<'a>(host: &Host<'a>, place: usize) -> &'a [u8] {
+        let row = &host.users.rows()[place];
+        row.name
+    }
+
+    fn number(host: &Host<'_>, place: usize) -> u32 {
+        let row = &host.users.rows()[place];
+        row.uid
+    }
+
+    fn regular(ranges: &HostRanges) -> IdRange {
+        ranges.uid
+    }
+
+    fn system(ranges: &HostRanges) -> IdRange {
+        ranges.sys_uid
+    }
+
+    fn pins<'p, 'a>(pins: &'p Pins<'a>) -> &'p PairTable<'a> {
+        &pins.users
+    }
+
+    fn pick(uid: u32, _gid: u32) -> u32 {
+        uid
+    }
+
+    ghost table = { λ h. user_rows-table h.users h.users_table };
+
+    ghost apart = { λ h. h.ranges_apart.uids_apart };
+}
+
+impl Kind for Groups {
+    ghost use Rattle.hosts_join.specs.declared.Which.TheVariants.{Group};
+    ghost use Rattle.hosts_join.specs.Kinds.{group_rows, group_rows-table};
+
+    ghost kind = { Group };
+
+    ghost rows = { λ h. group_rows h.groups };
+
+    ghost regular_range = { λ r. r.gid };
+
+    ghost system_range = { λ r. r.sys_gid };
+
+    ghost pinned = { λ p. p.groups };
+
+    ghost number_of = { λ uid gid. gid };
+
+    fn which() -> Which {
+        Which::Group
+    }
+
+    fn count(host: &Host<'_>) -> usize {
+        host.groups.rows().len()
+    }
+
+    fn name<'a>(host: &Host<'a>, place: usize) -> &'a [u8] {
+        let row = &host.groups.rows()[place];
+        row.name
+    }
+
+    fn number(host: &Host<'_>, place: usize) -> u32 {
+        let row = &host.groups.rows()[place];
+        row.gid
+    }
+
+    fn regular(ranges: &HostRanges) -> IdRange {
+        ranges.gid
+    }
+
+    fn system(ranges: &HostRanges) -> IdRange {
+        ranges.sys_gid
+    }
+
+    fn pins<'p, 'a>(pins: &'p Pins<'a>) -> &'p PairTable<'a> {
+        &pins.groups
+    }
+
+    fn pick(_uid: u32, gid: u32) -> u32 {
+        gid
+    }
+
+    ghost table = { λ h. group_rows-table h.groups h.groups_table };
+
+    ghost apart = { λ h. h.ranges_apart.gids_apart };
+}

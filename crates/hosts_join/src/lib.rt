@@ -1,0 +1,136 @@
+//! The join of hosts: names by class, pins and pools.
+#![tactic(auto)]
+
+mod checks;
+mod clash;
+mod classes;
+mod fault;
+mod host;
+mod index;
+mod joining;
+mod kind;
+mod members;
+mod names;
+mod pair_lines;
+mod pairs;
+mod pool;
+mod texts;
+
+pub use checks::{check_hosts, check_primary};
+pub use fault::SiteFault;
+pub use host::{Host, Pins};
+pub use joining::{Site, join, join_kind};
+pub use kind::{Groups, Kind, Users};
+use logindefs::IdRange;
+pub use names::Names;
+pub use pair_lines::{PairLine, pair_line};
+pub use pairs::PairTable;
+pub use pool::Pool;
+pub use texts::HostText;
+
+/// Users or groups.
+#[derive(Clone, Copy, Debug, PartialEq, Eq)]
+pub enum Which {
+    User,
+    Group,
+}
+
+/// What a number is on its own host.
+#[derive(Clone, Copy, Debug, PartialEq, Eq)]
+pub enum Standing {
+    Regular,
+    System,
+    Pinning,
+}
+
+impl Standing {
+    ghost use Rattle.std.specs.Prelude.{◌≡◌};
+    ghost use Rattle.hosts_join.specs.Rules as rules;
+
+    fn is_regular(self) -> bool
+        ensures { result ≡ rules.is_regular self }
+    {
+        match self {
+            Standing::Regular => true,
+            Standing::System | Standing::Pinning => false,
+        }
+    }
+
+    fn is_pinning(self) -> bool
+        ensures { result ≡ rules.is_pinning self }
+    {
+        match self {
+            Standing::Pinning => true,
+            Standing::Regular | Standing::System => false,
+        }
+    }
+}
+
+/// What a name is over all hosts.
+#[derive(Clone, Copy, Debug, PartialEq, Eq)]
+pub enum Class {
+    Pinned(u32),
+    Regular,
+    System,
+}
+
+impl Class {
+    ghost use Rattle.std.specs.Prelude.{◌≡◌};
+    ghost use Rattle.hosts_join.specs.Rules.{same_class};
+
+    fn is_same(self, other: Class) -> bool
+        ensures { result ≡ same_class self other }
+    {
+        match (self, other) {
+            (Class::Pinned(number), Class::Pinned(to)) => number == to,
+            (Class::Regular, Class::Regular) | (Class::System, Class::System) => true,
+            _ => false,
+        }
+    }
+}
+
+/// The number that a name has on one host, and what that number is there.
+#[derive(Clone, Copy, Debug, PartialEq, Eq)]
+pub struct Spot {
+    pub host: u32,
+    pub number: u32,
+    pub standing: Standing,
+}
+
+/// A number on a host.
+#[derive(Clone, Copy, Debug, PartialEq, Eq, Hash)]
+pub struct Seat {
+    pub host: u32,
+    pub number: u32,
+}
+
+/// A row of an account file, and its host's place.
+#[derive(Clone, Copy, Debug)]
+pub struct Row<'a> {
+    pub host: u32,
+    pub name: &'a [u8],
+    pub number: u32,
+    pub standing: Standing,
+}
+
+/// A host's name, and its ranges for one kind.
+#[derive(Clone, Copy, Debug)]
+pub struct HostEntry<'a> {
+    pub name: &'a [u8],
+    pub regular: IdRange,
+    pub system: IdRange,
+}
+
+/// A name and its number.
+#[derive(Clone, Copy, Debug)]
+pub struct Pair<'a> {
+    pub name: &'a [u8],
+    pub number: u32,
+}
+
+/// What pins a name to a number: a host, or the pins text.
+#[derive(Clone, Copy, Debug, PartialEq, Eq)]
+pub struct Source {
+    pub host: Option<u32>,
+    pub number: u32,
+}

@@ -1,0 +1,274 @@
+//! The names of one kind over all hosts.
+ghost use Rattle.std.specs.Prelude.{◌≡◌, ℕ, ◌<◌, ◌≤◌, ◌&&◌, ◌==◌, ◌^◌, not, map, length, IfOk, IfErr, OnOk, IfSome, None, Some, IfNone, slice_index_or, nat_lt, count_by};
+ghost use Rattle.std.specs.List.{list_all, list_any, find};
+ghost use Rattle.std.specs.Option.{option_map};
+ghost use Rattle.idtext.specs.First.{Gives};
+ghost use Rattle.hosts_join.specs.Pool.{AreAscending, in_runs};
+ghost use Rattle.hosts_join.specs.Rules.{is_taken, is_id, joined};
+ghost use Rattle.hosts_join.specs.Accounts.{AreApart, AreNamedApart, grouped};
+ghost use Rattle.hosts_join.specs.Fault.{PoolTooSmall};
+ghost use Rattle.hosts_join.specs.Views.{rows_of, pairs_of, entry_of, fault_of};
+ghost use Rattle.std.specs.Prelude.{true, false};
+ghost use Rattle.logindefs.specs.Ranges.{in_range};
+
+use crate::clash::find_clash;
+use crate::index::Index;
+use crate::members::{claims, classes, common, names_in};
+use crate::{Class, HostEntry, Pair, PairTable, Pool, Row, Seat, SiteFault, Spot, Which};
+use logindefs::IdRange;
+use std::alloc::{AllocError, Global};
+use std::marker::Model;
+
+/// The names of one kind, by index in order of first appearance. A contract sees the accounts that they were joined from.
+#[derive(Drop)]
+pub struct Names<'a> {
+    hosts: Vec<HostEntry<'a>>,
+    pins: Vec<Pair<'a>>,
+    index: Index<'a>,
+    all_lines: u64,
+    classes: Vec<Class>,
+    regular: Pool,
+    system: Pool,
+    none: Pool,
+}
+
+impl<'a> Model for Names<'a> {
+    ghost use Rattle.hosts_join.specs.Accounts.{Accounts};
+
+    ghost Value = { Accounts };
+
+    ghost use Rattle.hosts_join.specs.NamesInside.{accounts_of, IsNames};
+
+    ghost view = { accounts_of };
+
+    ghost invariant = { IsNames };
+}
+
+/// The numbers of claims, in their order.
+fn claimed(alloc: Global, claims: &[Pair<'_>]) -> Result<Vec<u32>, AllocError>
+    ensures { IfOk result (λ ns. ns.items ≡ map (λ p. p.number) claims.now) }
+{
+    claims.iter().map(|claim| claim.number).collect(alloc)
+}
+
+/// The regular ranges of the hosts.
+fn regular_ranges(alloc: Global, hosts: &[HostEntry<'_>]) -> Result<Vec<IdRange>, AllocError>
+    ensures { IfOk result (λ rs. rs.items ≡ map (λ h. h.regular) hosts.now) }
+{
+    hosts.iter().map(|host| host.regular).collect(alloc)
+}
+
+/// The system ranges of the hosts.
+fn system_ranges(alloc: Global, hosts: &[HostEntry<'_>]) -> Result<Vec<IdRange>, AllocError>
+    ensures { IfOk result (λ rs. rs.items ≡ map (λ h. h.system) hosts.now) }
+{
+    hosts.iter().map(|host| host.system).collect(alloc)
+}
+
+/// The numbers of claims, ascending.
+fn numbers(alloc: Global, claims: &[Pair<'_>]) -> Result<Vec<u32>, AllocError>
+    ensures ascending { IfOk result (λ ns. AreAscending ns.items) }
+    ensures numbers { IfOk result (λ ns. (v : ℕ) → list_any (λ t. t == v) ns.items ≡ is_taken (pairs_of claims.now) v) }
+{
+    let mut numbers = claimed(alloc, claims)?;
+    numbers.sort_unstable();
+    Ok(numbers)
+}
+
+/// The pools of regular and of system names.
+fn pools(
+    alloc: Global,
+    hosts: &[HostEntry<'_>],
+    claims: &[Pair<'_>],
+) -> Result<(Pool, Pool), AllocError>
+    ensures regular { IfOk result (λ p. (v : ℕ) → in_runs p.0 v ≡ ((is_id v && list_all (λ h. in_range h.regular v) (map entry_of hosts.now)) && not (is_taken (pairs_of claims.now) v))) }
+    ensures system { IfOk result (λ p. (v : ℕ) → in_runs p.1 v ≡ ((is_id v && list_all (λ h. in_range h.system v) (map entry_of hosts.now)) && not (is_taken (pairs_of claims.now) v))) }
+{
+    let taken = numbers(alloc, claims)?;
+    let regular = regular_ranges(alloc, hosts)?;
+    let system = system_ranges(alloc, hosts)?;
+    let regular = Pool::of(alloc, common(regular.as_slice()), taken.as_slice())?;
+    let system = Pool::of(alloc, common(system.as_slice()), taken.as_slice())?;
+    Ok((regular, system))
+}
+
+/// A copy of the pins.
+fn copy_pins<'a>(alloc: Global, pins: &PairTable<'a>) -> Result<Vec<Pair<'a>>, AllocError>
+    ensures { IfOk result (λ copy. pairs_of copy.items ≡ pins.now) }
+{
+    let mut copy = Vec::new(alloc);
+    for place in 0..pins.len() {
+        copy.push(pins.at(place))?;
+    }
+    Ok(copy)
+}
+
+/// The names of the rows, or the first reason why they cannot be joined.
+pub fn join_rows<'a>(
+    alloc: Global,
+    kind: Which,
+    hosts: Vec<HostEntry<'a>>,
+    rows: &[Row<'a>],
+    pins: &PairTable<'a>,
+) -> Result<Names<'a>, SiteFault<'a>>
+    requires apart { AreApart (rows_of rows.now) }
+    requires named { AreNamedApart (rows_of rows.now) }
+    requires few { length rows.now ≤ 4194304 }
+    ensures { Gives (λ names. names) fault_of result (joined kind (record { hosts = map entry_of hosts.entry.items; names = grouped (rows_of rows.now); pins = pins.now })) }
+{
+    let index = Index::of(alloc, rows)?;
+    let classes = classes(alloc, kind, hosts.as_slice(), &index, pins)?;
+    let claims = claims(alloc, &index, classes.as_slice(), pins)?;
+    match find_clash(alloc, claims.as_slice())? {
+        Some(clash) => {
+            return Err(SiteFault::PinClash {
+                kind,
+                number: clash.number,
+                first: clash.first,
+                second: clash.second,
+            });
+        }
+        None => {}
+    }
+    let (regular, system) = pools(alloc, hosts.as_slice(), claims.as_slice())?;
+    let regular_names = names_in(classes.as_slice(), Class::Regular);
+    let regular_numbers = regular.len();
+    if regular_numbers < regular_names {
+        return Err(SiteFault::PoolTooSmall {
+            kind,
+            class: Class::Regular,
+            names: regular_names,
+            numbers: regular_numbers,
+        });
+    }
+    let system_names = names_in(classes.as_slice(), Class::System);
+    let system_numbers = system.len();
+    if system_numbers < system_names {
+        return Err(SiteFault::PoolTooSmall {
+            kind,
+            class: Class::System,
+            names: system_names,
+            numbers: system_numbers,
+        });
+    }
+    let pins = copy_pins(alloc, pins)?;
+    Ok(Names {
+        hosts,
+        pins,
+        index,
+        all_lines: rows.len() as u64,
+        classes,
+        regular,
+        system,
+        none: Pool::new(alloc),
+    })
+}
+
+impl<'a> Names<'a> {
+    ghost use Rattle.hosts_join.specs.Accounts.{nobody, place_of, owner, number_on, lines, all_lines};
+    ghost use Rattle.hosts_join.specs.Rules as rules;
+    ghost use Rattle.hosts_join.specs.Rules.{account};
+
+    /// How many names there are.
+    pub fn len(&self) -> u32
+        ensures { result ≡ length self.now.names }
+    {
+        self.index.len() as u32
+    }
+
+    /// The name at an index.
+    pub fn name(&self, index: u32) -> &'a [u8]
+        requires { index < length self.now.names }
+        ensures { result.now ≡ (account self.now index).name }
+    {
+        self.index.name(index as usize)
+    }
+
+    /// The hosts that have the name at an index, in order, with its number there.
+    pub fn spots(&self, index: u32) -> &[Spot]
+        requires { index < length self.now.names }
+        ensures { result.now ≡ (account self.now index).spots }
+    {
+        self.index.spots(index as usize)
+    }
+
+    /// The class of the name at an index.
+    pub fn class(&self, index: u32) -> Class
+        requires { index < length self.now.names }
+        ensures { result ≡ rules.class_of self.now.pins (account self.now index) }
+    {
+        self.classes[index as usize]
+    }
+
+    /// The number of the name at an index on a host.
+    pub fn at(&self, index: u32, host: u32) -> Option<u32>
+        requires { index < length self.now.names }
+        ensures { result ≡ number_on (account self.now index) host }
+    {
+        number_among(self.index.spots(index as usize), host)
+    }
+
+    /// The name that has a number on a host.
+    pub fn owner(&self, host: u32, number: u32) -> Option<u32>
+        ensures owner { result ≡ owner self.now.names host number }
+        ensures tied { IfSome result (λ i. number_on (account self.now i) host ≡ Some number) }
+        ensures within { IfSome result (λ i. i < length self.now.names) }
+    {
+        self.index.owners.get(&Seat { host, number }).copied()
+    }
+
+    /// The index of a name.
+    pub fn find(&self, name: &[u8]) -> Option<u32>
+        ensures { result ≡ place_of self.now.names name.now }
+    {
+        match self.index.names.get_index_of(name) {
+            Some(index) => Some(index as u32),
+            None => None,
+        }
+    }
+
+    /// The numbers that a name of the class may get; none for a pinned name.
+    pub fn pool(&self, class: Class) -> &Pool
+        ensures members { (v : ℕ) → in_runs result.now v ≡ rules.in_pool self.now class v }
+        ensures enough { rules.is_free_class class ≡ true → rules.names_in self.now class ≤ rules.pool_size self.now class }
+    {
+        match class {
+            Class::Regular => &self.regular,
+            Class::System => &self.system,
+            Class::Pinned(_) => &self.none,
+        }
+    }
+
+    /// How many account rows there are on all hosts.
+    pub fn all_lines(&self) -> u64
+        ensures lines { result ≡ all_lines self.now.names }
+        ensures few { result ≤ 4194304 }
+    {
+        self.all_lines
+    }
+
+    /// On how many hosts the name at an index has the number.
+    pub fn lines(&self, index: u32, number: u32) -> u64
+        requires { index < length self.now.names }
+        ensures { result ≡ lines (account self.now index) number }
+    {
+        lines_among(self.index.spots(index as usize), number)
+    }
+}
+
+/// The number on a host among spots.
+fn number_among(spots: &[Spot], host: u32) -> Option<u32>
+    ensures { result ≡ option_map (λ s. s.number) (find (λ s. s.host == host) spots.now) }
+{
+    match spots.iter().find(|spot| spot.host == host) {
+        Some(spot) => Some(spot.number),
+        None => None,
+    }
+}
+
+/// How many spots have the number.
+fn lines_among(spots: &[Spot], number: u32) -> u64
+    ensures { result ≡ count_by (λ s. s.number == number) spots.now }
+{
+    spots.iter().filter(|spot| spot.number == number).count() as u64
+}

@@ -1,0 +1,9 @@
+pub mod First
+pub mod Pieces
+pub mod Numbers
+pub mod Escapes
+pub mod Faults
+pub mod Words
+pub mod Names
+pub mod Codes
+pub mod Spaces

@@ -1,0 +1,21 @@
+//! The texts of account files: lines, fields, words, numbers and escapes, and bytes as values.
+#![tactic(auto)]
+
+mod escapes;
+mod faults;
+mod name;
+mod names;
+mod numbers;
+mod pieces;
+mod words;
+
+pub use escapes::{push_escaped, push_unescaped};
+pub use faults::{ReadError, TextCode, TextFault};
+pub use name::{ByteString, Name};
+pub use names::{is_lawful_name, is_skipped};
+pub use numbers::{LARGEST_ID, c_number, decimal, push_number};
+pub use pieces::{Lines, Pieces, cut, fields, split_at_last_space};
+pub use words::{MOST_BYTES, Words, first_word, is_white};
+
+#[cfg(test)]
+mod tests;

@@ -1,0 +1,244 @@
+-- Bytes read by a reader.
+use Rattle.std.proofs.Common.{◌≡◌, ℕ, zero, suc, ◌<◌, ◌≤◌, Bool, true, false, cond, List, [], ◌∷◌, ◌++◌, length, take, drop, get_or, refl, sym, ap, ◌∙◌, append-nil, append_assoc, subst, arith}
+use Rattle.std.proofs.lemmas.Bool.{false≢true, and_parts, and_from, not-true, not_from_false, ne_eqb}
+use Rattle.std.specs.Prelude.{Option, Some, None, Result, Ok, Err, MatchResult, fold, if◌then◌else◌, ◌==◌, not, is_none, is_ok, OnErr}
+use Rattle.idtext.specs.First.{◌>>=◌, Gives}
+use Rattle.idtext.specs.declared.faults.TextCode.{TextCode}
+use Rattle.idtext.specs.declared.faults.TextCode.TheVariants.{BadPath}
+use Rattle.idtext.specs.declared.faults.TextFault.{TextFault}
+use Rattle.mtree_inv.specs.declared.entry.Entry.{Entry}
+use Rattle.mtree_inv.specs.declared.defaults.Defaults.{Defaults}
+use Rattle.mtree_inv.specs.declared.open_line.Ends.{Ends}
+use Rattle.mtree_inv.specs.declared.open_line.Ends.TheVariants.{Nothing, Joined, Byte, Backslash}
+use Rattle.mtree_inv.specs.Kinds.{Kind, TooLong, Cut, Ignored, Sets, Unsets, Unknown, Up, Names}
+use Rattle.mtree_inv.specs.Inventory.{file_at, clash}
+use Rattle.mtree_inv.specs.Machine.{Kept, effective, owned, or_dot, path_below, is_bad_entry, with_file, with_new_file, unless_fault, entry_kept, with_opened, opens_directory, entry_step, closed, step}
+use Rattle.mtree_inv.specs.Reading.{Open, clip, grown, held, with_plain, with_backslash, with_join, is_joining, fresh, clipped_kind, Reading, after_step, with_line, with_newline, unless_ended, read_byte, read_bytes, at_end, finished}
+use Rattle.mtree_inv.specs.Standing.{GrowAlike}
+use Rattle.idtext.specs.Faults.{fault_told}
+use Rattle.mtree_inv.specs.Parts.{is_plain, at_line, TakenTo, FailedTo}
+use Rattle.idtext.specs.declared.faults.ReadError.{ReadError}
+use Rattle.idtext.specs.declared.faults.ReadError.TheVariants.{Memory, Fault}
+use Rattle.mtree_inv.proofs.LineLemmas.{clip-grown}
+
+-- ---- files only come
+
+abbrev pub Grows : List Entry → List Entry → Type 0
+Grows files new = (more : List Entry) × (new ≡ files ++ more)
+
+pub grows-not : (files : List Entry) → Grows files files
+grows-not files = ([], sym (append-nil files))
+
+pub grows-twice : (a b c : List Entry) → Grows a b → Grows b c → Grows a c
+grows-twice a b c g h = (g.0 ++ h.0, h.1 ∙ ap (λ (l : List Entry). l ++ h.0) g.1 ∙ append_assoc a g.0 h.0)
+
+abbrev pub StepGrows : Kept → Result Kept TextCode → Type 0
+StepGrows kept found = MatchResult found (λ new. Grows kept.files new.files) (λ _. Unit {0})
+
+bind-grows : {A : Type 0} (kept : Kept) (r : Result A TextCode) (f : A → Result Kept TextCode) → ((x : A) → StepGrows kept (f x)) → StepGrows kept (r >>= f)
+bind-grows kept (Ok x) f h = h x
+bind-grows kept (Err code) f h = tt
+
+new_file-grows : (b : Bool) (files : List Entry) (file : Entry) → Grows files (cond b (files ++ file ∷ []) files)
+new_file-grows true files file = (file ∷ [], refl)
+new_file-grows false files file = grows-not files
+
+entry-grows : (most : ℕ) (kept : Kept) (word : List ℕ) (keywords : List (List ℕ)) → StepGrows kept (entry_step most kept word keywords)
+unfolding entry_step
+entry-grows most kept word keywords = bad (is_bad_entry kept.path word)
+  where
+    opened : (now : Defaults) (b : Bool) (files : List Entry) → Grows kept.files files → Grows kept.files (with_opened b (record kept { files = files }) (path_below kept.path word)).files
+    opened now true files g = g
+    opened now false files g = g
+
+    added : (now : Defaults) (file : Entry) (c : Option TextCode) → StepGrows kept (unless_fault c (with_new_file kept.files file) >>= λ files. Ok (entry_kept kept word now files))
+    added now file None = opened now (opens_directory word now) (with_new_file kept.files file) (new_file-grows (is_none (file_at kept.files file.path)) kept.files file)
+    added now file (Some code) = tt
+
+    body : StepGrows kept (effective kept.defaults keywords >>= λ now. (owned (or_dot (path_below kept.path word)) now.uid now.gid >>= λ file. (with_file most kept.files file >>= λ files. Ok (entry_kept kept word now files))))
+    body = bind-grows kept (effective kept.defaults keywords) (λ now. owned (or_dot (path_below kept.path word)) now.uid now.gid >>= λ file. (with_file most kept.files file >>= λ files. Ok (entry_kept kept word now files)))
+        (λ now. bind-grows kept (owned (or_dot (path_below kept.path word)) now.uid now.gid) (λ file. with_file most kept.files file >>= λ files. Ok (entry_kept kept word now files))
+        (λ file. added now file (clash most kept.files file)))
+
+    bad : (b : Bool) → StepGrows kept (cond b (Err BadPath) (effective kept.defaults keywords >>= λ now. (owned (or_dot (path_below kept.path word)) now.uid now.gid >>= λ file. (with_file most kept.files file >>= λ files. Ok (entry_kept kept word now files)))))
+    bad true = tt
+    bad false = body
+
+pub step-grows : (most : ℕ) (kept : Kept) (line : Kind) → StepGrows kept (step most kept line)
+unfolding step
+step-grows most kept TooLong = tt
+step-grows most kept Cut = tt
+step-grows most kept Ignored = grows-not kept.files
+step-grows most kept (Sets keywords) = bind-grows kept (effective kept.defaults keywords) (λ now. Ok (record kept { defaults = now })) (λ now. grows-not kept.files)
+step-grows most kept (Unsets keywords) = grows-not kept.files
+step-grows most kept Unknown = tt
+step-grows most kept Up = by kept.starts
+  where
+    by : (starts : List ℕ) → StepGrows kept (closed kept starts)
+    by [] = tt
+    by (s ∷ starts) = grows-not kept.files
+step-grows most kept (Names word keywords) = entry-grows most kept word keywords
+
+pub after-grows : (found : Result Kept TextCode) (reading : Reading) (number : ℕ) (next : Open) → StepGrows reading.kept found → Grows reading.kept.files (after_step found reading number next).kept.files
+after-grows (Ok new) reading number next g = g
+after-grows (Err code) reading number next g = grows-not reading.kept.files
+
+pub newline-grows : (most : ℕ) (reading : Reading) → Grows reading.kept.files (with_newline most reading).kept.files
+newline-grows most reading = by (is_joining reading.open_line.ends)
+  where
+    by : (b : Bool) → Grows reading.kept.files (cond b (record reading { open_line = with_join reading.open_line }) (with_line most reading)).kept.files
+    by true = grows-not reading.kept.files
+    by false = after-grows (step most reading.kept (clipped_kind reading.open_line.joined false)) reading reading.open_line.first (fresh _) (step-grows most reading.kept (clipped_kind reading.open_line.joined false))
+
+byte-grows : (most : ℕ) (reading : Reading) (b : ℕ) → Grows reading.kept.files (read_byte most reading b).kept.files
+byte-grows most reading b = by reading.fault
+  where
+    plain : (ends : Bool) → Grows reading.kept.files (cond ends (with_newline most reading) (record reading { open_line = if b == 92 then with_backslash reading.open_line else with_plain reading.open_line (b ∷ []) })).kept.files
+    plain true = newline-grows most reading
+    plain false = grows-not reading.kept.files
+
+    by : (fault : Option TextFault) → Grows reading.kept.files (unless_ended fault most reading b).kept.files
+    by None = plain (b == 10)
+    by (Some f) = grows-not reading.kept.files
+
+pub read-grows : (most : ℕ) (bytes : List ℕ) (reading : Reading) → Grows reading.kept.files (read_bytes most reading bytes).kept.files
+unfolding read_bytes
+read-grows most [] reading = grows-not reading.kept.files
+read-grows most (b ∷ bytes) reading =
+    grows-twice reading.kept.files (read_byte most reading b).kept.files (fold (read_byte most) (read_byte most reading b) bytes).kept.files
+    (byte-grows most reading b) (read-grows most bytes (read_byte most reading b))
+
+-- ---- what a call comes to
+
+abbrev pub reading_at : Kept → Open → Reading
+reading_at kept line = record { kept = kept; open_line = line; fault = None }
+
+pub line-result : (kept new : Kept) (line next : Open) (number : ℕ) (found : Result Kept TextCode) → StepGrows kept found → (result : Result (Unit {0}) ReadError)
+    → Gives (λ _. new) fault_told result (at_line number found) → OnErr result (new.files ≡ kept.files)
+    → TakenTo new.files (reading_at new next) result (after_step found (reading_at kept line) number next)
+line-result kept new line next number (Ok k) g (Ok u) e same = ap (λ (r : Result Kept TextFault). kept_in r) e
+  where
+    kept_in : Result Kept TextFault → Reading
+    kept_in (Ok q) = reading_at q next
+    kept_in (Err f) = reading_at kept next
+line-result kept new line next number (Err code) g (Ok u) e same = absurd (cc)
+line-result kept new line next number (Ok k) g (Err Memory) e same = (g.0, g.1 ∙ ap (λ (l : List Entry). l ++ g.0) (sym same))
+line-result kept new line next number (Err code) g (Err Memory) e same = ([], sym same ∙ sym (append-nil new.files))
+line-result kept new line next number (Ok k) g (Err (Fault f)) e same = absurd (cc)
+line-result kept new line next number (Err code) g (Err (Fault f)) e same = (ap Some (fault_in_eq e), sym same)
+  where
+    fault_in : Result Kept TextFault → TextFault
+    fault_in (Ok q) = f
+    fault_in (Err h) = h
+
+    fault_in_eq : at_line number (Err code) ≡ Err f → (let h : TextFault = record { code = code; line = number } in h) ≡ f
+    fault_in_eq e = ap fault_in e
+
+pub failed-more : (most : ℕ) (files : List Entry) (fault : ReadError) (reading : Reading) (bytes : List ℕ) → FailedTo files fault reading → FailedTo files fault (read_bytes most reading bytes)
+unfolding read_bytes
+failed-more most files Memory reading bytes h = grows-twice files reading.kept.files (read_bytes most reading bytes).kept.files h (read-grows most bytes reading)
+failed-more most files (Fault f) reading bytes h = (ap (λ (r : Reading). r.fault) (stays bytes) ∙ h.0, ap (λ (r : Reading). r.kept.files) (stays bytes) ∙ h.1)
+  where
+    stays : (bs : List ℕ) → fold (read_byte most) reading bs ≡ reading
+    stays [] = refl
+    stays (b ∷ bs) = ap (λ (o : Option TextFault). fold (read_byte most) (unless_ended o most reading b) bs) h.0 ∙ stays bs
+
+first_byte : (rest : List ℕ) → 0 < length rest → rest ≡ get_or rest 0 0 ∷ drop 1 rest
+first_byte [] h = absurd (omega arith)
+first_byte (b ∷ rest) h = refl
+
+pub read-newline : (most : ℕ) (kept : Kept) (line : Open) (rest : List ℕ) → 0 < length rest → get_or rest 0 0 ≡ 10
+    → read_bytes most (reading_at kept line) rest ≡ read_bytes most (with_newline most (reading_at kept line)) (drop 1 rest)
+unfolding read_bytes
+read-newline most kept line rest h e =
+    ap (λ (bs : List ℕ). fold (read_byte most) (reading_at kept line) bs) (first_byte rest h)
+    ∙ ap (λ (b : ℕ). fold (read_byte most) (reading_at kept line) (b ∷ drop 1 rest)) e
+
+pub read-backslash : (most : ℕ) (kept : Kept) (line : Open) (rest : List ℕ) → 0 < length rest → get_or rest 0 0 ≡ 92
+    → read_bytes most (reading_at kept line) rest ≡ read_bytes most (reading_at kept (with_backslash line)) (drop 1 rest)
+unfolding read_bytes
+read-backslash most kept line rest h e =
+    ap (λ (bs : List ℕ). fold (read_byte most) (reading_at kept line) bs) (first_byte rest h)
+    ∙ ap (λ (b : ℕ). fold (read_byte most) (reading_at kept line) (b ∷ drop 1 rest)) e
+
+grown-twice : (joined : Option (List ℕ)) (a b : List ℕ) → grown (grown joined a) b ≡ grown joined (a ++ b)
+grown-twice None a b = refl
+grown-twice (Some bytes) a b = clip-grown (bytes ++ a) b ∙ ap clip (append_assoc bytes a b)
+
+plain-twice : (line : Open) (a b : List ℕ) → with_plain (with_plain line a) b ≡ with_plain line (a ++ b)
+plain-twice line a b = ap (λ (j : Option (List ℕ)). (let x : Open = record { joined = j; ends = Byte; first = line.first; current = line.current } in x)) (grown-twice (held line.ends line.joined) a b)
+
+read_plain : (most : ℕ) (kept : Kept) (line : Open) (b : ℕ) → is_plain b ≡ true → read_byte most (reading_at kept line) b ≡ reading_at kept (with_plain line (b ∷ []))
+read_plain most kept line b e =
+    let parts = and_parts (not (b == 10)) (not (b == 92)) e in
+    ap (λ (t : Bool). cond t (with_newline most (reading_at kept line)) (reading_at kept (if b == 92 then with_backslash line else with_plain line (b ∷ [])))) (not-true (b == 10) parts.0)
+    ∙ ap (λ (t : Bool). reading_at kept (cond t (with_backslash line) (with_plain line (b ∷ [])))) (not-true (b == 92) parts.1)
+
+pub read-run : (most : ℕ) (n : ℕ) (kept : Kept) (line : Open) (bytes : List ℕ) → suc n ≤ length bytes → ((k : ℕ) → k < suc n → is_plain (get_or bytes k 0) ≡ true)
+    → read_bytes most (reading_at kept line) bytes ≡ read_bytes most (reading_at kept (with_plain line (take (suc n) bytes))) (drop (suc n) bytes)
+unfolding read_bytes
+read-run most n kept line [] le plain = absurd (omega arith)
+read-run most zero kept line (b ∷ bytes) le plain = ap (λ (m : Reading). fold (read_byte most) m bytes) (read_plain most kept line b (plain 0 (omega arith)))
+read-run most (suc n) kept line (b ∷ bytes) le plain =
+    ap (λ (m : Reading). fold (read_byte most) m bytes) (read_plain most kept line b (plain 0 (omega arith)))
+    ∙ read-run most n kept (with_plain line (b ∷ [])) bytes (omega arith) (λ k lt. plain (suc k) (omega arith))
+    ∙ ap (λ (o : Open). fold (read_byte most) (reading_at kept o) (drop (suc n) bytes)) (plain-twice line (b ∷ []) (take (suc n) bytes))
+
+pub read-plain-run : (most n : ℕ) (kept : Kept) (line new : Open) (bytes run : List ℕ) → 0 < length bytes → n ≤ length bytes → ((k : ℕ) → k < n → is_plain (get_or bytes k 0) ≡ true) → (n < length bytes → is_plain (get_or bytes n 0) ≡ false)
+    → is_plain (get_or bytes 0 0) ≡ true → run ≡ take n bytes → new ≡ with_plain line run
+    → read_bytes most (reading_at kept line) bytes ≡ read_bytes most (reading_at kept new) (drop n bytes)
+read-plain-run most zero kept line new bytes run some le plain ends first e f = absurd (false≢true (sym (ends some) ∙ first))
+read-plain-run most (suc n) kept line new bytes run some le plain ends first e f =
+    read-run most n kept line bytes le plain
+    ∙ ap (λ (r : List ℕ). read_bytes most (reading_at kept (with_plain line r)) (drop (suc n) bytes)) (sym e)
+    ∙ ap (λ (o : Open). read_bytes most (reading_at kept o) (drop (suc n) bytes)) (sym f)
+
+pub plain-first : (b : ℕ) → (b ≡ 10 → ⊥) → (b ≡ 92 → ⊥) → is_plain b ≡ true
+plain-first b n m = and_from (not (b == 10)) (not (b == 92)) (not_from_false (b == 10) (ne_eqb b 10 n)) (not_from_false (b == 92) (ne_eqb b 92 m))
+
+pub grow-trans : (a b c d e f : List Entry) → GrowAlike a b d e → GrowAlike b c e f → GrowAlike a c d f
+grow-trans a b c d e f g h = (g.0 ++ h.0, h.1 ∙ ap (λ (l : List Entry). l ++ h.0) g.1 ∙ append_assoc a g.0 h.0, h.2 ∙ ap (λ (l : List Entry). l ++ h.0) g.2 ∙ append_assoc d g.0 h.0)
+
+pub newline-line : (most : ℕ) (reading : Reading) → is_joining reading.open_line.ends ≡ false → with_newline most reading ≡ with_line most reading
+newline-line most reading e = ap (λ (b : Bool). cond b (record reading { open_line = with_join reading.open_line }) (with_line most reading)) e
+
+pub taken-err : (files : List Entry) (left other target : Reading) (result : Result (Unit {0}) ReadError) → is_ok result ≡ false → TakenTo files left result target → TakenTo files other result target
+taken-err files left other target (Ok u) e h = absurd (false≢true (sym e))
+taken-err files left other target (Err f) e h = h
+
+pub end-nothing : (most : ℕ) (kept : Kept) (line : Open) → line.ends ≡ Nothing → finished most (reading_at kept line) ≡ reading_at kept line
+unfolding finished
+end-nothing most kept line e = ap (λ (x : Ends). at_end x most (reading_at kept line)) e
+
+abbrev is_cut_at : Ends → Bool
+is_cut_at Nothing = false
+is_cut_at Byte = false
+is_cut_at Joined = true
+is_cut_at Backslash = true
+
+pub end-byte : (most : ℕ) (kept : Kept) (line : Open) → line.ends ≡ Byte → finished most (reading_at kept line) ≡ after_step (step most kept (clipped_kind line.joined false)) (reading_at kept line) line.first line
+unfolding finished
+end-byte most kept line e = ap (λ (x : Ends). at_end x most (reading_at kept line)) e
+
+pub end-joined : (most : ℕ) (kept : Kept) (line : Open) → line.ends ≡ Joined → finished most (reading_at kept line) ≡ after_step (step most kept (clipped_kind line.joined true)) (reading_at kept line) line.first line
+unfolding finished
+end-joined most kept line e = ap (λ (x : Ends). at_end x most (reading_at kept line)) e
+
+pub end-backslash : (most : ℕ) (kept : Kept) (line : Open) → line.ends ≡ Backslash → finished most (reading_at kept line) ≡ after_step (step most kept (clipped_kind line.joined true)) (reading_at kept line) line.first line
+unfolding finished
+end-backslash most kept line e = ap (λ (x : Ends). at_end x most (reading_at kept line)) e
+
+-- the end of a text where a line is taken
+pub end-result : (most : ℕ) (kept new : Kept) (line after : Open) (cut : Bool) (result : Result (Unit {0}) ReadError)
+    → finished most (reading_at kept line) ≡ after_step (step most kept (clipped_kind line.joined cut)) (reading_at kept line) line.first line
+    → Gives (λ _. new) fault_told result (at_line line.first (step most kept (clipped_kind line.joined cut))) → OnErr result (new.files ≡ kept.files) → after ≡ line
+    → TakenTo new.files (reading_at new after) result (finished most (reading_at kept line))
+end-result most kept new line after cut result e h same stays =
+    subst (TakenTo new.files (reading_at new after) result) (sym e)
+    (subst (λ (o : Open). TakenTo new.files (reading_at new o) result (after_step (step most kept (clipped_kind line.joined cut)) (reading_at kept line) line.first line)) (sym stays)
+    (line-result kept new line line line.first (step most kept (clipped_kind line.joined cut)) (step-grows most kept (clipped_kind line.joined cut)) result h same))
+
+pub read-none : (most : ℕ) (reading : Reading) (rest : List ℕ) → length rest ≡ 0 → read_bytes most reading rest ≡ reading
+unfolding read_bytes
+read-none most reading [] e = refl
+read-none most reading (b ∷ rest) e = absurd (omega arith)

@@ -1,0 +1,183 @@
+-- A reader stands for the text so far.
+use Rattle.std.proofs.Common.{◌≡◌, ℕ, Bool, true, false, List, [], ◌∷◌, ◌++◌, refl, sym, ap, ◌∙◌, append-nil, append_assoc, subst}
+use Rattle.std.specs.Prelude.{Option, Some, None, Ok, Err, IfSome, IfNone}
+use Rattle.idtext.specs.declared.faults.TextFault.{TextFault}
+use Rattle.idtext.specs.declared.faults.ReadError.{ReadError}
+use Rattle.idtext.specs.declared.faults.ReadError.TheVariants.{Memory, Fault}
+use Rattle.mtree_inv.specs.declared.entry.Entry.{Entry}
+use Rattle.mtree_inv.specs.declared.open_line.Ends.{Ends}
+use Rattle.mtree_inv.specs.declared.open_line.Ends.TheVariants.{Nothing, Joined, Byte, Backslash}
+use Rattle.idtext.specs.Pieces.{pieces}
+use Rattle.mtree_inv.specs.Logical.{LogicalLine, logical_lines, whole_lines}
+use Rattle.mtree_inv.specs.Inventory.{kinds, files_of, named, first_appearances, first_fault, files_unless, inventory_of_lines, inventory}
+use Rattle.mtree_inv.specs.Machine.{Kept, step, Follows}
+use Rattle.mtree_inv.specs.Reading.{Reading, clipped_kind, read_byte, read_bytes, at_end, unless_ended_at_end, finished, start}
+use Rattle.mtree_inv.specs.Standing.{ReaderValue, files, files_before_fault, StandsAt, StandsFor}
+use Rattle.idtext.specs.Faults.{fault_told}
+use Rattle.mtree_inv.specs.Parts.{FailedTo}
+use Rattle.mtree_inv.proofs.RunLemmas.{RunIs, run_is}
+use Rattle.mtree_inv.proofs.RestLemmas.{read_whole_lines, read_all_lines}
+use Rattle.mtree_inv.proofs.ReadLemmas.{Grows, grows-not, grows-twice, step-grows, after-grows, failed-more}
+
+follows_start : Follows start.kept []
+unfolding files_of named first_appearances
+follows_start = record { uid = refl; gid = refl; is_dir = refl; path = refl; starts = refl; files = refl }
+
+inventory_of_run : (most : ℕ) (lines : List LogicalLine) (k : Kept) (f : Option TextFault) → RunIs most [] lines (k, f) → inventory_of_lines most lines ≡ files_unless f k.files
+unfolding inventory_of_lines first_fault
+inventory_of_run most lines k None run = ap (λ (o : Option TextFault). files_unless o (files_of (kinds lines))) (sym run.fault) ∙ ap Ok (sym (run.follows refl).files)
+inventory_of_run most lines k (Some f) run = ap (λ (o : Option TextFault). files_unless o (files_of (kinds lines))) (sym run.fault)
+
+pub whole_inventory : (most : ℕ) (text : List ℕ) → inventory_of_lines most (whole_lines text) ≡ files_unless (read_bytes most start text).fault (read_bytes most start text).kept.files
+whole_inventory most text =
+    let m = read_bytes most start text in
+    inventory_of_run most (whole_lines text) m.kept m.fault
+    (subst (RunIs most [] (whole_lines text)) (sym (read_whole_lines most text)) (run_is most start.kept [] (whole_lines text) follows_start))
+
+abbrev at_finish : ℕ → List ℕ → Reading
+at_finish most text = finished most (read_bytes most start text)
+
+run_all : (most : ℕ) (text : List ℕ) → RunIs most [] (logical_lines text) ((at_finish most text).kept, (at_finish most text).fault)
+run_all most text = subst (RunIs most [] (logical_lines text)) (sym (read_all_lines most text)) (run_is most start.kept [] (logical_lines text) follows_start)
+
+pub all_inventory : (most : ℕ) (text : List ℕ) → inventory most text ≡ files_unless (at_finish most text).fault (at_finish most text).kept.files
+unfolding inventory
+all_inventory most text = inventory_of_run most (logical_lines text) (at_finish most text).kept (at_finish most text).fault (run_all most text)
+
+files_at_finish : (most : ℕ) (text : List ℕ) → files_before_fault most text ≡ (at_finish most text).kept.files
+files_at_finish most text = sym (run_all most text).files
+
+read-append : (most : ℕ) (reading : Reading) (a b : List ℕ) → read_bytes most (read_bytes most reading a) b ≡ read_bytes most reading (a ++ b)
+unfolding read_bytes
+read-append most reading [] b = refl
+read-append most reading (x ∷ a) b = read-append most (read_byte most reading x) a b
+
+finished-failed : (most : ℕ) (reading : Reading) (f : TextFault) → reading.fault ≡ Some f → finished most reading ≡ reading
+unfolding finished
+finished-failed most reading f e = ap (λ (o : Option TextFault). unless_ended_at_end o most reading) e
+
+finished-grows : (most : ℕ) (reading : Reading) → Grows reading.kept.files (finished most reading).kept.files
+unfolding finished
+finished-grows most reading = by reading.fault
+  where
+    ended : (ends : Ends) → Grows reading.kept.files (at_end ends most reading).kept.files
+    ended Nothing = grows-not reading.kept.files
+    ended Byte = after-grows (step most reading.kept (clipped_kind reading.open_line.joined false)) reading reading.open_line.first reading.open_line (step-grows most reading.kept (clipped_kind reading.open_line.joined false))
+    ended Joined = after-grows (step most reading.kept (clipped_kind reading.open_line.joined true)) reading reading.open_line.first reading.open_line (step-grows most reading.kept (clipped_kind reading.open_line.joined true))
+    ended Backslash = after-grows (step most reading.kept (clipped_kind reading.open_line.joined true)) reading reading.open_line.first reading.open_line (step-grows most reading.kept (clipped_kind reading.open_line.joined true))
+
+    by : (fault : Option TextFault) → Grows reading.kept.files (unless_ended_at_end fault most reading).kept.files
+    by None = ended reading.open_line.ends
+    by (Some f) = grows-not reading.kept.files
+
+-- ---- a reader
+
+pub none_then : {A P : Type 0} (o : Option A) → P → IfNone o P
+none_then None p = p
+none_then (Some x) p = tt
+
+pub going_at : (reader : ReaderValue) (text : List ℕ) → reader.fault ≡ None → reader.is_finished ≡ false → StandsFor reader text → StandsAt None false reader text
+going_at reader text e f h =
+    subst (λ (b : Bool). StandsAt None b reader text) f (subst (λ (o : Option ReadError). StandsAt o reader.is_finished reader text) e h)
+
+pub stands_by : (reader : ReaderValue) (text : List ℕ) (o : Option ReadError) (b : Bool) → reader.fault ≡ o → reader.is_finished ≡ b → StandsAt o b reader text → StandsFor reader text
+stands_by reader text o b e f h =
+    subst (λ (p : Option ReadError). StandsAt p reader.is_finished reader text) (sym e) (subst (λ (c : Bool). StandsAt o c reader text) (sym f) h)
+
+-- a reader that met a fault stands for each longer text too
+still_failed : (o : ReadError) (finished : Bool) (reader : ReaderValue) (text piece : List ℕ) → StandsAt (Some o) finished reader text → StandsAt (Some o) finished reader (text ++ piece)
+still_failed (Fault f) finished reader text piece h = (h.0, h.1 ++ piece, ap (λ t. t ++ piece) h.2 ∙ append_assoc h.0 h.1 piece, h.3, h.4)
+still_failed Memory finished reader text piece h = (h.0, h.1 ++ piece, h.2, ap (λ t. t ++ piece) h.3 ∙ append_assoc h.0 h.1 piece, h.4)
+
+pub stands_still : (reader : ReaderValue) (text piece : List ℕ) (fault : ReadError) → reader.fault ≡ Some fault → StandsFor reader text → StandsFor reader (text ++ piece)
+stands_still reader text piece fault e h =
+    stands_by reader (text ++ piece) (Some fault) reader.is_finished e refl
+    (still_failed fault reader.is_finished reader text piece (subst (λ (o : Option ReadError). StandsAt o reader.is_finished reader text) e h))
+
+fed_to : (reader : ReaderValue) (text piece : List ℕ) → StandsAt None false reader text → read_bytes reader.most reader.reading piece ≡ read_bytes reader.most start (text ++ piece)
+fed_to reader text piece h = ap (λ (m : Reading). read_bytes reader.most m piece) h.0 ∙ read-append reader.most start text piece
+
+pub fed_whole : (reader new : ReaderValue) (text piece : List ℕ) → StandsAt None false reader text → new.most ≡ reader.most → read_bytes reader.most reader.reading piece ≡ new.reading → new.reading.fault ≡ None
+    → inventory_of_lines reader.most (whole_lines (text ++ piece)) ≡ Ok (files new)
+fed_whole reader new text piece h same e none =
+    whole_inventory reader.most (text ++ piece)
+    ∙ ap (λ (m : Reading). files_unless m.fault m.kept.files) (sym (fed_to reader text piece h) ∙ e)
+    ∙ ap (λ (o : Option TextFault). files_unless o new.reading.kept.files) none
+
+pub fed_going : (reader new : ReaderValue) (text piece : List ℕ) → StandsAt None false reader text → new.most ≡ reader.most → read_bytes reader.most reader.reading piece ≡ new.reading → new.reading.fault ≡ None
+    → StandsAt None false new (text ++ piece)
+fed_going reader new text piece h same e none = (
+  sym e ∙ fed_to reader text piece h ∙ ap (λ (n : ℕ). read_bytes n start (text ++ piece)) (sym same),
+  ap (λ (n : ℕ). inventory_of_lines n (whole_lines (text ++ piece))) same ∙ fed_whole reader new text piece h same e none,
+)
+
+failed_inventory : (most : ℕ) (text : List ℕ) (f : TextFault) → (at_finish most text).fault ≡ Some f → inventory most text ≡ Err f
+failed_inventory most text f e = all_inventory most text ∙ ap (λ (o : Option TextFault). files_unless o (at_finish most text).kept.files) e
+
+failed_finish : (most : ℕ) (text : List ℕ) (f : TextFault) → (read_bytes most start text).fault ≡ Some f → at_finish most text ≡ read_bytes most start text
+failed_finish most text f e = finished-failed most (read_bytes most start text) f e
+
+-- a reader that failed on this text
+failed_at : (new : ReaderValue) (most : ℕ) (text : List ℕ) (fin : Bool) (fault : ReadError) → new.most ≡ most → FailedTo (files new) fault (at_finish most text) → StandsAt (Some fault) fin new text
+failed_at new most text fin Memory same h =
+    (text, [], h.0, sym (append-nil text), ap (λ (n : ℕ). files_before_fault n text) same ∙ files_at_finish most text ∙ h.1)
+failed_at new most text fin (Fault f) same h = (
+  text,
+  [],
+  sym (append-nil text),
+  ap (λ (n : ℕ). inventory n text) same ∙ failed_inventory most text f h.0,
+  ap (λ (n : ℕ). files_before_fault n text) same ∙ files_at_finish most text ∙ h.1,
+)
+
+finish_failed : (most : ℕ) (text : List ℕ) (fs : List Entry) (fault : ReadError) → FailedTo fs fault (read_bytes most start text) → FailedTo fs fault (at_finish most text)
+finish_failed most text fs Memory h = grows-twice fs (read_bytes most start text).kept.files (at_finish most text).kept.files h (finished-grows most (read_bytes most start text))
+finish_failed most text fs (Fault f) h = subst (FailedTo fs (Fault f)) (sym (failed_finish most text f h.0)) h
+
+pub fed_failed : (reader new : ReaderValue) (text piece : List ℕ) (fin : Bool) (fault : ReadError) → StandsAt None false reader text → new.most ≡ reader.most
+    → FailedTo (files new) fault (read_bytes reader.most reader.reading piece) → StandsAt (Some fault) fin new (text ++ piece)
+fed_failed reader new text piece fin fault h same e =
+    failed_at new reader.most (text ++ piece) fin fault same
+    (finish_failed reader.most (text ++ piece) (files new) fault (subst (FailedTo (files new) fault) (fed_to reader text piece h) e))
+
+pub fed_told : (reader : ReaderValue) (fs : List Entry) (text piece : List ℕ) (fault : ReadError) → StandsAt None false reader text
+    → FailedTo fs fault (read_bytes reader.most reader.reading piece) → IfSome (fault_told fault) (λ f. inventory_of_lines reader.most (whole_lines (text ++ piece)) ≡ Err f)
+fed_told reader fs text piece Memory h e = tt
+fed_told reader fs text piece (Fault f) h e =
+    whole_inventory reader.most (text ++ piece)
+    ∙ ap (λ (m : Reading). files_unless m.fault m.kept.files) (sym (fed_to reader text piece h))
+    ∙ ap (λ (o : Option TextFault). files_unless o (read_bytes reader.most reader.reading piece).kept.files) e.0
+
+pub fed_ended : (reader : ReaderValue) (fs : List Entry) (text piece : List ℕ) (fault : ReadError) → StandsAt None false reader text
+    → FailedTo fs fault (read_bytes reader.most reader.reading piece) → IfSome (fault_told fault) (λ f. (more : List ℕ) → inventory reader.most ((text ++ piece) ++ more) ≡ Err f)
+fed_ended reader fs text piece Memory h e = tt
+fed_ended reader fs text piece (Fault f) h e = λ more.
+    let here = failed-more reader.most fs (Fault f) (read_bytes reader.most reader.reading piece) more e in
+    let there = subst (FailedTo fs (Fault f)) (ap (λ (m : Reading). read_bytes reader.most m more) (fed_to reader text piece h) ∙ read-append reader.most start (text ++ piece) more) here in
+    failed_inventory reader.most ((text ++ piece) ++ more) f (finish_failed reader.most ((text ++ piece) ++ more) fs (Fault f) there).0
+
+pub finished_whole : (reader new : ReaderValue) (text : List ℕ) → StandsAt None false reader text → finished reader.most reader.reading ≡ new.reading → new.reading.fault ≡ None
+    → inventory reader.most text ≡ Ok (files new)
+finished_whole reader new text h e none =
+    all_inventory reader.most text
+    ∙ ap (λ (m : Reading). files_unless m.fault m.kept.files) (ap (finished reader.most) (sym h.0) ∙ e)
+    ∙ ap (λ (o : Option TextFault). files_unless o new.reading.kept.files) none
+
+pub finished_failed : (reader new : ReaderValue) (text : List ℕ) (fin : Bool) (fault : ReadError) → StandsAt None false reader text → new.most ≡ reader.most
+    → FailedTo (files new) fault (finished reader.most reader.reading) → StandsAt (Some fault) fin new text
+finished_failed reader new text fin fault h same e =
+    failed_at new reader.most text fin fault same (subst (FailedTo (files new) fault) (ap (finished reader.most) h.0) e)
+
+pub finished_told : (reader : ReaderValue) (fs : List Entry) (text : List ℕ) (fault : ReadError) → StandsAt None false reader text
+    → FailedTo fs fault (finished reader.most reader.reading) → IfSome (fault_told fault) (λ f. inventory reader.most text ≡ Err f)
+finished_told reader fs text Memory h e = tt
+finished_told reader fs text (Fault f) h e = failed_inventory reader.most text f (ap (λ (m : Reading). m.fault) (ap (finished reader.most) (sym h.0)) ∙ e.0)
+
+pub stands_start : (most : ℕ) (reader : ReaderValue) → reader.reading ≡ start → StandsAt None false reader []
+unfolding read_bytes inventory_of_lines first_fault files_of named first_appearances pieces
+stands_start most reader e = (e, ap (λ (m : Reading). Ok m.kept.files) (sym e))
+
+pub whole_refused : (o : Option ReadError) (most : ℕ) (text : List ℕ) (fault : ReadError) → o ≡ None
+    → IfNone o (IfSome (fault_told fault) (λ f. (more : List ℕ) → inventory most (text ++ more) ≡ Err f)) → IfSome (fault_told fault) (λ f. inventory most text ≡ Err f)
+whole_refused (Some x) most text fault e h = absurd (cc)
+whole_refused None most text Memory e h = tt
+whole_refused None most text (Fault f) e h = ap (inventory most) (sym (append-nil text)) ∙ h []

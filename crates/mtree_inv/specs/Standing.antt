@@ -1,0 +1,46 @@
+-- What a reader stands for.
+use Rattle.std.specs.Prelude.{◌≡◌, ℕ, Bool, true, false, List, ◌++◌, Option, Some, None, Ok, Err}
+use Rattle.mtree_inv.specs.declared.entry.Entry.{Entry}
+use Rattle.idtext.specs.declared.faults.ReadError.{ReadError}
+use Rattle.idtext.specs.declared.faults.ReadError.TheVariants.{Memory, Fault}
+use Rattle.mtree_inv.specs.Logical.{logical_lines, whole_lines}
+use Rattle.mtree_inv.specs.Inventory.{kinds, files_of, accepted, inventory_of_lines, inventory}
+use Rattle.mtree_inv.specs.Reading.{Reading, read_bytes, start}
+
+-- the files that came are those that now wait behind the others
+abbrev pub GrowAlike : List Entry → List Entry → List Entry → List Entry → Type 0
+GrowAlike files new_files waiting new_waiting = (added : List Entry) × (new_files ≡ files ++ added) × (new_waiting ≡ waiting ++ added)
+
+-- what contracts see of a reader: the most files that it takes, what it keeps of the text, the files that wait to be
+-- handed out, the fault that ended it, and whether the text is finished
+pub record ReaderValue : Type 0 where
+  pub most : ℕ
+  pub reading : Reading
+  pub waiting : List Entry
+  pub fault : Option ReadError
+  pub is_finished : Bool
+
+-- all files so far, handed out or waiting
+abbrev pub files : ReaderValue → List Entry
+files reader = reader.reading.kept.files
+
+-- the files of the lines of a text before its first fault
+abbrev pub files_before_fault : ℕ → List ℕ → List Entry
+files_before_fault most text = files_of (kinds (accepted most (logical_lines text)))
+
+abbrev pub StandsAt : Option ReadError → Bool → ReaderValue → List ℕ → Type 0
+-- in mid-text the files are those of the whole lines, which have no fault
+StandsAt None false reader text =
+    (reader.reading ≡ read_bytes reader.most start text) × (inventory_of_lines reader.most (whole_lines text) ≡ Ok (files reader))
+-- a finished reader has the inventory of the text
+StandsAt None true reader text = inventory reader.most text ≡ Ok (files reader)
+-- a reader that met a fault has the files before it, and the text that it met it in is the text or a front of it
+StandsAt (Some (Fault fault)) finished reader text =
+    (fed : List ℕ) × (rest : List ℕ) × (text ≡ fed ++ rest) × (inventory reader.most fed ≡ Err fault) × (files_before_fault reader.most fed ≡ files reader)
+-- where memory ran out it has the first of these
+StandsAt (Some Memory) finished reader text =
+    (fed : List ℕ) × (rest : List ℕ) × (more : List Entry) × (text ≡ fed ++ rest) × (files_before_fault reader.most fed ≡ files reader ++ more)
+
+-- the reader stands for the text fed so far, however it was cut
+abbrev pub StandsFor : ReaderValue → List ℕ → Type 0
+StandsFor reader text = StandsAt reader.fault reader.is_finished reader text

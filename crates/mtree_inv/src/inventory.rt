@@ -1,0 +1,65 @@
+//! The inventory of a text.
+ghost use Rattle.std.specs.Prelude.{◌≡◌, List, MatchResult};
+ghost use Rattle.idtext.specs.declared.faults.ReadError.TheVariants.{Memory};
+ghost use Rattle.idtext.specs.First.{Gives};
+ghost use Rattle.mtree_inv.specs.Inventory.{inventory};
+ghost use Rattle.idtext.specs.Faults.{fault_told};
+
+use crate::entry::Entry;
+use crate::reader::Reader;
+use idtext::ReadError;
+use std::alloc::Global;
+use std::marker::Model;
+
+/// The files of a text, in order of first appearance.
+#[derive(Drop)]
+pub struct Inventory {
+    entries: Vec<Entry>,
+}
+
+impl Model for Inventory {
+    ghost use Rattle.std.specs.Prelude.{List};
+    ghost use Rattle.mtree_inv.specs.declared.entry.Entry.{Entry};
+
+    ghost Value = { List Entry };
+
+    ghost view = { λ i. i.entries.items };
+}
+
+impl Inventory {
+    ghost use Rattle.std.specs.Prelude.{◌≡◌};
+
+    /// Its files.
+    pub fn entries(&self) -> &[Entry]
+        ensures { result.now ≡ self.now }
+    {
+        &self.entries
+    }
+}
+
+// What the reader has to hand out.
+fn all_entries(alloc: Global, reader: Reader) -> Result<Vec<Entry>, ReadError>
+    ensures { MatchResult result (λ entries. entries.items ≡ reader.waiting) (λ e. e ≡ Memory) }
+{
+    let mut reader = reader;
+    let mut entries = Vec::new(alloc);
+    while let Some(entry) = reader.next_entry() {
+        if entries.push(entry).is_err() {
+            return Err(ReadError::Memory);
+        }
+    }
+    Ok(entries)
+}
+
+/// Reads the inventory of a text with at most `most` files.
+pub fn read_inventory(alloc: Global, text: &[u8], most: u32) -> Result<Inventory, ReadError>
+    ensures exact { Gives (λ entries. entries) fault_told result (inventory most text.now) }
+{
+    let mut reader = Reader::new(alloc, most);
+    if let Err(fault) = reader.feed(text) {
+        return Err(fault);
+    }
+    reader.finish()?;
+    let entries = all_entries(alloc, reader)?;
+    Ok(Inventory { entries })
+}

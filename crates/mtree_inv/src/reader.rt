@@ -1,0 +1,119 @@
+//! A reader of an mtree text in pieces.
+ghost use Rattle.std.specs.Prelude.{◌≡◌, List};
+
+use crate::entry::Entry;
+use crate::parts::Parts;
+use idtext::ReadError;
+use std::alloc::Global;
+use std::marker::Model;
+
+/// Reads the inventory of a text that comes in pieces. Entries can be taken while it reads.
+#[derive(Drop)]
+pub struct Reader {
+    parts: Parts,
+    fault: Option<ReadError>,
+    is_finished: bool,
+}
+
+impl Model for Reader {
+    ghost use Rattle.mtree_inv.specs.Standing.{ReaderValue};
+
+    ghost Value = { ReaderValue };
+
+    ghost use Rattle.mtree_inv.specs.Parts.{most_of, reading_of, waiting_in};
+
+    ghost view = { λ r. record { most = most_of r.parts; reading = reading_of r.parts; waiting = waiting_in r.parts; fault = r.fault; is_finished = r.is_finished } };
+}
+
+impl Reader {
+    ghost use Rattle.std.specs.Prelude.{◌≡◌, ◌++◌, ◌∷◌, ℕ, List, [], true, false, None, Some, Err, IfSome, IfNone, IfErr, OnOk, MatchOption, MatchResult};
+    ghost use Rattle.idtext.specs.First.{Gives};
+    ghost use Rattle.mtree_inv.specs.Logical.{whole_lines};
+    ghost use Rattle.mtree_inv.specs.Inventory.{inventory_of_lines, inventory};
+    ghost use Rattle.mtree_inv.specs.Standing.{StandsFor, GrowAlike, files};
+    ghost use Rattle.idtext.specs.Faults.{fault_told};
+
+    /// A reader of a text with at most `most` files, of which nothing has come.
+    pub fn new(alloc: Global, most: u32) -> Self
+        ensures stands { StandsFor result [] }
+        ensures most { result.most ≡ most }
+        ensures fault { result.fault ≡ None }
+        ensures going { result.is_finished ≡ false }
+        ensures waiting { result.waiting ≡ [] }
+        ensures files { files result ≡ [] }
+    {
+        Reader {
+            parts: Parts::new(alloc, most),
+            fault: None,
+            is_finished: false,
+        }
+    }
+
+    /// Takes the next piece of the text. It refuses exactly where the whole logical lines so far have a fault, with the
+    /// first, and after a fault always with that one.
+    pub fn feed(&mut self, piece: &[u8]) -> Result<(), ReadError>
+        requires { self.old.is_finished ≡ false }
+        ensures stands { (text : List ℕ) → StandsFor self.old text → StandsFor self.new (text ++ piece.now) }
+        ensures told { (text : List ℕ) → StandsFor self.old text → IfNone self.old.fault (Gives (λ _. files self.new) fault_told result (inventory_of_lines self.old.most (whole_lines (text ++ piece.now)))) }
+        ensures ended { (text : List ℕ) → StandsFor self.old text → IfNone self.old.fault (IfErr result (λ e. IfSome (fault_told e) (λ f. (more : List ℕ) → inventory self.old.most ((text ++ piece.now) ++ more) ≡ Err f))) }
+        ensures failed { IfSome self.old.fault (λ f. (result ≡ Err f) × (self.new ≡ self.old)) }
+        ensures fault { IfNone self.old.fault (MatchResult result (λ _. self.new.fault ≡ None) (λ f. self.new.fault ≡ Some f)) }
+        ensures grow { GrowAlike (files self.old) (files self.new) self.old.waiting self.new.waiting }
+        ensures most { self.new.most ≡ self.old.most }
+        ensures going { self.new.is_finished ≡ false }
+    {
+        if let Some(fault) = self.fault {
+            return Err(fault);
+        }
+        match self.parts.take_piece(piece) {
+            Ok(()) => Ok(()),
+            Err(fault) => {
+                self.fault = Some(fault);
+                Err(fault)
+            }
+        }
+    }
+
+    /// Takes the end of the text. It refuses exactly where the text has a fault, with the first.
+    pub fn finish(&mut self) -> Result<(), ReadError>
+        requires { self.old.is_finished ≡ false }
+        ensures stands { (text : List ℕ) → StandsFor self.old text → StandsFor self.new text }
+        ensures told { (text : List ℕ) → StandsFor self.old text → IfNone self.old.fault (Gives (λ _. files self.new) fault_told result (inventory self.old.most text)) }
+        ensures failed { IfSome self.old.fault (λ f. (result ≡ Err f) × (self.new ≡ self.old)) }
+        ensures fault { IfNone self.old.fault (MatchResult result (λ _. (self.new.fault ≡ None) × (self.new.is_finished ≡ true)) (λ f. (self.new.fault ≡ Some f) × (self.new.is_finished ≡ false))) }
+        ensures grow { GrowAlike (files self.old) (files self.new) self.old.waiting self.new.waiting }
+        ensures most { self.new.most ≡ self.old.most }
+    {
+        if let Some(fault) = self.fault {
+            return Err(fault);
+        }
+        match self.parts.take_end() {
+            Ok(()) => {
+                self.is_finished = true;
+                Ok(())
+            }
+            Err(fault) => {
+                self.fault = Some(fault);
+                Err(fault)
+            }
+        }
+    }
+
+    /// Whether a `finish` was answered with `Ok`.
+    pub fn is_finished(&self) -> bool
+        ensures { result ≡ self.now.is_finished }
+    {
+        self.is_finished
+    }
+
+    /// The next file of those so far, until all were handed out. It takes no memory.
+    pub fn next_entry(&mut self) -> Option<Entry>
+        ensures next { MatchOption result ((self.old.waiting ≡ []) × (self.new.waiting ≡ [])) (λ entry. self.old.waiting ≡ entry ∷ self.new.waiting) }
+        ensures most { self.new.most ≡ self.old.most }
+        ensures reading { self.new.reading ≡ self.old.reading }
+        ensures fault { self.new.fault ≡ self.old.fault }
+        ensures finished { self.new.is_finished ≡ self.old.is_finished }
+    {
+        self.parts.take()
+    }
+}

@@ -1,0 +1,2 @@
+pub mod MapLoop
+pub mod BundleLoop

@@ -1,0 +1,43 @@
+-- The lines of a bundle.
+use Rattle.std.specs.Prelude.{ℕ, List, drop, if◌then◌else◌, bytes_eq, codes}
+use Rattle.idtext.specs.Pieces.{begins_with}
+use Rattle.unify_texts.specs.declared.bundle_line.Command.TheVariants.{Count, Merge, Check, Rehearse}
+use Rattle.unify_texts.specs.declared.bundle_line.FileName.{FileName}
+use Rattle.unify_texts.specs.declared.bundle_line.FileName.TheVariants as file
+use Rattle.unify_texts.specs.declared.bundle_line.BundleLine.{BundleLine}
+use Rattle.unify_texts.specs.declared.bundle_line.BundleLine.TheVariants.{Run, File, Host, Content, Wrong}
+
+abbrev pub file_index : FileName → ℕ
+file_index file.Map = 0
+file_index file.Certificate = 1
+file_index file.Plan = 2
+file_index file.Pins = 3
+file_index file.Mtree = 4
+file_index file.Passwd = 5
+file_index file.Group = 6
+file_index file.LoginDefs = 7
+
+-- ---- reading a line
+
+abbrev pub file_named : List ℕ → BundleLine
+file_named name =
+    if bytes_eq name (codes "map") then File file.Map
+    else if bytes_eq name (codes "certificate") then File file.Certificate
+    else if bytes_eq name (codes "plan") then File file.Plan
+    else if bytes_eq name (codes "pins") then File file.Pins
+    else if bytes_eq name (codes "mtree") then File file.Mtree
+    else if bytes_eq name (codes "passwd") then File file.Passwd
+    else if bytes_eq name (codes "group") then File file.Group
+    else if bytes_eq name (codes "login.defs") then File file.LoginDefs
+    else Wrong
+
+unfoldable pub bundle_line_of : List ℕ → BundleLine
+bundle_line_of line =
+    if begins_with (codes "|") line then Content (drop 1 line)
+    else if begins_with (codes "file ") line then file_named (drop 5 line)
+    else if begins_with (codes "host ") line then Host (drop 5 line)
+    else if bytes_eq line (codes "run count") then Run Count
+    else if bytes_eq line (codes "run merge") then Run Merge
+    else if bytes_eq line (codes "run check") then Run Check
+    else if bytes_eq line (codes "run rehearse") then Run Rehearse
+    else Wrong

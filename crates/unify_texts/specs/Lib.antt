@@ -1,0 +1,6 @@
+pub mod Codes
+pub mod Faults
+pub mod Maps
+pub mod Told
+pub mod BundleLines
+pub mod Bundles
