@@ -1,0 +1,38 @@
+//! The command line.
+
+use clap::{Arg, ArgAction, Command};
+use std::alloc::{AllocError, Global};
+
+/// What `--version` tells.
+const VERSION: &str = "0.1.0";
+
+// HOST..., one or more.
+fn hosts<'a>(alloc: Global) -> Arg<'a> {
+    Arg::new(alloc, "HOST")
+        .help("NAME=DIR, or NAME alone for the directory NAME; it holds passwd, group, mtree and maybe login.defs")
+        .required(true)
+        .num_args(1..)
+        .action(ArgAction::Append)
+}
+
+// count MAP HOST...
+fn count<'a>(alloc: Global) -> Result<Command<'a>, AllocError> {
+    let map = Arg::new(alloc, "MAP")
+        .help("the map: lines `user NAME NUMBER` and `group NAME NUMBER`")
+        .required(true)
+        .action(ArgAction::Set);
+    Command::new(alloc, "count")
+        .about("Counts the owner and group fields of files that a map would change")
+        .arg(map)?
+        .arg(hosts(alloc))
+}
+
+/// The command line with words.
+pub fn command_line<'a>(alloc: Global) -> Result<Command<'a>, AllocError> {
+    Command::new(alloc, "unify")
+        .version(VERSION)
+        .about("One numbering for the accounts of many hosts")
+        .after_help("Without words a bundle, one command and its files in one text, is read from standard input.")
+        .subcommand_required(true)
+        .subcommand(count(alloc)?)
+}

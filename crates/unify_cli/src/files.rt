@@ -1,0 +1,105 @@
+//! The files that words name.
+
+use hosts_join::HostText;
+use idtext::ByteString;
+use std::alloc::{AllocError, AllocFailed};
+use std::fs::File;
+use std::io;
+use std::io::Read;
+use std::path::Path;
+
+/// The most bytes that an input file may have.
+const MOST_BYTES: u64 = 4294967295;
+
+/// Why the files were not read.
+#[derive(Drop)]
+pub enum FileFault {
+    Memory,
+    /// The path of the first file that cannot be read.
+    File(String),
+}
+
+impl From<AllocError> for FileFault {
+    fn from(_e: AllocError) -> FileFault {
+        FileFault::Memory
+    }
+}
+
+impl<T: Drop> From<AllocFailed<T>> for FileFault {
+    fn from(_e: AllocFailed<T>) -> FileFault {
+        FileFault::Memory
+    }
+}
+
+// The bytes of a file, unless it cannot be read or has too many.
+fn read_bytes(rt: &HostRuntime, path: &str) -> io::Result<Vec<u8>> {
+    let file = File::open(rt, path)?;
+    let mut bytes = Vec::new(rt.alloc());
+    file.take(MOST_BYTES + 1).read_to_end(&mut bytes)?;
+    Ok(bytes)
+}
+
+// Why a file was not read: for want of memory, or because of the file.
+fn fault_of(rt: &HostRuntime, path: &str, error: &io::Error) -> FileFault {
+    if error.kind() == io::ErrorKind::OutOfMemory {
+        return FileFault::Memory;
+    }
+    match String::from_str(rt.alloc(), path) {
+        Ok(path) => FileFault::File(path),
+        Err(_) => FileFault::Memory,
+    }
+}
+
+/// The text of the file at a path.
+pub fn read_file(rt: &HostRuntime, path: &str) -> Result<ByteString, FileFault> {
+    match read_bytes(rt, path) {
+        Ok(bytes) => {
+            if bytes.len() as u64 > MOST_BYTES {
+                return Err(FileFault::File(String::from_str(rt.alloc(), path)?));
+            }
+            Ok(ByteString::from_vec(bytes))
+        }
+        Err(error) => Err(fault_of(rt, path, &error)),
+    }
+}
+
+// The text of a file in a host's directory.
+fn read_host_file(rt: &HostRuntime, directory: &str, file: &str) -> Result<ByteString, FileFault> {
+    let path = Path::new(directory).join(rt.alloc(), file)?;
+    read_file(rt, path.as_str())
+}
+
+// The text of a host's login.defs, which may be absent.
+fn read_logindefs(rt: &HostRuntime, directory: &str) -> Result<ByteString, FileFault> {
+    let path = Path::new(directory).join(rt.alloc(), "login.defs")?;
+    match File::open(rt, path.as_str()) {
+        Err(e) if e.kind() == io::ErrorKind::NotFound => Ok(ByteString::new(rt.alloc())),
+        _ => read_file(rt, path.as_str()),
+    }
+}
+
+/// The texts of the host that a word names: NAME=DIR, split at the first `=`, or NAME alone for the directory of that
+/// name.
+pub fn read_host(rt: &HostRuntime, word: &str) -> Result<HostText, FileFault> {
+    let (name, directory) = word.split_once('=').unwrap_or((word, word));
+    let passwd = read_host_file(rt, directory, "passwd")?;
+    let group = read_host_file(rt, directory, "group")?;
+    let logindefs = read_logindefs(rt, directory)?;
+    let mtree = read_host_file(rt, directory, "mtree")?;
+    Ok(HostText {
+        name: ByteString::copy_of(rt.alloc(), name.as_bytes())?,
+        passwd,
+        group,
+        logindefs,
+        mtree,
+    })
+}
+
+/// The texts of the hosts that words name, in order.
+pub fn read_hosts(rt: &HostRuntime, words: &[&str]) -> Result<Vec<HostText>, FileFault> {
+    let mut hosts = Vec::new(rt.alloc());
+    for word in words {
+        hosts.push(read_host(rt, *word)?)?;
+    }
+    Ok(hosts)
+}
