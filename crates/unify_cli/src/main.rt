@@ -6,11 +6,11 @@ mod files;
 mod report;
 mod words;
 
-use report::{memory_refused, write_failed};
-use std::io::{BufReader, BufWriter, Write};
+use report::memory_refused;
+use std::io::{BufReader, BufWriter};
 use std::process::ExitCode;
 use std::{env, io};
-use unify::run_bundle;
+use unify::{Watched, run_bundle};
 use words::run_words;
 
 /// How many bytes of standard input and output are read and written at once.
@@ -18,14 +18,17 @@ const BUFFER_BYTES: usize = 65536;
 
 /// Answers the bundle on standard input, and hands out the exit status.
 fn run_stdin(rt: &HostRuntime) -> u8 {
-    let Ok(mut reader) = BufReader::with_capacity(rt.alloc(), BUFFER_BYTES, rt.stdin()) else {
+    let Ok(reader) = BufReader::with_capacity(rt.alloc(), BUFFER_BYTES, rt.stdin()) else {
         return memory_refused(rt);
     };
-    let Ok(mut writer) = BufWriter::with_capacity(rt.alloc(), BUFFER_BYTES, io::writer(rt)) else {
+    let Ok(writer) = BufWriter::with_capacity(rt.alloc(), BUFFER_BYTES, io::writer(rt)) else {
         return memory_refused(rt);
     };
-    let status = run_bundle(rt.alloc(), &mut reader, &mut writer);
-    if writer.flush().is_err() { 3 } else { status }
+    run_bundle(
+        rt.alloc(),
+        &mut Watched::new(reader),
+        &mut Watched::new(writer),
+    )
 }
 
 fn main(rt: HostRuntime) -> ExitCode {

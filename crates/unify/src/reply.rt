@@ -1,0 +1,74 @@
+//! What goes out for a command: its lines or its fault, with the exit status.
+
+ghost use Rattle.std.specs.Prelude.{◌≡◌, Some, Err, IfOk};
+ghost use Rattle.unify_texts.specs.Told.{told};
+ghost use Rattle.unify_texts.specs.Codes.{code_of, status_of};
+ghost use Rattle.unify.specs.Output.{cost_lines, counted, answered};
+ghost use Rattle.unify.specs.Replies.{reply_of};
+
+use crate::counting::{Cost, count};
+use hosts_join::HostText;
+use idtext::push_number;
+use std::alloc::{AllocError, Global};
+use unify_texts::{Fault, push_fault};
+
+/// What goes out, and the exit status.
+#[derive(Drop)]
+pub struct Reply {
+    pub text: Vec<u8>,
+    pub status: u8,
+}
+
+fn status_of_fault(fault: &Fault<'_>) -> u8
+    ensures { result ≡ status_of (code_of fault.now) }
+{
+    let code = fault.code();
+    if code == 0 || code == 36 {
+        3
+    } else if code == 42 {
+        2
+    } else if code >= 29 && code <= 34 {
+        4
+    } else {
+        1
+    }
+}
+
+/// The line that tells a fault, with its status, unless memory is wanting.
+pub fn refused(alloc: Global, fault: &Fault<'_>) -> Result<Reply, AllocError>
+    ensures { IfOk result (λ reply. (told fault.now ≡ Some fault.now) × (reply_of reply ≡ answered (Err fault.now))) }
+{
+    if matches!(fault, Fault::Memory) {
+        return Err(AllocError);
+    }
+    let mut text = Vec::new(alloc);
+    push_fault(alloc, &mut text, fault)?;
+    Ok(Reply {
+        text,
+        status: status_of_fault(fault),
+    })
+}
+
+fn cost_text(alloc: Global, cost: Cost) -> Result<Vec<u8>, AllocError>
+    ensures { IfOk result (λ text. text.items ≡ cost_lines cost) }
+{
+    let mut text = Vec::from_slice(alloc, b"user-fields ")?;
+    push_number(&mut text, u128::from(cost.users))?;
+    text.extend_from_slice(b"\ngroup-fields ")?;
+    push_number(&mut text, u128::from(cost.groups))?;
+    text.push(b'\n')?;
+    Ok(text)
+}
+
+/// What goes out for a count of these hosts with this map.
+pub fn count_reply(alloc: Global, hosts: &[HostText], map: &[u8]) -> Result<Reply, AllocError>
+    ensures { IfOk result (λ reply. reply_of reply ≡ answered (counted hosts.now map.now)) }
+{
+    match count(alloc, hosts, map) {
+        Ok(cost) => Ok(Reply {
+            text: cost_text(alloc, cost)?,
+            status: 0,
+        }),
+        Err(fault) => refused(alloc, &fault),
+    }
+}
