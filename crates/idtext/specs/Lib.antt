@@ -7,3 +7,4 @@ pub mod Words
 pub mod Names
 pub mod Codes
 pub mod Spaces
+pub mod Laws

@@ -1,5 +1,5 @@
 -- Names of accounts, and lines that say nothing.
-use Rattle.std.specs.Prelude.{ℕ, Bool, List, [], ◌==◌, ◌||◌, ◌&&◌, not, length, slice_index}
+use Rattle.std.specs.Prelude.{ℕ, Bool, List, ◌==◌, ◌||◌, ◌&&◌, not, length, slice_index}
 use Rattle.std.specs.List.{list_all, list_any}
 use Rattle.idtext.specs.Words.{is_white}
 

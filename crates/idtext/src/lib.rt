@@ -3,6 +3,7 @@
 
 mod escapes;
 mod faults;
+mod laws;
 mod name;
 mod names;
 mod numbers;
@@ -11,6 +12,7 @@ mod words;
 
 pub use escapes::{push_escaped, push_unescaped};
 pub use faults::{ReadError, TextCode, TextFault};
+pub use laws::{escapes_are_read_from_the_left, numbers_read_are_ids};
 pub use name::{ByteString, Name};
 pub use names::{is_lawful_name, is_skipped};
 pub use numbers::{LARGEST_ID, c_number, decimal, push_number};

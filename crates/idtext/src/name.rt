@@ -1,7 +1,7 @@
 //! Bytes that contracts see as lists of bytes: slices of the input, and owned ones.
 #![tactic(auto)]
 
-ghost use Rattle.std.specs.Prelude.{◌≡◌, ◌++◌, ◌∷◌, [], ℕ, List, IfOk, OnOk};
+ghost use Rattle.std.specs.Prelude.{◌≡◌, ◌++◌, ◌∷◌, [], ℕ, List, IfOk, OnErr, OnOk};
 
 use std::alloc::{AllocError, Global};
 use std::marker::Model;
@@ -83,10 +83,15 @@ impl ByteString {
 
     /// Appends a line and a newline.
     pub fn push_line(&mut self, line: &[u8]) -> Result<(), AllocError>
-        ensures { OnOk result (self.new ≡ self.old ++ (line.now ++ 10 ∷ [])) }
+        ensures pushed { OnOk result (self.new ≡ self.old ++ (line.now ++ 10 ∷ [])) }
+        ensures kept { OnErr result (self.new ≡ self.old) }
     {
+        let before = self.bytes.len();
         self.bytes.extend_from_slice(line)?;
-        self.bytes.push(b'\n')?;
+        if self.bytes.push(b'\n').is_err() {
+            self.bytes.truncate(before);
+            return Err(AllocError);
+        }
         Ok(())
     }
 }
