@@ -61,9 +61,13 @@ number_refl n = eq-eqb n n refl
 
 -- ---- tables
 
-none_of_both : {F : Type 0} (a b : Option F) → or_else a b ≡ None → (a ≡ None) × (b ≡ None)
+pub none_of_both : {F : Type 0} (a b : Option F) → or_else a b ≡ None → (a ≡ None) × (b ≡ None)
 none_of_both None b e = (refl, e)
 none_of_both (Some f) b e = cc
+
+pub told_ok : {X : Type 0} (fault : Option TextFault) (made rows : X) → unless fault made ≡ Ok rows → (fault ≡ None) × (made ≡ rows)
+told_ok None made rows e = (refl, cc)
+told_ok (Some fault) made rows e = cc
 
 module _ {Row : Type 0} (line_of : ℕ → List ℕ → Result (Option Row) TextFault) (name : Row → List ℕ) (number : Row → ℕ) (line_lawful : (n : ℕ) (line : List ℕ) (row : Row) → line_of n line ≡ Ok (Some row) → (n ≤ 65536) × (is_lawful_name (name row) ≡ true) × (number row ≤ 4294967294)) where
   few_rows : (n : ℕ) (ls : List (List ℕ)) → length (rows_from line_of name number n ls) ≤ 65537 - n
@@ -138,10 +142,6 @@ module _ {Row : Type 0} (line_of : ℕ → List ℕ → Result (Option Row) Text
   none_at_first : Apart (rows_from line_of name number 1 [])
   unfolding rows_from
   none_at_first = record { names = λ i j d hi hj e. absurd (omega (arith, hi)); numbers = λ i j d hi hj e. absurd (omega (arith, hi)) }
-
-  told_ok : (fault : Option TextFault) (made rows : List Row) → unless fault made ≡ Ok rows → (fault ≡ None) × (made ≡ rows)
-  told_ok None made rows e = (refl, cc)
-  told_ok (Some fault) made rows e = cc
 
   pub table-law : (text : List ℕ) (rows : List Row) → table line_of name number text ≡ Ok rows → IsTable (map name rows) (map number rows)
   table-law text rows e =
