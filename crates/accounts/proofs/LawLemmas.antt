@@ -13,7 +13,7 @@ use Rattle.idtext.specs.declared.faults.TextFault.{TextFault}
 use Rattle.idtext.specs.First.{◌>>=◌, or_else, first_fault, unless}
 use Rattle.idtext.specs.Numbers.{id_of, numeral, is_numeral}
 use Rattle.idtext.specs.Pieces.{lines, fields_of}
-use Rattle.accounts.specs.Laws.{AreDistinct, IsTable, IsPasswdTable, IsGroupTable}
+use Rattle.accounts.specs.Laws.{AreDistinct, AreIds, IsTable, IsPasswdTable, HavePrimaryGroups, IsGroupTable}
 use Rattle.idtext.specs.Names.{is_lawful_name}
 use Rattle.accounts.specs.Lines.{is_kept}
 use Rattle.accounts.specs.Rows.{Passwd, Group, passwd_from, passwd_line, group_from, group_line, named, numbered}
@@ -61,11 +61,15 @@ number_refl n = eq-eqb n n refl
 
 -- ---- tables
 
-none_of_both : {F : Type 0} (a b : Option F) → or_else a b ≡ None → (a ≡ None) × (b ≡ None)
+pub none_of_both : {F : Type 0} (a b : Option F) → or_else a b ≡ None → (a ≡ None) × (b ≡ None)
 none_of_both None b e = (refl, e)
 none_of_both (Some f) b e = cc
 
-module _ {Row : Type 0} (line_of : ℕ → List ℕ → Result (Option Row) TextFault) (name : Row → List ℕ) (number : Row → ℕ) (lawful : (n : ℕ) (line : List ℕ) (row : Row) → line_of n line ≡ Ok (Some row) → (n ≤ 65536) × (number row ≤ 4294967294)) where
+pub told_ok : {X : Type 0} (fault : Option TextFault) (made rows : X) → unless fault made ≡ Ok rows → (fault ≡ None) × (made ≡ rows)
+told_ok None made rows e = (refl, cc)
+told_ok (Some fault) made rows e = cc
+
+module _ {Row : Type 0} (line_of : ℕ → List ℕ → Result (Option Row) TextFault) (name : Row → List ℕ) (number : Row → ℕ) (line_lawful : (n : ℕ) (line : List ℕ) (row : Row) → line_of n line ≡ Ok (Some row) → (n ≤ 65536) × (is_lawful_name (name row) ≡ true) × (number row ≤ 4294967294)) where
   few_rows : (n : ℕ) (ls : List (List ℕ)) → length (rows_from line_of name number n ls) ≤ 65537 - n
   unfolding rows_from
   few_rows n [] = omega arith
@@ -74,18 +78,32 @@ module _ {Row : Type 0} (line_of : ℕ → List ℕ → Result (Option Row) Text
       by : (told : Result (Option Row) TextFault) → line_of n line ≡ told → length (rows_from line_of name number (n + 1) more) ≤ 65537 - (n + 1) → length (row_in line_of name number told ++ rows_from line_of name number (n + 1) more) ≤ 65537 - n
       by (Err fault) e later = omega (arith, later)
       by (Ok None) e later = omega (arith, later)
-      by (Ok (Some row)) e later = omega (arith, later, (lawful n line row e).0)
+      by (Ok (Some row)) e later = omega (arith, later, (line_lawful n line row e).0)
 
-  least_of : (n : ℕ) (ls : List (List ℕ)) (i : ℕ) → i < length (map number (rows_from line_of name number n ls)) → get_or (map number (rows_from line_of name number n ls)) i 0 ≤ 4294967294
+  all_named : (n : ℕ) (ls : List (List ℕ)) → list_all is_lawful_name (map name (rows_from line_of name number n ls)) ≡ true
   unfolding rows_from
-  least_of n [] i lt = omega arith
-  least_of n (line ∷ more) i lt = by (line_of n line) refl (λ j l. least_of (n + 1) more j l) i lt
+  all_named n [] = refl
+  all_named n (line ∷ more) = by (line_of n line) refl (all_named (n + 1) more)
     where
-      by : (told : Result (Option Row) TextFault) → line_of n line ≡ told → ((j : ℕ) → j < length (map number (rows_from line_of name number (n + 1) more)) → get_or (map number (rows_from line_of name number (n + 1) more)) j 0 ≤ 4294967294) → (i : ℕ) → i < length (map number (row_in line_of name number told ++ rows_from line_of name number (n + 1) more)) → get_or (map number (row_in line_of name number told ++ rows_from line_of name number (n + 1) more)) i 0 ≤ 4294967294
-      by (Err fault) e later i lt = later i lt
-      by (Ok None) e later i lt = later i lt
-      by (Ok (Some row)) e later zero lt = (lawful n line row e).1
-      by (Ok (Some row)) e later (suc i) lt = later i (omega arith)
+      by : (told : Result (Option Row) TextFault) → line_of n line ≡ told → list_all is_lawful_name (map name (rows_from line_of name number (n + 1) more)) ≡ true → list_all is_lawful_name (map name (row_in line_of name number told ++ rows_from line_of name number (n + 1) more)) ≡ true
+      by (Err fault) e later = later
+      by (Ok None) e later = later
+      by (Ok (Some row)) e later = ap (λ b. b && list_all is_lawful_name (map name (rows_from line_of name number (n + 1) more))) (line_lawful n line row e).1 ∙ later
+
+  -- a number that is an id in the row of each line is one in each row
+  ids_from : (of : Row → ℕ) → ((n : ℕ) (line : List ℕ) (row : Row) → line_of n line ≡ Ok (Some row) → of row ≤ 4294967294) → (n : ℕ) (ls : List (List ℕ)) → AreIds (map of (rows_from line_of name number n ls))
+  unfolding rows_from
+  ids_from of small n [] = λ i lt. omega arith
+  ids_from of small n (line ∷ more) = by (line_of n line) refl (ids_from of small (n + 1) more)
+    where
+      by : (told : Result (Option Row) TextFault) → line_of n line ≡ told → AreIds (map of (rows_from line_of name number (n + 1) more)) → AreIds (map of (row_in line_of name number told ++ rows_from line_of name number (n + 1) more))
+      by (Err fault) e later = later
+      by (Ok None) e later = later
+      by (Ok (Some row)) e later = first_or_later (small n line row e)
+        where
+          first_or_later : of row ≤ 4294967294 → (i : ℕ) → i < suc (length (map of (rows_from line_of name number (n + 1) more))) → get_or (of row ∷ map of (rows_from line_of name number (n + 1) more)) i 0 ≤ 4294967294
+          first_or_later le zero lt = le
+          first_or_later le (suc i) lt = later i (omega arith)
 
   pub record Apart (rows : List Row) : Type 0 where
     pub names : AreDistinct (map name rows)
@@ -125,10 +143,6 @@ module _ {Row : Type 0} (line_of : ℕ → List ℕ → Result (Option Row) Text
   unfolding rows_from
   none_at_first = record { names = λ i j d hi hj e. absurd (omega (arith, hi)); numbers = λ i j d hi hj e. absurd (omega (arith, hi)) }
 
-  told_ok : (fault : Option TextFault) (made rows : List Row) → unless fault made ≡ Ok rows → (fault ≡ None) × (made ≡ rows)
-  told_ok None made rows e = (refl, cc)
-  told_ok (Some fault) made rows e = cc
-
   pub table-law : (text : List ℕ) (rows : List Row) → table line_of name number text ≡ Ok rows → IsTable (map name rows) (map number rows)
   table-law text rows e =
       let told = told_ok (first_fault (line_fault line_of name number) [] (lines text)) (rows_from line_of name number 1 (lines text)) rows e in
@@ -136,10 +150,16 @@ module _ {Row : Type 0} (line_of : ℕ → List ℕ → Result (Option Row) Text
       let law : IsTable (map name (rows_from line_of name number 1 (lines text))) (map number (rows_from line_of name number 1 (lines text))) = record {
         names_differ = apart.names;
         numbers_differ = apart.numbers;
-        least = least_of 1 (lines text);
+        lawful = all_named 1 (lines text);
+        least = ids_from number (λ n line row is. (line_lawful n line row is).2) 1 (lines text);
         few = omega (arith, few_rows 1 (lines text), length-map (rows_from line_of name number 1 (lines text)) number);
       } in
       subst (λ (rs : List Row). IsTable (map name rs) (map number rs)) told.1 law
+
+  pub ids-law : (of : Row → ℕ) → ((n : ℕ) (line : List ℕ) (row : Row) → line_of n line ≡ Ok (Some row) → of row ≤ 4294967294) → (text : List ℕ) (rows : List Row) → table line_of name number text ≡ Ok rows → AreIds (map of rows)
+  ids-law of small text rows e =
+      let told = told_ok (first_fault (line_fault line_of name number) [] (lines text)) (rows_from line_of name number 1 (lines text)) rows e in
+      subst (λ (rs : List Row). AreIds (map of rs)) told.1 (ids_from of small 1 (lines text))
 
 -- ---- the rows of lines
 
@@ -163,42 +183,47 @@ kept-few n line kept e = ltb-false 65536 n (not_refused (nat_lt 65536 n) _ _ e)
     not_refused true fault told e = absurd (cc)
     not_refused false fault told e = refl
 
-named-ok : {X : Type 0} (n : ℕ) (name : List ℕ) (rest : Result X TextFault) (x : X) → named n name rest ≡ Ok x → rest ≡ Ok x
+named-ok : {X : Type 0} (n : ℕ) (name : List ℕ) (rest : Result X TextFault) (x : X) → named n name rest ≡ Ok x → (is_lawful_name name ≡ true) × (rest ≡ Ok x)
 named-ok {X} n name rest x e = by (is_lawful_name name) e
   where
-    by : (a : Bool) → cond a rest (Err (record { code = Rattle.idtext.specs.declared.faults.TextCode.TheVariants.BadName; line = n })) ≡ Ok x → rest ≡ Ok x
-    by true e = e
+    by : (a : Bool) → cond a rest (Err (record { code = Rattle.idtext.specs.declared.faults.TextCode.TheVariants.BadName; line = n })) ≡ Ok x → (a ≡ true) × (rest ≡ Ok x)
+    by true e = (refl, e)
     by false e = absurd (cc)
 
 numbered-ok : {X : Type 0} (n : ℕ) (id : Option ℕ) (rest : ℕ → Result X TextFault) (x : X) → numbered n id rest ≡ Ok x → (v : ℕ) × (id ≡ Some v) × (rest v ≡ Ok x)
 numbered-ok n None rest x e = absurd (cc)
 numbered-ok n (Some v) rest x e = (v, refl, e)
 
-passwd_from-small : (n : ℕ) (fields : List (List ℕ)) (row : Passwd) → passwd_from n fields ≡ Ok row → row.uid ≤ 4294967294
-passwd_from-small n [] row e = absurd (cc)
-passwd_from-small n (a ∷ []) row e = absurd (cc)
-passwd_from-small n (a ∷ b ∷ []) row e = absurd (cc)
-passwd_from-small n (a ∷ b ∷ c ∷ []) row e = absurd (cc)
-passwd_from-small n (a ∷ b ∷ c ∷ d ∷ []) row e = absurd (cc)
-passwd_from-small n (a ∷ b ∷ c ∷ d ∷ f ∷ []) row e = absurd (cc)
-passwd_from-small n (a ∷ b ∷ c ∷ d ∷ f ∷ g ∷ []) row e = absurd (cc)
-passwd_from-small n (a ∷ b ∷ c ∷ d ∷ f ∷ g ∷ h ∷ i ∷ more) row e = absurd (cc)
-passwd_from-small n (name ∷ password ∷ uid ∷ gid ∷ comment ∷ home ∷ shell ∷ []) row e =
-    let user = numbered-ok n (id_of uid) _ row (named-ok n name _ row e) in
+passwd_from-lawful : (n : ℕ) (fields : List (List ℕ)) (row : Passwd) → passwd_from n fields ≡ Ok row → (is_lawful_name row.name ≡ true) × (row.uid ≤ 4294967294) × (row.gid ≤ 4294967294)
+passwd_from-lawful n [] row e = absurd (cc)
+passwd_from-lawful n (a ∷ []) row e = absurd (cc)
+passwd_from-lawful n (a ∷ b ∷ []) row e = absurd (cc)
+passwd_from-lawful n (a ∷ b ∷ c ∷ []) row e = absurd (cc)
+passwd_from-lawful n (a ∷ b ∷ c ∷ d ∷ []) row e = absurd (cc)
+passwd_from-lawful n (a ∷ b ∷ c ∷ d ∷ f ∷ []) row e = absurd (cc)
+passwd_from-lawful n (a ∷ b ∷ c ∷ d ∷ f ∷ g ∷ []) row e = absurd (cc)
+passwd_from-lawful n (a ∷ b ∷ c ∷ d ∷ f ∷ g ∷ h ∷ i ∷ more) row e = absurd (cc)
+passwd_from-lawful n (name ∷ password ∷ uid ∷ gid ∷ comment ∷ home ∷ shell ∷ []) row e =
+    let lawful = named-ok n name _ row e in
+    let user = numbered-ok n (id_of uid) _ row lawful.1 in
     let group = numbered-ok n (id_of gid) _ row user.2 in
-    let same : user.0 ≡ row.uid = cc in
-    omega (arith, same, id-small uid user.0 user.1)
+    let same_name : name ≡ row.name = cc in
+    let same_user : user.0 ≡ row.uid = cc in
+    let same_group : group.0 ≡ row.gid = cc in
+    (ap is_lawful_name (sym same_name) ∙ lawful.0, omega (arith, same_user, id-small uid user.0 user.1), omega (arith, same_group, id-small gid group.0 group.1))
 
-group_from-small : (n : ℕ) (fields : List (List ℕ)) (row : Group) → group_from n fields ≡ Ok row → row.gid ≤ 4294967294
-group_from-small n [] row e = absurd (cc)
-group_from-small n (a ∷ []) row e = absurd (cc)
-group_from-small n (a ∷ b ∷ []) row e = absurd (cc)
-group_from-small n (a ∷ b ∷ c ∷ []) row e = absurd (cc)
-group_from-small n (a ∷ b ∷ c ∷ d ∷ f ∷ more) row e = absurd (cc)
-group_from-small n (name ∷ password ∷ gid ∷ members ∷ []) row e =
-    let group = numbered-ok n (id_of gid) _ row (named-ok n name _ row e) in
-    let same : group.0 ≡ row.gid = cc in
-    omega (arith, same, id-small gid group.0 group.1)
+group_from-lawful : (n : ℕ) (fields : List (List ℕ)) (row : Group) → group_from n fields ≡ Ok row → (is_lawful_name row.name ≡ true) × (row.gid ≤ 4294967294)
+group_from-lawful n [] row e = absurd (cc)
+group_from-lawful n (a ∷ []) row e = absurd (cc)
+group_from-lawful n (a ∷ b ∷ []) row e = absurd (cc)
+group_from-lawful n (a ∷ b ∷ c ∷ []) row e = absurd (cc)
+group_from-lawful n (a ∷ b ∷ c ∷ d ∷ f ∷ more) row e = absurd (cc)
+group_from-lawful n (name ∷ password ∷ gid ∷ members ∷ []) row e =
+    let lawful = named-ok n name _ row e in
+    let group = numbered-ok n (id_of gid) _ row lawful.1 in
+    let same_name : name ≡ row.name = cc in
+    let same_group : group.0 ≡ row.gid = cc in
+    (ap is_lawful_name (sym same_name) ∙ lawful.0, omega (arith, same_group, id-small gid group.0 group.1))
 
 bind-ok : {X Y : Type 0} (first : Result X TextFault) (next : X → Result Y TextFault) (y : Y) → first >>= next ≡ Ok y → (x : X) × (first ≡ Ok x) × (next x ≡ Ok y)
 bind-ok (Ok x) next y e = (x, refl, e)
@@ -209,23 +234,33 @@ kept-row true (Ok r) row e = cc
 kept-row true (Err fault) row e = absurd (cc)
 kept-row false told row e = absurd (cc)
 
-pub passwd_line-lawful : (n : ℕ) (line : List ℕ) (row : Passwd) → passwd_line n line ≡ Ok (Some row) → (n ≤ 65536) × (row.uid ≤ 4294967294)
+pub passwd_line-lawful : (n : ℕ) (line : List ℕ) (row : Passwd) → passwd_line n line ≡ Ok (Some row) → (n ≤ 65536) × (is_lawful_name row.name ≡ true) × (row.uid ≤ 4294967294) × (row.gid ≤ 4294967294)
 unfolding passwd_line
 passwd_line-lawful n line row e =
     let kept = bind-ok (is_kept n line) _ (Some row) e in
-    (kept-few n line kept.0 kept.1, passwd_from-small n (fields_of line) row (kept-row kept.0 (passwd_from n (fields_of line)) row kept.2))
+    let from = passwd_from-lawful n (fields_of line) row (kept-row kept.0 (passwd_from n (fields_of line)) row kept.2) in
+    (kept-few n line kept.0 kept.1, from.0, from.1, from.2)
 
-pub group_line-lawful : (n : ℕ) (line : List ℕ) (row : Group) → group_line n line ≡ Ok (Some row) → (n ≤ 65536) × (row.gid ≤ 4294967294)
+pub group_line-lawful : (n : ℕ) (line : List ℕ) (row : Group) → group_line n line ≡ Ok (Some row) → (n ≤ 65536) × (is_lawful_name row.name ≡ true) × (row.gid ≤ 4294967294)
 unfolding group_line
 group_line-lawful n line row e =
     let kept = bind-ok (is_kept n line) _ (Some row) e in
-    (kept-few n line kept.0 kept.1, group_from-small n (fields_of line) row (kept-row kept.0 (group_from n (fields_of line)) row kept.2))
+    let from = group_from-lawful n (fields_of line) row (kept-row kept.0 (group_from n (fields_of line)) row kept.2) in
+    (kept-few n line kept.0 kept.1, from.0, from.1)
 
 -- ---- the laws
 
+passwd_row-lawful : (n : ℕ) (line : List ℕ) (row : Passwd) → passwd_line n line ≡ Ok (Some row) → (n ≤ 65536) × (is_lawful_name row.name ≡ true) × (row.uid ≤ 4294967294)
+passwd_row-lawful n line row e = let told = passwd_line-lawful n line row e in (told.0, told.1, told.2)
+
 pub passwd-law : (text : List ℕ) (rows : List Passwd) → passwd_table text ≡ Ok rows → IsPasswdTable rows
 unfolding passwd_table
-passwd-law text rows e = table-law passwd_line (λ row. row.name) (λ row. row.uid) passwd_line-lawful text rows e
+passwd-law text rows e = table-law passwd_line (λ row. row.name) (λ row. row.uid) passwd_row-lawful text rows e
+
+pub primary_groups-law : (text : List ℕ) (rows : List Passwd) → passwd_table text ≡ Ok rows → HavePrimaryGroups rows
+unfolding passwd_table
+primary_groups-law text rows e =
+    ids-law passwd_line (λ row. row.name) (λ row. row.uid) passwd_row-lawful (λ row. row.gid) (λ n line row is. (passwd_line-lawful n line row is).3) text rows e
 
 pub group-law : (text : List ℕ) (rows : List Group) → group_table text ≡ Ok rows → IsGroupTable rows
 unfolding group_table

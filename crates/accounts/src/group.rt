@@ -133,13 +133,14 @@ impl<'a> Model for GroupTable<'a> {
 
     ghost view = { λ it. it.rows.items };
 
-    ghost invariant = { λ it. it.index ≡ known_of (λ row. row.name) (λ row. row.gid) it.rows.items };
+    ghost invariant = { λ it. (it.index ≡ known_of (λ row. row.name) (λ row. row.gid) it.rows.items) × IsGroupTable it.rows.items };
 }
 
 impl<'a> GroupTable<'a> {
     /// The rows, in the order of the file.
     pub fn rows(&self) -> &[GroupRow<'a>]
-        ensures { result.now ≡ self.now }
+        ensures rows { result.now ≡ self.now }
+        ensures table { IsGroupTable self.now }
     {
         &self.rows
     }

@@ -6,7 +6,7 @@ ghost use Rattle.idtext.specs.Faults.{fault_told};
 ghost use Rattle.idtext.specs.First.{Gives};
 ghost use Rattle.idtext.specs.Pieces.{fields_of};
 ghost use Rattle.accounts.specs.Known.{known_of};
-ghost use Rattle.accounts.specs.Laws.{IsPasswdTable};
+ghost use Rattle.accounts.specs.Laws.{IsPasswdTable, HavePrimaryGroups};
 ghost use Rattle.accounts.specs.Tables.{passwd_table};
 ghost use Rattle.accounts.specs.Rows.{Passwd, passwd_from, passwd_line};
 
@@ -150,13 +150,16 @@ impl<'a> Model for PasswdTable<'a> {
 
     ghost view = { λ it. it.rows.items };
 
-    ghost invariant = { λ it. it.index ≡ known_of (λ row. row.name) (λ row. row.uid) it.rows.items };
+    ghost invariant = { λ it.
+        (it.index ≡ known_of (λ row. row.name) (λ row. row.uid) it.rows.items) × IsPasswdTable it.rows.items × HavePrimaryGroups it.rows.items };
 }
 
 impl<'a> PasswdTable<'a> {
     /// The rows, in the order of the file.
     pub fn rows(&self) -> &[PasswdRow<'a>]
-        ensures { result.now ≡ self.now }
+        ensures rows { result.now ≡ self.now }
+        ensures table { IsPasswdTable self.now }
+        ensures primary_groups { HavePrimaryGroups self.now }
     {
         &self.rows
     }
@@ -183,6 +186,7 @@ impl<'a> PasswdTable<'a> {
 pub fn read_passwd(alloc: Global, text: &[u8]) -> Result<PasswdTable<'_>, ReadError>
     ensures exact { Gives (λ table. table) fault_told result (passwd_table text.now) }
     ensures table { IfOk result (λ table. IsPasswdTable table) }
+    ensures primary_groups { IfOk result (λ table. HavePrimaryGroups table) }
 {
     let (rows, index) = read_rows(alloc, text)?;
     Ok(PasswdTable { rows, index })
