@@ -12,7 +12,7 @@ use Rattle.mtree_inv.specs.Logical.{LogicalLine, logical_lines, whole_lines}
 use Rattle.mtree_inv.specs.Inventory.{kinds, files_of, named, first_appearances, first_fault, files_unless, inventory_of_lines, inventory}
 use Rattle.mtree_inv.specs.Machine.{Kept, step, Follows}
 use Rattle.mtree_inv.specs.Reading.{Reading, clipped_kind, read_byte, read_bytes, at_end, unless_ended_at_end, finished, start}
-use Rattle.mtree_inv.specs.Standing.{ReaderValue, files, files_before_fault, StandsAt, StandsFor}
+use Rattle.mtree_inv.specs.Standing.{ReaderValue, GrowAlike, files, files_before_fault, StandsAt, StandsFor}
 use Rattle.idtext.specs.Faults.{fault_told}
 use Rattle.mtree_inv.specs.Parts.{FailedTo}
 use Rattle.mtree_inv.proofs.RunLemmas.{RunIs, run_is}
@@ -75,6 +75,14 @@ finished-grows most reading = by reading.fault
 pub none_then : {A P : Type 0} (o : Option A) → P → IfNone o P
 none_then None p = p
 none_then (Some x) p = tt
+
+pub at_none : {A P : Type 0} (o : Option A) → o ≡ None → IfNone o P → P
+at_none None e p = p
+at_none (Some x) e p = absurd (cc)
+
+-- what grew alike from two equal lists is equal
+pub grown_same : (fs new_fs waiting new_waiting : List Entry) → fs ≡ waiting → GrowAlike fs new_fs waiting new_waiting → new_fs ≡ new_waiting
+grown_same fs new_fs waiting new_waiting e h = h.1 ∙ ap (λ (l : List Entry). l ++ h.0) e ∙ sym h.2
 
 pub going_at : (reader : ReaderValue) (text : List ℕ) → reader.fault ≡ None → reader.is_finished ≡ false → StandsFor reader text → StandsAt None false reader text
 going_at reader text e f h =
