@@ -1,7 +1,7 @@
 pub mod Accounts
 pub mod Rules
 pub mod Count
-pub mod Fault
+pub mod Told
 pub mod Pool
 pub mod Index
 pub mod Views
