@@ -12,5 +12,6 @@ pub mod Clash
 pub mod PoolInside
 pub mod NamesInside
 pub mod Kinds
+pub mod Hosts
 pub mod Site
 pub mod Checks

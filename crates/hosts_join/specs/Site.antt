@@ -12,7 +12,7 @@ use Rattle.hosts_join.specs.Accounts.{Accounts, HostEntry, Pair, rows_from, grou
 use Rattle.hosts_join.specs.declared.host.Host.{Host}
 
 abbrev pub entry_on : (HostRanges → IdRange) → (HostRanges → IdRange) → Host → HostEntry
-entry_on regular system h = record { name = h.name.now; regular = regular h.ranges; system = system h.ranges }
+entry_on regular system h = record { name = h.name; regular = regular h.ranges; system = system h.ranges }
 
 -- the accounts of a kind: on each host its rows, which stand in its regular or its system range or in neither
 abbrev pub accounts_of : (HostRanges → IdRange) → (HostRanges → IdRange) → (Host → List (List ℕ × ℕ)) → List Host → List Pair → Accounts
