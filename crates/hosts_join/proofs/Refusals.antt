@@ -8,7 +8,8 @@ use Rattle.std.specs.Option.{option_map}
 use Rattle.hosts_join.proofs.Counting.{count_below-same}
 use Rattle.hosts_join.specs.Count.{count_below}
 use Rattle.hosts_join.specs.Accounts.{Accounts, Pair}
-use Rattle.hosts_join.specs.Fault.{PoolTooSmall, PinClash}
+use Rattle.hosts_join.specs.declared.fault.PoolClass.TheVariants as pool
+use Rattle.hosts_join.specs.declared.fault.SiteFault.TheVariants.{PoolTooSmall, PinClash}
 use Rattle.hosts_join.specs.Pool.{in_runs}
 use Rattle.hosts_join.specs.Rules.{Clash, joined, first_some, disagrees, clash, clash_of, claims, too_small, names_in, pool_size, in_pool, same_class, class_of}
 use Rattle.hosts_join.specs.declared.Class.{Class}
@@ -28,19 +29,19 @@ pub no-clash : (kind : Which) (given : List Pair) → clash_of given ≡ None �
 no-clash kind given e = ap (option_map (λ (d : Clash). PinClash kind d.number d.first d.second)) e
 
 module _ (kind : Which) (a : Accounts) (agreed : first_some (disagrees kind a.hosts a.pins) a.names ≡ None) (apart : clash kind (claims a) ≡ None) where
-  pub regular-too-small : (names numbers : ℕ) → names_in a Regular ≡ names → pool_size a Regular ≡ numbers → numbers < names → joined kind a ≡ Err (PoolTooSmall kind Regular names numbers)
+  pub regular-too-small : (names numbers : ℕ) → names_in a Regular ≡ names → pool_size a Regular ≡ numbers → numbers < names → joined kind a ≡ Err (PoolTooSmall kind pool.Regular names numbers)
   regular-too-small names numbers n m h =
-      let small : too_small kind a Regular ≡ Some (PoolTooSmall kind Regular names numbers) = rw (n, m, lt-ltb numbers names h) refl in
+      let small : too_small kind a pool.Regular ≡ Some (PoolTooSmall kind pool.Regular names numbers) = rw (n, m, lt-ltb numbers names h) refl in
       rw (agreed, apart, small) refl
 
-  pub system-refused : (names numbers : ℕ) → names_in a Regular ≤ pool_size a Regular → names_in a System ≡ names → pool_size a System ≡ numbers → numbers < names → joined kind a ≡ Err (PoolTooSmall kind System names numbers)
+  pub system-refused : (names numbers : ℕ) → names_in a Regular ≤ pool_size a Regular → names_in a System ≡ names → pool_size a System ≡ numbers → numbers < names → joined kind a ≡ Err (PoolTooSmall kind pool.System names numbers)
   system-refused names numbers r n m h =
-      let fits : too_small kind a Regular ≡ None = rw (le-ltb (pool_size a Regular) (names_in a Regular) r) refl in
-      let small : too_small kind a System ≡ Some (PoolTooSmall kind System names numbers) = rw (n, m, lt-ltb numbers names h) refl in
+      let fits : too_small kind a pool.Regular ≡ None = rw (le-ltb (pool_size a Regular) (names_in a Regular) r) refl in
+      let small : too_small kind a pool.System ≡ Some (PoolTooSmall kind pool.System names numbers) = rw (n, m, lt-ltb numbers names h) refl in
       rw (agreed, apart, fits, small) refl
 
   pub accepted : names_in a Regular ≤ pool_size a Regular → names_in a System ≤ pool_size a System → joined kind a ≡ Ok a
   accepted r s =
-      let fits : too_small kind a Regular ≡ None = rw (le-ltb (pool_size a Regular) (names_in a Regular) r) refl in
-      let fits' : too_small kind a System ≡ None = rw (le-ltb (pool_size a System) (names_in a System) s) refl in
+      let fits : too_small kind a pool.Regular ≡ None = rw (le-ltb (pool_size a Regular) (names_in a Regular) r) refl in
+      let fits' : too_small kind a pool.System ≡ None = rw (le-ltb (pool_size a System) (names_in a System) s) refl in
       rw (agreed, apart, fits, fits') refl

@@ -1,7 +1,7 @@
 pub mod Accounts
 pub mod Rules
 pub mod Count
-pub mod Fault
+pub mod Told
 pub mod Pool
 pub mod Index
 pub mod Views
@@ -12,5 +12,6 @@ pub mod Clash
 pub mod PoolInside
 pub mod NamesInside
 pub mod Kinds
+pub mod Hosts
 pub mod Site
 pub mod Checks

@@ -9,7 +9,10 @@ use Rattle.hosts_join.specs.declared.Spot.{Spot}
 use Rattle.hosts_join.specs.Pairs.{number_of}
 use Rattle.hosts_join.specs.Accounts.{Account, Accounts, Pair, HostEntry, nobody}
 use Rattle.hosts_join.specs.Count.{count_below}
-use Rattle.hosts_join.specs.Fault.{Fault, PinDisagrees, PinClash, PoolTooSmall}
+use Rattle.hosts_join.specs.declared.fault.PoolClass.{PoolClass}
+use Rattle.hosts_join.specs.declared.fault.PoolClass.TheVariants as pool
+use Rattle.hosts_join.specs.declared.fault.SiteFault.{SiteFault}
+use Rattle.hosts_join.specs.declared.fault.SiteFault.TheVariants.{PinDisagrees, PinClash, PoolTooSmall}
 use Rattle.hosts_join.specs.declared.Standing.{Standing}
 use Rattle.hosts_join.specs.declared.Standing.TheVariants as on
 use Rattle.hosts_join.specs.declared.Class.{Class}
@@ -124,7 +127,7 @@ names_in a c = count_by (λ n. same_class c (class_of a.pins n)) a.names
 abbrev pub host_name : List HostEntry → Source → Option (List ℕ)
 host_name hosts s = option_and_then (λ h. option_map (λ e. e.name) (slice_get hosts h)) s.host
 
-abbrev pub disagrees : Which → List HostEntry → List Pair → Account → Option Fault
+abbrev pub disagrees : Which → List HostEntry → List Pair → Account → Option SiteFault
 disagrees kind hosts pins n = option_map (λ d. PinDisagrees kind n.name (host_name hosts d.0) (host_name hosts d.1)) (disagreement (sources pins n))
 
 -- a number with two names
@@ -154,18 +157,23 @@ least (c ∷ cs) = Some (lesser c (least cs))
 abbrev pub clash_of : List Pair → Option Clash
 clash_of given = least (repeats [] given)
 
-abbrev pub clash : Which → List Pair → Option Fault
+abbrev pub clash : Which → List Pair → Option SiteFault
 clash kind given = option_map (λ d. PinClash kind d.number d.first d.second) (clash_of given)
 
-abbrev pub too_small : Which → Accounts → Class → Option Fault
-too_small kind a c = if nat_lt (pool_size a c) (names_in a c) then Some (PoolTooSmall kind c (names_in a c) (pool_size a c)) else None
+-- the class of the names that a pool serves
+abbrev pub class_served : PoolClass → Class
+class_served pool.Regular = Regular
+class_served pool.System = System
+
+abbrev pub too_small : Which → Accounts → PoolClass → Option SiteFault
+too_small kind a c = if nat_lt (pool_size a (class_served c)) (names_in a (class_served c)) then Some (PoolTooSmall kind c (names_in a (class_served c)) (pool_size a (class_served c))) else None
 
 -- the first refusal: a name whose pins disagree, then a number with two names, then a pool with fewer numbers than names
-abbrev pub refusal : Which → Accounts → Option Fault
-refusal kind a = or_else (first_some (disagrees kind a.hosts a.pins) a.names) (or_else (clash kind (claims a)) (or_else (too_small kind a Regular) (too_small kind a System)))
+abbrev pub refusal : Which → Accounts → Option SiteFault
+refusal kind a = or_else (first_some (disagrees kind a.hosts a.pins) a.names) (or_else (clash kind (claims a)) (or_else (too_small kind a pool.Regular) (too_small kind a pool.System)))
 
 -- the accounts, where nothing is refused
-abbrev pub joined : Which → Accounts → Result Accounts Fault
+abbrev pub joined : Which → Accounts → Result Accounts SiteFault
 joined kind a = unless (refusal kind a) a
 
 -- the account at a place

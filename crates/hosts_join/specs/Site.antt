@@ -1,7 +1,7 @@
 -- The accounts of a kind on hosts, and a site.
 use Rattle.std.specs.Prelude.{ℕ, List, map, length, Result, Ok}
 use Rattle.idtext.specs.First.{◌>>=◌}
-use Rattle.hosts_join.specs.Fault.{Fault}
+use Rattle.hosts_join.specs.declared.fault.SiteFault.{SiteFault}
 use Rattle.hosts_join.specs.Kinds.{user_rows, group_rows}
 use Rattle.hosts_join.specs.Rules.{joined}
 use Rattle.hosts_join.specs.declared.Which.TheVariants.{User, Group}
@@ -12,7 +12,7 @@ use Rattle.hosts_join.specs.Accounts.{Accounts, HostEntry, Pair, rows_from, grou
 use Rattle.hosts_join.specs.declared.host.Host.{Host}
 
 abbrev pub entry_on : (HostRanges → IdRange) → (HostRanges → IdRange) → Host → HostEntry
-entry_on regular system h = record { name = h.name.now; regular = regular h.ranges; system = system h.ranges }
+entry_on regular system h = record { name = h.name; regular = regular h.ranges; system = system h.ranges }
 
 -- the accounts of a kind: on each host its rows, which stand in its regular or its system range or in neither
 abbrev pub accounts_of : (HostRanges → IdRange) → (HostRanges → IdRange) → (Host → List (List ℕ × ℕ)) → List Host → List Pair → Accounts
@@ -31,5 +31,5 @@ abbrev pub groups_of : List Host → Pins → Accounts
 groups_of hosts pins = accounts_of (λ r. r.gid) (λ r. r.sys_gid) (λ h. group_rows h.groups) hosts pins.groups
 
 -- users first, then groups
-abbrev pub joined_site : List Host → Pins → Result Joined Fault
+abbrev pub joined_site : List Host → Pins → Result Joined SiteFault
 joined_site hosts pins = joined User (users_of hosts pins) >>= λ users. joined Group (groups_of hosts pins) >>= λ groups. Ok (record { users = users; groups = groups; hosts = length hosts })

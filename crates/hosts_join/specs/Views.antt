@@ -1,10 +1,7 @@
 -- What a contract sees of values that lie in the input.
-use Rattle.std.specs.Prelude.{ℕ, List, map, Option, Some, None}
+use Rattle.std.specs.Prelude.{ℕ, List, map, Option}
 use Rattle.std.specs.Option.{option_map}
 use Rattle.std.specs.Borrow.{Bor}
-use Rattle.hosts_join.specs.declared.fault.SiteFault.{SiteFault}
-use Rattle.hosts_join.specs.declared.fault.SiteFault.TheVariants as told
-use Rattle.hosts_join.specs.Fault.{Fault, BadHostName, HostTwice, HostCount, NoPrimaryGroup, PinDisagrees, PinClash, PoolTooSmall}
 use Rattle.hosts_join.specs.declared.Row.{Row}
 use Rattle.hosts_join.specs.declared.HostEntry.{HostEntry}
 use Rattle.hosts_join.specs.declared.Pair.{Pair}
@@ -27,14 +24,3 @@ pairs_of ps = map pair_of ps
 
 abbrev pub text_of : Option (Bor (List ℕ)) → Option (List ℕ)
 text_of o = option_map (λ (t : Bor (List ℕ)). t.now) o
-
--- the fault that an error tells, or None for want of memory
-abbrev pub fault_of : SiteFault → Option Fault
-fault_of (told.BadHostName n) = Some (BadHostName n.now)
-fault_of (told.HostTwice n) = Some (HostTwice n.now)
-fault_of (told.HostCount n) = Some (HostCount n)
-fault_of (told.NoPrimaryGroup h u) = Some (NoPrimaryGroup h.now u.now)
-fault_of (told.PinDisagrees kind n f s) = Some (PinDisagrees kind n.now (text_of f) (text_of s))
-fault_of (told.PinClash kind v f s) = Some (PinClash kind v f.now s.now)
-fault_of (told.PoolTooSmall kind c n m) = Some (PoolTooSmall kind c n m)
-fault_of told.Memory = None

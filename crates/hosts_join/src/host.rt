@@ -1,21 +1,19 @@
 //! A host, and the pins.
-ghost use Rattle.accounts.specs.Laws.{IsPasswdTable, IsGroupTable};
-ghost use Rattle.logindefs.specs.Ranges.{IsHostRanges};
 
 use crate::PairTable;
 use accounts::{GroupTable, PasswdTable};
+use idtext::Name;
 use logindefs::HostRanges;
 
-/// A host with its accounts.
+/// A host: its name, its ranges and its account tables. The joins ask for hosts that are lawful, and a host is so
+/// where its ranges came from `read_ranges`, its users from `read_passwd` and its groups from `read_group`: the
+/// contracts of these three say what a lawful host has.
 #[derive(Drop)]
 pub struct Host<'a> {
-    pub name: &'a [u8],
+    pub name: Name<'a>,
     pub ranges: HostRanges,
     pub users: PasswdTable<'a>,
     pub groups: GroupTable<'a>,
-    pub ghost ranges_apart: { IsHostRanges ranges },
-    pub ghost users_table: { IsPasswdTable users },
-    pub ghost groups_table: { IsGroupTable groups },
 }
 
 /// The pins of both kinds.

@@ -14,6 +14,7 @@ pub trait Kind {
     ghost use Rattle.hosts_join.specs.declared.Which.{Which};
     ghost use Rattle.hosts_join.specs.declared.host.Host.{Host};
     ghost use Rattle.hosts_join.specs.declared.host.Pins.{Pins};
+    ghost use Rattle.hosts_join.specs.Hosts.{IsLawfulHost};
     ghost use Rattle.hosts_join.specs.Accounts as spec;
 
     // Which kind it is.
@@ -58,11 +59,11 @@ pub trait Kind {
     fn pick(uid: u32, gid: u32) -> u32
         ensures { result ≡ number_of uid gid };
 
-    // On one host names are distinct, numbers are distinct, and no number is above 4294967294.
-    ghost table: { (h : Host) → IsTable (map (λ p. p.0) (rows h)) (map (λ p. p.1) (rows h)) };
+    // On one lawful host names are distinct, numbers are distinct, and no number is above 4294967294.
+    ghost table: { (h : Host) → IsLawfulHost h → IsTable (map (λ p. p.0) (rows h)) (map (λ p. p.1) (rows h)) };
 
-    // No number is both regular and system on one host.
-    ghost apart: { (h : Host) → AreApart (regular_range h.ranges) (system_range h.ranges) };
+    // No number is both regular and system on one lawful host.
+    ghost apart: { (h : Host) → IsLawfulHost h → AreApart (regular_range h.ranges) (system_range h.ranges) };
 }
 
 /// The users of a passwd file.
@@ -121,9 +122,9 @@ impl Kind for Users {
         uid
     }
 
-    ghost table = { λ h. user_rows-table h.users h.users_table };
+    ghost table = { λ h lawful. user_rows-table h.users lawful.users };
 
-    ghost apart = { λ h. h.ranges_apart.uids_apart };
+    ghost apart = { λ h lawful. lawful.ranges.uids_apart };
 }
 
 impl Kind for Groups {
@@ -176,7 +177,7 @@ impl Kind for Groups {
         gid
     }
 
-    ghost table = { λ h. group_rows-table h.groups h.groups_table };
+    ghost table = { λ h lawful. group_rows-table h.groups lawful.groups };
 
-    ghost apart = { λ h. h.ranges_apart.gids_apart };
+    ghost apart = { λ h lawful. lawful.ranges.gids_apart };
 }

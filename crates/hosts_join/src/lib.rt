@@ -17,7 +17,7 @@ mod pool;
 mod texts;
 
 pub use checks::{check_hosts, check_primary};
-pub use fault::SiteFault;
+pub use fault::{PoolClass, SiteFault};
 pub use host::{Host, Pins};
 pub use joining::{Site, join, join_kind};
 pub use kind::{Groups, Kind, Users};

@@ -3,23 +3,24 @@ ghost use Rattle.std.specs.Prelude.{◌≡◌, ℕ, ◌&&◌, ◌++◌, Some, No
 ghost use Rattle.std.specs.List.{list_all};
 ghost use Rattle.logindefs.specs.Ranges.{in_range};
 ghost use Rattle.hosts_join.specs.Rules as rules;
+ghost use Rattle.hosts_join.specs.Told.{told};
 ghost use Rattle.hosts_join.specs.Index.{accounts_in, ArePaired};
-ghost use Rattle.hosts_join.specs.Views.{entry_of, text_of, fault_of, pairs_of};
+ghost use Rattle.hosts_join.specs.Views.{entry_of, pairs_of};
 
 use crate::classes::class_of;
 use crate::index::Index;
 use crate::{Class, HostEntry, Pair, PairTable, SiteFault, Source, Which};
-use idtext::LARGEST_ID;
+use idtext::{LARGEST_ID, Name};
 use logindefs::IdRange;
 use std::alloc::{AllocError, Global};
 
 /// The name of the host that pins, or `None` for the pins text.
-fn host_name<'a>(hosts: &[HostEntry<'a>], source: &Source) -> Option<&'a [u8]>
-    ensures { text_of result ≡ rules.host_name (map entry_of hosts.now) source.now }
+fn host_name<'a>(hosts: &[HostEntry<'a>], source: &Source) -> Option<Name<'a>>
+    ensures { result ≡ rules.host_name (map entry_of hosts.now) source.now }
 {
     match source.host {
         Some(host) => match hosts.get(host as usize) {
-            Some(entry) => Some(entry.name),
+            Some(entry) => Some(Name::new(entry.name)),
             None => None,
         },
         None => None,
@@ -37,7 +38,7 @@ pub fn classes<'a>(
     requires { ArePaired index.now }
     ensures classes { IfOk result (λ classes. classes.items ≡ map (rules.class_of pins.now) (accounts_in index.now)) }
     ensures agreed { OnOk result (rules.first_some (rules.disagrees kind (map entry_of hosts.now) pins.now) (accounts_in index.now) ≡ None) }
-    ensures disagreed { IfErr result (λ e. IfSome (fault_of e) (λ f. rules.first_some (rules.disagrees kind (map entry_of hosts.now) pins.now) (accounts_in index.now) ≡ Some f)) }
+    ensures disagreed { IfErr result (λ e. IfSome (told e) (λ f. rules.first_some (rules.disagrees kind (map entry_of hosts.now) pins.now) (accounts_in index.now) ≡ Some f)) }
 {
     let mut classes = Vec::new(alloc);
     for place in 0..index.len() {
@@ -47,7 +48,7 @@ pub fn classes<'a>(
             Err((first, second)) => {
                 return Err(SiteFault::PinDisagrees {
                     kind,
-                    name,
+                    name: Name::new(name),
                     first: host_name(hosts, &first),
                     second: host_name(hosts, &second),
                 });

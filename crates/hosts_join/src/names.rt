@@ -6,15 +6,16 @@ ghost use Rattle.idtext.specs.First.{Gives};
 ghost use Rattle.hosts_join.specs.Pool.{AreAscending, in_runs};
 ghost use Rattle.hosts_join.specs.Rules.{is_taken, is_id, joined};
 ghost use Rattle.hosts_join.specs.Accounts.{AreApart, AreNamedApart, grouped};
-ghost use Rattle.hosts_join.specs.Fault.{PoolTooSmall};
-ghost use Rattle.hosts_join.specs.Views.{rows_of, pairs_of, entry_of, fault_of};
+ghost use Rattle.hosts_join.specs.Told.{told};
+ghost use Rattle.hosts_join.specs.Views.{rows_of, pairs_of, entry_of};
 ghost use Rattle.std.specs.Prelude.{true, false};
 ghost use Rattle.logindefs.specs.Ranges.{in_range};
 
 use crate::clash::find_clash;
 use crate::index::Index;
 use crate::members::{claims, classes, common, names_in};
-use crate::{Class, HostEntry, Pair, PairTable, Pool, Row, Seat, SiteFault, Spot, Which};
+use crate::{Class, HostEntry, Pair, PairTable, Pool, PoolClass, Row, Seat, SiteFault, Spot, Which};
+use idtext::Name;
 use logindefs::IdRange;
 use std::alloc::{AllocError, Global};
 use std::marker::Model;
@@ -114,7 +115,7 @@ pub fn join_rows<'a>(
     requires apart { AreApart (rows_of rows.now) }
     requires named { AreNamedApart (rows_of rows.now) }
     requires few { length rows.now ≤ 4194304 }
-    ensures { Gives (λ names. names) fault_of result (joined kind (record { hosts = map entry_of hosts.entry.items; names = grouped (rows_of rows.now); pins = pins.now })) }
+    ensures { Gives (λ names. names) told result (joined kind (record { hosts = map entry_of hosts.entry.items; names = grouped (rows_of rows.now); pins = pins.now })) }
 {
     let index = Index::of(alloc, rows)?;
     let classes = classes(alloc, kind, hosts.as_slice(), &index, pins)?;
@@ -124,8 +125,8 @@ pub fn join_rows<'a>(
             return Err(SiteFault::PinClash {
                 kind,
                 number: clash.number,
-                first: clash.first,
-                second: clash.second,
+                first: Name::new(clash.first),
+                second: Name::new(clash.second),
             });
         }
         None => {}
@@ -136,7 +137,7 @@ pub fn join_rows<'a>(
     if regular_numbers < regular_names {
         return Err(SiteFault::PoolTooSmall {
             kind,
-            class: Class::Regular,
+            class: PoolClass::Regular,
             names: regular_names,
             numbers: regular_numbers,
         });
@@ -146,7 +147,7 @@ pub fn join_rows<'a>(
     if system_numbers < system_names {
         return Err(SiteFault::PoolTooSmall {
             kind,
-            class: Class::System,
+            class: PoolClass::System,
             names: system_names,
             numbers: system_numbers,
         });

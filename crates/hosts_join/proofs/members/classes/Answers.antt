@@ -4,7 +4,7 @@ use Rattle.std.proofs.lemmas.List.{take_more, map-append}
 use Rattle.hosts_join.specs.Accounts.{nobody}
 use Rattle.hosts_join.specs.declared.Source.{Source}
 use Rattle.hosts_join.specs.declared.Class.{Class}
-use Rattle.hosts_join.specs.Fault.{PinDisagrees}
+use Rattle.hosts_join.specs.declared.fault.SiteFault.TheVariants.{PinDisagrees}
 use Rattle.hosts_join.specs.Index.{accounts_in}
 use Rattle.hosts_join.specs.Rules as rules
 use Rattle.hosts_join.specs.Views.{entry_of}
@@ -22,7 +22,7 @@ returns-in-Err-clause-disagreed c =
     let same : rules.sources_among c.number.result c.spots.result.now ≡ rules.sources c.args.pins.now n = rw (c.number.ensures, c.spots.ensures, c.name-name.ensures) refl in
     let d : rules.disagreement (rules.sources c.args.pins.now n) ≡ Some (c.in-Err.first, c.in-Err.second) = ap rules.disagreement (sym same) ∙ c.in-Err.ensures.disagreed in
     let told : rules.disagrees kind hosts c.args.pins.now n ≡ Some (PinDisagrees kind n.name (rules.host_name hosts c.in-Err.first) (rules.host_name hosts c.in-Err.second)) = ap (option_map (λ (d : Source × Source). PinDisagrees kind n.name (rules.host_name hosts d.0) (rules.host_name hosts d.1))) d in
-    rw (c.name-name.ensures, c.host_name.ensures, c.host_name-in-Err.ensures) (first_some-at (rules.disagrees kind hosts c.args.pins.now) names k nobody _ (omega (arith, c.len-place-end.ensures, c.loop-place-test.true)) c.loop-place.invariant.agreed told)
+    rw (c.new.ensures, c.name-name.ensures, c.host_name.ensures, c.host_name-in-Err.ensures) (first_some-at (rules.disagrees kind hosts c.args.pins.now) names k nobody _ (omega (arith, c.len-place-end.ensures, c.loop-place-test.true)) c.loop-place.invariant.agreed told)
 
 pub loop-place-preserved : goal.loop-place-preserved
 loop-place-preserved c =

@@ -86,7 +86,7 @@ invariant_of-result c =
       classes = rw c.in_ok-pins.ensures c.in_ok-classes.ensures.classes;
       regular = rw c.in_ok-pins.ensures regular;
       system = rw c.in_ok-pins.ensures system;
-      none = c.new.ensures;
+      none = c.new-2.ensures;
       enough_regular = rw c.in_ok-pins.ensures r;
       enough_system = rw c.in_ok-pins.ensures s;
     }

@@ -1,0 +1,10 @@
+-- What holds of a host that was read.
+use Rattle.accounts.specs.Laws.{IsPasswdTable, IsGroupTable}
+use Rattle.logindefs.specs.Ranges.{IsHostRanges}
+use Rattle.hosts_join.specs.declared.host.Host.{Host}
+
+-- no number is both regular and system, and its tables have each name and each number once
+pub record IsLawfulHost (host : Host) : Type 0 where
+  pub ranges : IsHostRanges host.ranges
+  pub users : IsPasswdTable host.users
+  pub groups : IsGroupTable host.groups
