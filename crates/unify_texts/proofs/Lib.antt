@@ -1,2 +1,2 @@
 pub mod MapLoop
-pub mod BundleLoop
+pub mod DraftLemmas

@@ -11,7 +11,7 @@ mod places;
 
 pub use bundle::{Bundle, read_bundle};
 pub use bundle_line::{Command, FileName};
-pub use fault::{Fault, HostFile, PoolClass};
+pub use fault::{Fault, PoolClass};
 pub use fault_text::push_fault;
 pub use map_text::{MapText, read_map};
 pub use place_list::PlaceList;
