@@ -1,2 +1,3 @@
 pub mod MapLoop
 pub mod DraftLemmas
+pub mod SpellingLemmas
