@@ -1,2 +1,3 @@
 pub mod MapLoop
-pub mod BundleLoop
+pub mod DraftLemmas
+pub mod SpellingLemmas

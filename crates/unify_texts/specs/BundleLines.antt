@@ -1,11 +1,29 @@
--- The lines of a bundle.
-use Rattle.std.specs.Prelude.{ℕ, List, drop, if◌then◌else◌, bytes_eq, codes}
+-- The lines of a bundle. Source: this product's own formats.
+use Rattle.std.specs.Prelude.{ℕ, Bool, List, ◌==◌, drop, if◌then◌else◌, bytes_eq, codes}
 use Rattle.idtext.specs.Pieces.{begins_with}
+use Rattle.unify_texts.specs.declared.bundle_line.Command.{Command}
 use Rattle.unify_texts.specs.declared.bundle_line.Command.TheVariants.{Count, Merge, Check, Rehearse}
 use Rattle.unify_texts.specs.declared.bundle_line.FileName.{FileName}
 use Rattle.unify_texts.specs.declared.bundle_line.FileName.TheVariants as file
 use Rattle.unify_texts.specs.declared.bundle_line.BundleLine.{BundleLine}
 use Rattle.unify_texts.specs.declared.bundle_line.BundleLine.TheVariants.{Run, File, Host, Content, Wrong}
+
+-- the words of the files, in bundles and in fault lines
+abbrev pub file_word : FileName → List ℕ
+file_word file.Map = codes "map"
+file_word file.Certificate = codes "certificate"
+file_word file.Plan = codes "plan"
+file_word file.Pins = codes "pins"
+file_word file.Mtree = codes "mtree"
+file_word file.Passwd = codes "passwd"
+file_word file.Group = codes "group"
+file_word file.LoginDefs = codes "login.defs"
+
+abbrev pub command_word : Command → List ℕ
+command_word Count = codes "count"
+command_word Merge = codes "merge"
+command_word Check = codes "check"
+command_word Rehearse = codes "rehearse"
 
 abbrev pub file_index : FileName → ℕ
 file_index file.Map = 0
@@ -17,7 +35,10 @@ file_index file.Passwd = 5
 file_index file.Group = 6
 file_index file.LoginDefs = 7
 
--- ---- reading a line
+abbrev pub same_file : FileName → FileName → Bool
+same_file a b = file_index a == file_index b
+
+-- ---- what a line says
 
 abbrev pub file_named : List ℕ → BundleLine
 file_named name =

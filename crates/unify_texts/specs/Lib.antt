@@ -4,3 +4,5 @@ pub mod Maps
 pub mod Told
 pub mod BundleLines
 pub mod Bundles
+pub mod BundleSpelling
+pub mod Drafts

@@ -5,14 +5,16 @@ mod bundle;
 mod bundle_line;
 mod fault;
 mod fault_text;
+mod laws;
 mod map_text;
 mod place_list;
 mod places;
 
 pub use bundle::{Bundle, read_bundle};
 pub use bundle_line::{Command, FileName};
-pub use fault::{Fault, HostFile, PoolClass};
+pub use fault::{Fault, PoolClass};
 pub use fault_text::push_fault;
+pub use laws::bundles_are_spelled;
 pub use map_text::{MapText, read_map};
 pub use place_list::PlaceList;
 pub use places::{FileList, NamedFile, Place};

@@ -1,0 +1,10 @@
+//! Laws of the texts, each the contract of a call that does nothing.
+
+ghost use Rattle.unify_texts.specs.BundleSpelling.{ReadsWhatIsSpelled, SpelledIsRead};
+
+/// A text is read as a bundle exactly where its lines spell one, and as that one.
+pub fn bundles_are_spelled()
+    ensures found { ReadsWhatIsSpelled }
+    ensures read { SpelledIsRead }
+{
+}
