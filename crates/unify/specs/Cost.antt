@@ -5,7 +5,7 @@ use Rattle.unify_texts.specs.declared.map_text.MapText.{MapText}
 use Rattle.hosts_join.specs.Accounts.{Pair}
 use Rattle.hosts_join.specs.Pairs.{number_of}
 use Rattle.unify.specs.declared.counting.Cost.{Cost}
-use Rattle.unify.specs.declared.host.Loaded.{Loaded}
+use Rattle.hosts_join.specs.declared.host.Host.{Host}
 use Rattle.unify.specs.Hosts.{user_at, group_at}
 
 abbrev pub is_number : Option ℕ → ℕ → Bool
@@ -18,12 +18,12 @@ changed mapping None number = 0
 changed mapping (Some owner) number = if is_number (number_of mapping owner) number then 0 else 1
 
 -- the changed fields of a host's files
-abbrev pub users_changed : MapText → Loaded → List Entry → ℕ
+abbrev pub users_changed : MapText → Host → List Entry → ℕ
 users_changed map host files = sum_by (λ file. changed map.users (user_at host.users file.uid) file.uid) files
 
-abbrev pub groups_changed : MapText → Loaded → List Entry → ℕ
+abbrev pub groups_changed : MapText → Host → List Entry → ℕ
 groups_changed map host files = sum_by (λ file. changed map.groups (group_at host.groups file.gid) file.gid) files
 
 -- the cost: over every file of every host
-abbrev pub cost_of : MapText → List (Loaded × List Entry) → Cost
+abbrev pub cost_of : MapText → List (Host × List Entry) → Cost
 cost_of map sites = record { users = sum_by (λ site. users_changed map site.0 site.1) sites; groups = sum_by (λ site. groups_changed map site.0 site.1) sites }

@@ -12,6 +12,7 @@ use Rattle.unify_texts.specs.declared.map_text.MapText.{MapText}
 use Rattle.hosts_join.specs.Accounts.{Pair}
 use Rattle.hosts_join.specs.Pairs.{number_of}
 use Rattle.unify_texts.specs.Maps.{map_of}
+use Rattle.hosts_join.specs.declared.host.Host.{Host}
 use Rattle.unify.specs.declared.host.Loaded.{Loaded}
 use Rattle.unify.specs.declared.counting.Cost.{Cost}
 use Rattle.unify.specs.Told.{in_site}
@@ -27,27 +28,27 @@ are_groups_mapped pairs rows = list_all (λ row. is_some (number_of pairs row.na
 
 -- a host has the name
 abbrev pub has_user : List ℕ → Loaded → Bool
-has_user name host = is_some (find (λ row. bytes_eq name row.name) host.users)
+has_user name loaded = is_some (find (λ row. bytes_eq name row.name) loaded.host.users)
 
 abbrev pub has_group : List ℕ → Loaded → Bool
-has_group name host = is_some (find (λ row. bytes_eq name row.name) host.groups)
+has_group name loaded = is_some (find (λ row. bytes_eq name row.name) loaded.host.groups)
 
 -- the names of the map are exactly the names of the hosts
 abbrev pub is_user_map : List Pair → List Loaded → Bool
-is_user_map pairs hosts = list_all (λ host. are_users_mapped pairs host.users) hosts && list_all (λ p. list_any (has_user p.name) hosts) pairs
+is_user_map pairs hosts = list_all (λ loaded. are_users_mapped pairs loaded.host.users) hosts && list_all (λ p. list_any (has_user p.name) hosts) pairs
 
 abbrev pub is_group_map : List Pair → List Loaded → Bool
-is_group_map pairs hosts = list_all (λ host. are_groups_mapped pairs host.groups) hosts && list_all (λ p. list_any (has_group p.name) hosts) pairs
+is_group_map pairs hosts = list_all (λ loaded. are_groups_mapped pairs loaded.host.groups) hosts && list_all (λ p. list_any (has_group p.name) hosts) pairs
 
 abbrev pub names_checked : MapText → List Loaded → Result (Unit {0}) Fault
 names_checked map hosts = if is_user_map map.users hosts && is_group_map map.groups hosts then Ok tt else Err (BadMap 0)
 
 -- a host with the files of its inventory
-abbrev pub site_of : Loaded → Result (Loaded × List Entry) Fault
-site_of loaded = files_of loaded >>= λ files. Ok (loaded, files)
+abbrev pub site_of : Loaded → Result (Host × List Entry) Fault
+site_of loaded = files_of loaded >>= λ files. Ok (loaded.host, files)
 
 -- the cost over all hosts and their files
-abbrev pub total_of : MapText → Result (List (Loaded × List Entry)) Fault → Result Cost Fault
+abbrev pub total_of : MapText → Result (List (Host × List Entry)) Fault → Result Cost Fault
 total_of map sites = sites >>= λ all. Ok (cost_of map all)
 
 unfoldable pub count_of : List HostText → List ℕ → Result Cost Fault

@@ -12,7 +12,7 @@ ghost use Rattle.unify.specs.Count.{are_users_mapped as users_mapped, are_groups
 
 use crate::host::{Loaded, group_named, load_files, load_hosts, site_fault, user_named};
 use accounts::{GroupRow, PasswdRow};
-use hosts_join::{HostText, PairTable, check_hosts};
+use hosts_join::{Host, HostText, PairTable, check_hosts};
 use mtree_inv::Entry;
 use std::alloc::Global;
 use unify_texts::{Fault, MapText, read_map};
@@ -47,43 +47,43 @@ fn are_all_groups_mapped(names: &PairTable<'_>, rows: &[GroupRow<'_>]) -> bool
 }
 
 fn are_users_mapped(names: &PairTable<'_>, hosts: &[Loaded<'_>]) -> bool
-    ensures { result ≡ list_all (λ host. users_mapped names.now host.users) hosts.now }
+    ensures { result ≡ list_all (λ loaded. users_mapped names.now loaded.host.users) hosts.now }
 {
     hosts
         .iter()
-        .all(|host| are_all_users_mapped(names, host.users.rows()))
+        .all(|loaded| are_all_users_mapped(names, loaded.host.users.rows()))
 }
 
 fn are_groups_mapped(names: &PairTable<'_>, hosts: &[Loaded<'_>]) -> bool
-    ensures { result ≡ list_all (λ host. groups_mapped names.now host.groups) hosts.now }
+    ensures { result ≡ list_all (λ loaded. groups_mapped names.now loaded.host.groups) hosts.now }
 {
     hosts
         .iter()
-        .all(|host| are_all_groups_mapped(names, host.groups.rows()))
+        .all(|loaded| are_all_groups_mapped(names, loaded.host.groups.rows()))
 }
 
-fn has_user(host: &Loaded<'_>, name: &[u8]) -> bool
-    ensures { result ≡ host_has_user name.now host.now }
+fn has_user(loaded: &Loaded<'_>, name: &[u8]) -> bool
+    ensures { result ≡ host_has_user name.now loaded.now }
 {
-    host.users.by_name(name).is_some()
+    loaded.host.users.by_name(name).is_some()
 }
 
-fn has_group(host: &Loaded<'_>, name: &[u8]) -> bool
-    ensures { result ≡ host_has_group name.now host.now }
+fn has_group(loaded: &Loaded<'_>, name: &[u8]) -> bool
+    ensures { result ≡ host_has_group name.now loaded.now }
 {
-    host.groups.by_name(name).is_some()
+    loaded.host.groups.by_name(name).is_some()
 }
 
 fn is_user(hosts: &[Loaded<'_>], name: &[u8]) -> bool
     ensures { result ≡ list_any (host_has_user name.now) hosts.now }
 {
-    hosts.iter().any(|host| has_user(host, name))
+    hosts.iter().any(|loaded| has_user(loaded, name))
 }
 
 fn is_group(hosts: &[Loaded<'_>], name: &[u8]) -> bool
     ensures { result ≡ list_any (host_has_group name.now) hosts.now }
 {
-    hosts.iter().any(|host| has_group(host, name))
+    hosts.iter().any(|loaded| has_group(loaded, name))
 }
 
 /// One if the mapping of an owner differs from the number that a file has.
@@ -100,7 +100,7 @@ fn field_changes(names: &PairTable<'_>, owner: Option<&[u8]>, number: u32) -> u6
     }
 }
 
-fn users_cost(names: &MapText<'_>, host: &Loaded<'_>, files: &[Entry]) -> u64
+fn users_cost(names: &MapText<'_>, host: &Host<'_>, files: &[Entry]) -> u64
     ensures value { result ≡ users_changed names.now host.now files.now }
     ensures small { result ≤ length files.now }
 {
@@ -111,7 +111,7 @@ fn users_cost(names: &MapText<'_>, host: &Loaded<'_>, files: &[Entry]) -> u64
     cost
 }
 
-fn groups_cost(names: &MapText<'_>, host: &Loaded<'_>, files: &[Entry]) -> u64
+fn groups_cost(names: &MapText<'_>, host: &Host<'_>, files: &[Entry]) -> u64
     ensures value { result ≡ groups_changed names.now host.now files.now }
     ensures small { result ≤ length files.now }
 {
@@ -183,8 +183,8 @@ fn count_files<'a>(
     };
     for loaded in hosts {
         let files = load_files(alloc, loaded)?;
-        cost.users += users_cost(names, loaded, files.entries());
-        cost.groups += groups_cost(names, loaded, files.entries());
+        cost.users += users_cost(names, &loaded.host, files.entries());
+        cost.groups += groups_cost(names, &loaded.host, files.entries());
     }
     Ok(cost)
 }

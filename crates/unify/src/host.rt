@@ -1,25 +1,25 @@
 //! What the texts of a host say.
 
-ghost use Rattle.std.specs.Prelude.{◌≡◌, ◌≤◌, [], length, IfOk, option_map};
+ghost use Rattle.std.specs.Prelude.{◌≡◌, ◌≤◌, [], length, IfOk, All, option_map};
 ghost use Rattle.idtext.specs.First.{Gives, each, first_fault, unless};
 ghost use Rattle.accounts.specs.Laws.{IsPasswdTable, IsGroupTable};
 ghost use Rattle.accounts.specs.Tables.{passwd_table, group_table};
 ghost use Rattle.logindefs.specs.Ranges.{IsHostRanges, ranges_of};
 ghost use Rattle.mtree_inv.specs.Inventory.{inventory};
 ghost use Rattle.hosts_join.specs.Checks.{primary_checked};
-ghost use Rattle.hosts_join.specs.Views.{fault_of, text_of};
+ghost use Rattle.hosts_join.specs.Hosts.{IsLawfulHost};
 ghost use Rattle.unify_texts.specs.declared.fault.Fault.TheVariants.{Line};
 ghost use Rattle.unify_texts.specs.Told.{told};
-ghost use Rattle.unify.specs.Told.{in_file, source as source_name, site_told, in_site, pool_class as class_of_pool};
-ghost use Rattle.unify.specs.Hosts.{IsLawful, host_of, user_at, group_at, owner_fault, files_of};
+ghost use Rattle.unify.specs.Told.{in_file, site_told, in_site};
+ghost use Rattle.unify.specs.Hosts.{host_of, user_at, group_at, owner_fault, files_of};
 
 use accounts::{GroupTable, PasswdTable, read_group, read_passwd};
-use hosts_join::{Class, Host, HostText, SiteFault, check_primary};
+use hosts_join::{Host, HostText, SiteFault, check_primary};
 use idtext::{ByteString, Name, ReadError, TextFault};
 use logindefs::{HostRanges, read_ranges};
 use mtree_inv::{Entry, Inventory, read_inventory};
 use std::alloc::{AllocError, Global};
-use unify_texts::{Fault, HostFile, PoolClass};
+use unify_texts::{Fault, FileName};
 
 /// How many files an inventory may have.
 pub const MOST_FILES: u32 = 16777216;
@@ -27,14 +27,11 @@ pub const MOST_FILES: u32 = 16777216;
 /// What the files of a host say, with its inventory's text.
 #[derive(Drop)]
 pub struct Loaded<'a> {
-    pub name: Name<'a>,
-    pub ranges: HostRanges,
-    pub users: PasswdTable<'a>,
-    pub groups: GroupTable<'a>,
+    pub host: Host<'a>,
     pub mtree: Name<'a>,
 }
 
-fn line_fault(host: &[u8], file: HostFile, fault: TextFault) -> Fault<'_>
+fn line_fault(host: &[u8], file: FileName, fault: TextFault) -> Fault<'_>
     ensures { result ≡ Line host.now file fault.code fault.line }
 {
     Fault::Line {
@@ -45,36 +42,15 @@ fn line_fault(host: &[u8], file: HostFile, fault: TextFault) -> Fault<'_>
     }
 }
 
-fn source<'a>(host: Option<&'a [u8]>) -> Name<'a>
-    ensures { result ≡ source_name (text_of host.entry) }
-{
-    match host {
-        Some(name) => Name::new(name),
-        None => Name::new(&[]),
-    }
-}
-
-fn pool_class(class: Class) -> PoolClass
-    ensures { result ≡ class_of_pool class }
-{
-    match class {
-        Class::Regular => PoolClass::Regular,
-        Class::System | Class::Pinned(_) => PoolClass::System,
-    }
-}
-
 /// A fault of the site as the program tells it.
 pub fn site_fault(fault: SiteFault<'_>) -> Fault<'_>
-    ensures { told result ≡ option_map site_told (fault_of fault.entry) }
+    ensures { result ≡ site_told fault.entry }
 {
     match fault {
-        SiteFault::BadHostName(name) => Fault::BadHostName(Name::new(name)),
-        SiteFault::HostTwice(name) => Fault::HostTwice(Name::new(name)),
+        SiteFault::BadHostName(name) => Fault::BadHostName(name),
+        SiteFault::HostTwice(name) => Fault::HostTwice(name),
         SiteFault::HostCount(count) => Fault::HostCount(count),
-        SiteFault::NoPrimaryGroup { host, user } => Fault::NoPrimaryGroup {
-            host: Name::new(host),
-            user: Name::new(user),
-        },
+        SiteFault::NoPrimaryGroup { host, user } => Fault::NoPrimaryGroup { host, user },
         SiteFault::PinDisagrees {
             kind,
             name,
@@ -82,9 +58,9 @@ pub fn site_fault(fault: SiteFault<'_>) -> Fault<'_>
             second,
         } => Fault::PinDisagrees {
             kind,
-            name: Name::new(name),
-            first: source(first),
-            second: source(second),
+            name,
+            first,
+            second,
         },
         SiteFault::PinClash {
             kind,
@@ -94,8 +70,8 @@ pub fn site_fault(fault: SiteFault<'_>) -> Fault<'_>
         } => Fault::PinClash {
             kind,
             number,
-            first: Name::new(first),
-            second: Name::new(second),
+            first,
+            second,
         },
         SiteFault::PoolTooSmall {
             kind,
@@ -104,7 +80,7 @@ pub fn site_fault(fault: SiteFault<'_>) -> Fault<'_>
             numbers,
         } => Fault::PoolTooSmall {
             kind,
-            class: pool_class(class),
+            class,
             names,
             numbers,
         },
@@ -113,102 +89,78 @@ pub fn site_fault(fault: SiteFault<'_>) -> Fault<'_>
 }
 
 fn ranges_at<'a>(host: &'a [u8], text: &[u8]) -> Result<HostRanges, Fault<'a>>
-    ensures exact { Gives (λ x. x) told result (in_file host.now HostFile.LoginDefs (ranges_of text.now)) }
+    ensures exact { Gives (λ x. x) told result (in_file host.now FileName.LoginDefs (ranges_of text.now)) }
     ensures lawful { IfOk result IsHostRanges }
 {
     match read_ranges(text) {
         Ok(ranges) => Ok(ranges),
-        Err(fault) => Err(line_fault(host, HostFile::LoginDefs, fault)),
+        Err(fault) => Err(line_fault(host, FileName::LoginDefs, fault)),
     }
 }
 
 fn users_at<'a>(alloc: Global, host: &'a [u8], text: &'a [u8]) -> Result<PasswdTable<'a>, Fault<'a>>
-    ensures exact { Gives (λ x. x) told result (in_file host.now HostFile.Passwd (passwd_table text.now)) }
+    ensures exact { Gives (λ x. x) told result (in_file host.now FileName.Passwd (passwd_table text.now)) }
     ensures lawful { IfOk result (λ table. IsPasswdTable table) }
 {
     match read_passwd(alloc, text) {
         Ok(table) => Ok(table),
-        Err(ReadError::Fault(fault)) => Err(line_fault(host, HostFile::Passwd, fault)),
+        Err(ReadError::Fault(fault)) => Err(line_fault(host, FileName::Passwd, fault)),
         Err(ReadError::Memory) => Err(Fault::Memory),
     }
 }
 
 fn groups_at<'a>(alloc: Global, host: &'a [u8], text: &'a [u8]) -> Result<GroupTable<'a>, Fault<'a>>
-    ensures exact { Gives (λ x. x) told result (in_file host.now HostFile.Group (group_table text.now)) }
+    ensures exact { Gives (λ x. x) told result (in_file host.now FileName.Group (group_table text.now)) }
     ensures lawful { IfOk result (λ table. IsGroupTable table) }
 {
     match read_group(alloc, text) {
         Ok(table) => Ok(table),
-        Err(ReadError::Fault(fault)) => Err(line_fault(host, HostFile::Group, fault)),
+        Err(ReadError::Fault(fault)) => Err(line_fault(host, FileName::Group, fault)),
         Err(ReadError::Memory) => Err(Fault::Memory),
     }
 }
 
 fn inventory_at<'a>(alloc: Global, host: &'a [u8], text: &[u8]) -> Result<Inventory, Fault<'a>>
-    ensures exact { Gives (λ files. files) told result (in_file host.now HostFile.Mtree (inventory 16777216 text.now)) }
+    ensures exact { Gives (λ files. files) told result (in_file host.now FileName.Mtree (inventory 16777216 text.now)) }
     ensures few { IfOk result (λ files. length files ≤ 16777216) }
 {
     match read_inventory(alloc, text, MOST_FILES) {
         Ok(files) => Ok(files),
-        Err(ReadError::Fault(fault)) => Err(line_fault(host, HostFile::Mtree, fault)),
+        Err(ReadError::Fault(fault)) => Err(line_fault(host, FileName::Mtree, fault)),
         Err(ReadError::Memory) => Err(Fault::Memory),
     }
 }
 
-fn primary_at<'a>(
-    host: &'a [u8],
-    users: &PasswdTable<'a>,
-    groups: &GroupTable<'a>,
-) -> Result<(), Fault<'a>>
-    ensures { Gives (λ x. x) told result (in_site (primary_checked host.now users.now groups.now)) }
+fn primary_at<'a>(host: &Host<'a>) -> Result<(), Fault<'a>>
+    ensures { Gives (λ x. x) told result (in_site (primary_checked host.now)) }
 {
-    match check_primary(host, users, groups) {
+    match check_primary(host) {
         Ok(()) => Ok(()),
         Err(fault) => Err(site_fault(fault)),
     }
 }
 
-/// Reads a host's files but its inventory.
+/// Reads a host's files but its inventory: login.defs, passwd, group, and then whether each user's group is there.
 #[tactic(auto, unfolding(crate::specs::Hosts::host_of))]
 pub fn load_host<'a>(alloc: Global, text: &'a HostText) -> Result<Loaded<'a>, Fault<'a>>
     ensures exact { Gives (λ x. x) told result (host_of text.now) }
-    ensures lawful { IfOk result IsLawful }
+    ensures lawful { IfOk result (λ loaded. IsLawfulHost loaded.host) }
 {
     let name = text.name.bytes();
     let ranges = ranges_at(name, text.logindefs.bytes())?;
     let users = users_at(alloc, name, text.passwd.bytes())?;
     let groups = groups_at(alloc, name, text.group.bytes())?;
-    primary_at(name, &users, &groups)?;
-    Ok(Loaded {
+    let host = Host {
         name: Name::new(name),
         ranges,
         users,
         groups,
+    };
+    primary_at(&host)?;
+    Ok(Loaded {
+        host,
         mtree: Name::new(text.mtree.bytes()),
     })
-}
-
-/// The host that a join asks for.
-pub fn host_for_join<'a>(loaded: Loaded<'a>) -> Host<'a>
-    requires { IsLawful loaded }
-    ensures name { result.name.now ≡ loaded.entry.name }
-    ensures ranges { result.ranges ≡ loaded.entry.ranges }
-    ensures users { result.users ≡ loaded.entry.users }
-    ensures groups { result.groups ≡ loaded.entry.groups }
-{
-    let Loaded {
-        name,
-        ranges,
-        users,
-        groups,
-        mtree: _,
-    } = loaded;
-    Host {
-        name: name.bytes(),
-        ranges,
-        users,
-        groups,
-    }
 }
 
 /// Reads the files of all hosts but their inventories, host by host.
@@ -242,7 +194,7 @@ pub fn group_named<'a>(groups: &GroupTable<'a>, gid: u32) -> Option<&'a [u8]>
 /// Who owns a file that has an owner and a group on its host.
 fn ownership_fault<'a>(
     alloc: Global,
-    host: &Loaded<'a>,
+    host: &Host<'a>,
     file: &Entry,
 ) -> Result<Option<Fault<'a>>, AllocError>
     ensures { IfOk result (λ fault. fault ≡ owner_fault host.now [] file.now) }
@@ -264,7 +216,7 @@ fn ownership_fault<'a>(
     Ok(None)
 }
 
-fn check_owners<'a>(alloc: Global, host: &Loaded<'a>, files: &[Entry]) -> Result<(), Fault<'a>>
+fn check_owners<'a>(alloc: Global, host: &Host<'a>, files: &[Entry]) -> Result<(), Fault<'a>>
     ensures { Gives (λ x. x) told result (unless (first_fault (owner_fault host.now) [] files.now) tt) }
 {
     for file in files {
@@ -277,11 +229,12 @@ fn check_owners<'a>(alloc: Global, host: &Loaded<'a>, files: &[Entry]) -> Result
 
 /// Reads a host's inventory, and checks that each file is owned.
 #[tactic(auto, unfolding(crate::specs::Hosts::files_of))]
-pub fn load_files<'a>(alloc: Global, host: &Loaded<'a>) -> Result<Inventory, Fault<'a>>
-    ensures exact { Gives (λ files. files) told result (files_of host.now) }
+pub fn load_files<'a>(alloc: Global, loaded: &Loaded<'a>) -> Result<Inventory, Fault<'a>>
+    ensures exact { Gives (λ files. files) told result (files_of loaded.now) }
     ensures few { IfOk result (λ files. length files ≤ 16777216) }
 {
-    let files = inventory_at(alloc, host.name.bytes(), host.mtree.bytes())?;
+    let host = &loaded.host;
+    let files = inventory_at(alloc, host.name.bytes(), loaded.mtree.bytes())?;
     check_owners(alloc, host, files.entries())?;
     Ok(files)
 }

@@ -44,6 +44,7 @@ pub trait Sink {
 }
 
 /// A reader or a writer of the standard library, with a note of whether a call on it has failed.
+#[derive(Drop)]
 pub struct Watched<T> {
     pub inner: T,
     pub has_failed: bool,
