@@ -1,4 +1,6 @@
 -- What a line of an account file is, before its fields are looked at.
+-- Sources: nsswitch.conf(5), compat mode (a line with a plus or a minus in front takes in or leaves out accounts of NIS).
+-- That such a line is refused, which lines are skipped, and both limits, are rules of this product.
 use Rattle.std.specs.Prelude.{ℕ, Bool, true, false, List, length, Result, Ok, ◌==◌, ◌||◌, nat_lt, slice_index, if◌then◌else◌}
 use Rattle.idtext.specs.declared.faults.TextCode.TheVariants.{TooManyLines, LineTooLong, CompatLine}
 use Rattle.idtext.specs.declared.faults.TextFault.{TextFault}
@@ -10,7 +12,7 @@ use Rattle.idtext.specs.Words.{most_bytes}
 abbrev pub most_lines : ℕ
 most_lines = 65536
 
--- a plus or a minus in front, as NIS wants it
+-- a plus or a minus in front, as the compat mode of NIS has it
 abbrev pub is_compat : List ℕ → Bool
 is_compat line = slice_index line 0 == 43 || slice_index line 0 == 45
 

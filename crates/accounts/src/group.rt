@@ -1,4 +1,4 @@
-//! The file group.
+//! The file group, after group(5).
 #![tactic(auto)]
 
 ghost use Rattle.std.specs.Prelude.{◌≡◌, ◌≢◌, [], ◌∷◌, ℕ, Some, length, filter, not, ◌==◌, find, option_copied, nat_eq, bytes_eq, List, MatchOption, IfOk};
@@ -18,13 +18,18 @@ use idtext::{Pieces, ReadError, TextCode, TextFault, decimal, fields, is_lawful_
 use std::alloc::Global;
 use std::marker::Model;
 
-/// A row of group, whose texts are slices of the file.
+/// A row of group: the four fields of one line, after group(5). Its texts are slices of the file, with no copy.
 #[derive(Drop)]
 pub struct GroupRow<'a> {
+    /// The number of the line, counted from 1; skipped lines count too.
     pub line: u64,
+    /// The group's name.
     pub name: &'a [u8],
+    /// The password field, which may be empty.
     pub password: &'a [u8],
+    /// The group's number, at most 4294967294.
     pub gid: u32,
+    /// The user list as it stands: names between commas, possibly none.
     pub members: &'a [u8],
 }
 
@@ -121,7 +126,8 @@ fn line_of(number: u64, line: &[u8]) -> Result<Option<GroupRow<'_>>, TextFault>
     Ok(Some(row_of(number, line)?))
 }
 
-/// The rows of group, whose names are distinct, and whose numbers are.
+/// The rows of group. Names are lawful and distinct; gids are distinct and at most 4294967294; there are at most 65,536
+/// rows. It keeps an entry in each of two hash sets for each row, and no text.
 #[derive(Drop)]
 pub struct GroupTable<'a> {
     rows: Vec<GroupRow<'a>>,
@@ -137,15 +143,15 @@ impl<'a> Model for GroupTable<'a> {
 }
 
 impl<'a> GroupTable<'a> {
-    /// The rows, in the order of the file.
+    /// The rows, in the order of the file. Constant time; takes no memory.
     pub fn rows(&self) -> &[GroupRow<'a>]
         ensures rows { result.now ≡ self.now }
         ensures table { IsGroupTable self.now }
     {
-        &self.rows
+        self.rows.as_slice()
     }
 
-    /// The row with this name.
+    /// The row with this name, or none. One hash look-up; takes no memory.
     pub fn by_name(&self, name: &[u8]) -> Option<&GroupRow<'a>>
         ensures { option_copied result ≡ find (λ row. bytes_eq name.now row.name) self.now }
     {
@@ -153,7 +159,7 @@ impl<'a> GroupTable<'a> {
         Some(&self.rows[place])
     }
 
-    /// The row with this number.
+    /// The row with this gid, or none. One hash look-up; takes no memory.
     pub fn by_number(&self, gid: u32) -> Option<&GroupRow<'a>>
         ensures { option_copied result ≡ find (λ row. nat_eq gid row.gid) self.now }
     {
@@ -162,7 +168,21 @@ impl<'a> GroupTable<'a> {
     }
 }
 
-/// Reads group: the rows of its lines, or its first fault.
+/// Reads group, after group(5): the rows of its lines, or its first fault.
+///
+/// Lines that are empty, only white space, or begin with `#` are skipped. The checks of a line, in order:
+///
+/// - `TooManyLines`: it is line 65,537.
+/// - `LineTooLong`: it has over 65,535 bytes, also where it would be skipped.
+/// - `CompatLine`: it begins with `+` or `-`.
+/// - `BadFields`: it has not exactly four fields between colons.
+/// - `BadName`: the name is not lawful.
+/// - `BadNumber`: the gid is not one or more decimal digits of a value of at most 4294967294.
+/// - `NameTwice`: an earlier row has the name.
+/// - `SharedNumber`: an earlier row has the gid.
+///
+/// The fault is that of the first line that fails, with the line's number. `Memory` is answered only where a growth was
+/// refused. One pass over the text with two hash look-ups a row; the rows are slices of the text, which is not copied.
 #[tactic(auto, unfolding(crate::specs::Tables::group_table))]
 pub fn read_group(alloc: Global, text: &[u8]) -> Result<GroupTable<'_>, ReadError>
     ensures exact { Gives (λ table. table) fault_told result (group_table text.now) }
@@ -173,7 +193,9 @@ pub fn read_group(alloc: Global, text: &[u8]) -> Result<GroupTable<'_>, ReadErro
 }
 
 impl<'a> GroupRow<'a> {
-    /// The users of the group, as its list names them, without empty items.
+    /// The users of the group, as its list names them, in order: what stands between the commas, without empty items.
+    /// Source: group(5). A name may stand twice, and need not be in passwd. Takes no memory; going over all of them is
+    /// one pass over the list.
     #[tactic(auto, unfolding(crate::specs::Rows::members_of))]
     pub fn members_of(&self) -> Members<'a>
         ensures { result ≡ members_of self.now.members }
@@ -184,7 +206,7 @@ impl<'a> GroupRow<'a> {
     }
 }
 
-/// The users of a group that are still to come.
+/// The users of a group that are still to come, each a slice of the file.
 #[derive(Drop)]
 pub struct Members<'a> {
     rest: Pieces<'a>,

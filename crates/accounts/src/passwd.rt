@@ -1,4 +1,4 @@
-//! The file passwd.
+//! The file passwd, after passwd(5).
 #![tactic(auto)]
 
 ghost use Rattle.std.specs.Prelude.{◌≡◌, ◌≢◌, [], ◌∷◌, ℕ, Some, length, find, option_copied, nat_eq, bytes_eq, List, MatchOption, IfOk};
@@ -17,16 +17,24 @@ use idtext::{ReadError, TextCode, TextFault, decimal, fields, is_lawful_name};
 use std::alloc::Global;
 use std::marker::Model;
 
-/// A row of passwd, whose texts are slices of the file.
+/// A row of passwd: the seven fields of one line, after passwd(5). Its texts are slices of the file, with no copy.
 #[derive(Drop)]
 pub struct PasswdRow<'a> {
+    /// The number of the line, counted from 1; skipped lines count too.
     pub line: u64,
+    /// The login name.
     pub name: &'a [u8],
+    /// The password field, which may be empty.
     pub password: &'a [u8],
+    /// The user's number, at most 4294967294.
     pub uid: u32,
+    /// The number of the primary group, at most 4294967294.
     pub gid: u32,
+    /// The comment, often the full name; may be empty.
     pub comment: &'a [u8],
+    /// The home directory, which may be empty.
     pub home: &'a [u8],
+    /// The login shell, which may be empty.
     pub shell: &'a [u8],
 }
 
@@ -138,7 +146,8 @@ fn line_of(number: u64, line: &[u8]) -> Result<Option<PasswdRow<'_>>, TextFault>
     Ok(Some(row_of(number, line)?))
 }
 
-/// The rows of passwd, whose names are distinct, and whose numbers are.
+/// The rows of passwd. Names are lawful and distinct; uids are distinct; uids and gids are at most 4294967294;
+/// there are at most 65,536 rows. It keeps an entry in each of two hash sets for each row, and no text.
 #[derive(Drop)]
 pub struct PasswdTable<'a> {
     rows: Vec<PasswdRow<'a>>,
@@ -155,16 +164,16 @@ impl<'a> Model for PasswdTable<'a> {
 }
 
 impl<'a> PasswdTable<'a> {
-    /// The rows, in the order of the file.
+    /// The rows, in the order of the file. Constant time; takes no memory.
     pub fn rows(&self) -> &[PasswdRow<'a>]
         ensures rows { result.now ≡ self.now }
         ensures table { IsPasswdTable self.now }
         ensures primary_groups { HavePrimaryGroups self.now }
     {
-        &self.rows
+        self.rows.as_slice()
     }
 
-    /// The row with this name.
+    /// The row with this name, or none. One hash look-up; takes no memory.
     pub fn by_name(&self, name: &[u8]) -> Option<&PasswdRow<'a>>
         ensures { option_copied result ≡ find (λ row. bytes_eq name.now row.name) self.now }
     {
@@ -172,7 +181,7 @@ impl<'a> PasswdTable<'a> {
         Some(&self.rows[place])
     }
 
-    /// The row with this number.
+    /// The row with this uid, or none. One hash look-up; takes no memory.
     pub fn by_number(&self, uid: u32) -> Option<&PasswdRow<'a>>
         ensures { option_copied result ≡ find (λ row. nat_eq uid row.uid) self.now }
     {
@@ -181,7 +190,21 @@ impl<'a> PasswdTable<'a> {
     }
 }
 
-/// Reads passwd: the rows of its lines, or its first fault.
+/// Reads passwd, after passwd(5): the rows of its lines, or its first fault.
+///
+/// Lines that are empty, only white space, or begin with `#` are skipped. The checks of a line, in order:
+///
+/// - `TooManyLines`: it is line 65,537.
+/// - `LineTooLong`: it has over 65,535 bytes, also where it would be skipped.
+/// - `CompatLine`: it begins with `+` or `-`.
+/// - `BadFields`: it has not exactly seven fields between colons.
+/// - `BadName`: the name is not lawful.
+/// - `BadNumber`: the uid or the gid is not one or more decimal digits of a value of at most 4294967294.
+/// - `NameTwice`: an earlier row has the name.
+/// - `SharedNumber`: an earlier row has the uid.
+///
+/// The fault is that of the first line that fails, with the line's number. `Memory` is answered only where a growth was
+/// refused. One pass over the text with two hash look-ups a row; the rows are slices of the text, which is not copied.
 #[tactic(auto, unfolding(crate::specs::Tables::passwd_table))]
 pub fn read_passwd(alloc: Global, text: &[u8]) -> Result<PasswdTable<'_>, ReadError>
     ensures exact { Gives (λ table. table) fault_told result (passwd_table text.now) }
