@@ -12,6 +12,7 @@ use Rattle.std.specs.Char.{digit_value}
 use Rattle.std.specs.Str.Parse.{digits_value}
 use Rattle.std.specs.Str.{bytes_eq}
 use Rattle.idtext.specs.Numbers.{numeral, id_of, greatest_id}
+use Rattle.idtext.specs.First.{first_fault}
 use Rattle.idtext.specs.declared.faults.TextCode.{TextCode}
 use Rattle.idtext.specs.declared.faults.TextCode.TheVariants.{BadPath, BadNumber, DotDotAbove}
 use Rattle.idtext.specs.declared.faults.ReadError.{ReadError}
@@ -19,13 +20,12 @@ use Rattle.idtext.specs.declared.faults.ReadError.TheVariants.{Memory, Fault}
 use Rattle.mtree_inv.specs.declared.entry.Entry.{Entry}
 use Rattle.mtree_inv.specs.Files.{IsLawfulPath, IsLawfulFile, AreFiles}
 use Rattle.mtree_inv.specs.Laws.{SeparatorsAreRefused}
-use Rattle.mtree_inv.specs.Looking.{looking_back_from, first_said}
 use Rattle.mtree_inv.specs.Logical.{LogicalLine, logical_lines}
 use Rattle.mtree_inv.specs.Kinds.{Kind, TooLong, Cut, Ignored, Sets, Unsets, Unknown, Up, Names, kind_of}
 use Rattle.mtree_inv.specs.Keywords.{has_lawful_numbers, number_in_force, in_force, is_directory}
 use Rattle.mtree_inv.specs.Open.{Mark, Opens, Stays, is_full, mark_of, marks, open_names}
 use Rattle.mtree_inv.specs.Paths.{parts, components, is_bad_component, has_bad_component}
-use Rattle.mtree_inv.specs.Inventory.{kinds, files_of, named, first_appearances, fault_of, fault_said, file_said, file_at, said_alone, owned_file, named_file, is_bad_path, path_of, numbered_fault, first_fault, inventory_of_lines, inventory, accepted, accepted_from}
+use Rattle.mtree_inv.specs.Inventory.{kinds, files_of, named, first_appearances, fault_of, fault_said, file_said, file_at, said_alone, owned_file, named_file, is_bad_path, path_of, numbered_fault, inventory_of_lines, inventory, accepted, accepted_from}
 use Rattle.mtree_inv.specs.Machine.{with_new_file}
 use Rattle.mtree_inv.specs.Standing.{ReaderValue, StandsFor, StandsAt, files}
 use Rattle.mtree_inv.proofs.LookingLemmas.{looking_back-snoc}
@@ -168,10 +168,11 @@ accepted_sound most before (line ∷ rest) h = by (fault_of most (kinds before) 
     by None e later = subst IsSound (append_assoc before (line ∷ []) (accepted_from most (before ++ line ∷ []) rest)) (later (line_sound most before line h e))
     by (Some code) e later = subst IsSound (sym (append-nil before)) h
 
-all_accepted : (most : ℕ) (before rest : List LogicalLine) → first_said (λ f. f) (looking_back_from (numbered_fault most) before rest) ≡ None → accepted_from most before rest ≡ rest
+all_accepted : (most : ℕ) (before rest : List LogicalLine) → first_fault (numbered_fault most) before rest ≡ None → accepted_from most before rest ≡ rest
+unfolding first_fault
 all_accepted most before [] e = refl
 all_accepted most before (line ∷ rest) e =
-    let both = none_of_both (numbered_fault most before line) (first_said (λ f. f) (looking_back_from (numbered_fault most) (before ++ line ∷ []) rest)) e in
+    let both = none_of_both (numbered_fault most before line) (first_fault (numbered_fault most) (before ++ line ∷ []) rest) e in
     ap (λ (o : Option TextCode). cond (is_none o) (line ∷ accepted_from most (before ++ line ∷ []) rest) []) (no_fault line.number (fault_of most (kinds before) (kind_of line)) both.0)
     ∙ ap (λ (ls : List LogicalLine). line ∷ ls) (all_accepted most (before ++ line ∷ []) rest both.1)
 
@@ -182,9 +183,9 @@ accepted_files most lines = (accepted_sound most [] lines none_sound).files
 
 -- the files of lines
 pub lines-files : (most : ℕ) (lines : List LogicalLine) (fs : List Entry) → inventory_of_lines most lines ≡ Ok fs → AreFiles fs
-unfolding inventory_of_lines first_fault
+unfolding inventory_of_lines
 lines-files most lines fs e =
-    let told = told_ok (first_said (λ f. f) (looking_back_from (numbered_fault most) [] lines)) (files_of (kinds lines)) fs e in
+    let told = told_ok (first_fault (numbered_fault most) [] lines) (files_of (kinds lines)) fs e in
     subst AreFiles (ap (λ (ls : List LogicalLine). files_of (kinds ls)) (all_accepted most [] lines told.0) ∙ told.1) (accepted_files most lines)
 
 -- the files of an inventory

@@ -1,6 +1,7 @@
 -- A reader stands for the text so far.
 use Rattle.std.proofs.Common.{◌≡◌, ℕ, Bool, true, false, List, [], ◌∷◌, ◌++◌, refl, sym, ap, ◌∙◌, append-nil, append_assoc, subst}
 use Rattle.std.specs.Prelude.{Option, Some, None, Ok, Err, IfSome, IfNone}
+use Rattle.idtext.specs.First.{first_fault, unless}
 use Rattle.idtext.specs.declared.faults.TextFault.{TextFault}
 use Rattle.idtext.specs.declared.faults.ReadError.{ReadError}
 use Rattle.idtext.specs.declared.faults.ReadError.TheVariants.{Memory, Fault}
@@ -9,7 +10,7 @@ use Rattle.mtree_inv.specs.declared.open_line.Ends.{Ends}
 use Rattle.mtree_inv.specs.declared.open_line.Ends.TheVariants.{Nothing, Joined, Byte, Backslash}
 use Rattle.idtext.specs.Pieces.{pieces}
 use Rattle.mtree_inv.specs.Logical.{LogicalLine, logical_lines, whole_lines}
-use Rattle.mtree_inv.specs.Inventory.{kinds, files_of, named, first_appearances, first_fault, files_unless, inventory_of_lines, inventory}
+use Rattle.mtree_inv.specs.Inventory.{kinds, files_of, named, first_appearances, inventory_of_lines, inventory}
 use Rattle.mtree_inv.specs.Machine.{Kept, step, Follows}
 use Rattle.mtree_inv.specs.Reading.{Reading, clipped_kind, read_byte, read_bytes, at_end, unless_ended_at_end, finished, start}
 use Rattle.mtree_inv.specs.Standing.{ReaderValue, GrowAlike, files, files_before_fault, IsMidText, StandsAt, StandsFor}
@@ -23,12 +24,12 @@ follows_start : Follows start.kept []
 unfolding files_of named first_appearances
 follows_start = record { uid = refl; gid = refl; is_dir = refl; path = refl; starts = refl; files = refl }
 
-inventory_of_run : (most : ℕ) (lines : List LogicalLine) (k : Kept) (f : Option TextFault) → RunIs most [] lines (k, f) → inventory_of_lines most lines ≡ files_unless f k.files
-unfolding inventory_of_lines first_fault
-inventory_of_run most lines k None run = ap (λ (o : Option TextFault). files_unless o (files_of (kinds lines))) (sym run.fault) ∙ ap Ok (sym (run.follows refl).files)
-inventory_of_run most lines k (Some f) run = ap (λ (o : Option TextFault). files_unless o (files_of (kinds lines))) (sym run.fault)
+inventory_of_run : (most : ℕ) (lines : List LogicalLine) (k : Kept) (f : Option TextFault) → RunIs most [] lines (k, f) → inventory_of_lines most lines ≡ unless f k.files
+unfolding inventory_of_lines
+inventory_of_run most lines k None run = ap (λ (o : Option TextFault). unless o (files_of (kinds lines))) (sym run.fault) ∙ ap Ok (sym (run.follows refl).files)
+inventory_of_run most lines k (Some f) run = ap (λ (o : Option TextFault). unless o (files_of (kinds lines))) (sym run.fault)
 
-pub whole_inventory : (most : ℕ) (text : List ℕ) → inventory_of_lines most (whole_lines text) ≡ files_unless (read_bytes most start text).fault (read_bytes most start text).kept.files
+pub whole_inventory : (most : ℕ) (text : List ℕ) → inventory_of_lines most (whole_lines text) ≡ unless (read_bytes most start text).fault (read_bytes most start text).kept.files
 whole_inventory most text =
     let m = read_bytes most start text in
     inventory_of_run most (whole_lines text) m.kept m.fault
@@ -40,7 +41,7 @@ at_finish most text = finished most (read_bytes most start text)
 run_all : (most : ℕ) (text : List ℕ) → RunIs most [] (logical_lines text) ((at_finish most text).kept, (at_finish most text).fault)
 run_all most text = subst (RunIs most [] (logical_lines text)) (sym (read_all_lines most text)) (run_is most start.kept [] (logical_lines text) follows_start)
 
-pub all_inventory : (most : ℕ) (text : List ℕ) → inventory most text ≡ files_unless (at_finish most text).fault (at_finish most text).kept.files
+pub all_inventory : (most : ℕ) (text : List ℕ) → inventory most text ≡ unless (at_finish most text).fault (at_finish most text).kept.files
 unfolding inventory
 all_inventory most text = inventory_of_run most (logical_lines text) (at_finish most text).kept (at_finish most text).fault (run_all most text)
 
@@ -121,8 +122,8 @@ pub fed_whole : (reader new : ReaderValue) (text piece : List ℕ) → StandsAt 
     → inventory_of_lines reader.most (whole_lines (text ++ piece)) ≡ Ok (files new)
 fed_whole reader new text piece h same e none listed =
     whole_inventory reader.most (text ++ piece)
-    ∙ ap (λ (m : Reading). files_unless m.fault m.kept.files) (sym (fed_to reader text piece h) ∙ e)
-    ∙ ap (λ (o : Option TextFault). files_unless o new.reading.kept.files) none
+    ∙ ap (λ (m : Reading). unless m.fault m.kept.files) (sym (fed_to reader text piece h) ∙ e)
+    ∙ ap (λ (o : Option TextFault). unless o new.reading.kept.files) none
     ∙ ap Ok listed
 
 pub fed_going : (reader new : ReaderValue) (text piece : List ℕ) → StandsAt None false reader text → new.most ≡ reader.most → read_bytes reader.most reader.reading piece ≡ new.reading → new.reading.fault ≡ None → new.reading.kept.files ≡ new.files
@@ -133,7 +134,7 @@ fed_going reader new text piece h same e none listed = (
 )
 
 failed_inventory : (most : ℕ) (text : List ℕ) (f : TextFault) → (at_finish most text).fault ≡ Some f → inventory most text ≡ Err f
-failed_inventory most text f e = all_inventory most text ∙ ap (λ (o : Option TextFault). files_unless o (at_finish most text).kept.files) e
+failed_inventory most text f e = all_inventory most text ∙ ap (λ (o : Option TextFault). unless o (at_finish most text).kept.files) e
 
 failed_finish : (most : ℕ) (text : List ℕ) (f : TextFault) → (read_bytes most start text).fault ≡ Some f → at_finish most text ≡ read_bytes most start text
 failed_finish most text f e = finished-failed most (read_bytes most start text) f e
@@ -165,8 +166,8 @@ pub fed_told : (reader : ReaderValue) (fs : List Entry) (text piece : List ℕ) 
 fed_told reader fs text piece Memory h e = tt
 fed_told reader fs text piece (Fault f) h e =
     whole_inventory reader.most (text ++ piece)
-    ∙ ap (λ (m : Reading). files_unless m.fault m.kept.files) (sym (fed_to reader text piece h))
-    ∙ ap (λ (o : Option TextFault). files_unless o (read_bytes reader.most reader.reading piece).kept.files) e.0
+    ∙ ap (λ (m : Reading). unless m.fault m.kept.files) (sym (fed_to reader text piece h))
+    ∙ ap (λ (o : Option TextFault). unless o (read_bytes reader.most reader.reading piece).kept.files) e.0
 
 pub fed_ended : (reader : ReaderValue) (fs : List Entry) (text piece : List ℕ) (fault : ReadError) → StandsAt None false reader text
     → FailedTo fs fault (read_bytes reader.most reader.reading piece) → IfSome (fault_told fault) (λ f. (more : List ℕ) → inventory reader.most ((text ++ piece) ++ more) ≡ Err f)
@@ -180,8 +181,8 @@ pub finished_whole : (reader new : ReaderValue) (text : List ℕ) → StandsAt N
     → inventory reader.most text ≡ Ok (files new)
 finished_whole reader new text h e none listed =
     all_inventory reader.most text
-    ∙ ap (λ (m : Reading). files_unless m.fault m.kept.files) (ap (finished reader.most) (sym (kept_at reader text h)) ∙ e)
-    ∙ ap (λ (o : Option TextFault). files_unless o new.reading.kept.files) none
+    ∙ ap (λ (m : Reading). unless m.fault m.kept.files) (ap (finished reader.most) (sym (kept_at reader text h)) ∙ e)
+    ∙ ap (λ (o : Option TextFault). unless o new.reading.kept.files) none
     ∙ ap Ok listed
 
 pub finished_failed : (reader new : ReaderValue) (text : List ℕ) (fin : Bool) (fault : ReadError) → StandsAt None false reader text → new.most ≡ reader.most

@@ -7,6 +7,7 @@ use crate::fault::LineFault;
 use crate::open_line::{Ends, OpenLine};
 use crate::walk::Walk;
 use idtext::{ReadError, TextCode, TextFault};
+use memchr::memchr2;
 use std::alloc::Global;
 
 // How many bytes at the front are neither a newline nor a backslash.
@@ -15,12 +16,10 @@ fn plain_len(bytes: &[u8]) -> usize
     ensures plain { (k : ℕ) → k < result → is_plain (slice_index bytes.now k) ≡ true }
     ensures special { result < length bytes.now → is_plain (slice_index bytes.now result) ≡ false }
 {
-    for (i, byte) in bytes.iter().enumerate() {
-        if *byte == b'\n' || *byte == b'\\' {
-            return i;
-        }
+    match memchr2(b'\n', b'\\', bytes) {
+        Some(at) => at,
+        None => bytes.len(),
     }
-    bytes.len()
 }
 
 /// A reader that has met no fault.
