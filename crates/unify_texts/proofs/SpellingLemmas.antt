@@ -1,10 +1,11 @@
 -- The spelling of bundles against what is read from their lines.
-use Rattle.std.proofs.Common.{◌≡◌, ℕ, ◌+◌, Bool, true, false, not, ◌||◌, ◌&&◌, List, [], ◌∷◌, ◌++◌, map, reverse, length, take, drop, Option, Some, None, Result, Ok, Err, refl, sym, ap, ◌∙◌, subst, append_assoc, append-nil, arith, eqb}
+use Rattle.std.proofs.Common.{◌≡◌, ℕ, ◌+◌, Bool, true, false, not, ◌||◌, ◌&&◌, List, [], ◌∷◌, ◌++◌, map, reverse, length, take, drop, Option, Some, None, Result, Ok, Err, refl, sym, ap, ◌∙◌, subst, suc, ◌<◌, append_assoc, append-nil, length-append, add-one, arith, eqb}
 use Rattle.std.specs.Prelude.{if◌then◌else◌, IsTrue, codes, bytes_eq}
 use Rattle.std.specs.List.{list_any, list_all, flat_map, IsDistinct, AllByRecursion}
 use Rattle.std.proofs.lemmas.List.{reverse-append, take-append-drop}
 use Rattle.std.proofs.lemmas.Slice.Eq.{bytes_eq-Decides}
 use Rattle.idtext.specs.First.{first_fault, unless}
+use Rattle.idtext.specs.Faults.{line_number}
 use Rattle.idtext.specs.Pieces.{begins_with}
 use Rattle.unify_texts.specs.declared.bundle_line.Command.{Command}
 use Rattle.unify_texts.specs.declared.bundle_line.Command.TheVariants.{Count, Merge, Check, Rehearse}
@@ -19,7 +20,7 @@ use Rattle.unify_texts.specs.declared.fault.Fault.{Fault}
 use Rattle.unify_texts.specs.declared.fault.Fault.TheVariants.{BadBundle}
 use Rattle.unify_texts.specs.BundleLines.{bundle_line_of, file_named, file_word, command_word, file_index, same_file}
 use Rattle.unify_texts.specs.Bundles.{is_among, head_files, host_files, is_host_line, is_rehearsal, begun_here, is_in_file, listed_here, may_follow, bundle_fault, text_behind, files_behind, hosts_behind, bundle_with, commanded, bundle_saying, bundle_of}
-use Rattle.unify_texts.specs.BundleSpelling.{InTurn, SpellsFile, SpellsFiles, SpellsHost, SpellsBundle, ReadsWhatIsSpelled, SpelledIsRead}
+use Rattle.unify_texts.specs.BundleSpelling.{InTurn, SpellsFile, SpellsFiles, SpellsHost, SpellsBundle, IsSpelling, IsFirstBad, ReadsWhatIsSpelled, SpelledIsRead, FirstBadIsTold}
 
 abbrev bar : List ℕ → List ℕ
 bar content = 124 ∷ content
@@ -234,7 +235,7 @@ spelled_lines command (line ∷ lines) before h = by (may_follow command (revers
     by true e again =
         spelled_line command (reverse before) line lines (bundle_line_of line) (says lines) (line_said line) e
         (subst (λ (bs : List BundleLine). Spelled command bs lines (says lines)) (reverse-append before (bundle_line_of line ∷ [])) (again (rw e at h)))
-    by false e again = let no : Some (BadBundle (Rattle.idtext.specs.Faults.line_number (length before + 1))) ≡ None = rw e at h in absurd cc
+    by false e again = let no : Some (BadBundle (line_number (length before + 1))) ≡ None = rw e at h in absurd cc
 
 rehearses : (command : Command) → command ≡ Rehearse → is_rehearsal command ≡ true
 rehearses command e = ap is_rehearsal e
@@ -383,3 +384,75 @@ spelled_said lines bundle s =
 pub spelled_is_read : SpelledIsRead
 unfolding bundle_of
 spelled_is_read text bundle s = spelled_said _ bundle s
+
+-- ---- the first bad line
+
+-- where the lines behind the first have a fault: so many of them have none, and with one more they have it
+record FaultAt (command : Command) (before : List BundleLine) (lines : List (List ℕ)) (fault : Fault) : Type 0 where
+  good_lines : ℕ
+  good : first_fault (bundle_fault command) before (says (take good_lines lines)) ≡ None
+  bad : first_fault (bundle_fault command) before (says (take (suc good_lines) lines)) ≡ Some fault
+  told : fault ≡ BadBundle (line_number (length before + suc good_lines))
+
+fault_at : (command : Command) (fault : Fault) (lines : List (List ℕ)) (before : List BundleLine) → first_fault (bundle_fault command) before (says lines) ≡ Some fault → FaultAt command before lines fault
+unfolding first_fault
+fault_at command fault [] before h = absurd cc
+fault_at command fault (line ∷ lines) before h = by (may_follow command (reverse before) (bundle_line_of line)) refl (λ more. fault_at command fault lines (before ++ bundle_line_of line ∷ []) more)
+  where
+    by : (b : Bool) → may_follow command (reverse before) (bundle_line_of line) ≡ b
+        → (first_fault (bundle_fault command) (before ++ bundle_line_of line ∷ []) (says lines) ≡ Some fault → FaultAt command (before ++ bundle_line_of line ∷ []) lines fault)
+        → FaultAt command before (line ∷ lines) fault
+    by true e again =
+        let r = again (rw e at h) in
+        let longer : length (before ++ bundle_line_of line ∷ []) + suc r.good_lines ≡ length before + suc (suc r.good_lines) = rw length-append (omega arith) in
+        record { good_lines = suc r.good_lines; good = rw e r.good; bad = rw e r.bad; told = r.told ∙ ap (λ n. BadBundle (line_number n)) longer }
+    by false e again =
+        let is : Some (BadBundle (line_number (length before + 1))) ≡ Some fault = rw e at h in
+        let same : BadBundle (line_number (length before + 1)) ≡ fault = cc in
+        record { good_lines = 0; good = refl; bad = rw e is; told = sym same }
+
+module _ (line : List ℕ) (lines : List (List ℕ)) (fault : Fault) where
+  abbrev Told : Type 0
+  Told = (before : ℕ) × (fault ≡ BadBundle (line_number before)) × IsFirstBad (line ∷ lines) before
+
+  no_command : (v : BundleLine) → bundle_line_of line ≡ v → bundle_saying (v ∷ []) ≡ Err (BadBundle 1) → BadBundle 1 ≡ fault → Told
+  no_command v e refused is = (0, sym is, record {
+    good = λ some. absurd (omega (arith, some));
+    bad = λ spelling.
+        let read : bundle_saying (bundle_line_of line ∷ []) ≡ Ok spelling.0 = spelled_said (line ∷ []) spelling.0 spelling.1 in
+        let told : bundle_saying (bundle_line_of line ∷ []) ≡ Err (BadBundle 1) = rw e refused in
+        cc;
+  })
+
+  with_command : (command : Command) → bundle_line_of line ≡ Run command → FaultAt command [] lines fault → Told
+  with_command command e r =
+      let good_read : bundle_saying (says (line ∷ take r.good_lines lines)) ≡ Ok (bundle_with command (says (take r.good_lines lines))) = rw e (rw (r.good) refl) in
+      (suc r.good_lines, r.told ∙ ap (λ n. BadBundle (line_number n)) (omega arith), record {
+        good = λ some. (bundle_with command (says (take r.good_lines lines)), said_spelled (line ∷ take r.good_lines lines) (bundle_with command (says (take r.good_lines lines))) good_read);
+        bad = rw add-one (λ spelling.
+            let read : bundle_saying (says (line ∷ take (suc r.good_lines) lines)) ≡ Ok spelling.0 = spelled_said (line ∷ take (suc r.good_lines) lines) spelling.0 spelling.1 in
+            let told : bundle_saying (says (line ∷ take (suc r.good_lines) lines)) ≡ Err fault = rw e (rw (r.bad) refl) in
+            cc);
+      })
+
+  first_line : (v : BundleLine) → bundle_line_of line ≡ v → bundle_saying (v ∷ says lines) ≡ Err fault → Told
+  first_line (Run command) e g = judged (first_fault (bundle_fault command) [] (says lines)) refl g
+    where
+      judged : (o : Option Fault) → first_fault (bundle_fault command) [] (says lines) ≡ o → unless o (bundle_with command (says lines)) ≡ Err fault → Told
+      judged None is other = absurd cc
+      judged (Some other) is told = with_command command e (fault_at command fault lines [] (let same : other ≡ fault = cc in is ∙ ap (λ f. Some f) same))
+  first_line (File file) e g = no_command (File file) e refl cc
+  first_line (Host name) e g = no_command (Host name) e refl cc
+  first_line (Content bytes) e g = no_command (Content bytes) e refl cc
+  first_line Wrong e g = no_command Wrong e refl cc
+
+said_refused : (lines : List (List ℕ)) (fault : Fault) → bundle_saying (says lines) ≡ Err fault → (before : ℕ) × (fault ≡ BadBundle (line_number before)) × IsFirstBad lines before
+said_refused [] fault h = (0, (let is : BadBundle 1 ≡ fault = cc in sym is), record {
+  good = λ some. absurd (omega (arith, some));
+  bad = λ spelling. let s = spelling.1.spelled in cc;
+})
+said_refused (line ∷ lines) fault h = first_line line lines fault (bundle_line_of line) refl h
+
+pub first_bad_is_told : FirstBadIsTold
+unfolding bundle_of
+first_bad_is_told text fault h = said_refused _ fault h

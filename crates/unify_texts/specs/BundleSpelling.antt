@@ -1,12 +1,15 @@
 -- How a bundle is spelled, apart from any reader. Source: this product's own formats.
-use Rattle.std.specs.Prelude.{◌≡◌, ℕ, List, [], ◌∷◌, ◌++◌, map, IsTrue, codes, Ok}
+use Rattle.std.specs.Prelude.{◌≡◌, ℕ, ◌+◌, ◌<◌, List, [], ◌∷◌, ◌++◌, map, take, IsTrue, codes, Ok, Err}
 use Rattle.std.specs.List.{flat_map, list_all, IsDistinct}
+use Rattle.idtext.specs.Faults.{line_number}
 use Rattle.idtext.specs.Pieces.{lines as lines_of}
 use Rattle.unify_texts.specs.declared.bundle_line.FileName.{FileName}
 use Rattle.unify_texts.specs.declared.bundle_line.Command.TheVariants.{Rehearse}
 use Rattle.unify_texts.specs.declared.places.NamedFile.{NamedFile}
 use Rattle.unify_texts.specs.declared.places.Place.{Place}
 use Rattle.unify_texts.specs.declared.bundle.Bundle.{Bundle}
+use Rattle.unify_texts.specs.declared.fault.Fault.{Fault}
+use Rattle.unify_texts.specs.declared.fault.Fault.TheVariants.{BadBundle}
 use Rattle.unify_texts.specs.BundleLines.{file_word, command_word, same_file}
 use Rattle.unify_texts.specs.Bundles.{is_among, head_files, host_files, bundle_of}
 
@@ -48,6 +51,14 @@ pub record SpellsBundle (bundle : Bundle) (lines : List (List ℕ)) : Type 0 whe
 
 -- ---- laws
 
+abbrev pub IsSpelling : List (List ℕ) → Type 0
+IsSpelling lines = (bundle : Bundle) × SpellsBundle bundle lines
+
+-- The first bad line has so many lines before it: these spell a bundle, if there are any, and with it they spell none.
+pub record IsFirstBad (lines : List (List ℕ)) (before : ℕ) : Type 0 where
+  pub good : 0 < before → IsSpelling (take before lines)
+  pub bad : ¬ IsSpelling (take (before + 1) lines)
+
 -- what is read from a text is spelled by its lines
 abbrev pub ReadsWhatIsSpelled : Type 0
 ReadsWhatIsSpelled = (text : List ℕ) (bundle : Bundle) → bundle_of text ≡ Ok bundle → SpellsBundle bundle (lines_of text)
@@ -55,3 +66,7 @@ ReadsWhatIsSpelled = (text : List ℕ) (bundle : Bundle) → bundle_of text ≡ 
 -- and what a text's lines spell is read from it
 abbrev pub SpelledIsRead : Type 0
 SpelledIsRead = (text : List ℕ) (bundle : Bundle) → SpellsBundle bundle (lines_of text) → bundle_of text ≡ Ok bundle
+
+-- where they spell none, the first bad line is told
+abbrev pub FirstBadIsTold : Type 0
+FirstBadIsTold = (text : List ℕ) (fault : Fault) → bundle_of text ≡ Err fault → (before : ℕ) × (fault ≡ BadBundle (line_number before)) × IsFirstBad (lines_of text) before

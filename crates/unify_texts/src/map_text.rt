@@ -1,4 +1,4 @@
-//! The map text.
+//! The map text. The format is this product's own.
 
 ghost use Rattle.std.specs.Prelude.{◌≡◌, ◌++◌, IfOk, OnErr, if◌then◌else◌};
 ghost use Rattle.idtext.specs.First.{Gives};
@@ -14,7 +14,9 @@ use std::alloc::{AllocError, Global};
 /// The pairs of names and numbers of a map text.
 #[derive(Drop)]
 pub struct MapText<'a> {
+    /// The users and their numbers, in the order of their lines; no name twice.
     pub users: PairTable<'a>,
+    /// The groups and their numbers, in the order of their lines; no name twice.
     pub groups: PairTable<'a>,
 }
 
@@ -40,7 +42,11 @@ fn take_line<'a>(map: &mut MapText<'a>, line: PairLine<'a>) -> Result<bool, Allo
     }
 }
 
-/// Reads a map text: the pairs of each kind, in the order of their lines.
+/// Reads a map text: the pairs of each kind, in the order of their lines, or `BadMap` with its first bad line.
+///
+/// A line is bad where it is neither skipped nor a lawful pair, or where its name stands before it for the same
+/// kind. A number may come twice. Goes over the text once, with a hash look-up a pair; takes memory in the number
+/// of pairs, and the names are slices of the text. `Memory` where a growth was refused.
 pub fn read_map<'a>(alloc: Global, text: &'a [u8]) -> Result<MapText<'a>, Fault<'a>>
     ensures { Gives (λ map. map) told result (map_of text.now) }
 {
