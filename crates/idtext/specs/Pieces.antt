@@ -1,4 +1,5 @@
 -- The pieces of a text between separators, its lines and its fields.
+-- Source: passwd(5) and group(5), DESCRIPTION: one entry a line, its fields between colons.
 use Rattle.std.specs.Prelude.{ℕ, Bool, List, [], ◌∷◌, ◌==◌, Option, Some, None, bytes_eq, take, length}
 use Rattle.std.specs.List.{slice_split}
 
