@@ -19,7 +19,7 @@ use Rattle.idtext.specs.declared.faults.ReadError.{ReadError}
 use Rattle.idtext.specs.declared.faults.ReadError.TheVariants.{Memory, Fault}
 use Rattle.mtree_inv.specs.declared.entry.Entry.{Entry}
 use Rattle.mtree_inv.specs.Files.{IsLawfulPath, IsLawfulFile, AreFiles}
-use Rattle.mtree_inv.specs.Laws.{SeparatorsAreRefused}
+use Rattle.mtree_inv.specs.Laws.{SeparatorsAreRefused, InventoriesAreFiles, ReadersHaveFiles}
 use Rattle.mtree_inv.specs.Logical.{LogicalLine, logical_lines}
 use Rattle.mtree_inv.specs.Kinds.{Kind, TooLong, Cut, Ignored, Sets, Unsets, Unknown, Up, Names, kind_of}
 use Rattle.mtree_inv.specs.Keywords.{has_lawful_numbers, number_in_force, in_force, is_directory}
@@ -32,7 +32,7 @@ use Rattle.mtree_inv.proofs.LookingLemmas.{looking_back-snoc}
 use Rattle.mtree_inv.proofs.FileLemmas.{after_said, files_of-snoc}
 use Rattle.mtree_inv.proofs.RunLemmas.{kinds-snoc}
 use Rattle.mtree_inv.proofs.CleanLemmas.{IsClean, OpensClean, components_clean, entry_clean}
-use Rattle.mtree_inv.proofs.FewLemmas.{none_of_both, no_fault, told_ok}
+use Rattle.mtree_inv.proofs.RoomLemmas.{one_more, none_of_both, no_fault, told_ok}
 
 -- ---- one line
 
@@ -134,19 +134,25 @@ said_files fs (Ok (Some file)) h s = one_file fs file h s
 
 -- ---- lines
 
--- what lines without a fault say is lawful, and so is what they open
-record IsSound (lines : List LogicalLine) : Type 0 where
+-- files that may be found in lines
+abbrev AreFound : ℕ → List Entry → Type 0
+AreFound most fs = AreFiles fs × (length fs ≤ most)
+
+-- what lines without a fault say is lawful, and not too much, and what they open is clean
+record IsSound (most : ℕ) (lines : List LogicalLine) : Type 0 where
   files : AreFiles (files_of (kinds lines))
+  few : length (files_of (kinds lines)) ≤ most
   opens : All OpensClean (marks (kinds lines))
 
-none_sound : IsSound []
+none_sound : (most : ℕ) → IsSound most []
 unfolding files_of named first_appearances
-none_sound = record {
+none_sound most = record {
+  few = omega arith;
   files = record { distinct = λ i j d before within. absurd (omega (arith, within)); lawful = All-nil IsLawfulFile };
   opens = All-nil OpensClean;
 }
 
-line_sound : (most : ℕ) (before : List LogicalLine) (line : LogicalLine) → IsSound before → fault_of most (kinds before) (kind_of line) ≡ None → IsSound (before ++ line ∷ [])
+line_sound : (most : ℕ) (before : List LogicalLine) (line : LogicalLine) → IsSound most before → fault_of most (kinds before) (kind_of line) ≡ None → IsSound most (before ++ line ∷ [])
 unfolding fault_of
 line_sound most before line h fine =
     let ks = kinds before in
@@ -154,19 +160,20 @@ line_sound most before line h fine =
     let more : AreFiles (after_said (files_of ks) (file_said said)) = said_files (files_of ks) said h.files (said_lawful ks (kind_of line) h.opens) in
     let open_more : All OpensClean (marks ks ++ mark_of ks (kind_of line) ∷ []) = All-push OpensClean (marks ks) (mark_of ks (kind_of line)) h.opens (opens_clean ks most (files_of ks) (kind_of line) fine) in
     record {
+      few = one_more most before line h.few fine;
       files = subst AreFiles (sym (ap files_of (kinds-snoc before line) ∙ files_of-snoc ks (kind_of line))) more;
       opens = subst (λ (ms : List Mark). All OpensClean ms) (sym (ap marks (kinds-snoc before line) ∙ looking_back-snoc mark_of ks (kind_of line))) open_more;
     }
 
-accepted_sound : (most : ℕ) (before rest : List LogicalLine) → IsSound before → IsSound (before ++ accepted_from most before rest)
-accepted_sound most before [] h = subst IsSound (sym (append-nil before)) h
+accepted_sound : (most : ℕ) (before rest : List LogicalLine) → IsSound most before → IsSound most (before ++ accepted_from most before rest)
+accepted_sound most before [] h = subst (IsSound most) (sym (append-nil before)) h
 accepted_sound most before (line ∷ rest) h = by (fault_of most (kinds before) (kind_of line)) refl (accepted_sound most (before ++ line ∷ []) rest)
   where
     by : (o : Option TextCode) → fault_of most (kinds before) (kind_of line) ≡ o
-        → (IsSound (before ++ line ∷ []) → IsSound ((before ++ line ∷ []) ++ accepted_from most (before ++ line ∷ []) rest))
-        → IsSound (before ++ cond (is_none o) (line ∷ accepted_from most (before ++ line ∷ []) rest) [])
-    by None e later = subst IsSound (append_assoc before (line ∷ []) (accepted_from most (before ++ line ∷ []) rest)) (later (line_sound most before line h e))
-    by (Some code) e later = subst IsSound (sym (append-nil before)) h
+        → (IsSound most (before ++ line ∷ []) → IsSound most ((before ++ line ∷ []) ++ accepted_from most (before ++ line ∷ []) rest))
+        → IsSound most (before ++ cond (is_none o) (line ∷ accepted_from most (before ++ line ∷ []) rest) [])
+    by None e later = subst (IsSound most) (append_assoc before (line ∷ []) (accepted_from most (before ++ line ∷ []) rest)) (later (line_sound most before line h e))
+    by (Some code) e later = subst (IsSound most) (sym (append-nil before)) h
 
 all_accepted : (most : ℕ) (before rest : List LogicalLine) → first_fault (numbered_fault most) before rest ≡ None → accepted_from most before rest ≡ rest
 unfolding first_fault
@@ -178,41 +185,46 @@ all_accepted most before (line ∷ rest) e =
 
 -- ---- texts
 
-accepted_files : (most : ℕ) (lines : List LogicalLine) → AreFiles (files_of (kinds (accepted most lines)))
-accepted_files most lines = (accepted_sound most [] lines none_sound).files
+accepted_files : (most : ℕ) (lines : List LogicalLine) → AreFound most (files_of (kinds (accepted most lines)))
+accepted_files most lines =
+    let sound = accepted_sound most [] lines (none_sound most) in
+    (sound.files, sound.few)
 
 -- the files of lines
-pub lines-files : (most : ℕ) (lines : List LogicalLine) (fs : List Entry) → inventory_of_lines most lines ≡ Ok fs → AreFiles fs
+lines-files : (most : ℕ) (lines : List LogicalLine) (fs : List Entry) → inventory_of_lines most lines ≡ Ok fs → AreFound most fs
 unfolding inventory_of_lines
 lines-files most lines fs e =
     let told = told_ok (first_fault (numbered_fault most) [] lines) (files_of (kinds lines)) fs e in
-    subst AreFiles (ap (λ (ls : List LogicalLine). files_of (kinds ls)) (all_accepted most [] lines told.0) ∙ told.1) (accepted_files most lines)
+    subst (AreFound most) (ap (λ (ls : List LogicalLine). files_of (kinds ls)) (all_accepted most [] lines told.0) ∙ told.1) (accepted_files most lines)
 
 -- the files of an inventory
-pub inventory-files : (most : ℕ) (text : List ℕ) (fs : List Entry) → inventory most text ≡ Ok fs → AreFiles fs
+pub inventory-files : InventoriesAreFiles
 unfolding inventory
 inventory-files most text fs e = lines-files most (logical_lines text) fs e
 
 -- the first of some files
-front_files : (fs more : List Entry) → AreFiles (fs ++ more) → AreFiles fs
-front_files fs more h = record {
-  distinct = λ i j d before within.
-      let long : j < length (fs ++ more) = omega (arith, within, length-append fs more) in
-      let here : (get_or (fs ++ more) i d).path ≢ (get_or (fs ++ more) j d).path = h.distinct i j d before long in
-      rw (get_or_append_left fs more d i (omega (arith, before, within)), get_or_append_left fs more d j within) at here;
-  lawful = λ k d within.
-      let long : k < length (fs ++ more) = omega (arith, within, length-append fs more) in
-      subst IsLawfulFile (get_or_append_left fs more d k within) (h.lawful k d long);
-}
+front_files : (most : ℕ) (fs more : List Entry) → AreFound most (fs ++ more) → AreFound most fs
+front_files most fs more found = (front_lawful found.0, omega (arith, found.1, length-append fs more))
+  where
+    front_lawful : AreFiles (fs ++ more) → AreFiles fs
+    front_lawful h = record {
+      distinct = λ i j d before within.
+          let long : j < length (fs ++ more) = omega (arith, within, length-append fs more) in
+          let here : (get_or (fs ++ more) i d).path ≢ (get_or (fs ++ more) j d).path = h.distinct i j d before long in
+          rw (get_or_append_left fs more d i (omega (arith, before, within)), get_or_append_left fs more d j within) at here;
+      lawful = λ k d within.
+          let long : k < length (fs ++ more) = omega (arith, within, length-append fs more) in
+          subst IsLawfulFile (get_or_append_left fs more d k within) (h.lawful k d long);
+    }
 
-standing_files : (fault : Option ReadError) (finished : Bool) (reader : ReaderValue) (text : List ℕ) → StandsAt fault finished reader text → AreFiles (files reader)
+standing_files : (fault : Option ReadError) (finished : Bool) (reader : ReaderValue) (text : List ℕ) → StandsAt fault finished reader text → AreFound reader.most (files reader)
 standing_files None false reader text h = lines-files reader.most _ (files reader) h.1
 standing_files None true reader text h = inventory-files reader.most text (files reader) h
-standing_files (Some (Fault fault)) finished reader text h = subst AreFiles h.4 (accepted_files reader.most (logical_lines h.0))
-standing_files (Some Memory) finished reader text h = front_files (files reader) h.2 (subst AreFiles h.4 (accepted_files reader.most (logical_lines h.0)))
+standing_files (Some (Fault fault)) finished reader text h = subst (AreFound reader.most) h.4 (accepted_files reader.most (logical_lines h.0))
+standing_files (Some Memory) finished reader text h = front_files reader.most (files reader) h.2 (subst (AreFound reader.most) h.4 (accepted_files reader.most (logical_lines h.0)))
 
 -- the files of a reader that stands for a text
-pub reader-files : (reader : ReaderValue) (text : List ℕ) → StandsFor reader text → AreFiles (files reader)
+pub reader-files : ReadersHaveFiles
 reader-files reader text h = standing_files reader.fault reader.is_finished reader text h
 
 separator : (b : ℕ) → (b ≡ 47) ⊎ (b ≡ 0) → ((b == 47) || (b == 0)) ≡ true

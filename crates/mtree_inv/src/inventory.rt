@@ -11,7 +11,7 @@ use idtext::ReadError;
 use std::alloc::Global;
 use std::marker::Model;
 
-/// The files of a text, in order of first appearance.
+/// The files of an mtree text, each path once, in order of first appearance.
 #[derive(Drop)]
 pub struct Inventory {
     entries: Vec<Entry>,
@@ -33,7 +33,7 @@ impl Inventory {
     ghost use Rattle.std.specs.Prelude.{◌≡◌};
     ghost use Rattle.mtree_inv.specs.Files.{AreFiles};
 
-    /// Its files.
+    /// Its files. They have paths of their own, of 1 to 65,535 bytes without NUL, and numbers of at most 4294967294. Takes no memory.
     pub fn entries(&self) -> &[Entry]
         ensures files { result.now ≡ self.now }
         ensures lawful { AreFiles self.now }
@@ -56,7 +56,13 @@ fn all_entries(alloc: Global, reader: Reader) -> Result<Vec<Entry>, ReadError>
     Ok(entries)
 }
 
-/// Reads the inventory of a text with at most `most` files.
+/// Reads the inventory of a whole mtree text, of at most `most` files, by mtree(5) and the profile that this crate's page states.
+///
+/// The answer is `ReadError::Fault` exactly where the text has a fault, with the first: by line, and on one line `LineTooLong`,
+/// `CutContinuation`, `BadCommand`, `DotDotAbove`, `BadPath`, `BadNumber`, `NoUid`, `NoGid`, `OwnersDiffer`, `TooManyEntries`, in this
+/// order. The line is counted from 1, and of lines that are joined it is the first. `ReadError::Memory` says that memory was refused.
+///
+/// One pass over the text, with one hash look-up for each entry. Each path stands in memory twice until the call returns.
 pub fn read_inventory(alloc: Global, text: &[u8], most: u32) -> Result<Inventory, ReadError>
     ensures exact { Gives (λ inventory. inventory) fault_told result (inventory most text.now) }
     ensures few { IfOk result (λ inventory. length inventory ≤ most) }

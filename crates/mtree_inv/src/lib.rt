@@ -1,4 +1,13 @@
 //! Inventories of files and their owners, as mtree texts give them.
+//!
+//! From mtree(5) come the kinds of line, `/set` and `/unset`. Where implementations differ, this project has a profile of its own:
+//!
+//! - A line that ends in a backslash is joined with the next, before anything else is looked at. A joined line has at most 65,535 bytes.
+//! - Of several keywords with one key on a line the last counts. `uid`, `gid` and `type` matter, the others are read over.
+//! - An entry with a `/` is a path from the starting directory and never opens a directory. Another entry is a name in the
+//!   directory that was opened last and is still open, and opens one where its `type`, its own or by `/set`, is `dir`. A line `..` closes that directory.
+//! - A path is split at `/`, then unescaped; components that are empty or `.` vanish, and `..`, a `/` and a NUL byte are in none.
+//! - A path that comes twice with one owner is one file; with two owners it is a fault.
 #![tactic(auto)]
 
 mod defaults;

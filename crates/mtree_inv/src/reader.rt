@@ -7,7 +7,11 @@ use idtext::ReadError;
 use std::alloc::Global;
 use std::marker::Model;
 
-/// Reads the inventory of a text that comes in pieces. Entries can be taken while it reads.
+/// Reads the inventory of an mtree text that comes in pieces, however it is cut, by mtree(5) and the profile that this crate's page
+/// states. Files can be taken while it reads.
+///
+/// It keeps each path once and the line in progress, of which it keeps 65,535 bytes at most, and not the text. A file that waits to be
+/// taken has a copy of its path.
 #[derive(Drop)]
 pub struct Reader {
     parts: Parts,
@@ -33,7 +37,7 @@ impl Reader {
     ghost use Rattle.mtree_inv.specs.Standing.{StandsFor, GrowAlike, files};
     ghost use Rattle.idtext.specs.Faults.{fault_told};
 
-    /// A reader of a text with at most `most` files, of which nothing has come.
+    /// A reader of a text with at most `most` files, of which nothing has come. Takes no memory yet: `alloc` is where it will grow.
     pub fn new(alloc: Global, most: u32) -> Self
         ensures stands { StandsFor result [] }
         ensures most { result.most ≡ most }
@@ -49,8 +53,11 @@ impl Reader {
         }
     }
 
-    /// Takes the next piece of the text. It refuses exactly where the whole logical lines so far have a fault, with the
-    /// first, and after a fault always with that one.
+    /// Takes the next piece of the text, which must not be finished. The answer is `ReadError::Fault` exactly where the whole logical
+    /// lines so far have a fault, with the first, and `ReadError::Memory` where memory was refused. After a fault, `Memory` too, it is
+    /// always that one and nothing changes; files read before it can still be taken.
+    ///
+    /// One pass over the piece, with one hash look-up for each entry.
     pub fn feed(&mut self, piece: &[u8]) -> Result<(), ReadError>
         requires { self.old.is_finished ≡ false }
         ensures stands { (text : List ℕ) → StandsFor self.old text → StandsFor self.new (text ++ piece.now) }
@@ -74,7 +81,10 @@ impl Reader {
         }
     }
 
-    /// Takes the end of the text. It refuses exactly where the text has a fault, with the first.
+    /// Takes the end of the text, which must not be finished. The answer is `ReadError::Fault` exactly where the whole text has a fault,
+    /// with the first, and `ReadError::Memory` where memory was refused. After a fault it is always that one and nothing changes.
+    ///
+    /// At most one line, the last, is still to be read here.
     pub fn finish(&mut self) -> Result<(), ReadError>
         requires { self.old.is_finished ≡ false }
         ensures stands { (text : List ℕ) → StandsFor self.old text → StandsFor self.new text }
@@ -99,14 +109,14 @@ impl Reader {
         }
     }
 
-    /// Whether a `finish` was answered with `Ok`.
+    /// Whether a `finish` was answered with `Ok`. Takes no memory.
     pub fn is_finished(&self) -> bool
         ensures { result ≡ self.now.is_finished }
     {
         self.is_finished
     }
 
-    /// The next file of those so far, until all were handed out. It takes no memory.
+    /// The next of the files so far, in order of first appearance, until all were handed out. Takes no memory, and constant time.
     pub fn next_entry(&mut self) -> Option<Entry>
         ensures next { MatchOption result ((self.old.waiting ≡ []) × (self.new.waiting ≡ [])) (λ entry. self.old.waiting ≡ entry ∷ self.new.waiting) }
         ensures stays { self.new ≡ record self.old { waiting = self.new.waiting } }

@@ -23,7 +23,7 @@ invariant_of-result c =
     let fed = grown_same _ _ _ _ (c.new-reader.ensures.files ∙ sym c.new-reader.ensures.waiting) c.feed.ensures.grow in
     let all = grown_same _ _ _ _ fed c.finish.ensures.grow in
     let stands = c.finish.ensures.stands c.args.text.now (c.feed.ensures.stands [] c.new-reader.ensures.stands) in
-    subst AreFiles (all ∙ sym c.in_ok-entries.ensures) (reader-files c.finish.new.self c.args.text.now stands)
+    subst AreFiles (all ∙ sym c.in_ok-entries.ensures) (reader-files c.finish.new.self c.args.text.now stands).0
 
 pub returns-clause-few : goal.returns-clause-few
 returns-clause-few c =
