@@ -8,6 +8,9 @@ pub mod Views
 pub mod Pairs
 pub mod PairTable
 pub mod PairLines
+pub mod PinPairs
+pub mod PinsText
+pub mod PinsInside
 pub mod Clash
 pub mod PoolInside
 pub mod NamesInside

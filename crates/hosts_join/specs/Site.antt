@@ -5,7 +5,7 @@ use Rattle.hosts_join.specs.declared.fault.SiteFault.{SiteFault}
 use Rattle.hosts_join.specs.Kinds.{user_rows, group_rows}
 use Rattle.hosts_join.specs.Rules.{joined}
 use Rattle.hosts_join.specs.declared.Which.TheVariants.{User, Group}
-use Rattle.hosts_join.specs.declared.host.Pins.{Pins}
+use Rattle.hosts_join.specs.PinPairs.{PinPairs}
 use Rattle.logindefs.specs.declared.ranges.IdRange.{IdRange}
 use Rattle.logindefs.specs.declared.ranges.HostRanges.{HostRanges}
 use Rattle.hosts_join.specs.Accounts.{Accounts, HostEntry, Pair, rows_from, grouped}
@@ -24,12 +24,12 @@ pub record Joined : Type 0 where
   pub groups : Accounts
   pub hosts : ℕ
 
-abbrev pub users_of : List Host → Pins → Accounts
+abbrev pub users_of : List Host → PinPairs → Accounts
 users_of hosts pins = accounts_of (λ r. r.uid) (λ r. r.sys_uid) (λ h. user_rows h.users) hosts pins.users
 
-abbrev pub groups_of : List Host → Pins → Accounts
+abbrev pub groups_of : List Host → PinPairs → Accounts
 groups_of hosts pins = accounts_of (λ r. r.gid) (λ r. r.sys_gid) (λ h. group_rows h.groups) hosts pins.groups
 
 -- users first, then groups
-abbrev pub joined_site : List Host → Pins → Result Joined SiteFault
+abbrev pub joined_site : List Host → PinPairs → Result Joined SiteFault
 joined_site hosts pins = joined User (users_of hosts pins) >>= λ users. joined Group (groups_of hosts pins) >>= λ groups. Ok (record { users = users; groups = groups; hosts = length hosts })

@@ -1,6 +1,5 @@
-//! A host, and the pins.
+//! A host.
 
-use crate::PairTable;
 use accounts::{GroupTable, PasswdTable};
 use idtext::Name;
 use logindefs::HostRanges;
@@ -14,11 +13,4 @@ pub struct Host<'a> {
     pub ranges: HostRanges,
     pub users: PasswdTable<'a>,
     pub groups: GroupTable<'a>,
-}
-
-/// The pins of both kinds.
-#[derive(Drop)]
-pub struct Pins<'a> {
-    pub users: PairTable<'a>,
-    pub groups: PairTable<'a>,
 }

@@ -13,7 +13,7 @@ pub trait Kind {
     ghost use Rattle.logindefs.specs.declared.ranges.HostRanges.{HostRanges};
     ghost use Rattle.hosts_join.specs.declared.Which.{Which};
     ghost use Rattle.hosts_join.specs.declared.host.Host.{Host};
-    ghost use Rattle.hosts_join.specs.declared.host.Pins.{Pins};
+    ghost use Rattle.hosts_join.specs.PinPairs.{PinPairs, ArePins};
     ghost use Rattle.hosts_join.specs.Hosts.{IsLawfulHost};
     ghost use Rattle.hosts_join.specs.Accounts as spec;
 
@@ -28,7 +28,7 @@ pub trait Kind {
     ghost system_range: { HostRanges → IdRange };
 
     // The pins of the kind, in order of their lines.
-    ghost pinned: { Pins → List spec.Pair };
+    ghost pinned: { PinPairs → List spec.Pair };
 
     // The number of the kind among an owner's two.
     ghost number_of: { ℕ → ℕ → ℕ };
@@ -54,7 +54,8 @@ pub trait Kind {
         ensures { result ≡ system_range ranges.now };
 
     fn pins<'p, 'a>(pins: &'p Pins<'a>) -> &'p PairTable<'a>
-        ensures { result.now ≡ pinned pins.now };
+        ensures pairs { result.now ≡ pinned pins.now }
+        ensures lawful { ArePins result.now };
 
     fn pick(uid: u32, gid: u32) -> u32
         ensures { result ≡ number_of uid gid };
@@ -115,7 +116,7 @@ impl Kind for Users {
     }
 
     fn pins<'p, 'a>(pins: &'p Pins<'a>) -> &'p PairTable<'a> {
-        &pins.users
+        pins.user_pins()
     }
 
     fn pick(uid: u32, _gid: u32) -> u32 {
@@ -170,7 +171,7 @@ impl Kind for Groups {
     }
 
     fn pins<'p, 'a>(pins: &'p Pins<'a>) -> &'p PairTable<'a> {
-        &pins.groups
+        pins.group_pins()
     }
 
     fn pick(_uid: u32, gid: u32) -> u32 {

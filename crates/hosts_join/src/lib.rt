@@ -13,18 +13,20 @@ mod members;
 mod names;
 mod pair_lines;
 mod pairs;
+mod pins;
 mod pool;
 mod texts;
 
 pub use checks::{check_hosts, check_primary};
-pub use fault::{PoolClass, SiteFault};
-pub use host::{Host, Pins};
+pub use fault::{PinsFault, PoolClass, SiteFault};
+pub use host::Host;
 pub use joining::{Site, join, join_kind};
 pub use kind::{Groups, Kind, Users};
 use logindefs::IdRange;
 pub use names::Names;
 pub use pair_lines::{PairLine, pair_line};
 pub use pairs::PairTable;
+pub use pins::Pins;
 pub use pool::Pool;
 pub use texts::HostText;
 

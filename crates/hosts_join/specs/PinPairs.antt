@@ -1,0 +1,21 @@
+-- The pins: names with the numbers that they are to have.
+use Rattle.std.specs.Prelude.{ℕ, ◌≤◌, List, map}
+use Rattle.std.specs.List.{All}
+use Rattle.accounts.specs.Laws.{AreDistinct}
+use Rattle.hosts_join.specs.Accounts.{Pair}
+
+-- the pins of both kinds, in the order of their lines
+pub record PinPairs : Type 0 where
+  pub users : List Pair
+  pub groups : List Pair
+
+-- Each name has one pin, each number is one name's, and an account may have the number: 4294967295 is no id, as it tells
+-- chown(2) to leave an owner as it is.
+pub record ArePins (pairs : List Pair) : Type 0 where
+  pub names_differ : AreDistinct (map (λ p. p.name) pairs)
+  pub numbers_differ : AreDistinct (map (λ p. p.number) pairs)
+  pub ids : All (λ p. p.number ≤ 4294967294) pairs
+
+pub record ArePinPairs (pins : PinPairs) : Type 0 where
+  pub user_pins : ArePins pins.users
+  pub group_pins : ArePins pins.groups
