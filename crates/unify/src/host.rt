@@ -60,7 +60,7 @@ pub fn site_fault(fault: SiteFault<'_>) -> Fault<'_>
             kind,
             name,
             first,
-            second,
+            second: second.unwrap_or(Name::new(b"")),
         },
         SiteFault::PinClash {
             kind,

@@ -12,7 +12,7 @@ mod places;
 
 pub use bundle::{Bundle, read_bundle};
 pub use bundle_line::{Command, FileName};
-pub use fault::{Fault, PoolClass};
+pub use fault::Fault;
 pub use fault_text::push_fault;
 pub use laws::bundles_are_spelled;
 pub use map_text::{MapText, read_map};
