@@ -6,7 +6,6 @@ use Rattle.std.proofs.Math.Seq.{get_or-append_seam}
 use Rattle.std.proofs.lemmas.Bool.{eqb-true}
 use Rattle.std.proofs.lemmas.List.{append_assoc, get_or_append_left, length-append, map-append}
 use Rattle.std.proofs.lemmas.Slice.Eq.{bytes_eq-Decides}
-use Rattle.idtext.specs.declared.faults.TextCode.{TextCode}
 use Rattle.idtext.specs.declared.faults.TextCode.TheVariants.{NameTwice, SharedNumber}
 use Rattle.idtext.specs.declared.faults.TextFault.{TextFault}
 use Rattle.idtext.specs.First.{or_else, first_fault, unless}

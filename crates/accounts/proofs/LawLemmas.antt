@@ -1,17 +1,17 @@
 -- Names and numbers of a table are distinct, no number is too great, and there are not too many rows.
 use Rattle.std.proofs.Common.{◌≡◌, ◌⊎◌, ℕ, zero, suc, ◌+◌, ◌-◌, ◌<◌, ◌≤◌, Bool, true, false, cond, List, [], ◌∷◌, ◌++◌, length, map, get_or, refl, sym, ap, ◌∙◌, arith, Option, Some, None, Result, Ok, Err, bytes_eq, nat_eq, subst, inl, inr}
-use Rattle.std.specs.Prelude.{◌&&◌, ◌||◌, nat_le, nat_lt}
+use Rattle.std.specs.Prelude.{◌&&◌, nat_le, nat_lt}
 use Rattle.std.specs.List.{list_any, list_all}
 use Rattle.std.specs.Char.{digit_value}
 use Rattle.std.specs.Str.Parse.{digits_value}
-use Rattle.std.proofs.lemmas.Bool.{true≢false, and_parts, or_parts, both_ways, eq-eqb, ltb-false, leb-true, cases_Bool}
-use Rattle.std.proofs.lemmas.List.{append-nil, append_assoc, map_push, get_or_append_left, get_or-append_right, length-append, length-map}
+use Rattle.std.proofs.lemmas.Bool.{true≢false, or_parts, eq-eqb, ltb-false, leb-true}
+use Rattle.std.proofs.lemmas.List.{append-nil, append_assoc, map_push, get_or_append_left, length-append, length-map}
 use Rattle.std.proofs.lemmas.Slice.Eq.{bytes_eq-Decides}
 use Rattle.idtext.specs.declared.faults.TextCode.{TextCode}
 use Rattle.idtext.specs.declared.faults.TextCode.TheVariants.{NameTwice, SharedNumber}
 use Rattle.idtext.specs.declared.faults.TextFault.{TextFault}
 use Rattle.idtext.specs.First.{◌>>=◌, or_else, first_fault, unless}
-use Rattle.idtext.specs.Numbers.{id_of, numeral, is_numeral}
+use Rattle.idtext.specs.Numbers.{id_of, numeral}
 use Rattle.idtext.specs.Pieces.{lines, fields_of}
 use Rattle.accounts.specs.Laws.{AreDistinct, AreIds, IsTable, IsPasswdTable, HavePrimaryGroups, IsGroupTable}
 use Rattle.idtext.specs.Names.{is_lawful_name}
