@@ -37,7 +37,7 @@ takes_is : (command : Command) (d : Draft) (back : List BundleLine) (line : Bund
 takes_is command d back (Run other) t = refl
 takes_is command d back (File file) t =
     let lists : (if d.in_head then head_files d.command else host_files) ≡ listed_here command back =
-        rw (t.head, t.command_is) (if_not (list_any is_host_line back) (head_files command) host_files) in
+    rw (t.head, t.command_is) (if_not (list_any is_host_line back) (head_files command) host_files) in
     ap (λ fs. is_among file fs && not (has_file (closed d).files file)) lists
     ∙ ap (λ b. is_among file (listed_here command back) && not b) (t.had file)
 takes_is command d back (Host name) t = ap (λ c. not (is_rehearsal c)) t.command_is

@@ -163,7 +163,18 @@ record Spelled (command : Command) (back : List BundleLine) (lines : List (List 
 spelled_none : (command : Command) (back : List BundleLine) → Spelled command back [] []
 unfolding IsDistinct
 spelled_none command back = record {
-  contents = []; file_lines = []; host_lines = []; whole = refl; none = λ _. refl; text = refl; files = refl; allowed = refl; once = tt; fresh = tt; hosts = refl; no_hosts = λ _. refl;
+  contents = [];
+  file_lines = [];
+  host_lines = [];
+  whole = refl;
+  none = λ _. refl;
+  text = refl;
+  files = refl;
+  allowed = refl;
+  once = tt;
+  fresh = tt;
+  hosts = refl;
+  no_hosts = λ _. refl;
 }
 
 spelled_line : (command : Command) (back : List BundleLine) (line : List ℕ) (lines : List (List ℕ)) (v : BundleLine) (said : List BundleLine) → IsSaid line v → may_follow command back v ≡ true → Spelled command (v ∷ back) lines said → Spelled command back (line ∷ lines) (v ∷ said)
@@ -262,6 +273,7 @@ said_spelled (line ∷ lines) bundle h = first (bundle_line_of line) (line_said 
         let same : bundle_with command (says lines) ≡ bundle = cc in
         subst (λ (b : Bundle). SpellsBundle b (line ∷ lines)) same (spelled_bundle command line lines is (spelled_lines command lines [] e))
     judged command is (Some f) e g = absurd cc
+
     first : (v : BundleLine) → IsSaid line v → bundle_saying (v ∷ says lines) ≡ Ok bundle → SpellsBundle bundle (line ∷ lines)
     first (Run command) is g = judged command is (first_fault (bundle_fault command) [] (says lines)) refl g
     first (File file) is g = absurd cc
@@ -321,7 +333,7 @@ module _ (command : Command) (hosts : List Place) (tail : List (List ℕ)) (here
   gives_file named files first rest back had begun place spells allowed fresh again =
       let g = gives_contents command files hosts (rest ++ tail) (named.file ∷ had) here again spells.contents (File named.file ∷ back) refl (ap (λ fs. named.file ∷ fs) begun) place in
       let lines_are : (first ++ rest) ++ tail ≡ (codes "file " ++ file_word named.file) ∷ (map bar spells.contents ++ (rest ++ tail)) =
-          append_assoc first rest tail ∙ ap (λ ls. ls ++ (rest ++ tail)) spells.spelled in
+      append_assoc first rest tail ∙ ap (λ ls. ls ++ (rest ++ tail)) spells.spelled in
       let listed : is_among named.file (listed_here command back) ≡ true = ap (λ b. is_among named.file (listed_at command b)) place ∙ allowed in
       let unused : is_among named.file (begun_here back) ≡ false = ap (is_among named.file) begun ∙ fresh in
       rw (lines_are, file_read) (record {
@@ -340,7 +352,7 @@ module _ (command : Command) (hosts : List Place) (tail : List (List ℕ)) (here
       let mine = first_true (is_among named.file (listed_at command here)) (list_all (λ n. is_among n.file (listed_at command here)) files) allowed in
       let theirs = second_true (is_among named.file (listed_at command here)) (list_all (λ n. is_among n.file (listed_at command here)) files) allowed in
       let still = each_both (λ f. same_file named.file f ≡ false) (λ f. is_among f had ≡ false) (λ f. is_among f (named.file ∷ had) ≡ false)
-          (λ f p q. both_false (same_file f named.file) (is_among f had) (same_back (file_index named.file) (file_index f) p) q) (names files) once.0 fresh.1 in
+      (λ f p q. both_false (same_file f named.file) (is_among f had) (same_back (file_index named.file) (file_index f) p) q) (names files) once.0 fresh.1 in
       rw is (gives_file named files first rest back had begun place one mine fresh.0
       (λ later b p. gives_files files rest later (named.file ∷ had) b p more theirs once.1 still))
 
@@ -375,10 +387,10 @@ gives_hosts command (host ∷ hosts) lines back (first, rest, is, one, more) non
 spelled_said : (lines : List (List ℕ)) (bundle : Bundle) → SpellsBundle bundle lines → bundle_saying (says lines) ≡ Ok bundle
 spelled_said lines bundle s =
     let g = gives_files bundle.command s.hosts s.host_lines false (λ later. gives_hosts bundle.command s.hosts s.host_lines later s.each_host s.no_hosts)
-        s.head s.head_lines [] [] refl refl s.files.spelled s.files.allowed s.files.once (none_had (names s.head)) in
+    s.head s.head_lines [] [] refl refl s.files.spelled s.files.allowed s.files.once (none_had (names s.head)) in
     let fine : first_fault (bundle_fault bundle.command) [] (says (s.head_lines ++ s.host_lines)) ≡ None = follow_judged bundle.command (says (s.head_lines ++ s.host_lines)) [] g.follow in
     let places_are : record { name = []; files = files_behind (says (s.head_lines ++ s.host_lines)) } ∷ hosts_behind (says (s.head_lines ++ s.host_lines)) ≡ bundle.places =
-        ap (λ fs. record { name = []; files = fs } ∷ hosts_behind (says (s.head_lines ++ s.host_lines))) g.files_are ∙ ap (λ hs. record { name = []; files = s.head } ∷ hs) g.hosts_are ∙ sym s.places in
+    ap (λ fs. record { name = []; files = fs } ∷ hosts_behind (says (s.head_lines ++ s.host_lines))) g.files_are ∙ ap (λ hs. record { name = []; files = s.head } ∷ hs) g.hosts_are ∙ sym s.places in
     rw (s.spelled, run_read) (rw fine (ap (λ ps. Ok (record { command = bundle.command; places = ps })) places_are))
 
 pub spelled_is_read : SpelledIsRead
@@ -416,24 +428,31 @@ module _ (line : List ℕ) (lines : List (List ℕ)) (fault : Fault) where
   Told = (before : ℕ) × (fault ≡ BadBundle (line_number before)) × IsFirstBad (line ∷ lines) before
 
   no_command : (v : BundleLine) → bundle_line_of line ≡ v → bundle_saying (v ∷ []) ≡ Err (BadBundle 1) → BadBundle 1 ≡ fault → Told
-  no_command v e refused is = (0, sym is, record {
-    good = λ some. absurd (omega (arith, some));
-    bad = λ spelling.
-        let read : bundle_saying (bundle_line_of line ∷ []) ≡ Ok spelling.0 = spelled_said (line ∷ []) spelling.0 spelling.1 in
-        let told : bundle_saying (bundle_line_of line ∷ []) ≡ Err (BadBundle 1) = rw e refused in
-        cc;
-  })
+  no_command v e refused is = (
+    0,
+    sym is,
+    record {
+      good = λ some. absurd (omega (arith, some));
+      bad = λ spelling.
+          let read : bundle_saying (bundle_line_of line ∷ []) ≡ Ok spelling.0 = spelled_said (line ∷ []) spelling.0 spelling.1 in
+          let told : bundle_saying (bundle_line_of line ∷ []) ≡ Err (BadBundle 1) = rw e refused in
+          cc;
+    },
+  )
 
   with_command : (command : Command) → bundle_line_of line ≡ Run command → FaultAt command [] lines fault → Told
   with_command command e r =
-      let good_read : bundle_saying (says (line ∷ take r.good_lines lines)) ≡ Ok (bundle_with command (says (take r.good_lines lines))) = rw e (rw (r.good) refl) in
-      (suc r.good_lines, r.told ∙ ap (λ n. BadBundle (line_number n)) (omega arith), record {
-        good = λ some. (bundle_with command (says (take r.good_lines lines)), said_spelled (line ∷ take r.good_lines lines) (bundle_with command (says (take r.good_lines lines))) good_read);
-        bad = rw add-one (λ spelling.
-            let read : bundle_saying (says (line ∷ take (suc r.good_lines) lines)) ≡ Ok spelling.0 = spelled_said (line ∷ take (suc r.good_lines) lines) spelling.0 spelling.1 in
-            let told : bundle_saying (says (line ∷ take (suc r.good_lines) lines)) ≡ Err fault = rw e (rw (r.bad) refl) in
-            cc);
-      })
+      let good_read : bundle_saying (says (line ∷ take r.good_lines lines)) ≡ Ok (bundle_with command (says (take r.good_lines lines))) = rw e (rw (r.good) refl) in (
+        suc r.good_lines,
+        r.told ∙ ap (λ n. BadBundle (line_number n)) (omega arith),
+        record {
+          good = λ some. (bundle_with command (says (take r.good_lines lines)), said_spelled (line ∷ take r.good_lines lines) (bundle_with command (says (take r.good_lines lines))) good_read);
+          bad = rw add-one (λ spelling.
+              let read : bundle_saying (says (line ∷ take (suc r.good_lines) lines)) ≡ Ok spelling.0 = spelled_said (line ∷ take (suc r.good_lines) lines) spelling.0 spelling.1 in
+              let told : bundle_saying (says (line ∷ take (suc r.good_lines) lines)) ≡ Err fault = rw e (rw (r.bad) refl) in
+              cc);
+        },
+      )
 
   first_line : (v : BundleLine) → bundle_line_of line ≡ v → bundle_saying (v ∷ says lines) ≡ Err fault → Told
   first_line (Run command) e g = judged (first_fault (bundle_fault command) [] (says lines)) refl g
@@ -447,10 +466,14 @@ module _ (line : List ℕ) (lines : List (List ℕ)) (fault : Fault) where
   first_line Wrong e g = no_command Wrong e refl cc
 
 said_refused : (lines : List (List ℕ)) (fault : Fault) → bundle_saying (says lines) ≡ Err fault → (before : ℕ) × (fault ≡ BadBundle (line_number before)) × IsFirstBad lines before
-said_refused [] fault h = (0, (let is : BadBundle 1 ≡ fault = cc in sym is), record {
-  good = λ some. absurd (omega (arith, some));
-  bad = λ spelling. let s = spelling.1.spelled in cc;
-})
+said_refused [] fault h = (
+  0,
+  (let is : BadBundle 1 ≡ fault = cc in sym is),
+  record {
+    good = λ some. absurd (omega (arith, some));
+    bad = λ spelling. let s = spelling.1.spelled in cc;
+  },
+)
 said_refused (line ∷ lines) fault h = first_line line lines fault (bundle_line_of line) refl h
 
 pub first_bad_is_told : FirstBadIsTold

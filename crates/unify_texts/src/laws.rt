@@ -8,5 +8,4 @@ pub fn bundles_are_spelled()
     ensures found { ReadsWhatIsSpelled }
     ensures read { SpelledIsRead }
     ensures refused { FirstBadIsTold }
-{
-}
+{}

@@ -9,6 +9,8 @@ mod laws;
 mod map_text;
 mod place_list;
 mod places;
+#[cfg(test)]
+mod tests;
 
 pub use bundle::{Bundle, read_bundle};
 pub use bundle_line::{Command, FileName};
