@@ -5,4 +5,4 @@ use Rattle.unify.proofs.bundle_run.answer.Goals as goal
 
 pub returns-in-Err : goal.returns-in-Err
 unfolding IsOutput
-returns-in-Err c = fault_answers c.in-Err.fault (bundle_of c.args.input.now) c.refused.result c.in-Err.ensures c.refused.ensures
+returns-in-Err c = fault_answers c.in-Err.fault (bundle_of c.args.input.now) c.refused.result c.in-Err.ensures.exact c.refused.ensures
