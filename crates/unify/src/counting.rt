@@ -1,4 +1,4 @@
-//! How many owner and group fields a numbering changes.
+//! How many owner and group fields of files a map changes.
 
 ghost use Rattle.std.specs.Prelude.{◌≡◌, ◌≤◌, ◌*◌, ◌&&◌, List, length, true, is_some, map, option_map, sum_by, IfOk};
 ghost use Rattle.std.specs.List.{list_all, list_any};
@@ -17,13 +17,14 @@ use mtree_inv::Entry;
 use std::alloc::Global;
 use unify_texts::{Fault, MapText, read_map};
 
-/// The fields that change.
+/// How many fields of files change: one for a file whose user's number changes, and one for a file whose group's does.
 #[derive(Clone, Copy, Debug, PartialEq, Eq)]
 pub struct Cost {
     pub users: u64,
     pub groups: u64,
 }
 
+// The host list.
 fn check_list(hosts: &[HostText]) -> Result<(), Fault<'_>>
     ensures exact { Gives (λ x. x) told result (in_site (hosts_checked hosts.now)) }
     ensures few { IfOk result (λ _. length hosts.now ≤ 64) }
@@ -34,59 +35,63 @@ fn check_list(hosts: &[HostText]) -> Result<(), Fault<'_>>
     }
 }
 
+// Whether each user of these rows has a number.
 fn are_all_users_mapped(names: &PairTable<'_>, rows: &[PasswdRow<'_>]) -> bool
     ensures { result ≡ users_mapped names.now rows.now }
 {
     rows.iter().all(|row| names.number(row.name).is_some())
 }
 
+// Whether each group of these rows has a number.
 fn are_all_groups_mapped(names: &PairTable<'_>, rows: &[GroupRow<'_>]) -> bool
     ensures { result ≡ groups_mapped names.now rows.now }
 {
     rows.iter().all(|row| names.number(row.name).is_some())
 }
 
+// Whether each user of all hosts has a number.
 fn are_users_mapped(names: &PairTable<'_>, hosts: &[Loaded<'_>]) -> bool
     ensures { result ≡ list_all (λ loaded. users_mapped names.now loaded.host.users) hosts.now }
 {
-    hosts
-        .iter()
-        .all(|loaded| are_all_users_mapped(names, loaded.host.users.rows()))
+    hosts.iter().all(|loaded| are_all_users_mapped(names, loaded.host.users.rows()))
 }
 
+// Whether each group of all hosts has a number.
 fn are_groups_mapped(names: &PairTable<'_>, hosts: &[Loaded<'_>]) -> bool
     ensures { result ≡ list_all (λ loaded. groups_mapped names.now loaded.host.groups) hosts.now }
 {
-    hosts
-        .iter()
-        .all(|loaded| are_all_groups_mapped(names, loaded.host.groups.rows()))
+    hosts.iter().all(|loaded| are_all_groups_mapped(names, loaded.host.groups.rows()))
 }
 
+// Whether a host has the user.
 fn has_user(loaded: &Loaded<'_>, name: &[u8]) -> bool
     ensures { result ≡ host_has_user name.now loaded.now }
 {
     loaded.host.users.by_name(name).is_some()
 }
 
+// Whether a host has the group.
 fn has_group(loaded: &Loaded<'_>, name: &[u8]) -> bool
     ensures { result ≡ host_has_group name.now loaded.now }
 {
     loaded.host.groups.by_name(name).is_some()
 }
 
+// Whether some host has the user.
 fn is_user(hosts: &[Loaded<'_>], name: &[u8]) -> bool
     ensures { result ≡ list_any (host_has_user name.now) hosts.now }
 {
     hosts.iter().any(|loaded| has_user(loaded, name))
 }
 
+// Whether some host has the group.
 fn is_group(hosts: &[Loaded<'_>], name: &[u8]) -> bool
     ensures { result ≡ list_any (host_has_group name.now) hosts.now }
 {
     hosts.iter().any(|loaded| has_group(loaded, name))
 }
 
-/// One if the mapping of an owner differs from the number that a file has.
+// One if the mapping of an owner differs from the number that a file has.
 fn field_changes(names: &PairTable<'_>, owner: Option<&[u8]>, number: u32) -> u64
     ensures value { result ≡ changed names.now (option_map (λ name. name.now) owner.entry) number }
     ensures small { result ≤ 1 }
@@ -100,6 +105,7 @@ fn field_changes(names: &PairTable<'_>, owner: Option<&[u8]>, number: u32) -> u6
     }
 }
 
+// How many user fields of a host's files change.
 fn users_cost(names: &MapText<'_>, host: &Host<'_>, files: &[Entry]) -> u64
     ensures value { result ≡ users_changed names.now host.now files.now }
     ensures small { result ≤ length files.now }
@@ -111,6 +117,7 @@ fn users_cost(names: &MapText<'_>, host: &Host<'_>, files: &[Entry]) -> u64
     cost
 }
 
+// How many group fields of a host's files change.
 fn groups_cost(names: &MapText<'_>, host: &Host<'_>, files: &[Entry]) -> u64
     ensures value { result ≡ groups_changed names.now host.now files.now }
     ensures small { result ≤ length files.now }
@@ -122,6 +129,7 @@ fn groups_cost(names: &MapText<'_>, host: &Host<'_>, files: &[Entry]) -> u64
     cost
 }
 
+// Whether each name of the map is a user of some host.
 fn are_all_users(names: &PairTable<'_>, hosts: &[Loaded<'_>]) -> bool
     ensures { result ≡ list_all (λ p. list_any (host_has_user p.name) hosts.now) names.now }
 {
@@ -134,6 +142,7 @@ fn are_all_users(names: &PairTable<'_>, hosts: &[Loaded<'_>]) -> bool
     true
 }
 
+// Whether each name of the map is a group of some host.
 fn are_all_groups(names: &PairTable<'_>, hosts: &[Loaded<'_>]) -> bool
     ensures { result ≡ list_all (λ p. list_any (host_has_group p.name) hosts.now) names.now }
 {
@@ -146,19 +155,21 @@ fn are_all_groups(names: &PairTable<'_>, hosts: &[Loaded<'_>]) -> bool
     true
 }
 
+// Whether the map's users are exactly those of the hosts.
 fn is_map_of_users(names: &PairTable<'_>, hosts: &[Loaded<'_>]) -> bool
     ensures { result ≡ is_user_map names.now hosts.now }
 {
     are_users_mapped(names, hosts) && are_all_users(names, hosts)
 }
 
+// Whether the map's groups are exactly those of the hosts.
 fn is_map_of_groups(names: &PairTable<'_>, hosts: &[Loaded<'_>]) -> bool
     ensures { result ≡ is_group_map names.now hosts.now }
 {
     are_groups_mapped(names, hosts) && are_all_groups(names, hosts)
 }
 
-/// Checks that the names of the map are exactly those of the hosts.
+// Checks that the names of the map are exactly those of the hosts.
 fn check_names<'a>(names: &MapText<'_>, hosts: &[Loaded<'_>]) -> Result<(), Fault<'a>>
     ensures { Gives (λ x. x) told result (names_checked names.now hosts.now) }
 {
@@ -168,7 +179,7 @@ fn check_names<'a>(names: &MapText<'_>, hosts: &[Loaded<'_>]) -> Result<(), Faul
     Err(Fault::BadMap(0))
 }
 
-/// The fields of all hosts' files that change.
+// How many fields of all hosts' files change: each inventory is read, checked and dropped in turn.
 fn count_files<'a>(
     alloc: Global,
     names: &MapText<'_>,
@@ -189,7 +200,15 @@ fn count_files<'a>(
     Ok(cost)
 }
 
-/// How many owner and group fields the numbers of a map text change.
+/// How many owner and group fields of the hosts' files the numbers of a map text change, for any map whose names are
+/// exactly those of the hosts; it need keep no pin and no pool.
+///
+/// It refuses with the first fault in this order: the host list; host by host login.defs, passwd, group and the primary
+/// groups; the map, by line, and then at line 0 where its names are not exactly the hosts' names; host by host the
+/// inventory, and then its owners. `Fault::Memory` is a growth that was refused.
+///
+/// It reads each text once, and each owner by hash, so it takes time linear in the texts (a map's names are looked up on
+/// each host). It keeps the tables of all hosts, which borrow their texts, and one inventory at a time.
 #[tactic(auto, unfolding(crate::specs::Count::count_of))]
 pub fn count<'a>(alloc: Global, hosts: &'a [HostText], map: &'a [u8]) -> Result<Cost, Fault<'a>>
     ensures { Gives (λ cost. cost) told result (count_of hosts.now map.now) }

@@ -31,6 +31,7 @@ pub struct Loaded<'a> {
     pub mtree: Name<'a>,
 }
 
+// A fault of a line, told with its host and file.
 fn line_fault(host: &[u8], file: FileName, fault: TextFault) -> Fault<'_>
     ensures { result ≡ Line host.now file fault.code fault.line }
 {
@@ -42,7 +43,7 @@ fn line_fault(host: &[u8], file: FileName, fault: TextFault) -> Fault<'_>
     }
 }
 
-/// A fault of the site as the program tells it.
+/// A fault of the host list, of the primary groups or of the join, as the program tells it. Constant time.
 pub fn site_fault(fault: SiteFault<'_>) -> Fault<'_>
     ensures { result ≡ site_told fault.entry }
 {
@@ -88,6 +89,7 @@ pub fn site_fault(fault: SiteFault<'_>) -> Fault<'_>
     }
 }
 
+// The ranges of a host.
 fn ranges_at<'a>(host: &'a [u8], text: &[u8]) -> Result<HostRanges, Fault<'a>>
     ensures exact { Gives (λ x. x) told result (in_file host.now FileName.LoginDefs (ranges_of text.now)) }
     ensures lawful { IfOk result IsHostRanges }
@@ -98,6 +100,7 @@ fn ranges_at<'a>(host: &'a [u8], text: &[u8]) -> Result<HostRanges, Fault<'a>>
     }
 }
 
+// The users of a host.
 fn users_at<'a>(alloc: Global, host: &'a [u8], text: &'a [u8]) -> Result<PasswdTable<'a>, Fault<'a>>
     ensures exact { Gives (λ x. x) told result (in_file host.now FileName.Passwd (passwd_table text.now)) }
     ensures lawful { IfOk result (λ table. IsPasswdTable table) }
@@ -109,6 +112,7 @@ fn users_at<'a>(alloc: Global, host: &'a [u8], text: &'a [u8]) -> Result<PasswdT
     }
 }
 
+// The groups of a host.
 fn groups_at<'a>(alloc: Global, host: &'a [u8], text: &'a [u8]) -> Result<GroupTable<'a>, Fault<'a>>
     ensures exact { Gives (λ x. x) told result (in_file host.now FileName.Group (group_table text.now)) }
     ensures lawful { IfOk result (λ table. IsGroupTable table) }
@@ -120,6 +124,7 @@ fn groups_at<'a>(alloc: Global, host: &'a [u8], text: &'a [u8]) -> Result<GroupT
     }
 }
 
+// The files of a host.
 fn inventory_at<'a>(alloc: Global, host: &'a [u8], text: &[u8]) -> Result<Inventory, Fault<'a>>
     ensures exact { Gives (λ files. files) told result (in_file host.now FileName.Mtree (inventory 16777216 text.now)) }
     ensures few { IfOk result (λ files. length files ≤ 16777216) }
@@ -131,6 +136,7 @@ fn inventory_at<'a>(alloc: Global, host: &'a [u8], text: &[u8]) -> Result<Invent
     }
 }
 
+// Whether each user's group is there.
 fn primary_at<'a>(host: &Host<'a>) -> Result<(), Fault<'a>>
     ensures { Gives (λ x. x) told result (in_site (primary_checked host.now)) }
 {
@@ -140,7 +146,8 @@ fn primary_at<'a>(host: &Host<'a>) -> Result<(), Fault<'a>>
     }
 }
 
-/// Reads a host's files but its inventory: login.defs, passwd, group, and then whether each user's group is there.
+/// Reads a host's files but its inventory: login.defs, passwd, group, and then whether each user's group is there. It
+/// refuses with the first fault in this order. One pass over each text; the tables borrow them.
 #[tactic(auto, unfolding(crate::specs::Hosts::host_of))]
 pub fn load_host<'a>(alloc: Global, text: &'a HostText) -> Result<Loaded<'a>, Fault<'a>>
     ensures exact { Gives (λ x. x) told result (host_of text.now) }
@@ -163,7 +170,7 @@ pub fn load_host<'a>(alloc: Global, text: &'a HostText) -> Result<Loaded<'a>, Fa
     })
 }
 
-/// Reads the files of all hosts but their inventories, host by host.
+/// Reads the files of all hosts but their inventories, host by host, up to the first fault.
 pub fn load_hosts<'a>(alloc: Global, texts: &'a [HostText]) -> Result<Vec<Loaded<'a>>, Fault<'a>>
     ensures exact { Gives (λ hosts. hosts.items) told result (each host_of texts.now) }
     ensures len { IfOk result (λ hosts. length hosts.items ≡ length texts.now) }
@@ -175,7 +182,7 @@ pub fn load_hosts<'a>(alloc: Global, texts: &'a [HostText]) -> Result<Vec<Loaded
     Ok(hosts)
 }
 
-/// The name of the user with this number.
+/// The name of the user with this number, by hash.
 pub fn user_named<'a>(users: &PasswdTable<'a>, uid: u32) -> Option<&'a [u8]>
     ensures { option_map (λ name. name.now) result ≡ user_at users.now uid }
 {
@@ -183,7 +190,7 @@ pub fn user_named<'a>(users: &PasswdTable<'a>, uid: u32) -> Option<&'a [u8]>
     Some(row.name)
 }
 
-/// The name of the group with this number.
+/// The name of the group with this number, by hash.
 pub fn group_named<'a>(groups: &GroupTable<'a>, gid: u32) -> Option<&'a [u8]>
     ensures { option_map (λ name. name.now) result ≡ group_at groups.now gid }
 {
@@ -191,7 +198,7 @@ pub fn group_named<'a>(groups: &GroupTable<'a>, gid: u32) -> Option<&'a [u8]>
     Some(row.name)
 }
 
-/// Who owns a file that has an owner and a group on its host.
+// What is wrong with a file's owners: its uid or its gid is the number of no account of its host, the uid first.
 fn ownership_fault<'a>(
     alloc: Global,
     host: &Host<'a>,
@@ -216,6 +223,7 @@ fn ownership_fault<'a>(
     Ok(None)
 }
 
+// Whether each file is owned, up to the first that is not.
 fn check_owners<'a>(alloc: Global, host: &Host<'a>, files: &[Entry]) -> Result<(), Fault<'a>>
     ensures { Gives (λ x. x) told result (unless (first_fault (owner_fault host.now) [] files.now) tt) }
 {
@@ -227,7 +235,8 @@ fn check_owners<'a>(alloc: Global, host: &Host<'a>, files: &[Entry]) -> Result<(
     Ok(())
 }
 
-/// Reads a host's inventory, and checks that each file is owned.
+/// Reads a host's inventory of at most 16,777,216 files, and then checks that the uid and the gid of each file are
+/// numbers of a user and of a group on the host, in inventory order, uid before gid. One pass over the text.
 #[tactic(auto, unfolding(crate::specs::Hosts::files_of))]
 pub fn load_files<'a>(alloc: Global, loaded: &Loaded<'a>) -> Result<Inventory, Fault<'a>>
     ensures exact { Gives (λ files. files) told result (files_of loaded.now) }

@@ -19,6 +19,7 @@ pub struct Reply {
     pub status: u8,
 }
 
+// The exit status that goes with a fault.
 fn status_of_fault(fault: &Fault<'_>) -> u8
     ensures { result ≡ status_of (code_of fault.now) }
 {
@@ -49,6 +50,7 @@ pub fn refused(alloc: Global, fault: &Fault<'_>) -> Result<Reply, AllocError>
     })
 }
 
+// The two lines that tell a cost.
 fn cost_text(alloc: Global, cost: Cost) -> Result<Vec<u8>, AllocError>
     ensures { IfOk result (λ text. text.items ≡ cost_lines cost) }
 {
@@ -60,7 +62,8 @@ fn cost_text(alloc: Global, cost: Cost) -> Result<Vec<u8>, AllocError>
     Ok(text)
 }
 
-/// What goes out for a count of these hosts with this map.
+/// What goes out for a count of these hosts with this map: the two lines, or the fault line with its status. An error is
+/// a growth that was refused.
 pub fn count_reply(alloc: Global, hosts: &[HostText], map: &[u8]) -> Result<Reply, AllocError>
     ensures { IfOk result (λ reply. reply_of reply ≡ answered (counted hosts.now map.now)) }
 {
