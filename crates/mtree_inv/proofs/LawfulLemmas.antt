@@ -27,7 +27,7 @@ use Rattle.mtree_inv.specs.Open.{Mark, Opens, Stays, is_full, mark_of, marks, op
 use Rattle.mtree_inv.specs.Paths.{parts, components, is_bad_component, has_bad_component}
 use Rattle.mtree_inv.specs.Inventory.{kinds, files_of, named, first_appearances, fault_of, fault_said, file_said, file_at, said_alone, owned_file, named_file, is_bad_path, path_of, numbered_fault, inventory_of_lines, inventory, accepted, accepted_from}
 use Rattle.mtree_inv.specs.Machine.{with_new_file}
-use Rattle.mtree_inv.specs.Standing.{ReaderValue, StandsFor, StandsAt, files}
+use Rattle.mtree_inv.specs.Standing.{ReaderValue, StandsAt, files}
 use Rattle.mtree_inv.proofs.LookingLemmas.{looking_back-snoc}
 use Rattle.mtree_inv.proofs.FileLemmas.{after_said, files_of-snoc}
 use Rattle.mtree_inv.proofs.RunLemmas.{kinds-snoc}

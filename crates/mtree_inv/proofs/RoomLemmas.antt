@@ -1,14 +1,14 @@
 -- One line more leaves no more files than there may be; and what it means that no fault was told.
-use Rattle.std.proofs.Common.{◌≡◌, ℕ, ◌≤◌, Bool, true, false, cond, List, [], ◌∷◌, ◌++◌, length, refl, sym, ap, ◌∙◌, arith, append-nil, append_assoc, subst, length-append}
+use Rattle.std.proofs.Common.{◌≡◌, ℕ, ◌≤◌, Bool, true, false, cond, List, [], ◌∷◌, ◌++◌, length, refl, sym, ap, ◌∙◌, arith, subst, length-append}
 use Rattle.std.specs.Prelude.{Option, Some, None, Result, Ok, Err, is_none, option_map, nat_lt}
 use Rattle.std.proofs.lemmas.Bool.{ltb-true}
-use Rattle.idtext.specs.First.{first_fault, or_else, unless}
+use Rattle.idtext.specs.First.{or_else, unless}
 use Rattle.idtext.specs.declared.faults.TextCode.{TextCode}
 use Rattle.idtext.specs.declared.faults.TextFault.{TextFault}
 use Rattle.mtree_inv.specs.declared.entry.Entry.{Entry}
-use Rattle.mtree_inv.specs.Logical.{LogicalLine, logical_lines}
+use Rattle.mtree_inv.specs.Logical.{LogicalLine}
 use Rattle.mtree_inv.specs.Kinds.{kind_of}
-use Rattle.mtree_inv.specs.Inventory.{kinds, files_of, named, first_appearances, fault_of, fault_said, file_said, file_at, said_alone, clash_with, numbered_fault, inventory_of_lines, inventory}
+use Rattle.mtree_inv.specs.Inventory.{kinds, files_of, fault_of, fault_said, file_said, file_at, said_alone, clash_with}
 use Rattle.mtree_inv.proofs.FileLemmas.{after_said, files_of-snoc}
 use Rattle.mtree_inv.proofs.RunLemmas.{kinds-snoc}
 

@@ -23,11 +23,7 @@ fn show(alloc: Global, out: &mut String, entry: &Entry) -> Result<(), AllocError
 }
 
 // What was read: a line for each file, or the fault.
-fn shown(
-    alloc: Global,
-    files: String,
-    read: Result<(), ReadError>,
-) -> Result<String, AllocError> {
+fn shown(alloc: Global, files: String, read: Result<(), ReadError>) -> Result<String, AllocError> {
     match read {
         Ok(()) => Ok(files),
         Err(ReadError::Memory) => Err(AllocError),
@@ -83,10 +79,17 @@ fn push_line(text: &mut Vec<u8>, byte: u8, times: u32, rest: &[u8]) -> Result<()
 
 #[test]
 fn nested_inventory(rt: HostRuntime) -> Result<(), Fail> {
-    assert_eq!(rt; answer(rt.alloc(), NESTED, 16777216)?.as_str(), NESTED_FILES);
+    assert_eq!(rt;
+        answer(rt.alloc(), NESTED, 16777216)?.as_str(),
+        NESTED_FILES
+    );
     for at in 0..=NESTED.len() {
         let (front, back) = NESTED.split_at(at);
-        assert_eq!(rt; answer_in_two(rt.alloc(), front, back)?.as_str(), NESTED_FILES, "cut at {at}");
+        assert_eq!(rt;
+            answer_in_two(rt.alloc(), front, back)?.as_str(),
+            NESTED_FILES,
+            "cut at {at}"
+        );
     }
     Ok(())
 }
@@ -95,25 +98,47 @@ fn nested_inventory(rt: HostRuntime) -> Result<(), Fail> {
 fn one_up_too_many(rt: HostRuntime) -> Result<(), Fail> {
     let mut text = Vec::from_slice(rt.alloc(), NESTED)?;
     text.extend_from_slice(b"..\n")?;
-    assert_eq!(rt; answer(rt.alloc(), &text, 9)?.as_str(), "13 DotDotAbove at line 9\n");
+    assert_eq!(rt;
+        answer(rt.alloc(), &text, 9)?.as_str(),
+        "13 DotDotAbove at line 9\n"
+    );
     Ok(())
 }
 
 #[test]
 fn same_path_twice(rt: HostRuntime) -> Result<(), Fail> {
-    assert_eq!(rt; answer(rt.alloc(), b"./f uid=1001 gid=100\n./f uid=1001 gid=100\n", 9)?.as_str(), "f 1001 100\n");
+    assert_eq!(rt;
+        answer(
+            rt.alloc(),
+            b"./f uid=1001 gid=100\n./f uid=1001 gid=100\n",
+            9
+        )?
+        .as_str(),
+        "f 1001 100\n"
+    );
     Ok(())
 }
 
 #[test]
 fn same_path_other_owner(rt: HostRuntime) -> Result<(), Fail> {
-    assert_eq!(rt; answer(rt.alloc(), b"./f uid=1001 gid=100\n./f uid=1002 gid=100\n", 9)?.as_str(), "15 OwnersDiffer at line 2\n");
+    assert_eq!(rt;
+        answer(
+            rt.alloc(),
+            b"./f uid=1001 gid=100\n./f uid=1002 gid=100\n",
+            9
+        )?
+        .as_str(),
+        "15 OwnersDiffer at line 2\n"
+    );
     Ok(())
 }
 
 #[test]
 fn cut_continuation(rt: HostRuntime) -> Result<(), Fail> {
-    assert_eq!(rt; answer(rt.alloc(), b"./f uid=1001 gid=100 \\", 9)?.as_str(), "17 CutContinuation at line 1\n");
+    assert_eq!(rt;
+        answer(rt.alloc(), b"./f uid=1001 gid=100 \\", 9)?.as_str(),
+        "17 CutContinuation at line 1\n"
+    );
     Ok(())
 }
 
@@ -143,68 +168,101 @@ fn finishes_once_and_keeps_a_fault(rt: HostRuntime) -> Result<(), Fail> {
 
 #[test]
 fn too_many_entries(rt: HostRuntime) -> Result<(), Fail> {
-    assert_eq!(rt; answer(rt.alloc(), b"./f uid=1 gid=1\n./g uid=1 gid=1\n", 1)?.as_str(), "16 TooManyEntries at line 2\n");
+    assert_eq!(rt;
+        answer(rt.alloc(), b"./f uid=1 gid=1\n./g uid=1 gid=1\n", 1)?.as_str(),
+        "16 TooManyEntries at line 2\n"
+    );
     Ok(())
 }
 
 #[test]
 fn joined_not_escaped(rt: HostRuntime) -> Result<(), Fail> {
-    assert_eq!(rt; answer(rt.alloc(), b"./a\\\n040b uid=1 gid=1\n", 9)?.as_str(), "a040b 1 1\n");
+    assert_eq!(rt;
+        answer(rt.alloc(), b"./a\\\n040b uid=1 gid=1\n", 9)?.as_str(),
+        "a040b 1 1\n"
+    );
     Ok(())
 }
 
 #[test]
 fn set_keeps_other_defaults(rt: HostRuntime) -> Result<(), Fail> {
-    assert_eq!(rt; answer(rt.alloc(), b"/set uid=1 gid=2\n/set uid=3\n./f\n", 9)?.as_str(), "f 3 2\n");
+    assert_eq!(rt;
+        answer(rt.alloc(), b"/set uid=1 gid=2\n/set uid=3\n./f\n", 9)?.as_str(),
+        "f 3 2\n"
+    );
     Ok(())
 }
 
 #[test]
 fn full_entry_opens_nothing(rt: HostRuntime) -> Result<(), Fail> {
-    assert_eq!(rt; answer(rt.alloc(), b"d/e type=dir uid=1 gid=1\nf uid=1 gid=1\n", 9)?.as_str(), "d/e 1 1\nf 1 1\n");
+    assert_eq!(rt;
+        answer(rt.alloc(), b"d/e type=dir uid=1 gid=1\nf uid=1 gid=1\n", 9)?.as_str(),
+        "d/e 1 1\nf 1 1\n"
+    );
     Ok(())
 }
 
 #[test]
 fn full_entry_between(rt: HostRuntime) -> Result<(), Fail> {
     let text = b"a type=dir uid=1 gid=1\nb/c uid=1 gid=1\nd uid=1 gid=1\n";
-    assert_eq!(rt; answer(rt.alloc(), text, 9)?.as_str(), "a 1 1\nb/c 1 1\na/d 1 1\n");
+    assert_eq!(rt;
+        answer(rt.alloc(), text, 9)?.as_str(),
+        "a 1 1\nb/c 1 1\na/d 1 1\n"
+    );
     Ok(())
 }
 
 #[test]
 fn entry_without_uid(rt: HostRuntime) -> Result<(), Fail> {
-    assert_eq!(rt; answer(rt.alloc(), b"./f gid=1\n", 9)?.as_str(), "11 NoUid at line 1\n");
+    assert_eq!(rt;
+        answer(rt.alloc(), b"./f gid=1\n", 9)?.as_str(),
+        "11 NoUid at line 1\n"
+    );
     Ok(())
 }
 
 #[test]
 fn unknown_command(rt: HostRuntime) -> Result<(), Fail> {
-    assert_eq!(rt; answer(rt.alloc(), b"/etc uid=1\n", 9)?.as_str(), "10 BadCommand at line 1\n");
+    assert_eq!(rt;
+        answer(rt.alloc(), b"/etc uid=1\n", 9)?.as_str(),
+        "10 BadCommand at line 1\n"
+    );
     Ok(())
 }
 
 #[test]
 fn dot_dot_inside(rt: HostRuntime) -> Result<(), Fail> {
-    assert_eq!(rt; answer(rt.alloc(), b"./a/../b uid=1 gid=1\n", 9)?.as_str(), "14 BadPath at line 1\n");
+    assert_eq!(rt;
+        answer(rt.alloc(), b"./a/../b uid=1 gid=1\n", 9)?.as_str(),
+        "14 BadPath at line 1\n"
+    );
     Ok(())
 }
 
 #[test]
 fn escaped_dot_dot(rt: HostRuntime) -> Result<(), Fail> {
-    assert_eq!(rt; answer(rt.alloc(), b"\\056\\056 uid=1 gid=1\n", 9)?.as_str(), "14 BadPath at line 1\n");
+    assert_eq!(rt;
+        answer(rt.alloc(), b"\\056\\056 uid=1 gid=1\n", 9)?.as_str(),
+        "14 BadPath at line 1\n"
+    );
     Ok(())
 }
 
 #[test]
 fn unset_gid(rt: HostRuntime) -> Result<(), Fail> {
-    assert_eq!(rt; answer(rt.alloc(), b"/set uid=1 gid=2\n/unset gid\n./f\n", 9)?.as_str(), "12 NoGid at line 3\n");
+    assert_eq!(rt;
+        answer(rt.alloc(), b"/set uid=1 gid=2\n/unset gid\n./f\n", 9)?.as_str(),
+        "12 NoGid at line 3\n"
+    );
     Ok(())
 }
 
 #[test]
 fn set_bad_number(rt: HostRuntime) -> Result<(), Fail> {
-    assert_eq!(rt; answer(rt.alloc(), b"/set uid=x\n", 9)?.as_str(), "3 BadNumber at line 1\n");
+    assert_eq!(rt;
+        answer(rt.alloc(), b"/set uid=x\n", 9)?.as_str(),
+        "3 BadNumber at line 1\n"
+    );
     Ok(())
 }
 
@@ -213,7 +271,10 @@ fn path_too_long(rt: HostRuntime) -> Result<(), Fail> {
     let mut text = Vec::new(rt.alloc());
     push_line(&mut text, b'a', 40000, b" type=dir uid=0 gid=0\n")?;
     push_line(&mut text, b'b', 40000, b" uid=0 gid=0\n")?;
-    assert_eq!(rt; answer(rt.alloc(), &text, 9)?.as_str(), "14 BadPath at line 2\n");
+    assert_eq!(rt;
+        answer(rt.alloc(), &text, 9)?.as_str(),
+        "14 BadPath at line 2\n"
+    );
     Ok(())
 }
 
@@ -228,6 +289,7 @@ fn many_dots(rt: HostRuntime) -> Result<(), Fail> {
 }
 
 const ROOT: &str = ". 1001 100\n";
+
 const SO_FAR: &str = ". 1001 100\nbin 0 0\nbin/ls 1001 100\n";
 
 // The prefixes of the nested inventory: from which length to which, and the answer in two parts.
@@ -286,7 +348,10 @@ fn every_inventory_prefix(rt: HostRuntime) -> Result<(), Fail> {
         assert_eq!(rt; *first, next);
         let mut wanted = String::from_str(rt.alloc(), front)?;
         wanted.push_str(back)?;
-        assert!(rt; have_answer(rt.alloc(), *first, *last, &wanted)?, "from {first} on");
+        assert!(rt;
+            have_answer(rt.alloc(), *first, *last, &wanted)?,
+            "from {first} on"
+        );
         next = last.saturating_add(1);
     }
     assert_eq!(rt; next, NESTED.len() + 1);
