@@ -1,5 +1,5 @@
 -- The accounts of one kind, users or groups, over all hosts of a site.
-use Rattle.std.specs.Prelude.{◌≡◌, ℕ, suc, ◌+◌, Bool, false, not, ◌&&◌, ◌==◌, if◌then◌else◌, List, [], ◌∷◌, ◌++◌, map, length, filter, count_by, find, Option, Some, None}
+use Rattle.std.specs.Prelude.{◌≡◌, ℕ, suc, ◌+◌, ◌<◌, ◌≤◌, Bool, false, not, ◌&&◌, ◌==◌, if◌then◌else◌, List, [], ◌∷◌, ◌++◌, map, length, filter, count_by, find, Option, Some, None}
 use Rattle.std.specs.Option.{option_map}
 use Rattle.std.specs.List.{list_any}
 use Rattle.std.specs.Str.{bytes_eq}
@@ -106,6 +106,10 @@ nobody = record { name = []; spots = [] }
 unfoldable pub AreApart : List Row → Type 0
 AreApart [] = Unit {0}
 AreApart (r ∷ rows) = (list_any (λ q. (q.host == r.host) && (q.number == r.number)) rows ≡ false) × AreApart rows
+
+-- the host is one of so many, and an account may have the number
+abbrev pub IsSpotAmong : ℕ → Spot → Type 0
+IsSpotAmong hosts s = (s.host < hosts) × (s.number ≤ 4294967294)
 
 -- a row without a name, which stands for a place that is too high
 abbrev pub no_row : List ℕ × ℕ

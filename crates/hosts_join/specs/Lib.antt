@@ -13,7 +13,9 @@ pub mod PinsText
 pub mod PinsInside
 pub mod Clash
 pub mod PoolInside
+pub mod Lawful
 pub mod NamesInside
+pub mod SiteInside
 pub mod Kinds
 pub mod Hosts
 pub mod Site

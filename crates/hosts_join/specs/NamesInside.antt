@@ -2,6 +2,7 @@
 use Rattle.std.specs.Prelude.{◌≡◌, ℕ, ◌<◌, ◌≤◌, ◌^◌, false, map, length, slice_index_or}
 use Rattle.hosts_join.specs.Accounts.{Accounts, all_lines, IsOnceEach, nobody}
 use Rattle.hosts_join.specs.Index.{accounts_in, IsIndex}
+use Rattle.hosts_join.specs.Lawful.{AreLawfulAccounts}
 use Rattle.hosts_join.specs.Pool.{in_runs}
 use Rattle.hosts_join.specs.Rules.{class_of, in_pool, names_in, pool_size}
 use Rattle.hosts_join.specs.Views.{entry_of, pairs_of}
@@ -23,3 +24,4 @@ pub record IsNames (n : Inside) : Type 0 where
   pub none : (v : ℕ) → in_runs n.none v ≡ false
   pub enough_regular : names_in (accounts_of n) Regular ≤ pool_size (accounts_of n) Regular
   pub enough_system : names_in (accounts_of n) System ≤ pool_size (accounts_of n) System
+  pub lawful : AreLawfulAccounts (accounts_of n)

@@ -1,5 +1,5 @@
 -- The accounts of a kind on hosts, and a site.
-use Rattle.std.specs.Prelude.{ℕ, List, map, length, Result, Ok}
+use Rattle.std.specs.Prelude.{◌≡◌, ℕ, ◌≤◌, List, map, length, Result, Ok}
 use Rattle.idtext.specs.First.{◌>>=◌}
 use Rattle.hosts_join.specs.declared.fault.SiteFault.{SiteFault}
 use Rattle.hosts_join.specs.Kinds.{user_rows, group_rows}
@@ -33,3 +33,9 @@ groups_of hosts pins = accounts_of (λ r. r.gid) (λ r. r.sys_gid) (λ h. group_
 -- users first, then groups
 abbrev pub joined_site : List Host → PinPairs → Result Joined SiteFault
 joined_site hosts pins = joined User (users_of hosts pins) >>= λ users. joined Group (groups_of hosts pins) >>= λ groups. Ok (record { users = users; groups = groups; hosts = length hosts })
+
+-- both kinds stand on the same hosts, at most 64
+pub record IsSite (site : Joined) : Type 0 where
+  pub user_hosts : length site.users.hosts ≡ site.hosts
+  pub group_hosts : length site.groups.hosts ≡ site.hosts
+  pub few_hosts : site.hosts ≤ 64

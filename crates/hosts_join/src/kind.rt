@@ -4,7 +4,7 @@ ghost use Rattle.std.specs.Prelude.{◌≡◌, ◌<◌, length, map, slice_index
 use crate::{Host, Pair, PairTable, Pins, Which};
 use logindefs::{HostRanges, IdRange};
 
-/// Users or groups: what a host, its ranges and the pins have of the kind.
+/// Users or groups: what a host, its ranges and the pins have of the kind. No call takes memory or time.
 pub trait Kind {
     ghost use Rattle.std.specs.Prelude.{◌≡◌, ℕ, ◌<◌, ◌≤◌, List, map, length, slice_index_or, true, false};
     ghost use Rattle.accounts.specs.Laws.{IsTable};
@@ -33,30 +33,38 @@ pub trait Kind {
     // The number of the kind among an owner's two.
     ghost number_of: { ℕ → ℕ → ℕ };
 
+    /// Which kind it is.
     fn which() -> Which
         ensures { result ≡ kind };
 
+    /// How many rows of the kind a host has.
     fn count(host: &Host<'_>) -> usize
         ensures { result ≡ length (rows host.now) };
 
+    /// The name on a row.
     fn name<'a>(host: &Host<'a>, place: usize) -> &'a [u8]
         requires { place < length (rows host.now) }
         ensures { result.now ≡ (slice_index_or (rows host.now) place (spec.no_row)).0 };
 
+    /// The number on a row.
     fn number(host: &Host<'_>, place: usize) -> u32
         requires { place < length (rows host.now) }
         ensures { result ≡ (slice_index_or (rows host.now) place (spec.no_row)).1 };
 
+    /// The numbers that are regular on a host.
     fn regular(ranges: &HostRanges) -> IdRange
         ensures { result ≡ regular_range ranges.now };
 
+    /// The numbers that are system numbers on a host.
     fn system(ranges: &HostRanges) -> IdRange
         ensures { result ≡ system_range ranges.now };
 
+    /// The pins of the kind, in the order of their lines.
     fn pins<'p, 'a>(pins: &'p Pins<'a>) -> &'p PairTable<'a>
         ensures pairs { result.now ≡ pinned pins.now }
         ensures lawful { ArePins result.now };
 
+    /// The number of the kind among an owner's two.
     fn pick(uid: u32, gid: u32) -> u32
         ensures { result ≡ number_of uid gid };
 

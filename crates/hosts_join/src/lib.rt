@@ -1,4 +1,6 @@
-//! The join of hosts: names by class, pins and pools.
+//! The join of hosts that share files: the names of their users and of their groups, which of them are pinned to a
+//! number, and the numbers that the others may get. What passwd(5), group(5) and login.defs(5) say of one host is
+//! joined here into one site.
 #![tactic(auto)]
 
 mod checks;
@@ -37,7 +39,8 @@ pub enum Which {
     Group,
 }
 
-/// What a number is on its own host.
+/// What a number is on its own host, by the ranges of its login.defs(5): regular, system, or in neither range, which
+/// pins the name to it.
 #[derive(Clone, Copy, Debug, PartialEq, Eq)]
 pub enum Standing {
     Regular,
@@ -68,7 +71,7 @@ impl Standing {
     }
 }
 
-/// What a name is over all hosts.
+/// What a name is over all hosts: pinned to a number, or free to get one of the regular or of the system pool.
 #[derive(Clone, Copy, Debug, PartialEq, Eq)]
 pub enum Class {
     Pinned(u32),
@@ -91,7 +94,7 @@ impl Class {
     }
 }
 
-/// The number that a name has on one host, and what that number is there.
+/// The number that a name has on one host, by the host's index, and what that number is there.
 #[derive(Clone, Copy, Debug, PartialEq, Eq)]
 pub struct Spot {
     pub host: u32,
@@ -99,14 +102,14 @@ pub struct Spot {
     pub standing: Standing,
 }
 
-/// A number on a host.
+/// A number on a host, by the host's index.
 #[derive(Clone, Copy, Debug, PartialEq, Eq, Hash)]
 pub struct Seat {
     pub host: u32,
     pub number: u32,
 }
 
-/// A row of an account file, and its host's place.
+/// A row of an account file, with its host's index.
 #[derive(Clone, Copy, Debug)]
 pub struct Row<'a> {
     pub host: u32,

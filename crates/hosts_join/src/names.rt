@@ -1,11 +1,12 @@
 //! The names of one kind over all hosts.
-ghost use Rattle.std.specs.Prelude.{◌≡◌, ℕ, ◌<◌, ◌≤◌, ◌&&◌, ◌==◌, ◌^◌, not, map, length, IfOk, IfErr, OnOk, IfSome, None, Some, IfNone, slice_index_or, nat_lt, count_by};
-ghost use Rattle.std.specs.List.{list_all, list_any, find};
+ghost use Rattle.std.specs.Prelude.{◌≡◌, ℕ, List, ◌<◌, ◌≤◌, ◌&&◌, ◌==◌, ◌^◌, not, map, length, IfOk, IfErr, OnOk, IfSome, None, Some, IfNone, slice_index_or, nat_lt, count_by};
+ghost use Rattle.std.specs.List.{All, list_all, list_any, find};
 ghost use Rattle.std.specs.Option.{option_map};
 ghost use Rattle.idtext.specs.First.{Gives};
 ghost use Rattle.hosts_join.specs.Pool.{AreAscending, in_runs};
 ghost use Rattle.hosts_join.specs.Rules.{is_taken, is_id, joined};
-ghost use Rattle.hosts_join.specs.Accounts.{AreApart, AreNamedApart, grouped};
+ghost use Rattle.hosts_join.specs.Accounts.{AreApart, AreNamedApart, IsSpotAmong, grouped, spot_of, spots_of};
+ghost use Rattle.hosts_join.specs.PinPairs.{ArePins};
 ghost use Rattle.hosts_join.specs.Told.{told};
 ghost use Rattle.hosts_join.specs.Views.{rows_of, pairs_of, entry_of};
 ghost use Rattle.std.specs.Prelude.{true, false};
@@ -20,7 +21,8 @@ use logindefs::IdRange;
 use std::alloc::{AllocError, Global};
 use std::marker::Model;
 
-/// The names of one kind, by index in order of first appearance. A contract sees the accounts that they were joined from.
+/// The names of one kind, by index in order of first appearance: hosts in order, and on a host its rows in order. A
+/// contract sees the accounts that they were joined from. No call takes memory.
 #[derive(Drop)]
 pub struct Names<'a> {
     hosts: Vec<HostEntry<'a>>,
@@ -115,6 +117,10 @@ pub fn join_rows<'a>(
     requires apart { AreApart (rows_of rows.now) }
     requires named { AreNamedApart (rows_of rows.now) }
     requires few { length rows.now ≤ 4194304 }
+    requires among { All (λ r. IsSpotAmong (length hosts.items) (spot_of r)) (rows_of rows.now) }
+    requires spots { (n : List ℕ) → length (spots_of (rows_of rows.now) n) ≤ 64 }
+    requires pins { ArePins pins.now }
+    requires ranges { (v : ℕ) → list_all (λ h. in_range h.regular v) (map entry_of hosts.items) ≡ true → list_all (λ h. in_range h.system v) (map entry_of hosts.items) ≡ true → length rows.now ≡ 0 }
     ensures { Gives (λ names. names) told result (joined kind (record { hosts = map entry_of hosts.entry.items; names = grouped (rows_of rows.now); pins = pins.now })) }
 {
     let index = Index::of(alloc, rows)?;
@@ -169,15 +175,17 @@ impl<'a> Names<'a> {
     ghost use Rattle.hosts_join.specs.Accounts.{nobody, place_of, owner, number_on, lines, all_lines};
     ghost use Rattle.hosts_join.specs.Rules as rules;
     ghost use Rattle.hosts_join.specs.Rules.{account};
+    ghost use Rattle.hosts_join.specs.Lawful.{AreLawfulAccounts};
 
-    /// How many names there are.
+    /// How many names there are, and what holds of them all. No cost.
     pub fn len(&self) -> u32
-        ensures { result ≡ length self.now.names }
+        ensures len { result ≡ length self.now.names }
+        ensures lawful { AreLawfulAccounts self.now }
     {
         self.index.len() as u32
     }
 
-    /// The name at an index.
+    /// The name at an index, a slice of the file that it first stands in. No cost.
     pub fn name(&self, index: u32) -> &'a [u8]
         requires { index < length self.now.names }
         ensures { result.now ≡ (account self.now index).name }
@@ -185,7 +193,7 @@ impl<'a> Names<'a> {
         self.index.name(index as usize)
     }
 
-    /// The hosts that have the name at an index, in order, with its number there.
+    /// The hosts that have the name at an index, in order, at most 64, with its number on each. No cost.
     pub fn spots(&self, index: u32) -> &[Spot]
         requires { index < length self.now.names }
         ensures { result.now ≡ (account self.now index).spots }
@@ -193,7 +201,8 @@ impl<'a> Names<'a> {
         self.index.spots(index as usize)
     }
 
-    /// The class of the name at an index.
+    /// The class of the name at an index. A name is pinned by the pins text, or by a host on which its number is in
+    /// neither range; else it is regular if it is so on some host, else system. No cost.
     pub fn class(&self, index: u32) -> Class
         requires { index < length self.now.names }
         ensures { result ≡ rules.class_of self.now.pins (account self.now index) }
@@ -201,7 +210,7 @@ impl<'a> Names<'a> {
         self.classes[index as usize]
     }
 
-    /// The number of the name at an index on a host.
+    /// The number of the name at an index on a host, or none where the host does not have it. A scan of its spots.
     pub fn at(&self, index: u32, host: u32) -> Option<u32>
         requires { index < length self.now.names }
         ensures { result ≡ number_on (account self.now index) host }
@@ -209,7 +218,7 @@ impl<'a> Names<'a> {
         number_among(self.index.spots(index as usize), host)
     }
 
-    /// The name that has a number on a host.
+    /// The index of the name that has a number on a host. One look-up by hash.
     pub fn owner(&self, host: u32, number: u32) -> Option<u32>
         ensures owner { result ≡ owner self.now.names host number }
         ensures tied { IfSome result (λ i. number_on (account self.now i) host ≡ Some number) }
@@ -218,7 +227,7 @@ impl<'a> Names<'a> {
         self.index.owners.get(&Seat { host, number }).copied()
     }
 
-    /// The index of a name.
+    /// The index of a name. One look-up by hash.
     pub fn find(&self, name: &[u8]) -> Option<u32>
         ensures { result ≡ place_of self.now.names name.now }
     {
@@ -228,7 +237,8 @@ impl<'a> Names<'a> {
         }
     }
 
-    /// The numbers that a name of the class may get; none for a pinned name.
+    /// The numbers that a name of the class may get: those of its range on every host, less the pins and the numbers
+    /// that the pins text keeps for names on no host. None for a pinned name. No cost.
     pub fn pool(&self, class: Class) -> &Pool
         ensures members { (v : ℕ) → in_runs result.now v ≡ rules.in_pool self.now class v }
         ensures enough { rules.is_free_class class ≡ true → rules.names_in self.now class ≤ rules.pool_size self.now class }
@@ -240,7 +250,7 @@ impl<'a> Names<'a> {
         }
     }
 
-    /// How many account rows there are on all hosts.
+    /// How many account rows of the kind there are on all hosts. No cost.
     pub fn all_lines(&self) -> u64
         ensures lines { result ≡ all_lines self.now.names }
         ensures few { result ≤ 4194304 }
@@ -248,7 +258,7 @@ impl<'a> Names<'a> {
         self.all_lines
     }
 
-    /// On how many hosts the name at an index has the number.
+    /// On how many hosts the name at an index has the number. A scan of its spots.
     pub fn lines(&self, index: u32, number: u32) -> u64
         requires { index < length self.now.names }
         ensures { result ≡ lines (account self.now index) number }

@@ -27,7 +27,7 @@ impl<'a> PairTable<'a> {
     ghost use Rattle.hosts_join.specs.Pairs.{number_of};
     ghost use Rattle.hosts_join.specs.Views.{pair_of};
 
-    /// No names.
+    /// No names. It takes no memory.
     pub fn new(alloc: Global) -> Self
         ensures { result ≡ [] }
     {
@@ -49,14 +49,14 @@ impl<'a> PairTable<'a> {
         Ok(true)
     }
 
-    /// How many names there are.
+    /// How many names there are. No cost.
     pub fn len(&self) -> usize
         ensures { result ≡ length self.now }
     {
         self.pairs.len()
     }
 
-    /// The name at an index, with its number.
+    /// The name at an index, with its number. No cost.
     pub fn at(&self, index: usize) -> Pair<'a>
         requires { index < length self.now }
         ensures { slice_get self.now index ≡ Some (pair_of result) }

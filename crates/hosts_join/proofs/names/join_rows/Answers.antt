@@ -11,6 +11,7 @@ use Rattle.hosts_join.specs.declared.Row.{Row}
 use Rattle.std.proofs.lemmas.List.{length-map}
 use Rattle.hosts_join.proofs.Refusals.{names-size, pool-size, no-clash, regular-too-small, system-refused, accepted}
 use Rattle.hosts_join.proofs.Grouping.{length-grouped}
+use Rattle.hosts_join.proofs.Lawful.{lawful}
 use Rattle.hosts_join.proofs.Once.{grouped-once}
 use Rattle.hosts_join.proofs.names.join_rows.Goals as goal
 
@@ -89,4 +90,6 @@ invariant_of-result c =
       none = c.new-2.ensures;
       enough_regular = rw c.in_ok-pins.ensures r;
       enough_system = rw c.in_ok-pins.ensures s;
+      lawful = rw c.in_ok-pins.ensures (lawful a (rows_of c.args.rows.now) c.in_ok-index.ensures.accounts (ap clash_of (sym given) ∙ ap (λ xs. clash_of (pairs_of xs)) (sym c.as_slice-3.ensures.value) ∙ sym c.in_ok-clash.ensures ∙ ap clash_seen c.in-None.is)
+          c.requires.named (rw (length-map c.args.hosts.items entry_of) c.requires.among) c.requires.spots c.requires.pins (λ v r s. omega (arith, c.requires.ranges v r s, length-rows c.args.rows.now)));
     }

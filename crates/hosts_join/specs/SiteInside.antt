@@ -1,0 +1,9 @@
+-- What the fields of a site stand for.
+use Rattle.hosts_join.specs.Site.{Joined, IsSite}
+use Rattle.hosts_join.specs.declared.joining.Site.TheInside.{Inside}
+
+abbrev pub site_of : Inside → Joined
+site_of s = record { users = s.users; groups = s.groups; hosts = s.hosts }
+
+abbrev pub IsSiteInside : Inside → Type 0
+IsSiteInside s = IsSite (site_of s)
