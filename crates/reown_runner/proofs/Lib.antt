@@ -1,0 +1,9 @@
+pub mod Turns
+pub mod Cellwise
+pub mod Sound
+pub mod Histories
+pub mod Count
+pub mod Runs
+pub mod Lists
+pub mod Memories
+pub mod Campaigns
