@@ -12,7 +12,7 @@ use Rattle.mtree_inv.specs.Logical.{LogicalLine, logical_lines, whole_lines}
 use Rattle.mtree_inv.specs.Inventory.{kinds, files_of, named, first_appearances, first_fault, files_unless, inventory_of_lines, inventory}
 use Rattle.mtree_inv.specs.Machine.{Kept, step, Follows}
 use Rattle.mtree_inv.specs.Reading.{Reading, clipped_kind, read_byte, read_bytes, at_end, unless_ended_at_end, finished, start}
-use Rattle.mtree_inv.specs.Standing.{ReaderValue, files, files_before_fault, StandsAt, StandsFor}
+use Rattle.mtree_inv.specs.Standing.{ReaderValue, GrowAlike, files, files_before_fault, IsMidText, StandsAt, StandsFor}
 use Rattle.idtext.specs.Faults.{fault_told}
 use Rattle.mtree_inv.specs.Parts.{FailedTo}
 use Rattle.mtree_inv.proofs.RunLemmas.{RunIs, run_is}
@@ -76,6 +76,14 @@ pub none_then : {A P : Type 0} (o : Option A) → P → IfNone o P
 none_then None p = p
 none_then (Some x) p = tt
 
+pub at_none : {A P : Type 0} (o : Option A) → o ≡ None → IfNone o P → P
+at_none None e p = p
+at_none (Some x) e p = absurd (cc)
+
+-- what grew alike from two equal lists is equal
+pub grown_same : (fs new_fs waiting new_waiting : List Entry) → fs ≡ waiting → GrowAlike fs new_fs waiting new_waiting → new_fs ≡ new_waiting
+grown_same fs new_fs waiting new_waiting e h = h.1 ∙ ap (λ (l : List Entry). l ++ h.0) e ∙ sym h.2
+
 pub going_at : (reader : ReaderValue) (text : List ℕ) → reader.fault ≡ None → reader.is_finished ≡ false → StandsFor reader text → StandsAt None false reader text
 going_at reader text e f h =
     subst (λ (b : Bool). StandsAt None b reader text) f (subst (λ (o : Option ReadError). StandsAt o reader.is_finished reader text) e h)
@@ -94,21 +102,34 @@ stands_still reader text piece fault e h =
     stands_by reader (text ++ piece) (Some fault) reader.is_finished e refl
     (still_failed fault reader.is_finished reader text piece (subst (λ (o : Option ReadError). StandsAt o reader.is_finished reader text) e h))
 
-fed_to : (reader : ReaderValue) (text piece : List ℕ) → StandsAt None false reader text → read_bytes reader.most reader.reading piece ≡ read_bytes reader.most start (text ++ piece)
-fed_to reader text piece h = ap (λ (m : Reading). read_bytes reader.most m piece) h.0 ∙ read-append reader.most start text piece
+mid_text : (most : ℕ) (reading : Reading) (text : List ℕ) → IsMidText most reading text → reading ≡ read_bytes most start text
+unfolding IsMidText
+mid_text most reading text h = h
 
-pub fed_whole : (reader new : ReaderValue) (text piece : List ℕ) → StandsAt None false reader text → new.most ≡ reader.most → read_bytes reader.most reader.reading piece ≡ new.reading → new.reading.fault ≡ None
+is_mid_text : (most : ℕ) (reading : Reading) (text : List ℕ) → reading ≡ read_bytes most start text → IsMidText most reading text
+unfolding IsMidText
+is_mid_text most reading text e = e
+
+-- what a reader in mid-text keeps
+kept_at : (reader : ReaderValue) (text : List ℕ) → StandsAt None false reader text → reader.reading ≡ read_bytes reader.most start text
+kept_at reader text h = mid_text reader.most reader.reading text h.0
+
+fed_to : (reader : ReaderValue) (text piece : List ℕ) → StandsAt None false reader text → read_bytes reader.most reader.reading piece ≡ read_bytes reader.most start (text ++ piece)
+fed_to reader text piece h = ap (λ (m : Reading). read_bytes reader.most m piece) (kept_at reader text h) ∙ read-append reader.most start text piece
+
+pub fed_whole : (reader new : ReaderValue) (text piece : List ℕ) → StandsAt None false reader text → new.most ≡ reader.most → read_bytes reader.most reader.reading piece ≡ new.reading → new.reading.fault ≡ None → new.reading.kept.files ≡ new.files
     → inventory_of_lines reader.most (whole_lines (text ++ piece)) ≡ Ok (files new)
-fed_whole reader new text piece h same e none =
+fed_whole reader new text piece h same e none listed =
     whole_inventory reader.most (text ++ piece)
     ∙ ap (λ (m : Reading). files_unless m.fault m.kept.files) (sym (fed_to reader text piece h) ∙ e)
     ∙ ap (λ (o : Option TextFault). files_unless o new.reading.kept.files) none
+    ∙ ap Ok listed
 
-pub fed_going : (reader new : ReaderValue) (text piece : List ℕ) → StandsAt None false reader text → new.most ≡ reader.most → read_bytes reader.most reader.reading piece ≡ new.reading → new.reading.fault ≡ None
+pub fed_going : (reader new : ReaderValue) (text piece : List ℕ) → StandsAt None false reader text → new.most ≡ reader.most → read_bytes reader.most reader.reading piece ≡ new.reading → new.reading.fault ≡ None → new.reading.kept.files ≡ new.files
     → StandsAt None false new (text ++ piece)
-fed_going reader new text piece h same e none = (
-  sym e ∙ fed_to reader text piece h ∙ ap (λ (n : ℕ). read_bytes n start (text ++ piece)) (sym same),
-  ap (λ (n : ℕ). inventory_of_lines n (whole_lines (text ++ piece))) same ∙ fed_whole reader new text piece h same e none,
+fed_going reader new text piece h same e none listed = (
+  is_mid_text new.most new.reading (text ++ piece) (sym e ∙ fed_to reader text piece h ∙ ap (λ (n : ℕ). read_bytes n start (text ++ piece)) (sym same)),
+  ap (λ (n : ℕ). inventory_of_lines n (whole_lines (text ++ piece))) same ∙ fed_whole reader new text piece h same e none listed,
 )
 
 failed_inventory : (most : ℕ) (text : List ℕ) (f : TextFault) → (at_finish most text).fault ≡ Some f → inventory most text ≡ Err f
@@ -155,26 +176,27 @@ fed_ended reader fs text piece (Fault f) h e = λ more.
     let there = subst (FailedTo fs (Fault f)) (ap (λ (m : Reading). read_bytes reader.most m more) (fed_to reader text piece h) ∙ read-append reader.most start (text ++ piece) more) here in
     failed_inventory reader.most ((text ++ piece) ++ more) f (finish_failed reader.most ((text ++ piece) ++ more) fs (Fault f) there).0
 
-pub finished_whole : (reader new : ReaderValue) (text : List ℕ) → StandsAt None false reader text → finished reader.most reader.reading ≡ new.reading → new.reading.fault ≡ None
+pub finished_whole : (reader new : ReaderValue) (text : List ℕ) → StandsAt None false reader text → finished reader.most reader.reading ≡ new.reading → new.reading.fault ≡ None → new.reading.kept.files ≡ new.files
     → inventory reader.most text ≡ Ok (files new)
-finished_whole reader new text h e none =
+finished_whole reader new text h e none listed =
     all_inventory reader.most text
-    ∙ ap (λ (m : Reading). files_unless m.fault m.kept.files) (ap (finished reader.most) (sym h.0) ∙ e)
+    ∙ ap (λ (m : Reading). files_unless m.fault m.kept.files) (ap (finished reader.most) (sym (kept_at reader text h)) ∙ e)
     ∙ ap (λ (o : Option TextFault). files_unless o new.reading.kept.files) none
+    ∙ ap Ok listed
 
 pub finished_failed : (reader new : ReaderValue) (text : List ℕ) (fin : Bool) (fault : ReadError) → StandsAt None false reader text → new.most ≡ reader.most
     → FailedTo (files new) fault (finished reader.most reader.reading) → StandsAt (Some fault) fin new text
 finished_failed reader new text fin fault h same e =
-    failed_at new reader.most text fin fault same (subst (FailedTo (files new) fault) (ap (finished reader.most) h.0) e)
+    failed_at new reader.most text fin fault same (subst (FailedTo (files new) fault) (ap (finished reader.most) (kept_at reader text h)) e)
 
 pub finished_told : (reader : ReaderValue) (fs : List Entry) (text : List ℕ) (fault : ReadError) → StandsAt None false reader text
     → FailedTo fs fault (finished reader.most reader.reading) → IfSome (fault_told fault) (λ f. inventory reader.most text ≡ Err f)
 finished_told reader fs text Memory h e = tt
-finished_told reader fs text (Fault f) h e = failed_inventory reader.most text f (ap (λ (m : Reading). m.fault) (ap (finished reader.most) (sym h.0)) ∙ e.0)
+finished_told reader fs text (Fault f) h e = failed_inventory reader.most text f (ap (λ (m : Reading). m.fault) (ap (finished reader.most) (sym (kept_at reader text h))) ∙ e.0)
 
-pub stands_start : (most : ℕ) (reader : ReaderValue) → reader.reading ≡ start → StandsAt None false reader []
+pub stands_start : (most : ℕ) (reader : ReaderValue) → reader.reading ≡ start → [] ≡ reader.files → StandsAt None false reader []
 unfolding read_bytes inventory_of_lines first_fault files_of named first_appearances pieces
-stands_start most reader e = (e, ap (λ (m : Reading). Ok m.kept.files) (sym e))
+stands_start most reader e none = (is_mid_text reader.most reader.reading [] e, ap Ok none)
 
 pub whole_refused : (o : Option ReadError) (most : ℕ) (text : List ℕ) (fault : ReadError) → o ≡ None
     → IfNone o (IfSome (fault_told fault) (λ f. (more : List ℕ) → inventory most (text ++ more) ≡ Err f)) → IfSome (fault_told fault) (λ f. inventory most text ≡ Err f)

@@ -1,5 +1,5 @@
 -- What a reader that has met no fault stands for.
-use Rattle.std.specs.Prelude.{◌≡◌, ℕ, Bool, not, ◌&&◌, ◌==◌, List, ◌++◌, Option, Some, None, Result, Ok, Err}
+use Rattle.std.specs.Prelude.{◌≡◌, ℕ, Bool, not, ◌&&◌, ◌==◌, List, ◌++◌, Some, None, Result, Ok, Err}
 use Rattle.idtext.specs.declared.faults.TextCode.{TextCode}
 use Rattle.idtext.specs.declared.faults.TextFault.{TextFault}
 use Rattle.idtext.specs.declared.faults.ReadError.{ReadError}

@@ -11,18 +11,23 @@ use Rattle.mtree_inv.specs.Reading.{Reading, read_bytes, start}
 abbrev pub GrowAlike : List Entry → List Entry → List Entry → List Entry → Type 0
 GrowAlike files new_files waiting new_waiting = (added : List Entry) × (new_files ≡ files ++ added) × (new_waiting ≡ waiting ++ added)
 
--- what contracts see of a reader: the most files that it takes, what it keeps of the text, the files that wait to be
--- handed out, the fault that ended it, and whether the text is finished
+-- what contracts see of a reader: the most files that it takes, the files so far, those of them that wait to be handed out,
+-- the fault that ended it, and whether the text is finished; `reading` is what it keeps to go on, into which no caller looks
 pub record ReaderValue : Type 0 where
   pub most : ℕ
-  pub reading : Reading
+  pub files : List Entry
   pub waiting : List Entry
   pub fault : Option ReadError
   pub is_finished : Bool
+  pub reading : Reading
 
 -- all files so far, handed out or waiting
 abbrev pub files : ReaderValue → List Entry
-files reader = reader.reading.kept.files
+files reader = reader.files
+
+-- a reader that keeps this can go on behind this text
+unfoldable pub IsMidText : ℕ → Reading → List ℕ → Type 0
+IsMidText most reading text = reading ≡ read_bytes most start text
 
 -- the files of the lines of a text before its first fault
 abbrev pub files_before_fault : ℕ → List ℕ → List Entry
@@ -31,10 +36,10 @@ files_before_fault most text = files_of (kinds (accepted most (logical_lines tex
 abbrev pub StandsAt : Option ReadError → Bool → ReaderValue → List ℕ → Type 0
 -- in mid-text the files are those of the whole lines, which have no fault
 StandsAt None false reader text =
-    (reader.reading ≡ read_bytes reader.most start text) × (inventory_of_lines reader.most (whole_lines text) ≡ Ok (files reader))
+    IsMidText reader.most reader.reading text × (inventory_of_lines reader.most (whole_lines text) ≡ Ok (files reader))
 -- a finished reader has the inventory of the text
 StandsAt None true reader text = inventory reader.most text ≡ Ok (files reader)
--- a reader that met a fault has the files before it, and the text that it met it in is the text or a front of it
+-- a reader that met a fault has the files before it; `fed` is what had been fed when the fault came, and what was fed since no longer counts
 StandsAt (Some (Fault fault)) finished reader text =
     (fed : List ℕ) × (rest : List ℕ) × (text ≡ fed ++ rest) × (inventory reader.most fed ≡ Err fault) × (files_before_fault reader.most fed ≡ files reader)
 -- where memory ran out it has the first of these

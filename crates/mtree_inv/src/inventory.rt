@@ -1,5 +1,5 @@
 //! The inventory of a text.
-ghost use Rattle.std.specs.Prelude.{◌≡◌, List, MatchResult};
+ghost use Rattle.std.specs.Prelude.{◌≡◌, ◌≤◌, List, length, MatchResult, IfOk};
 ghost use Rattle.idtext.specs.declared.faults.ReadError.TheVariants.{Memory};
 ghost use Rattle.idtext.specs.First.{Gives};
 ghost use Rattle.mtree_inv.specs.Inventory.{inventory};
@@ -20,18 +20,23 @@ pub struct Inventory {
 impl Model for Inventory {
     ghost use Rattle.std.specs.Prelude.{List};
     ghost use Rattle.mtree_inv.specs.declared.entry.Entry.{Entry};
+    ghost use Rattle.mtree_inv.specs.Files.{AreFiles};
 
     ghost Value = { List Entry };
 
     ghost view = { λ i. i.entries.items };
+
+    ghost invariant = { λ i. AreFiles i.entries.items };
 }
 
 impl Inventory {
     ghost use Rattle.std.specs.Prelude.{◌≡◌};
+    ghost use Rattle.mtree_inv.specs.Files.{AreFiles};
 
     /// Its files.
     pub fn entries(&self) -> &[Entry]
-        ensures { result.now ≡ self.now }
+        ensures files { result.now ≡ self.now }
+        ensures lawful { AreFiles self.now }
     {
         &self.entries
     }
@@ -53,7 +58,8 @@ fn all_entries(alloc: Global, reader: Reader) -> Result<Vec<Entry>, ReadError>
 
 /// Reads the inventory of a text with at most `most` files.
 pub fn read_inventory(alloc: Global, text: &[u8], most: u32) -> Result<Inventory, ReadError>
-    ensures exact { Gives (λ entries. entries) fault_told result (inventory most text.now) }
+    ensures exact { Gives (λ inventory. inventory) fault_told result (inventory most text.now) }
+    ensures few { IfOk result (λ inventory. length inventory ≤ most) }
 {
     let mut reader = Reader::new(alloc, most);
     if let Err(fault) = reader.feed(text) {

@@ -20,9 +20,9 @@ impl Model for Reader {
 
     ghost Value = { ReaderValue };
 
-    ghost use Rattle.mtree_inv.specs.Parts.{most_of, reading_of, waiting_in};
+    ghost use Rattle.mtree_inv.specs.Parts.{most_of, reading_of, files_of_parts, waiting_in};
 
-    ghost view = { λ r. record { most = most_of r.parts; reading = reading_of r.parts; waiting = waiting_in r.parts; fault = r.fault; is_finished = r.is_finished } };
+    ghost view = { λ r. record { most = most_of r.parts; files = files_of_parts r.parts; waiting = waiting_in r.parts; fault = r.fault; is_finished = r.is_finished; reading = reading_of r.parts } };
 }
 
 impl Reader {
@@ -109,10 +109,8 @@ impl Reader {
     /// The next file of those so far, until all were handed out. It takes no memory.
     pub fn next_entry(&mut self) -> Option<Entry>
         ensures next { MatchOption result ((self.old.waiting ≡ []) × (self.new.waiting ≡ [])) (λ entry. self.old.waiting ≡ entry ∷ self.new.waiting) }
-        ensures most { self.new.most ≡ self.old.most }
-        ensures reading { self.new.reading ≡ self.old.reading }
-        ensures fault { self.new.fault ≡ self.old.fault }
-        ensures finished { self.new.is_finished ≡ self.old.is_finished }
+        ensures stays { self.new ≡ record self.old { waiting = self.new.waiting } }
+        ensures stands { (text : List ℕ) → StandsFor self.old text → StandsFor self.new text }
     {
         self.parts.take()
     }

@@ -16,7 +16,7 @@ returns-in-Ok-clause-stands c = λ text h.
     let going = going_at reader text c.in_default.is open_still (subst (λ (r : ReaderValue). StandsFor r text) (sym c.self.view_is) h) in
     let new = the_view (record { parts = c.take_piece.new.self; fault = c.self.inside.fault; is_finished = c.self.inside.is_finished }) in
     stands_by new (text ++ c.args.piece.now) None false c.in_default.is open_still
-    (fed_going reader new text c.args.piece.now going c.take_piece.ensures.most c.in-Ok.ensures.taken refl)
+    (fed_going reader new text c.args.piece.now going c.take_piece.ensures.most c.in-Ok.ensures.taken refl refl)
 
 pub returns-in-Ok-clause-told : goal.returns-in-Ok-clause-told
 returns-in-Ok-clause-told c = λ text h.
@@ -26,7 +26,7 @@ returns-in-Ok-clause-told c = λ text h.
     let new = the_view (record { parts = c.take_piece.new.self; fault = c.self.inside.fault; is_finished = c.self.inside.is_finished }) in
     none_then c.args.self.now.fault
     (subst (λ (r : ReaderValue). inventory_of_lines r.most (whole_lines (text ++ c.args.piece.now)) ≡ Ok (files new)) c.self.view_is
-    (fed_whole reader new text c.args.piece.now going c.take_piece.ensures.most c.in-Ok.ensures.taken refl))
+    (fed_whole reader new text c.args.piece.now going c.take_piece.ensures.most c.in-Ok.ensures.taken refl refl))
 
 pub returns-in-Err-clause-stands : goal.returns-in-Err-clause-stands
 returns-in-Err-clause-stands c = λ text h.

@@ -15,7 +15,7 @@ returns-in-Ok-clause-stands c = λ text h.
     let going = going_at reader text c.in_default.is open_still (subst (λ (r : ReaderValue). StandsFor r text) (sym c.self.view_is) h) in
     let new = the_view (record { parts = c.take_end.new.self; fault = c.self.inside.fault; is_finished = true }) in
     stands_by new text None true c.in_default.is refl
-    (ap (λ (n : ℕ). inventory n text) c.take_end.ensures.most ∙ finished_whole reader new text going c.in-Ok.ensures.taken refl)
+    (ap (λ (n : ℕ). inventory n text) c.take_end.ensures.most ∙ finished_whole reader new text going c.in-Ok.ensures.taken refl refl)
 
 pub returns-in-Ok-clause-told : goal.returns-in-Ok-clause-told
 returns-in-Ok-clause-told c = λ text h.
@@ -24,7 +24,7 @@ returns-in-Ok-clause-told c = λ text h.
     let going = going_at reader text c.in_default.is open_still (subst (λ (r : ReaderValue). StandsFor r text) (sym c.self.view_is) h) in
     let new = the_view (record { parts = c.take_end.new.self; fault = c.self.inside.fault; is_finished = true }) in
     none_then c.args.self.now.fault
-    (subst (λ (r : ReaderValue). inventory r.most text ≡ Ok (files new)) c.self.view_is (finished_whole reader new text going c.in-Ok.ensures.taken refl))
+    (subst (λ (r : ReaderValue). inventory r.most text ≡ Ok (files new)) c.self.view_is (finished_whole reader new text going c.in-Ok.ensures.taken refl refl))
 
 pub returns-in-Err-clause-stands : goal.returns-in-Err-clause-stands
 returns-in-Err-clause-stands c = λ text h.
