@@ -86,3 +86,38 @@ pub spends_err : (records : List PlanRecord) (owner : List ℕ → Option Owner)
     → after ≤ before + operations_left records place
 spends_err records owner place mark before after fits (inl same) = omega arith
 spends_err records owner place mark before after fits (inr a) = (let b = operating records owner place mark a.0 fits a.1 a.2 in omega (arith, a.3))
+
+-- a turn leads to a place of the plan, and not to the start
+abbrev GoesOn : List PlanRecord → Place → Type 0
+GoesOn records place = IsPlaceOf records place × (place ≡ Start → ⊥)
+
+record_on : (records : List PlanRecord) (i : ℕ) → GoesOn records (record_place records i)
+record_on records i =
+    elim (either (nat_lt i (length records))) [
+      | inl more ↦
+          let below : i < length records = grind (arith, nat_tests) in
+          let is : record_place records i ≡ Record i = ap (λ b. cond b (Record i) SyncOwners) more in
+          (subst (IsPlaceOf records) (sym is) below, λ e. (let h : Record i ≡ Start = sym is ∙ e in cc))
+      | inr all ↦
+          let is : record_place records i ≡ SyncOwners = ap (λ b. cond b (Record i) SyncOwners) all in
+          (subst (IsPlaceOf records) (sym is) tt, λ e. (let h : SyncOwners ≡ Start = sym is ∙ e in cc))
+    ]
+
+to_place : (records : List PlanRecord) (next place : Place) → next ≡ place → GoesOn records place → GoesOn records next
+to_place records next place is h = subst (GoesOn records) (sym is) h
+
+goes_on : (records : List PlanRecord) (owner : List ℕ → Option Owner) (place : Place) (mark : Bool) (t : Turn) → IsPlaceOf records place → turn records place owner mark ≡ Ok t → GoesOn records t.next
+goes_on records owner Start true t fits e = (let is : t.next ≡ Done = cc in to_place records t.next Done is (tt, λ h. cc))
+goes_on records owner Start false t fits e = (let is : t.next ≡ record_place records 0 = cc in to_place records t.next (record_place records 0) is (record_on records 0))
+goes_on records owner (Record i) mark t fits e =
+    (let is : t.next ≡ record_place records (i + 1) = some_at records i owner (slice_get records i) t (is_there records i fits) e in to_place records t.next (record_place records (i + 1)) is (record_on records (i + 1)))
+goes_on records owner SyncOwners mark t fits e = (let is : t.next ≡ Mark = cc in to_place records t.next Mark is (tt, λ h. cc))
+goes_on records owner Mark mark t fits e = (let is : t.next ≡ SyncMark = cc in to_place records t.next SyncMark is (tt, λ h. cc))
+goes_on records owner SyncMark mark t fits e = (let is : t.next ≡ Done = cc in to_place records t.next Done is (tt, λ h. cc))
+goes_on records owner Done mark t fits e = (let is : t.next ≡ Done = cc in to_place records t.next Done is (tt, λ h. cc))
+
+pub next_fits : (records : List PlanRecord) (owner : List ℕ → Option Owner) (place : Place) (mark : Bool) (t : Turn) → IsPlaceOf records place → turn records place owner mark ≡ Ok t → IsPlaceOf records t.next
+next_fits records owner place mark t fits e = (goes_on records owner place mark t fits e).0
+
+pub next_goes : (records : List PlanRecord) (owner : List ℕ → Option Owner) (place : Place) (mark : Bool) (t : Turn) → IsPlaceOf records place → turn records place owner mark ≡ Ok t → t.next ≡ Start → ⊥
+next_goes records owner place mark t fits e = (goes_on records owner place mark t fits e).1

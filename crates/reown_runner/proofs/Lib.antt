@@ -7,3 +7,4 @@ pub mod Runs
 pub mod Lists
 pub mod Memories
 pub mod Campaigns
+pub mod Finishing

@@ -8,3 +8,4 @@ pub mod Memory
 pub mod MemoryReads
 pub mod Failing
 pub mod Campaign
+pub mod Finished

@@ -245,10 +245,3 @@ impl<'p, 'a> Runner<'p, 'a> {
         }
     }
 }
-
-/// A sound host stays sound, whatever happens to it.
-pub fn stays_safe()
-    ensures { (inventory : List ℕ → Option Owner) (records : List PlanRecord) → HaveDistinctPaths records
-        → (host : Host) (events : List HostEvent) (refused : Option RunFault) (end : Host) → IsRun records host events refused end
-        → IsSafeInStep inventory records host.place (cells_at host.state) → IsSafeInStep inventory records end.place (cells_at end.state) }
-{}
