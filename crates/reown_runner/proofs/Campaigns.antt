@@ -15,6 +15,7 @@ use Rattle.reown_runner.specs.State.{State, StandsFor, cells_at, did, fresh}
 use Rattle.reown_runner.specs.Safe.{IsSafeInStep}
 use Rattle.reown_runner.specs.Step.{turn, IsAdvance, IsAsked, IsTold, moved}
 use Rattle.reown_runner.specs.RunnerData.{RunnerData}
+use Rattle.reown_runner.specs.World.{World}
 use Rattle.reown_runner.specs.Run.{Host, HostEvent, Advances, Stops as Halts, IsRun, refusal}
 use Rattle.reown_runner.specs.Campaign.{Goes, EachGoes, IsToldBy, own, host_of, host_event}
 use Rattle.std.specs.List.{cons_option}
@@ -117,10 +118,10 @@ module _ {T : Type 0} (known : T → TreeData) where
       }
 
   -- each host goes nowhere, or on
-  pub each_nowhere : (hosts : List RunnerData × List T) → EachGoes known hosts [] (λ _. None) hosts
+  pub each_nowhere : (hosts : World T) → EachGoes known hosts [] (λ _. None) hosts
   each_nowhere hosts host runner tree a b = (runner, tree, a, b, goes_nowhere runner tree)
 
-  pub each_then : (h0 h1 h2 : List RunnerData × List T) (first rest : List Event) (refused : ℕ → Option RunFault) → EachGoes known h0 first (λ _. None) h1 → EachGoes known h1 rest refused h2 → EachGoes known h0 (first ++ rest) refused h2
+  pub each_then : (h0 h1 h2 : World T) (first rest : List Event) (refused : ℕ → Option RunFault) → EachGoes known h0 first (λ _. None) h1 → EachGoes known h1 rest refused h2 → EachGoes known h0 (first ++ rest) refused h2
   each_then h0 h1 h2 first rest refused f g host runner tree a b =
       let x = f host runner tree a b in
       let y = g host x.0 x.1 x.2 x.3 in (
@@ -137,7 +138,7 @@ module _ {T : Type 0} (known : T → TreeData) where
       → h ≡ host_of event → slice_get runners h ≡ Some runner → slice_get trees h ≡ Some tree → h < length runners → h < length trees
       → ((k : ℕ) → k ≢ h → refused k ≡ None)
       → Goes known runner tree (host_event event ∷ []) (refused h) runner_after tree_after
-      → EachGoes known (runners, trees) (event ∷ []) refused (set runners h runner_after, set trees h tree_after)
+      → EachGoes known (record { runners = runners; trees = trees }) (event ∷ []) refused (record { runners = set runners h runner_after; trees = set trees h tree_after })
   each_one runners trees event h runner runner_after tree tree_after refused is at_runner at_tree in_runners in_trees others goes host w t a b =
       elim (either (host_of event == host)) [
         | inl same ↦
@@ -165,7 +166,7 @@ module _ {T : Type 0} (known : T → TreeData) where
             )
       ]
 
-  pub each_more : (h0 h1 h2 : List RunnerData × List T) (events : List Event) (i : ℕ) (d : Event) (refused : ℕ → Option RunFault) → i < length events → EachGoes known h0 (take i events) (λ _. None) h1 → EachGoes known h1 (get_or events i d ∷ []) refused h2 → EachGoes known h0 (take (i + 1) events) refused h2
+  pub each_more : (h0 h1 h2 : World T) (events : List Event) (i : ℕ) (d : Event) (refused : ℕ → Option RunFault) → i < length events → EachGoes known h0 (take i events) (λ _. None) h1 → EachGoes known h1 (get_or events i d ∷ []) refused h2 → EachGoes known h0 (take (i + 1) events) refused h2
   each_more h0 h1 h2 events i d refused below a b =
       subst (λ es. EachGoes known h0 es refused h2) (sym (take_more events i d below)) (each_then h0 h1 h2 (take i events) (get_or events i d ∷ []) refused a b)
 

@@ -1,14 +1,16 @@
 -- Each advance is one nearer to the end.
-use Rattle.std.proofs.Common.{◌≡◌, ◌⊎◌, inl, inr, ◌<◌, ◌≤◌, ◌+◌, ◌-◌, ℕ, zero, suc, min, Bool, true, false, cond, nat_lt, ◌&&◌, List, [], ◌∷◌, Option, None, Some, Result, Ok, Err, IsSome, length, slice_get, refl, sym, ◌∙◌, ap, subst, arith}
+use Rattle.std.proofs.Common.{◌≡◌, ◌⊎◌, inl, inr, ◌<◌, ◌≤◌, ◌+◌, ◌-◌, ℕ, zero, suc, min, max, Bool, true, false, cond, nat_lt, ◌&&◌, List, [], ◌∷◌, Option, None, Some, Result, Ok, Err, IsSome, length, slice_get, refl, sym, ◌∙◌, ap, subst, arith}
 use Rattle.std.proofs.lemmas.Bool.Decides.{nat_tests}
 use Rattle.reown_plan.specs.declared.plan.Owner.{Owner}
 use Rattle.reown_plan.specs.PlanData.{PlanRecord}
 use Rattle.reown_runner.specs.declared.runner.Place.{Place}
 use Rattle.reown_runner.specs.declared.runner.Place.TheVariants.{Start, Record, SyncOwners, Mark, SyncMark, Done}
+use Rattle.reown_runner.specs.declared.runner.Progress.{Progress}
+use Rattle.reown_runner.specs.declared.runner.Progress.TheVariants.{Working, Done as Finished}
 use Rattle.reown_runner.specs.declared.runner.RunFault.{RunFault}
 use Rattle.reown_runner.specs.declared.runner.RunFault.TheVariants.{Device, Missing, Foreign}
 use Rattle.reown_runner.specs.Tree.{Operation, Write, SetMark, Sync, counted}
-use Rattle.reown_runner.specs.Step.{Turn, turn, turn_at, record_turn, record_place, owner_eq, IsAdvance, IsAsked, IsPlaceOf, advances_left, operations_left}
+use Rattle.reown_runner.specs.Step.{Turn, turn, turn_at, record_turn, record_place, owner_eq, IsAdvance, IsAsked, IsTold, IsPlaceOf, progress_at, advances_left, operations_left}
 use Rattle.reown_runner.proofs.Cellwise.{either}
 
 -- where a turn leads
@@ -121,3 +123,40 @@ next_fits records owner place mark t fits e = (goes_on records owner place mark 
 
 pub next_goes : (records : List PlanRecord) (owner : List ℕ → Option Owner) (place : Place) (mark : Bool) (t : Turn) → IsPlaceOf records place → turn records place owner mark ≡ Ok t → t.next ≡ Start → ⊥
 next_goes records owner place mark t fits e = (goes_on records owner place mark t fits e).1
+
+-- an advance of those that are left
+pub one_end : (n most left : ℕ) → n + max 1 left ≤ most → n + 1 ≤ most
+one_end n most left h = omega arith
+
+pub one_more_is_left : (n most old new : ℕ) → n + max 1 old ≤ most → 1 ≤ new → new ≤ old - 1 → n + 1 + max 1 new ≤ most
+one_more_is_left n most old new h some less = omega arith
+
+pub works_on : (records : List PlanRecord) (place : Place) → Working ≡ progress_at place → 1 ≤ advances_left records place
+works_on records Start e = omega arith
+works_on records (Record i) e = omega arith
+works_on records SyncOwners e = omega arith
+works_on records Mark e = omega arith
+works_on records SyncMark e = omega arith
+works_on records Done e = absurd cc
+
+pub done_at : (place : Place) → Finished ≡ progress_at place → place ≡ Done
+done_at Start e = absurd cc
+done_at (Record i) e = absurd cc
+done_at SyncOwners e = absurd cc
+done_at Mark e = absurd cc
+done_at SyncMark e = absurd cc
+done_at Done e = refl
+
+pub most_left : (records : List PlanRecord) (place : Place) → 0 + max 1 (advances_left records place) ≤ length records + 4
+most_left records Start = omega arith
+most_left records (Record i) = omega arith
+most_left records SyncOwners = omega arith
+most_left records Mark = omega arith
+most_left records SyncMark = omega arith
+most_left records Done = omega arith
+
+-- a failed call of the device is counted
+pub not_counted : (before mid after : ℕ) (fault : RunFault) → fault ≡ Device → mid ≡ before → IsTold {X = Progress} mid after (Err fault) → after ≡ before → ⊥
+not_counted before mid after Device is same told none = omega (arith, told.0)
+not_counted before mid after (Missing i) is same told none = absurd cc
+not_counted before mid after (Foreign i) is same told none = absurd cc

@@ -14,6 +14,7 @@ use Rattle.reown_plan.specs.declared.plan.Owner.{Owner}
 use Rattle.reown_runner.specs.declared.memory.FileCell.{FileCell}
 use Rattle.reown_runner.specs.Tree.{Cells, Writes, IsSettled, Syncs, Stops, cells_of}
 use Rattle.reown_runner.specs.Memory.{Mem, known_mem, cell_of, values_of, keeps_file, keeps_mark, settled_cell, left_cell, owner_of, owner_in, new_mem, IsReopened}
+use Rattle.reown_runner.specs.Finished.{IsFresh}
 use Rattle.reown_runner.specs.MemoryReads.{first_of_two, last_of_two, now_left}
 use Rattle.reown_runner.proofs.Cellwise.{either}
 use Rattle.reown_runner.proofs.Lists.{any-map, any-none, position_or_len-map, slice_get-map, slice_get-read, slice_get-past, slice_get-set, slice_get-set_other}
@@ -198,6 +199,9 @@ new_settled files =
       owner = λ path x h. new_settled_at files (position (bytes_eq path) (map (λ e. e.path) files)) x h;
       mark = λ b h. elim (one_of_two false false b h) [ inl e ↦ e | inr e ↦ e ];
     }
+
+pub new_fresh : (files : List Entry) → IsFresh (owner_in files) (cells_of (known_mem (new_mem files)))
+new_fresh files = record { owner = new_owner files; mark = refl; settled = new_settled files }
 
 -- one more file
 module _ {K : Type 0} (f : K → List ℕ) (keys after : List K) (files : List Entry) (i : ℕ) (d : Entry) (v : K) where

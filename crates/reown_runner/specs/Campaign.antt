@@ -14,6 +14,7 @@ use Rattle.reown_runner.specs.Tree.{TreeData, cells_of}
 use Rattle.reown_runner.specs.State.{State, StandsFor}
 use Rattle.reown_runner.specs.Safe.{IsSafeInStep}
 use Rattle.reown_runner.specs.RunnerData.{RunnerData}
+use Rattle.reown_runner.specs.World.{World}
 use Rattle.reown_runner.specs.Run.{Host, HostEvent, Advances, Stops, IsRun}
 
 -- the host that an event is for
@@ -62,10 +63,10 @@ pub record Goes {T : Type 0} (known : T → TreeData) (runner : RunnerData) (tre
   pub asked : (known tree_after).asked ≤ (known tree).asked + length events
 
 -- each host goes by its own events
-abbrev pub EachGoes : {T : Type 0} → (T → TreeData) → List RunnerData × List T → List Event → (ℕ → Option RunFault) → List RunnerData × List T → Type 0
+abbrev pub EachGoes : {T : Type 0} → (T → TreeData) → World T → List Event → (ℕ → Option RunFault) → World T → Type 0
 EachGoes {T} known old events refused new =
-    (host : ℕ) (runner : RunnerData) (tree : T) → slice_get old.0 host ≡ Some runner → slice_get old.1 host ≡ Some tree
-    → (runner_after : RunnerData) × (tree_after : T) × (slice_get new.0 host ≡ Some runner_after) × (slice_get new.1 host ≡ Some tree_after)
+    (host : ℕ) (runner : RunnerData) (tree : T) → slice_get old.runners host ≡ Some runner → slice_get old.trees host ≡ Some tree
+    → (runner_after : RunnerData) × (tree_after : T) × (slice_get new.runners host ≡ Some runner_after) × (slice_get new.trees host ≡ Some tree_after)
     × Goes known runner tree (own host events) (refused host) runner_after tree_after
 
 abbrev pub is_done : Place → Bool

@@ -3,6 +3,7 @@ pub mod State
 pub mod Safe
 pub mod Step
 pub mod RunnerData
+pub mod World
 pub mod Run
 pub mod Memory
 pub mod MemoryReads

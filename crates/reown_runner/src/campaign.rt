@@ -38,12 +38,12 @@ pub struct Campaign<'p, 'a, T> {
 }
 
 impl<'p, 'a, T> Model for Campaign<'p, 'a, T> {
-    ghost use Rattle.std.specs.Prelude.{◌≡◌, List, length};
-    ghost use Rattle.reown_runner.specs.RunnerData.{RunnerData};
+    ghost use Rattle.std.specs.Prelude.{◌≡◌, length};
+    ghost use Rattle.reown_runner.specs.World.{World};
 
-    ghost Value = { List RunnerData × List T };
+    ghost Value = { World T };
 
-    ghost view = { λ c. (c.runners.items, c.trees.items) };
+    ghost view = { λ c. record { runners = c.runners.items; trees = c.trees.items } };
 
     ghost invariant = { λ c. length c.runners.items ≡ length c.trees.items };
 }
@@ -89,8 +89,8 @@ impl<'p, 'a, T> Campaign<'p, 'a, T> {
         trees: Vec<T>,
     ) -> Result<Self, (AllocError, Vec<T>)>
         requires { length plans.now ≡ length trees.items }
-        ensures runners { IfOk result (λ campaign. campaign.0 ≡ map (λ plan. record { records = plan.records; place = Place.Start }) plans.now) }
-        ensures trees { IfOk result (λ campaign. campaign.1 ≡ trees.items) }
+        ensures runners { IfOk result (λ campaign. campaign.runners ≡ map (λ plan. record { records = plan.records; place = Place.Start }) plans.now) }
+        ensures trees { IfOk result (λ campaign. campaign.trees ≡ trees.items) }
         ensures back { IfErr result (λ refusal. refusal.1.items ≡ trees.items) }
     {
         let mut runners = match Vec::with_capacity(alloc, plans.len()) {
@@ -105,17 +105,18 @@ impl<'p, 'a, T> Campaign<'p, 'a, T> {
         Ok(Campaign { runners, trees })
     }
 
+    /// The tree of a host.
     pub fn tree(&self, host: usize) -> &T
-        requires { host < length self.now.1 }
-        ensures { slice_get self.now.1 host ≡ Some result.now }
+        requires { host < length self.now.trees }
+        ensures { slice_get self.now.trees host ≡ Some result.now }
     {
         &self.trees[host]
     }
 
     /// Whether the host's plan is done.
     pub fn done(&self, host: usize) -> bool
-        requires { host < length self.now.0 }
-        ensures { (runner : RunnerData) × (slice_get self.now.0 host ≡ Some runner) × (result ≡ is_done runner.place) }
+        requires { host < length self.now.runners }
+        ensures { (runner : RunnerData) × (slice_get self.now.runners host ≡ Some runner) × (result ≡ is_done runner.place) }
     {
         let runner = &self.runners[host];
         runner.place() == Place::Done
@@ -123,7 +124,7 @@ impl<'p, 'a, T> Campaign<'p, 'a, T> {
 
     /// The trees in order of the hosts, as they are.
     pub fn into_trees(self) -> Vec<T>
-        ensures { result.items ≡ self.entry.1 }
+        ensures { result.items ≡ self.entry.trees }
     {
         let Campaign { runners, trees } = self;
         drop(runners);
@@ -134,9 +135,9 @@ impl<'p, 'a, T> Campaign<'p, 'a, T> {
 impl<'p, 'a, T: Tree> Campaign<'p, 'a, T> {
     fn happen(&mut self, event: Event) -> Result<(), EventFault>
         ensures goes { EachGoes T.known self.old (event ∷ []) (event_refusal event result) self.new }
-        ensures hosts { IsForHost event (length self.old.1) result }
-        ensures runners { length self.new.0 ≡ length self.old.0 }
-        ensures trees { length self.new.1 ≡ length self.old.1 }
+        ensures hosts { IsForHost event (length self.old.trees) result }
+        ensures runners { length self.new.runners ≡ length self.old.runners }
+        ensures trees { length self.new.trees ≡ length self.old.trees }
     {
         let host = event.host() as usize;
         if host >= self.trees.len() {
@@ -148,11 +149,14 @@ impl<'p, 'a, T: Tree> Campaign<'p, 'a, T> {
         Ok(())
     }
 
-    /// Lets the events happen in order, up to the first that is refused. Answers whether every host is done.
+    /// Lets the events happen in order, up to the first that is refused: those before it have happened, those after it
+    /// have not. Answers whether every host is done. One advance or stop an event, and one pass over the hosts.
     pub fn drive(&mut self, events: &[Event]) -> Result<bool, DriveFault>
         ensures goes { EachGoes T.known self.old (happened events.now result) (λ host. refused_of host events.now result) self.new }
-        ensures hosts { AreForHosts events.now (length self.old.1) result }
-        ensures done { IfOk result (λ all. all ≡ list_all (λ runner. is_done runner.place) self.new.0) }
+        ensures hosts { AreForHosts events.now (length self.old.trees) result }
+        ensures done { IfOk result (λ all. all ≡ list_all (λ runner. is_done runner.place) self.new.runners) }
+        ensures runners { length self.new.runners ≡ length self.old.runners }
+        ensures trees { length self.new.trees ≡ length self.old.trees }
     {
         for (i, event) in events.iter().enumerate() {
             if let Err(fault) = self.happen(*event) {

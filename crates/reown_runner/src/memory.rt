@@ -52,7 +52,8 @@ impl Model for MemTree {
 
 ghost use Rattle.reown_runner.specs.Memory.{Mem, known_mem, cell_of, keeps_file, keeps_mark, is_odd_one, settled_cell, left_cell, owner_in, new_mem, IsReopened};
 ghost use Rattle.reown_runner.specs.MemoryReads.{readable_mem};
-ghost use Rattle.reown_runner.specs.Tree.{cells_of, counted, IsSettled, Stops};
+ghost use Rattle.reown_runner.specs.Tree.{cells_of, counted, Stops};
+ghost use Rattle.reown_runner.specs.Finished.{IsFresh};
 
 fn sync_cells(cells: &mut [FileCell])
     ensures { cells.new ≡ map (λ c. settled_cell c.now) cells.old }
@@ -87,11 +88,11 @@ fn leave_cells(cells: &mut [FileCell], keep: Keep) -> bool
 }
 
 impl MemTree {
-    /// A tree as its inventory, with the mark not set. A stop keeps all, until `on_reopen` chooses otherwise.
+    /// A tree as its inventory, with the mark not set and nothing pending. A stop keeps all, until `on_reopen` chooses
+    /// otherwise. One pass over the inventory, with a copy of each path.
     pub fn new(alloc: Global, inventory: &Inventory) -> Result<MemTree, AllocError>
         ensures starts { IfOk result (λ tree. tree ≡ new_mem inventory.now) }
-        ensures owners { IfOk result (λ tree. (path : List ℕ) → (known_mem tree).owner path ≡ owner_in inventory.now path) }
-        ensures settled { IfOk result (λ tree. IsSettled (cells_of (known_mem tree))) }
+        ensures fresh { IfOk result (λ tree. IsFresh (owner_in inventory.now) (cells_of (known_mem tree))) }
     {
         let entries = inventory.entries();
         let mut paths = IndexSet::with_capacity(alloc, entries.len())?;

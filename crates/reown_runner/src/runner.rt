@@ -1,4 +1,4 @@
-ghost use Rattle.std.specs.Prelude.{◌≡◌, ◌+◌, ◌-◌, ◌≤◌, replicate, ℕ, false, List, Option, map, IfOk, IfErr, OnOk, OnErr, IsOk};
+ghost use Rattle.std.specs.Prelude.{length, ◌≡◌, ◌+◌, ◌-◌, ◌≤◌, replicate, ℕ, false, List, Option, map, IfOk, IfErr, OnOk, OnErr, IsOk};
 ghost use Rattle.reown_plan.specs.Records.{record_of};
 ghost use Rattle.reown_runner.specs.declared.runner.RunFault.TheVariants.{Device};
 ghost use Rattle.reown_runner.specs.Tree.{cells_of, Does};
@@ -9,6 +9,7 @@ ghost use Rattle.reown_runner.specs.declared.runner.RunFault.{RunFault};
 ghost use Rattle.reown_plan.specs.declared.plan.Owner.{Owner};
 ghost use Rattle.reown_runner.specs.State.{State, StandsFor, cells_at, did};
 ghost use Rattle.reown_runner.specs.Safe.{IsSafeInStep};
+ghost use Rattle.reown_runner.specs.Finished.{IsFresh, AreOld, owner_after_plan};
 
 use crate::{DeviceFault, Tree};
 use reown_plan::{Plan, Record};
@@ -159,6 +160,7 @@ fn next_place<T: Tree>(records: &[Record], place: Place, tree: &mut T) -> Result
 }
 
 impl<'p, 'a> Runner<'p, 'a> {
+    /// A runner at the start of a plan.
     pub fn new(plan: &'p Plan<'a>) -> Self
         ensures records { result.records ≡ plan.now.records }
         ensures place { result.place ≡ Place.Start }
@@ -169,6 +171,7 @@ impl<'p, 'a> Runner<'p, 'a> {
         }
     }
 
+    /// Where it is.
     pub fn place(&self) -> Place
         ensures { result ≡ self.now.place }
     {
@@ -182,7 +185,8 @@ impl<'p, 'a> Runner<'p, 'a> {
         self.place = Place::Start;
     }
 
-    /// One step of the plan.
+    /// Does what the place asks for, with at most one write or sync, and goes on to the next place. A refusal leaves the
+    /// place: the device failed, or the record's file is not there or has neither its old nor its new owner.
     pub fn advance<T: Tree>(&mut self, tree: &mut T) -> Result<Progress, RunFault>
         ensures records { self.new.records ≡ self.old.records }
         ensures progress { IfOk result (λ progress. progress ≡ progress_at self.new.place) }
@@ -219,22 +223,31 @@ impl<'p, 'a> Runner<'p, 'a> {
         }
     }
 
-    /// Advances until the plan is done. A refusal leaves the runner where it came.
+    /// Advances until the plan is done. A refusal leaves the runner at the place where it came. For r records it makes at
+    /// most r + 4 advances, and r + 3 writes and syncs.
     pub fn run<T: Tree>(&mut self, tree: &mut T) -> Result<(), RunFault>
         ensures records { self.new.records ≡ self.old.records }
         ensures done { OnOk result (self.new.place ≡ Place.Done) }
         ensures faults { IsTold (T.known tree.old).faults (T.known tree.new).faults result }
         ensures asked { (T.known tree.new).asked ≤ (T.known tree.old).asked + operations_left self.old.records self.old.place }
+        ensures few { (T.known tree.new).asked ≤ (T.known tree.old).asked + (length self.old.records + 3) }
 
         ensures safe { (inventory : List ℕ → Option Owner) → IsSafeInStep inventory self.old.records self.old.place (cells_of (T.known tree.old))
             → IsSafeInStep inventory self.old.records self.new.place (cells_of (T.known tree.new)) }
         ensures device { (inventory : List ℕ → Option Owner) → IsSafeInStep inventory self.old.records self.old.place (cells_of (T.known tree.old))
             → IfErr result (λ fault. fault ≡ Device) }
 
-        // It is some advances in each history that the tree stands for.
+        // So it is Ok wherever no call of the device failed, and then a tree that was fresh reads as the plan says.
+        ensures finishes { (inventory : List ℕ → Option Owner) → IsSafeInStep inventory self.old.records self.old.place (cells_of (T.known tree.old))
+            → (T.known tree.new).faults ≡ (T.known tree.old).faults → IsOk result }
+        ensures reads { (inventory : List ℕ → Option Owner) → IsFresh inventory (cells_of (T.known tree.old)) → AreOld inventory self.old.records → self.old.place ≡ Place.Start
+            → OnOk result ((path : List ℕ) → (T.known tree.new).owner path ≡ owner_after_plan inventory self.old.records path) }
+
+        // It is a run of some advances, at most four more than there are records, in each history that the tree stands for.
         ensures stands { (s : State) → StandsFor (T.known tree.old) s
             → (n : ℕ) × (t : State) × StandsFor (T.known tree.new) t
-            × IsRun self.old.records (record { place = self.old.place; state = s }) (replicate n Advances) (refusal result) (record { place = self.new.place; state = t }) }
+            × IsRun self.old.records (record { place = self.old.place; state = s }) (replicate n Advances) (refusal result) (record { place = self.new.place; state = t })
+            × (n ≤ length self.old.records + 4) }
     {
         'steps: loop {
             match self.advance(tree) {

@@ -3,8 +3,9 @@ use Rattle.std.proofs.lemmas.Grind.{common_steps}
 use Rattle.mtree_inv.specs.declared.entry.Entry.{Entry}
 use Rattle.mtree_inv.specs.Files.{HaveDistinctFiles}
 use Rattle.reown_runner.specs.Memory.{Mem, known_mem, owner_in}
-use Rattle.reown_runner.specs.Tree.{IsSettled, cells_of}
-use Rattle.reown_runner.proofs.Memories.{new_owner, new_settled, one_more_path, one_more_owner}
+use Rattle.reown_runner.specs.Tree.{cells_of}
+use Rattle.reown_runner.specs.Finished.{IsFresh}
+use Rattle.reown_runner.proofs.Memories.{new_fresh, one_more_path, one_more_owner}
 use Rattle.reown_runner.proofs.memory.MemTree.new.Goals as goal
 
 pub loop-entry-preserved : goal.loop-entry-preserved
@@ -20,8 +21,5 @@ loop-entry-preserved c =
 pub returns-clause-starts : goal.returns-clause-starts
 returns-clause-starts c = grind (arith, common_steps)
 
-pub returns-clause-owners : goal.returns-clause-owners
-returns-clause-owners c = λ path. subst (λ (m : Mem). (known_mem m).owner path ≡ owner_in c.args.inventory.now path) (sym (returns-clause-starts c)) (new_owner c.args.inventory.now path)
-
-pub returns-clause-settled : goal.returns-clause-settled
-returns-clause-settled c = subst (λ (m : Mem). IsSettled (cells_of (known_mem m))) (sym (returns-clause-starts c)) (new_settled c.args.inventory.now)
+pub returns-clause-fresh : goal.returns-clause-fresh
+returns-clause-fresh c = subst (λ (m : Mem). IsFresh (owner_in c.args.inventory.now) (cells_of (known_mem m))) (sym (returns-clause-starts c)) (new_fresh c.args.inventory.now)

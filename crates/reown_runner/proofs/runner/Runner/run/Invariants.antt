@@ -1,4 +1,4 @@
-use Rattle.std.proofs.Common.{◌≡◌, ◌+◌, ◌≤◌, replicate, ℕ, List, Option, None}
+use Rattle.std.proofs.Common.{◌≡◌, ◌+◌, ◌≤◌, max, length, replicate, ℕ, List, Option, None}
 use Rattle.reown_plan.specs.declared.plan.Owner.{Owner}
 use Rattle.reown_runner.specs.Tree.{cells_of}
 use Rattle.reown_runner.specs.Step.{advances_left, operations_left}
@@ -18,7 +18,7 @@ invariant-steps g l =
       counted : now.faults ≡ old.faults;
       spent : now.asked + operations_left records l.self.place ≤ old.asked + operations_left records place;
       kept : (inventory : List ℕ → Option Owner) → IsSafeInStep inventory records place (cells_of old) → IsSafeInStep inventory records l.self.place (cells_of now);
-      run : (s : State) → StandsFor old s → (n : ℕ) × (t : State) × StandsFor now t × IsRun records (record { place = place; state = s }) (replicate n Advances) None (record { place = l.self.place; state = t });
+      run : (s : State) → StandsFor old s → (n : ℕ) × (t : State) × StandsFor now t × IsRun records (record { place = place; state = s }) (replicate n Advances) None (record { place = l.self.place; state = t }) × (n + max 1 (advances_left records l.self.place) ≤ length records + 4);
     }
 
 abbrev pub decreases-steps : goal.decreases-steps
