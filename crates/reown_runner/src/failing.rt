@@ -227,7 +227,7 @@ impl Tree for FailTree {
                 self.settle();
                 Ok(())
             }
-            Item::FailBefore => Err(self.fail()),
+            Item::FailBefore => Err(self.fail()), // Nothing is synced.
             Item::FailAfter => {
                 self.settle();
                 Err(self.fail())

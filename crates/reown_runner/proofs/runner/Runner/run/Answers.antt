@@ -52,11 +52,15 @@ steps-preserved g c =
           (c.advance.ensures.safe inventory (subst (λ cs. IsSafeInStep inventory cs c.steps.self.place (cells_of (g.T.Tree.known old))) (sym same) (c.steps.invariant.kept inventory s)));
       run = λ s stands.
           let was = c.steps.invariant.run s stands in
-          let more = c.in-Ok-Working.ensures.stands was.1 was.2 in
-          (was.0 + 1, more.0, more.1, goes_on c.args.self.now.records c.steps.self.records same (record { place = c.args.self.now.place; state = s }) was.0 c.steps.self.place c.advance.new.self.place was.1 more.0 (Ok c.in-Ok-Working.field-0) was.3 more.2 tt,
+          let more = c.in-Ok-Working.ensures.stands was.1 was.2 in (
+            was.0 + 1,
+            more.0,
+            more.1,
+            goes_on c.args.self.now.records c.steps.self.records same (record { place = c.args.self.now.place; state = s }) was.0 c.steps.self.place c.advance.new.self.place was.1 more.0 (Ok c.in-Ok-Working.field-0) was.3 more.2 tt,
             one_more_is_left was.0 (length c.args.self.now.records + 4) (advances_left c.args.self.now.records c.steps.self.place) (advances_left c.args.self.now.records c.advance.new.self.place) was.4
-            (works_on c.args.self.now.records c.advance.new.self.place (sym c.in-Ok-Working.field-0-is ∙ c.in-Ok-Working.ensures.progress))
-            (subst (λ rs. advances_left rs c.advance.new.self.place ≤ advances_left rs c.steps.self.place - 1) same c.in-Ok-Working.ensures.nearer));
+                (works_on c.args.self.now.records c.advance.new.self.place (sym c.in-Ok-Working.field-0-is ∙ c.in-Ok-Working.ensures.progress))
+                (subst (λ rs. advances_left rs c.advance.new.self.place ≤ advances_left rs c.steps.self.place - 1) same c.in-Ok-Working.ensures.nearer),
+          );
     }
 
 pub steps-init : goal.steps-init
@@ -82,4 +86,3 @@ returns-in-Ok-Done-clause-reads g c = λ inventory fresh old start.
     let begins = subst (λ p. IsSafeInStep inventory records p (cells_of before)) (sym start) (fresh_safe inventory records (cells_of before) fresh old) in
     let ends = subst (λ p. IsSafeInStep inventory records p (cells_of after)) (done_at c.advance.new.self.place (sym c.in-Ok-Done.field-0-is ∙ c.in-Ok-Done.ensures.progress)) (returns-in-Ok-Done-clause-safe g c inventory begins) in
     done_reads inventory records (cells_of after) (g.met.T.Tree.readable c.advance.new.tree) ends
-
