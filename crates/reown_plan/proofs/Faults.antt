@@ -1,14 +1,12 @@
 -- Where a text is no plan.
-use Rattle.std.proofs.Common.{◌≡◌, ◌≢◌, ◌⊎◌, inl, inr, ◌<◌, ◌≤◌, ◌+◌, ◌-◌, ℕ, Bool, true, false, ◌||◌, List, [], ◌∷◌, ◌++◌, All, length, take, drop, refl, sym, ◌∙◌, ap, subst, arith, append_assoc, length-append, take-append-drop}
+use Rattle.std.proofs.Common.{◌≡◌, ◌≢◌, ◌+◌, ◌-◌, ℕ, Bool, true, false, ◌||◌, List, [], ◌∷◌, ◌++◌, All, length, take, drop, refl, sym, ◌∙◌, ap, subst, arith, append_assoc, length-append, take-append-drop}
 use Rattle.std.specs.List.{list_any}
 use Rattle.std.specs.Str.{bytes_eq}
 use Rattle.std.specs.Cmp.Lexicographic.{bytes_decides}
-use Rattle.std.proofs.lemmas.List.{append-nil}
 use Rattle.std.proofs.lemmas.List.Elements.{All-head, All-tail}
-use Rattle.reown_plan.specs.declared.plan.PlanFault.{PlanFault}
 use Rattle.reown_plan.specs.declared.plan.PlanFault.TheVariants.{BadPlan}
 use Rattle.reown_plan.specs.PlanData.{PlanRecord, PlanData, HaveDistinctPaths}
-use Rattle.reown_plan.specs.Spelling.{head, line, lines, end, spelling, IsHostName, IsLawfulRecord, IsLawful, IsFaultAt, no_head, no_record, trailing}
+use Rattle.reown_plan.specs.Spelling.{head, line, lines, end, spelling, IsHostName, IsLawfulRecord, IsFaultAt, no_record, trailing}
 use Rattle.reown_plan.proofs.Wholes.{Reads, end_no_line_more}
 
 pub told : (text : List ℕ) (at offset : ℕ) → BadPlan at ≡ BadPlan offset → IsFaultAt text at → IsFaultAt text offset

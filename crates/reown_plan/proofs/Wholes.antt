@@ -1,5 +1,5 @@
 -- A text that spells a plan is read to its end.
-use Rattle.std.proofs.Common.{◌≡◌, ◌≢◌, ◌⊎◌, inl, inr, ◌||◌, ◌<◌, ◌≤◌, ◌+◌, ◌==◌, ◌^◌, ℕ, zero, suc, Bool, true, false, not, List, [], ◌∷◌, ◌++◌, All, map, length, get_or, refl, sym, ◌∙◌, ap, subst, arith, append_assoc, length-append}
+use Rattle.std.proofs.Common.{◌≡◌, ◌⊎◌, inl, inr, ◌||◌, ◌<◌, ◌≤◌, ℕ, suc, Bool, true, false, not, List, [], ◌∷◌, ◌++◌, map, length, get_or, refl, sym, ◌∙◌, ap, subst, arith, append_assoc, length-append}
 use Rattle.std.specs.Prelude.{decimal, codes}
 use Rattle.std.specs.List.{list_any}
 use Rattle.std.specs.Char.{digit_value}
@@ -7,10 +7,9 @@ use Rattle.std.specs.Str.{bytes_eq}
 use Rattle.std.specs.Str.Parse.{AllDigits}
 use Rattle.std.specs.Cmp.Lexicographic.{bytes_decides}
 use Rattle.std.proofs.lemmas.Fmt.{decimal_is_IsNumeral}
-use Rattle.std.proofs.lemmas.List.{append-nil, map-append, get_or_at, get_or_append_left}
-use Rattle.std.proofs.lemmas.List.Elements.{All-head}
+use Rattle.std.proofs.lemmas.List.{append-nil, get_or_at, get_or_append_left}
 use Rattle.reown_plan.specs.declared.plan.Record.{Record}
-use Rattle.reown_plan.specs.PlanData.{PlanRecord, PlanData, HaveDistinctPaths}
+use Rattle.reown_plan.specs.PlanData.{PlanRecord, PlanData}
 use Rattle.reown_plan.specs.Records.{record_of}
 use Rattle.reown_plan.proofs.Lines.{any-map}
 use Rattle.reown_plan.specs.Spelling.{number, head, line, lines, end, spelling, IsLawfulRecord, IsLawful}

@@ -1,4 +1,4 @@
-// What holds of plans and their texts.
+//! What holds of plans and their texts.
 ghost use Rattle.std.specs.Prelude.{◌≡◌, ◌++◌, ℕ, List, [], Result};
 ghost use Rattle.reown_plan.specs.PlanData.{PlanData};
 ghost use Rattle.reown_plan.specs.Spelling.{spelling, IsLawful};

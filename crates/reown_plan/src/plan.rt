@@ -14,7 +14,7 @@ pub struct Owner {
     pub gid: u32,
 }
 
-/// A file that gets a new owner.
+/// A file that gets a new owner: what it has, what it gets, and its path, a slice of the plan.
 #[derive(Clone, Copy, Debug)]
 pub struct Record<'a> {
     pub before: Owner,
@@ -27,6 +27,7 @@ pub struct Record<'a> {
 pub enum PlanFault {
     /// The first header, record or end that is not lawful begins at this byte.
     BadPlan(usize),
+    /// A growth was refused.
     Memory,
 }
 

@@ -1,4 +1,4 @@
-// Reads a plan.
+//! Readers of a plan's parts.
 ghost use Rattle.std.specs.Prelude.{◌≡◌, ◌≢◌, ◌++◌, ◌≤◌, ◌<◌, ◌^◌, [], ◌∷◌, ℕ, List, true, false, IsSomeAnd, decimal, length, ◌==◌, not, IfSome, IfNone};
 ghost use Rattle.std.specs.List.{list_all, list_any};
 ghost use Rattle.reown_plan.specs.declared.plan.Owner.{Owner};

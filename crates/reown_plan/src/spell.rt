@@ -1,4 +1,4 @@
-// A plan's text.
+//! A plan's text.
 ghost use Rattle.std.specs.Prelude.{◌≡◌, ◌++◌, is_ok, if◌then◌else◌};
 ghost use Rattle.reown_plan.specs.Spelling.{head, line, end};
 ghost use Rattle.reown_plan.specs.Records.{record_of};

@@ -12,8 +12,20 @@ fn plan_read(rt: HostRuntime) -> Result<(), Fail> {
     assert_eq!(rt; plan.host(), b"a".as_slice());
     assert_eq!(rt; plan.records().len(), 1);
     for planned in plan.records() {
-        assert!(rt; planned.before == Owner { uid: 1002, gid: 100 });
-        assert!(rt; planned.after == Owner { uid: 1003, gid: 100 });
+        assert!(rt;
+            planned.before
+                == Owner {
+                    uid: 1002,
+                    gid: 100
+                }
+        );
+        assert!(rt;
+            planned.after
+                == Owner {
+                    uid: 1003,
+                    gid: 100
+                }
+        );
         assert_eq!(rt; planned.path, b"etc x".as_slice());
     }
     Ok(())

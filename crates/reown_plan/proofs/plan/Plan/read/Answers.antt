@@ -1,4 +1,4 @@
-use Rattle.std.proofs.Common.{◌≡◌, ◌++◌, ◌∷◌, [], ℕ, List, Bool, Bor, map, All, refl, sym, ap, subst, arith, length, ◌-◌, ◌+◌, ◌∙◌, true, false}
+use Rattle.std.proofs.Common.{◌≡◌, ◌++◌, ◌∷◌, [], ℕ, List, Bor, map, All, refl, sym, ap, subst, arith, length, ◌-◌, ◌+◌, ◌∙◌, true, false}
 use Rattle.reown_plan.specs.declared.plan.Record.{Record}
 use Rattle.reown_plan.specs.PlanData.{HaveDistinctPaths}
 use Rattle.reown_plan.specs.Records.{record_of}
