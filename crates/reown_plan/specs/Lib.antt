@@ -1,0 +1,4 @@
+pub mod PlanData
+pub mod Records
+pub mod Spelling
+pub mod Reading

@@ -1,0 +1,67 @@
+-- How a plan is spelled.
+use Rattle.std.specs.Prelude.{◌≡◌, ◌≢◌, ◌≤◌, ℕ, Bool, ◌==◌, ◌||◌, ◌&&◌, not, nat_le, List, [], ◌∷◌, ◌++◌, All, true, length, flat_map, codes, decimal, slice_index}
+use Rattle.std.specs.List.{list_all}
+use Rattle.reown_plan.specs.declared.plan.Owner.{Owner}
+use Rattle.reown_plan.specs.PlanData.{PlanRecord, PlanData, HaveDistinctPaths}
+
+-- a number and the space behind it
+abbrev pub number : ℕ → List ℕ
+number n = decimal n ++ 32 ∷ []
+
+abbrev pub head : List ℕ → List ℕ
+head host = codes "unify plan 1 " ++ host ++ 10 ∷ []
+
+-- old and new numbers, the length of the path and the path, which may hold spaces and newlines
+abbrev pub line : PlanRecord → List ℕ
+line c = number c.before.uid ++ number c.before.gid ++ number c.after.uid ++ number c.after.gid ++ number (length c.path) ++ c.path ++ 10 ∷ []
+
+abbrev pub end : List ℕ
+end = codes "end\n"
+
+abbrev pub lines : List PlanRecord → List ℕ
+lines records = flat_map line records
+
+abbrev pub spelling : PlanData → List ℕ
+spelling plan = head plan.host ++ lines plan.records ++ end
+
+-- a byte of a host's name: an ASCII letter or digit, a dot, a dash or an underscore
+abbrev pub is_name_byte : ℕ → Bool
+is_name_byte b = (nat_le 48 b && nat_le b 57) || (nat_le 65 b && nat_le b 90) || (nat_le 97 b && nat_le b 122) || (b == 45) || (b == 46) || (b == 95)
+
+pub record IsHostName (name : List ℕ) : Type 0 where
+  pub some : 1 ≤ length name
+  pub short : length name ≤ 64
+  pub bytes : list_all is_name_byte name ≡ true
+  pub no_dot : slice_index name 0 ≢ 46
+  pub no_dash : slice_index name 0 ≢ 45
+
+-- the numbers of an account
+abbrev pub IsOwner : Owner → Type 0
+IsOwner owner = (owner.uid ≤ 4294967294) × (owner.gid ≤ 4294967294)
+
+pub record IsPath (path : List ℕ) : Type 0 where
+  pub some : 1 ≤ length path
+  pub short : length path ≤ 65535
+  pub no_nul : list_all (λ b. not (b == 0)) path ≡ true
+
+pub record IsLawfulRecord (c : PlanRecord) : Type 0 where
+  pub before : IsOwner c.before
+  pub after : IsOwner c.after
+  pub differ : c.before ≢ c.after
+  pub path : IsPath c.path
+
+pub record IsLawful (plan : PlanData) : Type 0 where
+  pub host : IsHostName plan.host
+  pub records : All IsLawfulRecord plan.records
+  pub distinct : HaveDistinctPaths plan.records
+
+-- where a text is no plan: there begins the first header, record or end that is not lawful
+pub data IsFaultAt (text : List ℕ) : ℕ → Type 0 where
+  no_head : ((host rest : List ℕ) → IsHostName host → text ≢ head host ++ rest) → IsFaultAt text 0
+  -- behind a lawful header and lawful records stands no record of another path, and no end
+  no_record : (host : List ℕ) (records : List PlanRecord) (rest : List ℕ) → IsHostName host → All IsLawfulRecord records → HaveDistinctPaths records → text ≡ head host ++ lines records ++ rest
+      → ((c : PlanRecord) (after : List ℕ) → IsLawfulRecord c → All (λ d. d.path ≢ c.path) records → rest ≢ line c ++ after)
+      → ((after : List ℕ) → rest ≢ end ++ after)
+      → IsFaultAt text (length (head host ++ lines records))
+  -- something stands behind the end
+  trailing : (plan : PlanData) (rest : List ℕ) → IsLawful plan → text ≡ spelling plan ++ rest → rest ≢ [] → IsFaultAt text (length (spelling plan))

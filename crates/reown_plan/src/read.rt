@@ -1,0 +1,159 @@
+//! Readers of a plan's parts.
+ghost use Rattle.std.specs.Prelude.{◌≡◌, ◌≢◌, ◌++◌, ◌≤◌, ◌<◌, ◌^◌, [], ◌∷◌, ℕ, List, true, false, IsSomeAnd, decimal, length, ◌==◌, not, IfSome, IfNone};
+ghost use Rattle.std.specs.List.{list_all, list_any};
+ghost use Rattle.reown_plan.specs.declared.plan.Owner.{Owner};
+ghost use Rattle.reown_plan.specs.Spelling.{number, head, line, is_name_byte, IsHostName, IsOwner, IsPath, IsLawfulRecord};
+ghost use Rattle.reown_plan.specs.Records.{record_of};
+ghost use Rattle.reown_plan.specs.PlanData.{PlanRecord};
+
+use crate::{Owner, Record};
+use idtext::{LARGEST_ID, MOST_BYTES};
+use itoa::Buffer;
+
+const LONGEST_NAME: usize = 64;
+
+// The number that these bytes write, without leading zeros.
+fn written(text: &[u8]) -> Option<u32>
+    ensures found { IfSome result (λ n. (n < 2 ^ 32) × (decimal n ≡ text.now)) }
+    ensures none { IfNone result ((n : ℕ) → n < 2 ^ 32 → decimal n ≢ text.now) }
+{
+    let value = str::from_utf8(text).ok()?.parse::<u32>().ok()?;
+    let mut buffer = Buffer::new();
+    if buffer.format(value).as_bytes() == text {
+        Some(value)
+    } else {
+        None
+    }
+}
+
+// A number and the space behind it, and what follows.
+fn read_number(text: &[u8]) -> Option<(u32, &[u8])>
+    ensures spelled { IfSome result (λ r. text.now ≡ number r.0 ++ r.1.now) }
+    ensures complete { (n : ℕ) (rest : List ℕ) → n < 2 ^ 32 → text.now ≡ number n ++ rest → IsSomeAnd result (λ r. (r.0 ≡ n) × (r.1.now ≡ rest)) }
+{
+    let (digits, rest) = cut(text, b' ')?;
+    let value = written(digits)?;
+    Some((value, rest))
+}
+
+// A number of an account.
+fn read_id(text: &[u8]) -> Option<(u32, &[u8])>
+    ensures spelled { IfSome result (λ r. text.now ≡ number r.0 ++ r.1.now) }
+    ensures lawful { IfSome result (λ r. r.0 ≤ 4294967294) }
+    ensures complete { (n : ℕ) (rest : List ℕ) → n ≤ 4294967294 → text.now ≡ number n ++ rest → IsSomeAnd result (λ r. (r.0 ≡ n) × (r.1.now ≡ rest)) }
+{
+    let (value, rest) = read_number(text)?;
+    if value > LARGEST_ID {
+        return None;
+    }
+    Some((value, rest))
+}
+
+// What stands before the first such byte, and what follows it.
+fn cut(text: &[u8], byte: u8) -> Option<(&[u8], &[u8])>
+    ensures spelled { IfSome result (λ r. text.now ≡ r.0.now ++ byte ∷ r.1.now) }
+    ensures first { IfSome result (λ r. list_any (λ b. b == byte) r.0.now ≡ false) }
+    ensures none { IfNone result (list_any (λ b. b == byte) text.now ≡ false) }
+{
+    for (i, other) in text.iter().enumerate() {
+        if *other == byte {
+            return Some((&text[..i], &text[i + 1..]));
+        }
+    }
+    None
+}
+
+// The first line, and what follows.
+pub(crate) fn read_head(text: &[u8]) -> Option<(&[u8], &[u8])>
+    ensures spelled { IfSome result (λ r. text.now ≡ head r.0.now ++ r.1.now) }
+    ensures lawful { IfSome result (λ r. IsHostName r.0.now) }
+    ensures complete { (host rest : List ℕ) → IsHostName host → text.now ≡ head host ++ rest → IsSomeAnd result (λ r. (r.0.now ≡ host) × (r.1.now ≡ rest)) }
+{
+    let after = text.strip_prefix(b"unify plan 1 ")?;
+    let (host, rest) = cut(after, b'\n')?;
+    if !is_host_name(host) {
+        return None;
+    }
+    Some((host, rest))
+}
+
+fn is_host_byte(byte: u8) -> bool
+    ensures { result ≡ is_name_byte byte }
+{
+    byte.is_ascii_digit()
+        || byte.is_ascii_uppercase()
+        || byte.is_ascii_lowercase()
+        || byte == b'-'
+        || byte == b'.'
+        || byte == b'_'
+}
+
+fn are_host_bytes(name: &[u8]) -> bool
+    ensures { result ≡ list_all is_name_byte name.now }
+{
+    name.iter().all(|byte| is_host_byte(*byte))
+}
+
+fn is_host_name(name: &[u8]) -> bool
+    ensures lawful { result ≡ true → IsHostName name.now }
+    ensures complete { IsHostName name.now → result ≡ true }
+{
+    if name.is_empty() || name.len() > LONGEST_NAME || name[0] == b'.' || name[0] == b'-' {
+        return false;
+    }
+    are_host_bytes(name)
+}
+
+// A record, and what follows.
+pub(crate) fn read_record(text: &[u8]) -> Option<(Record<'_>, &[u8])>
+    ensures spelled { IfSome result (λ r. text.now ≡ line (record_of r.0) ++ r.1.now) }
+    ensures lawful { IfSome result (λ r. IsLawfulRecord (record_of r.0)) }
+    ensures complete { (c : PlanRecord) (rest : List ℕ) → IsLawfulRecord c → text.now ≡ line c ++ rest → IsSomeAnd result (λ r. (record_of r.0 ≡ c) × (r.1.now ≡ rest)) }
+{
+    let (before, text) = read_owner(text)?;
+    let (after, text) = read_owner(text)?;
+    if before == after {
+        return None;
+    }
+    let (size, text) = read_number(text)?;
+    let (path, rest) = read_path(text, size as usize)?;
+    let planned = Record {
+        before,
+        after,
+        path,
+    };
+    Some((planned, rest))
+}
+
+// A path of this length and the end of its line, and what follows.
+fn read_path(text: &[u8], size: usize) -> Option<(&[u8], &[u8])>
+    ensures spelled { IfSome result (λ r. text.now ≡ r.0.now ++ 10 ∷ r.1.now) }
+    ensures length { IfSome result (λ r. length r.0.now ≡ size) }
+    ensures lawful { IfSome result (λ r. IsPath r.0.now) }
+    ensures complete { (path rest : List ℕ) → IsPath path → length path ≡ size → text.now ≡ path ++ 10 ∷ rest → IsSomeAnd result (λ r. (r.0.now ≡ path) × (r.1.now ≡ rest)) }
+{
+    if size == 0 || size > MOST_BYTES || size >= text.len() || text[size] != b'\n' {
+        return None;
+    }
+    let path = &text[..size];
+    if !has_no_nul(path) {
+        return None;
+    }
+    Some((path, &text[size + 1..]))
+}
+
+fn has_no_nul(path: &[u8]) -> bool
+    ensures { result ≡ list_all (λ b. not (b == 0)) path.now }
+{
+    path.iter().all(|byte| *byte != 0)
+}
+
+fn read_owner(text: &[u8]) -> Option<(Owner, &[u8])>
+    ensures spelled { IfSome result (λ r. text.now ≡ number r.0.uid ++ number r.0.gid ++ r.1.now) }
+    ensures lawful { IfSome result (λ r. IsOwner r.0) }
+    ensures complete { (owner : Owner) (rest : List ℕ) → IsOwner owner → text.now ≡ number owner.uid ++ number owner.gid ++ rest → IsSomeAnd result (λ r. (r.0 ≡ owner) × (r.1.now ≡ rest)) }
+{
+    let (uid, text) = read_id(text)?;
+    let (gid, text) = read_id(text)?;
+    Some((Owner { uid, gid }, text))
+}

@@ -1,0 +1,10 @@
+pub mod Turns
+pub mod Cellwise
+pub mod Sound
+pub mod Histories
+pub mod Count
+pub mod Runs
+pub mod Lists
+pub mod Memories
+pub mod Campaigns
+pub mod Finishing

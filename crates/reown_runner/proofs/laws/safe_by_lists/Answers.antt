@@ -1,0 +1,5 @@
+use Rattle.reown_runner.proofs.Finishing.{by_lists}
+use Rattle.reown_runner.proofs.laws.safe_by_lists.Goals as goal
+
+pub returns : goal.returns
+returns c = by_lists

@@ -1,0 +1,77 @@
+use Rattle.std.proofs.Common.{◌≡◌, refl, sym, ◌∙◌, ap, subst, Ok, Err, ◌≤◌, ◌-◌}
+use Rattle.reown_plan.specs.PlanData.{HaveDistinctPaths}
+use Rattle.reown_runner.specs.Tree.{cells_of, Does}
+use Rattle.reown_runner.specs.RunnerData.{RunnerData}
+use Rattle.reown_runner.specs.Step.{turn, IsAdvance, IsPlaceOf, IsAsked, advances_left}
+use Rattle.reown_runner.proofs.Sound.{sound_after, only_device}
+use Rattle.reown_runner.proofs.Histories.{advance_stands}
+use Rattle.reown_runner.proofs.Count.{nearer, one_nearer, spends, spends_err}
+use Rattle.reown_runner.proofs.runner.Runner.advance.Goals as goal
+
+pub returns-in-Ok-clause-nearer : goal.returns-in-Ok-clause-nearer
+returns-in-Ok-clause-nearer g c =
+    let old = g.T.Tree.known c.args.tree.now in
+    let step = subst (λ (w : RunnerData). IsAdvance (turn w.records w.place old.owner old.mark) (λ operation. Does operation (cells_of old) (cells_of (g.T.Tree.known c.next_place.new.tree))) (Ok c.in-Ok.place)) c.self.view_is c.in-Ok.ensures.step in
+    let fits = subst (λ (w : RunnerData). IsPlaceOf w.records w.place) c.self.view_is c.self.invariant.1 in
+    subst (λ p. advances_left c.args.self.now.records p ≤ advances_left c.args.self.now.records c.args.self.now.place - 1) (sym step.2) (nearer c.args.self.now.records old.owner c.args.self.now.place old.mark step.0 fits step.1)
+
+pub returns-in-Ok-clause-by_one : goal.returns-in-Ok-clause-by_one
+returns-in-Ok-clause-by_one g c = λ unset.
+    let old = g.T.Tree.known c.args.tree.now in
+    let step = subst (λ (w : RunnerData). IsAdvance (turn w.records w.place old.owner old.mark) (λ operation. Does operation (cells_of old) (cells_of (g.T.Tree.known c.next_place.new.tree))) (Ok c.in-Ok.place)) c.self.view_is c.in-Ok.ensures.step in
+    let fits = subst (λ (w : RunnerData). IsPlaceOf w.records w.place) c.self.view_is c.self.invariant.1 in
+    ap (advances_left c.args.self.now.records) step.2 ∙ one_nearer c.args.self.now.records old.owner c.args.self.now.place old.mark step.0 fits unset step.1
+
+pub returns-in-Ok-clause-safe : goal.returns-in-Ok-clause-safe
+returns-in-Ok-clause-safe g c = λ inventory safe.
+    let old = g.T.Tree.known c.args.tree.now in
+    let new = g.T.Tree.known c.next_place.new.tree in
+    let step = subst (λ (w : RunnerData). IsAdvance (turn w.records w.place old.owner old.mark) (λ operation. Does operation (cells_of old) (cells_of new)) (Ok c.in-Ok.place)) c.self.view_is c.in-Ok.ensures.step in
+    let distinct = subst (λ (w : RunnerData). HaveDistinctPaths w.records) c.self.view_is c.self.invariant.0 in
+    sound_after inventory c.args.self.now.records distinct (cells_of old) (cells_of new) (g.met.T.Tree.readable c.args.tree.now) c.args.self.now.place (Ok c.in-Ok.place) safe step
+
+pub returns-in-Err-clause-safe : goal.returns-in-Err-clause-safe
+returns-in-Err-clause-safe g c = λ inventory safe.
+    let old = g.T.Tree.known c.args.tree.now in
+    let new = g.T.Tree.known c.next_place.new.tree in
+    let step = subst (λ (w : RunnerData). IsAdvance (turn w.records w.place old.owner old.mark) (λ operation. Does operation (cells_of old) (cells_of new)) (Err c.in-Err.fault)) c.self.view_is c.in-Err.ensures.step in
+    let distinct = subst (λ (w : RunnerData). HaveDistinctPaths w.records) c.self.view_is c.self.invariant.0 in
+    sound_after inventory c.args.self.now.records distinct (cells_of old) (cells_of new) (g.met.T.Tree.readable c.args.tree.now) c.args.self.now.place (Err c.in-Err.fault) safe step
+
+pub returns-in-Err-clause-device : goal.returns-in-Err-clause-device
+returns-in-Err-clause-device g c = λ inventory safe.
+    let old = g.T.Tree.known c.args.tree.now in
+    let new = g.T.Tree.known c.next_place.new.tree in
+    let step = subst (λ (w : RunnerData). IsAdvance (turn w.records w.place old.owner old.mark) (λ operation. Does operation (cells_of old) (cells_of new)) (Err c.in-Err.fault)) c.self.view_is c.in-Err.ensures.step in
+    let distinct = subst (λ (w : RunnerData). HaveDistinctPaths w.records) c.self.view_is c.self.invariant.0 in
+    only_device inventory c.args.self.now.records distinct (cells_of old) (cells_of new) (g.met.T.Tree.readable c.args.tree.now) c.args.self.now.place c.in-Err.fault safe step
+
+pub returns-in-Ok-clause-stands : goal.returns-in-Ok-clause-stands
+returns-in-Ok-clause-stands g c = λ s stands.
+    let old = g.T.Tree.known c.args.tree.now in
+    let new = g.T.Tree.known c.next_place.new.tree in
+    let step = subst (λ (w : RunnerData). IsAdvance (turn w.records w.place old.owner old.mark) (λ operation. Does operation (cells_of old) (cells_of new)) (Ok c.in-Ok.place)) c.self.view_is c.in-Ok.ensures.step in
+    advance_stands c.args.self.now.records c.args.self.now.place s (cells_of old) (cells_of new) (Ok c.in-Ok.place) stands step
+
+pub returns-in-Err-clause-stands : goal.returns-in-Err-clause-stands
+returns-in-Err-clause-stands g c = λ s stands.
+    let old = g.T.Tree.known c.args.tree.now in
+    let new = g.T.Tree.known c.next_place.new.tree in
+    let step = subst (λ (w : RunnerData). IsAdvance (turn w.records w.place old.owner old.mark) (λ operation. Does operation (cells_of old) (cells_of new)) (Err c.in-Err.fault)) c.self.view_is c.in-Err.ensures.step in
+    advance_stands c.args.self.now.records c.args.self.now.place s (cells_of old) (cells_of new) (Err c.in-Err.fault) stands step
+
+pub returns-in-Ok-clause-spends : goal.returns-in-Ok-clause-spends
+returns-in-Ok-clause-spends g c =
+    let old = g.T.Tree.known c.args.tree.now in
+    let step = subst (λ (w : RunnerData). IsAdvance (turn w.records w.place old.owner old.mark) (λ operation. Does operation (cells_of old) (cells_of (g.T.Tree.known c.next_place.new.tree))) (Ok c.in-Ok.place)) c.self.view_is c.in-Ok.ensures.step in
+    let fits = subst (λ (w : RunnerData). IsPlaceOf w.records w.place) c.self.view_is c.self.invariant.1 in
+    let asked = subst (λ (w : RunnerData). IsAsked (turn w.records w.place old.owner old.mark) old.asked (g.T.Tree.known c.next_place.new.tree).asked) c.self.view_is c.next_place.ensures.asked in
+    let near = subst (λ p. advances_left c.args.self.now.records p ≤ advances_left c.args.self.now.records c.args.self.now.place - 1) (sym step.2) (nearer c.args.self.now.records old.owner c.args.self.now.place old.mark step.0 fits step.1) in
+    spends c.args.self.now.records old.owner c.args.self.now.place old.mark c.in-Ok.place old.asked (g.T.Tree.known c.next_place.new.tree).asked fits asked near
+
+pub returns-in-Err-clause-spends_err : goal.returns-in-Err-clause-spends_err
+returns-in-Err-clause-spends_err g c =
+    let old = g.T.Tree.known c.args.tree.now in
+    let fits = subst (λ (w : RunnerData). IsPlaceOf w.records w.place) c.self.view_is c.self.invariant.1 in
+    let asked = subst (λ (w : RunnerData). IsAsked (turn w.records w.place old.owner old.mark) old.asked (g.T.Tree.known c.next_place.new.tree).asked) c.self.view_is c.next_place.ensures.asked in
+    spends_err c.args.self.now.records old.owner c.args.self.now.place old.mark old.asked (g.T.Tree.known c.next_place.new.tree).asked fits asked

@@ -1,0 +1,96 @@
+-- Several hosts, whose events come interleaved.
+use Rattle.std.specs.Prelude.{◌≡◌, ◌<◌, ◌≤◌, ◌+◌, ℕ, ◌==◌, Bool, List, [], ◌∷◌, Option, None, Some, Result, Ok, Err, IfSome, All, slice_get, take, length, filter_map, true, false, if◌then◌else◌}
+use Rattle.reown_plan.specs.declared.plan.Owner.{Owner}
+use Rattle.reown_runner.specs.declared.campaign.Event.{Event}
+use Rattle.reown_runner.specs.declared.campaign.Event.TheVariants.{Advance, Stop}
+use Rattle.reown_runner.specs.declared.campaign.EventFault.{EventFault}
+use Rattle.reown_runner.specs.declared.campaign.EventFault.TheVariants.{Run, NoSuchHost}
+use Rattle.reown_runner.specs.declared.campaign.DriveFault.{DriveFault}
+use Rattle.reown_runner.specs.declared.runner.RunFault.{RunFault}
+use Rattle.reown_runner.specs.declared.runner.RunFault.TheVariants.{Device, Missing, Foreign}
+use Rattle.reown_runner.specs.declared.runner.Place.{Place}
+use Rattle.reown_runner.specs.declared.runner.Place.TheVariants.{Start, Record, SyncOwners, Mark, SyncMark, Done}
+use Rattle.reown_runner.specs.Tree.{TreeData, cells_of}
+use Rattle.reown_runner.specs.State.{State, StandsFor}
+use Rattle.reown_runner.specs.Safe.{IsSafeInStep}
+use Rattle.reown_runner.specs.RunnerData.{RunnerData}
+use Rattle.reown_runner.specs.World.{World}
+use Rattle.reown_runner.specs.Run.{Host, HostEvent, Advances, Stops, IsRun}
+
+-- the host that an event is for
+abbrev pub host_of : Event → ℕ
+host_of (Advance host) = host
+host_of (Stop host) = host
+
+abbrev pub host_event : Event → HostEvent
+host_event (Advance host) = Advances
+host_event (Stop host) = Stops
+
+-- the events of one host, in their order
+abbrev pub own : ℕ → List Event → List HostEvent
+own host events = filter_map (λ event. if host_of event == host then Some (host_event event) else None) events
+
+-- the refusal of an event, for the host that it is for
+abbrev pub refused_for : ℕ → Option Event → EventFault → Option RunFault
+refused_for host None fault = None
+refused_for host (Some event) NoSuchHost = None
+refused_for host (Some event) (Run fault) = if host_of event == host then Some fault else None
+
+-- the events that happened: all of them, or those up to the refused one
+abbrev pub happened : List Event → Result Bool DriveFault → List Event
+happened events (Ok all) = events
+happened events (Err refused) = take (refused.event + 1) events
+
+abbrev pub refused_of : ℕ → List Event → Result Bool DriveFault → Option RunFault
+refused_of host events (Ok all) = None
+refused_of host events (Err refused) = refused_for host (slice_get events refused.event) refused.fault
+
+-- the count of faults rises exactly where the device was the cause
+abbrev pub IsToldBy : Option RunFault → ℕ → ℕ → Type 0
+IsToldBy None before after = after ≡ before
+IsToldBy (Some Device) before after = after ≡ before + 1
+IsToldBy (Some (Missing i)) before after = after ≡ before
+IsToldBy (Some (Foreign i)) before after = after ≡ before
+
+-- one host goes from there to there by its events
+pub record Goes {T : Type 0} (known : T → TreeData) (runner : RunnerData) (tree : T) (events : List HostEvent) (refused : Option RunFault) (runner_after : RunnerData) (tree_after : T) : Type 0 where
+  pub records : runner_after.records ≡ runner.records
+  pub stands : (s : State) → StandsFor (known tree) s
+      → (t : State) × StandsFor (known tree_after) t × IsRun runner.records (record { place = runner.place; state = s }) events refused (record { place = runner_after.place; state = t })
+  pub safe : (inventory : List ℕ → Option Owner) → IsSafeInStep inventory runner.records runner.place (cells_of (known tree)) → IsSafeInStep inventory runner.records runner_after.place (cells_of (known tree_after))
+  pub device : (inventory : List ℕ → Option Owner) → IsSafeInStep inventory runner.records runner.place (cells_of (known tree)) → IfSome refused (λ fault. fault ≡ Device)
+  pub told : IsToldBy refused (known tree).faults (known tree_after).faults
+  pub asked : (known tree_after).asked ≤ (known tree).asked + length events
+
+-- each host goes by its own events
+abbrev pub EachGoes : {T : Type 0} → (T → TreeData) → World T → List Event → (ℕ → Option RunFault) → World T → Type 0
+EachGoes {T} known old events refused new =
+    (host : ℕ) (runner : RunnerData) (tree : T) → slice_get old.runners host ≡ Some runner → slice_get old.trees host ≡ Some tree
+    → (runner_after : RunnerData) × (tree_after : T) × (slice_get new.runners host ≡ Some runner_after) × (slice_get new.trees host ≡ Some tree_after)
+    × Goes known runner tree (own host events) (refused host) runner_after tree_after
+
+abbrev pub is_done : Place → Bool
+is_done Start = false
+is_done (Record i) = false
+is_done SyncOwners = false
+is_done Mark = false
+is_done SyncMark = false
+is_done Done = true
+
+-- why an event was refused, for one host
+abbrev pub event_refusal : Event → Result (Unit {0}) EventFault → ℕ → Option RunFault
+event_refusal event (Ok done) host = None
+event_refusal event (Err fault) host = refused_for host (Some event) fault
+
+-- an event is refused for want of its host exactly where there is none
+abbrev pub IsForHost : Event → ℕ → Result (Unit {0}) EventFault → Type 0
+IsForHost event hosts (Ok done) = host_of event < hosts
+IsForHost event hosts (Err NoSuchHost) = hosts ≤ host_of event
+IsForHost event hosts (Err (Run fault)) = host_of event < hosts
+
+-- the events before the refused one have their hosts; that one is refused for want of its host exactly where there is none
+abbrev pub AreForHosts : List Event → ℕ → Result Bool DriveFault → Type 0
+AreForHosts events hosts (Ok all) = All (λ event. host_of event < hosts) events
+AreForHosts events hosts (Err refused) =
+    (refused.event < length events) × All (λ event. host_of event < hosts) (take refused.event events)
+    × ((event : Event) → slice_get events refused.event ≡ Some event → IsForHost event hosts (Err refused.fault))

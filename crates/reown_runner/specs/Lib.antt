@@ -1,0 +1,12 @@
+pub mod Tree
+pub mod State
+pub mod Safe
+pub mod Step
+pub mod RunnerData
+pub mod World
+pub mod Run
+pub mod Memory
+pub mod MemoryReads
+pub mod Failing
+pub mod Campaign
+pub mod Finished

@@ -1,0 +1,19 @@
+//! Runs a plan on a tree, so that a stop at any moment leaves each file at its old or its new owner.
+#![tactic(auto)]
+
+mod campaign;
+mod failing;
+mod laws;
+mod memory;
+mod runner;
+mod tree;
+
+pub use campaign::{Campaign, DriveFault, Event, EventFault};
+pub use failing::{FailTree, Item};
+pub use laws::{advances_from_start, done_means_done, fresh_is_safe, safe_by_lists, stays_safe};
+pub use memory::{FileCell, Keep, MemTree};
+pub use runner::{Place, Progress, RunFault, Runner};
+pub use tree::{DeviceFault, Tree};
+
+#[cfg(test)]
+mod tests;

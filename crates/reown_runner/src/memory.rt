@@ -1,0 +1,227 @@
+// A tree in memory, which never fails.
+ghost use Rattle.std.specs.Prelude.{◌≡◌, ◌<◌, ℕ, List, map, take, length, position, slice_get, slice_set, slice_index_or, Option, Some, IfOk, IfSome};
+ghost use Rattle.std.specs.Option.{option_map};
+ghost use Rattle.std.specs.Str.{bytes_eq};
+ghost use Rattle.reown_plan.specs.declared.plan.Owner.{Owner};
+
+use crate::{DeviceFault, Tree};
+use indexmap::IndexSet;
+use mtree_inv::Inventory;
+use reown_plan::Owner;
+use std::alloc::{AllocError, Global};
+use std::marker::Model;
+
+/// Which of the values that are pending a stop keeps.
+#[derive(Clone, Copy, Debug, PartialEq, Eq)]
+pub enum Keep {
+    All,
+    Lost,
+    /// Of the cells that are pending, in order and the mark last, every other, from the first on.
+    Alternate,
+    MarkOnly,
+}
+
+/// A file's owner at the last sync, and now.
+#[derive(Clone, Copy, Debug)]
+pub struct FileCell {
+    synced: Owner,
+    now: Owner,
+}
+
+/// A tree in memory.
+#[derive(Drop)]
+pub struct MemTree {
+    paths: IndexSet<Vec<u8>>,
+    cells: Vec<FileCell>,
+    mark_synced: bool,
+    mark_now: bool,
+    keep: Keep,
+    asked: u64,
+}
+
+impl Model for MemTree {
+    ghost use Rattle.std.specs.Prelude.{◌≡◌, map, length};
+    ghost use Rattle.reown_runner.specs.Memory.{Mem};
+
+    ghost Value = { Mem };
+
+    ghost view = { λ m. record { paths = map (λ k. k.items) m.paths.keys; cells = m.cells.items; mark_synced = m.mark_synced; mark_now = m.mark_now; keep = m.keep; asked = m.asked } };
+
+    ghost invariant = { λ m. length m.paths.keys ≡ length m.cells.items };
+}
+
+ghost use Rattle.reown_runner.specs.Memory.{Mem, known_mem, cell_of, keeps_file, keeps_mark, is_odd_one, settled_cell, left_cell, owner_in, new_mem, IsReopened};
+ghost use Rattle.reown_runner.specs.MemoryReads.{readable_mem};
+ghost use Rattle.reown_runner.specs.Tree.{cells_of, counted, Stops};
+ghost use Rattle.reown_runner.specs.Finished.{IsFresh};
+
+fn sync_cells(cells: &mut [FileCell])
+    ensures { cells.new ≡ map (λ c. settled_cell c.now) cells.old }
+{
+    for cell in cells.iter_mut() {
+        cell.synced = cell.now;
+    }
+}
+
+// A stop leaves in each cell what the choice keeps. Answers whether the next pending cell is an odd one.
+fn leave_cells(cells: &mut [FileCell], keep: Keep) -> bool
+    ensures odd { result ≡ is_odd_one cells.old }
+    ensures cells { (k : ℕ) (d : FileCell) → k < length cells.old → slice_index_or cells.new k d ≡ left_cell (keeps_file keep (take k cells.old)) (slice_index_or cells.old k d) }
+{
+    let mut odd = true;
+    for cell in cells.iter_mut() {
+        let kept = match keep {
+            Keep::All => true,
+            Keep::Lost | Keep::MarkOnly => false,
+            Keep::Alternate => odd,
+        };
+        if cell.synced != cell.now {
+            odd = !odd;
+        }
+        let owner = if kept { cell.now } else { cell.synced };
+        *cell = FileCell {
+            synced: owner,
+            now: owner,
+        };
+    }
+    odd
+}
+
+impl MemTree {
+    /// A tree as its inventory, with the mark not set and nothing pending. A stop keeps all, until `on_reopen` chooses
+    /// otherwise. One pass over the inventory, with a copy of each path.
+    pub fn new(alloc: Global, inventory: &Inventory) -> Result<MemTree, AllocError>
+        ensures starts { IfOk result (λ tree. tree ≡ new_mem inventory.now) }
+        ensures fresh { IfOk result (λ tree. IsFresh (owner_in inventory.now) (cells_of (known_mem tree))) }
+    {
+        let entries = inventory.entries();
+        let mut paths = IndexSet::with_capacity(alloc, entries.len())?;
+        let mut cells = Vec::with_capacity(alloc, entries.len())?;
+        for entry in entries {
+            paths.insert(entry.path.bytes().to_vec(alloc)?)?;
+            let owner = Owner {
+                uid: entry.uid,
+                gid: entry.gid,
+            };
+            cells.push(FileCell {
+                synced: owner,
+                now: owner,
+            })?;
+        }
+        Ok(MemTree {
+            paths,
+            cells,
+            mark_synced: false,
+            mark_now: false,
+            keep: Keep::All,
+            asked: 0,
+        })
+    }
+
+    /// Chooses what a stop keeps.
+    pub fn on_reopen(&mut self, keep: Keep)
+        ensures { self.new ≡ record self.old { keep = keep } }
+    {
+        self.keep = keep;
+    }
+
+    // The place of a path.
+    fn index_of(&self, path: &[u8]) -> Option<usize>
+        ensures place { result ≡ position (bytes_eq path.now) self.now.paths }
+        ensures within { IfSome result (λ i. i < length self.now.cells) }
+    {
+        self.paths.get_index_of(path)
+    }
+
+    fn owner_at(&self, i: usize) -> Owner
+        requires { i < length self.now.cells }
+        ensures { option_map (λ c. c.now) (slice_get self.now.cells i) ≡ Some result }
+    {
+        self.cells[i].now
+    }
+
+    // Writes an owner over what is there.
+    fn write(&mut self, i: usize, owner: Owner)
+        requires { i < length self.old.cells }
+        ensures { (c : FileCell) × (slice_get self.old.cells i ≡ Some c)
+            × (self.new ≡ record self.old { cells = slice_set self.old.cells i (record { synced = c.synced; now = owner }); asked = counted self.old.asked }) }
+    {
+        self.cells[i].now = owner;
+        self.asked = self.asked.saturating_add(1);
+    }
+
+    // What is pending is synced.
+    fn settle(&mut self)
+        ensures { self.new ≡ record self.old { cells = map (λ c. settled_cell c.now) self.old.cells; mark_synced = self.old.mark_now; asked = counted self.old.asked } }
+    {
+        sync_cells(&mut self.cells);
+        self.mark_synced = self.mark_now;
+        self.asked = self.asked.saturating_add(1);
+    }
+
+    // A stop, as it was chosen.
+    fn leave(&mut self)
+        ensures { IsReopened self.old self.new }
+    {
+        let odd = leave_cells(&mut self.cells, self.keep);
+        let kept = match self.keep {
+            Keep::All | Keep::MarkOnly => true,
+            Keep::Lost => false,
+            Keep::Alternate => odd,
+        };
+        let mark = if kept {
+            self.mark_now
+        } else {
+            self.mark_synced
+        };
+        self.mark_synced = mark;
+        self.mark_now = mark;
+    }
+}
+
+impl Tree for MemTree {
+    ghost known = { known_mem };
+
+    fn owner(&mut self, path: &[u8]) -> Result<Option<Owner>, DeviceFault> {
+        match self.index_of(path) {
+            None => Ok(None),
+            Some(i) => Ok(Some(self.owner_at(i))),
+        }
+    }
+
+    fn set_owner(&mut self, path: &[u8], owner: Owner) -> Result<(), DeviceFault> {
+        let i = self.index_of(path).unwrap();
+        self.write(i, owner);
+        Ok(())
+    }
+
+    fn mark(&mut self) -> Result<bool, DeviceFault> {
+        Ok(self.mark_now)
+    }
+
+    fn set_mark(&mut self) -> Result<(), DeviceFault> {
+        self.mark_now = true;
+        self.asked = self.asked.saturating_add(1);
+        Ok(())
+    }
+
+    fn sync(&mut self) -> Result<(), DeviceFault> {
+        self.settle();
+        Ok(())
+    }
+
+    fn reopen(&mut self)
+        ensures left { Stops (cells_of (known_mem self.old)) (cells_of (known_mem self.new)) }
+        ensures faults { (known_mem self.new).faults ≡ (known_mem self.old).faults }
+        ensures asked { (known_mem self.new).asked ≡ (known_mem self.old).asked }
+        ensures chosen { IsReopened self.old self.new }
+    {
+        self.leave();
+    }
+
+    fn faults(&self) -> u64 {
+        0
+    }
+
+    ghost readable = { readable_mem };
+}

@@ -1,0 +1,260 @@
+ghost use Rattle.std.specs.Prelude.{length, ◌≡◌, ◌+◌, ◌-◌, ◌≤◌, replicate, ℕ, false, List, Option, map, IfOk, IfErr, OnOk, OnErr, IsOk};
+ghost use Rattle.reown_plan.specs.Records.{record_of};
+ghost use Rattle.reown_runner.specs.declared.runner.RunFault.TheVariants.{Device};
+ghost use Rattle.reown_runner.specs.Tree.{cells_of, Does};
+ghost use Rattle.reown_runner.specs.Step.{turn, record_turn, record_place, IsAdvance, IsTold, IsAsked, IsPlaceOf, progress_at, moved, advances_left, operations_left};
+ghost use Rattle.reown_runner.specs.Run.{IsRun, Host, HostEvent, Advances, refusal};
+ghost use Rattle.reown_plan.specs.PlanData.{PlanRecord, HaveDistinctPaths};
+ghost use Rattle.reown_runner.specs.declared.runner.RunFault.{RunFault};
+ghost use Rattle.reown_plan.specs.declared.plan.Owner.{Owner};
+ghost use Rattle.reown_runner.specs.State.{State, StandsFor, cells_at, did};
+ghost use Rattle.reown_runner.specs.Safe.{IsSafeInStep};
+ghost use Rattle.reown_runner.specs.Finished.{IsFresh, AreOld, owner_after_plan};
+
+use crate::{DeviceFault, Tree};
+use reown_plan::{Plan, Record};
+use std::marker::Model;
+
+/// Where a runner is in its plan.
+#[derive(Clone, Copy, Debug, PartialEq, Eq)]
+pub enum Place {
+    /// It reads the mark.
+    Start,
+    /// It moves the file of this record.
+    Record(usize),
+    SyncOwners,
+    /// It sets the mark.
+    Mark,
+    SyncMark,
+    Done,
+}
+
+/// Whether a plan is done.
+#[derive(Clone, Copy, Debug, PartialEq, Eq)]
+pub enum Progress {
+    Working,
+    Done,
+}
+
+/// Why a runner stays at its place.
+#[derive(Clone, Copy, Debug, PartialEq, Eq)]
+pub enum RunFault {
+    /// A call of the device failed.
+    Device,
+    /// The file of this record is not there.
+    Missing(usize),
+    /// The file of this record has neither its old nor its new owner.
+    Foreign(usize),
+}
+
+impl From<DeviceFault> for RunFault {
+    ghost from_gives = { λ _ fault. fault ≡ Device };
+
+    fn from(_: DeviceFault) -> Self {
+        RunFault::Device
+    }
+}
+
+impl Place {
+    fn progress(self) -> Progress
+        ensures { result ≡ progress_at self }
+    {
+        match self {
+            Place::Done => Progress::Done,
+            _ => Progress::Working,
+        }
+    }
+}
+
+/// Carries a plan out on a tree, in steps of at most one write or sync.
+#[derive(Drop)]
+pub struct Runner<'p, 'a> {
+    records: &'p [Record<'a>],
+    place: Place,
+}
+
+impl<'p, 'a> Model for Runner<'p, 'a> {
+    ghost use Rattle.std.specs.Prelude.{map};
+    ghost use Rattle.reown_plan.specs.PlanData.{HaveDistinctPaths};
+    ghost use Rattle.reown_runner.specs.RunnerData.{RunnerData};
+
+    ghost Value = { RunnerData };
+
+    ghost use Rattle.reown_plan.specs.Records.{record_of};
+    ghost use Rattle.reown_runner.specs.Step.{IsPlaceOf};
+
+    ghost view = { λ r. record { records = map record_of r.records.now; place = r.place } };
+
+    ghost invariant = { λ r. HaveDistinctPaths (map record_of r.records.now) × IsPlaceOf (map record_of r.records.now) r.place };
+}
+
+// The place of a record, or the one behind the records.
+fn place_of(records: &[Record], i: usize) -> Place
+    ensures place { result ≡ record_place (map record_of records.now) i }
+    ensures fits { IsPlaceOf (map record_of records.now) result }
+{
+    if i < records.len() {
+        Place::Record(i)
+    } else {
+        Place::SyncOwners
+    }
+}
+
+// Moves the file of a record from its old owner to its new one, unless it is there.
+fn move_file<T: Tree>(
+    planned: &Record,
+    i: usize,
+    next: Place,
+    tree: &mut T,
+) -> Result<Place, RunFault>
+    ensures step { IsAdvance (record_turn i (record_of planned.now) next ((T.known tree.old).owner planned.now.path.now)) (λ operation. Does operation (cells_of (T.known tree.old)) (cells_of (T.known tree.new))) result }
+    ensures faults { IsTold (T.known tree.old).faults (T.known tree.new).faults result }
+    ensures asked { IsAsked (record_turn i (record_of planned.now) next ((T.known tree.old).owner planned.now.path.now)) (T.known tree.old).asked (T.known tree.new).asked }
+    ensures next { IfOk result (λ place. place ≡ next) }
+{
+    match tree.owner(planned.path)? {
+        None => return Err(RunFault::Missing(i)),
+        Some(owner) => {
+            if owner == planned.before {
+                tree.set_owner(planned.path, planned.after)?;
+            } else if owner != planned.after {
+                return Err(RunFault::Foreign(i));
+            }
+        }
+    }
+    Ok(next)
+}
+
+// Does what the place says, and gives the place after it.
+fn next_place<T: Tree>(records: &[Record], place: Place, tree: &mut T) -> Result<Place, RunFault>
+    requires { IsPlaceOf (map record_of records.now) place }
+    ensures step { IsAdvance (turn (map record_of records.now) place (T.known tree.old).owner (T.known tree.old).mark) (λ operation. Does operation (cells_of (T.known tree.old)) (cells_of (T.known tree.new))) result }
+    ensures faults { IsTold (T.known tree.old).faults (T.known tree.new).faults result }
+    ensures asked { IsAsked (turn (map record_of records.now) place (T.known tree.old).owner (T.known tree.old).mark) (T.known tree.old).asked (T.known tree.new).asked }
+    ensures fits { IfOk result (IsPlaceOf (map record_of records.now)) }
+    ensures rests { place ≡ Place.Done → IsOk result × (tree.new ≡ tree.old) }
+{
+    match place {
+        Place::Start => {
+            if tree.mark()? {
+                Ok(Place::Done)
+            } else {
+                Ok(place_of(records, 0))
+            }
+        }
+        Place::Record(i) => move_file(&records[i], i, place_of(records, i + 1), tree),
+        Place::SyncOwners => {
+            tree.sync()?;
+            Ok(Place::Mark)
+        }
+        Place::Mark => {
+            tree.set_mark()?;
+            Ok(Place::SyncMark)
+        }
+        Place::SyncMark => {
+            tree.sync()?;
+            Ok(Place::Done)
+        }
+        Place::Done => Ok(Place::Done),
+    }
+}
+
+impl<'p, 'a> Runner<'p, 'a> {
+    /// A runner at the start of a plan.
+    pub fn new(plan: &'p Plan<'a>) -> Self
+        ensures records { result.records ≡ plan.now.records }
+        ensures place { result.place ≡ Place.Start }
+    {
+        Runner {
+            records: plan.records(),
+            place: Place::Start,
+        }
+    }
+
+    /// Where it is.
+    pub fn place(&self) -> Place
+        ensures { result ≡ self.now.place }
+    {
+        self.place
+    }
+
+    // After a stop.
+    pub(crate) fn restart(&mut self)
+        ensures { self.new ≡ record self.old { place = Place.Start } }
+    {
+        self.place = Place::Start;
+    }
+
+    /// Does what the place asks for, with at most one write or sync, and goes on to the next place. A refusal leaves the
+    /// place: the device failed, or the record's file is not there or has neither its old nor its new owner.
+    pub fn advance<T: Tree>(&mut self, tree: &mut T) -> Result<Progress, RunFault>
+        ensures records { self.new.records ≡ self.old.records }
+        ensures progress { IfOk result (λ progress. progress ≡ progress_at self.new.place) }
+        ensures stays { OnErr result (self.new.place ≡ self.old.place) }
+        ensures step { IsAdvance (turn self.old.records self.old.place (T.known tree.old).owner (T.known tree.old).mark) (λ operation. Does operation (cells_of (T.known tree.old)) (cells_of (T.known tree.new))) (moved self.new.place result) }
+        ensures faults { IsTold (T.known tree.old).faults (T.known tree.new).faults result }
+        ensures asked { IsAsked (turn self.old.records self.old.place (T.known tree.old).owner (T.known tree.old).mark) (T.known tree.old).asked (T.known tree.new).asked }
+        ensures rests { self.old.place ≡ Place.Done → IsOk result × (tree.new ≡ tree.old) }
+
+        // One advance is nearer to the end, by one unless the mark was found set.
+        ensures nearer { OnOk result (advances_left self.old.records self.new.place ≤ advances_left self.old.records self.old.place - 1) }
+        ensures by_one { OnOk result ((self.old.place ≡ Place.Start → (T.known tree.old).mark ≡ false) → advances_left self.old.records self.new.place ≡ advances_left self.old.records self.old.place - 1) }
+
+        ensures spends { OnOk result ((T.known tree.new).asked + operations_left self.old.records self.new.place ≤ (T.known tree.old).asked + operations_left self.old.records self.old.place) }
+        ensures spends_err { OnErr result ((T.known tree.new).asked ≤ (T.known tree.old).asked + operations_left self.old.records self.old.place) }
+
+        // Where whatever a stop leaves is safe, and the place goes with the tree, that stays so; and then only the device refuses.
+        ensures safe { (inventory : List ℕ → Option Owner) → IsSafeInStep inventory self.old.records self.old.place (cells_of (T.known tree.old))
+            → IsSafeInStep inventory self.old.records self.new.place (cells_of (T.known tree.new)) }
+        ensures device { (inventory : List ℕ → Option Owner) → IsSafeInStep inventory self.old.records self.old.place (cells_of (T.known tree.old))
+            → IfErr result (λ fault. fault ≡ Device) }
+
+        // It is an advance in each history that the tree stands for.
+        ensures stands { (s : State) → StandsFor (T.known tree.old) s
+            → (t : State) × StandsFor (T.known tree.new) t
+            × IsAdvance (turn self.old.records self.old.place (cells_at s).owner (cells_at s).mark) (λ operation. t ≡ did operation s) (moved self.new.place result) }
+    {
+        match next_place(self.records, self.place, tree) {
+            Ok(place) => {
+                self.place = place;
+                Ok(place.progress())
+            }
+            Err(fault) => Err(fault),
+        }
+    }
+
+    /// Advances until the plan is done. A refusal leaves the runner at the place where it came. For r records it makes at
+    /// most r + 4 advances, and r + 3 writes and syncs.
+    pub fn run<T: Tree>(&mut self, tree: &mut T) -> Result<(), RunFault>
+        ensures records { self.new.records ≡ self.old.records }
+        ensures done { OnOk result (self.new.place ≡ Place.Done) }
+        ensures faults { IsTold (T.known tree.old).faults (T.known tree.new).faults result }
+        ensures asked { (T.known tree.new).asked ≤ (T.known tree.old).asked + operations_left self.old.records self.old.place }
+        ensures few { (T.known tree.new).asked ≤ (T.known tree.old).asked + (length self.old.records + 3) }
+
+        ensures safe { (inventory : List ℕ → Option Owner) → IsSafeInStep inventory self.old.records self.old.place (cells_of (T.known tree.old))
+            → IsSafeInStep inventory self.old.records self.new.place (cells_of (T.known tree.new)) }
+        ensures device { (inventory : List ℕ → Option Owner) → IsSafeInStep inventory self.old.records self.old.place (cells_of (T.known tree.old))
+            → IfErr result (λ fault. fault ≡ Device) }
+
+        // So it is Ok wherever no call of the device failed, and then a tree that was fresh reads as the plan says.
+        ensures finishes { (inventory : List ℕ → Option Owner) → IsSafeInStep inventory self.old.records self.old.place (cells_of (T.known tree.old))
+            → (T.known tree.new).faults ≡ (T.known tree.old).faults → IsOk result }
+        ensures reads { (inventory : List ℕ → Option Owner) → IsFresh inventory (cells_of (T.known tree.old)) → AreOld inventory self.old.records → self.old.place ≡ Place.Start
+            → OnOk result ((path : List ℕ) → (T.known tree.new).owner path ≡ owner_after_plan inventory self.old.records path) }
+
+        // It is a run of some advances, at most four more than there are records, in each history that the tree stands for.
+        ensures stands { (s : State) → StandsFor (T.known tree.old) s
+            → (n : ℕ) × (t : State) × StandsFor (T.known tree.new) t
+            × IsRun self.old.records (record { place = self.old.place; state = s }) (replicate n Advances) (refusal result) (record { place = self.new.place; state = t })
+            × (n ≤ length self.old.records + 4) }
+    {
+        'steps: loop {
+            match self.advance(tree) {
+                Ok(Progress::Done) => return Ok(()),
+                Ok(Progress::Working) => {}
+                Err(fault) => return Err(fault),
+            }
+        }
+    }
+}

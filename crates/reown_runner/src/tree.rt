@@ -1,0 +1,63 @@
+// A tree of files as a runner sees it: what a read answers, and what a stop may leave.
+ghost use Rattle.std.specs.Prelude.{◌≡◌, ℕ, List, IfOk, OnOk, OnErr, IsSome};
+ghost use Rattle.reown_runner.specs.Tree.{TreeData, Operation, Write, SetMark, Sync, Same, Writes, SetsMark, Syncs, IsReadable, Does, MayDo, Stops, cells_of, counted, IsCounted};
+
+use reown_plan::Owner;
+
+/// A call of a tree's device failed.
+#[derive(Clone, Copy, Debug, PartialEq, Eq)]
+pub struct DeviceFault;
+
+pub trait Tree {
+    /// What is known of it.
+    ghost known: { Self → TreeData };
+
+    /// The owner of a file, if the file is there.
+    fn owner(&mut self, path: &[u8]) -> Result<Option<Owner>, DeviceFault>
+        ensures answer { IfOk result (λ owner. owner ≡ (known self.old).owner path.now) }
+        ensures same { Same (cells_of (known self.old)) (cells_of (known self.new)) }
+        ensures faults { IsCounted (known self.old).faults (known self.new).faults result }
+        ensures asked { (known self.new).asked ≡ (known self.old).asked };
+
+    /// Gives a file an owner. Where it fails, that has happened or not.
+    fn set_owner(&mut self, path: &[u8], owner: Owner) -> Result<(), DeviceFault>
+        requires { IsSome ((known self.old).owner path.now) }
+        ensures done { OnOk result (Writes path.now owner (cells_of (known self.old)) (cells_of (known self.new))) }
+        ensures failed { OnErr result (MayDo (Write path.now owner) (cells_of (known self.old)) (cells_of (known self.new))) }
+        ensures faults { IsCounted (known self.old).faults (known self.new).faults result }
+        ensures asked { (known self.new).asked ≡ counted (known self.old).asked };
+
+    /// Whether the mark is set.
+    fn mark(&mut self) -> Result<bool, DeviceFault>
+        ensures answer { IfOk result (λ mark. mark ≡ (known self.old).mark) }
+        ensures same { Same (cells_of (known self.old)) (cells_of (known self.new)) }
+        ensures faults { IsCounted (known self.old).faults (known self.new).faults result }
+        ensures asked { (known self.new).asked ≡ (known self.old).asked };
+
+    /// Sets the mark. Where it fails, that has happened or not.
+    fn set_mark(&mut self) -> Result<(), DeviceFault>
+        ensures done { OnOk result (SetsMark (cells_of (known self.old)) (cells_of (known self.new))) }
+        ensures failed { OnErr result (MayDo SetMark (cells_of (known self.old)) (cells_of (known self.new))) }
+        ensures faults { IsCounted (known self.old).faults (known self.new).faults result }
+        ensures asked { (known self.new).asked ≡ counted (known self.old).asked };
+
+    /// After it a stop leaves what is read. Where it fails, it counts as a sync or not.
+    fn sync(&mut self) -> Result<(), DeviceFault>
+        ensures done { OnOk result (Syncs (cells_of (known self.old)) (cells_of (known self.new))) }
+        ensures failed { OnErr result (MayDo Sync (cells_of (known self.old)) (cells_of (known self.new))) }
+        ensures faults { IsCounted (known self.old).faults (known self.new).faults result }
+        ensures asked { (known self.new).asked ≡ counted (known self.old).asked };
+
+    /// A stop: the tree is now what the stop has left, with nothing pending.
+    fn reopen(&mut self)
+        ensures left { Stops (cells_of (known self.old)) (cells_of (known self.new)) }
+        ensures faults { (known self.new).faults ≡ (known self.old).faults }
+        ensures asked { (known self.new).asked ≡ (known self.old).asked };
+
+    /// How many calls have failed.
+    fn faults(&self) -> u64
+        ensures { result ≡ (known self.now).faults };
+
+    /// A stop may leave what is read.
+    ghost readable: { (tree : Self) → IsReadable (cells_of (known tree)) };
+}
