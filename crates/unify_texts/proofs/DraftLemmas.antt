@@ -1,24 +1,23 @@
 -- The reader's draft against looking back over the lines.
-use Rattle.std.proofs.Common.{◌≡◌, ℕ, ◌+◌, min, Bool, true, false, not, ◌||◌, ◌&&◌, cond, List, [], ◌∷◌, ◌++◌, map, reverse, length, Option, Some, None, is_some, Result, Ok, Err, refl, sym, ap, ◌∙◌, append_assoc, append-nil, arith, length-append}
+use Rattle.std.proofs.Common.{◌≡◌, ℕ, ◌+◌, min, Bool, true, false, not, ◌||◌, ◌&&◌, List, [], ◌∷◌, ◌++◌, map, reverse, length, Option, Some, None, is_some, Result, Ok, Err, refl, sym, ap, ◌∙◌, append_assoc, append-nil, arith, length-append}
 use Rattle.std.specs.Prelude.{option_to_list, if◌then◌else◌}
 use Rattle.std.specs.List.{list_any}
 use Rattle.std.proofs.lemmas.List.{reverse-append}
 use Rattle.std.proofs.lemmas.List.Folds.{list_any-append}
-use Rattle.idtext.specs.First.{first_fault, unless}
+use Rattle.idtext.specs.First.{first_fault}
 use Rattle.idtext.specs.Faults.{line_number}
 use Rattle.unify_texts.specs.declared.bundle_line.Command.{Command}
 use Rattle.unify_texts.specs.declared.bundle_line.FileName.{FileName}
 use Rattle.unify_texts.specs.declared.bundle_line.BundleLine.{BundleLine}
 use Rattle.unify_texts.specs.declared.bundle_line.BundleLine.TheVariants.{Run, File, Host, Content, Wrong}
 use Rattle.unify_texts.specs.declared.places.NamedFile.{NamedFile}
-use Rattle.unify_texts.specs.declared.places.Place.{Place}
 use Rattle.unify_texts.specs.declared.bundle.Draft.{Draft}
 use Rattle.unify_texts.specs.declared.bundle.Bundle.{Bundle}
 use Rattle.unify_texts.specs.declared.fault.Fault.{Fault}
 use Rattle.unify_texts.specs.declared.fault.Fault.TheVariants.{BadBundle}
 use Rattle.unify_texts.specs.BundleLines.{bundle_line_of, same_file}
-use Rattle.unify_texts.specs.Bundles.{is_among, head_files, host_files, is_host_line, is_rehearsal, begun_here, is_in_file, listed_here, may_follow, bundle_fault, text_behind, files_behind, hosts_behind, bundle_with, commanded}
-use Rattle.unify_texts.specs.Drafts.{has_file, is_listed, closed, bundle_so_far, takes, with_content, with_line, start_of, taken_from}
+use Rattle.unify_texts.specs.Bundles.{is_among, head_files, host_files, is_host_line, is_rehearsal, begun_here, is_in_file, listed_here, may_follow, bundle_fault, text_behind, files_behind, hosts_behind, commanded}
+use Rattle.unify_texts.specs.Drafts.{has_file, closed, bundle_so_far, takes, with_content, with_line, start_of, taken_from}
 
 -- ---- which lines the draft takes
 

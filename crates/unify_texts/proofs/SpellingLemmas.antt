@@ -1,6 +1,6 @@
 -- The spelling of bundles against what is read from their lines.
-use Rattle.std.proofs.Common.{◌≡◌, ℕ, ◌+◌, Bool, true, false, not, ◌||◌, ◌&&◌, List, [], ◌∷◌, ◌++◌, map, reverse, length, take, drop, Option, Some, None, Result, Ok, Err, refl, sym, ap, ◌∙◌, subst, suc, ◌<◌, append_assoc, append-nil, length-append, add-one, arith, eqb}
-use Rattle.std.specs.Prelude.{if◌then◌else◌, IsTrue, codes, bytes_eq}
+use Rattle.std.proofs.Common.{◌≡◌, ℕ, ◌+◌, Bool, true, false, not, ◌||◌, ◌&&◌, List, [], ◌∷◌, ◌++◌, map, reverse, length, take, drop, Option, Some, None, Ok, Err, refl, sym, ap, ◌∙◌, subst, suc, append_assoc, length-append, add-one, arith, eqb}
+use Rattle.std.specs.Prelude.{if◌then◌else◌, codes, bytes_eq}
 use Rattle.std.specs.List.{list_any, list_all, flat_map, IsDistinct, AllByRecursion}
 use Rattle.std.proofs.lemmas.List.{reverse-append, take-append-drop}
 use Rattle.std.proofs.lemmas.Slice.Eq.{bytes_eq-Decides}
@@ -19,8 +19,8 @@ use Rattle.unify_texts.specs.declared.bundle.Bundle.{Bundle}
 use Rattle.unify_texts.specs.declared.fault.Fault.{Fault}
 use Rattle.unify_texts.specs.declared.fault.Fault.TheVariants.{BadBundle}
 use Rattle.unify_texts.specs.BundleLines.{bundle_line_of, file_named, file_word, command_word, file_index, same_file}
-use Rattle.unify_texts.specs.Bundles.{is_among, head_files, host_files, is_host_line, is_rehearsal, begun_here, is_in_file, listed_here, may_follow, bundle_fault, text_behind, files_behind, hosts_behind, bundle_with, commanded, bundle_saying, bundle_of}
-use Rattle.unify_texts.specs.BundleSpelling.{InTurn, SpellsFile, SpellsFiles, SpellsHost, SpellsBundle, IsSpelling, IsFirstBad, ReadsWhatIsSpelled, SpelledIsRead, FirstBadIsTold}
+use Rattle.unify_texts.specs.Bundles.{is_among, head_files, host_files, is_host_line, is_rehearsal, begun_here, is_in_file, listed_here, may_follow, bundle_fault, text_behind, files_behind, hosts_behind, bundle_with, bundle_saying, bundle_of}
+use Rattle.unify_texts.specs.BundleSpelling.{InTurn, SpellsFile, SpellsHost, SpellsBundle, IsFirstBad, ReadsWhatIsSpelled, SpelledIsRead, FirstBadIsTold}
 
 abbrev bar : List ℕ → List ℕ
 bar content = 124 ∷ content
