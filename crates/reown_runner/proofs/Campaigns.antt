@@ -15,21 +15,24 @@ use Rattle.reown_runner.specs.State.{State, StandsFor, cells_at, did, fresh}
 use Rattle.reown_runner.specs.Safe.{IsSafeInStep}
 use Rattle.reown_runner.specs.Step.{turn, IsAdvance, IsAsked, IsTold, moved}
 use Rattle.reown_runner.specs.RunnerData.{RunnerData}
-use Rattle.reown_runner.specs.World.{World}
+use Rattle.reown_runner.specs.World.{World, Hosted, IsHostOf}
 use Rattle.reown_runner.specs.Run.{Host, HostEvent, Advances, Stops as Halts, IsRun, refusal}
 use Rattle.reown_runner.specs.Campaign.{Goes, EachGoes, IsToldBy, own, host_of, host_event}
 use Rattle.std.specs.List.{cons_option}
 use Rattle.reown_runner.proofs.Cellwise.{either}
-use Rattle.reown_runner.proofs.Lists.{slice_get-read, slice_get-set, slice_get-set_other}
+use Rattle.reown_runner.proofs.Lists.{slice_get-read, slice_get-past, slice_get-set, slice_get-set_other}
 use Rattle.reown_runner.proofs.Runs.{run_then, run_one}
 use Rattle.reown_runner.proofs.Histories.{stop_sound, stop_stands}
 
 some_is : {X : Type 0} (x y : X) → Some x ≡ Some y → x ≡ y
 some_is x y h = cc
 
+abbrev pub hosted : {T : Type 0} → RunnerData → T → Hosted T
+hosted runner tree = record { runner = runner; tree = tree }
+
 module _ {T : Type 0} (known : T → TreeData) where
   -- nothing happens
-  pub goes_nowhere : (runner : RunnerData) (tree : T) → Goes known runner tree [] None runner tree
+  pub goes_nowhere : (runner : RunnerData) (tree : T) → Goes known (hosted runner tree) [] None (hosted runner tree)
   goes_nowhere runner tree =
       record {
         records = refl;
@@ -48,7 +51,7 @@ module _ {T : Type 0} (known : T → TreeData) where
 
   -- and then more
   pub goes_then : (w0 : RunnerData) (t0 : T) (first : List HostEvent) (w1 : RunnerData) (t1 : T) (rest : List HostEvent) (refused : Option RunFault) (w2 : RunnerData) (t2 : T)
-      → Goes known w0 t0 first None w1 t1 → Goes known w1 t1 rest refused w2 t2 → Goes known w0 t0 (first ++ rest) refused w2 t2
+      → Goes known (hosted w0 t0) first None (hosted w1 t1) → Goes known (hosted w1 t1) rest refused (hosted w2 t2) → Goes known (hosted w0 t0) (first ++ rest) refused (hosted w2 t2)
   goes_then w0 t0 first w1 t1 rest refused w2 t2 a b =
       record {
         records = b.records ∙ a.records;
@@ -90,7 +93,7 @@ module _ {T : Type 0} (known : T → TreeData) where
       → ((inventory : List ℕ → Option Owner) → IsSafeInStep inventory w.records w.place (cells_of (known t)) → IfErr result (λ fault. fault ≡ Device))
       → IsTold (known t).faults (known t').faults result
       → IsAsked (turn w.records w.place (known t).owner (known t).mark) (known t).asked (known t').asked
-      → Goes known w t (Advances ∷ []) (refusal result) w' t'
+      → Goes known (hosted w t) (Advances ∷ []) (refusal result) (hosted w' t')
   goes_on_by w t w' t' result records stands stays safe device told asked =
       record {
         records = records;
@@ -103,7 +106,7 @@ module _ {T : Type 0} (known : T → TreeData) where
 
   -- by a stop
   pub goes_down : (w : RunnerData) (t : T) (w' : RunnerData) (t' : T) → w' ≡ record w { place = Start } → IsReadable (cells_of (known t)) → Stops (cells_of (known t)) (cells_of (known t')) → (known t').faults ≡ (known t).faults → (known t').asked ≡ (known t).asked
-      → Goes known w t (Halts ∷ []) None w' t'
+      → Goes known (hosted w t) (Halts ∷ []) None (hosted w' t')
   goes_down w t w' t' is readable stops faults asked =
       let place : w'.place ≡ Start = ap (λ (v : RunnerData). v.place) is in
       record {
@@ -119,50 +122,61 @@ module _ {T : Type 0} (known : T → TreeData) where
 
   -- each host goes nowhere, or on
   pub each_nowhere : (hosts : World T) → EachGoes known hosts [] (λ _. None) hosts
-  each_nowhere hosts host runner tree a b = (runner, tree, a, b, goes_nowhere runner tree)
+  each_nowhere hosts host before at = (before, at, goes_nowhere before.runner before.tree)
+
+  -- there is no host of this number
+  pub each_absent : (world : World T) (event : Event) (h : ℕ) → h ≡ host_of event → length world.trees ≤ h → EachGoes known world (event ∷ []) (λ _. None) world
+  each_absent world event h is past host before at =
+      elim (either (host_of event == host)) [
+        | inl same ↦
+            let beyond : length world.trees ≤ host = (let e : host ≡ h = grind (arith, nat_tests) in omega (arith, e, past)) in
+            absurd (let none : None ≡ Some before.tree = sym (slice_get-past world.trees host beyond) ∙ at.tree in cc)
+        | inr other ↦
+            let none : own host (event ∷ []) ≡ [] = ap (λ b. cons_option (cond b (Some (host_event event)) None) []) other in
+            (before, at, subst (λ es. Goes known before es None before) (sym none) (goes_nowhere before.runner before.tree))
+      ]
 
   pub each_then : (h0 h1 h2 : World T) (first rest : List Event) (refused : ℕ → Option RunFault) → EachGoes known h0 first (λ _. None) h1 → EachGoes known h1 rest refused h2 → EachGoes known h0 (first ++ rest) refused h2
-  each_then h0 h1 h2 first rest refused f g host runner tree a b =
-      let x = f host runner tree a b in
-      let y = g host x.0 x.1 x.2 x.3 in (
+  each_then h0 h1 h2 first rest refused f g host before at =
+      let x = f host before at in
+      let y = g host x.0 x.1 in (
         y.0,
         y.1,
-        y.2,
-        y.3,
-        subst (λ es. Goes known runner tree es (refused host) y.0 y.1) (sym (filter_map-append (λ event. cond (host_of event == host) (Some (host_event event)) None) first rest))
-            (goes_then runner tree (own host first) x.0 x.1 (own host rest) (refused host) y.0 y.1 x.4 y.4),
+        subst (λ es. Goes known before es (refused host) y.0) (sym (filter_map-append (λ event. cond (host_of event == host) (Some (host_event event)) None) first rest))
+            (goes_then before.runner before.tree (own host first) x.0.runner x.0.tree (own host rest) (refused host) y.0.runner y.0.tree x.2 y.2),
       )
 
   -- an event of one host
   pub each_one : (runners : List RunnerData) (trees : List T) (event : Event) (h : ℕ) (runner runner_after : RunnerData) (tree tree_after : T) (refused : ℕ → Option RunFault)
       → h ≡ host_of event → slice_get runners h ≡ Some runner → slice_get trees h ≡ Some tree → h < length runners → h < length trees
       → ((k : ℕ) → k ≢ h → refused k ≡ None)
-      → Goes known runner tree (host_event event ∷ []) (refused h) runner_after tree_after
+      → Goes known (hosted runner tree) (host_event event ∷ []) (refused h) (hosted runner_after tree_after)
       → EachGoes known (record { runners = runners; trees = trees }) (event ∷ []) refused (record { runners = set runners h runner_after; trees = set trees h tree_after })
-  each_one runners trees event h runner runner_after tree tree_after refused is at_runner at_tree in_runners in_trees others goes host w t a b =
+  each_one runners trees event h runner runner_after tree tree_after refused is at_runner at_tree in_runners in_trees others goes host before at =
+      let w = before.runner in
+      let t = before.tree in
       elim (either (host_of event == host)) [
         | inl same ↦
             let e : host ≡ h = grind (arith, nat_tests) in
-            let w_is : w ≡ runner = some_is w runner (sym a ∙ ap (slice_get runners) e ∙ at_runner) in
-            let t_is : t ≡ tree = some_is t tree (sym b ∙ ap (slice_get trees) e ∙ at_tree) in
+            let w_is : w ≡ runner = some_is w runner (sym at.runner ∙ ap (slice_get runners) e ∙ at_runner) in
+            let t_is : t ≡ tree = some_is t tree (sym at.tree ∙ ap (slice_get trees) e ∙ at_tree) in
             let one : own host (event ∷ []) ≡ host_event event ∷ [] = ap (λ b. cons_option (cond b (Some (host_event event)) None) []) same in (
-              runner_after,
-              tree_after,
-              ap (slice_get (set runners h runner_after)) e ∙ slice_get-set runners h runner_after in_runners,
-              ap (slice_get (set trees h tree_after)) e ∙ slice_get-set trees h tree_after in_trees,
-              subst (λ es. Goes known w t es (refused host) runner_after tree_after) (sym one)
-                  (subst (λ k. Goes known w t (host_event event ∷ []) (refused k) runner_after tree_after) (sym e)
-                  (subst (λ v. Goes known v t (host_event event ∷ []) (refused h) runner_after tree_after) (sym w_is)
-                  (subst (λ v. Goes known runner v (host_event event ∷ []) (refused h) runner_after tree_after) (sym t_is) goes))),
+              hosted runner_after tree_after,
+              record {
+                runner = ap (slice_get (set runners h runner_after)) e ∙ slice_get-set runners h runner_after in_runners;
+                tree = ap (slice_get (set trees h tree_after)) e ∙ slice_get-set trees h tree_after in_trees;
+              },
+              subst (λ es. Goes known (hosted w t) es (refused host) (hosted runner_after tree_after)) (sym one)
+                  (subst (λ k. Goes known (hosted w t) (host_event event ∷ []) (refused k) (hosted runner_after tree_after)) (sym e)
+                  (subst (λ v. Goes known (hosted v t) (host_event event ∷ []) (refused h) (hosted runner_after tree_after)) (sym w_is)
+                  (subst (λ v. Goes known (hosted runner v) (host_event event ∷ []) (refused h) (hosted runner_after tree_after)) (sym t_is) goes))),
             )
         | inr other ↦
             let ne : host ≢ h = λ e. grind (arith, nat_tests) in
             let none : own host (event ∷ []) ≡ [] = ap (λ b. cons_option (cond b (Some (host_event event)) None) []) other in (
-              w,
-              t,
-              slice_get-set_other runners h host runner_after ne ∙ a,
-              slice_get-set_other trees h host tree_after ne ∙ b,
-              subst (λ es. Goes known w t es (refused host) w t) (sym none) (subst (λ r. Goes known w t [] r w t) (sym (others host ne)) (goes_nowhere w t)),
+              before,
+              record { runner = slice_get-set_other runners h host runner_after ne ∙ at.runner; tree = slice_get-set_other trees h host tree_after ne ∙ at.tree },
+              subst (λ es. Goes known before es (refused host) before) (sym none) (subst (λ r. Goes known before [] r before) (sym (others host ne)) (goes_nowhere w t)),
             )
       ]
 

@@ -14,7 +14,7 @@ use Rattle.reown_runner.specs.Tree.{TreeData, cells_of}
 use Rattle.reown_runner.specs.State.{State, StandsFor}
 use Rattle.reown_runner.specs.Safe.{IsSafeInStep}
 use Rattle.reown_runner.specs.RunnerData.{RunnerData}
-use Rattle.reown_runner.specs.World.{World}
+use Rattle.reown_runner.specs.World.{World, Hosted, IsHostOf}
 use Rattle.reown_runner.specs.Run.{Host, HostEvent, Advances, Stops, IsRun}
 
 -- the host that an event is for
@@ -53,21 +53,19 @@ IsToldBy (Some (Missing i)) before after = after ≡ before
 IsToldBy (Some (Foreign i)) before after = after ≡ before
 
 -- one host goes from there to there by its events
-pub record Goes {T : Type 0} (known : T → TreeData) (runner : RunnerData) (tree : T) (events : List HostEvent) (refused : Option RunFault) (runner_after : RunnerData) (tree_after : T) : Type 0 where
-  pub records : runner_after.records ≡ runner.records
-  pub stands : (s : State) → StandsFor (known tree) s
-      → (t : State) × StandsFor (known tree_after) t × IsRun runner.records (record { place = runner.place; state = s }) events refused (record { place = runner_after.place; state = t })
-  pub safe : (inventory : List ℕ → Option Owner) → IsSafeInStep inventory runner.records runner.place (cells_of (known tree)) → IsSafeInStep inventory runner.records runner_after.place (cells_of (known tree_after))
-  pub device : (inventory : List ℕ → Option Owner) → IsSafeInStep inventory runner.records runner.place (cells_of (known tree)) → IfSome refused (λ fault. fault ≡ Device)
-  pub told : IsToldBy refused (known tree).faults (known tree_after).faults
-  pub asked : (known tree_after).asked ≤ (known tree).asked + length events
+pub record Goes {T : Type 0} (known : T → TreeData) (before : Hosted T) (events : List HostEvent) (refused : Option RunFault) (after : Hosted T) : Type 0 where
+  pub records : after.runner.records ≡ before.runner.records
+  pub stands : (s : State) → StandsFor (known before.tree) s
+      → (t : State) × StandsFor (known after.tree) t × IsRun before.runner.records (record { place = before.runner.place; state = s }) events refused (record { place = after.runner.place; state = t })
+  pub safe : (inventory : List ℕ → Option Owner) → IsSafeInStep inventory before.runner.records before.runner.place (cells_of (known before.tree)) → IsSafeInStep inventory before.runner.records after.runner.place (cells_of (known after.tree))
+  pub device : (inventory : List ℕ → Option Owner) → IsSafeInStep inventory before.runner.records before.runner.place (cells_of (known before.tree)) → IfSome refused (λ fault. fault ≡ Device)
+  pub told : IsToldBy refused (known before.tree).faults (known after.tree).faults
+  pub asked : (known after.tree).asked ≤ (known before.tree).asked + length events
 
 -- each host goes by its own events
 abbrev pub EachGoes : {T : Type 0} → (T → TreeData) → World T → List Event → (ℕ → Option RunFault) → World T → Type 0
 EachGoes {T} known old events refused new =
-    (host : ℕ) (runner : RunnerData) (tree : T) → slice_get old.runners host ≡ Some runner → slice_get old.trees host ≡ Some tree
-    → (runner_after : RunnerData) × (tree_after : T) × (slice_get new.runners host ≡ Some runner_after) × (slice_get new.trees host ≡ Some tree_after)
-    × Goes known runner tree (own host events) (refused host) runner_after tree_after
+    (host : ℕ) (before : Hosted T) → IsHostOf old host before → (after : Hosted T) × IsHostOf new host after × Goes known before (own host events) (refused host) after
 
 abbrev pub is_done : Place → Bool
 is_done Start = false

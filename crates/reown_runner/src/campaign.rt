@@ -1,4 +1,4 @@
-// Several hosts' plans, run interleaved.
+//! Several hosts' plans, run interleaved.
 ghost use Rattle.std.specs.Prelude.{◌≡◌, ◌≢◌, ℕ, ◌<◌, ◌≤◌, [], ◌∷◌, List, Some, map, length, slice_get, All, IfOk, IfErr, OnOk, IsErrOf, take, IsSome};
 ghost use Rattle.std.specs.List.{list_all};
 
@@ -66,7 +66,7 @@ impl Event {
 
 // An event of one host.
 fn happen_to<T: Tree>(runner: &mut Runner, tree: &mut T, event: Event) -> Result<(), RunFault>
-    ensures { Goes T.known runner.old tree.old (host_event event ∷ []) (refusal result) runner.new tree.new }
+    ensures { Goes T.known (record { runner = runner.old; tree = tree.old }) (host_event event ∷ []) (refusal result) (record { runner = runner.new; tree = tree.new }) }
 {
     match event {
         Event::Advance(_) => match runner.advance(tree) {

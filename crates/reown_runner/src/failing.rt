@@ -1,4 +1,4 @@
-// A tree whose calls fail by a script.
+//! A tree whose calls fail by a script.
 ghost use Rattle.std.specs.Prelude.{◌≡◌, ◌≢◌, ◌+◌, ◌-◌, ◌^◌, ◌<◌, [], drop};
 ghost use Rattle.reown_runner.specs.declared.failing.Item.TheVariants.{Pass};
 

@@ -1,4 +1,4 @@
-// What holds of safe trees, of runs, and of plans that are done.
+//! What holds of safe trees, of runs, and of plans that are done.
 ghost use Rattle.std.specs.Prelude.{◌≡◌, ◌↔◌, ◌+◌, ◌≤◌, ℕ, true, false, List, Option, None, length, replicate};
 ghost use Rattle.reown_plan.specs.declared.plan.Owner.{Owner};
 ghost use Rattle.reown_plan.specs.PlanData.{PlanRecord, HaveDistinctPaths};

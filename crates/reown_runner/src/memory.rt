@@ -1,4 +1,4 @@
-// A tree in memory, which never fails.
+//! A tree in memory, which never fails.
 ghost use Rattle.std.specs.Prelude.{◌≡◌, ◌<◌, ℕ, List, map, take, length, position, slice_get, slice_set, slice_index_or, Option, Some, IfOk, IfSome};
 ghost use Rattle.std.specs.Option.{option_map};
 ghost use Rattle.std.specs.Str.{bytes_eq};

@@ -1,3 +1,4 @@
+//! Carries a plan out on a tree.
 ghost use Rattle.std.specs.Prelude.{length, ◌≡◌, ◌+◌, ◌-◌, ◌≤◌, replicate, ℕ, false, List, Option, map, IfOk, IfErr, OnOk, OnErr, IsOk};
 ghost use Rattle.reown_plan.specs.Records.{record_of};
 ghost use Rattle.reown_runner.specs.declared.runner.RunFault.TheVariants.{Device};

@@ -1,4 +1,4 @@
-// A tree of files as a runner sees it: what a read answers, and what a stop may leave.
+//! A tree of files as a runner sees it: what a read answers, and what a stop may leave.
 ghost use Rattle.std.specs.Prelude.{◌≡◌, ℕ, List, IfOk, OnOk, OnErr, IsSome};
 ghost use Rattle.reown_runner.specs.Tree.{TreeData, Operation, Write, SetMark, Sync, Same, Writes, SetsMark, Syncs, IsReadable, Does, MayDo, Stops, cells_of, counted, IsCounted};
 
@@ -8,6 +8,8 @@ use reown_plan::Owner;
 #[derive(Clone, Copy, Debug, PartialEq, Eq)]
 pub struct DeviceFault;
 
+/// A tree of files with owners and a mark, on a device whose calls may fail and which a stop may cut off: until a sync, a
+/// stop leaves in each cell by itself what was written or what was there before (chown(2), fsync(2)).
 pub trait Tree {
     /// What is known of it.
     ghost known: { Self → TreeData };
