@@ -16,7 +16,7 @@ entry_on regular system h = record { name = h.name; regular = regular h.ranges; 
 
 -- the accounts of a kind: on each host its rows, which stand in its regular or its system range or in neither
 abbrev pub accounts_of : (HostRanges → IdRange) → (HostRanges → IdRange) → (Host → List (List ℕ × ℕ)) → List Host → List Pair → Accounts
-accounts_of regular system rows hosts pins = record { hosts = map (entry_on regular system) hosts; names = grouped (rows_from (λ h. regular h.ranges) (λ h. system h.ranges) rows 0 hosts); pins = pins }
+accounts_of regular system listed hosts pins = record { hosts = map (entry_on regular system) hosts; names = grouped (rows_from (λ h. regular h.ranges) (λ h. system h.ranges) listed 0 hosts); pins = pins }
 
 -- the users and the groups of a site, and how many hosts it has
 pub record Joined : Type 0 where

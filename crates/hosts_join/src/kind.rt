@@ -21,7 +21,7 @@ pub trait Kind {
     ghost kind: { Which };
 
     // The names of a host with their numbers, in order.
-    ghost rows: { Host → List (List ℕ × ℕ) };
+    ghost listed: { Host → List (List ℕ × ℕ) };
 
     ghost regular_range: { HostRanges → IdRange };
 
@@ -39,17 +39,17 @@ pub trait Kind {
 
     /// How many rows of the kind a host has.
     fn count(host: &Host<'_>) -> usize
-        ensures { result ≡ length (rows host.now) };
+        ensures { result ≡ length (listed host.now) };
 
     /// The name on a row.
     fn name<'a>(host: &Host<'a>, place: usize) -> &'a [u8]
-        requires { place < length (rows host.now) }
-        ensures { result.now ≡ (slice_index_or (rows host.now) place (spec.no_row)).0 };
+        requires { place < length (listed host.now) }
+        ensures { result.now ≡ (slice_index_or (listed host.now) place (spec.no_row)).0 };
 
     /// The number on a row.
     fn number(host: &Host<'_>, place: usize) -> u32
-        requires { place < length (rows host.now) }
-        ensures { result ≡ (slice_index_or (rows host.now) place (spec.no_row)).1 };
+        requires { place < length (listed host.now) }
+        ensures { result ≡ (slice_index_or (listed host.now) place (spec.no_row)).1 };
 
     /// The numbers that are regular on a host.
     fn regular(ranges: &HostRanges) -> IdRange
@@ -69,7 +69,7 @@ pub trait Kind {
         ensures { result ≡ number_of uid gid };
 
     // On one lawful host names are distinct, numbers are distinct, and no number is above 4294967294.
-    ghost table: { (h : Host) → IsLawfulHost h → IsTable (map (λ p. p.0) (rows h)) (map (λ p. p.1) (rows h)) };
+    ghost table: { (h : Host) → IsLawfulHost h → IsTable (map (λ p. p.0) (listed h)) (map (λ p. p.1) (listed h)) };
 
     // No number is both regular and system on one lawful host.
     ghost apart: { (h : Host) → IsLawfulHost h → AreApart (regular_range h.ranges) (system_range h.ranges) };
@@ -87,7 +87,7 @@ impl Kind for Users {
 
     ghost kind = { User };
 
-    ghost rows = { λ h. user_rows h.users };
+    ghost listed = { λ h. user_rows h.users };
 
     ghost regular_range = { λ r. r.uid };
 
@@ -142,7 +142,7 @@ impl Kind for Groups {
 
     ghost kind = { Group };
 
-    ghost rows = { λ h. group_rows h.groups };
+    ghost listed = { λ h. group_rows h.groups };
 
     ghost regular_range = { λ r. r.gid };
 
