@@ -10,14 +10,16 @@ PROGRAM = crates/unify_cli/out/unify_cli
 .PHONY: demo test program install clean
 
 demo: program
-	./$(PROGRAM) count examples/stored-count/map a=examples/stored-count/a b=examples/stored-count/b
+	@./$(PROGRAM) count examples/stored-count/map a=examples/stored-count/a b=examples/stored-count/b
 
 test:
 	rt ci
 
 # Proves the program and the crates below it, and links it. What has not changed since is not proved again.
 program:
-	@cd crates/unify_cli && rt run -- --version
+	@echo 'proving and linking unify; the first time this takes a while' >&2
+	@mkdir -p build
+	@cd crates/unify_cli && rt run -- --version > ../../build/log 2>&1 || { cat ../../build/log >&2; exit 1; }
 
 install: program
 	install -d $(DESTDIR)$(PREFIX)/bin

@@ -174,6 +174,7 @@ pub fn load_host<'a>(alloc: Global, text: &'a HostText) -> Result<Loaded<'a>, Fa
 pub fn load_hosts<'a>(alloc: Global, texts: &'a [HostText]) -> Result<Vec<Loaded<'a>>, Fault<'a>>
     ensures exact { Gives (λ hosts. hosts.items) told result (each host_of texts.now) }
     ensures len { IfOk result (λ hosts. length hosts.items ≡ length texts.now) }
+    ensures lawful { IfOk result (λ hosts. All (λ loaded. IsLawfulHost loaded.host) hosts.items) }
 {
     let mut hosts = Vec::new(alloc);
     for text in texts {
