@@ -162,8 +162,8 @@ module _ {text : List ℕ} {seen left rest : List (List ℕ)} {number next : ℕ
       record {
         reads = reads_more pins_fault pins_on (lines text) seen left (drafted draft) line rest (drafted after) so_far.reads is judged
             (same_pins (drafted after) (pins_on (seen ++ line ∷ []))
-                (users ∙ ap (λ m. m.users ++ user_pair (pair_line_of line)) so_far.reads.made_is ∙ more (λ l. user_pair (pair_line_of l)) seen line)
-                (groups ∙ ap (λ m. m.groups ++ group_pair (pair_line_of line)) so_far.reads.made_is ∙ more (λ l. group_pair (pair_line_of l)) seen line));
+            (users ∙ ap (λ m. m.users ++ user_pair (pair_line_of line)) so_far.reads.made_is ∙ more (λ l. user_pair (pair_line_of l)) seen line)
+            (groups ∙ ap (λ m. m.groups ++ group_pair (pair_line_of line)) so_far.reads.made_is ∙ more (λ l. group_pair (pair_line_of l)) seen line));
         counted = rw length-append (let c = so_far.counted in omega (arith, c, counts));
         few = few;
         sound = sound;

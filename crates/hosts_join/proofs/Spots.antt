@@ -69,5 +69,5 @@ module _ {H : Type 0} (regular system : H → IdRange) (pairs : H → List (List
       let here = host_rows place (regular h) (system h) (pairs h) in
       let later = rows_from regular system pairs (place + 1) hs in
       let one : length (spots_of here n) ≤ 1 = one-spot place (spots_of here n) (spots_of-all (λ s. s.host ≡ place) here n (on-host place (regular h) (system h) (pairs h)))
-          (IsOnceEach-spots_of n here (host_rows-named place (regular h) (system h) (pairs h) (table h (All-head lawful h hs l)).names_differ)) in
+      (IsOnceEach-spots_of n here (host_rows-named place (regular h) (system h) (pairs h) (table h (All-head lawful h hs l)).names_differ)) in
       omega (arith, one, few-spots (place + 1) hs n (All-tail lawful h hs l), ap length (spots_of-append here later n), length-append (spots_of here n) (spots_of later n))

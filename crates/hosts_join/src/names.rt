@@ -15,7 +15,9 @@ ghost use Rattle.logindefs.specs.Ranges.{in_range};
 use crate::clash::find_clash;
 use crate::index::Index;
 use crate::members::{claims, classes, common, names_in};
-use crate::{Class, HostEntry, Pair, PairTable, Pool, PoolClass, Row, Seat, SiteFault, Spot, Which};
+use crate::{
+    Class, HostEntry, Pair, PairTable, Pool, PoolClass, Row, Seat, SiteFault, Spot, Which,
+};
 use idtext::Name;
 use logindefs::IdRange;
 use std::alloc::{AllocError, Global};

@@ -20,7 +20,9 @@ type Texts<'a> = (&'a [u8], &'a [u8], &'a [u8]);
 type Told<'a> = (u32, &'a [u8], &'a [u8], &'a [u8], u64);
 
 const NONE: &[u8] = b"";
+
 const SMALL: &[u8] = b"UID_MIN 1000\nUID_MAX 1001\n";
+
 const ALICE_AND_BOB: &[u8] = b"alice:x:1000:100:::\nbob:x:1001:100:::\n";
 
 fn host<'a>(alloc: Global, texts: Texts<'a>, group: &'a [u8]) -> Result<Host<'a>, SiteFault<'a>>
@@ -53,11 +55,7 @@ fn lawful_hosts<'a>(alloc: Global, texts: &[Texts<'a>]) -> Result<Vec<Host<'a>>,
     Ok(hosts)
 }
 
-fn site<'a>(
-    alloc: Global,
-    texts: &[Texts<'a>],
-    pins: &'a [u8],
-) -> Result<Site<'a>, SiteFault<'a>> {
+fn site<'a>(alloc: Global, texts: &[Texts<'a>], pins: &'a [u8]) -> Result<Site<'a>, SiteFault<'a>> {
     let hosts = lawful_hosts(alloc, texts)?;
     let Ok(pins) = Pins::read(alloc, pins) else {
         return Err(SiteFault::Memory);
@@ -98,9 +96,21 @@ fn told<'a>(fault: &SiteFault<'a>) -> Told<'a> {
             names,
             numbers,
             ..
-        } => (24, b"regular", NONE, NONE, names.saturating_mul(1000).saturating_add(*numbers)),
+        } => (
+            24,
+            b"regular",
+            NONE,
+            NONE,
+            names.saturating_mul(1000).saturating_add(*numbers),
+        ),
         SiteFault::PoolTooSmall { names, numbers, .. } => {
-            (24, b"system", NONE, NONE, names.saturating_mul(1000).saturating_add(*numbers))
+            (
+                24,
+                b"system",
+                NONE,
+                NONE,
+                names.saturating_mul(1000).saturating_add(*numbers),
+            )
         }
         SiteFault::Memory => (0, NONE, NONE, NONE, 0),
     }
@@ -189,7 +199,11 @@ fn refusals(rt: HostRuntime) {
     let eve = (b"a".as_slice(), NONE, b"eve:x:50:100:::\n".as_slice());
     let fay = (b"b".as_slice(), NONE, b"fay:x:50:100:::\n".as_slice());
     let kim = (b"a".as_slice(), NONE, b"kim:x:200:100:::\n".as_slice());
-    let no_system = (b"b".as_slice(), b"SYS_UID_MIN 300\nSYS_UID_MAX 250\n".as_slice(), NONE);
+    let no_system = (
+        b"b".as_slice(),
+        b"SYS_UID_MIN 300\nSYS_UID_MAX 250\n".as_slice(),
+        NONE,
+    );
     let full = (b"a".as_slice(), SMALL, ALICE_AND_BOB);
     let empty = (b"b".as_slice(), SMALL, NONE);
     let carol = (b"b".as_slice(), SMALL, b"carol:x:1000:100:::\n".as_slice());
@@ -209,7 +223,12 @@ fn refusals(rt: HostRuntime) {
         (full, empty, NONE, (1, NONE, NONE, NONE, 0)),
         (full, carol, NONE, full_pool_overflow),
         (full, empty, b"user zed 1000\n".as_slice(), pins_shrink_pool),
-        (games, other, b"user games 12\n".as_slice(), pins_disagree_with_host),
+        (
+            games,
+            other,
+            b"user games 12\n".as_slice(),
+            pins_disagree_with_host,
+        ),
         (dbus, other, b"user zed 81\n".as_slice(), reserved_clash),
     ] {
         assert_eq!(rt; refused(rt.alloc(), a, b, pins), answer);
@@ -244,12 +263,20 @@ fn joined_sites(rt: HostRuntime) {
     let dave = (b"a".as_slice(), NONE, b"dave:x:200:100:::\n".as_slice());
     let dave_on_b = (b"b".as_slice(), NONE, b"dave:x:1000:100:::\n".as_slice());
     let no_users = (b"a".as_slice(), b"UID_MIN 0x3E8\n".as_slice(), NONE);
-    let carol = (b"b".as_slice(), b"UID_MIN 500\n".as_slice(), b"carol:x:500:100:::\n".as_slice());
+    let carol = (
+        b"b".as_slice(),
+        b"UID_MIN 500\n".as_slice(),
+        b"carol:x:500:100:::\n".as_slice(),
+    );
     let dbus = (b"a".as_slice(), NONE, b"dbus:x:81:100:::\n".as_slice());
     let dbus_on_b = (b"b".as_slice(), NONE, b"dbus:x:104:100:::\n".as_slice());
     let full = (b"a".as_slice(), SMALL, ALICE_AND_BOB);
     let empty = (b"b".as_slice(), SMALL, NONE);
-    let max = (b"a".as_slice(), NONE, b"max:x:4294967294:100:::\n".as_slice());
+    let max = (
+        b"a".as_slice(),
+        NONE,
+        b"max:x:4294967294:100:::\n".as_slice(),
+    );
     let alice = (b"a".as_slice(), NONE, b"alice:x:1001:100:::\n".as_slice());
     let bob = (b"b".as_slice(), NONE, b"bob:x:1001:100:::\n".as_slice());
     let regular_on_one_host = (Class::Regular, true, 59001);
@@ -282,7 +309,10 @@ fn bad_pins(alloc: Global, text: &[u8]) -> u64 {
 fn pins_number_twice(rt: HostRuntime) {
     for (text, line) in [
         (b"user amy 5\nuser bea 5\n".as_slice(), 2),
-        (b"# none\n\nuser amy 5\ngroup bea 5\nuser amy 6\n".as_slice(), 5),
+        (
+            b"# none\n\nuser amy 5\ngroup bea 5\nuser amy 6\n".as_slice(),
+            5,
+        ),
         (b"user amy 4294967295\n".as_slice(), 1),
         (b"user a b 5\ngroup a b 5".as_slice(), 0),
         (NONE, 0),

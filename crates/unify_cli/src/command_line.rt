@@ -9,7 +9,9 @@ const VERSION: &str = "0.1.0";
 // HOST..., one or more.
 fn hosts<'a>(alloc: Global) -> Arg<'a> {
     Arg::new(alloc, "HOST")
-        .help("NAME=DIR, or NAME alone for the directory NAME; it holds passwd, group, mtree and maybe login.defs")
+        .help(
+            "NAME=DIR, or NAME alone for the directory NAME; it holds passwd, group, mtree and maybe login.defs",
+        )
         .required(true)
         .num_args(1..)
         .action(ArgAction::Append)
@@ -32,7 +34,9 @@ pub fn command_line<'a>(alloc: Global) -> Result<Command<'a>, AllocError> {
     Command::new(alloc, "unify")
         .version(VERSION)
         .about("One numbering for the accounts of many hosts")
-        .after_help("Without words a bundle, one command and its files in one text, is read from standard input.")
+        .after_help(
+            "Without words a bundle, one command and its files in one text, is read from standard input.",
+        )
         .subcommand_required(true)
         .subcommand(count(alloc)?)
 }
