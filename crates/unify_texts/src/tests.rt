@@ -1,5 +1,5 @@
 use super::*;
-use hosts_join::Which;
+use hosts_join::{PoolClass, Which};
 use idtext::{ByteString, Name, TextCode};
 use std::alloc::Global;
 use std::process::Abort;
