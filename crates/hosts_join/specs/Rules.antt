@@ -179,3 +179,7 @@ joined kind a = unless (refusal kind a) a
 -- the account at a place
 abbrev pub account : Accounts → ℕ → Account
 account a i = slice_index_or a.names i nobody
+
+-- its class
+abbrev pub class_at : Accounts → ℕ → Class
+class_at a i = class_of a.pins (account a i)
