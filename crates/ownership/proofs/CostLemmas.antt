@@ -1,6 +1,6 @@
 -- The files that change are those with an owner less those that keep their number; the changed rows are all rows less those that
 -- keep theirs.
-use Rattle.std.proofs.Common.{◌≡◌, ℕ, ◌+◌, ◌-◌, ◌<◌, ◌≤◌, ◌==◌, ◌&&◌, Bool, true, false, not, cond, List, [], ◌∷◌, length, get_or, Option, Some, None, refl, sym, ap, ◌∙◌, arith, inl, inr}
+use Rattle.std.proofs.Common.{◌≡◌, ℕ, ◌+◌, ◌-◌, ◌<◌, ◌≤◌, ◌==◌, ◌&&◌, Bool, true, false, not, cond, List, [], ◌∷◌, length, Option, Some, None, refl, ap, ◌∙◌, arith, inl, inr}
 use Rattle.std.specs.Prelude.{is_some}
 use Rattle.std.specs.List.{count_by, sum_by}
 use Rattle.std.proofs.lemmas.List.Sums.{sum_by-cons}

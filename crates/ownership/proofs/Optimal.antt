@@ -1,19 +1,18 @@
 -- Certifying potentials prove a mapping optimal, and none of them is wasted.
-use Rattle.std.proofs.Common.{◌≡◌, ◌≢◌, ℕ, zero, suc, ◌+◌, ◌*◌, ◌<◌, ◌≤◌, ◌==◌, Bool, true, false, cond, List, length, sum, refl, sym, ap, ◌∙◌, arith, ◌⊎◌, inl, inr}
+use Rattle.std.proofs.Common.{◌≡◌, ◌≢◌, ℕ, zero, suc, ◌+◌, ◌*◌, ◌<◌, ◌≤◌, Bool, true, false, cond, List, length, sum, refl, sym, ap, ◌∙◌, arith, ◌⊎◌, inl, inr}
 use Rattle.std.specs.List.{sum_by}
 use Rattle.std.proofs.lemmas.Nat.{mul-le}
-use Rattle.std.proofs.lemmas.Bool.{cases_lt, cases_Bool, cases_eq, eqb-true, both_ways}
+use Rattle.std.proofs.lemmas.Bool.{cases_lt, cases_Bool, cases_eq}
 use Rattle.hosts_join.specs.declared.Class.{Class}
 use Rattle.hosts_join.specs.declared.Class.TheVariants.{Pinned, Regular, System}
 use Rattle.hosts_join.specs.Accounts.{Accounts, lines}
-use Rattle.hosts_join.specs.Lawful.{AreLawfulAccounts}
 use Rattle.hosts_join.specs.Rules.{account, class_at, in_pool, is_free_class}
 use Rattle.ownership.specs.Sums.{sum_below}
 use Rattle.ownership.specs.Files.{File, kept}
 use Rattle.ownership.specs.Mappings.{number_at, MayHave, AreDistinct, IsAdmissible}
 use Rattle.ownership.specs.Weights.{weight, file_weight, free_weight}
-use Rattle.ownership.specs.Potentials.{potential_at, value_at, AreCertifying, IsTight, CertifiedIsOptimal, CertifiedIsTight}
-use Rattle.ownership.proofs.SumsBelow.{sum_below-le, sum_below-same, sum_below-tight, sum_below-add, sum_below-scale, sum_below-places}
+use Rattle.ownership.specs.Potentials.{potential_at, value_at, AreCertifying, CertifiedIsOptimal, CertifiedIsTight}
+use Rattle.ownership.proofs.SumsBelow.{sum_below-same, sum_below-tight, sum_below-add, sum_below-scale, sum_below-places}
 use Rattle.ownership.proofs.Duality.{AreApart, values-le, values-and-one, covered-le}
 use Rattle.ownership.proofs.CostLemmas.{all_kept, all_staying, cost_and_kept, rows_and_lines}
 

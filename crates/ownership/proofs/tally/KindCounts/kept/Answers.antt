@@ -1,4 +1,4 @@
-use Rattle.std.proofs.Common.{◌≡◌, ◌<◌, List, map, length, sym, ◌∙◌, ap, arith}
+use Rattle.std.proofs.Common.{◌<◌, List, map, length, sym, ◌∙◌, ap, arith}
 use Rattle.std.proofs.lemmas.List.{length-map}
 use Rattle.ownership.specs.declared.tally.Cell.{Cell}
 use Rattle.ownership.specs.Cells.{cell_of}
