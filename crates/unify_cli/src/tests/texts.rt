@@ -1,9 +1,9 @@
-use super::*;
 use hosts_join::{PoolClass, Which};
 use idtext::{ByteString, Name, TextCode};
 use std::alloc::Global;
 use std::process::Abort;
 use std::test::Fail;
+use unify_texts::{Command, Fault, FileName, push_fault, read_bundle, read_map};
 
 const ROOT_ONLY: &[u8] =
     b"run merge\nhost a\nfile passwd\n|root:x:0:0:root:/root:/bin/sh\nfile group\n|root:x:0:\n";

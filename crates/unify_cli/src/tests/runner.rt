@@ -1,7 +1,10 @@
 //! The worked courses of a plan of six files, on a tree that stops or fails.
-use super::*;
 use mtree_inv::read_inventory;
 use reown_plan::{Owner, Plan};
+use reown_runner::{
+    Campaign, DriveFault, Event, EventFault, FailTree, Item, Keep, MemTree, Place, Progress,
+    RunFault, Runner, Tree,
+};
 use std::alloc::Global;
 use std::process::Abort;
 use std::test::Fail;

@@ -1,6 +1,6 @@
 use Rattle.std.proofs.lemmas.List.Elements.{All-nil, All-push}
 use Rattle.hosts_join.specs.Hosts.{IsLawfulHost}
-use Rattle.hosts_join.proofs.tests.lawful_hosts.Goals as goal
+use Rattle.unify_cli.proofs.tests.site.lawful_hosts.Goals as goal
 
 pub loop-one-init : goal.loop-one-init
 loop-one-init c = rw c.new-hosts.ensures.items (All-nil IsLawfulHost)

@@ -3,11 +3,11 @@ ghost use Rattle.std.specs.Prelude.{◌≡◌, ◌≤◌, IfOk, length};
 ghost use Rattle.std.specs.List.{All};
 ghost use Rattle.hosts_join.specs.Hosts.{IsLawfulHost};
 
-use crate::{
+use accounts::{read_group, read_passwd};
+use hosts_join::{
     Class, Host, HostText, Pins, PinsFault, PoolClass, Site, SiteFault, check_hosts, check_primary,
     join,
 };
-use accounts::{read_group, read_passwd};
 use idtext::{ByteString, Name};
 use logindefs::read_ranges;
 use std::alloc::{AllocError, Global};
