@@ -7,7 +7,8 @@ use Rattle.std.specs.Ordering.{nat_cmp}
 use Rattle.std.proofs.lemmas.Bool.{cases_lt, cases_Bool, eqb-true}
 use Rattle.std.proofs.lemmas.List.Elements.{All-cons, All-head, All-tail}
 use Rattle.std.proofs.lemmas.List.Sorted.{All-permutation, Contains-permutation, IsPermutation-sym}
-use Rattle.candidates.specs.Row.{weight, weight_in}
+use Rattle.candidates.specs.Rows.{weight_in}
+use Rattle.assignment.specs.Solutions.{row_weight}
 use Rattle.candidates.specs.declared.Candidate.{Candidate}
 use Rattle.assignment.specs.declared.tree.Tree.{Tree}
 use Rattle.assignment.specs.declared.solver.Solver.{Solver}

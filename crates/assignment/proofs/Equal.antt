@@ -10,9 +10,12 @@ use Rattle.std.proofs.lemmas.Map.Keys.{IsDistinct-head, IsDistinct-tail, IsDisti
 use Rattle.std.proofs.lemmas.Bool.{eqb-true, eq-eqb, ne_eqb, cases_Bool, cases_eq, cases_lt, or_cases, both_ways, lt-ltb, le-ltb}
 use Rattle.std.proofs.lemmas.Option.{get_or_from_slice_get, slice_get_within}
 use Rattle.std.proofs.lemmas.List.{get_or-map, length-map}
-use Rattle.candidates.specs.Row.{Name, weight_in, weight}
-use Rattle.assignment.specs.Solutions.{value_at, total_weight, Ascends}
-use Rattle.assignment.proofs.Weak.{over, over_apart}
+use Rattle.candidates.specs.declared.Candidate.{Candidate}
+use Rattle.candidates.specs.Rows.{weight_in, row_at}
+use Rattle.ownership.specs.Potentials.{value_at}
+use Rattle.assignment.specs.Solutions.{AscendsByNumber}
+use Rattle.assignment.proofs.Sums.{over, listed_weight}
+use Rattle.assignment.proofs.Weak.{over_apart}
 
 -- ---- sums over a mapping
 
@@ -56,15 +59,15 @@ over_all (e ∷ es) vs d k h =
     rw (sum_by-cons (λ (p : ℕ × ℕ). p.1) e es) (omega (arith, once, rest))
 
 -- where each name's number weighs what covers it, the sums agree
-pub weighs_all : (names : List Name) (y vs : List ℕ) (f : ℕ → ℕ) → length y ≡ length names → length vs ≡ length names → ((n : ℕ) → n < length names → weight names n (get_or vs n 0) ≡ get_or y n 0 + f (get_or vs n 0)) → total_weight names vs ≡ sum y + over f vs
+pub weighs_all : (rows : List (List Candidate)) (y vs : List ℕ) (f : ℕ → ℕ) → length y ≡ length rows → length vs ≡ length rows → ((n : ℕ) → n < length rows → weight_in (row_at rows n) (get_or vs n 0) ≡ get_or y n 0 + f (get_or vs n 0)) → listed_weight rows vs ≡ sum y + over f vs
 weighs_all [] [] [] f a b h = refl
 weighs_all [] [] (v ∷ vs) f a b h = absurd (omega (arith, b))
 weighs_all [] (x ∷ y) vs f a b h = absurd (omega (arith, a))
-weighs_all (x ∷ xs) [] vs f a b h = absurd (omega (arith, a))
-weighs_all (x ∷ xs) (p ∷ y) [] f a b h = absurd (omega (arith, b))
-weighs_all (x ∷ xs) (p ∷ y) (v ∷ vs) f a b h =
-    let first : weight_in x.row v ≡ p + f v = h 0 (omega arith) in
-    let rest : total_weight xs vs ≡ sum y + over f vs = weighs_all xs y vs f (omega (arith, a)) (omega (arith, b)) (λ n l. h (suc n) (omega (arith, l))) in
+weighs_all (row ∷ rows) [] vs f a b h = absurd (omega (arith, a))
+weighs_all (row ∷ rows) (p ∷ y) [] f a b h = absurd (omega (arith, b))
+weighs_all (row ∷ rows) (p ∷ y) (v ∷ vs) f a b h =
+    let first : weight_in row v ≡ p + f v = h 0 (omega arith) in
+    let rest : listed_weight rows vs ≡ sum y + over f vs = weighs_all rows y vs f (omega (arith, a)) (omega (arith, b)) (λ n l. h (suc n) (omega (arith, l))) in
     rw (sum_by-cons (λ (x : ℕ). x) p y) (omega (arith, first, rest))
 
 -- ---- the entries of a map
@@ -96,13 +99,12 @@ value_at_lookup (e ∷ es) v =
     (cases_Bool (eqb e.0 v))
 
 -- keys in order ascend
-pub ascends_from_ordered : (es : List (ℕ × ℕ)) → IsStrictlySortedBy nat_cmp (keys_of es) → Ascends es
-ascends_from_ordered es h i j a b l p q =
-    let li = slice_get_within es i a p in
-    let lj = slice_get_within es j b q in
-    let k = below_from_sorted (keys_of es) i j 0 h l (omega (arith, lj, length-map es (λ (e : ℕ × ℕ). e.0))) in
-    let ea : get_or (keys_of es) i 0 ≡ a.0 = get_or-map (λ (e : ℕ × ℕ). e.0) es i a 0 li ∙ ap (λ (e : ℕ × ℕ). e.0) (get_or_from_slice_get es i a a p) in
-    let eb : get_or (keys_of es) j 0 ≡ b.0 = get_or-map (λ (e : ℕ × ℕ). e.0) es j b 0 lj ∙ ap (λ (e : ℕ × ℕ). e.0) (get_or_from_slice_get es j b b q) in
+pub ascends_from_ordered : (es : List (ℕ × ℕ)) → IsStrictlySortedBy nat_cmp (keys_of es) → AscendsByNumber es
+ascends_from_ordered es h i j d l m =
+    let long = length-map es (λ (e : ℕ × ℕ). e.0) in
+    let k = below_from_sorted (keys_of es) i j 0 h l (omega (arith, m, long)) in
+    let ea : get_or (keys_of es) i 0 ≡ (get_or es i d).0 = get_or-map (λ (e : ℕ × ℕ). e.0) es i d 0 (omega (arith, l, m)) in
+    let eb : get_or (keys_of es) j 0 ≡ (get_or es j d).0 = get_or-map (λ (e : ℕ × ℕ). e.0) es j d 0 m in
     omega (arith, k, ea, eb)
 
 -- keys in order are distinct

@@ -4,7 +4,7 @@ use Rattle.std.specs.BTreeMap as btree
 use Rattle.std.specs.Ordering.{nat_cmp}
 use Rattle.std.proofs.lemmas.Bool.{cases_eq}
 use Rattle.std.proofs.lemmas.Option.{same_Some, none-some}
-use Rattle.candidates.specs.Row.{weight}
+use Rattle.assignment.specs.Solutions.{row_weight}
 use Rattle.assignment.specs.declared.duals.Duals.{Duals}
 use Rattle.assignment.specs.declared.pairs.Pairs.{Pairs}
 use Rattle.assignment.specs.declared.tree.Tree.{Tree}

@@ -5,7 +5,7 @@ use Rattle.std.proofs.lemmas.Bool.{cases_lt, both_ways, eqb-true, ne_eqb, or_cas
 use Rattle.std.proofs.lemmas.List.{length_push, length-set, get_or_append_left, get_or_push, get_or_default}
 use Rattle.std.proofs.lemmas.Map.Keys.{IsDistinct-from_apart}
 use Rattle.std.proofs.lemmas.Map.Steps.{length-le_from_distinct_below}
-use Rattle.candidates.specs.Row.{weight}
+use Rattle.assignment.specs.Solutions.{row_weight}
 use Rattle.assignment.specs.declared.tree.Tree.{Tree}
 use Rattle.assignment.specs.declared.solver.Solver.{Solver}
 use Rattle.assignment.specs.Standing.{Standing, IsTightPair, IsTree, IsSlack, IsMet, IsLowered, among, holds}

@@ -5,7 +5,7 @@ use Rattle.std.specs.BTreeMap as btree
 use Rattle.std.specs.Ordering.{nat_cmp}
 use Rattle.std.proofs.lemmas.Bool.{cases_eq, both_ways, cond-true, cond-false}
 use Rattle.std.proofs.lemmas.List.Elements.{All-contains}
-use Rattle.candidates.specs.Row.{weight}
+use Rattle.assignment.specs.Solutions.{row_weight}
 use Rattle.assignment.specs.declared.duals.Duals.{Duals}
 use Rattle.assignment.specs.declared.pairs.Pairs.{Pairs}
 use Rattle.assignment.specs.declared.tree.Tree.{Tree}

@@ -7,7 +7,7 @@ use Rattle.std.proofs.lemmas.Bool.{cases_eq, cases_lt, cases_Bool, both_ways, co
 use Rattle.std.proofs.lemmas.Option.{same_Some}
 use Rattle.std.proofs.lemmas.List.{length_push, length-set, get_or_append_left, get_or_push}
 use Rattle.std.proofs.lemmas.List.Elements.{All-nil}
-use Rattle.candidates.specs.Row.{weight}
+use Rattle.assignment.specs.Solutions.{row_weight}
 use Rattle.assignment.specs.declared.duals.Duals.{Duals}
 use Rattle.assignment.specs.declared.tree.Tree.{Tree}
 use Rattle.assignment.specs.declared.solver.Solver.{Solver}

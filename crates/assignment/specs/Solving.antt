@@ -2,7 +2,8 @@
 use Rattle.std.specs.Prelude.{◌≡◌, ℕ, ◌≤◌, length, slice_index, slice_index_or, Some, None, unwrap_or}
 use Rattle.std.specs.BTreeMap as btree
 use Rattle.std.specs.Ordering.{nat_cmp}
-use Rattle.candidates.specs.Row.{weight, AreRows}
+use Rattle.candidates.specs.Rows.{AreRows}
+use Rattle.assignment.specs.Solutions.{row_weight}
 use Rattle.assignment.specs.declared.duals.Duals.{Duals}
 use Rattle.assignment.specs.declared.pairs.Pairs.{Pairs}
 use Rattle.assignment.specs.declared.tree.Tree.{Tree}

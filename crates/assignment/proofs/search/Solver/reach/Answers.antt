@@ -5,7 +5,8 @@ use Rattle.std.specs.List.Sorted.{IsPermutation}
 use Rattle.std.proofs.lemmas.List.{get_or_read, get_or_default}
 use Rattle.std.proofs.lemmas.Bool.{cases_eq}
 use Rattle.candidates.specs.declared.Candidate.{Candidate}
-use Rattle.candidates.specs.Row.{weight, weight_in, row_at, IsAscending, IsWeighed}
+use Rattle.candidates.specs.Rows.{weight_in, row_at, IsAscending, IsWeighed}
+use Rattle.assignment.specs.Solutions.{row_weight}
 use Rattle.assignment.specs.Order.{Edge}
 use Rattle.assignment.specs.Lazy.{y_in, z_in, lowered_to, IsEdge, IsQueued}
 use Rattle.assignment.proofs.Weigh.{weight_at, row_lawful, row_weight_small}

@@ -5,6 +5,6 @@ use Rattle.assignment.proofs.solver.Solver.solved.Given as goal
 abbrev pub invariant-loop-root : goal.invariant-loop-root
 invariant-loop-root l = record {
   rows : l.solver.rows.now ≡ l.rows;
-  position : length l.tree.position.items ≡ length l.rows;
+  position : length l.tree.position.items ≡ length l.rows.rows;
   serving : IsServing l.solver l.root;
 }
