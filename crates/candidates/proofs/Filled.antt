@@ -2,20 +2,21 @@
 use Rattle.std.proofs.Common.{◌≡◌, ◌≢◌, ℕ, zero, suc, ◌+◌, ◌<◌, ◌≤◌, ◌==◌, ◌⊎◌, Bool, true, false, cond, List, [], ◌∷◌, length, get_or, Option, None, Some, refl, sym, ◌∙◌, ap, arith, inl, inr}
 use Rattle.std.specs.List.{All}
 use Rattle.std.proofs.lemmas.Bool.{cases_Bool, eqb-true, false≢true, both_ways}
-use Rattle.std.proofs.lemmas.List.Elements.{All-head, All-tail}
+use Rattle.std.proofs.lemmas.List.Elements.{All-head, All-tail, All-from_get_or}
 use Rattle.hosts_join.specs.Accounts.{Accounts}
 use Rattle.hosts_join.specs.Lawful.{AreLawfulAccounts}
 use Rattle.hosts_join.specs.Rules.{account, in_pool, is_free_class, class_at}
 use Rattle.hosts_join.specs.declared.Class.{Class}
 use Rattle.hosts_join.specs.declared.Class.TheVariants.{Pinned, Regular, System}
 use Rattle.candidates.specs.declared.Candidate.{Candidate}
+use Rattle.candidates.specs.Mapping.{IsMapping}
 use Rattle.candidates.specs.Rows.{Choices, AreRows, row_at, weight_in}
 use Rattle.candidates.specs.Fill.{gift, IsPartial, Waits}
-use Rattle.ownership.specs.Mappings.{number_at, AreDistinct, IsAdmissible}
+use Rattle.ownership.specs.Mappings.{number_at, AreDistinct, IsAdmissible, MayHave}
 use Rattle.ownership.specs.Weights.{IsFilled, IsHad, Precedes}
 use Rattle.candidates.specs.Settled.{settled, settled_by, IsStart, IsDone}
 use Rattle.candidates.proofs.FillLemmas.{some-none, some-same, none-past}
-use Rattle.candidates.proofs.Pigeons.{pin-away}
+use Rattle.candidates.proofs.Pigeons.{pin-away, pool-id}
 
 weight-pooled : (p : ℕ → Bool) (row : List Candidate) (v : ℕ) → All (λ c. p c.number ≡ true) row → 1 ≤ weight_in row v → p v ≡ true
 weight-pooled p [] v all h = absurd (omega arith)
@@ -93,31 +94,51 @@ module _ (ch : Choices) (given start : List (Option ℕ)) (lawful : AreLawfulAcc
       waits-start : (i : ℕ) → i < length m → Waits ch.accounts given i → gift start i ≡ None
       waits-start i h w = same i (omega (arith, full, done.len, long)) ∙ free-settled (class_at ch.accounts i) (gift given i) w.0 ∙ w.1
 
-      pub is-admissible : IsAdmissible ch.accounts m
-      is-admissible = record {
-        len = full ∙ done.len ∙ long;
-        pinned = λ i v h e. has i v (done.kept i v (is-start.pinned i v (omega (arith, full, done.len)) e));
-        free = λ i h f. split i h f (gift start i) refl;
-        distinct = all-distinct;
-      }
-        where
-          split : (i : ℕ) → i < length m → is_free_class (class_at ch.accounts i) ≡ true → (o : Option ℕ) → gift start i ≡ o → in_pool ch.accounts (class_at ch.accounts i) (number_at m i) ≡ true
-          split i h f (Some v) e = ap (in_pool ch.accounts (class_at ch.accounts i)) (has i v (done.kept i v e)) ∙ is-start.pooled i v f e
-          split i h f None e = let d = done.filled i (omega (arith, full, done.len)) e in ap (in_pool ch.accounts (class_at ch.accounts i)) (has i d.number d.has) ∙ d.member
+      pub all-stay : (i v : ℕ) → gift given i ≡ Some v → number_at m i ≡ v
+      all-stay i v e = has i v (done.kept i v (given-start i v e))
 
-      pub is-filled : IsFilled ch.accounts given m
-      is-filled = record {
-        given_stay = λ i v h e. has i v (done.kept i v (given-start i v e));
-        unused = λ i h w had. had.other (all-distinct had.by i had.within h had.has);
-        smallest = λ i u h w p l.
-            let d = done.filled i (omega (arith, full, done.len)) (waits-start i h w) in
-            let b = d.least u p (omega (arith, has i d.number d.has, l)) in
-            let within : b.by < length m = omega (arith, none-past numbers b.by u b.has, full) in
-            record {
-              by = b.by;
-              within = within;
-              other = λ e. omega (arith, l, has b.by u b.has, ap (number_at m) e);
-              has = has b.by u b.has;
-              earlier = λ w'. b.earlier (waits-start b.by within w');
-            };
+      has-lawful : (i : ℕ) → i < length ch.accounts.names → MayHave ch.accounts (class_at ch.accounts i) (number_at m i)
+      has-lawful i h = by (class_at ch.accounts i) refl
+        where
+          start-long : i < length start
+          start-long = omega (arith, h, long)
+
+          free : is_free_class (class_at ch.accounts i) ≡ true → in_pool ch.accounts (class_at ch.accounts i) (number_at m i) ≡ true
+          free f = split (gift start i) refl
+            where
+              split : (o : Option ℕ) → gift start i ≡ o → in_pool ch.accounts (class_at ch.accounts i) (number_at m i) ≡ true
+              split (Some v) e = ap (in_pool ch.accounts (class_at ch.accounts i)) (has i v (done.kept i v e)) ∙ is-start.pooled i v f e
+              split None e = let d = done.filled i start-long e in ap (in_pool ch.accounts (class_at ch.accounts i)) (has i d.number d.has) ∙ d.member
+
+          by : (c : Class) → class_at ch.accounts i ≡ c → MayHave ch.accounts c (number_at m i)
+          by (Pinned v) e = has i v (done.kept i v (is-start.pinned i v start-long e))
+          by Regular e = ap (λ (c : Class). in_pool ch.accounts c (number_at m i)) (sym e) ∙ free (ap is_free_class e)
+          by System e = ap (λ (c : Class). in_pool ch.accounts c (number_at m i)) (sym e) ∙ free (ap is_free_class e)
+
+      pub is-admissible : IsAdmissible ch.accounts m
+      is-admissible = record { len = full ∙ done.len ∙ long; lawful = has-lawful; distinct = all-distinct }
+
+      may-id : (c : Class) (i v : ℕ) → class_at ch.accounts i ≡ c → MayHave ch.accounts c v → v ≤ 4294967294
+      may-id (Pinned p) i v e l = omega (arith, l, lawful.pin_ids i p e)
+      may-id Regular i v e l = pool-id ch.accounts Regular v l
+      may-id System i v e l = pool-id ch.accounts System v l
+
+      pub is-mapping : IsMapping m
+      is-mapping = record {
+        distinct = all-distinct;
+        ids = All-from_get_or (λ v. v ≤ 4294967294) m 0 (λ i h. may-id (class_at ch.accounts i) i (number_at m i) refl (has-lawful i (omega (arith, h, full, done.len, long))));
       }
+
+      pub is-filled : IsFilled ch.accounts (Waits ch.accounts given) m
+      is-filled = λ i u h w p l.
+          let h' : i < length m = omega (arith, h, full, done.len, long) in
+          let d = done.filled i (omega (arith, h, long)) (waits-start i h' w) in
+          let b = d.least u p (omega (arith, has i d.number d.has, l)) in
+          let inside : b.by < length m = omega (arith, none-past numbers b.by u b.has, full) in
+          record {
+            by = b.by;
+            within = omega (arith, inside, full, done.len, long);
+            other = λ e. omega (arith, l, has b.by u b.has, ap (number_at m) e);
+            has = has b.by u b.has;
+            earlier = λ w'. b.earlier (waits-start b.by inside w');
+          }

@@ -6,7 +6,7 @@ use Rattle.std.proofs.lemmas.Bool.{cases_Bool, cases_lt, cases_eq, eqb-true, eq-
 use Rattle.std.proofs.lemmas.List.Folds.{list_any-append}
 use Rattle.std.proofs.lemmas.List.Sums.{sum_by-cons}
 use Rattle.logindefs.specs.declared.ranges.IdRange.{IdRange}
-use Rattle.hosts_join.specs.Accounts.{Accounts, Account, Pin, nobody}
+use Rattle.hosts_join.specs.Accounts.{Accounts, Account, Pair, nobody}
 use Rattle.hosts_join.specs.Count.{count_below}
 use Rattle.hosts_join.specs.Lawful.{AreLawfulAccounts}
 use Rattle.hosts_join.specs.Pool.{in_runs}
@@ -117,16 +117,16 @@ module _ {A B : Type 0} (p : A → Bool) (q : B → Bool) (da : A) (db : B) wher
       ]
 
 -- a pin is in no pool
-pin-among : (pins : List Pin) (ns : List Account) (j v : ℕ) → j < length ns → class_of pins (get_or ns j nobody) ≡ Pinned v → is_taken (pinned_names pins ns) v ≡ true
+pin-among : (pins : List Pair) (ns : List Account) (j v : ℕ) → j < length ns → class_of pins (get_or ns j nobody) ≡ Pinned v → is_taken (pinned_names pins ns) v ≡ true
 pin-among pins [] j v h e = absurd (omega arith)
-pin-among pins (n ∷ ns) zero v h e = list_any-append (λ (p : Pin). p.number == v) (pinned_to (class_of pins n) n.name) (pinned_names pins ns) ∙ ap (λ b. b || is_taken (pinned_names pins ns) v) (one (class_of pins n) e)
+pin-among pins (n ∷ ns) zero v h e = list_any-append (λ (p : Pair). p.number == v) (pinned_to (class_of pins n) n.name) (pinned_names pins ns) ∙ ap (λ b. b || is_taken (pinned_names pins ns) v) (one (class_of pins n) e)
   where
     one : (c : Class) → c ≡ Pinned v → is_taken (pinned_to c n.name) v ≡ true
     one c e = rw (e, eq-eqb v v refl) refl
-pin-among pins (n ∷ ns) (suc j) v h e = list_any-append (λ (p : Pin). p.number == v) (pinned_to (class_of pins n) n.name) (pinned_names pins ns) ∙ ap (λ b. is_taken (pinned_to (class_of pins n) n.name) v || b) (pin-among pins ns j v (omega arith) e) ∙ or-true _
+pin-among pins (n ∷ ns) (suc j) v h e = list_any-append (λ (p : Pair). p.number == v) (pinned_to (class_of pins n) n.name) (pinned_names pins ns) ∙ ap (λ b. is_taken (pinned_to (class_of pins n) n.name) v || b) (pin-among pins ns j v (omega arith) e) ∙ or-true _
 
 pub pin-away : (a : Accounts) (j v : ℕ) (c : Class) → j < length a.names → class_at a j ≡ Pinned v → in_pool a c v ≡ false
-pin-away a j v c h e = none c (list_any-append (λ (p : Pin). p.number == v) (pinned_names a.pins a.names) (reserved a.names a.pins) ∙ ap (λ b. b || is_taken (reserved a.names a.pins) v) (pin-among a.pins a.names j v h e))
+pin-away a j v c h e = none c (list_any-append (λ (p : Pair). p.number == v) (pinned_names a.pins a.names) (reserved a.names a.pins) ∙ ap (λ b. b || is_taken (reserved a.names a.pins) v) (pin-among a.pins a.names j v h e))
   where
     none : (c : Class) → is_taken (claims a) v ≡ true → in_pool a c v ≡ false
     none (Pinned w) t = refl
@@ -143,13 +143,13 @@ one-class a System (Pinned u) v l h p q = absurd (false≢true q)
 one-class a System Regular v l h p q = absurd (omega (arith, l.pools_apart v q p))
 one-class a System System v l h p q = refl
 
-ids : (a : Accounts) (c : Class) (v : ℕ) → in_pool a c v ≡ true → v ≤ 4294967294
-ids a (Pinned u) v p = absurd (false≢true p)
-ids a Regular v p = leb-true v 4294967294 (and_parts _ _ (and_parts _ _ p).0).0
-ids a System v p = leb-true v 4294967294 (and_parts _ _ (and_parts _ _ p).0).0
+pub pool-id : (a : Accounts) (c : Class) (v : ℕ) → in_pool a c v ≡ true → v ≤ 4294967294
+pool-id a (Pinned u) v p = absurd (false≢true p)
+pool-id a Regular v p = leb-true v 4294967294 (and_parts _ _ (and_parts _ _ p).0).0
+pool-id a System v p = leb-true v 4294967294 (and_parts _ _ (and_parts _ _ p).0).0
 
 pub pool-ids : (a : Accounts) (c : Class) (pool : List IdRange) → ((v : ℕ) → in_runs pool v ≡ in_pool a c v) → (v : ℕ) → in_runs pool v ≡ true → v ≤ 4294967294
-pool-ids a c pool e v t = ids a c v (sym (e v) ∙ t)
+pool-ids a c pool e v t = pool-id a c v (sym (e v) ∙ t)
 
 module _ (a : Accounts) (start : List (Option ℕ)) (ws : List (List ℕ × ℕ)) (k : ℕ) (numbers : List (Option ℕ)) (regular system : ℕ) (lawful : AreLawfulAccounts a) (st : IsStart a start) (s : IsFillSoFar a start ws k numbers regular system) where
   -- whoever has a number of the pool is of the class
