@@ -29,7 +29,7 @@ impl Tree {
     }
 
     /// Whether a name is in the tree.
-    fn has(&self, name: u32) -> bool
+    pub fn has(&self, name: u32) -> bool
         requires { name < length self.now.position.items }
         ensures { result ≡ among self.now.position.items self.now.names.items (length self.now.names.items) name }
     {
@@ -38,7 +38,7 @@ impl Tree {
     }
 
     /// Begins with the root alone.
-    fn start(&mut self, root: u32) -> Result<(), AllocError>
+    pub fn start(&mut self, root: u32) -> Result<(), AllocError>
         requires { root < length self.old.position.items }
         ensures long { length self.new.position.items ≡ length self.old.position.items }
         ensures position { OnOk result (self.new.position.items ≡ slice_set self.old.position.items root 0) }
@@ -57,7 +57,7 @@ impl Tree {
     }
 
     /// Adds a name, reached at a level from the one at a position of the tree.
-    fn push(&mut self, name: u32, parent: usize, level: u64) -> Result<(), AllocError>
+    pub fn push(&mut self, name: u32, parent: usize, level: u64) -> Result<(), AllocError>
         requires { name < length self.old.position.items }
         ensures long { length self.new.position.items ≡ length self.old.position.items }
         ensures position { OnOk result (self.new.position.items ≡ slice_set self.old.position.items name (length self.old.names.items)) }

@@ -2,7 +2,7 @@ use Rattle.std.proofs.Common.{◌≡◌, ◌-◌, ◌≤◌, length}
 use Rattle.std.specs.BinaryHeap.{heap_items}
 use Rattle.assignment.specs.Lazy.{IsLazy, IsExit, HasEdges}
 use Rattle.assignment.specs.Solving.{root_of}
-use Rattle.assignment.proofs.search.Solver.search.Given as goal
+use Rattle.assignment.proofs.solver.Solver.search.Given as goal
 
 abbrev pub invariant-turns : goal.invariant-turns
 invariant-turns l = record {

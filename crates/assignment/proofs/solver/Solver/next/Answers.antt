@@ -8,7 +8,7 @@ use Rattle.assignment.specs.Standing.{holds}
 use Rattle.assignment.proofs.Nearest.{given_within}
 use Rattle.assignment.proofs.Lazy.{slack_upto}
 use Rattle.assignment.proofs.Edges.{low_all, edges_less, queued_less, edge_met}
-use Rattle.assignment.proofs.search.Solver.next.Goals as goal
+use Rattle.assignment.proofs.solver.Solver.next.Goals as goal
 
 pub returns-then-exit-level-clause-slack : goal.returns-then-exit-level-clause-slack
 returns-then-exit-level-clause-slack c =

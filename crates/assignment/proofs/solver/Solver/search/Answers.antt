@@ -8,7 +8,7 @@ use Rattle.assignment.proofs.Nearest.{given_within}
 use Rattle.assignment.proofs.Lazy.{can_settle, settled_search}
 use Rattle.assignment.proofs.Flip.{flip_start}
 use Rattle.assignment.proofs.Turns.{Grows, next_lazy, next_tight, next_zero, settled_tight, lazy_push, exit_push, edges_push}
-use Rattle.assignment.proofs.search.Solver.search.Goals as goal
+use Rattle.assignment.proofs.solver.Solver.search.Goals as goal
 
 pub settle-requires-clause-can : goal.settle-requires-clause-can
 settle-requires-clause-can c =

@@ -12,7 +12,7 @@ use Rattle.assignment.specs.Lazy.{y_in, z_in, lowered_to, IsEdge, IsQueued}
 use Rattle.assignment.proofs.Weigh.{weight_at, row_lawful, row_weight_small}
 use Rattle.assignment.proofs.Nearest.{z_small}
 use Rattle.assignment.proofs.Edges.{queued_more, queued_first, edges_more, all_reached}
-use Rattle.assignment.proofs.search.Solver.reach.Goals as goal
+use Rattle.assignment.proofs.solver.Solver.reach.Goals as goal
 
 pub overflow_add-slack : goal.overflow_add-slack
 overflow_add-slack c =
