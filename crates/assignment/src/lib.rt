@@ -58,7 +58,7 @@ impl From<AllocError> for SolveFault {
 /// at worst names times candidates times a logarithm. Memory is some 60 bytes a name and 40 a number that was given.
 pub fn solve(alloc: Global, rows: &Rows<'_, '_>) -> Result<Solution, SolveFault>
     ensures admissible { IfOk result (λ s. IsAdmissible rows.now.accounts s.mapping) }
-    ensures certify { IfOk result (λ s. Certify rows.now s.mapping s.y.items s.z.items) }
+    ensures proves { IfOk result (λ s. Proves rows.now s.mapping s.y.items s.z.items) }
     ensures filled { IfOk result (λ s. IsFilled rows.now.accounts (IsFreshIn rows.now s.mapping) s.mapping) }
     ensures certifies { IfOk result (λ s. (files : List File) → AreRowsOf rows.now files → AreCertifying rows.now.accounts files s.mapping s.y.items s.z.items) }
     ensures optimal { IfOk result (λ s. (files : List File) → AreRowsOf rows.now files → IsOptimal rows.now.accounts files s.mapping) }
