@@ -1,18 +1,19 @@
 -- Accounts that were joined.
-use Rattle.std.proofs.Common.{◌≡◌, ℕ, zero, suc, ◌+◌, ◌<◌, ◌≤◌, ◌==◌, ◌&&◌, Bool, true, false, cond, List, [], ◌∷◌, ◌++◌, length, map, get_or, Option, None, Some, Result, Ok, Err, refl, sym, ◌∙◌, ap, arith, inl, inr}
+use Rattle.std.proofs.Common.{◌≡◌, ℕ, zero, suc, ◌+◌, ◌<◌, ◌≤◌, ◌==◌, Bool, true, false, not, cond, List, [], ◌∷◌, ◌++◌, length, map, get_or, Option, None, Some, Result, Ok, Err, refl, sym, ◌∙◌, ap, arith, inl, inr}
 use Rattle.std.specs.List.{All, list_any, list_all, count_by, filter}
 use Rattle.std.specs.Prelude.{IfSome, IfOk}
 use Rattle.std.proofs.lemmas.List.Elements.{All-nil, All-cons, All-head, All-tail, All-append, All-map, All-filter, All-weaker}
 use Rattle.std.specs.Option.{option_to_list}
 use Rattle.std.specs.Str.{bytes_eq}
-use Rattle.std.proofs.lemmas.Bool.{cases_Bool, and_parts, and_left, eqb-true, eq-eqb, both_ways, false≢true, true≢false}
+use Rattle.std.proofs.lemmas.Bool.{cases_Bool, and_parts, eqb-true, eq-eqb, both_ways, true≢false}
 use Rattle.std.proofs.lemmas.List.{append_assoc, append-nil, get_or-map, length-map}
 use Rattle.std.proofs.lemmas.List.Sums.{sum_by-append, sum_by-cons, sum_by_push}
 use Rattle.logindefs.specs.Ranges.{in_range, AreApart}
 use Rattle.logindefs.specs.declared.ranges.IdRange.{IdRange}
 use Rattle.logindefs.specs.declared.ranges.HostRanges.{HostRanges}
-use Rattle.hosts_join.specs.Accounts.{Account, Accounts, HostEntry, Pair, Row, grouped, first_appearances, spot_of, spots_of, nobody, AreNamedApart, IsOnceEach, IsSpotAmong}
-use Rattle.hosts_join.specs.Rules.{sources, sources_among, class_by, is_pinning, is_regular, joined, refusal, Clash, repeats, repeat_of, least, lesser, clash_of, claims, pinned_names, pinned_to, reserved, class_of, account, in_pool, is_taken, is_id}
+use Rattle.idtext.specs.Names.{is_lawful_name}
+use Rattle.hosts_join.specs.Accounts.{Account, Accounts, Pair, Row, grouped, first_appearances, spot_of, spots_of, nobody, all_lines, AreNamedApart, IsOnceEach, IsSpotAmong}
+use Rattle.hosts_join.specs.Rules.{sources, sources_among, class_by, is_pinning, is_regular, joined, refusal, Clash, repeats, repeat_of, least, clash_of, claims, pinned_names, pinned_to, reserved, class_of, account}
 use Rattle.hosts_join.specs.Lawful.{AreLawfulAccounts}
 use Rattle.idtext.specs.First.{Gives, unless}
 use Rattle.hosts_join.specs.Site.{entry_on}
@@ -121,6 +122,25 @@ grouped-differ rows i j hi hj e =
     let at_j = ap (λ (a : Account). a.name) (get_or-map f ns j [] nobody lj) in
     names-once ns i j (AreNames-first_appearances (map (λ (r : Row). r.name) rows)) li lj (sym at_i ∙ e ∙ at_j)
 
+-- ---- names stay lawful
+
+abbrev IsLawfulName : List ℕ → Type 0
+IsLawfulName n = is_lawful_name n ≡ true
+
+first-lawful : (ns : List (List ℕ)) → All IsLawfulName ns → All IsLawfulName (first_appearances ns)
+unfolding first_appearances
+first-lawful [] all = All-nil IsLawfulName
+first-lawful (n ∷ ns) all =
+    All-cons IsLawfulName n _ (All-head IsLawfulName n ns all)
+    (All-filter (λ m. not (bytes_eq n m)) IsLawfulName (first_appearances ns) (first-lawful ns (All-tail IsLawfulName n ns all)))
+
+grouped-lawful : (rows : List Row) → All (λ r. is_lawful_name r.name ≡ true) rows → All (λ x. is_lawful_name x.name ≡ true) (grouped rows)
+unfolding grouped
+grouped-lawful rows all =
+    let f : List ℕ → Account = λ n. record { name = n; spots = spots_of rows n } in
+    All-map (λ (x : Account). is_lawful_name x.name ≡ true) f (first_appearances (map (λ (r : Row). r.name) rows))
+    (first-lawful (map (λ (r : Row). r.name) rows) (All-map IsLawfulName (λ (r : Row). r.name) rows all))
+
 -- ---- a pin is an id
 
 find-id : (n : List ℕ) (pairs : List Pair) → All (λ p. p.number ≤ 4294967294) pairs → IfSome (number_of pairs n) (λ v. v ≤ 4294967294)
@@ -158,12 +178,15 @@ module _ (a : Accounts) (rows : List Row) (e : a.names ≡ grouped rows) where
   of-rows : (P : List Spot → Type 0) → P [] → ((n : List ℕ) → P (spots_of rows n)) → (i : ℕ) → P (account a i).spots
   of-rows P none each i = rw e (grouped-spots P rows none each i)
 
-  pub lawful : clash_of (claims a) ≡ None → AreNamedApart rows → All (λ r. IsSpotAmong (length a.hosts) (spot_of r)) rows → ((n : List ℕ) → length (spots_of rows n) ≤ 64) → ArePins a.pins
+  pub lawful : clash_of (claims a) ≡ None → AreNamedApart rows → All (λ r. is_lawful_name r.name ≡ true) rows → length rows ≤ 4194304 → all_lines a.names ≡ length rows → All (λ r. IsSpotAmong (length a.hosts) (spot_of r)) rows → ((n : List ℕ) → length (spots_of rows n) ≤ 64) → ArePins a.pins
       → ((v : ℕ) → list_all (λ h. in_range h.regular v) a.hosts ≡ true → list_all (λ h. in_range h.system v) a.hosts ≡ true → length rows ≡ 0) → AreLawfulAccounts a
   unfolding IsOnceEach
-  lawful none named among few pins apart =
+  lawful none named names few_rows lines among few pins apart =
       let spots : (i : ℕ) → All (IsSpotAmong (length a.hosts)) (account a i).spots = of-rows (λ ss. All (IsSpotAmong (length a.hosts)) ss) (All-nil (IsSpotAmong (length a.hosts))) (λ n. spots_of-all (IsSpotAmong (length a.hosts)) rows n among) in
       record {
+        lawful = rw e (grouped-lawful rows names);
+        few_names = omega (arith, ap length e, length-grouped rows);
+        few_rows = omega (arith, lines);
         names_differ = λ i j hi hj s. grouped-differ rows i j (omega (arith, ap length e)) (omega (arith, ap length e)) (ap (λ (ns : List Account). (get_or ns i nobody).name) (sym e) ∙ s ∙ ap (λ (ns : List Account). (get_or ns j nobody).name) e);
         spots_among = spots;
         once = of-rows IsOnceEach tt (λ n. IsOnceEach-spots_of n rows named);

@@ -1,11 +1,12 @@
 -- The spots that the rows of hosts give a name.
-use Rattle.std.proofs.Common.{◌≡◌, ℕ, zero, suc, ◌+◌, ◌<◌, ◌≤◌, ◌==◌, List, [], ◌∷◌, ◌++◌, length, map, get_or, refl, sym, ◌∙◌, ap, arith}
-use Rattle.std.specs.List.{All, list_any, filter}
+use Rattle.std.proofs.Common.{◌≡◌, ℕ, zero, suc, ◌+◌, ◌<◌, ◌≤◌, ◌==◌, true, List, [], ◌∷◌, ◌++◌, length, map, get_or, refl, sym, ◌∙◌, ap, arith}
+use Rattle.std.specs.List.{All, list_any, list_all, filter}
 use Rattle.std.specs.Str.{bytes_eq}
-use Rattle.std.proofs.lemmas.Bool.{both_ways, or_parts, eq-eqb}
+use Rattle.std.proofs.lemmas.Bool.{both_ways, or_parts, and_parts, eq-eqb}
 use Rattle.std.proofs.lemmas.List.{length-append, map-append}
 use Rattle.std.proofs.lemmas.List.Elements.{All-nil, All-cons, All-head, All-tail, All-append, All-map, All-filter, filter-append}
-use Rattle.accounts.specs.Laws.{AreDistinct, IsTable}
+use Rattle.idtext.specs.Names.{is_lawful_name}
+use Rattle.accounts.specs.Laws.{IsTable}
 use Rattle.logindefs.specs.declared.ranges.IdRange.{IdRange}
 use Rattle.hosts_join.specs.declared.Spot.{Spot}
 use Rattle.hosts_join.specs.Accounts.{Account, Row, spot_of, spots_of, grouped, first_appearances, IsOnceEach, IsSpotAmong, host_rows, rows_from, nobody}
@@ -32,6 +33,12 @@ grouped-spots P rows none each i = among (first_appearances (map (λ (r : Row). 
 host_rows-among : (place n : ℕ) (r s : IdRange) (pairs : List (List ℕ × ℕ)) → place < n → ((i : ℕ) → i < length (map (λ p. p.1) pairs) → get_or (map (λ (p : List ℕ × ℕ). p.1) pairs) i 0 ≤ 4294967294) → All (λ q. IsSpotAmong n (spot_of q)) (host_rows place r s pairs)
 host_rows-among place n r s [] here ids = All-nil (λ (q : Row). IsSpotAmong n (spot_of q))
 host_rows-among place n r s (p ∷ pairs) here ids = All-cons (λ (q : Row). IsSpotAmong n (spot_of q)) _ (host_rows place r s pairs) (here, ids 0 (omega arith)) (host_rows-among place n r s pairs here (λ i h. ids (suc i) (omega arith)))
+
+host_rows-lawful : (place : ℕ) (r s : IdRange) (pairs : List (List ℕ × ℕ)) → list_all is_lawful_name (map (λ p. p.0) pairs) ≡ true → All (λ q. is_lawful_name q.name ≡ true) (host_rows place r s pairs)
+host_rows-lawful place r s [] e = All-nil (λ (q : Row). is_lawful_name q.name ≡ true)
+host_rows-lawful place r s (p ∷ pairs) e =
+    let parts = and_parts (is_lawful_name p.0) (list_all is_lawful_name (map (λ (p : List ℕ × ℕ). p.0) pairs)) e in
+    All-cons (λ (q : Row). is_lawful_name q.name ≡ true) _ (host_rows place r s pairs) parts.0 (host_rows-lawful place r s pairs parts.1)
 
 on-host : (place : ℕ) (r s : IdRange) (pairs : List (List ℕ × ℕ)) → All (λ q. (spot_of q).host ≡ place) (host_rows place r s pairs)
 on-host place r s [] = All-nil (λ (q : Row). (spot_of q).host ≡ place)
@@ -61,6 +68,13 @@ module _ {H : Type 0} (regular system : H → IdRange) (pairs : H → List (List
       All-append (λ (q : Row). IsSpotAmong n (spot_of q)) (host_rows place (regular h) (system h) (pairs h)) (rows_from regular system pairs (place + 1) hs)
       (host_rows-among place n (regular h) (system h) (pairs h) (omega arith) (table h (All-head lawful h hs l)).least)
       (rows_from-among (place + 1) n hs (omega arith) (All-tail lawful h hs l))
+
+  pub rows_from-lawful : (place : ℕ) (hs : List H) → All lawful hs → All (λ q. is_lawful_name q.name ≡ true) (rows_from regular system pairs place hs)
+  rows_from-lawful place [] l = All-nil (λ (q : Row). is_lawful_name q.name ≡ true)
+  rows_from-lawful place (h ∷ hs) l =
+      All-append (λ (q : Row). is_lawful_name q.name ≡ true) (host_rows place (regular h) (system h) (pairs h)) (rows_from regular system pairs (place + 1) hs)
+      (host_rows-lawful place (regular h) (system h) (pairs h) (table h (All-head lawful h hs l)).lawful)
+      (rows_from-lawful (place + 1) hs (All-tail lawful h hs l))
 
   -- a name has no more spots than there are hosts
   pub few-spots : (place : ℕ) (hs : List H) (n : List ℕ) → All lawful hs → length (spots_of (rows_from regular system pairs place hs) n) ≤ length hs

@@ -3,7 +3,8 @@ ghost use Rattle.std.specs.Prelude.{◌≡◌, ℕ, List, ◌<◌, ◌≤◌, �
 ghost use Rattle.std.specs.List.{All, list_all, list_any, find};
 ghost use Rattle.std.specs.Option.{option_map};
 ghost use Rattle.idtext.specs.First.{Gives};
-ghost use Rattle.hosts_join.specs.Pool.{AreAscending, in_runs};
+ghost use Rattle.idtext.specs.Names.{is_lawful_name};
+ghost use Rattle.hosts_join.specs.Pool.{AreAscending, in_runs, run_size};
 ghost use Rattle.hosts_join.specs.Rules.{is_taken, is_id, joined};
 ghost use Rattle.hosts_join.specs.Accounts.{AreApart, AreNamedApart, IsSpotAmong, grouped, spot_of, spots_of};
 ghost use Rattle.hosts_join.specs.PinPairs.{ArePins};
@@ -118,6 +119,7 @@ pub fn join_rows<'a>(
 ) -> Result<Names<'a>, SiteFault<'a>>
     requires apart { AreApart (rows_of rows.now) }
     requires named { AreNamedApart (rows_of rows.now) }
+    requires lawful { All (λ r. is_lawful_name r.name ≡ true) (rows_of rows.now) }
     requires few { length rows.now ≤ 4194304 }
     requires among { All (λ r. IsSpotAmong (length hosts.items) (spot_of r)) (rows_of rows.now) }
     requires spots { (n : List ℕ) → length (spots_of (rows_of rows.now) n) ≤ 64 }
@@ -243,6 +245,7 @@ impl<'a> Names<'a> {
     /// that the pins text keeps for names on no host. None for a pinned name. No cost.
     pub fn pool(&self, class: Class) -> &Pool
         ensures members { (v : ℕ) → in_runs result.now v ≡ rules.in_pool self.now class v }
+        ensures size { run_size result.now ≡ rules.pool_size self.now class }
         ensures enough { rules.is_free_class class ≡ true → rules.names_in self.now class ≤ rules.pool_size self.now class }
     {
         match class {

@@ -91,5 +91,5 @@ invariant_of-result c =
       enough_regular = rw c.in_ok-pins.ensures r;
       enough_system = rw c.in_ok-pins.ensures s;
       lawful = rw c.in_ok-pins.ensures (lawful a (rows_of c.args.rows.now) c.in_ok-index.ensures.accounts (ap clash_of (sym given) ∙ ap (λ xs. clash_of (pairs_of xs)) (sym c.as_slice-3.ensures.value) ∙ sym c.in_ok-clash.ensures ∙ ap clash_seen c.in-None.is)
-          c.requires.named (rw (length-map c.args.hosts.items entry_of) c.requires.among) c.requires.spots c.requires.pins (λ v r s. omega (arith, c.requires.ranges v r s, length-rows c.args.rows.now)));
+          c.requires.named c.requires.lawful (omega (arith, c.requires.few, length-rows c.args.rows.now)) (c.in_ok-index.ensures.lines ∙ sym (length-rows c.args.rows.now)) (rw (length-map c.args.hosts.items entry_of) c.requires.among) c.requires.spots c.requires.pins (λ v r s. omega (arith, c.requires.ranges v r s, length-rows c.args.rows.now)));
     }
