@@ -1,7 +1,6 @@
 -- The fill, name by name.
-use Rattle.std.proofs.Common.{◌≡◌, ◌≢◌, ℕ, zero, suc, ◌+◌, ◌<◌, ◌≤◌, ◌==◌, ◌&&◌, ◌||◌, ◌⊎◌, Bool, true, false, cond, List, [], ◌∷◌, ◌++◌, length, map, take, get_or, set, Option, None, Some, refl, sym, ◌∙◌, ap, arith, inl, inr, subst}
+use Rattle.std.proofs.Common.{◌≡◌, ◌≢◌, ℕ, zero, suc, ◌+◌, ◌<◌, ◌≤◌, ◌==◌, ◌&&◌, ◌⊎◌, true, false, cond, List, [], ◌∷◌, ◌++◌, length, map, take, get_or, Option, None, Some, refl, sym, ◌∙◌, ap, arith, inl, inr, subst}
 use Rattle.std.specs.Prelude.{nat_lt}
-use Rattle.std.specs.List.{list_any, count_by, All}
 use Rattle.std.specs.Option.{is_none}
 use Rattle.std.specs.Cmp.Lexicographic.{slice_cmp}
 use Rattle.std.specs.Ordering.{nat_cmp, ordering_then, is_lt}
@@ -10,7 +9,7 @@ use Rattle.std.specs.List.Sorted.{IsSortedBy}
 use Rattle.std.proofs.lemmas.List.Sorted.{sorted_far, ranks_by}
 use Rattle.std.proofs.lemmas.Cmp.{then_total, on_total, nat_cmp_total, nat_list_cmp_total}
 use Rattle.std.specs.declared.cmp.Ordering.{Ordering}
-use Rattle.std.specs.declared.cmp.Ordering.TheVariants.{Less, Equal, Greater}
+use Rattle.std.specs.declared.cmp.Ordering.TheVariants.{Less}
 use Rattle.std.proofs.lemmas.Bool.{cases_Bool, cases_lt, cases_eq, eqb-true, eq-eqb, ne_eqb, lt-ltb, le-ltb, ltb-true, and_parts, false≢true, true≢false, both_ways}
 use Rattle.std.proofs.lemmas.List.{get_or-set_same, get_or-set_other, length-set, get_or_append_left, get_or_push, take_all, get_or-map, length_push, length-map}
 use Rattle.std.proofs.lemmas.List.Elements.{All-get_or}
@@ -20,14 +19,13 @@ use Rattle.logindefs.specs.declared.ranges.IdRange.{IdRange}
 use Rattle.hosts_join.specs.Accounts.{Accounts}
 use Rattle.hosts_join.specs.Lawful.{AreLawfulAccounts}
 use Rattle.hosts_join.specs.Pool.{in_runs}
-use Rattle.hosts_join.specs.Rules.{account, in_pool, is_free_class, class_at}
+use Rattle.hosts_join.specs.Rules.{account, in_pool, class_at}
 use Rattle.hosts_join.specs.declared.Class.{Class}
 use Rattle.hosts_join.specs.declared.Class.TheVariants.{Pinned, Regular, System}
 use Rattle.candidates.specs.Fill.{gift}
 use Rattle.ownership.specs.Weights.{Precedes}
-use Rattle.ownership.specs.Files.{is_number}
-use Rattle.candidates.specs.Settled.{is_had, times, no_waiting, AreWaiting, IsStart, HadBefore, HasLeast, IsGiven, IsDone}
-use Rattle.candidates.proofs.Numbers.{had-set, had-by, had-at}
+use Rattle.candidates.specs.Settled.{is_had, times, no_waiting, AreWaiting, IsStart, HasLeast, IsGiven, IsDone}
+use Rattle.candidates.proofs.Numbers.{had-by, had-at}
 
 -- the cursor of a class
 abbrev pub cursor_of : ℕ → ℕ → Class → ℕ

@@ -1,11 +1,9 @@
 -- What the fill begins with, and what it leaves.
-use Rattle.std.proofs.Common.{◌≡◌, ◌≢◌, ℕ, zero, suc, ◌+◌, ◌<◌, ◌≤◌, ◌==◌, ◌⊎◌, Bool, true, false, cond, List, [], ◌∷◌, length, get_or, Option, None, Some, refl, sym, ◌∙◌, ap, arith, inl, inr}
+use Rattle.std.proofs.Common.{◌≡◌, ℕ, ◌<◌, ◌≤◌, ◌==◌, ◌⊎◌, Bool, true, List, [], ◌∷◌, length, Option, None, Some, refl, sym, ◌∙◌, ap, arith, inl, inr}
 use Rattle.std.specs.List.{All}
 use Rattle.std.proofs.lemmas.Bool.{cases_Bool, eqb-true, false≢true, both_ways}
 use Rattle.std.proofs.lemmas.List.Elements.{All-head, All-tail, All-from_get_or}
-use Rattle.hosts_join.specs.Accounts.{Accounts}
-use Rattle.hosts_join.specs.Lawful.{AreLawfulAccounts}
-use Rattle.hosts_join.specs.Rules.{account, in_pool, is_free_class, class_at}
+use Rattle.hosts_join.specs.Rules.{in_pool, is_free_class, class_at}
 use Rattle.hosts_join.specs.declared.Class.{Class}
 use Rattle.hosts_join.specs.declared.Class.TheVariants.{Pinned, Regular, System}
 use Rattle.candidates.specs.declared.Candidate.{Candidate}
@@ -13,7 +11,7 @@ use Rattle.candidates.specs.Mapping.{IsMapping}
 use Rattle.candidates.specs.Rows.{Choices, AreRows, row_at, weight_in}
 use Rattle.candidates.specs.Fill.{gift, IsPartial, Waits}
 use Rattle.ownership.specs.Mappings.{number_at, AreDistinct, IsAdmissible, MayHave}
-use Rattle.ownership.specs.Weights.{IsFilled, IsHad, Precedes}
+use Rattle.ownership.specs.Weights.{IsFilled}
 use Rattle.candidates.specs.Settled.{settled, settled_by, IsStart, IsDone}
 use Rattle.candidates.proofs.FillLemmas.{some-none, some-same, none-past}
 use Rattle.candidates.proofs.Pigeons.{pin-away, pool-id}
@@ -30,7 +28,7 @@ free-settled (Pinned v) o f = absurd (false≢true f)
 free-settled Regular o f = refl
 free-settled System o f = refl
 
-module _ (ch : Choices) (given start : List (Option ℕ)) (lawful : AreLawfulAccounts ch.accounts) (rows : AreRows ch) (part : IsPartial ch given) (long : length start ≡ length ch.accounts.names)
+module _ (ch : Choices) (given start : List (Option ℕ)) (rows : AreRows ch) (part : IsPartial ch given) (long : length start ≡ length ch.accounts.names)
     (same : (i : ℕ) → i < length ch.accounts.names → gift start i ≡ settled ch.accounts given i) where
   given-pooled : (i v : ℕ) → gift given i ≡ Some v → in_pool ch.accounts (class_at ch.accounts i) v ≡ true
   given-pooled i v e =
@@ -66,7 +64,7 @@ module _ (ch : Choices) (given start : List (Option ℕ)) (lawful : AreLawfulAcc
     ];
     distinct = λ i j v ei ej. elim (source i v ei) [
       | inl pi ↦ elim (source j v ej) [
-        | inl pj ↦ lawful.pins_differ i j v (omega (arith, none-past start i v ei, long)) (omega (arith, none-past start j v ej, long)) pi pj
+        | inl pj ↦ rows.lawful.pins_differ i j v (omega (arith, none-past start i v ei, long)) (omega (arith, none-past start j v ej, long)) pi pj
         | inr gj ↦ absurd (both_ways (in_pool ch.accounts (class_at ch.accounts j) v) (pin-away ch.accounts i v (class_at ch.accounts j) (omega (arith, none-past start i v ei, long)) pi) (given-pooled j v gj))
       ]
       | inr gi ↦ elim (source j v ej) [
@@ -119,7 +117,7 @@ module _ (ch : Choices) (given start : List (Option ℕ)) (lawful : AreLawfulAcc
       is-admissible = record { len = full ∙ done.len ∙ long; lawful = has-lawful; distinct = all-distinct }
 
       may-id : (c : Class) (i v : ℕ) → class_at ch.accounts i ≡ c → MayHave ch.accounts c v → v ≤ 4294967294
-      may-id (Pinned p) i v e l = omega (arith, l, lawful.pin_ids i p e)
+      may-id (Pinned p) i v e l = omega (arith, l, rows.lawful.pin_ids i p e)
       may-id Regular i v e l = pool-id ch.accounts Regular v l
       may-id System i v e l = pool-id ch.accounts System v l
 

@@ -1,8 +1,8 @@
 -- A pool with as many numbers as its class has names: while one of them waits, a number is left.
-use Rattle.std.proofs.Common.{◌≡◌, ℕ, zero, suc, ◌+◌, ◌<◌, ◌≤◌, ◌^◌, ◌==◌, ◌&&◌, ◌||◌, ◌⊎◌, Bool, true, false, not, cond, List, [], ◌∷◌, ◌++◌, length, get_or, Option, None, Some, refl, sym, ◌∙◌, ap, arith, inl, inr, subst, take}
-use Rattle.std.specs.List.{list_any, count_by}
+use Rattle.std.proofs.Common.{◌≡◌, ℕ, zero, suc, ◌+◌, ◌<◌, ◌≤◌, ◌^◌, ◌==◌, ◌&&◌, ◌||◌, ◌⊎◌, Bool, true, false, not, cond, List, [], ◌∷◌, length, get_or, Option, None, Some, refl, sym, ◌∙◌, ap, arith, inl, inr, take}
+use Rattle.std.specs.List.{count_by}
 use Rattle.std.proofs.Math.Bool.{or-true, and-false, and-true}
-use Rattle.std.proofs.lemmas.Bool.{cases_Bool, cases_lt, cases_eq, eqb-true, eq-eqb, ne_eqb, and_parts, false≢true, true≢false, both_ways, not-true, leb-true}
+use Rattle.std.proofs.lemmas.Bool.{cases_Bool, cases_lt, cases_eq, eq-eqb, ne_eqb, and_parts, false≢true, true≢false, both_ways, not-true, leb-true}
 use Rattle.std.proofs.lemmas.List.Folds.{list_any-append}
 use Rattle.std.proofs.lemmas.List.Sums.{sum_by-cons}
 use Rattle.logindefs.specs.declared.ranges.IdRange.{IdRange}
@@ -10,13 +10,12 @@ use Rattle.hosts_join.specs.Accounts.{Accounts, Account, Pair, nobody}
 use Rattle.hosts_join.specs.Count.{count_below}
 use Rattle.hosts_join.specs.Lawful.{AreLawfulAccounts}
 use Rattle.hosts_join.specs.Pool.{in_runs}
-use Rattle.hosts_join.specs.Rules.{account, in_pool, is_free_class, is_taken, is_id, claims, pinned_names, pinned_to, reserved, class_of, same_class, names_in, pool_size, class_at}
+use Rattle.hosts_join.specs.Rules.{in_pool, is_free_class, is_taken, claims, pinned_names, pinned_to, reserved, class_of, same_class, names_in, pool_size, class_at}
 use Rattle.hosts_join.specs.declared.Class.{Class}
 use Rattle.hosts_join.specs.declared.Class.TheVariants.{Pinned, Regular, System}
 use Rattle.candidates.specs.Fill.{gift}
-use Rattle.ownership.specs.Files.{is_number}
-use Rattle.candidates.specs.Settled.{is_had, times, AreWaiting, IsStart, IsLeft}
-use Rattle.candidates.proofs.FillLemmas.{IsFillSoFar, cursor_of, some-none, some-same, none-past}
+use Rattle.candidates.specs.Settled.{is_had, times, IsStart, IsLeft}
+use Rattle.candidates.proofs.FillLemmas.{IsFillSoFar, cursor_of, some-none, some-same}
 
 pub search-below : (p : ℕ → Bool) (n : ℕ) → ((v : ℕ) × (v < n) × (p v ≡ true)) ⊎ ((v : ℕ) → v < n → p v ≡ false)
 search-below p zero = inr (λ v h. absurd (omega arith))

@@ -29,7 +29,6 @@ pub fn settle(
     given: &[Option<u32>],
 ) -> Result<Vec<Option<u32>>, AllocError>
     requires { length given.now ≡ length names.now.names }
-    ensures lawful { OnOk result (AreLawfulAccounts names.now) }
     ensures len { IfOk result (λ ns. length ns.items ≡ length names.now.names) }
     ensures numbers { IfOk result (λ ns. (i : ℕ) → i < length names.now.names → gift ns.items i ≡ settled names.now given.now i) }
 {

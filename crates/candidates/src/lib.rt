@@ -126,7 +126,6 @@ impl<'n, 'a> Rows<'n, 'a> {
         ensures len { result ≡ length self.now.rows }
         ensures lawful { AreRows self.now }
     {
-        let _rows = &self.rows;
         self.names.len()
     }
 
@@ -159,7 +158,6 @@ impl<'n, 'a> Rows<'n, 'a> {
         ensures given_stay { IfOk result (λ m. (i v : ℕ) → gift given.now i ≡ Some v → number_at m i ≡ v) }
         ensures filled { IfOk result (IsFilled self.now.accounts (Waits self.now.accounts given.now)) }
     {
-        let _rows = &self.rows;
         let settled = settle(alloc, self.names, given)?;
         let waiting = waiting(alloc, self.names, settled.as_slice())?;
         let mut filling = Filling::of(alloc, settled)?;
@@ -167,3 +165,6 @@ impl<'n, 'a> Rows<'n, 'a> {
         Ok(Mapping::new(filling.finish(alloc)?))
     }
 }
+
+#[cfg(test)]
+mod tests;

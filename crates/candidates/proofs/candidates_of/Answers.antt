@@ -1,15 +1,12 @@
-use Rattle.std.proofs.Common.{◌≡◌, ℕ, ◌+◌, ◌*◌, ◌<◌, ◌≤◌, ◌^◌, ◌==◌, ◌&&◌, ◌∷◌, [], ◌++◌, Bool, true, false, List, length, get_or, sym, ◌∙◌, ap, arith, refl}
+use Rattle.std.proofs.Common.{◌≡◌, ℕ, ◌+◌, ◌*◌, ◌<◌, ◌^◌, ◌==◌, ◌&&◌, List, length, get_or, sym, ◌∙◌, ap, arith, refl}
 use Rattle.std.specs.List.{list_any}
 use Rattle.std.proofs.lemmas.Bool.{and_parts}
 use Rattle.hosts_join.specs.declared.Spot.{Spot}
 use Rattle.hosts_join.specs.declared.Class.{Class}
-use Rattle.hosts_join.specs.Accounts.{lines}
-use Rattle.hosts_join.specs.Pool.{AreAscending, in_runs}
+use Rattle.hosts_join.specs.Pool.{AreAscending}
 use Rattle.hosts_join.specs.Rules.{account, in_pool, class_at}
-use Rattle.ownership.specs.Counts.{told_kept}
-use Rattle.candidates.specs.declared.Candidate.{Candidate}
 use Rattle.candidates.specs.Told.{told_weight}
-use Rattle.candidates.proofs.RowLemmas.{IsRowSoFar, so-far-push, so-far-skip, so-far-end, lines-some, lines-few, weight-fits, any-here}
+use Rattle.candidates.proofs.RowLemmas.{so-far-push, so-far-skip, so-far-end, lines-some, lines-few, weight-fits, any-here}
 use Rattle.candidates.proofs.candidates_of.Goals as goal
 use Rattle.candidates.proofs.candidates_of.Goals.{then-next-from+in_ok-push, else-next-from}
 

@@ -1,17 +1,14 @@
-use Rattle.std.proofs.Common.{◌≡◌, ℕ, ◌<◌, List, length, Option, sym, ◌∙◌, ap, arith, refl, subst}
+use Rattle.std.proofs.Common.{◌≡◌, ℕ, ◌<◌, List, length, Option, ◌∙◌, ap}
 use Rattle.candidates.specs.Fill.{gift, IsPartial}
-use Rattle.ownership.specs.Mappings.{IsAdmissible, AreDistinct}
-use Rattle.ownership.specs.Weights.{IsFilled}
 use Rattle.candidates.specs.RowsInside.{choices_of}
-use Rattle.candidates.specs.Settled.{settled, IsStart, IsDone}
-use Rattle.candidates.specs.Rows.{Choices}
+use Rattle.candidates.specs.Settled.{IsDone}
 use Rattle.candidates.proofs.Filled.{is-start, all-have, is-mapping, all-stay, is-admissible, is-filled}
 use Rattle.candidates.proofs.Rows.fill_fresh.Goals as goal
 
 pub fill-requires-clause-start : goal.fill-requires-clause-start
 fill-requires-clause-start c =
     let part : IsPartial (choices_of c.self.inside) c.args.given.now = rw c.self.view_is c.requires in
-    rw c.in_ok-filling.ensures (is-start (choices_of c.self.inside) c.args.given.now c.in_ok-settled.settled.items c.in_ok-settled.ensures.lawful c.self.invariant part c.in_ok-settled.ensures.len c.in_ok-settled.ensures.numbers)
+    rw c.in_ok-filling.ensures (is-start (choices_of c.self.inside) c.args.given.now c.in_ok-settled.settled.items c.self.invariant part c.in_ok-settled.ensures.len c.in_ok-settled.ensures.numbers)
 
 pub finish-requires : goal.finish-requires
 finish-requires c =
@@ -24,7 +21,7 @@ finish-requires c =
     let same = λ (i : ℕ) (h : i < length ch.accounts.names). ap (λ (xs : List (Option ℕ)). gift xs i) c.in_ok-filling.ensures ∙ c.in_ok-settled.ensures.numbers i h in
     let new = c.fill.new.filling in
     let done : IsDone ch.accounts start new = c.in_ok-fill.ensures in
-    all-have ch given start c.in_ok-settled.ensures.lawful c.self.invariant part long same new done
+    all-have ch given start c.self.invariant part long same new done
 
 pub new-requires : goal.new-requires
 new-requires c =
@@ -37,7 +34,7 @@ new-requires c =
     let same = λ (i : ℕ) (h : i < length ch.accounts.names). ap (λ (xs : List (Option ℕ)). gift xs i) c.in_ok-filling.ensures ∙ c.in_ok-settled.ensures.numbers i h in
     let new = c.fill.new.filling in
     let done : IsDone ch.accounts start new = c.in_ok-fill.ensures in
-    (is-mapping ch given start c.in_ok-settled.ensures.lawful c.self.invariant part long same new done c.in_ok-finish.field-0.items c.in_ok-finish.ensures.len c.in_ok-finish.ensures.numbers)
+    (is-mapping ch given start c.self.invariant part long same new done c.in_ok-finish.field-0.items c.in_ok-finish.ensures.len c.in_ok-finish.ensures.numbers)
 
 pub returns-clause-admissible : goal.returns-clause-admissible
 returns-clause-admissible c =
@@ -50,7 +47,7 @@ returns-clause-admissible c =
     let same = λ (i : ℕ) (h : i < length ch.accounts.names). ap (λ (xs : List (Option ℕ)). gift xs i) c.in_ok-filling.ensures ∙ c.in_ok-settled.ensures.numbers i h in
     let new = c.fill.new.filling in
     let done : IsDone ch.accounts start new = c.in_ok-fill.ensures in
-    rw (← c.self.view_is, c.new.ensures) (is-admissible ch given start c.in_ok-settled.ensures.lawful c.self.invariant part long same new done c.in_ok-finish.field-0.items c.in_ok-finish.ensures.len c.in_ok-finish.ensures.numbers)
+    rw (← c.self.view_is, c.new.ensures) (is-admissible ch given start c.self.invariant part long same new done c.in_ok-finish.field-0.items c.in_ok-finish.ensures.len c.in_ok-finish.ensures.numbers)
 
 pub returns-clause-given_stay : goal.returns-clause-given_stay
 returns-clause-given_stay c =
@@ -63,7 +60,7 @@ returns-clause-given_stay c =
     let same = λ (i : ℕ) (h : i < length ch.accounts.names). ap (λ (xs : List (Option ℕ)). gift xs i) c.in_ok-filling.ensures ∙ c.in_ok-settled.ensures.numbers i h in
     let new = c.fill.new.filling in
     let done : IsDone ch.accounts start new = c.in_ok-fill.ensures in
-    rw c.new.ensures (all-stay ch given start c.in_ok-settled.ensures.lawful c.self.invariant part long same new done c.in_ok-finish.field-0.items c.in_ok-finish.ensures.len c.in_ok-finish.ensures.numbers)
+    rw c.new.ensures (all-stay ch given start c.self.invariant part long same new done c.in_ok-finish.field-0.items c.in_ok-finish.ensures.len c.in_ok-finish.ensures.numbers)
 
 pub returns-clause-filled : goal.returns-clause-filled
 returns-clause-filled c =
@@ -76,4 +73,4 @@ returns-clause-filled c =
     let same = λ (i : ℕ) (h : i < length ch.accounts.names). ap (λ (xs : List (Option ℕ)). gift xs i) c.in_ok-filling.ensures ∙ c.in_ok-settled.ensures.numbers i h in
     let new = c.fill.new.filling in
     let done : IsDone ch.accounts start new = c.in_ok-fill.ensures in
-    rw (← c.self.view_is, c.new.ensures) (is-filled ch given start c.in_ok-settled.ensures.lawful c.self.invariant part long same new done c.in_ok-finish.field-0.items c.in_ok-finish.ensures.len c.in_ok-finish.ensures.numbers)
+    rw (← c.self.view_is, c.new.ensures) (is-filled ch given start c.self.invariant part long same new done c.in_ok-finish.field-0.items c.in_ok-finish.ensures.len c.in_ok-finish.ensures.numbers)

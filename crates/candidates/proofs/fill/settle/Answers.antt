@@ -1,4 +1,4 @@
-use Rattle.std.proofs.Common.{◌≡◌, ℕ, ◌+◌, ◌<◌, List, length, Option, None, sym, ◌∙◌, ap, arith, refl}
+use Rattle.std.proofs.Common.{◌≡◌, ℕ, ◌+◌, List, length, Option, ◌∙◌, ap, arith}
 use Rattle.candidates.specs.Fill.{gift}
 use Rattle.hosts_join.specs.declared.Class.{Class}
 use Rattle.candidates.specs.Settled.{settled, settled_by}
