@@ -1,5 +1,6 @@
-use Rattle.std.proofs.Common.{◌≡◌, ◌∙◌, ℕ, List, Option, ap, sym, subst}
+use Rattle.std.proofs.Common.{ℕ, List, Option, ap, subst}
 use Rattle.ownership.specs.Weights.{IsFilled}
+use Rattle.ownership.proofs.Optimal.{certified_is_optimal}
 use Rattle.candidates.specs.Fill.{Waits}
 use Rattle.assignment.specs.Solutions.{Proves, IsFreshIn}
 use Rattle.assignment.proofs.Certified.{certifies, fresh_filled}
