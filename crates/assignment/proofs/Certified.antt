@@ -12,7 +12,7 @@ use Rattle.ownership.specs.Sums.{sum_below}
 use Rattle.ownership.specs.Weights.{weight, IsFilled, IsFresh}
 use Rattle.candidates.specs.Rows.{Choices, AreRowsOf}
 use Rattle.assignment.specs.Solutions.{row_weight, Proves, IsFreshIn}
-use Rattle.assignment.proofs.Sums.{sum_same}
+use Rattle.ownership.proofs.SumsBelow.{sum_below-same}
 
 -- a free name's number is in its pool, and a pinned name has no pool
 lawful_weight : (a : Accounts) (c : Class) (v w : ℕ) → MayHave a c v → cond (in_pool a c v) w 0 ≡ cond (is_free_class c) w 0
@@ -31,7 +31,7 @@ certifies c m y z len admissible proves files rows =
           omega (arith, weighs, covered);
       equal =
           let all = ap (sum_below (λ i. row_weight c i (number_at m i))) len in
-          let weights = sum_same (λ i. row_weight c i (number_at m i)) (λ i. cond (is_free_class (class_at a i)) (weight a files i (number_at m i)) 0) (length a.names) (λ i l. (rows i l).weights (number_at m i) ∙ lawful_weight a (class_at a i) (number_at m i) (weight a files i (number_at m i)) (admissible.lawful i l)) in
+          let weights = sum_below-same (λ i. row_weight c i (number_at m i)) (λ i. cond (is_free_class (class_at a i)) (weight a files i (number_at m i)) 0) (length a.names) (λ i l. (rows i l).weights (number_at m i) ∙ lawful_weight a (class_at a i) (number_at m i) (weight a files i (number_at m i)) (admissible.lawful i l)) in
           proves.equal ∙ all ∙ weights;
     }
 

@@ -9,19 +9,24 @@ use Rattle.std.proofs.lemmas.List.Sums.{sum_by-cons}
 use Rattle.std.proofs.lemmas.Map.Keys.{IsDistinct-head, IsDistinct-tail, IsDistinct-from_apart, below_from_sorted}
 use Rattle.std.proofs.lemmas.Bool.{eqb-true, eq-eqb, ne_eqb, cases_Bool, cases_eq, cases_lt, or_cases, both_ways, lt-ltb, le-ltb}
 use Rattle.std.proofs.lemmas.Option.{get_or_from_slice_get, slice_get_within}
-use Rattle.std.proofs.lemmas.List.{get_or-map, length-map}
+use Rattle.std.proofs.lemmas.List.{get_or-map, get_or_default, length-map}
 use Rattle.candidates.specs.declared.Candidate.{Candidate}
 use Rattle.candidates.specs.Rows.{weight_in, row_at}
+use Rattle.ownership.specs.Mappings.{AreDistinct}
 use Rattle.ownership.specs.Potentials.{value_at}
 use Rattle.assignment.specs.Solutions.{AscendsByNumber}
 use Rattle.assignment.proofs.Sums.{over, listed_weight}
-use Rattle.assignment.proofs.Weak.{over_apart}
 
 -- ---- sums over a mapping
 
 pub over_same : (f g : ℕ → ℕ) (vs : List ℕ) → ((v : ℕ) → f v ≡ g v) → over f vs ≡ over g vs
 over_same f g [] h = refl
 over_same f g (v ∷ vs) h = let rest = over_same f g vs h in omega (arith, h v, rest)
+
+-- at numbers that differ from k, the value at k is not read
+over_apart : (f : ℕ → ℕ) (k x : ℕ) (vs : List ℕ) → AllByRecursion (λ v. eqb k v ≡ false) vs → over (λ v. cond (eqb k v) x (f v)) vs ≡ over f vs
+over_apart f k x [] h = refl
+over_apart f k x (v ∷ vs) h = let ih = over_apart f k x vs h.1 in rw (h.0) (ap (λ n. f v + n) ih)
 
 -- a number that is among distinct ones is read exactly once
 over_exact : (f : ℕ → ℕ) (k x : ℕ) (vs : List ℕ) → IsDistinct eqb vs → list_any (eqb k) vs ≡ true → f k ≡ 0 → over (λ v. cond (eqb k v) x (f v)) vs ≡ x + over f vs
@@ -106,6 +111,14 @@ ascends_from_ordered es h i j d l m =
     let ea : get_or (keys_of es) i 0 ≡ (get_or es i d).0 = get_or-map (λ (e : ℕ × ℕ). e.0) es i d 0 (omega (arith, l, m)) in
     let eb : get_or (keys_of es) j 0 ≡ (get_or es j d).0 = get_or-map (λ (e : ℕ × ℕ). e.0) es j d 0 m in
     omega (arith, k, ea, eb)
+
+-- the two ways to say that numbers are distinct
+pub distinct_list : (m : List ℕ) → AreDistinct m → IsDistinct eqb m
+distinct_list m h =
+    IsDistinct-from_apart eqb m (λ i j d l k.
+    let first = get_or_default m i d 0 (omega (arith, l, k)) in
+    let second = get_or_default m j d 0 k in
+    ne_eqb (get_or m i d) (get_or m j d) (λ (e : get_or m i d ≡ get_or m j d). absurd (omega (arith, l, h i j (omega (arith, l, k)) k (sym first ∙ e ∙ second)))))
 
 -- keys in order are distinct
 pub distinct_from_ordered : (ks : List ℕ) → IsStrictlySortedBy nat_cmp ks → IsDistinct eqb ks

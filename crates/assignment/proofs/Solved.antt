@@ -15,15 +15,14 @@ use Rattle.ownership.specs.Mappings.{number_at, IsAdmissible}
 use Rattle.ownership.specs.Potentials.{value_at}
 use Rattle.ownership.specs.Weights.{IsFilled}
 use Rattle.candidates.specs.Fill.{gift, IsPartial, Waits}
-use Rattle.candidates.specs.Rows.{Choices}
+use Rattle.candidates.specs.Rows.{Choices, AreRows}
 use Rattle.assignment.specs.declared.solver.Solver.{Solver}
 use Rattle.assignment.specs.Solutions.{row_weight, Proves, IsFreshIn}
 use Rattle.assignment.specs.Solving.{standing, IsServing}
-use Rattle.assignment.proofs.Equal.{over_same, over_all, weighs_all, value_at_lookup, ascends_from_ordered, distinct_from_ordered}
+use Rattle.assignment.proofs.Equal.{distinct_list, over_same, over_all, weighs_all, value_at_lookup, ascends_from_ordered, distinct_from_ordered}
 use Rattle.assignment.proofs.Filled.{filled_fewer, number_is_id}
 use Rattle.assignment.proofs.Nearest.{given_within, z_small}
 use Rattle.assignment.proofs.Sums.{by_index}
-use Rattle.assignment.proofs.Weak.{distinct_list}
 use Rattle.assignment.proofs.Weigh.{row_weight_small}
 
 -- what was given stays in the mapping
@@ -129,6 +128,9 @@ filled s m q c f =
     filled_fewer a (Waits a given) (IsFreshIn s.rows.now m) m (λ i h. (h.free, was_not_given s m i (gift given i) q c h.weightless refl)) f
 
 -- ---- the same at the rows that were passed
+
+pub lawful_at : (s : Solver) (c : Choices) → s.rows.now ≡ c → IsServing s (length c.rows) → AreRows c
+lawful_at s c e q = subst AreRows e q.lawful
 
 pub partial_at : (s : Solver) (c : Choices) → s.rows.now ≡ c → IsServing s (length c.rows) → IsPartial c s.pairs.given.items
 partial_at s c e q = subst (λ (x : Choices). IsServing s (length x.rows) → IsPartial x s.pairs.given.items) e (λ h. is_partial s (length s.rows.now.rows) h) q

@@ -1,5 +1,5 @@
 -- Sums over names, and over the numbers of a mapping.
-use Rattle.std.proofs.Common.{◌≡◌, ℕ, zero, suc, ◌+◌, ◌<◌, ◌≤◌, List, [], ◌∷◌, length, get_or, refl, arith}
+use Rattle.std.proofs.Common.{◌≡◌, ℕ, zero, suc, ◌+◌, List, [], ◌∷◌, length, get_or, refl, arith}
 use Rattle.candidates.specs.declared.Candidate.{Candidate}
 use Rattle.candidates.specs.Rows.{weight_in, row_at}
 use Rattle.ownership.specs.Sums.{sum_below}
@@ -22,14 +22,6 @@ first_term f zero = omega arith
 first_term f (suc n) =
     let rest = first_term f n in
     omega (arith, rest)
-
-pub sum_same : (f g : ℕ → ℕ) (n : ℕ) → ((i : ℕ) → i < n → f i ≡ g i) → sum_below f n ≡ sum_below g n
-unfolding sum_below
-sum_same f g zero h = refl
-sum_same f g (suc n) h =
-    let rest = sum_same f g n (λ i l. h i (omega (arith, l))) in
-    let last = h n (omega arith) in
-    omega (arith, rest, last)
 
 -- row by row, or by index
 pub by_index : (rows : List (List Candidate)) (m : List ℕ) → length m ≡ length rows → listed_weight rows m ≡ sum_below (λ n. weight_in (row_at rows n) (get_or m n 0)) (length rows)

@@ -49,4 +49,4 @@ IsGreatest c m = (other : List ℕ) → IsAdmissible c.accounts other → total_
 
 -- Weak duality: potentials that cover, and that together are what a mapping weighs, prove that no admissible mapping weighs more.
 abbrev pub WeakDuality : Type 0
-WeakDuality = (c : Choices) (m y : List ℕ) (z : List (ℕ × ℕ)) → length c.rows ≡ length c.accounts.names → Cover c y z → potential_sum y z ≡ total_weight c m → IsGreatest c m
+WeakDuality = (c : Choices) (m y : List ℕ) (z : List (ℕ × ℕ)) → length c.rows ≡ length c.accounts.names → length y ≡ length c.rows → Cover c y z → potential_sum y z ≡ total_weight c m → IsGreatest c m
