@@ -67,8 +67,8 @@ fn parted<'a>(
     alloc: Global,
     loaded: Vec<Loaded<'a>>,
 ) -> Result<(Vec<Host<'a>>, Vec<Name<'a>>), AllocError>
-    ensures hosts { IfOk result (λ parts. parts.0.items ≡ map (λ l. l.host) loaded.items) }
-    ensures mtrees { IfOk result (λ parts. parts.1.items ≡ map (λ l. l.mtree) loaded.items) }
+    ensures hosts { IfOk result (λ parts. parts.0.items ≡ map (λ l. l.host) loaded.entry.items) }
+    ensures mtrees { IfOk result (λ parts. parts.1.items ≡ map (λ l. l.mtree) loaded.entry.items) }
 {
     let mut hosts = Vec::new(alloc);
     let mut mtrees = Vec::new(alloc);
