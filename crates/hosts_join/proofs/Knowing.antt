@@ -17,7 +17,7 @@ use Rattle.accounts.specs.Rows as row
 use Rattle.logindefs.specs.declared.ranges.IdRange.{IdRange}
 use Rattle.hosts_join.specs.Accounts.{Account, Accounts, Row, host_rows, rows_from, first_appearances, spots_of, grouped, has_number, place, standing_on}
 use Rattle.hosts_join.specs.Kinds.{user_at, group_at, user_rows, group_rows, user_rows-table, group_rows-table}
-use Rattle.hosts_join.specs.Laws.{IsOwnedAsTold, KnowsItsHosts, JoinedSitesKnowTheirHosts}
+use Rattle.hosts_join.specs.Laws.{IsOwnedAsTold, KnowsHost, KnowsItsHosts, JoinedSitesKnowTheirHosts}
 use Rattle.hosts_join.specs.Rules.{joined, refusal}
 use Rattle.hosts_join.specs.Site.{Joined, users_of, groups_of, joined_site}
 use Rattle.hosts_join.specs.PinPairs.{PinPairs}
@@ -234,11 +234,10 @@ pub hosts-known : (hosts : List Host) (pins : PinPairs) (site : Joined) → All 
 hosts-known hosts pins site apart is =
     let tables = λ (h : ℕ) (host : Host) (here : slice_get hosts h ≡ Some host).
     subst (λ (x : Host). AreDistinct (map (λ (p : List ℕ × ℕ). p.1) (user_rows x.users)) × AreDistinct (map (λ (p : List ℕ × ℕ). p.1) (group_rows x.groups))) (get_or_from_slice_get hosts h host host here) (apart h host (slice_get_within hosts h host here)) in
-    let known : KnowsItsHosts hosts (record { users = users_of hosts pins; groups = groups_of hosts pins; hosts = length hosts }) = record {
-      users = λ h uid host here. host-known (λ (x : Host). x.ranges.uid) (λ (x : Host). x.ranges.sys_uid) (λ (x : Host). user_rows x.users) h uid hosts host (user_at host.users uid) here (tables h host here).0 (told-by (λ (r : Passwd). r.name) (λ (r : Passwd). r.uid) uid host.users);
-      groups = λ h gid host here. host-known (λ (x : Host). x.ranges.gid) (λ (x : Host). x.ranges.sys_gid) (λ (x : Host). group_rows x.groups) h gid hosts host (group_at host.groups gid) here (tables h host here).1 (told-by (λ (r : row.Group). r.name) (λ (r : row.Group). r.gid) gid host.groups);
-    } in
-    subst (KnowsItsHosts hosts) (site-is hosts pins site is) known
+    λ h host here. subst (λ (s : Joined). KnowsHost s h host) (site-is hosts pins site is) (record {
+      users = λ uid. host-known (λ (x : Host). x.ranges.uid) (λ (x : Host). x.ranges.sys_uid) (λ (x : Host). user_rows x.users) h uid hosts host (user_at host.users uid) here (tables h host here).0 (told-by (λ (r : Passwd). r.name) (λ (r : Passwd). r.uid) uid host.users);
+      groups = λ gid. host-known (λ (x : Host). x.ranges.gid) (λ (x : Host). x.ranges.sys_gid) (λ (x : Host). group_rows x.groups) h gid hosts host (group_at host.groups gid) here (tables h host here).1 (told-by (λ (r : row.Group). r.name) (λ (r : row.Group). r.gid) gid host.groups);
+    })
 
 pub sites_know : JoinedSitesKnowTheirHosts
 sites_know hosts pins site lawful is =

@@ -14,10 +14,14 @@ abbrev pub IsOwnedAsTold : List Account → ℕ → ℕ → Option (List ℕ) �
 IsOwnedAsTold names host number (Some name) = (i : ℕ) × (owner names host number ≡ Some i) × (place_of names name ≡ Some i)
 IsOwnedAsTold names host number None = owner names host number ≡ None
 
--- on each host each number is had as the host's own tables tell
-pub record KnowsItsHosts (hosts : List Host) (site : Joined) : Type 0 where
-  pub users : (h uid : ℕ) (host : Host) → slice_get hosts h ≡ Some host → IsOwnedAsTold site.users.names h uid (user_at host.users uid)
-  pub groups : (h gid : ℕ) (host : Host) → slice_get hosts h ≡ Some host → IsOwnedAsTold site.groups.names h gid (group_at host.groups gid)
+-- each number on a host is had as the host's own tables tell
+-- h: the host's index
+pub record KnowsHost (site : Joined) (h : ℕ) (host : Host) : Type 0 where
+  pub users : (uid : ℕ) → IsOwnedAsTold site.users.names h uid (user_at host.users uid)
+  pub groups : (gid : ℕ) → IsOwnedAsTold site.groups.names h gid (group_at host.groups gid)
+
+abbrev pub KnowsItsHosts : List Host → Joined → Type 0
+KnowsItsHosts hosts site = (h : ℕ) (host : Host) → slice_get hosts h ≡ Some host → KnowsHost site h host
 
 -- a site knows the hosts that it was joined from
 abbrev pub JoinedSitesKnowTheirHosts : Type 0

@@ -4,7 +4,7 @@ ghost use Rattle.std.specs.Prelude.{◌≡◌, ℕ, ◌+◌, ◌<◌, ◌≤◌,
 ghost use Rattle.std.specs.List.{All};
 ghost use Rattle.idtext.specs.First.{Gives, Yields, each};
 ghost use Rattle.hosts_join.specs.Hosts.{IsLawfulHost};
-ghost use Rattle.hosts_join.specs.Laws.{KnowsItsHosts};
+ghost use Rattle.hosts_join.specs.Laws.{KnowsHost, KnowsItsHosts};
 ghost use Rattle.hosts_join.specs.PinsText.{pins_of};
 ghost use Rattle.hosts_join.specs.Site.{joined_site};
 ghost use Rattle.ownership.specs.Counts.{IsMadeFor, StandsFor};
@@ -13,6 +13,7 @@ ghost use Rattle.ownership.specs.Files.{Added};
 ghost use Rattle.unify_texts.specs.Told.{told};
 ghost use Rattle.unify.specs.Told.{in_site, in_pins};
 ghost use Rattle.unify.specs.Count.{site_of};
+ghost use Rattle.unify.specs.Hosts.{files_of};
 ghost use Rattle.unify.specs.Reading.{added_on, added_from, site_read};
 ghost use Rattle.unify.specs.Loading.{loaded_from, HoldsSite};
 
@@ -93,4 +94,75 @@ fn add_files(counts: &mut Counts, site: &Site<'_>, host: u32, files: &[Entry])
             Err(_) => unreachable!(),
         }
     }
+}
+
+// Counts the files of the host at an index: its inventory is read, checked and dropped.
+fn count_host<'a>(
+    alloc: Global,
+    counts: &mut Counts,
+    site: &Site<'a>,
+    index: u32,
+    host: &Host<'a>,
+    mtree: &[u8],
+) -> Result<(), Fault<'a>>
+    requires known { KnowsHost site.now index host.now }
+    requires made { IsMadeFor site.now counts.old }
+    requires room { (before : List Added) × StandsFor site.now counts.old before × (length before + 16777216 ≤ 2147483648) }
+    ensures made { OnOk result (IsMadeFor site.now counts.new) }
+    ensures counted { Yields (λ files _. (before : List Added) → StandsFor site.now counts.old before → StandsFor site.now counts.new (before ++ map (added_on index) files)) told result (files_of (record { host = host.now; mtree = mtree.now })) }
+{
+    let files = load_files(alloc, host, mtree)?;
+    add_files(counts, site, index, files.entries());
+    Ok(())
+}
+
+// Counts the files of all hosts, one inventory after the other.
+fn count_site<'a>(
+    alloc: Global,
+    site: &Site<'a>,
+    hosts: &[Host<'a>],
+    mtrees: &[Name<'a>],
+) -> Result<Counts, Fault<'a>>
+    requires few { length hosts.now ≤ 64 }
+    requires paired { length mtrees.now ≡ length hosts.now }
+    requires known { KnowsItsHosts hosts.now site.now }
+    ensures made { IfOk result (IsMadeFor site.now) }
+    ensures counted { Yields (λ read counts. StandsFor site.now counts (added_from 0 read)) told result (each site_of (loaded_from hosts.now mtrees.now)) }
+{
+    let mut counts = Counts::new(alloc, site)?;
+    for (index, host) in hosts.iter().enumerate() {
+        count_host(alloc, &mut counts, site, index as u32, host, mtrees[index].bytes())?;
+    }
+    Ok(counts)
+}
+
+/// Reads a whole site: the files of each host but its inventory, the pins text, the join, and then host by host the
+/// inventory, whose files are counted for their owners.
+///
+/// It refuses with the first fault in this order: the host list; host by host login.defs, passwd, group and the primary
+/// groups; the pins text, by line; the join, users before groups; host by host the inventory, by line, and then its owners
+/// in inventory order, uid before gid. `Fault::Memory` is a growth that was refused.
+///
+/// It reads each text once, and each owner by hash, so it takes time linear in the texts. One inventory at a time is in
+/// memory.
+#[tactic(auto, unfolding(crate::specs::Reading::site_read))]
+pub fn read_site<'a>(
+    alloc: Global,
+    texts: &'a [HostText],
+    pins: &'a [u8],
+) -> Result<LoadedSite<'a>, Fault<'a>>
+    ensures { Yields HoldsSite told result (site_read texts.now pins.now) }
+{
+    check_list(texts)?;
+    let loaded = load_hosts(alloc, texts)?;
+    let (hosts, mtrees) = parted(alloc, loaded)?;
+    let pins = load_pins(alloc, pins)?;
+    let site = join_hosts(alloc, &hosts, &pins)?;
+    let counts = count_site(alloc, &site, &hosts, &mtrees)?;
+    Ok(LoadedSite {
+        hosts,
+        mtrees,
+        site,
+        counts,
+    })
 }
