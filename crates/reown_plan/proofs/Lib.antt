@@ -5,3 +5,5 @@ pub mod Wholes
 pub mod Unique
 pub mod Faults
 pub mod Readings
+pub mod Writing
+pub mod Keeping

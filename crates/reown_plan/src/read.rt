@@ -2,15 +2,14 @@
 ghost use Rattle.std.specs.Prelude.{◌≡◌, ◌≢◌, ◌++◌, ◌≤◌, ◌<◌, ◌^◌, [], ◌∷◌, ℕ, List, true, false, IsSomeAnd, decimal, length, ◌==◌, not, IfSome, IfNone};
 ghost use Rattle.std.specs.List.{list_all, list_any};
 ghost use Rattle.reown_plan.specs.declared.plan.Owner.{Owner};
-ghost use Rattle.reown_plan.specs.Spelling.{number, head, line, is_name_byte, IsHostName, IsOwner, IsPath, IsLawfulRecord};
+ghost use Rattle.reown_plan.specs.Spelling.{number, head, line, IsHostName, IsOwner, IsPath, IsLawfulRecord};
 ghost use Rattle.reown_plan.specs.Records.{record_of};
 ghost use Rattle.reown_plan.specs.PlanData.{PlanRecord};
 
 use crate::{Owner, Record};
+use hosts_join::is_host_name;
 use idtext::{LARGEST_ID, MOST_BYTES};
 use itoa::Buffer;
-
-const LONGEST_NAME: usize = 64;
 
 // The number that these bytes write, without leading zeros.
 fn written(text: &[u8]) -> Option<u32>
@@ -75,33 +74,6 @@ pub(crate) fn read_head(text: &[u8]) -> Option<(&[u8], &[u8])>
         return None;
     }
     Some((host, rest))
-}
-
-fn is_host_byte(byte: u8) -> bool
-    ensures { result ≡ is_name_byte byte }
-{
-    byte.is_ascii_digit()
-        || byte.is_ascii_uppercase()
-        || byte.is_ascii_lowercase()
-        || byte == b'-'
-        || byte == b'.'
-        || byte == b'_'
-}
-
-fn are_host_bytes(name: &[u8]) -> bool
-    ensures { result ≡ list_all is_name_byte name.now }
-{
-    name.iter().all(|byte| is_host_byte(*byte))
-}
-
-fn is_host_name(name: &[u8]) -> bool
-    ensures lawful { result ≡ true → IsHostName name.now }
-    ensures complete { IsHostName name.now → result ≡ true }
-{
-    if name.is_empty() || name.len() > LONGEST_NAME || name[0] == b'.' || name[0] == b'-' {
-        return false;
-    }
-    are_host_bytes(name)
 }
 
 // A record, and what follows.
