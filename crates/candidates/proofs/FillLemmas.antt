@@ -90,7 +90,7 @@ times-some (w ∷ ws) (suc k) j h = elim (cases_Bool (w.1 == j)) [
   | inr f ↦ let r = times-some ws k j (omega (arith, h, sum_by-cons (λ (w : List ℕ × ℕ). cond (w.1 == j) 1 0) w (take k ws), ap (λ b. cond {A = ℕ} b 1 0) f)) in (suc r.0, omega (arith, r.1), omega (arith, r.2), r.3)
 ]
 
--- the list's name at a place: it waits, and stands there alone
+-- the list's name at an index: it waits, and stands there alone
 pub record IsNext (a : Accounts) (start : List (Option ℕ)) (ws : List (List ℕ × ℕ)) (k : ℕ) : Type 0 where
   pub within : (get_or ws k no_waiting).1 < length a.names
   pub none : gift start (get_or ws k no_waiting).1 ≡ None
@@ -256,7 +256,7 @@ push-each xs x k f len each e i h = elim (cases_lt i k) [
   | inr more ↦ let same : i ≡ k = omega arith in get_or_push xs x None i (omega (arith, len)) ∙ e ∙ ap f (sym same)
 ]
 
--- one place more
+-- one index more
 pub once-none : (i k m : ℕ) (o : Option ℕ) → m ≡ cond (nat_lt i k && is_none o) 1 0 → (i ≡ k → o ≡ None) → m + cond (k == i) 1 0 ≡ cond (nat_lt i (k + 1) && is_none o) 1 0
 once-none i k m o e none = elim (cases_eq i k) [
   | inl s ↦ let e' : m ≡ 0 = e ∙ (rw (le-ltb i k (omega arith)) refl) in rw (eq-eqb k i (sym s), lt-ltb i (k + 1) (omega arith), none s) (omega arith)

@@ -35,7 +35,7 @@ settled a given i = settled_by (class_at a i) (gift given i)
 abbrev pub KnowsNumbers : Inside → Type 0
 KnowsNumbers f = (v : ℕ) → contains nat_eq f.had v ≡ is_had f.numbers.items v
 
--- one more name has the least number of its pool, from the cursor on, that nobody has
+-- one more name has the least number of its pool, from the cursor on, that no name has
 pub record IsGiven (pool : List IdRange) (old new : List (Option ℕ)) (i from next : ℕ) : Type 0 where
   pub number : ℕ
   pub next_is : next ≡ number + 1
@@ -51,15 +51,15 @@ pub record IsLeft (pool : List IdRange) (numbers : List (Option ℕ)) (from : �
   pub member : in_runs pool number ≡ true
   pub fresh : is_had numbers number ≡ false
 
--- the pools of both classes
+-- every number of the pool is one that an account may have
 abbrev pub AreIds : List IdRange → Type 0
 AreIds pool = (v : ℕ) → in_runs pool v ≡ true → v ≤ 4294967294
 
--- a place that is too high
+-- what stands for an index that is too high
 abbrev pub no_waiting : List ℕ × ℕ
 no_waiting = ([], 0)
 
--- how often the name at a place stands in the list
+-- how often the name at an index stands in the list
 abbrev pub times : ℕ → List (List ℕ × ℕ) → ℕ
 times i waiting = count_by (λ w. w.1 == i) waiting
 
@@ -76,7 +76,7 @@ pub record IsStart (a : Accounts) (numbers : List (Option ℕ)) : Type 0 where
   pub pooled : (i v : ℕ) → is_free_class (class_at a i) ≡ true → gift numbers i ≡ Some v → in_pool a (class_at a i) v ≡ true
   pub distinct : (i j v : ℕ) → gift numbers i ≡ Some v → gift numbers j ≡ Some v → i ≡ j
 
--- the name at j has the number, and stands before the name at i if it has waited
+-- a name has the number, and one that has waited stands before the name at i
 pub record HadBefore (a : Accounts) (start numbers : List (Option ℕ)) (i v : ℕ) : Type 0 where
   pub by : ℕ
   pub has : gift numbers by ≡ Some v

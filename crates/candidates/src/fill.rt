@@ -32,7 +32,7 @@ pub fn settle(
     ensures len { IfOk result (λ ns. length ns.items ≡ length names.now.names) }
     ensures numbers { IfOk result (λ ns. (i : ℕ) → i < length names.now.names → gift ns.items i ≡ settled names.now given.now i) }
 {
-    let mut numbers = Vec::new(alloc);
+    let mut numbers = Vec::with_capacity(alloc, given.len())?;
     for index in 0..names.len() {
         numbers.push(settled_number(names.class(index), given[index as usize]))?;
     }

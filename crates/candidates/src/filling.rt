@@ -113,7 +113,7 @@ impl Filling {
         ensures len { IfOk result (λ m. length m.items ≡ length self.now) }
         ensures numbers { IfOk result (λ m. (i : ℕ) → i < length self.now → gift self.now i ≡ Some (slice_index_or m.items i 0)) }
     {
-        let mut finished = Vec::new(alloc);
+        let mut finished = Vec::with_capacity(alloc, self.numbers.len())?;
         for number in self.numbers.as_slice() {
             match number {
                 Some(number) => finished.push(*number)?,

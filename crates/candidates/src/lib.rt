@@ -114,7 +114,7 @@ impl<'n, 'a> Rows<'n, 'a> {
         ensures rows { IfOk result (λ r. (files : List File) → CountFiles names.now.names counts.now files → AreRowsOf r files) }
         ensures candidates { IfOk result (λ r. (files : List File) → CountFiles names.now.names counts.now files → (i v : ℕ) → i < length names.now.names → IsCandidate names.now files i v ↔ (1 ≤ weight_in (row_at r.rows i) v)) }
     {
-        let mut rows = Vec::new(alloc);
+        let mut rows = Vec::with_capacity(alloc, names.len() as usize)?;
         for index in 0..names.len() {
             rows.push(candidates_of(alloc, names, counts, index)?)?;
         }

@@ -1,7 +1,9 @@
 //! Worked examples of the rows and of the fill.
-ghost use Rattle.std.specs.Prelude.{◌≤◌, IfOk, IfSome, length};
+ghost use Rattle.std.specs.Prelude.{◌≡◌, ◌==◌, ◌≤◌, ℕ, find, IfOk, IfSome, Some, true, length};
+ghost use Rattle.std.specs.Option.{option_map};
 ghost use Rattle.hosts_join.specs.Hosts.{IsLawfulHost};
 ghost use Rattle.ownership.specs.Counts.{IsMadeFor};
+ghost use Rattle.candidates.specs.Rows.{weight_in};
 
 use crate::{Candidate, Mapping, Rows};
 use accounts::{read_group, read_passwd};
@@ -141,10 +143,25 @@ fn rows_of_pinned(rt: HostRuntime) -> Result<(), Fail> {
     Ok(())
 }
 
-// Whether a candidate has the number.
-fn is_candidate(row: &[Candidate], number: u32) -> bool {
+// The weight of the number, if it is a candidate's.
+fn weight_of(row: &[Candidate], number: u32) -> Option<u64>
+    ensures { result ≡ option_map (λ c. c.weight) (find (λ c. c.number == number) row.now) }
+{
     match row.iter().find(|candidate| candidate.number == number) {
-        Some(candidate) => candidate.weight >= 1,
+        Some(candidate) => Some(candidate.weight),
+        None => None,
+    }
+}
+
+// Whether the number, if there is one, is a candidate's.
+fn is_candidate(row: &[Candidate], number: Option<u32>) -> bool
+    ensures { result ≡ true → (v : ℕ) → number ≡ Some v → 1 ≤ weight_in row.now v }
+{
+    let Some(number) = number else {
+        return true;
+    };
+    match weight_of(row, number) {
+        Some(weight) => weight >= 1,
         None => false,
     }
 }
@@ -155,16 +172,8 @@ fn fill(
     rows: &Rows<'_, '_>,
     first: Option<u32>,
 ) -> Result<Option<Mapping>, AllocError> {
-    if rows.len() != 2 {
+    if rows.len() != 2 || !is_candidate(rows.row(0), first) {
         return Ok(None);
-    }
-    match first {
-        Some(number) => {
-            if !is_candidate(rows.row(0), number) {
-                return Ok(None);
-            }
-        }
-        None => {}
     }
     Ok(Some(rows.fill_fresh(alloc, &[first, None])?))
 }
