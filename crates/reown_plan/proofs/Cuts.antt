@@ -4,7 +4,7 @@ use Rattle.std.specs.Prelude.{decimal}
 use Rattle.reown_plan.specs.declared.plan.Owner.{Owner}
 use Rattle.reown_plan.specs.PlanData.{PlanRecord}
 use Rattle.reown_plan.specs.Spelling.{number, head, line, IsHostName, IsLawfulRecord}
-use Rattle.hosts_join.specs.Checks.{is_host_byte, is_host_name}
+use Rattle.hosts_join.specs.Checks.{is_host_byte}
 use Rattle.std.specs.List.{list_any, list_all}
 use Rattle.std.specs.Char.{digit_value}
 use Rattle.std.specs.Str.Parse.{AllDigits}
@@ -97,7 +97,7 @@ bytes-no_newline (c ∷ cs) h =
     let other : (c == 10) ≡ false = not_equal c 10 (λ e. let t : is_host_byte 10 ≡ true = subst (λ d. is_host_byte d ≡ true) e first in cc) in
     (λ j. other j || bytes-no_newline cs rest j)
 
-name_no_newline : (name : List ℕ) → IsHostName name → list_any (λ b. b == 10) name ≡ false
+pub name_no_newline : (name : List ℕ) → IsHostName name → list_any (λ b. b == 10) name ≡ false
 name_no_newline name h = bytes-no_newline name (and_right _ _ (and_right _ _ h))
 
 pub head_unique : (text after h r host rest : List ℕ) → after ≡ drop 13 text → after ≡ h ++ 10 ∷ r → list_any (λ b. b == 10) h ≡ false → IsHostName host → text ≡ head host ++ rest → (host ≡ h) × (rest ≡ r)

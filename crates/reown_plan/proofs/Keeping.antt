@@ -1,19 +1,17 @@
 -- The owners after a plan.
-use Rattle.std.proofs.Common.{◌≡◌, ◌≢◌, ◌<◌, ℕ, zero, suc, ◌==◌, Bool, true, false, not, cond, List, [], ◌∷◌, length, map, Option, Some, None, refl, sym, ◌∙◌, ap, inl, inr, arith}
-use Rattle.std.specs.List.{All, filter, find}
+use Rattle.std.proofs.Common.{◌≡◌, ◌≢◌, ℕ, suc, ◌==◌, true, false, List, [], ◌∷◌, None, refl, sym, ◌∙◌, ap, inl, inr, arith}
+use Rattle.std.specs.List.{All, find}
 use Rattle.std.specs.Str.{bytes_eq}
-use Rattle.std.proofs.lemmas.Bool.{cases_Bool, and_parts, eqb-true, false_from_ne_true}
-use Rattle.std.proofs.lemmas.Slice.Eq.{bytes_eq-Decides}
+use Rattle.std.proofs.lemmas.Bool.{cases_Bool, and_parts, eqb-true}
 use Rattle.std.proofs.lemmas.List.Elements.{All-cons, All-tail}
-use Rattle.hosts_join.specs.Accounts.{Accounts, owner}
+use Rattle.hosts_join.specs.Accounts.{Accounts}
 use Rattle.hosts_join.specs.Site.{Joined}
 use Rattle.hosts_join.proofs.Grouping.{bytes_same, bytes_refl}
 use Rattle.mtree_inv.specs.Files.{HaveDistinctFiles}
 use Rattle.mtree_inv.specs.declared.entry.Entry.{Entry}
 use Rattle.reown_plan.specs.declared.plan.Owner.{Owner}
-use Rattle.reown_plan.specs.PlanData.{PlanRecord}
 use Rattle.reown_plan.specs.Owners.{owner_of, owner_eq}
-use Rattle.reown_plan.specs.Target.{record_to, records_to, owner_after, after_record, renumbered, target, plan_of}
+use Rattle.reown_plan.specs.Target.{records_to, owner_after, renumbered, target, plan_of}
 use Rattle.reown_plan.specs.Keeps.{KeepsName, KeepsNames}
 
 abbrev owner-with : ℕ → ℕ → Owner

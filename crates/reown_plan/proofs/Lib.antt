@@ -7,3 +7,4 @@ pub mod Faults
 pub mod Readings
 pub mod Writing
 pub mod Keeping
+pub mod Lawful

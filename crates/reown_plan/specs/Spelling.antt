@@ -1,7 +1,7 @@
 -- How a plan is spelled.
-use Rattle.std.specs.Prelude.{◌≡◌, ◌≢◌, ◌≤◌, ℕ, ◌==◌, not, List, [], ◌∷◌, ◌++◌, All, true, length, flat_map, codes, decimal}
-use Rattle.std.specs.List.{list_all}
+use Rattle.std.specs.Prelude.{◌≡◌, ◌≢◌, ◌≤◌, ℕ, List, [], ◌∷◌, ◌++◌, All, true, length, flat_map, codes, decimal}
 use Rattle.hosts_join.specs.Checks.{is_host_name}
+use Rattle.mtree_inv.specs.Files.{IsLawfulPath}
 use Rattle.reown_plan.specs.declared.plan.Owner.{Owner}
 use Rattle.reown_plan.specs.PlanData.{PlanRecord, PlanData, HaveDistinctPaths}
 
@@ -32,16 +32,11 @@ IsHostName name = is_host_name name ≡ true
 abbrev pub IsOwner : Owner → Type 0
 IsOwner owner = (owner.uid ≤ 4294967294) × (owner.gid ≤ 4294967294)
 
-pub record IsPath (path : List ℕ) : Type 0 where
-  pub some : 1 ≤ length path
-  pub short : length path ≤ 65535
-  pub no_nul : list_all (λ b. not (b == 0)) path ≡ true
-
 pub record IsLawfulRecord (c : PlanRecord) : Type 0 where
   pub before : IsOwner c.before
   pub after : IsOwner c.after
   pub differ : c.before ≢ c.after
-  pub path : IsPath c.path
+  pub path : IsLawfulPath c.path
 
 pub record IsLawful (plan : PlanData) : Type 0 where
   pub host : IsHostName plan.host

@@ -35,9 +35,13 @@ records_to to files = map (record_to to) (filter (λ f. not (owner_eq (owner_of 
 abbrev pub plan_of : Joined → List ℕ → List ℕ → ℕ → List Entry → List PlanRecord
 plan_of site users groups host files = records_to (target site users groups host) files
 
--- the plan of the host at an index, with its name
+-- the name of the host at an index
+abbrev pub name_at : List Host → ℕ → List ℕ
+name_at hosts host = slice_index_or (map (λ h. h.name) hosts) host []
+
+-- the plan of the host at an index
 abbrev pub host_plan : List Host → Joined → List ℕ → List ℕ → ℕ → List Entry → PlanData
-host_plan hosts site users groups host files = record { host = slice_index_or (map (λ h. h.name) hosts) host []; records = plan_of site users groups host files }
+host_plan hosts site users groups host files = record { host = name_at hosts host; records = plan_of site users groups host files }
 
 -- the owner that a file has after a plan: the new one of its record, else the one that it has
 abbrev pub after_record : Option PlanRecord → Owner → Owner

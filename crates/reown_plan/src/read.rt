@@ -1,8 +1,9 @@
 //! Readers of a plan's parts.
-ghost use Rattle.std.specs.Prelude.{◌≡◌, ◌≢◌, ◌++◌, ◌≤◌, ◌<◌, ◌^◌, [], ◌∷◌, ℕ, List, true, false, IsSomeAnd, decimal, length, ◌==◌, not, IfSome, IfNone};
-ghost use Rattle.std.specs.List.{list_all, list_any};
+ghost use Rattle.std.specs.Prelude.{◌≡◌, ◌≢◌, ◌++◌, ◌≤◌, ◌<◌, ◌^◌, [], ◌∷◌, ℕ, List, All, true, false, IsSomeAnd, decimal, length, ◌==◌, IfSome, IfNone};
+ghost use Rattle.std.specs.List.{list_any};
 ghost use Rattle.reown_plan.specs.declared.plan.Owner.{Owner};
-ghost use Rattle.reown_plan.specs.Spelling.{number, head, line, IsHostName, IsOwner, IsPath, IsLawfulRecord};
+ghost use Rattle.reown_plan.specs.Spelling.{number, head, line, IsHostName, IsOwner, IsLawfulRecord};
+ghost use Rattle.mtree_inv.specs.Files.{IsLawfulPath};
 ghost use Rattle.reown_plan.specs.Records.{record_of};
 ghost use Rattle.reown_plan.specs.PlanData.{PlanRecord};
 
@@ -101,8 +102,8 @@ pub(crate) fn read_record(text: &[u8]) -> Option<(Record<'_>, &[u8])>
 fn read_path(text: &[u8], size: usize) -> Option<(&[u8], &[u8])>
     ensures spelled { IfSome result (λ r. text.now ≡ r.0.now ++ 10 ∷ r.1.now) }
     ensures length { IfSome result (λ r. length r.0.now ≡ size) }
-    ensures lawful { IfSome result (λ r. IsPath r.0.now) }
-    ensures complete { (path rest : List ℕ) → IsPath path → length path ≡ size → text.now ≡ path ++ 10 ∷ rest → IsSomeAnd result (λ r. (r.0.now ≡ path) × (r.1.now ≡ rest)) }
+    ensures lawful { IfSome result (λ r. IsLawfulPath r.0.now) }
+    ensures complete { (path rest : List ℕ) → IsLawfulPath path → length path ≡ size → text.now ≡ path ++ 10 ∷ rest → IsSomeAnd result (λ r. (r.0.now ≡ path) × (r.1.now ≡ rest)) }
 {
     if size == 0 || size > MOST_BYTES || size >= text.len() || text[size] != b'\n' {
         return None;
@@ -115,7 +116,8 @@ fn read_path(text: &[u8], size: usize) -> Option<(&[u8], &[u8])>
 }
 
 fn has_no_nul(path: &[u8]) -> bool
-    ensures { result ≡ list_all (λ b. not (b == 0)) path.now }
+    ensures lawful { result ≡ true → All (λ b. b ≢ 0) path.now }
+    ensures complete { All (λ b. b ≢ 0) path.now → result ≡ true }
 {
     path.iter().all(|byte| *byte != 0)
 }
