@@ -1,5 +1,5 @@
 -- What one advance does.
-use Rattle.std.specs.Prelude.{◌≡◌, ◌⊎◌, ◌<◌, ◌^◌, ◌-◌, ⊤, min, IsSome, ℕ, ◌+◌, Bool, ◌==◌, ◌&&◌, List, Option, None, Some, Result, Ok, Err, length, slice_get, nat_lt, if◌then◌else◌}
+use Rattle.std.specs.Prelude.{◌≡◌, ◌⊎◌, ◌<◌, ◌^◌, ◌-◌, ⊤, min, IsSome, ℕ, ◌+◌, Bool, List, Option, None, Some, Result, Ok, Err, length, slice_get, nat_lt, if◌then◌else◌}
 use Rattle.reown_plan.specs.declared.plan.Owner.{Owner}
 use Rattle.reown_plan.specs.Owners.{owner_eq}
 use Rattle.reown_plan.specs.PlanData.{PlanRecord}
