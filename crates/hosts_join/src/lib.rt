@@ -20,7 +20,7 @@ mod pins;
 mod pool;
 mod texts;
 
-pub use checks::{check_hosts, check_primary};
+pub use checks::{check_hosts, check_primary, is_host_name};
 pub use fault::{PinsFault, PoolClass, SiteFault};
 pub use host::Host;
 pub use joining::{Site, join, join_kind};
