@@ -1,0 +1,12 @@
+use Rattle.std.proofs.Common.{◌++◌, ap}
+use Rattle.std.proofs.Common.{◌∙◌}
+use Rattle.accounts.specs.Rows.{members_of}
+use Rattle.mergedfiles.specs.Seen.{group_seen}
+use Rattle.mergedfiles.specs.declared.rows.GroupOn.{GroupOn}
+use Rattle.mergedfiles.proofs.Steps.{members_more}
+use Rattle.mergedfiles.proofs.group.members.Goals as goal
+
+pub loop-group-preserved : goal.loop-group-preserved
+loop-group-preserved c =
+    let g = c.group-item.result in
+    members_more c.args.groups.now c.loop-group.group-index g _ _ c.loop-group-test.true c.loop-group.invariant (c.in_ok-push_members.ensures ∙ ?)
