@@ -1,4 +1,5 @@
 pub mod Codes
+pub mod Words
 pub mod Faults
 pub mod Maps
 pub mod Told

@@ -9,6 +9,7 @@ mod laws;
 mod map_text;
 mod place_list;
 mod places;
+mod words;
 
 pub use bundle::{Bundle, read_bundle};
 pub use bundle_line::{Command, FileName};
