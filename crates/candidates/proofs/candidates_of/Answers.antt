@@ -30,8 +30,8 @@ loop-number-preserved c =
           let some = lines-some (account a i) n both.1 in
           let few = lines-few a.names i n in
           let w' : ℕ = (c.all_lines-file_weight.result + 1) * w.kept.result + w.lines.result in
-          let is : w' ≡ told_weight a tallies i n = rw (c.all_lines-file_weight.ensures.lines, w.kept.ensures, w.lines.ensures) refl in
-          let fits : w' < 2 ^ 63 = weight-fits (c.all_lines-file_weight.result + 1) w.kept.result w.lines.result (omega (arith, c.all_lines-file_weight.ensures.few)) (omega (arith, w.kept.ensures, c.requires.few.kept_le i n)) (omega (arith, w.lines.ensures, few, c.all_lines-file_weight.ensures.lines, c.all_lines-file_weight.ensures.few)) in
+          let is : w' ≡ told_weight a tallies i n = rw (c.all_lines-file_weight.ensures.lines, w.kept.ensures.told, w.lines.ensures) refl in
+          let fits : w' < 2 ^ 63 = weight-fits (c.all_lines-file_weight.result + 1) w.kept.result w.lines.result (omega (arith, c.all_lines-file_weight.ensures.few)) (omega (arith, w.kept.ensures.told, c.requires.few.kept_le i n)) (omega (arith, w.lines.ensures, few, c.all_lines-file_weight.ensures.lines, c.all_lines-file_weight.ensures.few)) in
           let pushed = so-far-push a tallies i k c.loop-number.next numbers row w' up here (omega (arith, w.if-next-from.true, c.from.ensures)) both.0 is (omega (arith, w.lines.ensures, some)) fits c.loop-number.invariant in
           rw (w.row-is, w.next-is, w.in_ok-push.ensures.ok, w.from-next.ensures) pushed
       | else-next-from w ↦
