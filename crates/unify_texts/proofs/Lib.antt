@@ -1,3 +1,4 @@
 pub mod MapLoop
 pub mod DraftLemmas
 pub mod SpellingLemmas
+pub mod FigureLemmas

@@ -2,6 +2,8 @@ pub mod Codes
 pub mod Words
 pub mod Faults
 pub mod Maps
+pub mod Figures
+pub mod Staying
 pub mod Told
 pub mod BundleLines
 pub mod Bundles

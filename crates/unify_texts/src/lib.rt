@@ -5,6 +5,7 @@ mod bundle;
 mod bundle_line;
 mod fault;
 mod fault_text;
+mod figures;
 mod laws;
 mod map_text;
 mod place_list;
