@@ -1,0 +1,6 @@
+pub mod Ordering
+pub mod Orders
+pub mod Steps
+pub mod Joining
+pub mod Places
+pub mod Having

@@ -1,0 +1,12 @@
+use Rattle.std.proofs.Common.{◌≡◌, ◌++◌, take, map, ℕ, List}
+use Rattle.std.specs.List.{flat_map}
+use Rattle.mergedfiles.specs.Rows.{users_named, groups_named}
+use Rattle.mergedfiles.specs.Differences.{user_differences, group_differences}
+use Rattle.mergedfiles.specs.Seen.{name_of}
+use Rattle.mergedfiles.proofs.differing.differences.Given as goal
+
+abbrev pub invariant-loop-user : goal.invariant-loop-user
+invariant-loop-user l = l.told.items ≡ flat_map (λ name. user_differences name (users_named name l.hosts)) (map name_of (take l.user-index l.user-items))
+
+abbrev pub invariant-loop-group : goal.invariant-loop-group
+invariant-loop-group l = l.told.items ≡ flat_map (λ name. user_differences name (users_named name l.hosts)) (map name_of l.users.items) ++ flat_map (λ name. group_differences name (groups_named name l.hosts)) (map name_of (take l.group-index l.group-items))

@@ -1,0 +1,48 @@
+-- The fields in which a later host differs from the first.
+use Rattle.std.specs.Prelude.{ℕ, not, List, [], ◌∷◌, ◌++◌, map, filter, flat_map, find, nat_eq, bytes_eq, Option, Some, None}
+use Rattle.accounts.specs.Rows.{Group}
+use Rattle.hosts_join.specs.Site.{Joined}
+use Rattle.hosts_join.specs.declared.Which.TheVariants as kind
+use Rattle.hosts_join.specs.declared.host.Host.{Host}
+use Rattle.mergedfiles.specs.declared.Difference.{Difference}
+use Rattle.mergedfiles.specs.declared.Field.{Field}
+use Rattle.mergedfiles.specs.declared.Field.TheVariants as field
+use Rattle.mergedfiles.specs.Order.{by_bytes}
+use Rattle.mergedfiles.specs.Rows.{UserRow, GroupRow, users_named, groups_named}
+
+-- the name of the group that has the number on the host
+abbrev pub name_of : Option Group → List ℕ
+name_of None = []
+name_of (Some group) = group.name
+
+abbrev pub group_name : Host → ℕ → List ℕ
+group_name host gid = name_of (find (λ group. nat_eq gid group.gid) host.groups)
+
+-- what a field of a user's row says; its primary group by name
+abbrev pub user_field : Field → UserRow → List ℕ
+user_field field.Password user = user.row.password
+user_field field.Comment user = user.row.comment
+user_field field.Home user = user.row.home
+user_field field.Shell user = user.row.shell
+user_field field.Group user = group_name user.host user.row.gid
+
+-- the later hosts where the field is another than on the first
+abbrev pub user_differs : List ℕ → Field → UserRow → List UserRow → List Difference
+user_differs name what first later = map (λ user. record { kind = kind.User; name = name; field = what; host = user.host.name }) (filter (λ user. not (bytes_eq (user_field what user) (user_field what first))) later)
+
+-- field by field, and for each the hosts in order
+abbrev pub user_differences : List ℕ → List UserRow → List Difference
+user_differences name [] = []
+user_differences name (first ∷ later) = flat_map (λ what. user_differs name what first later) (field.Password ∷ field.Comment ∷ field.Home ∷ field.Shell ∷ field.Group ∷ [])
+
+-- a group differs in its password
+abbrev pub group_differs : List ℕ → GroupRow → List GroupRow → List Difference
+group_differs name first later = map (λ group. record { kind = kind.Group; name = name; field = field.Password; host = group.host.name }) (filter (λ group. not (bytes_eq group.row.password first.row.password)) later)
+
+abbrev pub group_differences : List ℕ → List GroupRow → List Difference
+group_differences name [] = []
+group_differences name (first ∷ later) = group_differs name first later
+
+-- users before groups, each in byte order
+abbrev pub site_differences : List Host → Joined → List Difference
+site_differences hosts site = flat_map (λ name. user_differences name (users_named name hosts)) (by_bytes site.users) ++ flat_map (λ name. group_differences name (groups_named name hosts)) (by_bytes site.groups)

@@ -1,0 +1,40 @@
+//! The account files of a joined site: one passwd and one group for all hosts, after passwd(5) and group(5), and what the
+//! hosts' own files say otherwise.
+//!
+//! Each name has one row, with its new number and the fields of the first host that has it; a group has the users of all
+//! hosts. Where a later host has another field, `differences` tells so.
+#![tactic(auto)]
+
+mod differing;
+mod group;
+mod laws;
+mod order;
+mod passwd;
+mod rows;
+
+pub use differing::differences;
+pub use group::group_text;
+use hosts_join::Which;
+use idtext::Name;
+pub use laws::{joined_together, names_have_rows};
+pub use passwd::passwd_text;
+
+/// A field in which hosts may differ. `Group` is a user's primary group, by its name.
+#[derive(Clone, Copy, Debug, PartialEq, Eq)]
+pub enum Field {
+    Password,
+    Comment,
+    Home,
+    Shell,
+    Group,
+}
+
+/// A field of a user or a group that is another on this later host than on the first host that has the name.
+#[derive(Drop)]
+pub struct Difference<'a> {
+    pub kind: Which,
+    pub name: Name<'a>,
+    pub field: Field,
+    pub host: Name<'a>,
+}
+
