@@ -2,3 +2,4 @@ pub mod MapLoop
 pub mod DraftLemmas
 pub mod SpellingLemmas
 pub mod FigureLemmas
+pub mod MapLines
