@@ -17,6 +17,7 @@ pub use group::group_text;
 use hosts_join::Which;
 use idtext::Name;
 pub use laws::{joined_together, names_have_rows};
+pub use order::by_name;
 pub use passwd::passwd_text;
 
 /// A field in which hosts may differ. `Group` is a user's primary group, by its name.

@@ -1,3 +1,5 @@
 pub mod MapLoop
 pub mod DraftLemmas
 pub mod SpellingLemmas
+pub mod FigureLemmas
+pub mod MapLines

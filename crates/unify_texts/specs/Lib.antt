@@ -1,6 +1,10 @@
 pub mod Codes
+pub mod Words
 pub mod Faults
 pub mod Maps
+pub mod WrittenMap
+pub mod Figures
+pub mod Staying
 pub mod Told
 pub mod BundleLines
 pub mod Bundles

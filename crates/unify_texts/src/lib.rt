@@ -5,10 +5,12 @@ mod bundle;
 mod bundle_line;
 mod fault;
 mod fault_text;
+mod figures;
 mod laws;
 mod map_text;
 mod place_list;
 mod places;
+mod words;
 
 pub use bundle::{Bundle, read_bundle};
 pub use bundle_line::{Command, FileName};

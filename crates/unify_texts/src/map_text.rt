@@ -1,15 +1,23 @@
 //! The map text. The format is this product's own.
 
-ghost use Rattle.std.specs.Prelude.{◌≡◌, ◌++◌, IfOk, OnErr, if◌then◌else◌};
+ghost use Rattle.std.specs.Prelude.{◌≡◌, ◌++◌, IfOk, OnOk, OnErr, if◌then◌else◌, length, flat_map};
 ghost use Rattle.idtext.specs.First.{Gives};
+ghost use Rattle.unify_texts.specs.WrittenMap.{numbered, map_line, map_text};
 ghost use Rattle.unify_texts.specs.Told.{told};
+ghost use Rattle.hosts_join.specs.Lawful.{AreLawfulAccounts};
 ghost use Rattle.hosts_join.specs.PairLines.{user_pair, group_pair};
 ghost use Rattle.unify_texts.specs.Maps.{map_of, is_good_after};
 
 use crate::fault::Fault;
-use hosts_join::{PairLine, PairTable, Which, pair_line};
+use crate::words::{Word, kind_word, push_line};
+use candidates::Mapping;
+use hosts_join::{Names, PairLine, PairTable, Site, Which, pair_line};
 use idtext::Lines;
+use mergedfiles::by_name;
 use std::alloc::{AllocError, Global};
+
+/// What is set aside for a line of a map text.
+const LINE_BYTES: usize = 16;
 
 /// The pairs of names and numbers of a map text.
 #[derive(Drop)]
@@ -62,4 +70,65 @@ pub fn read_map<'a>(alloc: Global, text: &'a [u8]) -> Result<MapText<'a>, Fault<
         }
     }
     Ok(map)
+}
+
+/// Appends a line for each name of a kind, in byte order.
+fn push_numbers(
+    alloc: Global,
+    out: &mut Vec<u8>,
+    kind: Which,
+    names: &Names<'_>,
+    mapping: &Mapping,
+) -> Result<(), AllocError>
+    requires lawful { AreLawfulAccounts names.now }
+    requires len { length mapping.now ≡ length names.now.names }
+    ensures { OnOk result (out.new.items ≡ out.old.items ++ flat_map (map_line kind) (numbered names.now mapping.now)) }
+{
+    let order = by_name(alloc, names)?;
+    for entry in &order {
+        let (name, index) = *entry;
+        let number = Word::Number(u128::from(mapping.number(index)));
+        push_line(out, kind_word(kind), &[Word::Raw(name), number])?;
+    }
+    Ok(())
+}
+
+/// The text of a map.
+fn map_lines(
+    alloc: Global,
+    site: &Site<'_>,
+    users: &Mapping,
+    groups: &Mapping,
+) -> Result<Vec<u8>, AllocError>
+    requires users { length users.now ≡ length site.now.users.names }
+    requires groups { length groups.now ≡ length site.now.groups.names }
+    ensures { IfOk result (λ text. text.items ≡ map_text site.now (record { users = users.now; groups = groups.now })) }
+{
+    let lines = site.users().len() as usize + site.groups().len() as usize;
+    let mut text = Vec::with_capacity(alloc, LINE_BYTES * lines)?;
+    push_numbers(alloc, &mut text, Which::User, site.users(), users)?;
+    push_numbers(alloc, &mut text, Which::Group, site.groups(), groups)?;
+    Ok(text)
+}
+
+/// Appends the map text of mappings of a site's users and groups: a line `user NAME NUMBER` for each user, in byte
+/// order of the names, and then a line `group NAME NUMBER` for each group alike. Asked is one number for each name.
+/// What is appended is read back by [`read_map`] as these numbers.
+///
+/// One sort of the names of each kind, and time and memory in the length of the lines. `AllocError` where a growth was
+/// refused; then nothing is appended.
+pub fn push_map(
+    alloc: Global,
+    out: &mut Vec<u8>,
+    site: &Site<'_>,
+    users: &Mapping,
+    groups: &Mapping,
+) -> Result<(), AllocError>
+    requires users { length users.now ≡ length site.now.users.names }
+    requires groups { length groups.now ≡ length site.now.groups.names }
+    ensures ok { OnOk result (out.new.items ≡ out.old.items ++ map_text site.now (record { users = users.now; groups = groups.now })) }
+    ensures err { OnErr result (out.new.items ≡ out.old.items) }
+{
+    let text = map_lines(alloc, site, users, groups)?;
+    out.extend_from_slice(&text)
 }

@@ -1,0 +1,50 @@
+-- Writing a map line by line.
+use Rattle.std.proofs.Common.{◌≡◌, ℕ, zero, suc, ◌+◌, ◌<◌, Bool, true, false, cond, List, [], ◌∷◌, ◌++◌, length, map, take, get_or, flat_map, Option, Some, None, refl, sym, ap, ◌∙◌, append_assoc, append-nil, arith, inl, inr}
+use Rattle.std.specs.Borrow.{Bor}
+use Rattle.std.specs.Option.{option_map}
+use Rattle.std.specs.Str.{bytes_eq}
+use Rattle.std.proofs.lemmas.Bool.{cases_Bool}
+use Rattle.std.proofs.lemmas.List.{take_more, map_push}
+use Rattle.std.proofs.lemmas.List.Concat.{flat_map-append}
+use Rattle.hosts_join.specs.declared.Which.{Which}
+use Rattle.hosts_join.specs.Accounts.{Account, Accounts, Pair, nobody, place, place_of}
+use Rattle.hosts_join.specs.Lawful.{AreLawfulAccounts}
+use Rattle.hosts_join.specs.Rules.{account}
+use Rattle.hosts_join.proofs.Grouping.{bytes_same, bytes_refl}
+use Rattle.ownership.specs.Mappings.{number_at}
+use Rattle.mergedfiles.specs.Seen.{name_of}
+use Rattle.mergedfiles.specs.Texts.{number_under}
+use Rattle.unify_texts.specs.WrittenMap.{map_line, pair_for}
+
+-- the place of the first that passes
+place_first : {X : Type 0} (p : X → Bool) (xs : List X) (i : ℕ) (d : X) → i < length xs → p (get_or xs i d) ≡ true → ((j : ℕ) → j < i → p (get_or xs j d) ≡ false) → place p xs ≡ Some i
+place_first p [] i d h hit before = absurd (omega (arith, h))
+place_first p (x ∷ xs) zero d h hit before = rw hit refl
+place_first p (x ∷ xs) (suc i) d h hit before =
+    let rest = place_first p xs i d (omega (arith, h)) hit (λ j l. before (suc j) (omega (arith, l))) in
+    rw (before zero (omega arith), rest) refl
+
+-- each name of joined accounts is found at its index
+pub place_named : (a : Accounts) (i : ℕ) → AreLawfulAccounts a → i < length a.names → place_of a.names (account a i).name ≡ Some i
+place_named a i lawful h = place_first (λ (x : Account). bytes_eq (account a i).name x.name) a.names i nobody h (bytes_refl (account a i).name) (λ j l. elim (cases_Bool (bytes_eq (account a i).name (account a j).name)) [
+  | inl t ↦ let same : i ≡ j = lawful.names_differ i j h (omega (arith, h, l)) (bytes_same (account a i).name (account a j).name t) in absurd (omega (arith, l, same))
+  | inr f ↦ f
+])
+
+module _ (a : Accounts) (m : List ℕ) (kind : Which) where
+  abbrev lines_for : List (Bor (List ℕ) × ℕ) → List ℕ
+  lines_for items = flat_map (map_line kind) (map (pair_for a m) (map name_of items))
+
+  -- one line more
+  pub map_more : (start text text' : List ℕ) (items : List (Bor (List ℕ) × ℕ)) (k : ℕ) (d : Bor (List ℕ) × ℕ) → AreLawfulAccounts a → k < length items → (get_or items k d).1 < length a.names → (get_or items k d).0.now ≡ (account a (get_or items k d).1).name
+      → text ≡ start ++ lines_for (take k items) → text' ≡ text ++ map_line kind (record { name = (get_or items k d).0.now; number = number_at m (get_or items k d).1 }) → text' ≡ start ++ lines_for (take (k + 1) items)
+  map_more start text text' items k d lawful h within named so_far pushed =
+      let e = get_or items k d in
+      let found : place_of a.names e.0.now ≡ Some e.1 = ap (place_of a.names) named ∙ place_named a e.1 lawful within in
+      let pair : Pair = record { name = e.0.now; number = number_at m e.1 } in
+      let same : pair_for a m (name_of e) ≡ pair = ap (λ o. record { name = e.0.now; number = number_under m o 0 }) found in
+      let items_more : map (pair_for a m) (map name_of (take (k + 1) items)) ≡ map (pair_for a m) (map name_of (take k items)) ++ pair_for a m (name_of e) ∷ [] =
+          ap (λ es. map (pair_for a m) (map name_of es)) (take_more items k d h) ∙ ap (map (pair_for a m)) (map_push name_of (take k items) e) ∙ map_push (pair_for a m) (map name_of (take k items)) (name_of e) in
+      let text_more : lines_for (take (k + 1) items) ≡ lines_for (take k items) ++ map_line kind pair =
+          ap (flat_map (map_line kind)) items_more ∙ flat_map-append (map_line kind) (map (pair_for a m) (map name_of (take k items))) (pair_for a m (name_of e) ∷ []) ∙ ap (λ p. lines_for (take k items) ++ (map_line kind p ++ [])) same ∙ ap (λ t. lines_for (take k items) ++ t) (append-nil (map_line kind pair)) in
+      pushed ∙ ap (λ t. t ++ map_line kind pair) so_far ∙ append_assoc start (lines_for (take k items)) (map_line kind pair) ∙ ap (λ t. start ++ t) (sym text_more)

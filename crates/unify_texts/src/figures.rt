@@ -1,0 +1,128 @@
+//! What a mapping of one kind keeps and changes.
+
+ghost use Rattle.std.specs.Prelude.{◌≡◌, ◌+◌, ◌≤◌, List, length, not, is_some, All, true};
+ghost use Rattle.hosts_join.specs.Accounts.{owner, all_lines};
+ghost use Rattle.hosts_join.specs.Rules.{is_free_class};
+ghost use Rattle.ownership.specs.Counts.{AreMadeFor, AreWithin, CountFiles};
+ghost use Rattle.ownership.specs.Files.{File};
+ghost use Rattle.unify_texts.specs.Figures.{figures_of, pinned_names as pinned_among};
+ghost use Rattle.unify_texts.specs.Staying.{told_names, told_files, told_rows};
+
+use candidates::Mapping;
+use hosts_join::{Class, Names};
+use ownership::KindCounts;
+
+/// The figures of one kind.
+#[derive(Clone, Copy)]
+pub struct Figures {
+    /// How many names there are.
+    pub names: u32,
+    /// How many of them are pinned.
+    pub pinned: u32,
+    /// How many free names have a number that they have on some host already.
+    pub kept: u32,
+    /// How many free names have another number.
+    pub fresh: u32,
+    /// How many files there are, over all hosts.
+    pub files: u64,
+    /// How many files change.
+    pub changed_files: u64,
+    /// How many account rows there are, over all hosts.
+    pub rows: u64,
+    /// How many account rows change.
+    pub changed_rows: u64,
+}
+
+fn is_free(class: Class) -> bool
+    ensures { result ≡ is_free_class class }
+{
+    match class {
+        Class::Pinned(_) => false,
+        Class::Regular | Class::System => true,
+    }
+}
+
+// How many names are pinned.
+#[tactic(auto, using(crate::proofs::FigureLemmas::count_more, crate::proofs::FigureLemmas::count_start))]
+fn pinned_names(names: &Names<'_>) -> u32
+    ensures { result ≡ pinned_among names.now }
+{
+    let mut pinned: u32 = 0;
+    for index in 0..names.len() {
+        if !is_free(names.class(index)) {
+            pinned += 1;
+        }
+    }
+    pinned
+}
+
+// How many free names have a number that they have on some host.
+#[tactic(auto, using(crate::proofs::FigureLemmas::count_more, crate::proofs::FigureLemmas::count_start))]
+fn kept_names(names: &Names<'_>, mapping: &Mapping) -> u32
+    requires { length mapping.now ≡ length names.now.names }
+    ensures { result ≡ told_names names.now mapping.now }
+{
+    let mut kept: u32 = 0;
+    for index in 0..names.len() {
+        if is_free(names.class(index)) && names.lines(index, mapping.number(index)) > 0 {
+            kept += 1;
+        }
+    }
+    kept
+}
+
+// How many files keep their number.
+#[tactic(auto, using(crate::proofs::FigureLemmas::sum_more, crate::proofs::FigureLemmas::sum_start))]
+fn staying_files(counts: &KindCounts, mapping: &Mapping, names: u32) -> u64
+    requires counters { length counts.now ≡ names }
+    requires numbers { length mapping.now ≡ names }
+    requires few { AreWithin counts.now 2147483648 }
+    ensures { result ≡ told_files counts.now mapping.now names }
+{
+    let mut staying: u64 = 0;
+    for index in 0..names {
+        staying += counts.kept(index, mapping.number(index));
+    }
+    staying
+}
+
+// How many account rows keep their number.
+#[tactic(auto, using(crate::proofs::FigureLemmas::sum_more, crate::proofs::FigureLemmas::sum_start))]
+fn staying_rows(names: &Names<'_>, mapping: &Mapping) -> u64
+    requires { length mapping.now ≡ length names.now.names }
+    ensures { result ≡ told_rows names.now mapping.now }
+{
+    let mut staying: u64 = 0;
+    for index in 0..names.len() {
+        staying += names.lines(index, mapping.number(index));
+    }
+    staying
+}
+
+/// The figures of a mapping of the names. Asked is that there is a number for each name, and that the counters were
+/// made for the names; where they count files, of which each has its owner, the figures are those of the files.
+pub fn figures_under(
+    names: &Names<'_>,
+    counts: &KindCounts,
+    files: u64,
+    mapping: &Mapping,
+) -> Figures
+    requires made { AreMadeFor names.now.names counts.now }
+    requires few { AreWithin counts.now 2147483648 }
+    requires numbers { length mapping.now ≡ length names.now.names }
+    ensures { (added : List File) → CountFiles names.now.names counts.now added → All (λ f. is_some (owner names.now.names f.host f.number) ≡ true) added → files ≡ length added → result ≡ figures_of names.now added mapping.now }
+{
+    let pinned = pinned_names(names);
+    let kept = kept_names(names, mapping);
+    let staying = staying_files(counts, mapping, names.len());
+    Figures {
+        names: names.len(),
+        pinned,
+        kept,
+        fresh: names.len() - pinned - kept,
+        files,
+        changed_files: files.saturating_sub(staying),
+        rows: names.all_lines(),
+        changed_rows: names.all_lines() - staying_rows(names, mapping),
+    }
+}
