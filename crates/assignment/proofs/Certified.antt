@@ -1,5 +1,5 @@
 -- What certifies a mapping in the rows certifies it for the files that were weighed.
-use Rattle.std.proofs.Common.{◌≡◌, ℕ, ◌+◌, ◌<◌, ◌≤◌, Bool, true, false, cond, List, length, get_or, refl, sym, ap, ◌∙◌, subst, arith}
+use Rattle.std.proofs.Common.{◌≡◌, ℕ, ◌<◌, Bool, true, false, cond, List, length, refl, ap, ◌∙◌, arith}
 use Rattle.std.proofs.lemmas.Bool.{cond-true}
 use Rattle.hosts_join.specs.declared.Class.{Class}
 use Rattle.hosts_join.specs.declared.Class.TheVariants.{Pinned, Regular, System}

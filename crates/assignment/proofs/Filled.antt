@@ -1,10 +1,10 @@
 -- The fill, and the numbers of an admissible mapping.
-use Rattle.std.proofs.Common.{◌≡◌, ℕ, ◌<◌, ◌≤◌, true, false, cond, List, length, refl, arith}
+use Rattle.std.proofs.Common.{◌≡◌, ℕ, ◌<◌, ◌≤◌, List, length, refl, arith}
 use Rattle.hosts_join.specs.declared.Class.{Class}
 use Rattle.hosts_join.specs.declared.Class.TheVariants.{Pinned, Regular, System}
 use Rattle.hosts_join.specs.Accounts.{Accounts}
 use Rattle.hosts_join.specs.Lawful.{AreLawfulAccounts}
-use Rattle.hosts_join.specs.Rules.{class_at, in_pool}
+use Rattle.hosts_join.specs.Rules.{class_at}
 use Rattle.ownership.specs.Mappings.{number_at, MayHave, IsAdmissible}
 use Rattle.ownership.specs.Weights.{IsFilled}
 use Rattle.candidates.proofs.Pigeons.{pool-id}

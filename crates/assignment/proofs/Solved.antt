@@ -1,16 +1,15 @@
 -- What the solver's end proves of the completed mapping.
-use Rattle.std.proofs.Common.{◌≡◌, ℕ, ◌+◌, ◌<◌, ◌≤◌, ◌^◌, true, eqb, List, length, get_or, Option, Some, None, unwrap_or, refl, sym, ap, ◌∙◌, subst, arith}
+use Rattle.std.proofs.Common.{◌≡◌, ℕ, ◌+◌, ◌<◌, eqb, List, length, get_or, Option, Some, None, unwrap_or, refl, sym, ap, ◌∙◌, subst, arith}
 use Rattle.std.specs.BTreeMap as btree
 use Rattle.std.specs.Map.{keys_of}
 use Rattle.std.specs.Ordering.{nat_cmp}
-use Rattle.std.specs.List.{list_any, slice_get}
+use Rattle.std.specs.List.{slice_get}
 use Rattle.std.proofs.lemmas.Cmp.{nat_cmp_total}
 use Rattle.std.proofs.lemmas.Map.Keys.{any_passes_from_place}
 use Rattle.std.proofs.lemmas.Map.Entries.{btree_map_get_place}
 use Rattle.std.proofs.lemmas.Bool.{eq-eqb}
 use Rattle.std.proofs.lemmas.Option.{same_Some, none-some, slice_get-get_or}
 use Rattle.std.proofs.lemmas.List.{get_or_default}
-use Rattle.hosts_join.specs.Rules.{class_at, is_free_class, in_pool}
 use Rattle.ownership.specs.Mappings.{number_at, IsAdmissible}
 use Rattle.ownership.specs.Potentials.{value_at}
 use Rattle.ownership.specs.Weights.{IsFilled}
@@ -95,8 +94,8 @@ proves s m q ordered ok c =
     let sum1 = weighs_all rows s.duals.y.items m st.z q.fits.y_long size (λ n l. keeps s m n q ok c l) in
     let sum2 = over_same (value_at es) st.z m same in
     let sum3 = over_all es m apart (distinct_from_ordered (keys_of es) ordered) (λ i e h.
-        let k = held i e h in
-        any_passes_from_place (eqb e.0) m k.by (number_at m k.by) (slice_get-get_or m k.by 0 k.within) (eq-eqb e.0 (number_at m k.by) (sym k.has))) in
+    let k = held i e h in
+    any_passes_from_place (eqb e.0) m k.by (number_at m k.by) (slice_get-get_or m k.by 0 k.within) (eq-eqb e.0 (number_at m k.by) (sym k.has))) in
     record {
       len = q.fits.y_long;
       fits = λ k d l. let small = q.fair.small k in omega (arith, small, get_or_default s.duals.y.items k d 0 l);

@@ -1,7 +1,6 @@
-use Rattle.std.proofs.Common.{◌≡◌, ◌∙◌, ℕ, List, ap, sym}
-use Rattle.ownership.specs.Weights.{IsFilled}
+use Rattle.std.proofs.Common.{ℕ, List, ap}
 use Rattle.ownership.proofs.Optimal.{certified_is_optimal}
-use Rattle.assignment.specs.Solutions.{Proves, IsFreshIn}
+use Rattle.assignment.specs.Solutions.{Proves}
 use Rattle.assignment.proofs.Certified.{certifies, fresh_filled}
 use Rattle.assignment.proofs.Solved.{Stays, partial_at, lawful_at, proves_at, filled_at}
 use Rattle.assignment.proofs.solve.Goals as goal
