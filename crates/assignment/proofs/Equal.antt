@@ -12,8 +12,7 @@ use Rattle.std.proofs.lemmas.List.{get_or-map, get_or_default, length-map}
 use Rattle.candidates.specs.declared.Candidate.{Candidate}
 use Rattle.candidates.specs.Rows.{weight_in, row_at}
 use Rattle.ownership.specs.Mappings.{AreDistinct}
-use Rattle.ownership.specs.Potentials.{value_at}
-use Rattle.assignment.specs.Solutions.{AscendsByNumber}
+use Rattle.ownership.specs.Potentials.{value_at, AscendsByNumber}
 use Rattle.assignment.proofs.Sums.{over, listed_weight}
 
 -- ---- sums over a mapping

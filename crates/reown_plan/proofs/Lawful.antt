@@ -11,12 +11,12 @@ use Rattle.hosts_join.specs.Site.{Joined}
 use Rattle.hosts_join.specs.declared.host.Host.{Host}
 use Rattle.mtree_inv.specs.Files.{IsLawfulFile, AreFiles, HaveDistinctFiles}
 use Rattle.mtree_inv.specs.declared.entry.Entry.{Entry}
-use Rattle.ownership.specs.Mappings.{number_at}
+use Rattle.ownership.specs.Mappings.{number_under, number_at}
 use Rattle.reown_plan.specs.declared.plan.Owner.{Owner}
 use Rattle.reown_plan.specs.PlanData.{PlanRecord, HaveDistinctPaths}
 use Rattle.reown_plan.specs.Owners.{owner_of, owner_eq}
 use Rattle.reown_plan.specs.Spelling.{IsHostName, IsOwner, IsLawfulRecord, IsLawful}
-use Rattle.reown_plan.specs.Target.{number_under, target, record_to, records_to, name_at, host_plan}
+use Rattle.reown_plan.specs.Target.{target, record_to, records_to, name_at, host_plan}
 
 number_at-id : (m : List ℕ) → IsMapping m → (i : ℕ) → number_at m i ≤ 4294967294
 number_at-id m lawful i = elim (cases_lt i (length m)) [

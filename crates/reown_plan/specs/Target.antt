@@ -5,15 +5,10 @@ use Rattle.hosts_join.specs.Site.{Joined}
 use Rattle.hosts_join.specs.declared.host.Host.{Host}
 use Rattle.mtree_inv.specs.declared.entry.Entry.{Entry}
 use Rattle.ownership.specs.Faults.{unowned}
-use Rattle.ownership.specs.Mappings.{number_at}
+use Rattle.ownership.specs.Mappings.{number_under}
 use Rattle.reown_plan.specs.declared.plan.Owner.{Owner}
 use Rattle.reown_plan.specs.Owners.{owner_of, owner_eq}
 use Rattle.reown_plan.specs.PlanData.{PlanRecord, PlanData}
-
--- the number of a name under a mapping; a number that no name has stays
-abbrev pub number_under : List ℕ → Option ℕ → ℕ → ℕ
-number_under m None v = v
-number_under m (Some i) v = number_at m i
 
 -- the new number of the name that has the number on the host
 abbrev pub renumbered : Accounts → List ℕ → ℕ → ℕ → ℕ
