@@ -1,19 +1,19 @@
 -- Accounts that were joined.
-use Rattle.std.proofs.Common.{◌≡◌, ℕ, zero, suc, ◌+◌, ◌<◌, ◌≤◌, ◌==◌, ◌&&◌, Bool, true, false, not, cond, List, [], ◌∷◌, ◌++◌, length, map, get_or, Option, None, Some, Result, Ok, Err, refl, sym, ◌∙◌, ap, arith, inl, inr}
+use Rattle.std.proofs.Common.{◌≡◌, ℕ, zero, suc, ◌+◌, ◌<◌, ◌≤◌, ◌==◌, Bool, true, false, not, cond, List, [], ◌∷◌, ◌++◌, length, map, get_or, Option, None, Some, Result, Ok, Err, refl, sym, ◌∙◌, ap, arith, inl, inr}
 use Rattle.std.specs.List.{All, list_any, list_all, count_by, filter}
 use Rattle.std.specs.Prelude.{IfSome, IfOk}
 use Rattle.std.proofs.lemmas.List.Elements.{All-nil, All-cons, All-head, All-tail, All-append, All-map, All-filter, All-weaker}
 use Rattle.std.specs.Option.{option_to_list}
 use Rattle.std.specs.Str.{bytes_eq}
-use Rattle.std.proofs.lemmas.Bool.{cases_Bool, and_parts, and_left, eqb-true, eq-eqb, both_ways, false≢true, true≢false}
+use Rattle.std.proofs.lemmas.Bool.{cases_Bool, and_parts, eqb-true, eq-eqb, both_ways, true≢false}
 use Rattle.std.proofs.lemmas.List.{append_assoc, append-nil, get_or-map, length-map}
 use Rattle.std.proofs.lemmas.List.Sums.{sum_by-append, sum_by-cons, sum_by_push}
 use Rattle.logindefs.specs.Ranges.{in_range, AreApart}
 use Rattle.logindefs.specs.declared.ranges.IdRange.{IdRange}
 use Rattle.logindefs.specs.declared.ranges.HostRanges.{HostRanges}
 use Rattle.idtext.specs.Names.{is_lawful_name}
-use Rattle.hosts_join.specs.Accounts.{Account, Accounts, HostEntry, Pair, Row, grouped, first_appearances, spot_of, spots_of, nobody, all_lines, AreNamedApart, IsOnceEach, IsSpotAmong}
-use Rattle.hosts_join.specs.Rules.{sources, sources_among, class_by, is_pinning, is_regular, joined, refusal, Clash, repeats, repeat_of, least, lesser, clash_of, claims, pinned_names, pinned_to, reserved, class_of, account, in_pool, is_taken, is_id}
+use Rattle.hosts_join.specs.Accounts.{Account, Accounts, Pair, Row, grouped, first_appearances, spot_of, spots_of, nobody, all_lines, AreNamedApart, IsOnceEach, IsSpotAmong}
+use Rattle.hosts_join.specs.Rules.{sources, sources_among, class_by, is_pinning, is_regular, joined, refusal, Clash, repeats, repeat_of, least, clash_of, claims, pinned_names, pinned_to, reserved, class_of, account}
 use Rattle.hosts_join.specs.Lawful.{AreLawfulAccounts}
 use Rattle.idtext.specs.First.{Gives, unless}
 use Rattle.hosts_join.specs.Site.{entry_on}

@@ -1,29 +1,27 @@
 -- Reading a pins text line by line.
-use Rattle.std.proofs.Common.{◌≡◌, ℕ, ◌+◌, ◌≤◌, min, Bool, true, false, cond, not, List, [], ◌∷◌, ◌++◌, length, map, Option, Some, None, Ok, Err, is_some, refl, sym, ap, ◌∙◌, append-nil, arith, length-append, nat_eq, bytes_eq, ◌<◌, Result, subst, inl, inr, drop}
+use Rattle.std.proofs.Common.{◌≡◌, ℕ, ◌+◌, ◌≤◌, Bool, true, false, cond, not, List, [], ◌∷◌, ◌++◌, length, map, Option, Some, None, Ok, Err, is_some, refl, sym, ap, ◌∙◌, append-nil, arith, length-append, nat_eq, bytes_eq, ◌<◌, Result, subst, inl, inr, drop}
 use Rattle.std.specs.Prelude.{◌&&◌, nat_lt, nat_le, IfOk, codes}
-use Rattle.std.specs.List.{flat_map, list_any, list_all, All}
+use Rattle.std.specs.List.{flat_map, list_any, list_all}
 use Rattle.std.specs.Char.{digit_value}
 use Rattle.std.specs.Str.Parse.{digits_value}
-use Rattle.std.proofs.lemmas.Bool.{leb-true, cases_Bool, not-true, lt-ltb, le-ltb, eq-eqb, and_parts}
+use Rattle.std.proofs.lemmas.Bool.{leb-true, cases_Bool, not-true, lt-ltb, le-ltb, eq-eqb}
 use Rattle.std.proofs.lemmas.List.{map_push}
 use Rattle.std.proofs.lemmas.List.Concat.{flat_map-append}
 use Rattle.std.proofs.lemmas.List.Elements.{All-push}
 use Rattle.std.proofs.lemmas.Slice.Eq.{bytes_eq-Decides}
-use Rattle.idtext.specs.First.{first_fault, unless}
 use Rattle.idtext.specs.Faults.{line_number}
-use Rattle.idtext.specs.Numbers.{id_of, numeral, is_numeral}
+use Rattle.idtext.specs.Numbers.{id_of, numeral}
 use Rattle.idtext.specs.Names.{is_lawful_name, is_skipped}
 use Rattle.idtext.specs.Pieces.{lines, begins_with}
 use Rattle.idtext.specs.Spaces.{cut_at_last_space}
 use Rattle.idtext.proofs.FirstLemmas.{Reads, reads_none, reads_fails, reads_more, reads_all}
-use Rattle.accounts.specs.Laws.{AreDistinct}
 use Rattle.accounts.proofs.LawLemmas.{distinct-push}
 use Rattle.accounts.proofs.ListLemmas.{list_any-map}
 use Rattle.hosts_join.specs.Accounts.{Pair}
 use Rattle.hosts_join.specs.Pairs.{number_of}
 use Rattle.hosts_join.specs.PairLines.{pair_line_of, cut_pair, named, user_pair, group_pair}
 use Rattle.hosts_join.specs.PinPairs.{PinPairs, ArePins}
-use Rattle.hosts_join.specs.PinsText.{pins_of, pins_fault, pins_on, may_stand, is_new_pin}
+use Rattle.hosts_join.specs.PinsText.{pins_of, pins_fault, pins_on, may_stand}
 use Rattle.hosts_join.specs.PinsInside.{IsIdLine, IsPinTable, IsDraft, drafted}
 use Rattle.hosts_join.specs.declared.Which.{Which}
 use Rattle.hosts_join.specs.declared.Which.TheVariants.{User, Group}

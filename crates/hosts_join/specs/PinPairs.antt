@@ -1,5 +1,5 @@
 -- The pins: names with the numbers that they are to have.
-use Rattle.std.specs.Prelude.{ℕ, ◌≤◌, List, map}
+use Rattle.std.specs.Prelude.{◌≤◌, List, map}
 use Rattle.std.specs.List.{All}
 use Rattle.accounts.specs.Laws.{AreDistinct}
 use Rattle.hosts_join.specs.Accounts.{Pair}

@@ -1,5 +1,5 @@
 -- What the tables of pins stand for.
-use Rattle.std.specs.Prelude.{◌≡◌, ℕ, ◌≤◌, map}
+use Rattle.std.specs.Prelude.{◌≡◌, ◌≤◌, map}
 use Rattle.hosts_join.specs.PinPairs.{PinPairs, ArePins, ArePinPairs}
 use Rattle.hosts_join.specs.declared.pair_lines.PairLine.{PairLine}
 use Rattle.hosts_join.specs.declared.pair_lines.PairLine.TheVariants.{Skipped, Wrong, Given}
