@@ -29,7 +29,7 @@ pool_id a (Pinned p) v h = absurd (false≢true h)
 pool_id a Regular v h = leb-true v 4294967294 (and_parts _ _ (and_parts _ _ h).0).0
 pool_id a System v h = leb-true v 4294967294 (and_parts _ _ (and_parts _ _ h).0).0
 
-uncovered_id : (a : Accounts) (tallies : List Tally) (z : List (ℕ × ℕ)) (i y v : ℕ) → is_uncovered a tallies z i y v ≡ true → v < 2 ^ 32
+pub uncovered_id : (a : Accounts) (tallies : List Tally) (z : List (ℕ × ℕ)) (i y v : ℕ) → is_uncovered a tallies z i y v ≡ true → v < 2 ^ 32
 uncovered_id a tallies z i y v h =
     let id = pool_id a (class_at a i) v (and_parts (in_pool a (class_at a i) v) (ltb (y + value_at z v) (told_weight a tallies i v)) h).0 in
     omega (arith, id)

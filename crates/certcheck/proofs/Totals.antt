@@ -1,5 +1,5 @@
 -- Sums over the indices of the names, one more index at a time.
-use Rattle.std.proofs.Common.{◌≡◌, ℕ, zero, suc, ◌+◌, ◌-◌, ◌<◌, ◌≤◌, true, false, cond, List, [], ◌∷◌, length, get_or, refl, sym, ap, ◌∙◌, add-one, arith}
+use Rattle.std.proofs.Common.{◌≡◌, ℕ, zero, suc, ◌+◌, ◌-◌, ◌<◌, ◌≤◌, true, false, cond, List, [], ◌∷◌, length, get_or, refl, sym, ap, ◌∙◌, arith}
 use Rattle.std.proofs.lemmas.List.{get_or-map}
 use Rattle.std.proofs.lemmas.Bool.{cond-true, cond-false}
 use Rattle.hosts_join.specs.Accounts.{Account, Accounts, nobody}
@@ -9,13 +9,9 @@ use Rattle.ownership.specs.Mappings.{number_at}
 use Rattle.ownership.specs.Potentials.{potential_at}
 use Rattle.ownership.specs.Sums.{sum_below}
 use Rattle.ownership.specs.Weights.{told_weight}
+use Rattle.ownership.proofs.SumsBelow.{sum_below_more}
 use Rattle.certcheck.specs.Certificate.{Row, AscendsByNumber, AreAllZ}
 use Rattle.certcheck.specs.Check.{number_named, y_named, mapping_of, potentials_of}
-
--- the sum over one more index
-pub sum_below_more : (f : ℕ → ℕ) (n : ℕ) → sum_below f (n + 1) ≡ sum_below f n + f n
-unfolding sum_below
-sum_below_more f n = rw (add-one n) refl
 
 pub mapping_at : (a : Accounts) (rows : List Row) (i : ℕ) → i < length a.names → number_at (mapping_of a rows) i ≡ number_named rows (account a i).name
 mapping_at a rows i l = get_or-map (λ (x : Account). number_named rows x.name) a.names i nobody 0 l

@@ -25,8 +25,8 @@ pub record AreRowsOf (a : Accounts) (m y : List ℕ) (rows : List Row) : Type 0 
   pub ys : (i : ℕ) (d : Row) → i < length a.names → (slice_index_or rows i d).y ≡ potential_at y i
 
 -- exactly the site's names, each with its number and its y, and the z
-pub record IsSideOf (a : Accounts) (m y : List ℕ) (z : List (ℕ × ℕ)) (side : Side) : Type 0 where
+pub record IsSideOf (a : Accounts) (m y : List ℕ) (values : List (ℕ × ℕ)) (side : Side) : Type 0 where
   pub names : (n : List ℕ) → is_name a.names n ≡ is_listed side.rows n
   pub mapping : mapping_of a side.rows ≡ m
   pub ys : potentials_of a side.rows ≡ y
-  pub z : side.z ≡ z
+  pub z : side.z ≡ values
