@@ -5,3 +5,6 @@ pub mod Told
 pub mod Certified
 pub mod Spelling
 pub mod Made
+pub mod Reading
+pub mod Items
+pub mod LinesRead

@@ -7,11 +7,15 @@ mod certificate;
 mod checking;
 mod cover;
 mod fault;
+mod line;
+mod lines;
 mod lookup;
 mod making;
 mod names;
 mod numbers;
+mod numeral;
 mod pools;
+mod reading;
 mod sums;
 mod writing;
 
@@ -20,6 +24,3 @@ pub use checking::check;
 pub use fault::CheckFault;
 pub use making::side_of;
 pub use writing::write_certificate;
-
-
-
