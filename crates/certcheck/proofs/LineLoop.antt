@@ -14,6 +14,7 @@ use Rattle.certcheck.specs.Items.{item_view}
 use Rattle.certcheck.specs.Views.{rows_of}
 use Rattle.certcheck.specs.Reading as spec
 use Rattle.certcheck.specs.Reading.{item_of, rows_in, all_z_in, item_before, may_follow, line_fault}
+use Rattle.certcheck.specs.Certificate.{Row, Side}
 use Rattle.certcheck.specs.LinesRead.{AreRead}
 use Rattle.certcheck.proofs.Growing.{item_push, more}
 
@@ -23,7 +24,7 @@ pub record SoFar (text : List ℕ) (seen rest : List (List ℕ)) (parts : Parts)
   pub judged : first_fault line_fault seen rest ≡ first_fault line_fault [] (lines_of text)
   pub read : AreRead seen parts before number
 
-saturated : (n m k : ℕ) → n ≡ min k 18446744073709551615 → m ≡ min (n + 1) 18446744073709551615 → m ≡ min (k + 1) 18446744073709551615
+pub saturated : (n m k : ℕ) → n ≡ min k 18446744073709551615 → m ≡ min (n + 1) 18446744073709551615 → m ≡ min (k + 1) 18446744073709551615
 saturated n m k p q = omega arith
 
 pub so_far_none : (text : List ℕ) (rest : List (List ℕ)) (parts : Parts) → rest ≡ lines_of text → parts.users.items ≡ [] → parts.users_z.items ≡ [] → parts.groups.items ≡ [] → parts.groups_z.items ≡ [] → SoFar text [] rest parts None 0
@@ -66,3 +67,6 @@ so_far_all text seen left parts before number so_far none = (
 pub no_follow : (b : Option spec.Item) (o : Option spec.Item) → o ≡ None → may_follow b o ≡ false
 no_follow None o e = ap (may_follow None) e
 no_follow (Some b) o e = ap (may_follow (Some b)) e
+
+pub side_equal : (rows rows' : List Row) (z z' : List (ℕ × ℕ)) → rows ≡ rows' → z ≡ z' → ◌≡◌ {A = Side} (record { rows = rows; z = z }) (record { rows = rows'; z = z' })
+side_equal rows rows' z z' er ez = ap (λ rs. record { rows = rs; z = z }) er ∙ ap (λ x. record { rows = rows'; z = x }) ez

@@ -1,5 +1,5 @@
 -- What a certificate text says, line by line. Each line is judged by the line before it.
-use Rattle.std.specs.Prelude.{ℕ, Bool, true, false, not, ◌&&◌, ◌==◌, nat_lt, nat_le, min, if◌then◌else◌, List, [], ◌∷◌, length, take, drop, codes, decimal, flat_map, Option, Some, None, Result}
+use Rattle.std.specs.Prelude.{ℕ, ◌-◌, Bool, true, false, not, ◌&&◌, ◌==◌, nat_lt, nat_le, min, if◌then◌else◌, List, [], ◌∷◌, length, slice_index, drop, codes, decimal, flat_map, Option, Some, None, Result}
 use Rattle.std.specs.Option.{option_and_then, option_map}
 use Rattle.std.specs.Ordering.{nat_cmp, is_lt}
 use Rattle.std.specs.Cmp.Lexicographic.{slice_cmp}
@@ -102,11 +102,6 @@ item_before ls = option_and_then item_of (last_line ls)
 abbrev pub line_fault : List (List ℕ) → List ℕ → Option ℕ
 line_fault before line = if may_follow (item_before before) (item_of line) then None else Some (line_number (length before))
 
-abbrev pub last_byte : List ℕ → ℕ
-last_byte [] = 0
-last_byte (b ∷ []) = b
-last_byte (b ∷ c ∷ bs) = last_byte (c ∷ bs)
-
 abbrev pub is_end : Option Item → Bool
 is_end None = false
 is_end (Some Head) = false
@@ -114,8 +109,9 @@ is_end (Some (RowItem k r)) = false
 is_end (Some (ZItem k e)) = false
 is_end (Some End) = true
 
+-- the last line has no newline
 abbrev pub is_cut : List ℕ → Bool
-is_cut text = not (length text == 0) && not (last_byte text == 10)
+is_cut text = not (length text == 0) && not (slice_index text (length text - 1) == 10)
 
 -- behind lawful lines: the last without its newline, or one missing
 abbrev pub end_fault : List ℕ → List (List ℕ) → Option ℕ

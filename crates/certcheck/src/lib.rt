@@ -22,5 +22,7 @@ mod writing;
 pub use certificate::{CertRow, Certificate, Side};
 pub use checking::check;
 pub use fault::CheckFault;
+pub use lines::read_certificate;
 pub use making::side_of;
+pub use reading::CertificateFault;
 pub use writing::write_certificate;

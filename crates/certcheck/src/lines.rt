@@ -1,17 +1,21 @@
-//! All lines of a certificate.
+//! Certificate texts as they are read.
 ghost use Rattle.std.specs.Prelude.{◌≡◌, [], None, Some, IfOk, IfErr, IfSome};
-ghost use Rattle.idtext.specs.First.{first_fault};
+ghost use Rattle.idtext.specs.First.{Gives, first_fault};
 ghost use Rattle.idtext.specs.Pieces.{lines as lines_of};
-ghost use Rattle.certcheck.specs.Reading.{line_fault};
+ghost use Rattle.std.specs.Option.{option_map};
+ghost use Rattle.certcheck.specs.Items.{item_view};
+ghost use Rattle.certcheck.specs.Reading as spec;
+ghost use Rattle.certcheck.specs.Reading.{certificate_in, line_fault};
 ghost use Rattle.certcheck.specs.LinesRead.{AreRead, line_told};
 
 use crate::line::{Item, item_in};
-use crate::reading::{CertificateFault, Parts, may_follow, take_item};
+use crate::reading::{Parts, may_follow, take_item};
+use crate::{Certificate, CertificateFault, Side};
 use idtext::Lines;
 use std::alloc::Global;
 
 /// What the lines of a text say, the last of them, and how many they are.
-pub fn read_lines<'a>(
+fn read_lines<'a>(
     alloc: Global,
     text: &'a [u8],
 ) -> Result<(Parts<'a>, Option<Item<'a>>, u64), CertificateFault>
@@ -39,4 +43,44 @@ pub fn read_lines<'a>(
         before = Some(item);
     }
     Ok((parts, before, number))
+}
+
+/// Whether the last line of a text has no newline.
+fn is_cut(text: &[u8]) -> bool
+    ensures { result ≡ spec.is_cut text.now }
+{
+    !text.is_empty() && text[text.len() - 1] != b'\n'
+}
+
+/// Whether the last line is that of the end.
+fn is_end(last: Option<Item<'_>>) -> bool
+    ensures { result ≡ spec.is_end (option_map item_view last.entry) }
+{
+    matches!(last, Some(Item::End))
+}
+
+/// The certificate that a text says; its names are slices of the text.
+///
+/// # Errors
+///
+/// `BadCertificate` with the number of the first line that is wrong, out of place, missing or without its newline; a missing line
+/// has the number behind the last. A certificate has one spelling, so no other text is read, and none begins another. One pass
+/// over the text, and memory in step with its lines; `Memory` where that is refused.
+pub fn read_certificate<'a>(
+    alloc: Global,
+    text: &'a [u8],
+) -> Result<Certificate<'a>, CertificateFault>
+    ensures { Gives (λ certificate. certificate) line_told result (certificate_in text.now) }
+{
+    let (parts, last, count) = read_lines(alloc, text)?;
+    if is_cut(text) {
+        return Err(CertificateFault::BadCertificate(count));
+    }
+    if !is_end(last) {
+        return Err(CertificateFault::BadCertificate(count.saturating_add(1)));
+    }
+    Ok(Certificate {
+        users: Side::new(parts.users, parts.users_z),
+        groups: Side::new(parts.groups, parts.groups_z),
+    })
 }
