@@ -26,3 +26,6 @@ pub use lines::read_certificate;
 pub use making::side_of;
 pub use reading::CertificateFault;
 pub use writing::write_certificate;
+
+#[cfg(test)]
+mod tests;
