@@ -78,9 +78,12 @@ fn add_all(counts: &mut Counts, site: &Site<'_>, host: u32, entries: &[Entry]) -
     ensures stands { OnOk result ((files : List Added) × StandsFor site.now counts.new files) }
 {
     for entry in entries {
-        if counts.added() >= 2147483648 || counts.add(site, host, entry).is_err() {
+        if counts.added() >= 2147483648 {
             return Err(AllocError);
         }
+        let Ok(()) = counts.add(site, host, entry) else {
+            return Err(AllocError);
+        };
     }
     Ok(())
 }
