@@ -1,0 +1,10 @@
+pub mod Certificate
+pub mod Views
+pub mod Check
+pub mod Told
+pub mod Certified
+pub mod Spelling
+pub mod Made
+pub mod Reading
+pub mod Items
+pub mod LinesRead

@@ -1,0 +1,31 @@
+//! Certificates that a mapping is the best, and their check. A certificate has, of each kind, the number and a potential y of
+//! every name, and a potential z of some numbers. Whoever wrote it, a yes of `check` proves that no better mapping exists, by
+//! weak duality of the assignment problem (Kuhn 1955, Munkres 1957).
+#![tactic(auto)]
+
+mod certificate;
+mod checking;
+mod cover;
+mod fault;
+mod line;
+mod lines;
+mod lookup;
+mod making;
+mod names;
+mod numbers;
+mod numeral;
+mod pools;
+mod reading;
+mod sums;
+mod writing;
+
+pub use certificate::{CertRow, Certificate, Side};
+pub use checking::check;
+pub use fault::CheckFault;
+pub use lines::read_certificate;
+pub use making::side_of;
+pub use reading::CertificateFault;
+pub use writing::write_certificate;
+
+#[cfg(test)]
+mod tests;
