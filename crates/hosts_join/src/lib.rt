@@ -139,6 +139,3 @@ pub struct Source {
     pub host: Option<u32>,
     pub number: u32,
 }
-
-#[cfg(test)]
-mod tests;

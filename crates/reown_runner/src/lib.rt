@@ -14,6 +14,3 @@ pub use laws::{advances_from_start, done_means_done, fresh_is_safe, safe_by_list
 pub use memory::{FileCell, Keep, MemTree};
 pub use runner::{Place, Progress, RunFault, Runner};
 pub use tree::{DeviceFault, Tree};
-
-#[cfg(test)]
-mod tests;

@@ -9,8 +9,6 @@ mod laws;
 mod map_text;
 mod place_list;
 mod places;
-#[cfg(test)]
-mod tests;
 
 pub use bundle::{Bundle, read_bundle};
 pub use bundle_line::{Command, FileName};

@@ -6,10 +6,10 @@ use Rattle.unify.proofs.Telling.{refusal_answers}
 use Rattle.unify.proofs.bundle_run.run.Goals as goal
 
 pub returns-in-Merge : goal.returns-in-Merge
-returns-in-Merge c = rw c.in-Merge.is (refusal_answers (IsReply Merge c.args.bundle.now.places) (BadBundle 1) c.refused.result refl c.refused.ensures)
+returns-in-Merge c = rw c.in-Merge.is (refusal_answers (IsReply Merge c.args.bundle.places) (BadBundle 1) c.refused.result refl c.refused.ensures)
 
 pub returns-in-Check : goal.returns-in-Check
-returns-in-Check c = rw c.in-Check.is (refusal_answers (IsReply Check c.args.bundle.now.places) (BadBundle 1) c.refused-in-Check.result refl c.refused-in-Check.ensures)
+returns-in-Check c = rw c.in-Check.is (refusal_answers (IsReply Check c.args.bundle.places) (BadBundle 1) c.refused-in-Check.result refl c.refused-in-Check.ensures)
 
 pub returns-in-Rehearse : goal.returns-in-Rehearse
-returns-in-Rehearse c = rw c.in-Rehearse.is (refusal_answers (IsReply Rehearse c.args.bundle.now.places) (BadBundle 1) c.refused-in-Rehearse.result refl c.refused-in-Rehearse.ensures)
+returns-in-Rehearse c = rw c.in-Rehearse.is (refusal_answers (IsReply Rehearse c.args.bundle.places) (BadBundle 1) c.refused-in-Rehearse.result refl c.refused-in-Rehearse.ensures)
