@@ -29,9 +29,9 @@ pool_id a (Pinned p) v h = absurd (false≢true h)
 pool_id a Regular v h = leb-true v 4294967294 (and_parts _ _ (and_parts _ _ h).0).0
 pool_id a System v h = leb-true v 4294967294 (and_parts _ _ (and_parts _ _ h).0).0
 
-pub uncovered_id : (a : Accounts) (tallies : List Tally) (z : List (ℕ × ℕ)) (i y v : ℕ) → is_uncovered a tallies z i y v ≡ true → v < 2 ^ 32
-uncovered_id a tallies z i y v h =
-    let id = pool_id a (class_at a i) v (and_parts (in_pool a (class_at a i) v) (ltb (y + value_at z v) (told_weight a tallies i v)) h).0 in
+pub uncovered_id : (a : Accounts) (w : ℕ → ℕ → ℕ) (z : List (ℕ × ℕ)) (i y v : ℕ) → is_uncovered a w z i y v ≡ true → v < 2 ^ 32
+uncovered_id a w z i y v h =
+    let id = pool_id a (class_at a i) v (and_parts (in_pool a (class_at a i) v) (ltb (y + value_at z v) (w i v)) h).0 in
     omega (arith, id)
 
 -- after a spot whose number passes
@@ -82,29 +82,29 @@ searched_past test spots count e least in' none was = record {
 }
 
 -- a number that is not covered has weight, and so it is one that the name has on some host
-uncovered_somewhere : (a : Accounts) (tallies : List Tally) (z : List (ℕ × ℕ)) (i y v : ℕ) → AreMadeFor a.names tallies → i < length a.names → is_uncovered a tallies z i y v ≡ true → Passing (λ (s : Spot). eqb s.number v) (account a i).spots
+uncovered_somewhere : (a : Accounts) (tallies : List Tally) (z : List (ℕ × ℕ)) (i y v : ℕ) → AreMadeFor a.names tallies → i < length a.names → is_uncovered a (told_weight a tallies) z i y v ≡ true → Passing (λ (s : Spot). eqb s.number v) (account a i).spots
 uncovered_somewhere a tallies z i y v made l u =
     let parts = and_parts (in_pool a (class_at a i) v) (ltb (y + value_at z v) (told_weight a tallies i v)) u in
     let less = ltb-true _ _ parts.1 in
     weight_somewhere a tallies i v made l (omega (arith, less))
 
 -- all spots were passed, and so the answer is that over the whole pool
-pub searched_all : (a : Accounts) (tallies : List Tally) (z : List (ℕ × ℕ)) (i y : ℕ) (spots : List Spot) (count : ℕ) (least : Option ℕ) → AreMadeFor a.names tallies → i < length a.names → spots ≡ (account a i).spots → length spots ≤ count → IsSearched (is_uncovered a tallies z i y) spots count least → least ≡ uncovered_at a tallies z i y
+pub searched_all : (a : Accounts) (tallies : List Tally) (z : List (ℕ × ℕ)) (i y : ℕ) (spots : List Spot) (count : ℕ) (least : Option ℕ) → AreMadeFor a.names tallies → i < length a.names → spots ≡ (account a i).spots → length spots ≤ count → IsSearched (is_uncovered a (told_weight a tallies) z i y) spots count least → least ≡ uncovered_at a (told_weight a tallies) z i y
 unfolding uncovered_at
-searched_all a tallies z i y spots count least made l same all was = least_below_is (is_uncovered a tallies z i y) (2 ^ 32) least was.fits (decided least was)
+searched_all a tallies z i y spots count least made l same all was = least_below_is (is_uncovered a (told_weight a tallies) z i y) (2 ^ 32) least was.fits (decided least was)
   where
-    at : (v : ℕ) → is_uncovered a tallies z i y v ≡ true → Passing (λ (s : Spot). eqb s.number v) spots
+    at : (v : ℕ) → is_uncovered a (told_weight a tallies) z i y v ≡ true → Passing (λ (s : Spot). eqb s.number v) spots
     at v u = let P : List Spot → Type 0 = λ ss. Passing (λ (s : Spot). eqb s.number v) ss in subst P (sym same) (uncovered_somewhere a tallies z i y v made l u)
 
-    bound : (o : Option ℕ) → IsSearched (is_uncovered a tallies z i y) spots count o → (v : ℕ) → is_uncovered a tallies z i y v ≡ true → MatchOption o ⊥ (λ b. b ≤ v)
+    bound : (o : Option ℕ) → IsSearched (is_uncovered a (told_weight a tallies) z i y) spots count o → (v : ℕ) → is_uncovered a (told_weight a tallies) z i y v ≡ true → MatchOption o ⊥ (λ b. b ≤ v)
     bound o was v u =
         let d : Spot = record { host = 0; number = 0; standing = on.Regular } in
         let there = at v u in
         let number : (get_or spots there.0 d).number ≡ v = eqb-true _ v (there.2 d) in
         let P : ℕ → Type 0 = λ n. MatchOption o ⊥ (λ b. b ≤ n) in
-        subst P number (was.passed there.0 d (omega (arith, there.1, all)) there.1 (ap (is_uncovered a tallies z i y) number ∙ u))
+        subst P number (was.passed there.0 d (omega (arith, there.1, all)) there.1 (ap (is_uncovered a (told_weight a tallies) z i y) number ∙ u))
 
-    decided : (o : Option ℕ) → IsSearched (is_uncovered a tallies z i y) spots count o → MatchOption o ((v : ℕ) → is_uncovered a tallies z i y v ≡ false) (λ v. (is_uncovered a tallies z i y v ≡ true) × ((u : ℕ) → u < v → is_uncovered a tallies z i y u ≡ false))
+    decided : (o : Option ℕ) → IsSearched (is_uncovered a (told_weight a tallies) z i y) spots count o → MatchOption o ((v : ℕ) → is_uncovered a (told_weight a tallies) z i y v ≡ false) (λ v. (is_uncovered a (told_weight a tallies) z i y v ≡ true) × ((u : ℕ) → u < v → is_uncovered a (told_weight a tallies) z i y u ≡ false))
     decided None was = λ v. false_from_ne_true _ (λ u. bound None was v u)
     decided (Some b) was = (was.found, λ v h. false_from_ne_true _ (λ u. let le : b ≤ v = bound (Some b) was v u in absurd (omega (arith, le, h))))
 

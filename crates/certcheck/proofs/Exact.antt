@@ -1,5 +1,5 @@
 -- No fault is found exactly where the certificate is certified.
-use Rattle.std.proofs.Common.{◌≡◌, ◌≢◌, ℕ, zero, suc, ◌+◌, ◌<◌, ◌≤◌, ◌^◌, Bool, true, false, not, ◌&&◌, cond, eqb, ltb, List, [], ◌∷◌, ◌++◌, map, length, get_or, Option, Some, None, Ok, Err, refl, sym, ap, ◌∙◌, ⊎_elim, arith, subst}
+use Rattle.std.proofs.Common.{◌≡◌, ◌≢◌, ℕ, zero, suc, ◌+◌, ◌<◌, ◌≤◌, ◌^◌, Bool, true, false, not, ◌&&◌, cond, eqb, ltb, List, [], ◌∷◌, ◌++◌, map, length, get_or, Option, Some, None, refl, sym, ap, ◌∙◌, ⊎_elim, arith, subst}
 use Rattle.std.specs.Option.{option_map}
 use Rattle.std.specs.List.{filter, count_by}
 use Rattle.std.specs.Str.{bytes_eq}
@@ -8,7 +8,7 @@ use Rattle.std.specs.Cmp.Lexicographic.{slice_cmp}
 use Rattle.std.proofs.lemmas.List.{length-map, get_or-map, get_or_default}
 use Rattle.std.proofs.lemmas.List.Sums.{sum_by-cons}
 use Rattle.std.proofs.lemmas.Bool.{cases_Bool, cases_lt, cond-true, cond-false, and_parts, eqb-true, eq-eqb, ltb-true, ltb-false, le-ltb, false_from_ne_true, false≢true, not-false}
-use Rattle.idtext.specs.First.{or_else, unless}
+use Rattle.idtext.specs.First.{or_else}
 use Rattle.hosts_join.specs.declared.Which.{Which}
 use Rattle.hosts_join.specs.declared.Class.{Class}
 use Rattle.hosts_join.specs.declared.Class.TheVariants.{Pinned, Regular, System}
@@ -16,14 +16,12 @@ use Rattle.hosts_join.specs.Accounts.{Account, Accounts, place_of, nobody}
 use Rattle.hosts_join.specs.Rules.{is_name, in_pool, first_some}
 use Rattle.hosts_join.specs.Rules.{account, class_at}
 use Rattle.hosts_join.specs.Lawful.{AreLawfulAccounts}
-use Rattle.ownership.specs.Counts.{Tally}
 use Rattle.ownership.specs.Mappings.{IsAdmissible, MayHave}
 use Rattle.ownership.specs.Potentials.{potential_at, potential_sum, value_at}
-use Rattle.ownership.specs.Weights.{told_weight}
 use Rattle.certcheck.specs.Certificate.{Row, Side, IsSide}
 use Rattle.certcheck.specs.declared.fault.CheckFault.{CheckFault}
 use Rattle.certcheck.specs.declared.fault.CheckFault.TheVariants.{NameMissing, NumberTwice, OutsidePool, PinBroken, NotCovered, SumsDiffer}
-use Rattle.certcheck.specs.Check.{told_cost, told_free_weight, lesser, least_name, missing, repeated, outside, broken, uncovered, uncovered_at, uncovered_in, is_uncovered, is_outside, breaks_pin, passes, is_row_outside, row_breaks_pin, is_listed, mapping_of, potentials_of, differ, sums_differ, kind_fault, kind_answer}
+use Rattle.certcheck.specs.Check.{weight_by, lesser, least_name, missing, repeated, outside, broken, uncovered, uncovered_at, uncovered_in, is_uncovered, is_outside, breaks_pin, passes, is_row_outside, row_breaks_pin, is_listed, mapping_of, potentials_of, differ, sums_differ, kind_fault}
 use Rattle.certcheck.proofs.Order.{least_name-append, eq_itself, differ as differ_names}
 use Rattle.certcheck.proofs.Least.{least_below-none, least_below_none_says, none_both}
 use Rattle.certcheck.proofs.Spots.{Passing, passing_any, passing_counted, counted_from}
@@ -195,41 +193,41 @@ first_none_from : {X Z : Type 0} (f : X → Option Z) (xs : List X) → ((i : �
 first_none_from f [] none = refl
 first_none_from f (x ∷ xs) none = ap (λ o. or_else o (first_some f xs)) (none 0 x (omega arith)) ∙ first_none_from f xs (λ i d l. none (suc i) d (omega arith))
 
-covered_from : (a : Accounts) (tallies : List Tally) (z : List (ℕ × ℕ)) (n y v : ℕ) → is_uncovered a tallies z n y v ≡ false → in_pool a (class_at a n) v ≡ true → told_weight a tallies n v ≤ y + value_at z v
-covered_from a tallies z n y v h in' = ltb-false (y + value_at z v) (told_weight a tallies n v) (sym (ap (λ b. b && ltb (y + value_at z v) (told_weight a tallies n v)) in') ∙ h)
+covered_from : (a : Accounts) (w : ℕ → ℕ → ℕ) (z : List (ℕ × ℕ)) (n y v : ℕ) → is_uncovered a w z n y v ≡ false → in_pool a (class_at a n) v ≡ true → w n v ≤ y + value_at z v
+covered_from a w z n y v h in' = ltb-false (y + value_at z v) (w n v) (sym (ap (λ b. b && ltb (y + value_at z v) (w n v)) in') ∙ h)
 
-not_uncovered : (a : Accounts) (tallies : List Tally) (z : List (ℕ × ℕ)) (n y v : ℕ) → (in_pool a (class_at a n) v ≡ true → told_weight a tallies n v ≤ y + value_at z v) → is_uncovered a tallies z n y v ≡ false
-not_uncovered a tallies z n y v cover = false_from_ne_true _ (λ e.
-    let parts = and_parts (in_pool a (class_at a n) v) (ltb (y + value_at z v) (told_weight a tallies n v)) e in
+not_uncovered : (a : Accounts) (w : ℕ → ℕ → ℕ) (z : List (ℕ × ℕ)) (n y v : ℕ) → (in_pool a (class_at a n) v ≡ true → w n v ≤ y + value_at z v) → is_uncovered a w z n y v ≡ false
+not_uncovered a w z n y v cover = false_from_ne_true _ (λ e.
+    let parts = and_parts (in_pool a (class_at a n) v) (ltb (y + value_at z v) (w n v)) e in
     let less = ltb-true _ _ parts.1 in
     let most = cover parts.0 in
     absurd (omega (arith, less, most)))
 
-uncovered_none : (a : Accounts) (tallies : List Tally) (z : List (ℕ × ℕ)) (n y : ℕ) → uncovered_at a tallies z n y ≡ None → (v : ℕ) → v < 2 ^ 32 → is_uncovered a tallies z n y v ≡ false
+uncovered_none : (a : Accounts) (w : ℕ → ℕ → ℕ) (z : List (ℕ × ℕ)) (n y : ℕ) → uncovered_at a w z n y ≡ None → (v : ℕ) → v < 2 ^ 32 → is_uncovered a w z n y v ≡ false
 unfolding uncovered_at
-uncovered_none a tallies z n y h v l = least_below_none_says (is_uncovered a tallies z n y) (2 ^ 32) h v l
+uncovered_none a w z n y h v l = least_below_none_says (is_uncovered a w z n y) (2 ^ 32) h v l
 
-none_uncovered : (a : Accounts) (tallies : List Tally) (z : List (ℕ × ℕ)) (n y : ℕ) → ((v : ℕ) → is_uncovered a tallies z n y v ≡ false) → uncovered_at a tallies z n y ≡ None
+none_uncovered : (a : Accounts) (w : ℕ → ℕ → ℕ) (z : List (ℕ × ℕ)) (n y : ℕ) → ((v : ℕ) → is_uncovered a w z n y v ≡ false) → uncovered_at a w z n y ≡ None
 unfolding uncovered_at
-none_uncovered a tallies z n y none = least_below-none (is_uncovered a tallies z n y) (2 ^ 32) (λ v l. none v)
+none_uncovered a w z n y none = least_below-none (is_uncovered a w z n y) (2 ^ 32) (λ v l. none v)
 
 -- 5. All together
 
--- what a yes means, over what the counters tell
-pub record IsToldCertified (a : Accounts) (tallies : List Tally) (s : Side) : Type 0 where
+-- what no fault means
+pub record IsCertifiedBy (a : Accounts) (w : ℕ → ℕ → ℕ) (s : Side) : Type 0 where
   pub names : (n : List ℕ) → is_name a.names n ≡ is_listed s.rows n
   pub admissible : IsAdmissible a (mapping_of a s.rows)
-  pub cover : (i v : ℕ) → i < length a.names → in_pool a (class_at a i) v ≡ true → told_weight a tallies i v ≤ potential_at (potentials_of a s.rows) i + value_at s.z v
-  pub equal : potential_sum (potentials_of a s.rows) s.z ≡ told_free_weight a tallies (mapping_of a s.rows)
+  pub cover : (i v : ℕ) → i < length a.names → in_pool a (class_at a i) v ≡ true → w i v ≤ potential_at (potentials_of a s.rows) i + value_at s.z v
+  pub equal : potential_sum (potentials_of a s.rows) s.z ≡ weight_by a w (mapping_of a s.rows)
 
 -- what each step found, where there was no fault
-record Clear (a : Accounts) (tallies : List Tally) (s : Side) : Type 0 where
+record Clear (a : Accounts) (w : ℕ → ℕ → ℕ) (s : Side) : Type 0 where
   pub m : missing a s.rows ≡ None
   pub r : repeated s.rows ≡ None
   pub o : outside a s.rows ≡ None
   pub b : broken a s.rows ≡ None
-  pub u : uncovered a tallies s ≡ None
-  pub d : potential_sum (potentials_of a s.rows) s.z ≡ told_free_weight a tallies (mapping_of a s.rows)
+  pub u : uncovered a w s ≡ None
+  pub d : potential_sum (potentials_of a s.rows) s.z ≡ weight_by a w (mapping_of a s.rows)
 
 sums_from : (kind : Which) (total weighs : ℕ) → differ kind total weighs ≡ None → total ≡ weighs
 sums_from kind total weighs h =
@@ -238,14 +236,14 @@ sums_from kind total weighs h =
     (λ (e : eqb total weighs ≡ false). let off : Some (SumsDiffer kind total weighs) ≡ None = sym (cond-false (eqb total weighs) None (Some (SumsDiffer kind total weighs)) e) ∙ h in absurd (cc))
     (cases_Bool (eqb total weighs))
 
-clear_from : (kind : Which) (a : Accounts) (tallies : List Tally) (s : Side) → kind_fault kind a tallies s ≡ None → Clear a tallies s
+clear_from : (kind : Which) (a : Accounts) (w : ℕ → ℕ → ℕ) (s : Side) → kind_fault kind a w s ≡ None → Clear a w s
 unfolding kind_fault
-clear_from kind a tallies s h =
+clear_from kind a w s h =
     let one = none_both (option_map (λ n. NameMissing kind n) (missing a s.rows)) _ h in
     let two = none_both (option_map (λ v. NumberTwice kind v) (repeated s.rows)) _ one.1 in
     let three = none_both (option_map (λ (r : Row). OutsidePool kind r.name) (outside a s.rows)) _ two.1 in
     let four = none_both (option_map (λ (r : Row). PinBroken kind r.name) (broken a s.rows)) _ three.1 in
-    let five = none_both (option_map (λ (p : List ℕ × ℕ). NotCovered kind p.0 p.1) (uncovered a tallies s)) (sums_differ kind a tallies s) four.1 in
+    let five = none_both (option_map (λ (p : List ℕ × ℕ). NotCovered kind p.0 p.1) (uncovered a w s)) (sums_differ kind a w s) four.1 in
     record {
       m = map_none _ _ one.0;
       r = map_none _ _ two.0;
@@ -256,9 +254,9 @@ clear_from kind a tallies s h =
     }
 
 -- no fault: the certificate is certified
-pub certified_from : (kind : Which) (a : Accounts) (tallies : List Tally) (s : Side) → AreLawfulAccounts a → IsSide s → kind_fault kind a tallies s ≡ None → IsToldCertified a tallies s
-certified_from kind a tallies s are side h =
-    let clear = clear_from kind a tallies s h in
+pub certified_from : (kind : Which) (a : Accounts) (w : ℕ → ℕ → ℕ) (s : Side) → AreLawfulAccounts a → IsSide s → kind_fault kind a w s ≡ None → IsCertifiedBy a w s
+certified_from kind a w s are side h =
+    let clear = clear_from kind a w s h in
     let exact = names_exact a s.rows clear.m in
     let at : (n : ℕ) → n < length a.names → HasRow a s.rows n = λ n l. row_at_index a s.rows n side.names_ascend exact l in
     let place : (i : ℕ) → i < length s.rows → HasIndex a s.rows i = λ i l. index_of_row a s.rows i are side.names_ascend exact l in
@@ -297,17 +295,17 @@ certified_from kind a tallies s are side h =
       };
       cover = λ n v l in'.
           let r = at n l in
-          let u = first_none_says (λ (x : Row). uncovered_in a tallies s.z x (place_of a.names x.name)) s.rows clear.u r.at blank r.within in
-          let here : uncovered_in a tallies s.z (row s.rows r.at) (Some n) ≡ None = sym (ap (uncovered_in a tallies s.z (row s.rows r.at)) (back n l)) ∙ u in
-          let none = uncovered_none a tallies s.z n (row s.rows r.at).y (map_none _ _ here) v (let id = pool_id a (class_at a n) v in' in omega (arith, id)) in
-          let most = covered_from a tallies s.z n (row s.rows r.at).y v none in' in
+          let u = first_none_says (λ (x : Row). uncovered_in a w s.z x (place_of a.names x.name)) s.rows clear.u r.at blank r.within in
+          let here : uncovered_in a w s.z (row s.rows r.at) (Some n) ≡ None = sym (ap (uncovered_in a w s.z (row s.rows r.at)) (back n l)) ∙ u in
+          let none = uncovered_none a w s.z n (row s.rows r.at).y (map_none _ _ here) v (let id = pool_id a (class_at a n) v in' in omega (arith, id)) in
+          let most = covered_from a w s.z n (row s.rows r.at).y v none in' in
           omega (arith, most, r.y);
       equal = clear.d;
     }
 
 -- certified: no fault
-pub no_fault_from : (kind : Which) (a : Accounts) (tallies : List Tally) (s : Side) → AreLawfulAccounts a → IsSide s → IsToldCertified a tallies s → kind_fault kind a tallies s ≡ None
-no_fault_from kind a tallies s are side certified =
+pub no_fault_from : (kind : Which) (a : Accounts) (w : ℕ → ℕ → ℕ) (s : Side) → AreLawfulAccounts a → IsSide s → IsCertifiedBy a w s → kind_fault kind a w s ≡ None
+no_fault_from kind a w s are side certified =
     let place : (i : ℕ) → i < length s.rows → HasIndex a s.rows i = λ i l. index_of_row a s.rows i are side.names_ascend certified.names l in
     let may : (i : ℕ) (l : i < length s.rows) → MayHave a (class_at a (place i l).at) (row s.rows i).number = λ i l.
     (let P : ℕ → Type 0 = λ v. MayHave a (class_at a (place i l).at) v in subst P (place i l).number (certified.admissible.lawful (place i l).at (place i l).within)) in
@@ -330,25 +328,9 @@ no_fault_from kind a tallies s are side certified =
     differ_names (row s.rows i).name (row s.rows j).name (side.names_ascend i j blank l m) (sym p.name ∙ ap (λ k. (account a k).name) equal ∙ q.name))
     (cases_lt q.at p.at))
     (cases_lt p.at q.at)) in
-    let u : uncovered a tallies s ≡ None = first_none_from (λ (x : Row). uncovered_in a tallies s.z x (place_of a.names x.name)) s.rows (λ i d l.
+    let u : uncovered a w s ≡ None = first_none_from (λ (x : Row). uncovered_in a w s.z x (place_of a.names x.name)) s.rows (λ i d l.
     let p = place i l in
-    ap (λ (x : Row). uncovered_in a tallies s.z x (place_of a.names x.name)) (get_or_default s.rows i d blank l)
-    ∙ ap (uncovered_in a tallies s.z (row s.rows i)) p.index
-    ∙ ap (option_map (λ (v : ℕ). ((row s.rows i).name, v))) (none_uncovered a tallies s.z p.at (row s.rows i).y (λ v. not_uncovered a tallies s.z p.at (row s.rows i).y v (λ in'. let most = certified.cover p.at v p.within in' in omega (arith, most, p.y))))) in
-    fault_is kind a tallies s None None None None None None (sym (none_missing a s.rows certified.names)) (sym r) (ap (option_map (λ (x : Row). x.name)) (sym o)) (ap (option_map (λ (x : Row). x.name)) (sym b)) (sym u) (no_difference kind _ _ certified.equal)
-
--- what the answer tells
-unless_none : (o : Option CheckFault) (x n : ℕ) → unless o x ≡ Ok n → (o ≡ None) × (x ≡ n)
-unless_none None x n h = let same : x ≡ n = cc in (refl, same)
-unless_none (Some f) x n h = absurd (cc)
-
-pub yes_certified : (kind : Which) (a : Accounts) (tallies : List Tally) (s : Side) (n : ℕ) → AreLawfulAccounts a → IsSide s → kind_answer kind a tallies s ≡ Ok n → IsToldCertified a tallies s × (n ≡ told_cost a tallies (mapping_of a s.rows))
-yes_certified kind a tallies s n are side h =
-    let both = unless_none _ _ _ h in
-    (certified_from kind a tallies s are side both.0, sym both.1)
-
-pub no_refuses : (kind : Which) (a : Accounts) (tallies : List Tally) (s : Side) (f : CheckFault) → AreLawfulAccounts a → IsSide s → kind_answer kind a tallies s ≡ Err f → IsToldCertified a tallies s → ⊥
-no_refuses kind a tallies s f are side h certified =
-    let e = ap (λ o. unless o (told_cost a tallies (mapping_of a s.rows))) (no_fault_from kind a tallies s are side certified) in
-    let off : Ok (told_cost a tallies (mapping_of a s.rows)) ≡ Err f = sym e ∙ h in
-    absurd (cc)
+    ap (λ (x : Row). uncovered_in a w s.z x (place_of a.names x.name)) (get_or_default s.rows i d blank l)
+    ∙ ap (uncovered_in a w s.z (row s.rows i)) p.index
+    ∙ ap (option_map (λ (v : ℕ). ((row s.rows i).name, v))) (none_uncovered a w s.z p.at (row s.rows i).y (λ v. not_uncovered a w s.z p.at (row s.rows i).y v (λ in'. let most = certified.cover p.at v p.within in' in omega (arith, most, p.y))))) in
+    fault_is kind a w s None None None None None None (sym (none_missing a s.rows certified.names)) (sym r) (ap (option_map (λ (x : Row). x.name)) (sym o)) (ap (option_map (λ (x : Row). x.name)) (sym b)) (sym u) (no_difference kind _ _ certified.equal)

@@ -1,5 +1,5 @@
--- Why a certificate is refused: the first fault of one kind, over what the counters tell.
-use Rattle.std.specs.Prelude.{◌≡◌, ℕ, zero, suc, ◌+◌, ◌-◌, ◌<◌, ◌≤◌, ◌^◌, Bool, false, not, ◌&&◌, ◌==◌, nat_lt, if◌then◌else◌, List, [], ◌∷◌, ◌++◌, length, map, filter, find, count_by, Option, Some, None, Result}
+-- Why a certificate is refused. What the numbers weigh is given: by files, or as counters tell it.
+use Rattle.std.specs.Prelude.{ℕ, zero, suc, ◌+◌, ◌^◌, Bool, false, not, ◌&&◌, ◌==◌, nat_lt, if◌then◌else◌, List, [], ◌∷◌, ◌++◌, length, map, filter, find, count_by, Option, Some, None, Result}
 use Rattle.std.specs.Option.{option_map, option_map_or}
 use Rattle.std.specs.Ordering.{nat_cmp, is_lt}
 use Rattle.std.specs.Cmp.Lexicographic.{slice_cmp}
@@ -13,11 +13,12 @@ use Rattle.hosts_join.specs.declared.Class.TheVariants.{Pinned, Regular, System}
 use Rattle.hosts_join.specs.Accounts.{Account, Accounts, place_of}
 use Rattle.hosts_join.specs.Rules.{class_at, in_pool, is_free_class, is_name, first_some}
 use Rattle.hosts_join.specs.Site.{Joined}
-use Rattle.ownership.specs.Counts.{Counted, Tally, told_kept, told_total}
+use Rattle.ownership.specs.Costs.{site_cost}
+use Rattle.ownership.specs.Files.{Added, by_group, by_user}
 use Rattle.ownership.specs.Mappings.{Mappings, number_at}
 use Rattle.ownership.specs.Potentials.{potential_sum, value_at}
 use Rattle.ownership.specs.Sums.{sum_below}
-use Rattle.ownership.specs.Weights.{told_weight}
+use Rattle.ownership.specs.Weights.{weight}
 use Rattle.certcheck.specs.Certificate.{Row, Side}
 use Rattle.certcheck.specs.declared.certificate.Certificate.{Certificate}
 use Rattle.certcheck.specs.declared.fault.CheckFault.{CheckFault}
@@ -98,54 +99,44 @@ outside a rows = find (is_row_outside a) rows
 abbrev pub broken : Accounts → List Row → Option Row
 broken a rows = find (row_breaks_pin a) rows
 
--- the least number of the name's pool that y and z do not cover
-abbrev pub is_uncovered : Accounts → List Tally → List (ℕ × ℕ) → ℕ → ℕ → ℕ → Bool
-is_uncovered a tallies z i y v = in_pool a (class_at a i) v && nat_lt (y + value_at z v) (told_weight a tallies i v)
+-- Below, w i v is what the number v weighs for the name at the index i.
 
-unfoldable pub uncovered_at : Accounts → List Tally → List (ℕ × ℕ) → ℕ → ℕ → Option ℕ
-uncovered_at a tallies z i y = least_below (is_uncovered a tallies z i y) (2 ^ 32)
+-- whether a number of the name's pool weighs more than y and z together
+abbrev pub is_uncovered : Accounts → (ℕ → ℕ → ℕ) → List (ℕ × ℕ) → ℕ → ℕ → ℕ → Bool
+is_uncovered a w z i y v = in_pool a (class_at a i) v && nat_lt (y + value_at z v) (w i v)
 
-abbrev pub uncovered_in : Accounts → List Tally → List (ℕ × ℕ) → Row → Option ℕ → Option (List ℕ × ℕ)
-uncovered_in a tallies z r None = None
-uncovered_in a tallies z r (Some i) = option_map (λ v. (r.name, v)) (uncovered_at a tallies z i r.y)
+-- the least such number
+unfoldable pub uncovered_at : Accounts → (ℕ → ℕ → ℕ) → List (ℕ × ℕ) → ℕ → ℕ → Option ℕ
+uncovered_at a w z i y = least_below (is_uncovered a w z i y) (2 ^ 32)
+
+abbrev pub uncovered_in : Accounts → (ℕ → ℕ → ℕ) → List (ℕ × ℕ) → Row → Option ℕ → Option (List ℕ × ℕ)
+uncovered_in a w z r None = None
+uncovered_in a w z r (Some i) = option_map (λ v. (r.name, v)) (uncovered_at a w z i r.y)
 
 -- the first row with such a number
-abbrev pub uncovered : Accounts → List Tally → Side → Option (List ℕ × ℕ)
-uncovered a tallies s = first_some (λ r. uncovered_in a tallies s.z r (place_of a.names r.name)) s.rows
+abbrev pub uncovered : Accounts → (ℕ → ℕ → ℕ) → Side → Option (List ℕ × ℕ)
+uncovered a w s = first_some (λ r. uncovered_in a w s.z r (place_of a.names r.name)) s.rows
 
--- what the numbers of the free names weigh together, as the counters tell it
-abbrev pub told_free_weight : Accounts → List Tally → List ℕ → ℕ
-told_free_weight a tallies m = sum_below (λ i. if is_free_class (class_at a i) then told_weight a tallies i (number_at m i) else 0) (length a.names)
+-- what the numbers of the free names weigh together
+abbrev pub weight_by : Accounts → (ℕ → ℕ → ℕ) → List ℕ → ℕ
+weight_by a w m = sum_below (λ i. if is_free_class (class_at a i) then w i (number_at m i) else 0) (length a.names)
 
 abbrev pub differ : Which → ℕ → ℕ → Option CheckFault
 differ kind total weighs = if total == weighs then None else Some (SumsDiffer kind total weighs)
 
-abbrev pub sums_differ : Which → Accounts → List Tally → Side → Option CheckFault
-sums_differ kind a tallies s = differ kind (potential_sum (potentials_of a s.rows) s.z) (told_free_weight a tallies (mapping_of a s.rows))
+abbrev pub sums_differ : Which → Accounts → (ℕ → ℕ → ℕ) → Side → Option CheckFault
+sums_differ kind a w s = differ kind (potential_sum (potentials_of a s.rows) s.z) (weight_by a w (mapping_of a s.rows))
 
 -- the first fault of a kind
-unfoldable pub kind_fault : Which → Accounts → List Tally → Side → Option CheckFault
-kind_fault kind a tallies s =
+unfoldable pub kind_fault : Which → Accounts → (ℕ → ℕ → ℕ) → Side → Option CheckFault
+kind_fault kind a w s =
     or_else (option_map (λ n. NameMissing kind n) (missing a s.rows))
     (or_else (option_map (λ v. NumberTwice kind v) (repeated s.rows))
     (or_else (option_map (λ r. OutsidePool kind r.name) (outside a s.rows))
     (or_else (option_map (λ r. PinBroken kind r.name) (broken a s.rows))
-    (or_else (option_map (λ p. NotCovered kind p.0 p.1) (uncovered a tallies s))
-    (sums_differ kind a tallies s)))))
+    (or_else (option_map (λ p. NotCovered kind p.0 p.1) (uncovered a w s))
+    (sums_differ kind a w s)))))
 
--- the files that do not keep their number, as the counters tell it
-abbrev pub told_cost : Accounts → List Tally → List ℕ → ℕ
-told_cost a tallies m = sum_below (λ i. told_total tallies i - told_kept tallies i (number_at m i)) (length a.names)
-
--- what the check of a kind answers: the cost of its mapping, or the first fault
-abbrev pub kind_answer : Which → Accounts → List Tally → Side → Result ℕ CheckFault
-kind_answer kind a tallies s = unless (kind_fault kind a tallies s) (told_cost a tallies (mapping_of a s.rows))
-
--- what the check answers: the cost, or the first fault, users first
-abbrev pub answer : Joined → Counted → Certificate → Result ℕ CheckFault
-answer site counts c = unless (or_else (kind_fault User site.users counts.users c.users) (kind_fault Group site.groups counts.groups c.groups)) (told_cost site.users counts.users (mapping_of site.users c.users.rows) + told_cost site.groups counts.groups (mapping_of site.groups c.groups.rows))
-
--- no counter of a name is above its files, and those are few
-pub record AreBounded (a : Accounts) (tallies : List Tally) : Type 0 where
-  pub kept_le : (i v : ℕ) → i < length a.names → told_kept tallies i v ≤ told_total tallies i
-  pub total_le : (i : ℕ) → told_total tallies i ≤ 2147483648
+-- What the check answers for these files: the cost, or the first fault, users first.
+abbrev pub answer : Joined → List Added → Certificate → Result ℕ CheckFault
+answer site files c = unless (or_else (kind_fault User site.users (weight site.users (by_user files)) c.users) (kind_fault Group site.groups (weight site.groups (by_group files)) c.groups)) (site_cost site files (mappings_of site c))

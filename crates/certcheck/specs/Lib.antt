@@ -1,6 +1,7 @@
 pub mod Certificate
 pub mod Views
 pub mod Check
+pub mod OneKind
 pub mod Told
 pub mod Certified
 pub mod Spelling

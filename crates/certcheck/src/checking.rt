@@ -7,7 +7,8 @@ ghost use Rattle.ownership.specs.Counts.{AreMadeFor, IsMadeFor, StandsFor};
 ghost use Rattle.ownership.specs.Files.{Added};
 ghost use Rattle.certcheck.specs.Certificate.{IsSide};
 ghost use Rattle.certcheck.specs.Certified.{AreBest, AreCertified};
-ghost use Rattle.certcheck.specs.Check.{AreBounded, answer, kind_answer, mappings_of};
+ghost use Rattle.certcheck.specs.Check.{answer, mappings_of};
+ghost use Rattle.certcheck.specs.OneKind.{AreBounded, kind_answer};
 ghost use Rattle.certcheck.specs.Told.{told};
 
 use crate::cover::uncovered_pair;
@@ -88,7 +89,7 @@ pub fn check<'a>(
 ) -> Result<u64, CheckFault<'a>>
     requires made { IsMadeFor site.now counts.now }
     requires stands { (files : List Added) × StandsFor site.now counts.now files }
-    ensures exact { Gives (λ cost. cost) told result (answer site.now counts.now certificate.now) }
+    ensures exact { (files : List Added) → StandsFor site.now counts.now files → Gives (λ cost. cost) told result (answer site.now files certificate.now) }
     // Yes exactly where both kinds are certified.
     ensures accepted { IfOk result (λ _. (files : List Added) → StandsFor site.now counts.now files → AreCertified site.now files certificate.now) }
     ensures refused { IfErr result (λ e. IfSome (told e) (λ _. (files : List Added) → StandsFor site.now counts.now files → AreCertified site.now files certificate.now → ⊥)) }

@@ -1,9 +1,11 @@
 //! The sums of a certificate.
 ghost use Rattle.std.specs.Prelude.{◌≡◌, ◌<◌, ◌^◌, sum, sum_by};
 ghost use Rattle.ownership.specs.Counts.{AreMadeFor};
+ghost use Rattle.ownership.specs.Weights.{told_weight};
 ghost use Rattle.certcheck.specs.Certificate.{AreAscending, AscendsByNumber, AreAllZ};
 ghost use Rattle.certcheck.specs.Views.{rows_of};
-ghost use Rattle.certcheck.specs.Check.{AreBounded, number_named, y_named, mapping_of, potentials_of, told_cost, told_free_weight};
+ghost use Rattle.certcheck.specs.Check.{number_named, y_named, mapping_of, potentials_of, weight_by};
+ghost use Rattle.certcheck.specs.OneKind.{AreBounded, told_cost};
 
 use crate::CertRow;
 use crate::cover::weight;
@@ -65,7 +67,7 @@ pub fn z_sum(z: &[(u32, u64)]) -> u128
 pub fn mapping_weight(names: &Names<'_>, counts: &KindCounts, rows: &[CertRow<'_>]) -> u128
     requires ascending { AreAscending (rows_of rows.now) }
     requires made { AreMadeFor names.now.names counts.now }
-    ensures { result ≡ told_free_weight names.now counts.now (mapping_of names.now (rows_of rows.now)) }
+    ensures { result ≡ weight_by names.now (told_weight names.now counts.now) (mapping_of names.now (rows_of rows.now)) }
 {
     let mut total: u128 = 0;
     for index in 0..names.len() {
