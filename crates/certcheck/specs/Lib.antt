@@ -8,3 +8,4 @@ pub mod Made
 pub mod Reading
 pub mod Items
 pub mod LinesRead
+pub mod Laws
