@@ -33,17 +33,17 @@ less_is Equal h = absurd (false≢true h)
 less_is Greater h = absurd (false≢true h)
 
 -- what it means to stand behind an item
-follows_says : (b i : Item) → may_follow (Some b) (Some i) ≡ true → (rank b < rank i) ⊎ ((rank b ≡ rank i) × (ascends b i ≡ true))
+pub follows_says : (b i : Item) → may_follow (Some b) (Some i) ≡ true → (rank b < rank i) ⊎ ((rank b ≡ rank i) × (ascends b i ≡ true))
 follows_says b i h =
     ⊎_elim
     (λ (e : eqb (rank b) (rank i) ≡ true). inr (eqb-true _ _ e, sym (cond-true _ (ascends b i) (ltb (rank b) (rank i)) e) ∙ h))
     (λ (e : eqb (rank b) (rank i) ≡ false). inl (ltb-true _ _ (sym (cond-false _ (ascends b i) (ltb (rank b) (rank i)) e) ∙ h)))
     (cases_Bool (eqb (rank b) (rank i)))
 
-follows_above : (b i : Item) → rank b < rank i → may_follow (Some b) (Some i) ≡ true
+pub follows_above : (b i : Item) → rank b < rank i → may_follow (Some b) (Some i) ≡ true
 follows_above b i l = cond-false _ (ascends b i) (ltb (rank b) (rank i)) (ne_eqb _ _ (λ e. absurd (omega (arith, e, l)))) ∙ lt-ltb _ _ l
 
-follows_level : (b i : Item) → rank b ≡ rank i → ascends b i ≡ true → may_follow (Some b) (Some i) ≡ true
+pub follows_level : (b i : Item) → rank b ≡ rank i → ascends b i ≡ true → may_follow (Some b) (Some i) ≡ true
 follows_level b i e h = cond-true _ (ascends b i) (ltb (rank b) (rank i)) (eq-eqb _ _ e) ∙ h
 
 ascends_trans : (b i j : Item) → ascends b i ≡ true → ascends i j ≡ true → ascends b j ≡ true
@@ -297,7 +297,7 @@ pub more : {X A : Type 0} (f : X → List A) (xs : List X) (x : X) → flat_map 
 more f xs x = sym (flat_map-append f xs (x ∷ []) ∙ ap (λ ys. flat_map f xs ++ ys) (append-nil (f x)))
 
 -- a line that may stand where it stands
-line_fine : (seen : List (List ℕ)) (l : List ℕ) → line_fault seen l ≡ None → may_follow (item_before seen) (item_of l) ≡ true
+pub line_fine : (seen : List (List ℕ)) (l : List ℕ) → line_fault seen l ≡ None → may_follow (item_before seen) (item_of l) ≡ true
 line_fine seen l h =
     ⊎_elim
     (λ (e : may_follow (item_before seen) (item_of l) ≡ true). e)
@@ -306,7 +306,7 @@ line_fine seen l h =
     absurd (cc))
     (cases_Bool (may_follow (item_before seen) (item_of l)))
 
-no_item : (b : Option Item) → may_follow b None ≡ true → ⊥
+pub no_item : (b : Option Item) → may_follow b None ≡ true → ⊥
 no_item None h = false≢true h
 no_item (Some b) h = false≢true h
 

@@ -9,3 +9,4 @@ pub mod Made
 pub mod Reading
 pub mod Items
 pub mod LinesRead
+pub mod Laws

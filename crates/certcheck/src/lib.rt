@@ -23,7 +23,7 @@ mod writing;
 pub use certificate::{CertRow, Certificate, Side};
 pub use checking::check;
 pub use fault::CheckFault;
-pub use laws::{accepted_is_certified, certified_is_accepted};
+pub use laws::{accepted_is_certified, certificates_are_spelled, certified_is_accepted};
 pub use lines::read_certificate;
 pub use making::side_of;
 pub use reading::CertificateFault;
