@@ -240,11 +240,7 @@ fn check_owners<'a>(alloc: Global, host: &Host<'a>, files: &[Entry]) -> Result<(
 /// Reads a host's inventory of at most 16,777,216 files, and then checks that the uid and the gid of each file are
 /// numbers of a user and of a group on the host, in inventory order, uid before gid. One pass over the text.
 #[tactic(auto, unfolding(crate::specs::Hosts::files_of))]
-pub fn load_files<'a>(
-    alloc: Global,
-    host: &Host<'a>,
-    mtree: &[u8],
-) -> Result<Inventory, Fault<'a>>
+pub fn load_files<'a>(alloc: Global, host: &Host<'a>, mtree: &[u8]) -> Result<Inventory, Fault<'a>>
     ensures exact { Gives (λ files. files) told result (files_of (record { host = host.now; mtree = mtree.now })) }
     ensures few { IfOk result (λ files. length files ≤ 16777216) }
 {

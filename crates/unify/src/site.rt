@@ -48,11 +48,7 @@ fn load_pins<'a>(alloc: Global, text: &'a [u8]) -> Result<Pins<'a>, Fault<'a>>
 }
 
 // The accounts over all hosts.
-fn join_hosts<'a>(
-    alloc: Global,
-    hosts: &[Host<'a>],
-    pins: &Pins<'a>,
-) -> Result<Site<'a>, Fault<'a>>
+fn join_hosts<'a>(alloc: Global, hosts: &[Host<'a>], pins: &Pins<'a>) -> Result<Site<'a>, Fault<'a>>
     requires few { length hosts.now ≤ 64 }
     requires lawful { All IsLawfulHost hosts.now }
     ensures { Gives (λ site. site) told result (in_site (joined_site hosts.now pins.now)) }
@@ -131,7 +127,14 @@ fn count_site<'a>(
 {
     let mut counts = Counts::new(alloc, site)?;
     for (index, host) in hosts.iter().enumerate() {
-        count_host(alloc, &mut counts, site, index as u32, host, mtrees[index].bytes())?;
+        count_host(
+            alloc,
+            &mut counts,
+            site,
+            index as u32,
+            host,
+            mtrees[index].bytes(),
+        )?;
     }
     Ok(counts)
 }
