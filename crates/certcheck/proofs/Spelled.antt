@@ -181,12 +181,13 @@ reads_what_is_spelled text c h =
     let says = fine_says [] (lines text) read.fine in
     let last : last_item says.items ≡ Some End = sym (said_last (lines text) says.items says.said) ∙ read.ends in
     let same : given_by says.items ≡ c =
-        sym (ap (λ s. record { users = s; groups = side_in Group (lines text) }) (said_side User (lines text) says.items says.said)
-        ∙ ap (λ s. record { users = record { rows = flat_map (λ i. rows_in User (Some i)) says.items; z = flat_map (λ i. all_z_in User (Some i)) says.items }; groups = s }) (said_side Group (lines text) says.items says.said)) ∙ read.value
+    sym (ap (λ s. record { users = s; groups = side_in Group (lines text) }) (said_side User (lines text) says.items says.said)
+    ∙ ap (λ s. record { users = record { rows = flat_map (λ i. rows_in User (Some i)) says.items; z = flat_map (λ i. all_z_in User (Some i)) says.items }; groups = s }) (said_side Group (lines text) says.items says.said)) ∙ read.value
     in
-    let P : Certificate → Type 0 = λ x. IsCertificate x in
-    (subst P read.value (record { users = lines_give_side User (lines text) read.fine; groups = lines_give_side Group (lines text) read.fine }),
-    text_of_lines text read.whole ∙ ap (flat_map ended) (said_lines (lines text) says.items says.said) ∙ mapped says.items ∙ ap (flat_map item_text) (whole_chain says.items says.chain last ∙ ap items_of same) ∙ sym (spelled_lines c))
+    let P : Certificate → Type 0 = λ x. IsCertificate x in (
+      subst P read.value (record { users = lines_give_side User (lines text) read.fine; groups = lines_give_side Group (lines text) read.fine }),
+      text_of_lines text read.whole ∙ ap (flat_map ended) (said_lines (lines text) says.items says.said) ∙ mapped says.items ∙ ap (flat_map item_text) (whole_chain says.items says.chain last ∙ ap items_of same) ∙ sym (spelled_lines c),
+    )
 
 -- 4. What is spelled is read
 
