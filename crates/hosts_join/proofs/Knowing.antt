@@ -215,7 +215,7 @@ module _ {H : Type 0} (regular system : H → IdRange) (pairs : H → List (List
       rows-know h v n (all_from 0 hosts) (rows-named h v 0 h n hosts host here (omega arith) facts.0) (rows-at h v 0 h hosts host here (omega arith) ∙ facts.1)
   host-known h v hosts host None here apart is = unowned (all_from 0 hosts) h v (rows-at h v 0 h hosts host here (omega arith) ∙ none-there v (pairs host) is)
 
-joined-is : (kind : Which) (a b : Accounts) → joined kind a ≡ Ok b → a ≡ b
+pub joined-is : (kind : Which) (a b : Accounts) → joined kind a ≡ Ok b → a ≡ b
 joined-is kind a b e = (unless_ok (refusal kind a) a b e).1
 
 -- the accounts that a site was joined from

@@ -25,7 +25,7 @@ pub use fault::{PinsFault, PoolClass, SiteFault};
 pub use host::Host;
 pub use joining::{Site, join, join_kind};
 pub use kind::{Groups, Kind, Users};
-pub use laws::a_site_knows_its_hosts;
+pub use laws::{a_site_has_lawful_accounts, a_site_knows_its_hosts, pins_are_lawful};
 use logindefs::IdRange;
 pub use names::Names;
 pub use pair_lines::{PairLine, pair_line};

@@ -27,6 +27,7 @@ use Rattle.hosts_join.specs.Site.{Joined, joined_site}
 use Rattle.hosts_join.specs.declared.host.Host.{Host}
 use Rattle.hosts_join.specs.declared.texts.HostText.{HostText}
 use Rattle.hosts_join.proofs.Knowing.{sites_know}
+use Rattle.hosts_join.proofs.SiteLemmas.{sites_are_lawful, pins_are_pins}
 use Rattle.ownership.specs.Faults.{unowned}
 use Rattle.ownership.specs.Files.{Added}
 use Rattle.unify_texts.specs.declared.bundle_line.FileName.TheVariants as file
@@ -168,8 +169,10 @@ pub read_sites_are_whole : ReadSitesAreWhole
 read_sites_are_whole texts pins_text site h =
     let s = steps texts pins_text site h in
     let each_host = read-host texts pins_text site s in
+    let loaded = length-each host_of texts s.loaded s.hosts_are in
     record {
-      few_hosts = omega (arith, s.few, length-each host_of texts s.loaded s.hosts_are, length-each site_of s.loaded site.hosts s.files_are);
+      few_hosts = omega (arith, s.few, loaded, length-each site_of s.loaded site.hosts s.files_are);
+      lawful = sites_are_lawful (map (λ (l : Loaded). l.host) s.loaded) s.pins site.joined (omega (arith, s.few, loaded, length-map s.loaded (λ (l : Loaded). l.host))) (loaded-lawful texts s.loaded s.hosts_are) (pins_are_pins pins_text s.pins s.pins_are) s.joined_is;
       each_host = each_host;
       owned = all-from site.joined 0 site.hosts (λ h host files here. subst (λ n. IsReadHost site.joined n host files) (omega arith) (each_host h host files here));
     }

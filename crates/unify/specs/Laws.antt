@@ -5,7 +5,7 @@ use Rattle.mtree_inv.specs.declared.entry.Entry.{Entry}
 use Rattle.mtree_inv.specs.Files.{AreFiles}
 use Rattle.hosts_join.specs.Hosts.{IsLawfulHost}
 use Rattle.hosts_join.specs.Kinds.{user_at, group_at}
-use Rattle.hosts_join.specs.Laws.{KnowsHost}
+use Rattle.hosts_join.specs.Laws.{HasLawfulAccounts, KnowsHost}
 use Rattle.hosts_join.specs.Site.{Joined}
 use Rattle.hosts_join.specs.declared.host.Host.{Host}
 use Rattle.hosts_join.specs.declared.texts.HostText.{HostText}
@@ -30,6 +30,7 @@ pub record IsReadHost (joined : Joined) (h : ℕ) (host : Host) (files : List En
 pub record IsWhole (site : WholeSite) : Type 0 where
   pub few_hosts : length site.hosts ≤ 64
   pub each_host : (h : ℕ) (host : Host) (files : List Entry) → slice_get site.hosts h ≡ Some (host, files) → IsReadHost site.joined h host files
+  pub lawful : HasLawfulAccounts site.joined
   -- each file has its owners among the accounts over all hosts
   pub owned : All (λ f. unowned site.joined f.host f.uid f.gid ≡ None) (files_of_site site)
 

@@ -2,7 +2,8 @@
 ghost use Rattle.unify.specs.Laws.{OwnersAgree, ReadSitesAreWhole};
 
 /// Every site that was read is whole: it has at most 64 hosts, whose tables are lawful and whose inventories have no path
-/// twice, and each file has a user and a group, by its host's own tables and as well by the accounts over all hosts.
+/// twice, the accounts over all hosts are lawful, and each file has a user and a group, by its host's own tables and as
+/// well by the accounts over all hosts.
 pub fn a_read_site_is_whole()
     ensures { ReadSitesAreWhole }
 {}
