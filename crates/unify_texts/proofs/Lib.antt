@@ -3,3 +3,4 @@ pub mod DraftLemmas
 pub mod SpellingLemmas
 pub mod FigureLemmas
 pub mod MapLines
+pub mod ReportLemmas

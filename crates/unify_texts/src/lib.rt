@@ -10,6 +10,7 @@ mod laws;
 mod map_text;
 mod place_list;
 mod places;
+mod report;
 mod words;
 
 pub use bundle::{Bundle, read_bundle};
@@ -17,6 +18,7 @@ pub use bundle_line::{Command, FileName};
 pub use fault::Fault;
 pub use fault_text::push_fault;
 pub use laws::bundles_are_spelled;
-pub use map_text::{MapText, read_map};
+pub use map_text::{MapText, push_map, read_map};
 pub use place_list::PlaceList;
 pub use places::{FileList, NamedFile, Place};
+pub use report::report_text;
