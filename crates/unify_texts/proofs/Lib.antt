@@ -4,3 +4,5 @@ pub mod SpellingLemmas
 pub mod FigureLemmas
 pub mod MapLines
 pub mod ReportLemmas
+pub mod MapBack
+pub mod MapNames
