@@ -3,3 +3,6 @@ pub mod DraftLemmas
 pub mod SpellingLemmas
 pub mod FigureLemmas
 pub mod MapLines
+pub mod ReportLemmas
+pub mod MapBack
+pub mod MapNames

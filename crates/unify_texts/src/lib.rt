@@ -10,13 +10,15 @@ mod laws;
 mod map_text;
 mod place_list;
 mod places;
+mod report;
 mod words;
 
 pub use bundle::{Bundle, read_bundle};
 pub use bundle_line::{Command, FileName};
 pub use fault::Fault;
 pub use fault_text::push_fault;
-pub use laws::bundles_are_spelled;
-pub use map_text::{MapText, read_map};
+pub use laws::{bundles_are_spelled, written_maps_read_back};
+pub use map_text::{MapText, push_map, read_map};
 pub use place_list::PlaceList;
 pub use places::{FileList, NamedFile, Place};
+pub use report::report_text;
