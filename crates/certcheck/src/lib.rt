@@ -4,10 +4,10 @@
 #![tactic(auto)]
 
 mod certificate;
+mod certified;
 mod checking;
 mod cover;
 mod fault;
-mod laws;
 mod line;
 mod lines;
 mod lookup;
@@ -21,9 +21,9 @@ mod sums;
 mod writing;
 
 pub use certificate::{CertRow, Certificate, Side};
+pub use certified::{accepted_is_certified, certified_is_accepted};
 pub use checking::check;
 pub use fault::CheckFault;
-pub use laws::{accepted_is_certified, certified_is_accepted};
 pub use lines::read_certificate;
 pub use making::side_of;
 pub use reading::CertificateFault;
