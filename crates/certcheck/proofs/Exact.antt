@@ -19,7 +19,6 @@ use Rattle.hosts_join.specs.Lawful.{AreLawfulAccounts}
 use Rattle.ownership.specs.Mappings.{IsAdmissible, MayHave}
 use Rattle.ownership.specs.Potentials.{potential_at, potential_sum, value_at}
 use Rattle.certcheck.specs.Certificate.{Row, Side, IsSide}
-use Rattle.certcheck.specs.declared.fault.CheckFault.{CheckFault}
 use Rattle.certcheck.specs.declared.fault.CheckFault.TheVariants.{NameMissing, NumberTwice, OutsidePool, PinBroken, NotCovered, SumsDiffer}
 use Rattle.certcheck.specs.Check.{weight_by, lesser, least_name, missing, repeated, outside, broken, uncovered, uncovered_at, uncovered_in, is_uncovered, is_outside, breaks_pin, passes, is_row_outside, row_breaks_pin, is_listed, mapping_of, potentials_of, differ, sums_differ, kind_fault}
 use Rattle.certcheck.proofs.Order.{least_name-append, eq_itself, differ as differ_names}

@@ -1,5 +1,5 @@
 -- What a yes means: certified, and so the best; and where both kinds are certified the answer is yes.
-use Rattle.std.proofs.Common.{◌≡◌, ℕ, ◌+◌, ◌≤◌, List, length, Option, Some, None, Ok, refl, sym, ap, ◌∙◌, arith}
+use Rattle.std.proofs.Common.{◌≡◌, ℕ, List, Option, Some, None, Ok, refl, ap, ◌∙◌, arith}
 use Rattle.std.proofs.lemmas.List.{length-map}
 use Rattle.idtext.specs.First.{or_else, unless}
 use Rattle.hosts_join.specs.declared.Which.{Which}
@@ -7,14 +7,14 @@ use Rattle.hosts_join.specs.declared.Which.TheVariants.{User, Group}
 use Rattle.hosts_join.specs.Accounts.{Accounts}
 use Rattle.hosts_join.specs.Lawful.{AreLawfulAccounts}
 use Rattle.hosts_join.specs.Site.{Joined}
-use Rattle.ownership.specs.Costs.{AreLeast, IsOptimal, cost_of, site_cost}
+use Rattle.ownership.specs.Costs.{IsOptimal, site_cost}
 use Rattle.ownership.specs.Files.{Added, File, by_group, by_user}
 use Rattle.ownership.specs.Weights.{weight}
 use Rattle.ownership.proofs.Optimal.{certified_is_optimal}
 use Rattle.certcheck.specs.Certificate.{IsSide, Side}
 use Rattle.certcheck.specs.declared.certificate.Certificate.{Certificate}
 use Rattle.certcheck.specs.declared.fault.CheckFault.{CheckFault}
-use Rattle.certcheck.specs.Certified.{AcceptedIsCertified, AreBest, AreCertified, CertifiedIsAccepted, IsAccepted, IsCertified}
+use Rattle.certcheck.specs.Certified.{AcceptedIsCertified, AreBest, AreCertified, CertifiedIsAccepted, IsCertified}
 use Rattle.certcheck.specs.Check.{answer, kind_fault, mapping_of, mappings_of}
 use Rattle.certcheck.proofs.Exact.{IsCertifiedBy, certified_from, no_fault_from}
 use Rattle.certcheck.proofs.Least.{none_both}

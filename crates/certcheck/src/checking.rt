@@ -76,7 +76,8 @@ fn check_kind<'a>(
 }
 
 /// The cost of the certificate's mappings, where it certifies them, else the first fault, users before groups. Asked is that the
-/// counters were made for the site and stand for some list of added files.
+/// counters were made for the site and stand for some list of added files. Cost, weights and faults are those of the files; the
+/// counters are only how they are told.
 ///
 /// A yes proves that no admissible pair of mappings costs less, and that among those of least cost for a kind none changes fewer
 /// account rows of it, whoever wrote the certificate. A number that a name has on no host weighs nothing for it, so the pools are

@@ -4,6 +4,7 @@
 #![tactic(auto)]
 
 mod certificate;
+mod certified;
 mod checking;
 mod cover;
 mod fault;
@@ -21,9 +22,10 @@ mod sums;
 mod writing;
 
 pub use certificate::{CertRow, Certificate, Side};
+pub use certified::{accepted_is_certified, certified_is_accepted};
 pub use checking::check;
 pub use fault::CheckFault;
-pub use laws::{accepted_is_certified, certificates_are_spelled, certified_is_accepted};
+pub use laws::certificates_are_spelled;
 pub use lines::read_certificate;
 pub use making::side_of;
 pub use reading::CertificateFault;

@@ -1,5 +1,5 @@
 use Rattle.certcheck.proofs.Yes as yes
-use Rattle.certcheck.proofs.laws.certified_is_accepted.Goals as goal
+use Rattle.certcheck.proofs.certified.certified_is_accepted.Goals as goal
 
 pub returns : goal.returns
 returns c = yes.certified_is_accepted
