@@ -16,7 +16,8 @@ use Rattle.hosts_join.specs.Accounts.{Account, Accounts, nobody}
 use Rattle.hosts_join.specs.Rules.{account, is_name}
 use Rattle.hosts_join.specs.Lawful.{AreLawfulAccounts}
 use Rattle.certcheck.specs.declared.certificate.CertRow.{CertRow}
-use Rattle.certcheck.specs.Certificate.{Row, IsRow, IsSide, AreAscending, AscendsByNumber, AreAllZ, ComesBefore}
+use Rattle.certcheck.specs.Certificate.{Row, IsRow, IsSide, AreAscending, AreAllZ, ComesBefore}
+use Rattle.ownership.specs.Potentials.{AscendsByNumber}
 use Rattle.certcheck.specs.Views.{row_of, rows_of}
 use Rattle.certcheck.specs.Check.{is_listed, number_named, y_named}
 use Rattle.certcheck.specs.Made.{AreSolving, AreRowsOf, IsSideOf}

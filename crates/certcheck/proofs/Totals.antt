@@ -6,11 +6,11 @@ use Rattle.hosts_join.specs.Accounts.{Account, Accounts, nobody}
 use Rattle.hosts_join.specs.Rules.{account, class_at, is_free_class}
 use Rattle.ownership.specs.Counts.{Tally, told_kept, told_total}
 use Rattle.ownership.specs.Mappings.{number_at}
-use Rattle.ownership.specs.Potentials.{potential_at}
+use Rattle.ownership.specs.Potentials.{potential_at, AscendsByNumber}
 use Rattle.ownership.specs.Sums.{sum_below}
 use Rattle.ownership.specs.Weights.{told_weight}
 use Rattle.ownership.proofs.SumsBelow.{sum_below_more}
-use Rattle.certcheck.specs.Certificate.{Row, AscendsByNumber, AreAllZ}
+use Rattle.certcheck.specs.Certificate.{Row, AreAllZ}
 use Rattle.certcheck.specs.Check.{number_named, y_named, mapping_of, potentials_of}
 
 pub mapping_at : (a : Accounts) (rows : List Row) (i : ℕ) → i < length a.names → number_at (mapping_of a rows) i ≡ number_named rows (account a i).name

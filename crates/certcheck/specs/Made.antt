@@ -4,8 +4,8 @@ use Rattle.std.specs.List.{All}
 use Rattle.hosts_join.specs.Accounts.{Accounts}
 use Rattle.hosts_join.specs.Rules.{account, is_name}
 use Rattle.ownership.specs.Mappings.{number_at}
-use Rattle.ownership.specs.Potentials.{potential_at}
-use Rattle.certcheck.specs.Certificate.{Row, Side, AscendsByNumber, AreAllZ}
+use Rattle.ownership.specs.Potentials.{potential_at, AscendsByNumber}
+use Rattle.certcheck.specs.Certificate.{Row, Side, AreAllZ}
 use Rattle.certcheck.specs.Check.{is_listed, mapping_of, potentials_of}
 
 -- a number and a y for each name, and z that ascend

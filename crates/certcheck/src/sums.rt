@@ -2,7 +2,8 @@
 ghost use Rattle.std.specs.Prelude.{◌≡◌, ◌<◌, ◌^◌, sum, sum_by};
 ghost use Rattle.ownership.specs.Counts.{AreMadeFor};
 ghost use Rattle.ownership.specs.Weights.{told_weight};
-ghost use Rattle.certcheck.specs.Certificate.{AreAscending, AscendsByNumber, AreAllZ};
+ghost use Rattle.certcheck.specs.Certificate.{AreAscending, AreAllZ};
+ghost use Rattle.ownership.specs.Potentials.{AscendsByNumber};
 ghost use Rattle.certcheck.specs.Views.{rows_of};
 ghost use Rattle.certcheck.specs.Check.{number_named, y_named, mapping_of, potentials_of, weight_by};
 ghost use Rattle.certcheck.specs.OneKind.{AreBounded, told_cost};
