@@ -7,7 +7,7 @@ ghost use Rattle.unify.specs.Output.{cost_lines, counted, accepted_line, check_t
 ghost use Rattle.unify.specs.Replies.{reply_of};
 
 use crate::counting::{Cost, count};
-use crate::verify::verify;
+use crate::verifying::verify;
 use hosts_join::HostText;
 use idtext::push_number;
 use std::alloc::{AllocError, Global};
