@@ -7,8 +7,8 @@ use Rattle.assignment.specs.Standing.{Standing, IsTightPair, IsFair, among, hold
 -- ---- among
 
 -- a name among the first t has its position there
-pub among_place : (position names : List ℕ) (t n : ℕ) → among position names t n ≡ true → (get_or position n 0 < t) × (get_or names (get_or position n 0) 0 ≡ n)
-among_place position names t n h =
+pub among_position : (position names : List ℕ) (t n : ℕ) → among position names t n ≡ true → (get_or position n 0 < t) × (get_or names (get_or position n 0) 0 ≡ n)
+among_position position names t n h =
     let p = and_parts (ltb (get_or position n 0) t) (eqb (get_or names (get_or position n 0) 0) n) h in
     (ltb-true _ _ p.0, eqb-true _ _ p.1)
 
@@ -60,13 +60,13 @@ with_duals s y z = record s { y = y; z = z }
 -- what the tree's names have to be lowered by is theirs
 exit_at : (w : ℕ → ℕ → ℕ) (s : Standing) (position names : List ℕ) (d n : ℕ) → IsSlack w s position names d → among position names (length names) n ≡ true → d ≤ s.y n
 exit_at w s position names d n h e =
-    let p = among_place position names (length names) n e in
+    let p = among_position position names (length names) n e in
     let q = h.exit (get_or position n 0) p.0 in
     subst (λ (k : ℕ). d ≤ s.y k) p.1 q
 
 reach_at : (w : ℕ → ℕ → ℕ) (s : Standing) (position names : List ℕ) (d n v : ℕ) → IsSlack w s position names d → among position names (length names) n ≡ true → holds position names (length names) (s.owner v) ≡ false → w n v + d ≤ s.y n + s.z v
 reach_at w s position names d n v h e f =
-    let p = among_place position names (length names) n e in
+    let p = among_position position names (length names) n e in
     let q = h.reach (get_or position n 0) v p.0 f in
     subst (λ (k : ℕ). w k v + d ≤ s.y k + s.z v) p.1 q
 
@@ -211,7 +211,7 @@ step_loose w s size next position names parents i v u given owner h pos had g =
           (λ (ne : n ≡ name → ⊥). g.others n ne ∙ h.waits n l)
           (cases_eq n name);
       link = let k = up.tight in subst (λ x. IsTightPair w (with_pairs s given owner) (get_or names (get_or parents i 0) 0) x) same (record { weighs = k.weighs; equal = k.equal });
-      place_in = omega (arith, up.earlier, h.place_in);
+      position_in = omega (arith, up.earlier, h.position_in);
       paired = h.paired;
       first = h.first;
       placed = h.placed;
@@ -219,8 +219,8 @@ step_loose w s size next position names parents i v u given owner h pos had g =
       hung = λ j a b.
           let k = h.hung j a (omega (arith, up.earlier)) in
           let ji : j < i = omega (arith, up.earlier) in
-          let jl : j < length names = omega (arith, h.place_in) in
-          let apart : get_or names j 0 ≢ name = λ e. absurd (omega (arith, h.placed j jl, h.placed i h.place_in, ap (λ x. get_or position x 0) e)) in
+          let jl : j < length names = omega (arith, h.position_in) in
+          let apart : get_or names j 0 ≢ name = λ e. absurd (omega (arith, h.placed j jl, h.placed i h.position_in, ap (λ x. get_or position x 0) e)) in
           record { earlier = k.earlier; number = k.number; held = g.others (get_or names j 0) apart ∙ k.held; tight = record { weighs = k.tight.weighs; equal = k.tight.equal } };
     }
 

@@ -91,7 +91,7 @@ flip_start s t i v q l free tight =
         zero_left = fair.zero_left;
         waits = fair.waits;
         link = tight;
-        place_in = l;
+        position_in = l;
         paired = tree.paired;
         first = tree.first;
         placed = tree.placed;
@@ -160,7 +160,7 @@ leave_start s b t i u q l none had g =
             let apart : n ≢ name = λ e. none-some u (sym old ∙ ap (given_of s.pairs) e ∙ had) in
             g.others n apart ∙ old;
         link = let k = up.tight in subst (λ (x : ℕ). IsTightPair w after (get_or t.names.items (get_or t.parents.items i 0) 0) x) same (record { weighs = k.weighs; equal = k.equal });
-        place_in = omega (arith, up.earlier);
+        position_in = omega (arith, up.earlier);
         paired = tree.paired;
         first = tree.first;
         placed = tree.placed;

@@ -17,7 +17,7 @@ use Rattle.assignment.specs.Solving.{HasNoZero, IsSearching, root_of}
 use Rattle.assignment.specs.Lazy.{y_in, z_in, level_of, depth_of, height_of, lowered_to, IsSettled, CanSettle, IsLazy, IsExit, IsEdge, HasEdges}
 use Rattle.assignment.proofs.Nearest.{z_small}
 use Rattle.assignment.proofs.Weigh.{row_weight_small}
-use Rattle.assignment.proofs.Fair.{lowered_fair, lowered_tree, among_at, among_place, with_duals}
+use Rattle.assignment.proofs.Fair.{lowered_fair, lowered_tree, among_at, among_position, with_duals}
 
 -- ---- two standings with the same values
 
@@ -43,7 +43,7 @@ depth_out t now n e = cond-false _ _ _ e
 
 depth_more : (t : Tree) (now later n : ℕ) → ((i : ℕ) → i < length t.names.items → level_of t i ≤ now) → now ≤ later → among t.position.items t.names.items (length t.names.items) n ≡ true → depth_of t later n ≡ depth_of t now n + (later - now)
 depth_more t now later n passed l e =
-    let p = passed (get_or t.position.items n 0) (among_place t.position.items t.names.items (length t.names.items) n e).0 in
+    let p = passed (get_or t.position.items n 0) (among_position t.position.items t.names.items (length t.names.items) n e).0 in
     omega (arith, depth_here t now n e, depth_here t later n e, p)
 
 height_more : (t : Tree) (now later : ℕ) (o : Option ℕ) → ((i : ℕ) → i < length t.names.items → level_of t i ≤ now) → now ≤ later → holds t.position.items t.names.items (length t.names.items) o ≡ true → height_of t later o ≡ height_of t now o + (later - now)

@@ -16,7 +16,7 @@ use Rattle.assignment.specs.Order.{Edge}
 use Rattle.assignment.specs.Standing.{IsTightPair, IsFair, IsTree, IsSlack, IsMet, among, holds}
 use Rattle.assignment.specs.Solving.{standing, IsSearching, root_of}
 use Rattle.assignment.specs.Lazy.{y_in, z_in, level_of, depth_of, height_of, depth_in, lowered_to, IsSettled, IsLazy, IsExit, IsEdge, HasEdges, HasOtherEdges}
-use Rattle.assignment.proofs.Fair.{among_at, among_place, holds_given}
+use Rattle.assignment.proofs.Fair.{among_at, among_position, holds_given}
 use Rattle.assignment.proofs.Lazy.{same_fair, same_shape, later_lowered, later_lazy}
 use Rattle.assignment.proofs.Grow.{push_tree, same_tree, tree_short, tight_from, zero_from}
 use Rattle.assignment.proofs.Nearest.{given_within}
@@ -96,11 +96,11 @@ among_push position names m n ne =
     (λ (g : length names ≤ k).
     let outside : (position' names' : List ℕ) (t : ℕ) → (among position' names' t n ≡ true → ⊥) → among position' names' t n ≡ false = λ position' names' t h. ⊎_elim (λ (e : among position' names' t n ≡ true). absurd (h e)) (λ (e : among position' names' t n ≡ false). e) (cases_Bool (among position' names' t n)) in
     let a : among (set position m (length names)) (names ++ m ∷ []) (length names + 1) n ≡ false = outside (set position m (length names)) (names ++ m ∷ []) (length names + 1) (λ e.
-    let p = among_place (set position m (length names)) (names ++ m ∷ []) (length names + 1) n e in
+    let p = among_position (set position m (length names)) (names ++ m ∷ []) (length names + 1) n e in
     let q : get_or (set position m (length names)) n 0 ≡ length names = omega (arith, p.0, ek, g) in
     let last : get_or (names ++ m ∷ []) (length names) 0 ≡ m = get_or_push names m 0 (length names) refl in
     ne (sym (sym last ∙ ap (λ j. get_or (names ++ m ∷ []) j 0) (sym q) ∙ p.1))) in
-    let b : among position names (length names) n ≡ false = outside position names (length names) (λ e. absurd (omega (arith, (among_place position names (length names) n e).0, g))) in
+    let b : among position names (length names) n ≡ false = outside position names (length names) (λ e. absurd (omega (arith, (among_position position names (length names) n e).0, g))) in
     a ∙ sym b)
     (cases_lt k (length names))
 
@@ -125,7 +125,7 @@ push_depth position names levels now m n long ml out =
     let ek : get_or position' n 0 ≡ get_or position n 0 = get_or-set_other position m n (length names) 0 ne in
     ⊎_elim
     (λ (a : among position names (length names) n ≡ true).
-    let l : get_or position n 0 < length levels = omega (arith, long, (among_place position names (length names) n a).0) in
+    let l : get_or position n 0 < length levels = omega (arith, long, (among_position position names (length names) n a).0) in
     let el : get_or levels' (get_or position n 0) 0 ≡ get_or levels (get_or position n 0) 0 = get_or_append_left levels (now ∷ []) 0 (get_or position n 0) l in
     cond-true _ _ _ (same ∙ a) ∙ ap (λ k. now - get_or levels' k 0) ek ∙ ap (λ k. now - k) el ∙ sym (cond-true _ _ _ a))
     (λ (a : among position names (length names) n ≡ false). cond-false _ _ _ (same ∙ a) ∙ sym (cond-false _ _ _ a))

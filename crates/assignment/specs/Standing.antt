@@ -79,7 +79,7 @@ pub record IsLoose (w : ℕ → ℕ → ℕ) (s : Standing) (size : ℕ) (next :
   pub zero_left : (n : ℕ) → n < next → s.given n ≡ None → (s.y n ≡ 0)
   pub waits : (n : ℕ) → next ≤ n → s.given n ≡ None
   pub link : IsTightPair w s (slice_index names i) v
-  pub place_in : i < length names
+  pub position_in : i < length names
   pub paired : length parents ≡ length names
   pub first : slice_index names 0 ≡ next
   pub placed : (j : ℕ) → j < length names → slice_index position (slice_index names j) ≡ j

@@ -52,10 +52,11 @@ impl From<AllocError> for SolveFault {
 /// The mapping that leaves the most weight as it is, with potentials that certify it. Names that keep no candidate have, in
 /// byte order, the smallest numbers of their pools that no name had before. It fails for want of memory alone.
 ///
-/// Names are served one by one, each by a search for a shortest augmenting path. A search costs E log E, where E is how many
-/// candidates the names have that it reaches, and it reaches a further name only over a number that is contested and given;
-/// no table of the site's size is cleared or read for it. So the whole is near linear where few numbers are contested, and
-/// at worst names times candidates times a logarithm. Memory is some 60 bytes a name and 40 a number that was given.
+/// Names are served one by one, each by a search for a shortest augmenting path. With E candidates in the rows of the names
+/// that a search reaches it takes E log E steps, for its heap and for look-ups by number; it reaches a further name only over a
+/// number that this name was given, and no table of the site's size is cleared or read for it. So the time is near linear
+/// where few names want one number, and at worst all names times all candidates times a logarithm. Of memory a name takes 24
+/// bytes and a number that was given some 40, beside one search's names and candidates and the memory of the fill.
 pub fn solve(alloc: Global, rows: &Rows<'_, '_>) -> Result<Solution, SolveFault>
     ensures admissible { IfOk result (λ s. IsAdmissible rows.now.accounts s.mapping) }
     ensures proves { IfOk result (λ s. Proves rows.now s.mapping s.y.items s.z.items) }
