@@ -1,18 +1,18 @@
 -- A joined site has lawful accounts.
-use Rattle.std.proofs.Common.{◌≡◌, ℕ, ◌+◌, ◌*◌, ◌≤◌, Bool, true, false, not, ◌&&◌, List, [], ◌∷◌, ◌++◌, length, map, flat_map, Option, Some, None, Ok, refl, sym, ap, subst, ◌∙◌, arith, inl, inr, append_assoc, append-nil, nat_eq, nat_lt}
+use Rattle.std.proofs.Common.{◌≡◌, ℕ, ◌+◌, ◌≤◌, true, not, List, [], ◌∷◌, ◌++◌, length, map, Option, Some, None, Ok, refl, sym, ap, subst, ◌∙◌, arith, inl, inr, append_assoc, append-nil, nat_eq, nat_lt}
 use Rattle.std.specs.List.{All, list_any}
 use Rattle.std.specs.Option.{is_some, option_map}
 use Rattle.std.proofs.lemmas.Bool.{cases_Bool, and_parts, not-true, false≢true}
 use Rattle.std.proofs.lemmas.List.{length-map}
 use Rattle.std.proofs.lemmas.List.Elements.{All-nil}
-use Rattle.idtext.specs.First.{first_fault, or_else, unless}
+use Rattle.idtext.specs.First.{first_fault, or_else}
 use Rattle.idtext.specs.Pieces.{lines}
 use Rattle.idtext.proofs.OkLemmas.{unless_ok, bind_ok}
 use Rattle.accounts.specs.Laws.{IsTable}
 use Rattle.logindefs.specs.Ranges.{AreApart}
 use Rattle.logindefs.specs.declared.ranges.IdRange.{IdRange}
 use Rattle.logindefs.specs.declared.ranges.HostRanges.{HostRanges}
-use Rattle.hosts_join.specs.Accounts.{Accounts, Pair, Row, all_lines, grouped, rows_from, spots_of}
+use Rattle.hosts_join.specs.Accounts.{Accounts, Pair, Row, all_lines, grouped, rows_from}
 use Rattle.hosts_join.specs.Hosts.{IsLawfulHost}
 use Rattle.hosts_join.specs.Kinds.{user_rows, group_rows, user_rows-table, group_rows-table}
 use Rattle.hosts_join.specs.Lawful.{AreLawfulAccounts}
@@ -22,8 +22,8 @@ use Rattle.hosts_join.specs.Pairs.{number_of}
 use Rattle.hosts_join.specs.PinPairs.{PinPairs, ArePins, ArePinPairs}
 use Rattle.hosts_join.specs.PinsInside.{IsIdLine}
 use Rattle.hosts_join.specs.PinsText.{is_new_pin, may_stand, pins_fault, pins_of, pins_on}
-use Rattle.hosts_join.specs.Rules.{Clash, claims, clash, clash_of, joined, refusal, first_some, disagrees, too_small}
-use Rattle.hosts_join.specs.Site.{Joined, accounts_of, entry_on, users_of, groups_of, joined_site}
+use Rattle.hosts_join.specs.Rules.{claims, clash, clash_of, joined, refusal, first_some, disagrees}
+use Rattle.hosts_join.specs.Site.{accounts_of, entry_on, users_of, groups_of}
 use Rattle.hosts_join.specs.declared.Which.{Which}
 use Rattle.hosts_join.specs.declared.Which.TheVariants.{User, Group}
 use Rattle.hosts_join.specs.declared.host.Host.{Host}

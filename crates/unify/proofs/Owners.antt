@@ -1,9 +1,9 @@
 -- Files with owners by their host's own tables have them among the site's accounts.
-use Rattle.std.proofs.Common.{◌≡◌, ℕ, Bool, true, false, cond, List, [], ◌∷◌, ◌++◌, length, get_or, Option, Some, None, Result, Ok, Err, refl, sym, ap, subst, ◌∙◌, arith}
+use Rattle.std.proofs.Common.{◌≡◌, ℕ, Bool, true, false, cond, List, [], ◌∷◌, ◌++◌, get_or, Option, Some, None, Result, Ok, Err, refl, sym, ap, subst, ◌∙◌}
 use Rattle.std.specs.List.{All}
 use Rattle.std.specs.Option.{is_some}
 use Rattle.std.proofs.lemmas.List.Elements.{All-nil, All-cons}
-use Rattle.idtext.specs.First.{◌>>=◌, first_fault, or_else, unless}
+use Rattle.idtext.specs.First.{first_fault, or_else, unless}
 use Rattle.idtext.specs.declared.faults.TextFault.{TextFault}
 use Rattle.idtext.proofs.OkLemmas.{bind_ok, ok_same, unless_ok}
 use Rattle.mtree_inv.specs.declared.entry.Entry.{Entry}
@@ -16,7 +16,6 @@ use Rattle.hosts_join.specs.declared.host.Host.{Host}
 use Rattle.ownership.specs.Faults.{unowned, uid_fault, gid_fault}
 use Rattle.unify_texts.specs.declared.bundle_line.FileName.{FileName}
 use Rattle.unify_texts.specs.declared.bundle_line.FileName.TheVariants as file
-use Rattle.unify_texts.specs.declared.fault.Fault.{Fault}
 use Rattle.unify.specs.declared.host.Loaded.{Loaded}
 use Rattle.unify.specs.Hosts.{owner_fault, files_of}
 use Rattle.unify.specs.Told.{in_file}

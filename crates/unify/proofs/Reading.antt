@@ -1,13 +1,13 @@
 -- What was read is whole.
-use Rattle.std.proofs.Common.{◌≡◌, ◌↔◌, ℕ, zero, suc, ◌+◌, ◌≤◌, ◌||◌, Bool, true, false, cond, List, [], ◌∷◌, ◌++◌, length, map, get_or, Option, Some, None, Result, Ok, Err, refl, sym, ap, subst, ◌∙◌, arith, inl, inr, ◌==◌, nat_lt}
+use Rattle.std.proofs.Common.{◌≡◌, ℕ, suc, ◌+◌, ◌≤◌, false, List, [], ◌∷◌, length, map, get_or, Some, None, Result, Ok, Err, refl, ap, subst, ◌∙◌, arith, inl, inr, ◌==◌, nat_lt}
 use Rattle.std.specs.List.{All, slice_get}
 use Rattle.std.specs.Option.{is_some, option_map}
 use Rattle.std.proofs.lemmas.Bool.{cases_Bool, both_ways, and_from, false_from_ne_true, ltb-false}
 use Rattle.std.proofs.lemmas.List.{length-map}
 use Rattle.std.proofs.lemmas.List.Elements.{All-nil, All-append, All-map}
 use Rattle.std.proofs.lemmas.Option.{slice_get-map, slice_get-get_or}
-use Rattle.idtext.specs.First.{◌>>=◌, each, first_fault, unless}
-use Rattle.idtext.proofs.OkLemmas.{bind_ok, ok_same, unless_ok, length-each, each-ok}
+use Rattle.idtext.specs.First.{each}
+use Rattle.idtext.proofs.OkLemmas.{bind_ok, ok_same, length-each, each-ok}
 use Rattle.accounts.specs.Tables.{passwd_table, group_table}
 use Rattle.accounts.proofs.LawLemmas.{passwd-law, group-law}
 use Rattle.logindefs.specs.declared.ranges.IdRange.{IdRange}
@@ -15,12 +15,10 @@ use Rattle.logindefs.specs.declared.ranges.HostRanges.{HostRanges}
 use Rattle.logindefs.specs.Ranges.{AreApart, IsHostRanges, apart, in_range, ranges_of, share}
 use Rattle.logindefs.proofs.SetLemmas.{shared-both}
 use Rattle.mtree_inv.specs.declared.entry.Entry.{Entry}
-use Rattle.mtree_inv.specs.Inventory.{inventory}
 use Rattle.mtree_inv.proofs.LawfulLemmas.{inventory-files}
-use Rattle.hosts_join.specs.Checks.{hosts_checked, name_fault, primary_checked}
+use Rattle.hosts_join.specs.Checks.{hosts_checked, primary_checked}
 use Rattle.hosts_join.specs.Hosts.{IsLawfulHost}
 use Rattle.hosts_join.specs.Kinds.{user_at, group_at}
-use Rattle.hosts_join.specs.Laws.{KnowsHost, KnowsItsHosts}
 use Rattle.hosts_join.specs.PinPairs.{PinPairs}
 use Rattle.hosts_join.specs.PinsText.{pins_of}
 use Rattle.hosts_join.specs.Site.{Joined, joined_site}
@@ -33,8 +31,8 @@ use Rattle.ownership.specs.Files.{Added}
 use Rattle.unify_texts.specs.declared.bundle_line.FileName.TheVariants as file
 use Rattle.unify.specs.declared.host.Loaded.{Loaded}
 use Rattle.unify.specs.Count.{site_of}
-use Rattle.unify.specs.Hosts.{host_of, files_of, owner_fault}
-use Rattle.unify.specs.Laws.{HaveAccounts, IsReadHost, IsWhole, ReadSitesAreWhole, OwnersAgree}
+use Rattle.unify.specs.Hosts.{host_of, files_of}
+use Rattle.unify.specs.Laws.{IsReadHost, ReadSitesAreWhole, OwnersAgree}
 use Rattle.unify.specs.Reading.{WholeSite, added_on, added_from, site_read}
 use Rattle.unify.specs.Told.{in_file, in_site, in_pins}
 use Rattle.unify.proofs.Owners.{file_ok, files_read, owned-there, owned-here, owners-told}

@@ -1,5 +1,5 @@
 -- A site that is read, step by step.
-use Rattle.std.proofs.Common.{◌≡◌, ℕ, ◌≤◌, List, [], ◌∷◌, length, map, Result, Ok, Err, refl, sym, ap, subst, ◌∙◌}
+use Rattle.std.proofs.Common.{◌≡◌, ℕ, List, [], ◌∷◌, map, Result, Ok, Err, refl, sym, ap, subst}
 use Rattle.std.specs.List.{All}
 use Rattle.std.proofs.lemmas.List.Elements.{All-map}
 use Rattle.idtext.specs.First.{◌>>=◌, each}
@@ -18,7 +18,7 @@ use Rattle.unify_texts.specs.declared.fault.Fault.{Fault}
 use Rattle.unify.specs.declared.host.Loaded.{Loaded}
 use Rattle.unify.specs.Count.{site_of}
 use Rattle.unify.specs.Hosts.{host_of, files_of}
-use Rattle.unify.specs.Reading.{WholeSite, site_read}
+use Rattle.unify.specs.Reading.{site_read}
 use Rattle.unify.specs.Told.{in_site, in_pins}
 use Rattle.unify.proofs.Owners.{files_read}
 

@@ -10,7 +10,6 @@ use Rattle.hosts_join.specs.declared.host.Host.{Host}
 use Rattle.hosts_join.specs.declared.texts.HostText.{HostText}
 use Rattle.ownership.specs.Files.{Added}
 use Rattle.unify_texts.specs.declared.fault.Fault.{Fault}
-use Rattle.unify.specs.declared.host.Loaded.{Loaded}
 use Rattle.unify.specs.Told.{in_site, in_pins}
 use Rattle.unify.specs.Hosts.{host_of}
 use Rattle.unify.specs.Count.{site_of}

@@ -5,7 +5,6 @@ use Rattle.idtext.specs.First.{each}
 use Rattle.idtext.proofs.FirstLemmas.{each_at, each_at_fault, each_at_end}
 use Rattle.mtree_inv.proofs.FewLemmas.{inventory-few}
 use Rattle.ownership.specs.Counts.{StandsFor}
-use Rattle.ownership.specs.Files.{Added}
 use Rattle.unify_texts.specs.Told.{told}
 use Rattle.unify.specs.declared.host.Loaded.{Loaded}
 use Rattle.unify.specs.Count.{site_of}
