@@ -1,7 +1,7 @@
 //! Worked plans, read and written.
-ghost use Rattle.std.specs.Prelude.{◌≡◌, ◌≢◌, ◌≤◌, All, true, IfOk, IfSome};
+ghost use Rattle.std.specs.Prelude.{◌≡◌, ◌≤◌, All, true, length, IfSome};
 ghost use Rattle.hosts_join.specs.Hosts.{IsLawfulHost};
-ghost use Rattle.reown_plan.specs.Target.{IsOwned};
+ghost use Rattle.reown_plan.specs.Target.{IsOwned, AreForSite};
 
 use super::*;
 use accounts::{read_group, read_passwd};
@@ -10,7 +10,7 @@ use hosts_join::{Host, Pins, Site, join};
 use idtext::{LARGEST_ID, Name};
 use logindefs::read_ranges;
 use mtree_inv::{Entry, Inventory, read_inventory};
-use std::alloc::{AllocError, Global};
+use std::alloc::Global;
 use std::test::Fail;
 
 const PLAN_OF_A: &[u8] =
@@ -70,16 +70,19 @@ fn written_as_read(rt: HostRuntime) -> Result<(), Fail> {
     Ok(())
 }
 
-fn host<'a>(alloc: Global, name: &'a [u8], passwd: &'a [u8], group: &'a [u8]) -> Option<Host<'a>>
+// The passwd and the group of a host.
+type Texts<'a> = (&'a [u8], &'a [u8]);
+
+fn host<'a>(alloc: Global, name: &'a [u8], texts: Texts<'a>) -> Option<Host<'a>>
     ensures { IfSome result IsLawfulHost }
 {
     let Ok(ranges) = read_ranges(b"") else {
         return None;
     };
-    let Ok(users) = read_passwd(alloc, passwd) else {
+    let Ok(users) = read_passwd(alloc, texts.0) else {
         return None;
     };
-    let Ok(groups) = read_group(alloc, group) else {
+    let Ok(groups) = read_group(alloc, texts.1) else {
         return None;
     };
     Some(Host {
@@ -90,23 +93,23 @@ fn host<'a>(alloc: Global, name: &'a [u8], passwd: &'a [u8], group: &'a [u8]) ->
     })
 }
 
-fn one_number(alloc: Global, number: u32) -> Result<Option<Mapping>, AllocError> {
+fn one_number(alloc: Global, number: u32) -> Option<Mapping> {
     if number > LARGEST_ID {
-        return Ok(None);
+        return None;
     }
     let mut numbers = Vec::new(alloc);
-    numbers.push(number)?;
-    Ok(Some(Mapping::new(numbers)))
+    numbers.push(number).ok()?;
+    Some(Mapping::new(numbers))
 }
 
-fn two_numbers(alloc: Global, first: u32, second: u32) -> Result<Option<Mapping>, AllocError> {
+fn two_numbers(alloc: Global, first: u32, second: u32) -> Option<Mapping> {
     if first > LARGEST_ID || second > LARGEST_ID || first == second {
-        return Ok(None);
+        return None;
     }
     let mut numbers = Vec::new(alloc);
-    numbers.push(first)?;
-    numbers.push(second)?;
-    Ok(Some(Mapping::new(numbers)))
+    numbers.push(first).ok()?;
+    numbers.push(second).ok()?;
+    Some(Mapping::new(numbers))
 }
 
 fn is_owned(site: &Site<'_>, host: u32, entry: &Entry) -> bool
@@ -126,108 +129,122 @@ fn are_owned(site: &Site<'_>, host: u32, inventory: &Inventory) -> bool
     true
 }
 
-// What is written for the second of two hosts: its plan, the same entry by entry, and how many records that has.
-#[derive(Drop)]
-struct Written {
-    whole: Vec<u8>,
-    pushed: Vec<u8>,
-    records: u32,
+fn are_for(site: &Site<'_>, users: &Mapping, groups: &Mapping) -> bool
+    ensures { result ≡ true → AreForSite site.now users.now groups.now }
+{
+    users.len() == site.users().len() as usize && groups.len() == site.groups().len() as usize
 }
 
-// The plan of the second host, where the numbers are for its site and its files have owners.
-fn plan_of_second(
+// The plan of the host b, entry by entry.
+fn pushed(
     alloc: Global,
-    first: Host<'_>,
-    second: Host<'_>,
+    site: &Site<'_>,
+    users: &Mapping,
+    groups: &Mapping,
+    inventory: &Inventory,
+) -> Option<Vec<u8>>
+    requires { AreForSite site.now users.now groups.now }
+{
+    let mut text = Vec::new(alloc);
+    push_plan_head(&mut text, b"b").ok()?;
+    for entry in inventory.entries() {
+        if is_owned(site, 1, entry) {
+            let before = text.len();
+            let appended = push_plan_entry(&mut text, 1, site, users, groups, entry).ok()?;
+            if appended != (text.len() > before) {
+                return None;
+            }
+        }
+    }
+    push_plan_end(&mut text).ok()?;
+    Some(text)
+}
+
+// The plan of the host b, where it is the same entry by entry.
+fn plan_of_b(
+    alloc: Global,
+    hosts: &[Host<'_>],
+    site: &Site<'_>,
+    users: &Mapping,
+    groups: &Mapping,
+    inventory: &Inventory,
+) -> Option<Vec<u8>> {
+    if hosts.len() < 2 || !are_for(site, users, groups) || !are_owned(site, 1, inventory) {
+        return None;
+    }
+    let Ok(whole) = plan_text(alloc, 1, hosts, site, users, groups, inventory) else {
+        return None;
+    };
+    let pushed = pushed(alloc, site, users, groups, inventory)?;
+    if whole.as_slice() == pushed.as_slice() {
+        Some(whole)
+    } else {
+        None
+    }
+}
+
+fn joined<'a>(alloc: Global, hosts: &[Host<'a>]) -> Option<Site<'a>>
+    requires few { length hosts.now ≤ 64 }
+    requires lawful { All IsLawfulHost hosts.now }
+{
+    let Ok(pins) = Pins::read(alloc, b"") else {
+        return None;
+    };
+    let Ok(site) = join(alloc, hosts, &pins) else {
+        return None;
+    };
+    Some(site)
+}
+
+// The plan of the host b beside the host a.
+fn planned(
+    alloc: Global,
+    a: Texts<'_>,
+    b: Texts<'_>,
     users: &Mapping,
     groups: &Mapping,
     mtree: &[u8],
-) -> Result<Option<Written>, AllocError>
-    requires first { IsLawfulHost first }
-    requires second { IsLawfulHost second }
-{
-    let name = second.name.bytes();
-    let hosts = [first, second];
-    let Ok(pins) = Pins::read(alloc, b"") else {
-        return Ok(None);
-    };
-    let Ok(site) = join(alloc, &hosts, &pins) else {
-        return Ok(None);
-    };
+) -> Option<Vec<u8>> {
+    let hosts = [host(alloc, b"a", a)?, host(alloc, b"b", b)?];
+    let site = joined(alloc, &hosts)?;
     let Ok(inventory) = read_inventory(alloc, mtree, 9) else {
-        return Ok(None);
+        return None;
     };
-    if users.len() != site.users().len() as usize || groups.len() != site.groups().len() as usize {
-        return Ok(None);
-    }
-    if !are_owned(&site, 1, &inventory) {
-        return Ok(None);
-    }
-    let whole = plan_text(alloc, 1, &hosts, &site, users, groups, &inventory)?;
-    let mut pushed = Vec::new(alloc);
-    let mut records: u32 = 0;
-    push_plan_head(&mut pushed, name)?;
-    for entry in inventory.entries() {
-        if is_owned(&site, 1, entry)
-            && push_plan_entry(&mut pushed, 1, &site, users, groups, entry)?
-        {
-            records = records.saturating_add(1);
-        }
-    }
-    push_plan_end(&mut pushed)?;
-    Ok(Some(Written {
-        whole,
-        pushed,
-        records,
-    }))
+    plan_of_b(alloc, &hosts, &site, users, groups, &inventory)
 }
 
-#[test]
-fn two_names_one_number(rt: HostRuntime) -> Result<(), Fail> {
-    let alloc = rt.alloc();
-    let group = b"users:x:100:\n";
-    let a = host(alloc, b"a", b"alice:x:1001:100:::\n", group);
-    let b = host(alloc, b"b", b"bob:x:1001:100:::\n", group);
+fn two_names(alloc: Global) -> Option<Vec<u8>> {
+    let group = b"users:x:100:\n".as_slice();
+    let a = (b"alice:x:1001:100:::\n".as_slice(), group);
+    let b = (b"bob:x:1001:100:::\n".as_slice(), group);
     let users = two_numbers(alloc, 1001, 1000)?;
     let groups = one_number(alloc, 100)?;
-    let (Some(a), Some(b), Some(users), Some(groups)) = (a, b, users, groups) else {
-        assert!(rt; false);
-        return Ok(());
-    };
     let mtree = b"bob1 uid=1001 gid=100\nbob2 uid=1001 gid=100\n";
-    let Some(written) = plan_of_second(alloc, a, b, &users, &groups, mtree)? else {
-        assert!(rt; false);
-        return Ok(());
-    };
-    let wanted =
-        b"unify plan 1 b\n1001 100 1000 100 4 bob1\n1001 100 1000 100 4 bob2\nend\n".as_slice();
-    assert_eq!(rt; written.whole.as_slice(), wanted);
-    assert_eq!(rt; written.pushed.as_slice(), wanted);
-    assert_eq!(rt; written.records, 2);
-    Ok(())
+    planned(alloc, a, b, &users, &groups, mtree)
 }
 
-// A file whose group alone gets another number has a record, and a file that keeps both has none.
-#[test]
-fn group_alone(rt: HostRuntime) -> Result<(), Fail> {
-    let alloc = rt.alloc();
-    let passwd = b"alice:x:1001:100:::\n";
-    let a = host(alloc, b"a", passwd, b"users:x:100:\n");
-    let b = host(alloc, b"b", passwd, b"users:x:100:\nstaff:x:1001:\n");
+fn two_groups(alloc: Global) -> Option<Vec<u8>> {
+    let passwd = b"alice:x:1001:100:::\n".as_slice();
+    let a = (passwd, b"users:x:100:\n".as_slice());
+    let b = (passwd, b"users:x:100:\nstaff:x:1001:\n".as_slice());
     let users = one_number(alloc, 1001)?;
     let groups = two_numbers(alloc, 100, 1000)?;
-    let (Some(a), Some(b), Some(users), Some(groups)) = (a, b, users, groups) else {
-        assert!(rt; false);
-        return Ok(());
-    };
     let mtree = b"notes uid=1001 gid=100\nshared uid=1001 gid=1001\n";
-    let Some(written) = plan_of_second(alloc, a, b, &users, &groups, mtree)? else {
-        assert!(rt; false);
-        return Ok(());
-    };
+    planned(alloc, a, b, &users, &groups, mtree)
+}
+
+#[test]
+fn two_names_one_number(rt: HostRuntime) {
+    let wanted =
+        b"unify plan 1 b\n1001 100 1000 100 4 bob1\n1001 100 1000 100 4 bob2\nend\n".as_slice();
+    let plan = two_names(rt.alloc());
+    assert!(rt; plan.is_some_and(|text| text.as_slice() == wanted));
+}
+
+// A file whose group alone gets another number has a record, and a file that keeps both numbers has none.
+#[test]
+fn group_alone(rt: HostRuntime) {
     let wanted = b"unify plan 1 b\n1001 1001 1001 1000 6 shared\nend\n".as_slice();
-    assert_eq!(rt; written.whole.as_slice(), wanted);
-    assert_eq!(rt; written.pushed.as_slice(), wanted);
-    assert_eq!(rt; written.records, 1);
-    Ok(())
+    let plan = two_groups(rt.alloc());
+    assert!(rt; plan.is_some_and(|text| text.as_slice() == wanted));
 }
