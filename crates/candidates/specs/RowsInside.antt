@@ -1,0 +1,7 @@
+-- What rows stand for.
+use Rattle.std.specs.Prelude.{map}
+use Rattle.candidates.specs.Rows.{Choices}
+use Rattle.candidates.specs.declared.Rows.TheInside.{Inside}
+
+abbrev pub choices_of : Inside → Choices
+choices_of r = record { accounts = r.names.now; rows = map (λ s. s.items) r.rows.items }
