@@ -13,7 +13,7 @@ use Rattle.candidates.specs.declared.Candidate.{Candidate}
 use Rattle.candidates.specs.Rows.{weight_in, row_at}
 use Rattle.ownership.specs.Mappings.{AreDistinct}
 use Rattle.ownership.specs.Potentials.{value_at}
-use Rattle.assignment.specs.Solutions.{AscendsByNumber}
+use Rattle.ownership.specs.Potentials.{AscendsByNumber}
 use Rattle.assignment.proofs.Sums.{over, listed_weight}
 
 -- ---- sums over a mapping

@@ -1,9 +1,9 @@
 -- What a solver answers: a mapping, with potentials that certify it in the rows.
-use Rattle.std.specs.Prelude.{◌≡◌, ℕ, ◌+◌, ◌<◌, ◌≤◌, ◌^◌, true, List, length, slice_index_or}
+use Rattle.std.specs.Prelude.{◌≡◌, ℕ, ◌+◌, ◌<◌, ◌≤◌, ◌^◌, true, List, length}
 use Rattle.std.specs.List.{All}
 use Rattle.hosts_join.specs.Rules.{class_at, is_free_class}
 use Rattle.ownership.specs.Mappings.{number_at, IsAdmissible}
-use Rattle.ownership.specs.Potentials.{potential_at, value_at, potential_sum}
+use Rattle.ownership.specs.Potentials.{AscendsByNumber, IsZ, potential_at, value_at, potential_sum}
 use Rattle.ownership.specs.Sums.{sum_below}
 use Rattle.candidates.specs.Rows.{Choices, row_at, weight_in}
 
@@ -18,16 +18,6 @@ total_weight c m = sum_below (λ i. row_weight c i (number_at m i)) (length c.ro
 -- y and z cover every name with every number
 abbrev pub Cover : Choices → List ℕ → List (ℕ × ℕ) → Type 0
 Cover c y z = (i v : ℕ) → i < length c.rows → row_weight c i v ≤ potential_at y i + value_at z v
-
--- each number of z is larger than those before it
-abbrev pub AscendsByNumber : List (ℕ × ℕ) → Type 0
-AscendsByNumber z = (i j : ℕ) (d : ℕ × ℕ) → i < j → j < length z → (slice_index_or z i d).0 < (slice_index_or z j d).0
-
--- a number that an account may have, with a potential that is not 0
-pub record IsZ (e : ℕ × ℕ) : Type 0 where
-  pub number : e.0 ≤ 4294967294
-  pub positive : 1 ≤ e.1
-  pub fits : e.1 < 2 ^ 64
 
 -- The potentials certify the mapping in the rows: they cover, and all of them together are what the mapping weighs.
 pub record Proves (c : Choices) (m y : List ℕ) (z : List (ℕ × ℕ)) : Type 0 where

@@ -15,7 +15,8 @@ use Rattle.idtext.specs.Faults.{line_number}
 use Rattle.certcheck.proofs.Least.{none_both}
 use Rattle.hosts_join.specs.declared.Which.{Which}
 use Rattle.hosts_join.specs.declared.Which.TheVariants.{User, Group}
-use Rattle.certcheck.specs.Certificate.{Row, AreAscending, AscendsByNumber, ComesBefore, IsRow, IsZ, Side, IsSide}
+use Rattle.ownership.specs.Potentials.{AscendsByNumber, IsZ}
+use Rattle.certcheck.specs.Certificate.{Row, AreAscending, ComesBefore, IsRow, Side, IsSide}
 use Rattle.std.specs.Fmt.{decimal}
 use Rattle.std.specs.Str.{bytes_eq}
 use Rattle.std.specs.Str.Parse.{digits_value}

@@ -17,7 +17,8 @@ use Rattle.hosts_join.specs.declared.Which.TheVariants.{User, Group}
 use Rattle.idtext.specs.Names.{is_lawful_name, is_separator}
 use Rattle.idtext.specs.Pieces.{begins_with}
 use Rattle.idtext.specs.Spaces.{cut_at_last_space, cut_here}
-use Rattle.certcheck.specs.Certificate.{Row, IsRow, IsZ}
+use Rattle.ownership.specs.Potentials.{IsZ}
+use Rattle.certcheck.specs.Certificate.{Row, IsRow}
 use Rattle.certcheck.specs.Reading.{Item, Head, RowItem, ZItem, End, spelled_number, row_of_parts, row_in, z_of_parts, z_in, row_item, z_item, item_of}
 use Rattle.certcheck.proofs.Growing.{IsLawfulItem}
 

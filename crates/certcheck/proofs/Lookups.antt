@@ -6,10 +6,10 @@ use Rattle.std.proofs.lemmas.Slice.Eq.{bytes_eq-Decides}
 use Rattle.std.proofs.lemmas.List.{get_or-map, get_or_default}
 use Rattle.std.proofs.lemmas.Bool.{cond-true, cond-false, eq-eqb, ne_eqb, cases_lt}
 use Rattle.certcheck.specs.declared.certificate.CertRow.{CertRow}
-use Rattle.certcheck.specs.Certificate.{Row, AreAscending, ComesBefore, AscendsByNumber}
+use Rattle.certcheck.specs.Certificate.{Row, AreAscending, ComesBefore}
 use Rattle.certcheck.specs.Views.{row_of, rows_of}
 use Rattle.certcheck.specs.Check.{row_named}
-use Rattle.ownership.specs.Potentials.{value_at}
+use Rattle.ownership.specs.Potentials.{AscendsByNumber, value_at}
 use Rattle.certcheck.proofs.Order.{eq_before, eq_after, before_trans}
 
 -- the first that passes

@@ -16,7 +16,8 @@ use Rattle.hosts_join.specs.Accounts.{Account, Accounts, nobody}
 use Rattle.hosts_join.specs.Rules.{account, is_name}
 use Rattle.hosts_join.specs.Lawful.{AreLawfulAccounts}
 use Rattle.certcheck.specs.declared.certificate.CertRow.{CertRow}
-use Rattle.certcheck.specs.Certificate.{Row, IsRow, IsSide, AreAscending, AscendsByNumber, AreAllZ, ComesBefore}
+use Rattle.ownership.specs.Potentials.{AscendsByNumber, IsZ}
+use Rattle.certcheck.specs.Certificate.{Row, IsRow, IsSide, AreAscending, ComesBefore}
 use Rattle.certcheck.specs.Views.{row_of, rows_of}
 use Rattle.certcheck.specs.Check.{is_listed, number_named, y_named}
 use Rattle.certcheck.specs.Made.{AreSolving, AreRowsOf, IsSideOf}
@@ -124,7 +125,7 @@ made_side a mapping ys zs us ss z are sol of perm sorted ez =
     let exact : (m : List ℕ) → is_name a.names m ≡ is_listed (rows_of ss) m = λ m. same_listed a mapping ys (rows_of us) m of ∙ list_any-IsPermutation (λ (r : Row). bytes_eq m r.name) (rows_of us) (rows_of ss) perm' in
     let says = All-permutation (Says a mapping ys) (rows_of us) (rows_of ss) perm' (all_say a mapping ys (rows_of us) are of) in
     let P : List (ℕ × ℕ) → Type 0 = λ y. AscendsByNumber y in
-    let Q : List (ℕ × ℕ) → Type 0 = λ y. AreAllZ y in (
+    let Q : List (ℕ × ℕ) → Type 0 = λ y. All IsZ y in (
       record {
         names_ascend = up;
         numbers_ascend = subst P (sym ez) sol.z_ascends;

@@ -11,7 +11,8 @@ use Rattle.idtext.specs.First.{first_fault, or_else, unless}
 use Rattle.idtext.specs.Pieces.{lines}
 use Rattle.hosts_join.specs.declared.Which.{Which}
 use Rattle.hosts_join.specs.declared.Which.TheVariants.{User, Group}
-use Rattle.certcheck.specs.Certificate.{Row, IsRow, IsZ, IsSide, Side}
+use Rattle.ownership.specs.Potentials.{IsZ}
+use Rattle.certcheck.specs.Certificate.{Row, IsRow, IsSide, Side}
 use Rattle.certcheck.specs.declared.certificate.Certificate.{Certificate}
 use Rattle.certcheck.specs.Laws.{IsCertificate, NoneBeginsAnother, ReadsWhatIsSpelled, SpelledIsRead}
 use Rattle.certcheck.specs.Reading.{Item, Head, RowItem, ZItem, End, certificate_in, end_fault, is_cut, is_end, item_before, item_of, last_line, line_fault, may_follow, rows_in, all_z_in, side_in}

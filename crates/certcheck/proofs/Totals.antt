@@ -1,16 +1,17 @@
 -- Sums over the indices of the names, one more index at a time.
 use Rattle.std.proofs.Common.{◌≡◌, ℕ, zero, suc, ◌+◌, ◌-◌, ◌<◌, ◌≤◌, true, false, cond, List, [], ◌∷◌, length, get_or, refl, sym, ap, ◌∙◌, arith}
+use Rattle.std.specs.List.{All}
 use Rattle.std.proofs.lemmas.List.{get_or-map}
 use Rattle.std.proofs.lemmas.Bool.{cond-true, cond-false}
 use Rattle.hosts_join.specs.Accounts.{Account, Accounts, nobody}
 use Rattle.hosts_join.specs.Rules.{account, class_at, is_free_class}
 use Rattle.ownership.specs.Counts.{Tally, told_kept, told_total}
 use Rattle.ownership.specs.Mappings.{number_at}
-use Rattle.ownership.specs.Potentials.{potential_at}
+use Rattle.ownership.specs.Potentials.{AscendsByNumber, IsZ, potential_at}
 use Rattle.ownership.specs.Sums.{sum_below}
 use Rattle.ownership.specs.Weights.{told_weight}
 use Rattle.ownership.proofs.SumsBelow.{sum_below_more}
-use Rattle.certcheck.specs.Certificate.{Row, AscendsByNumber, AreAllZ}
+use Rattle.certcheck.specs.Certificate.{Row}
 use Rattle.certcheck.specs.Check.{number_named, y_named, mapping_of, potentials_of}
 
 pub mapping_at : (a : Accounts) (rows : List Row) (i : ℕ) → i < length a.names → number_at (mapping_of a rows) i ≡ number_named rows (account a i).name
@@ -54,7 +55,7 @@ number_high z up (suc i) l =
     let more : (get_or z i (0, 0)).0 < (get_or z (suc i) (0, 0)).0 = up i (suc i) (0, 0) (omega arith) l in
     omega (arith, before, more)
 
-pub z_short : (z : List (ℕ × ℕ)) → AscendsByNumber z → AreAllZ z → length z ≤ 4294967295
+pub z_short : (z : List (ℕ × ℕ)) → AscendsByNumber z → All IsZ z → length z ≤ 4294967295
 z_short [] up lawful = omega arith
 z_short (e ∷ es) up lawful =
     let last : length es ≤ (get_or (e ∷ es) (length es) (0, 0)).0 = number_high (e ∷ es) up (length es) (omega arith) in

@@ -8,7 +8,8 @@ use Rattle.std.proofs.lemmas.List.Concat.{flat_map-cons}
 use Rattle.std.proofs.lemmas.Option.{none-some, same_Some}
 use Rattle.hosts_join.specs.declared.Which.{Which}
 use Rattle.hosts_join.specs.declared.Which.TheVariants.{User, Group}
-use Rattle.certcheck.specs.Certificate.{Row, AreAscending, AscendsByNumber, Side}
+use Rattle.ownership.specs.Potentials.{AscendsByNumber}
+use Rattle.certcheck.specs.Certificate.{Row, AreAscending, Side}
 use Rattle.certcheck.specs.declared.certificate.Certificate.{Certificate}
 use Rattle.certcheck.specs.Reading.{Item, Head, RowItem, ZItem, End, rank, ascends, may_follow, rows_in, all_z_in}
 use Rattle.certcheck.proofs.Growing.{follows_says, follows_above, follows_level}

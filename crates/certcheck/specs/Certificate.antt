@@ -5,6 +5,7 @@ use Rattle.std.specs.Ordering.{nat_cmp}
 use Rattle.std.specs.Cmp.Lexicographic.{slice_cmp}
 use Rattle.std.specs.List.{All}
 use Rattle.idtext.specs.Names.{is_lawful_name}
+use Rattle.ownership.specs.Potentials.{AscendsByNumber, IsZ}
 
 pub record Row : Type 0 where
   pub name : List ℕ
@@ -23,25 +24,14 @@ ComesBefore n m = slice_cmp nat_cmp n m ≡ Less
 abbrev pub AreAscending : List Row → Type 0
 AreAscending rows = (i j : ℕ) (d : Row) → i < j → j < length rows → ComesBefore (slice_index_or rows i d).name (slice_index_or rows j d).name
 
-abbrev pub AscendsByNumber : List (ℕ × ℕ) → Type 0
-AscendsByNumber z = (i j : ℕ) (d : ℕ × ℕ) → i < j → j < length z → (slice_index_or z i d).0 < (slice_index_or z j d).0
-
 pub record IsRow (r : Row) : Type 0 where
   pub lawful : is_lawful_name r.name ≡ true
   pub number : r.number ≤ 4294967294
   pub y : r.y < 2 ^ 64
-
-pub record IsZ (e : ℕ × ℕ) : Type 0 where
-  pub number : e.0 ≤ 4294967294
-  pub positive : 1 ≤ e.1
-  pub fits : e.1 < 2 ^ 64
-
-abbrev pub AreAllZ : List (ℕ × ℕ) → Type 0
-AreAllZ z = All IsZ z
 
 -- names ascend, numbers with a z ascend, and each z is at least 1
 pub record IsSide (s : Side) : Type 0 where
   pub names_ascend : AreAscending s.rows
   pub numbers_ascend : AscendsByNumber s.z
   pub rows_lawful : All IsRow s.rows
-  pub z_lawful : AreAllZ s.z
+  pub z_lawful : All IsZ s.z

@@ -4,8 +4,8 @@ use Rattle.std.specs.List.{All}
 use Rattle.hosts_join.specs.Accounts.{Accounts}
 use Rattle.hosts_join.specs.Rules.{account, is_name}
 use Rattle.ownership.specs.Mappings.{number_at}
-use Rattle.ownership.specs.Potentials.{potential_at}
-use Rattle.certcheck.specs.Certificate.{Row, Side, AscendsByNumber, AreAllZ}
+use Rattle.ownership.specs.Potentials.{AscendsByNumber, IsZ, potential_at}
+use Rattle.certcheck.specs.Certificate.{Row, Side}
 use Rattle.certcheck.specs.Check.{is_listed, mapping_of, potentials_of}
 
 -- a number and a y for each name, and z that ascend
@@ -15,7 +15,7 @@ pub record AreSolving (a : Accounts) (m y : List ℕ) (z : List (ℕ × ℕ)) : 
   pub ys : length y ≡ length a.names
   pub fits : All (λ n. n < 2 ^ 64) y
   pub z_ascends : AscendsByNumber z
-  pub z_lawful : AreAllZ z
+  pub z_lawful : All IsZ z
 
 -- the rows, by the index of their names
 pub record AreRowsOf (a : Accounts) (m y : List ℕ) (rows : List Row) : Type 0 where

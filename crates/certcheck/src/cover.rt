@@ -4,7 +4,7 @@ ghost use Rattle.std.specs.Option.{option_map};
 ghost use Rattle.hosts_join.specs.Accounts.{place_of};
 ghost use Rattle.ownership.specs.Counts.{AreMadeFor};
 ghost use Rattle.ownership.specs.Weights.{told_weight};
-ghost use Rattle.certcheck.specs.Certificate.{AscendsByNumber};
+ghost use Rattle.ownership.specs.Potentials.{AscendsByNumber};
 ghost use Rattle.certcheck.specs.Views.{rows_of, row_of};
 ghost use Rattle.certcheck.specs.Told.{pair_of};
 ghost use Rattle.certcheck.specs.Check as spec;

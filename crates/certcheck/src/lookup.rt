@@ -1,11 +1,11 @@
 //! Look-ups by name and by number.
 ghost use Rattle.std.specs.Prelude.{◌≡◌, ◌<◌, IfSome, length};
 ghost use Rattle.std.specs.Option.{option_map};
-ghost use Rattle.certcheck.specs.Certificate.{AreAscending, AscendsByNumber};
+ghost use Rattle.certcheck.specs.Certificate.{AreAscending};
 ghost use Rattle.certcheck.specs.Views.{row_of, rows_of};
 ghost use Rattle.certcheck.specs.Check.{row_named};
 ghost use Rattle.hosts_join.specs.Accounts.{place_of};
-ghost use Rattle.ownership.specs.Potentials.{value_at};
+ghost use Rattle.ownership.specs.Potentials.{AscendsByNumber, value_at};
 
 use crate::CertRow;
 use hosts_join::Names;

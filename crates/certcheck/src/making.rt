@@ -8,6 +8,7 @@ ghost use Rattle.certcheck.specs.Made.{AreRowsOf, AreSolving, IsSideOf};
 ghost use Rattle.certcheck.specs.Views.{rows_of};
 
 use crate::{CertRow, Side};
+use assignment::Solution;
 use hosts_join::Names;
 use std::alloc::{AllocError, Global};
 
@@ -59,4 +60,23 @@ pub fn side_of<'a>(
     sort_rows(&mut rows);
     let z = Vec::from_slice(alloc, z)?;
     Ok(Side::new(rows, z))
+}
+
+/// The side that a solution gives: each name with its number and its potential y, ascending by name, and the potentials z of
+/// numbers. What `solve` gives for the names is what is asked. Cost and refusal are those of `side_of`.
+pub fn certificate_of<'a>(
+    alloc: Global,
+    names: &Names<'a>,
+    solution: &Solution,
+) -> Result<Side<'a>, AllocError>
+    requires { AreSolving names.now solution.now.mapping solution.now.y.items solution.now.z.items }
+    ensures { IfOk result (IsSideOf names.now solution.now.mapping solution.now.y.items solution.now.z.items) }
+{
+    side_of(
+        alloc,
+        names,
+        solution.mapping.numbers(),
+        solution.y.as_slice(),
+        solution.z.as_slice(),
+    )
 }

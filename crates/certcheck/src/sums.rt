@@ -1,7 +1,9 @@
 //! The sums of a certificate.
 ghost use Rattle.std.specs.Prelude.{◌≡◌, ◌<◌, ◌^◌, sum, sum_by};
+ghost use Rattle.std.specs.List.{All};
 ghost use Rattle.ownership.specs.Counts.{AreMadeFor};
-ghost use Rattle.certcheck.specs.Certificate.{AreAscending, AscendsByNumber, AreAllZ};
+ghost use Rattle.ownership.specs.Potentials.{AscendsByNumber, IsZ};
+ghost use Rattle.certcheck.specs.Certificate.{AreAscending};
 ghost use Rattle.certcheck.specs.Views.{rows_of};
 ghost use Rattle.certcheck.specs.Check.{AreBounded, number_named, y_named, mapping_of, potentials_of, told_cost, told_free_weight};
 
@@ -50,7 +52,7 @@ pub fn y_sum(names: &Names<'_>, rows: &[CertRow<'_>]) -> u128
 /// All z together.
 pub fn z_sum(z: &[(u32, u64)]) -> u128
     requires ascending { AscendsByNumber z.now }
-    requires lawful { AreAllZ z.now }
+    requires lawful { All IsZ z.now }
     ensures sum { result ≡ sum_by (λ e. e.1) z.now }
     ensures small { result < 2 ^ 97 }
 {
