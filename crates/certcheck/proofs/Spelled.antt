@@ -1,28 +1,27 @@
 -- What is read from a text is spelled by it, and what is spelled is read.
-use Rattle.std.proofs.Common.{◌≡◌, ℕ, zero, suc, ◌+◌, ◌<◌, ◌≤◌, ◌==◌, ◌||◌, min, Bool, true, false, cond, codes, List, [], ◌∷◌, ◌++◌, map, length, get_or, Option, Some, None, Result, Ok, Err, refl, sym, ap, ◌∙◌, ⊎_elim, arith, subst, append_assoc, append-nil}
-use Rattle.std.specs.List.{All, list_any, flat_map}
-use Rattle.std.specs.Fmt.{decimal}
-use Rattle.std.proofs.lemmas.Bool.{cases_Bool, cond-true, cond-false, false≢true}
-use Rattle.std.proofs.lemmas.List.Concat.{flat_map-append, flat_map-cons}
+use Rattle.std.proofs.Common.{◌≡◌, ℕ, ◌<◌, min, Bool, true, false, cond, codes, List, [], ◌∷◌, ◌++◌, map, length, Option, Some, None, Result, Ok, refl, sym, ap, ◌∙◌, arith, subst, append_assoc, append-nil}
+use Rattle.std.specs.List.{All, flat_map}
+use Rattle.std.proofs.lemmas.Bool.{cond-true, false≢true}
+use Rattle.std.proofs.lemmas.List.Concat.{flat_map-append}
 use Rattle.std.proofs.lemmas.List.Elements.{All-head, All-tail}
-use Rattle.std.proofs.lemmas.Option.{none-some, same_Some}
+use Rattle.std.proofs.lemmas.Option.{none-some}
 use Rattle.idtext.specs.Faults.{line_number}
 use Rattle.idtext.specs.First.{first_fault, or_else, unless}
 use Rattle.idtext.specs.Pieces.{lines}
 use Rattle.hosts_join.specs.declared.Which.{Which}
 use Rattle.hosts_join.specs.declared.Which.TheVariants.{User, Group}
 use Rattle.ownership.specs.Potentials.{IsZ}
-use Rattle.certcheck.specs.Certificate.{Row, IsRow, IsSide, Side}
+use Rattle.certcheck.specs.Certificate.{Row, IsRow, Side}
 use Rattle.certcheck.specs.declared.certificate.Certificate.{Certificate}
 use Rattle.certcheck.specs.Laws.{IsCertificate, NoneBeginsAnother, ReadsWhatIsSpelled, SpelledIsRead}
-use Rattle.certcheck.specs.Reading.{Item, Head, RowItem, ZItem, End, certificate_in, end_fault, is_cut, is_end, item_before, item_of, last_line, line_fault, may_follow, rows_in, all_z_in, side_in}
+use Rattle.certcheck.specs.Reading.{Item, Head, RowItem, ZItem, End, certificate_in, end_fault, is_cut, is_end, item_before, item_of, line_fault, may_follow, rows_in, all_z_in, side_in}
 use Rattle.certcheck.specs.Spelling.{row_line, side_text, spelling, z_line}
 use Rattle.certcheck.proofs.Growing.{IsLawfulItem, item_push, line_fine, lines_give_side, no_item}
 use Rattle.certcheck.proofs.ItemLines.{item_line, line_plain, line_reads, line_says, row_text, z_text}
 use Rattle.certcheck.proofs.Least.{none_both}
 use Rattle.certcheck.proofs.TextLines.{ArePlain, cut_back, ended, lines_front, lines_whole, text_of_lines}
 use Rattle.certcheck.proofs.Turns.{Chain, given_by, items_chain, items_of, last_item, whole_chain}
-use Rattle.certcheck.proofs.WholeText.{ended_read, line_refused}
+use Rattle.certcheck.proofs.WholeText.{ended_read}
 
 -- 1. Lines and what they say
 
@@ -182,12 +181,13 @@ reads_what_is_spelled text c h =
     let says = fine_says [] (lines text) read.fine in
     let last : last_item says.items ≡ Some End = sym (said_last (lines text) says.items says.said) ∙ read.ends in
     let same : given_by says.items ≡ c =
-        sym (ap (λ s. record { users = s; groups = side_in Group (lines text) }) (said_side User (lines text) says.items says.said)
-        ∙ ap (λ s. record { users = record { rows = flat_map (λ i. rows_in User (Some i)) says.items; z = flat_map (λ i. all_z_in User (Some i)) says.items }; groups = s }) (said_side Group (lines text) says.items says.said)) ∙ read.value
+    sym (ap (λ s. record { users = s; groups = side_in Group (lines text) }) (said_side User (lines text) says.items says.said)
+    ∙ ap (λ s. record { users = record { rows = flat_map (λ i. rows_in User (Some i)) says.items; z = flat_map (λ i. all_z_in User (Some i)) says.items }; groups = s }) (said_side Group (lines text) says.items says.said)) ∙ read.value
     in
-    let P : Certificate → Type 0 = λ x. IsCertificate x in
-    (subst P read.value (record { users = lines_give_side User (lines text) read.fine; groups = lines_give_side Group (lines text) read.fine }),
-    text_of_lines text read.whole ∙ ap (flat_map ended) (said_lines (lines text) says.items says.said) ∙ mapped says.items ∙ ap (flat_map item_text) (whole_chain says.items says.chain last ∙ ap items_of same) ∙ sym (spelled_lines c))
+    let P : Certificate → Type 0 = λ x. IsCertificate x in (
+      subst P read.value (record { users = lines_give_side User (lines text) read.fine; groups = lines_give_side Group (lines text) read.fine }),
+      text_of_lines text read.whole ∙ ap (flat_map ended) (said_lines (lines text) says.items says.said) ∙ mapped says.items ∙ ap (flat_map item_text) (whole_chain says.items says.chain last ∙ ap items_of same) ∙ sym (spelled_lines c),
+    )
 
 -- 4. What is spelled is read
 

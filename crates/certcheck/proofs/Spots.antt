@@ -1,12 +1,12 @@
 -- A number with weight is one that the name has on some host.
-use Rattle.std.proofs.Common.{◌≡◌, ℕ, zero, suc, ◌+◌, ◌*◌, ◌<◌, ◌≤◌, Bool, true, false, ◌||◌, cond, eqb, List, [], ◌∷◌, length, get_or, Option, Some, None, refl, sym, ap, ◌∙◌, ⊎_elim, arith}
+use Rattle.std.proofs.Common.{◌≡◌, ℕ, zero, suc, ◌*◌, ◌<◌, ◌≤◌, Bool, true, false, ◌||◌, cond, eqb, List, [], ◌∷◌, length, get_or, Option, Some, None, refl, sym, ap, ◌∙◌, ⊎_elim, arith}
 use Rattle.std.specs.Option.{option_map, IfSome}
 use Rattle.std.specs.List.{count_by, find, list_any}
 use Rattle.std.proofs.lemmas.List.Sums.{sum_by-cons, get_or-le-sum_by}
 use Rattle.std.proofs.lemmas.Bool.{cases_Bool, cases_lt, cond-true, cond-false, eqb-true, eq-eqb, false≢true}
 use Rattle.hosts_join.specs.declared.Spot.{Spot}
 use Rattle.hosts_join.specs.declared.Standing.TheVariants.{Regular}
-use Rattle.hosts_join.specs.Accounts.{Accounts, place, lines}
+use Rattle.hosts_join.specs.Accounts.{Accounts, place}
 use Rattle.hosts_join.specs.Rules.{account}
 use Rattle.ownership.specs.Counts.{Tally, AreMadeFor, count_in, has_cell, tally_at, told_kept}
 use Rattle.ownership.specs.Weights.{file_weight, told_weight}

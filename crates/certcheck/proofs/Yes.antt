@@ -1,5 +1,5 @@
 -- What a yes proves of the files that the counters stand for.
-use Rattle.std.proofs.Common.{◌≡◌, ℕ, ◌+◌, ◌*◌, ◌-◌, ◌<◌, ◌≤◌, cond, List, length, Option, Some, None, Result, Ok, Err, refl, sym, ap, ◌∙◌, arith, subst}
+use Rattle.std.proofs.Common.{◌≡◌, ℕ, ◌+◌, ◌*◌, ◌-◌, ◌<◌, cond, List, length, Option, Some, None, Result, Ok, Err, sym, ap, ◌∙◌, arith, subst}
 use Rattle.std.specs.Prelude.{IfSome, IfErr}
 use Rattle.std.specs.Result.{IsErrAnd}
 use Rattle.hosts_join.specs.declared.Which.{Which}
@@ -8,11 +8,10 @@ use Rattle.hosts_join.specs.Accounts.{Accounts, lines}
 use Rattle.hosts_join.specs.Lawful.{AreLawfulAccounts}
 use Rattle.hosts_join.specs.Rules.{account, class_at, is_free_class}
 use Rattle.hosts_join.specs.Site.{Joined}
-use Rattle.ownership.specs.Costs.{AreLeast, IsOptimal, cost_of, site_cost}
+use Rattle.ownership.specs.Costs.{IsOptimal, cost_of, site_cost}
 use Rattle.ownership.specs.Counts.{AreWithin, Counted, CountFiles, StandsFor, Tally, told_kept, told_total}
 use Rattle.ownership.specs.Files.{Added, File, by_group, by_user, kept, total}
-use Rattle.ownership.specs.Mappings.{Mappings, number_at}
-use Rattle.ownership.specs.Sums.{sum_below}
+use Rattle.ownership.specs.Mappings.{number_at}
 use Rattle.ownership.specs.Weights.{file_weight, free_weight, told_weight, weight}
 use Rattle.ownership.proofs.CostLemmas.{cost-by-names, kept-le-total}
 use Rattle.ownership.proofs.Optimal.{certified_is_optimal}

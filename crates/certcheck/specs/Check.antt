@@ -1,5 +1,5 @@
 -- Why a certificate is refused: the first fault of one kind, over what the counters tell.
-use Rattle.std.specs.Prelude.{◌≡◌, ℕ, zero, suc, ◌+◌, ◌-◌, ◌<◌, ◌≤◌, ◌^◌, Bool, false, not, ◌&&◌, ◌==◌, nat_lt, if◌then◌else◌, List, [], ◌∷◌, ◌++◌, length, map, filter, find, count_by, Option, Some, None, Result}
+use Rattle.std.specs.Prelude.{ℕ, zero, suc, ◌+◌, ◌-◌, ◌<◌, ◌≤◌, ◌^◌, Bool, false, not, ◌&&◌, ◌==◌, nat_lt, if◌then◌else◌, List, [], ◌∷◌, ◌++◌, length, map, filter, find, count_by, Option, Some, None, Result}
 use Rattle.std.specs.Option.{option_map, option_map_or}
 use Rattle.std.specs.Ordering.{nat_cmp, is_lt}
 use Rattle.std.specs.Cmp.Lexicographic.{slice_cmp}
@@ -10,7 +10,7 @@ use Rattle.hosts_join.specs.declared.Which.{Which}
 use Rattle.hosts_join.specs.declared.Which.TheVariants.{User, Group}
 use Rattle.hosts_join.specs.declared.Class.{Class}
 use Rattle.hosts_join.specs.declared.Class.TheVariants.{Pinned, Regular, System}
-use Rattle.hosts_join.specs.Accounts.{Account, Accounts, place_of}
+use Rattle.hosts_join.specs.Accounts.{Accounts, place_of}
 use Rattle.hosts_join.specs.Rules.{class_at, in_pool, is_free_class, is_name, first_some}
 use Rattle.hosts_join.specs.Site.{Joined}
 use Rattle.ownership.specs.Counts.{Counted, Tally, told_kept, told_total}

@@ -2,19 +2,21 @@
 ghost use Rattle.std.specs.Prelude.{◌≡◌, ◌≤◌, IfOk, List, OnOk, length};
 ghost use Rattle.std.specs.List.{All};
 ghost use Rattle.hosts_join.specs.Hosts.{IsLawfulHost};
-ghost use Rattle.ownership.specs.Counts.{IsMadeFor, StandsFor};
+ghost use Rattle.ownership.specs.Counts.{AreMadeFor, AreWithin, IsMadeFor, StandsFor};
 ghost use Rattle.ownership.specs.Files.{Added};
 
 use crate::{
-    Certificate, CertificateFault, CheckFault, Side, check, read_certificate, side_of,
-    write_certificate,
+    Certificate, CertificateFault, CheckFault, Side, certificate_of, check, read_certificate,
+    side_of, write_certificate,
 };
 use accounts::{read_group, read_passwd};
+use assignment::solve;
+use candidates::Rows;
 use hosts_join::{Host, Names, Pins, Site, SiteFault, Which, join};
 use idtext::Name;
 use logindefs::read_ranges;
 use mtree_inv::{Entry, read_inventory};
-use ownership::Counts;
+use ownership::{Counts, KindCounts};
 use std::alloc::{AllocError, Global};
 use std::test::Fail;
 
@@ -23,11 +25,14 @@ type Told<'a> = (u32, &'a [u8], &'a [u8], u128, u128);
 
 const NONE: &[u8] = b"";
 
-const SWAP: &[u8] = b"unify certificate 2\nuser alice 1002 16\nuser bob 1001 11\nzuser 1001 10\ngroup users 100 0\nend\n";
+const SWAP: &[u8] =
+    b"unify certificate 2\nuser alice 1002 16\nuser bob 1001 11\nzuser 1001 10\ngroup users 100 0\nend\n";
 
-const ON_A: &[u8] = b"./alice1 uid=1001 gid=100\n./alice2 uid=1001 gid=100\n./alice3 uid=1001 gid=100\n./alice4 uid=1001 gid=100\n./alice5 uid=1001 gid=100\n./bob1 uid=1002 gid=100\n";
+const ON_A: &[u8] =
+    b"./alice1 uid=1001 gid=100\n./alice2 uid=1001 gid=100\n./alice3 uid=1001 gid=100\n./alice4 uid=1001 gid=100\n./alice5 uid=1001 gid=100\n./bob1 uid=1002 gid=100\n";
 
-const ON_B: &[u8] = b"./bob1 uid=1001 gid=100\n./bob2 uid=1001 gid=100\n./bob3 uid=1001 gid=100\n./bob4 uid=1001 gid=100\n./alice1 uid=1002 gid=100\n./alice2 uid=1002 gid=100\n./alice3 uid=1002 gid=100\n";
+const ON_B: &[u8] =
+    b"./bob1 uid=1001 gid=100\n./bob2 uid=1001 gid=100\n./bob3 uid=1001 gid=100\n./bob4 uid=1001 gid=100\n./alice1 uid=1002 gid=100\n./alice2 uid=1002 gid=100\n./alice3 uid=1002 gid=100\n";
 
 fn host<'a>(alloc: Global, name: &'a [u8], passwd: &'a [u8]) -> Result<Host<'a>, SiteFault<'a>>
     ensures { IfOk result IsLawfulHost }
@@ -71,7 +76,12 @@ fn swapped<'a>(alloc: Global, pins: &'a [u8]) -> Result<Site<'a>, SiteFault<'a>>
 }
 
 // Counts the files of a host.
-fn add_all(counts: &mut Counts, site: &Site<'_>, host: u32, entries: &[Entry]) -> Result<(), AllocError>
+fn add_all(
+    counts: &mut Counts,
+    site: &Site<'_>,
+    host: u32,
+    entries: &[Entry],
+) -> Result<(), AllocError>
     requires made { IsMadeFor site.now counts.old }
     requires stands { (files : List Added) × StandsFor site.now counts.old files }
     ensures made { OnOk result (IsMadeFor site.now counts.new) }
@@ -168,61 +178,93 @@ fn swap_checked(rt: HostRuntime) {
 
 #[test]
 fn swap_z_raised(rt: HostRuntime) {
-    let text = b"unify certificate 2\nuser alice 1002 16\nuser bob 1001 11\nzuser 1001 11\ngroup users 100 0\nend\n";
-    assert_eq!(rt; verdict(rt.alloc(), text), (34, b"user".as_slice(), NONE, 38, 37));
+    let text =
+        b"unify certificate 2\nuser alice 1002 16\nuser bob 1001 11\nzuser 1001 11\ngroup users 100 0\nend\n";
+    assert_eq!(rt;
+        verdict(rt.alloc(), text),
+        (34, b"user".as_slice(), NONE, 38, 37)
+    );
 }
 
 #[test]
 fn swap_y_lowered(rt: HostRuntime) {
-    let text = b"unify certificate 2\nuser alice 1002 16\nuser bob 1001 10\nzuser 1001 10\ngroup users 100 0\nend\n";
-    assert_eq!(rt; verdict(rt.alloc(), text), (33, b"user".as_slice(), b"bob".as_slice(), 1001, 0));
+    let text =
+        b"unify certificate 2\nuser alice 1002 16\nuser bob 1001 10\nzuser 1001 10\ngroup users 100 0\nend\n";
+    assert_eq!(rt;
+        verdict(rt.alloc(), text),
+        (33, b"user".as_slice(), b"bob".as_slice(), 1001, 0)
+    );
 }
 
 #[test]
 fn swap_number_twice(rt: HostRuntime) {
-    let text = b"unify certificate 2\nuser alice 1001 16\nuser bob 1001 11\nzuser 1001 10\ngroup users 100 0\nend\n";
-    assert_eq!(rt; verdict(rt.alloc(), text), (30, b"user".as_slice(), NONE, 1001, 0));
+    let text =
+        b"unify certificate 2\nuser alice 1001 16\nuser bob 1001 11\nzuser 1001 10\ngroup users 100 0\nend\n";
+    assert_eq!(rt;
+        verdict(rt.alloc(), text),
+        (30, b"user".as_slice(), NONE, 1001, 0)
+    );
 }
 
 #[test]
 fn cert_lacks_name(rt: HostRuntime) {
     let text = b"unify certificate 2\nuser alice 1002 16\nzuser 1001 10\ngroup users 100 0\nend\n";
-    assert_eq!(rt; verdict(rt.alloc(), text), (29, b"user".as_slice(), b"bob".as_slice(), 0, 0));
+    assert_eq!(rt;
+        verdict(rt.alloc(), text),
+        (29, b"user".as_slice(), b"bob".as_slice(), 0, 0)
+    );
 }
 
 #[test]
 fn cert_outside_pool(rt: HostRuntime) {
-    let text = b"unify certificate 2\nuser alice 70000 16\nuser bob 1001 11\nzuser 1001 10\ngroup users 100 0\nend\n";
-    assert_eq!(rt; verdict(rt.alloc(), text), (31, b"user".as_slice(), b"alice".as_slice(), 0, 0));
+    let text =
+        b"unify certificate 2\nuser alice 70000 16\nuser bob 1001 11\nzuser 1001 10\ngroup users 100 0\nend\n";
+    assert_eq!(rt;
+        verdict(rt.alloc(), text),
+        (31, b"user".as_slice(), b"alice".as_slice(), 0, 0)
+    );
 }
 
 #[test]
 fn cert_pin_broken(rt: HostRuntime) {
-    let text = b"unify certificate 2\nuser alice 1002 16\nuser bob 1001 11\nzuser 1001 10\ngroup users 200 0\nend\n";
-    assert_eq!(rt; verdict(rt.alloc(), text), (32, b"group".as_slice(), b"users".as_slice(), 0, 0));
+    let text =
+        b"unify certificate 2\nuser alice 1002 16\nuser bob 1001 11\nzuser 1001 10\ngroup users 200 0\nend\n";
+    assert_eq!(rt;
+        verdict(rt.alloc(), text),
+        (32, b"group".as_slice(), b"users".as_slice(), 0, 0)
+    );
 }
 
 #[test]
 fn cert_pinned_y(rt: HostRuntime) {
-    let text = b"unify certificate 2\nuser alice 1002 16\nuser bob 1001 11\nzuser 1001 10\ngroup users 100 1\nend\n";
-    assert_eq!(rt; verdict(rt.alloc(), text), (34, b"group".as_slice(), NONE, 1, 0));
+    let text =
+        b"unify certificate 2\nuser alice 1002 16\nuser bob 1001 11\nzuser 1001 10\ngroup users 100 1\nend\n";
+    assert_eq!(rt;
+        verdict(rt.alloc(), text),
+        (34, b"group".as_slice(), NONE, 1, 0)
+    );
 }
 
 #[test]
 fn cert_all_zero(rt: HostRuntime) {
     let text = b"unify certificate 2\nuser alice 1002 0\nuser bob 1001 0\ngroup users 100 0\nend\n";
-    assert_eq!(rt; verdict(rt.alloc(), text), (33, b"user".as_slice(), b"alice".as_slice(), 1001, 0));
+    assert_eq!(rt;
+        verdict(rt.alloc(), text),
+        (33, b"user".as_slice(), b"alice".as_slice(), 1001, 0)
+    );
 }
 
 #[test]
 fn cert_no_end(rt: HostRuntime) {
-    let text = b"unify certificate 2\nuser alice 1002 16\nuser bob 1001 11\nzuser 1001 10\ngroup users 100 0\n";
+    let text =
+        b"unify certificate 2\nuser alice 1002 16\nuser bob 1001 11\nzuser 1001 10\ngroup users 100 0\n";
     assert_eq!(rt; verdict(rt.alloc(), text), (28, NONE, NONE, 6, 0));
 }
 
 #[test]
 fn cert_version_one(rt: HostRuntime) {
-    let text = b"unify certificate 1\nuser alice 1002 16\nuser bob 1001 11\nzuser 1001 10\ngroup users 100 0\nend\n";
+    let text =
+        b"unify certificate 1\nuser alice 1002 16\nuser bob 1001 11\nzuser 1001 10\ngroup users 100 0\nend\n";
     assert_eq!(rt; verdict(rt.alloc(), text), (28, NONE, NONE, 1, 0));
 }
 
@@ -252,16 +294,34 @@ fn every_certificate_prefix(rt: HostRuntime) {
 fn lines_out_of_place(rt: HostRuntime) {
     for (text, line) in [
         (b"unify certificate 2\nend\n".as_slice(), 0),
-        (b"unify certificate 2\nuser a b 0 18446744073709551615\nend\n".as_slice(), 0),
+        (
+            b"unify certificate 2\nuser a b 0 18446744073709551615\nend\n".as_slice(),
+            0,
+        ),
         (b"unify certificate 2\nend\nend\n".as_slice(), 3),
-        (b"unify certificate 2\nuser b 1 0\nuser a 2 0\nend\n".as_slice(), 3),
+        (
+            b"unify certificate 2\nuser b 1 0\nuser a 2 0\nend\n".as_slice(),
+            3,
+        ),
         (b"unify certificate 2\nuser a 01 0\nend\n".as_slice(), 2),
-        (b"unify certificate 2\nuser a 4294967295 0\nend\n".as_slice(), 2),
-        (b"unify certificate 2\nuser a 1 18446744073709551616\nend\n".as_slice(), 2),
+        (
+            b"unify certificate 2\nuser a 4294967295 0\nend\n".as_slice(),
+            2,
+        ),
+        (
+            b"unify certificate 2\nuser a 1 18446744073709551616\nend\n".as_slice(),
+            2,
+        ),
         (b"unify certificate 2\nuser a:b 1 0\nend\n".as_slice(), 2),
         (b"unify certificate 2\nzuser 1 0\nend\n".as_slice(), 2),
-        (b"unify certificate 2\nzuser 2 1\nzuser 2 1\nend\n".as_slice(), 3),
-        (b"unify certificate 2\ngroup a 1 0\nuser a 1 0\nend\n".as_slice(), 3),
+        (
+            b"unify certificate 2\nzuser 2 1\nzuser 2 1\nend\n".as_slice(),
+            3,
+        ),
+        (
+            b"unify certificate 2\ngroup a 1 0\nuser a 1 0\nend\n".as_slice(),
+            3,
+        ),
     ] {
         assert_eq!(rt; line_of(rt.alloc(), text), line);
     }
@@ -306,5 +366,40 @@ fn made<'a>(alloc: Global) -> Result<Vec<u8>, AllocError> {
 fn swap_made(rt: HostRuntime) -> Result<(), Fail> {
     let text = made(rt.alloc())?;
     assert_eq!(rt; text.as_slice(), SWAP);
+    Ok(())
+}
+
+// The side that the solver gives.
+fn solved<'a>(alloc: Global, names: &Names<'a>, counts: &KindCounts) -> Result<Side<'a>, AllocError>
+    requires made { AreMadeFor names.now.names counts.now }
+    requires few { AreWithin counts.now 2147483648 }
+{
+    let rows = Rows::build(alloc, names, counts)?;
+    let Ok(solution) = solve(alloc, &rows) else {
+        return Err(AllocError);
+    };
+    if solution.mapping.len() != rows.len() as usize {
+        return Err(AllocError);
+    }
+    certificate_of(alloc, names, &solution)
+}
+
+// What the check tells of what the solver gives for two-hosts-swap.
+fn solver_checked<'a>(alloc: Global) -> Result<Told<'a>, AllocError> {
+    let Ok(site) = swapped(alloc, NONE) else {
+        return Err(AllocError);
+    };
+    let counts = counted(alloc, &site)?;
+    let certificate = Certificate {
+        users: solved(alloc, site.users(), counts.users())?,
+        groups: solved(alloc, site.groups(), counts.groups())?,
+    };
+    Ok(checked(alloc, &site, &certificate))
+}
+
+#[test]
+fn swap_solved(rt: HostRuntime) -> Result<(), Fail> {
+    let told = solver_checked(rt.alloc())?;
+    assert_eq!(rt; told, (0, NONE, NONE, 6, 0));
     Ok(())
 }
