@@ -2,19 +2,21 @@
 ghost use Rattle.std.specs.Prelude.{◌≡◌, ◌≤◌, IfOk, List, OnOk, length};
 ghost use Rattle.std.specs.List.{All};
 ghost use Rattle.hosts_join.specs.Hosts.{IsLawfulHost};
-ghost use Rattle.ownership.specs.Counts.{IsMadeFor, StandsFor};
+ghost use Rattle.ownership.specs.Counts.{AreMadeFor, AreWithin, IsMadeFor, StandsFor};
 ghost use Rattle.ownership.specs.Files.{Added};
 
 use crate::{
-    Certificate, CertificateFault, CheckFault, Side, check, read_certificate, side_of,
-    write_certificate,
+    Certificate, CertificateFault, CheckFault, Side, certificate_of, check, read_certificate,
+    side_of, write_certificate,
 };
 use accounts::{read_group, read_passwd};
+use assignment::solve;
+use candidates::Rows;
 use hosts_join::{Host, Names, Pins, Site, SiteFault, Which, join};
 use idtext::Name;
 use logindefs::read_ranges;
 use mtree_inv::{Entry, read_inventory};
-use ownership::Counts;
+use ownership::{Counts, KindCounts};
 use std::alloc::{AllocError, Global};
 use std::test::Fail;
 
@@ -364,5 +366,40 @@ fn made<'a>(alloc: Global) -> Result<Vec<u8>, AllocError> {
 fn swap_made(rt: HostRuntime) -> Result<(), Fail> {
     let text = made(rt.alloc())?;
     assert_eq!(rt; text.as_slice(), SWAP);
+    Ok(())
+}
+
+// The side that the solver gives.
+fn solved<'a>(alloc: Global, names: &Names<'a>, counts: &KindCounts) -> Result<Side<'a>, AllocError>
+    requires made { AreMadeFor names.now.names counts.now }
+    requires few { AreWithin counts.now 2147483648 }
+{
+    let rows = Rows::build(alloc, names, counts)?;
+    let Ok(solution) = solve(alloc, &rows) else {
+        return Err(AllocError);
+    };
+    if solution.mapping.len() != rows.len() as usize {
+        return Err(AllocError);
+    }
+    certificate_of(alloc, names, &solution)
+}
+
+// What the check tells of what the solver gives for two-hosts-swap.
+fn solver_checked<'a>(alloc: Global) -> Result<Told<'a>, AllocError> {
+    let Ok(site) = swapped(alloc, NONE) else {
+        return Err(AllocError);
+    };
+    let counts = counted(alloc, &site)?;
+    let certificate = Certificate {
+        users: solved(alloc, site.users(), counts.users())?,
+        groups: solved(alloc, site.groups(), counts.groups())?,
+    };
+    Ok(checked(alloc, &site, &certificate))
+}
+
+#[test]
+fn swap_solved(rt: HostRuntime) -> Result<(), Fail> {
+    let told = solver_checked(rt.alloc())?;
+    assert_eq!(rt; told, (0, NONE, NONE, 6, 0));
     Ok(())
 }

@@ -1,6 +1,4 @@
 use Rattle.std.proofs.Common.{sym, ap, ◌∙◌}
-use Rattle.idtext.specs.Pieces.{lines}
-use Rattle.certcheck.specs.Certificate.{Row, Side}
 use Rattle.certcheck.specs.Reading.{is_end}
 use Rattle.certcheck.proofs.LineLoop.{saturated, side_equal}
 use Rattle.certcheck.proofs.WholeText.{cut_refused, ended_read, group_side_read, handed_on, side_read, unended_refused}
