@@ -5,3 +5,4 @@ mod count;
 mod runner;
 mod site;
 mod texts;
+mod written;
