@@ -6,3 +6,4 @@ mod count;
 mod runner;
 mod site;
 mod texts;
+mod written;

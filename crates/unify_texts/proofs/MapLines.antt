@@ -43,7 +43,7 @@ module _ (a : Accounts) (m : List ℕ) (kind : Which) where
       let pair : Pair = record { name = e.0.now; number = number_at m e.1 } in
       let same : pair_for a m (name_of e) ≡ pair = ap (λ o. record { name = e.0.now; number = number_under m o 0 }) found in
       let items_more : map (pair_for a m) (map name_of (take (k + 1) items)) ≡ map (pair_for a m) (map name_of (take k items)) ++ pair_for a m (name_of e) ∷ [] =
-          ap (λ es. map (pair_for a m) (map name_of es)) (take_more items k d h) ∙ ap (map (pair_for a m)) (map_push name_of (take k items) e) ∙ map_push (pair_for a m) (map name_of (take k items)) (name_of e) in
+      ap (λ es. map (pair_for a m) (map name_of es)) (take_more items k d h) ∙ ap (map (pair_for a m)) (map_push name_of (take k items) e) ∙ map_push (pair_for a m) (map name_of (take k items)) (name_of e) in
       let text_more : lines_for (take (k + 1) items) ≡ lines_for (take k items) ++ map_line kind pair =
-          ap (flat_map (map_line kind)) items_more ∙ flat_map-append (map_line kind) (map (pair_for a m) (map name_of (take k items))) (pair_for a m (name_of e) ∷ []) ∙ ap (λ p. lines_for (take k items) ++ (map_line kind p ++ [])) same ∙ ap (λ t. lines_for (take k items) ++ t) (append-nil (map_line kind pair)) in
+      ap (flat_map (map_line kind)) items_more ∙ flat_map-append (map_line kind) (map (pair_for a m) (map name_of (take k items))) (pair_for a m (name_of e) ∷ []) ∙ ap (λ p. lines_for (take k items) ++ (map_line kind p ++ [])) same ∙ ap (λ t. lines_for (take k items) ++ t) (append-nil (map_line kind pair)) in
       pushed ∙ ap (λ t. t ++ map_line kind pair) so_far ∙ append_assoc start (lines_for (take k items)) (map_line kind pair) ∙ ap (λ t. start ++ t) (sym text_more)

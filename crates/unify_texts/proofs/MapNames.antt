@@ -85,9 +85,10 @@ other_name n (x ∷ xs) other = elim (cases_Bool (bytes_eq n x.name)) [
 
 differ_once : (xs : List Account) → ((i j : ℕ) → i < length xs → j < length xs → (get_or xs i nobody).name ≡ (get_or xs j nobody).name → i ≡ j) → NotTwice (names_of xs)
 differ_once [] differ = tt
-differ_once (x ∷ xs) differ =
-    (other_name x.name xs (λ j l e. let same : zero ≡ suc j = differ zero (suc j) (omega arith) (omega (arith, l)) e in absurd (omega (arith, same))),
-    differ_once xs (λ i j a b e. let same : suc i ≡ suc j = differ (suc i) (suc j) (omega (arith, a)) (omega (arith, b)) e in omega (arith, same)))
+differ_once (x ∷ xs) differ = (
+  other_name x.name xs (λ j l e. let same : zero ≡ suc j = differ zero (suc j) (omega arith) (omega (arith, l)) e in absurd (omega (arith, same))),
+  differ_once xs (λ i j a b e. let same : suc i ≡ suc j = differ (suc i) (suc j) (omega (arith, a)) (omega (arith, b)) e in omega (arith, same)),
+)
 
 any-names : (n : List ℕ) (xs : List Account) → list_any (bytes_eq n) (names_of xs) ≡ is_name xs n
 any-names n [] = refl

@@ -92,7 +92,12 @@ fn report_lines(
     push_names(&mut text, "users", users)?;
     push_names(&mut text, "groups", groups)?;
     push_change(&mut text, "user-fields", users.changed_files, users.files)?;
-    push_change(&mut text, "group-fields", groups.changed_files, groups.files)?;
+    push_change(
+        &mut text,
+        "group-fields",
+        groups.changed_files,
+        groups.files,
+    )?;
     push_change(&mut text, "user-lines", users.changed_rows, users.rows)?;
     push_change(&mut text, "group-lines", groups.changed_rows, groups.rows)?;
     push_differences(&mut text, told)?;

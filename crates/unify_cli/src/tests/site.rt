@@ -14,7 +14,7 @@ use std::alloc::{AllocError, Global};
 use std::test::Fail;
 
 // A host's name, its login.defs and its passwd.
-type Texts<'a> = (&'a [u8], &'a [u8], &'a [u8]);
+pub type Texts<'a> = (&'a [u8], &'a [u8], &'a [u8]);
 
 // The number of a fault, its names, and its other number: that of a clash, or 1000 times the names and then the numbers.
 type Told<'a> = (u32, &'a [u8], &'a [u8], &'a [u8], u64);
@@ -45,7 +45,7 @@ fn host<'a>(alloc: Global, texts: Texts<'a>, group: &'a [u8]) -> Result<Host<'a>
     })
 }
 
-fn lawful_hosts<'a>(alloc: Global, texts: &[Texts<'a>]) -> Result<Vec<Host<'a>>, SiteFault<'a>>
+pub fn lawful_hosts<'a>(alloc: Global, texts: &[Texts<'a>]) -> Result<Vec<Host<'a>>, SiteFault<'a>>
     ensures { IfOk result (λ hosts. All IsLawfulHost hosts.items) }
 {
     let mut hosts = Vec::new(alloc);

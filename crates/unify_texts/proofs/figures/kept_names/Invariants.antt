@@ -8,5 +8,5 @@ use Rattle.unify_texts.proofs.figures.kept_names.Given as goal
 abbrev pub invariant-loop-index : goal.invariant-loop-index
 invariant-loop-index l = record {
   count : l.kept ≡ count_below (λ i. is_free_class (class_at l.names i) && nat_lt 0 (lines (account l.names i) (number_at l.mapping i))) l.index;
-  few : l.kept ≤ l.index
+  few : l.kept ≤ l.index;
 }
