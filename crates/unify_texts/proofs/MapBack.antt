@@ -30,7 +30,6 @@ use Rattle.hosts_join.proofs.Grouping.{bytes_same, bytes_refl}
 use Rattle.candidates.specs.Mapping.{IsMapping}
 use Rattle.ownership.specs.Mappings.{Mappings, number_at}
 use Rattle.mergedfiles.specs.Order.{put, in_order, by_bytes}
-use Rattle.mergedfiles.specs.Texts.{number_under}
 use Rattle.unify_texts.specs.declared.map_text.MapText.{MapText}
 use Rattle.unify_texts.specs.Maps.{map_of, map_fault, numbering_of, is_good_after}
 use Rattle.unify_texts.specs.WrittenMap.{pair_for, numbered, map_line, map_text, SayMapping, ReadsBack, IsMappingOf, WrittenMapsReadBack}
