@@ -60,7 +60,7 @@ fn join_hosts<'a>(alloc: Global, hosts: &[Host<'a>], pins: &Pins<'a>) -> Result<
 }
 
 // The hosts, and the texts of their inventories.
-fn parted<'a>(
+fn hosts_and_mtrees<'a>(
     alloc: Global,
     loaded: Vec<Loaded<'a>>,
 ) -> Result<(Vec<Host<'a>>, Vec<Name<'a>>), AllocError>
@@ -158,7 +158,7 @@ pub fn read_site<'a>(
 {
     check_list(texts)?;
     let loaded = load_hosts(alloc, texts)?;
-    let (hosts, mtrees) = parted(alloc, loaded)?;
+    let (hosts, mtrees) = hosts_and_mtrees(alloc, loaded)?;
     let pins = load_pins(alloc, pins)?;
     let site = join_hosts(alloc, &hosts, &pins)?;
     let counts = count_site(alloc, &site, &hosts, &mtrees)?;

@@ -14,7 +14,7 @@ use Rattle.unify.specs.Reading.{added_on, added_from}
 use Rattle.unify.proofs.Adding.{added_from-push, length-loaded_from, at-loaded_from}
 use Rattle.unify.proofs.Faults.{passed_on}
 use Rattle.unify.proofs.Owners.{files_read}
-use Rattle.unify.proofs.Sites.{site_read, site_fault}
+use Rattle.unify.proofs.Sites.{site_given, site_fault}
 use Rattle.unify.proofs.site.count_site.Goals as goal
 
 pub returns-in_err-count_host-clause-counted : goal.returns-in_err-count_host-clause-counted
@@ -44,7 +44,7 @@ loop-index-preserved c =
     let few = inventory-few 16777216 c.bytes.result.now files (files_read (record { host = host; mtree = c.bytes.result.now }) files counted.1).0 in
     record {
       read = inv.read ++ (host, files) ∷ [];
-      so_far = each_at site_of inv.read all c.loop-index.index here (host, files) _ (omega (arith, len)) is (site_read here c.bytes.result.now files c.bytes.ensures counted.1) inv.so_far;
+      so_far = each_at site_of inv.read all c.loop-index.index here (host, files) _ (omega (arith, len)) is (site_given here c.bytes.result.now files c.bytes.ensures counted.1) inv.so_far;
       len = omega (arith, inv.len, length-append inv.read ((host, files) ∷ []));
       made = c.in_ok-count_host.ensures.made;
       counted = subst (StandsFor c.args.site.now c.count_host.new.counts) (sym more) (counted.2 (added_from 0 inv.read) inv.counted);

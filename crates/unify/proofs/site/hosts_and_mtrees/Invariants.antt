@@ -1,6 +1,6 @@
 use Rattle.std.proofs.Common.{◌≡◌, map}
 use Rattle.unify.specs.declared.host.Loaded.{Loaded}
-use Rattle.unify.proofs.site.parted.Given as goal
+use Rattle.unify.proofs.site.hosts_and_mtrees.Given as goal
 
 abbrev pub invariant-loop-host : goal.invariant-loop-host
 invariant-loop-host l = record {
