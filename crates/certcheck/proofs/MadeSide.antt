@@ -20,7 +20,7 @@ use Rattle.certcheck.specs.Certificate.{Row, IsRow, IsSide, AreAscending, AreAll
 use Rattle.ownership.specs.Potentials.{AscendsByNumber}
 use Rattle.certcheck.specs.Views.{row_of, rows_of}
 use Rattle.certcheck.specs.Check.{is_listed, number_named, y_named}
-use Rattle.certcheck.specs.Made.{AreSolving, AreRowsOf, IsSideOf}
+use Rattle.certcheck.specs.Made.{IsSolutionFor, AreRowsOf, IsSideOf}
 use Rattle.certcheck.proofs.Order.{same_from_equal, eq_itself}
 use Rattle.certcheck.proofs.Indices.{row, blank, same_names, row_at_index}
 use Rattle.certcheck.proofs.Exact.{count_two, two_counted}
@@ -59,7 +59,7 @@ all_say a mapping ys us are of = λ k d l n m same.
     let at : n ≡ k = are.names_differ n k m in' (same ∙ of.names k d in') in
     (of.numbers k d in' ∙ ap (λ i. get_or mapping i 0) (sym at), of.ys k d in' ∙ ap (λ i. get_or ys i 0) (sym at))
 
-all_rows : (a : Accounts) (mapping ys : List ℕ) (zs : List (ℕ × ℕ)) (us : List Row) → AreLawfulAccounts a → AreSolving a mapping ys zs → AreRowsOf a mapping ys us → All IsRow us
+all_rows : (a : Accounts) (mapping ys : List ℕ) (zs : List (ℕ × ℕ)) (us : List Row) → AreLawfulAccounts a → IsSolutionFor a mapping ys zs → AreRowsOf a mapping ys us → All IsRow us
 all_rows a mapping ys zs us are sol of = λ k d l.
     let in' : k < length a.names = omega (arith, l, of.len) in
     let id : get_or mapping k 0 ≤ 4294967294 = sol.ids k 0 (omega (arith, in', sol.numbers)) in
@@ -118,7 +118,7 @@ made_ascends a mapping ys us ss are of perm sorted i j d l m =
     (λ e. names_apart a mapping ys (rows_of us) (rows_of ss) i j are of (IsPermutation-map row_of us ss perm) l m (ap (λ (r : Row). r.name) first' ∙ e ∙ sym (ap (λ (r : Row). r.name) last')))
     (slice_cmp nat_cmp (get_or ss i bare).name.now (get_or ss j bare).name.now) refl))
 
-pub made_side : (a : Accounts) (mapping ys : List ℕ) (zs : List (ℕ × ℕ)) (us ss : List CertRow) (z : List (ℕ × ℕ)) → AreLawfulAccounts a → AreSolving a mapping ys zs → AreRowsOf a mapping ys (rows_of us) → IsPermutation us ss → IsSortedBy (λ (x : CertRow) (y : CertRow). is_lt (slice_cmp nat_cmp x.name.now y.name.now)) ss → z ≡ zs → IsSide (record { rows = rows_of ss; z = z }) × IsSideOf a mapping ys zs (record { rows = rows_of ss; z = z })
+pub made_side : (a : Accounts) (mapping ys : List ℕ) (zs : List (ℕ × ℕ)) (us ss : List CertRow) (z : List (ℕ × ℕ)) → AreLawfulAccounts a → IsSolutionFor a mapping ys zs → AreRowsOf a mapping ys (rows_of us) → IsPermutation us ss → IsSortedBy (λ (x : CertRow) (y : CertRow). is_lt (slice_cmp nat_cmp x.name.now y.name.now)) ss → z ≡ zs → IsSide (record { rows = rows_of ss; z = z }) × IsSideOf a mapping ys zs (record { rows = rows_of ss; z = z })
 made_side a mapping ys zs us ss z are sol of perm sorted ez =
     let perm' = IsPermutation-map row_of us ss perm in
     let up = made_ascends a mapping ys us ss are of perm sorted in

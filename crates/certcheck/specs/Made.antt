@@ -8,8 +8,8 @@ use Rattle.ownership.specs.Potentials.{potential_at, AscendsByNumber}
 use Rattle.certcheck.specs.Certificate.{Row, Side, AreAllZ}
 use Rattle.certcheck.specs.Check.{is_listed, mapping_of, potentials_of}
 
--- a number and a y for each name, and z that ascend
-pub record AreSolving (a : Accounts) (m y : List ℕ) (z : List (ℕ × ℕ)) : Type 0 where
+-- what a solver gives for the names: a number that an account may have and a y for each of them, and z that ascend
+pub record IsSolutionFor (a : Accounts) (m y : List ℕ) (z : List (ℕ × ℕ)) : Type 0 where
   pub numbers : length m ≡ length a.names
   pub ids : All (λ v. v ≤ 4294967294) m
   pub ys : length y ≡ length a.names

@@ -75,13 +75,18 @@ fn check_kind<'a>(
     Ok(moved_files(names, counts, rows))
 }
 
-/// The cost of the certificate's mappings, where it certifies them, else the first fault, users before groups. Asked is that the
-/// counters were made for the site and stand for some list of added files. Cost, weights and faults are those of the files; the
-/// counters are only how they are told.
+/// The cost of the certificate's mappings, where it certifies them: how many owner fields and group fields of the counted files
+/// they change. Asked is that the counters were made for the site and stand for some list of added files.
 ///
 /// A yes proves that no admissible pair of mappings costs less, and that among those of least cost for a kind none changes fewer
-/// account rows of it, whoever wrote the certificate. A number that a name has on no host weighs nothing for it, so the pools are
-/// not walked: a few binary searches for each row and each account row, and memory for the numbers of one kind.
+/// account rows of it, whoever wrote the certificate.
+///
+/// A number that a name has on no host weighs nothing for it, so no pool is walked: a binary search or two for each row of the
+/// certificate and each account row of the site, and memory for the numbers of one kind. Sums are exact, in 128 bits.
+///
+/// # Errors
+///
+/// The first fault, in the order of `CheckFault`, for users and then for groups; or `Memory`.
 pub fn check<'a>(
     alloc: Global,
     site: &Site<'a>,

@@ -4,7 +4,7 @@ ghost use Rattle.std.specs.List.Sorted.{IsSortedBy};
 ghost use Rattle.std.specs.Ordering.{nat_cmp, is_lt};
 ghost use Rattle.std.specs.Cmp.Lexicographic.{slice_cmp};
 ghost use Rattle.hosts_join.specs.Lawful.{AreLawfulAccounts};
-ghost use Rattle.certcheck.specs.Made.{AreRowsOf, AreSolving, IsSideOf};
+ghost use Rattle.certcheck.specs.Made.{AreRowsOf, IsSolutionFor, IsSideOf};
 ghost use Rattle.certcheck.specs.Views.{rows_of};
 
 use crate::{CertRow, Side};
@@ -53,7 +53,7 @@ pub fn side_of<'a>(
     y: &[u64],
     z: &[(u32, u64)],
 ) -> Result<Side<'a>, AllocError>
-    requires { AreSolving names.now mapping.now y.now z.now }
+    requires { IsSolutionFor names.now mapping.now y.now z.now }
     ensures { IfOk result (IsSideOf names.now mapping.now y.now z.now) }
 {
     let mut rows = rows_in_order(alloc, names, mapping, y)?;
@@ -69,7 +69,7 @@ pub fn certificate_of<'a>(
     names: &Names<'a>,
     solution: &Solution,
 ) -> Result<Side<'a>, AllocError>
-    requires { AreSolving names.now solution.now.mapping solution.now.y.items solution.now.z.items }
+    requires { IsSolutionFor names.now solution.now.mapping solution.now.y.items solution.now.z.items }
     ensures { IfOk result (IsSideOf names.now solution.now.mapping solution.now.y.items solution.now.z.items) }
 {
     side_of(
