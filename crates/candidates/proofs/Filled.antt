@@ -1,5 +1,5 @@
 -- What the fill begins with, and what it leaves.
-use Rattle.std.proofs.Common.{◌≡◌, ℕ, ◌<◌, ◌≤◌, ◌==◌, ◌⊎◌, Bool, true, List, [], ◌∷◌, length, Option, None, Some, refl, sym, ◌∙◌, ap, arith, inl, inr}
+use Rattle.std.proofs.Common.{◌≡◌, ◌≢◌, ℕ, ◌<◌, ◌≤◌, ◌==◌, ◌⊎◌, Bool, true, List, [], ◌∷◌, length, Option, None, Some, refl, sym, ◌∙◌, ap, arith, inl, inr}
 use Rattle.std.specs.List.{All}
 use Rattle.std.proofs.lemmas.Bool.{cases_Bool, eqb-true, false≢true, both_ways}
 use Rattle.std.proofs.lemmas.List.Elements.{All-head, All-tail, All-from_get_or}
@@ -127,6 +127,9 @@ module _ (ch : Choices) (given start : List (Option ℕ)) (rows : AreRows ch) (p
         ids = All-from_get_or (λ v. v ≤ 4294967294) m 0 (λ i h. may-id (class_at ch.accounts i) i (number_at m i) refl (has-lawful i (omega (arith, h, full, done.len, long))));
       }
 
+      other-than : (by i u : ℕ) → number_at m by ≡ u → u < number_at m i → by ≢ i
+      other-than by i u has l e = omega (arith, has, l, ap (number_at m) e)
+
       pub is-filled : IsFilled ch.accounts (Waits ch.accounts given) m
       is-filled = λ i u h w p l.
           let h' : i < length m = omega (arith, h, full, done.len, long) in
@@ -136,7 +139,7 @@ module _ (ch : Choices) (given start : List (Option ℕ)) (rows : AreRows ch) (p
           record {
             by = b.by;
             within = omega (arith, inside, full, done.len, long);
-            other = λ e. omega (arith, l, has b.by u b.has, ap (number_at m) e);
+            other = other-than b.by i u (has b.by u b.has) l;
             has = has b.by u b.has;
             earlier = λ w'. b.earlier (waits-start b.by inside w');
           }

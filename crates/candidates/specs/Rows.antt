@@ -8,7 +8,7 @@ use Rattle.ownership.specs.Files.{File}
 use Rattle.ownership.specs.Weights.{weight}
 use Rattle.candidates.specs.declared.Candidate.{Candidate}
 
--- a candidate of a free name: a number of its pool that it has on some host, so that it weighs at least 1
+-- a candidate: a free name, and a number of its pool that weighs at least 1 for it
 pub record IsCandidate (a : Accounts) (files : List File) (i v : ℕ) : Type 0 where
   pub free : is_free_class (class_at a i) ≡ true
   pub pool : in_pool a (class_at a i) v ≡ true

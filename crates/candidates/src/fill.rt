@@ -1,6 +1,5 @@
 //! The fill: what gives fresh numbers to the names that wait.
-ghost use Rattle.std.specs.Prelude.{◌≡◌, ℕ, ◌<◌, ◌≤◌, true, length, OnOk, IfOk, None, map, if◌then◌else◌, ◌==◌};
-ghost use Rattle.std.specs.List.{count_by};
+ghost use Rattle.std.specs.Prelude.{◌≡◌, ℕ, ◌<◌, length, OnOk, IfOk, map};
 ghost use Rattle.hosts_join.specs.Lawful.{AreLawfulAccounts};
 ghost use Rattle.candidates.specs.Fill.{gift};
 ghost use Rattle.candidates.specs.Settled.{settled, settled_by, AreWaiting, IsStart, IsDone};

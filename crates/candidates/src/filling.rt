@@ -1,7 +1,6 @@
 //! The numbers of names while the fill goes on.
-ghost use Rattle.std.specs.Prelude.{◌≡◌, ℕ, ◌<◌, ◌≤◌, true, false, length, OnOk, IfOk, IfSome, IfNone, None, Some, slice_index_or};
+ghost use Rattle.std.specs.Prelude.{◌≡◌, ℕ, ◌<◌, ◌≤◌, true, false, length, OnOk, IfOk, IfSome, IfNone, None, Some, nat_eq, slice_index_or, slice_set};
 ghost use Rattle.std.specs.HashSet.{contains};
-ghost use Rattle.std.specs.Prelude.{nat_eq, slice_set};
 ghost use Rattle.hosts_join.specs.Pool.{in_runs};
 ghost use Rattle.candidates.specs.Fill.{gift};
 ghost use Rattle.candidates.specs.Settled.{is_had, IsGiven, IsLeft, AreIds};

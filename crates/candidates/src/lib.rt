@@ -27,8 +27,8 @@ use smallvec::SmallVec;
 use std::alloc::{AllocError, Global};
 use std::marker::Model;
 
-/// A number that a name may keep, with its weight: of `B * kept + lines`, where `kept` is how many of its files and `lines`
-/// how many of its account rows have the number, and B is one more than all account rows of the kind.
+/// A number that a name may keep, with its weight: `B * kept + lines`, where B is one more than all account rows of the
+/// kind, `kept` counts the files of the name on the hosts where it has the number, and `lines` those hosts.
 #[derive(Clone, Copy, Debug, Default, PartialEq, Eq)]
 pub struct Candidate {
     pub number: u32,
@@ -100,9 +100,10 @@ impl<'n, 'a> Rows<'n, 'a> {
     /// The candidates of each name, weighed by the files that were counted. Asked is that the counters were made for these
     /// names, and that none is above 2147483648.
     ///
-    /// Time in step with the account rows, but that the at most 64 of a name are sorted, and that each is sought among
-    /// them and, by a binary search, in the pool. Of memory a name takes 80 bytes with up to four candidates, else 16 bytes
-    /// more for each; `AllocError` where it is refused.
+    /// Near linear in the account rows: the numbers of a name, at most 64, are sorted, each is sought in the pool by a
+    /// binary search, and its files and rows by a scan of the name's. A name takes 80 bytes, and with more than four
+    /// candidates up to 32 more for each; so a row takes at most 80 bytes, and 64 hosts of 65,536 rows some 336 MB.
+    /// `AllocError` where memory is refused.
     pub fn build(
         alloc: Global,
         names: &'n Names<'a>,
@@ -149,9 +150,9 @@ impl<'n, 'a> Rows<'n, 'a> {
     /// the smallest number of its pool that no name had before. Asked is one item for each name, in which a number is a
     /// candidate of the name, and no number twice.
     ///
-    /// Time near linear in the names, but for one sort of those that wait: each step looks a number up by hash and the
-    /// next of a pool by a binary search, and no number is looked at twice for a class. Memory of some 60 bytes a name,
-    /// freed but for the mapping; `AllocError` where it is refused, and for no other reason.
+    /// Near linear in the names, but for one sort of those that wait: each class has a cursor that walks its pool once, by
+    /// a binary search and a look-up by hash for each number. It takes some 60 to 100 bytes a name while it runs, and
+    /// leaves the mapping. `AllocError` where memory is refused.
     pub fn fill_fresh(&self, alloc: Global, given: &[Option<u32>]) -> Result<Mapping, AllocError>
         requires { IsPartial self.now given.now }
         ensures admissible { IfOk result (IsAdmissible self.now.accounts) }

@@ -1,5 +1,5 @@
 //! Mappings: a number for each name.
-ghost use Rattle.std.specs.Prelude.{◌≡◌, ℕ, ◌<◌, ◌≤◌, length};
+ghost use Rattle.std.specs.Prelude.{◌≡◌, ◌<◌, length};
 ghost use Rattle.ownership.specs.Mappings.{number_at};
 ghost use Rattle.candidates.specs.Mapping.{IsMapping};
 

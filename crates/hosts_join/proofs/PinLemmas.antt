@@ -118,7 +118,7 @@ pub record Reading (text : List ℕ) (seen rest : List (List ℕ)) (number : ℕ
 same_pins : (a b : PinPairs) → a.users ≡ b.users → a.groups ≡ b.groups → a ≡ b
 same_pins a b p q = λ i. record { users = p i; groups = q i }
 
-more : {X A : Type 0} (f : X → List A) (xs : List X) (x : X) → flat_map f xs ++ f x ≡ flat_map f (xs ++ x ∷ [])
+pub more : {X A : Type 0} (f : X → List A) (xs : List X) (x : X) → flat_map f xs ++ f x ≡ flat_map f (xs ++ x ∷ [])
 more f xs x = sym (flat_map-append f xs (x ∷ []) ∙ ap (λ ys. flat_map f xs ++ ys) (append-nil (f x)))
 
 pub reading_starts : (text : List ℕ) (rest : List (List ℕ)) (draft : Draft) → rest ≡ lines text → IsDraft draft → drafted draft ≡ pins_on [] → Reading text [] rest 0 draft

@@ -20,3 +20,4 @@ pub mod Kinds
 pub mod Hosts
 pub mod Site
 pub mod Checks
+pub mod Laws

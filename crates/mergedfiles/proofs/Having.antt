@@ -1,6 +1,6 @@
 -- Some host has a row of each name.
-use Rattle.std.proofs.Common.{◌≡◌, ℕ, zero, suc, ◌+◌, ◌<◌, ◌||◌, Bool, true, false, cond, List, [], ◌∷◌, ◌++◌, length, map, get_or, Option, Some, None, refl, sym, ◌∙◌, ap, inl, inr, arith}
-use Rattle.std.specs.List.{filter_map, cons_option, find, list_any}
+use Rattle.std.proofs.Common.{◌≡◌, ℕ, zero, suc, ◌+◌, ◌<◌, Bool, true, false, List, [], ◌∷◌, ◌++◌, length, map, get_or, Option, Some, None, refl, sym, ◌∙◌, ap, inl, inr, arith}
+use Rattle.std.specs.List.{filter_map, find, list_any}
 use Rattle.std.specs.Option.{option_map}
 use Rattle.std.specs.Str.{bytes_eq}
 use Rattle.std.proofs.lemmas.Bool.{cases_Bool, true≢false}
@@ -76,7 +76,7 @@ users-had hosts site i j h none =
     let h' : i < length (grouped rows) = rw (← e) h in
     let had : list_any (bytes_eq (account site.users i).name) (row_names rows) ≡ true = rw e (named rows i h') in
     let not-had = none-named (λ (r : Passwd). r.name) (λ (r : Passwd). r.uid) (λ (h : Host). h.users) (λ (h : Host). h.ranges.uid) (λ (h : Host). h.ranges.sys_uid) user_on
-        (λ n h q. none-mapped _ (find (λ (r : Passwd). bytes_eq n r.name) h.users) q) (account site.users i).name 0 hosts none in
+    (λ n h q. none-mapped _ (find (λ (r : Passwd). bytes_eq n r.name) h.users) q) (account site.users i).name 0 hosts none in
     true≢false (sym had ∙ not-had)
 
 pub groups-had : (hosts : List Host) (site : Joined) (i : ℕ) → AreJoined hosts site → i < length site.groups.names → groups_named (account site.groups i).name hosts ≡ [] → ⊥
@@ -86,5 +86,5 @@ groups-had hosts site i j h none =
     let h' : i < length (grouped rows) = rw (← e) h in
     let had : list_any (bytes_eq (account site.groups i).name) (row_names rows) ≡ true = rw e (named rows i h') in
     let not-had = none-named (λ (r : Group). r.name) (λ (r : Group). r.gid) (λ (h : Host). h.groups) (λ (h : Host). h.ranges.gid) (λ (h : Host). h.ranges.sys_gid) group_on
-        (λ n h q. none-mapped _ (find (λ (r : Group). bytes_eq n r.name) h.groups) q) (account site.groups i).name 0 hosts none in
+    (λ n h q. none-mapped _ (find (λ (r : Group). bytes_eq n r.name) h.groups) q) (account site.groups i).name 0 hosts none in
     true≢false (sym had ∙ not-had)

@@ -1,16 +1,15 @@
 -- The rows of a name at the hosts that have it are its rows on all hosts.
-use Rattle.std.proofs.Common.{◌≡◌, ℕ, zero, suc, ◌+◌, ◌<◌, Bool, true, false, cond, List, [], ◌∷◌, ◌++◌, length, map, get_or, Option, Some, None, refl, sym, ◌∙◌, ap, inl, inr, arith, append_assoc, ◌⊎◌, Result, Ok, Err}
-use Rattle.std.specs.List.{All, filter, filter_map, cons_option, slice_get, find}
+use Rattle.std.proofs.Common.{◌≡◌, ℕ, zero, suc, ◌+◌, ◌<◌, Bool, List, [], ◌∷◌, ◌++◌, length, map, get_or, Option, Some, None, refl, sym, ◌∙◌, ap, inl, inr, arith, append_assoc, ◌⊎◌}
+use Rattle.std.specs.List.{All, filter, filter_map, slice_get, find}
 use Rattle.std.specs.Option.{option_and_then, option_map}
 use Rattle.std.specs.Str.{bytes_eq}
 use Rattle.std.proofs.lemmas.Bool.{cases_Bool}
-use Rattle.std.proofs.lemmas.List.{map-append, length-append, append-nil}
+use Rattle.std.proofs.lemmas.List.{map-append, length-append}
 use Rattle.std.proofs.lemmas.List.Elements.{All-head, All-tail, filter-append, filter_map-append}
 use Rattle.accounts.specs.Rows.{Passwd, Group}
 use Rattle.accounts.specs.Laws.{AreDistinct}
 use Rattle.logindefs.specs.declared.ranges.IdRange.{IdRange}
 use Rattle.hosts_join.specs.declared.Spot.{Spot}
-use Rattle.hosts_join.specs.declared.Standing.{Standing}
 use Rattle.hosts_join.specs.declared.host.Host.{Host}
 use Rattle.hosts_join.specs.Accounts.{Account, Row, standing_on, host_rows, rows_from, spots_of, spot_of, grouped, first_appearances, nobody}
 use Rattle.hosts_join.specs.Accounts.{Accounts}

@@ -6,7 +6,7 @@ use Rattle.hosts_join.specs.Accounts.{Accounts, place_of}
 use Rattle.hosts_join.specs.Rules.{account}
 use Rattle.hosts_join.specs.Site.{Joined}
 use Rattle.hosts_join.specs.declared.host.Host.{Host}
-use Rattle.ownership.specs.Mappings.{number_at}
+use Rattle.ownership.specs.Mappings.{number_under}
 use Rattle.mergedfiles.specs.Order.{by_number}
 use Rattle.mergedfiles.specs.Rows.{UserRow, GroupRow, groups_named, users_named, first_of, joined_users}
 
@@ -22,11 +22,6 @@ group_line name number users (Some first) = field name ++ field first.row.passwo
 -- the line of a group, whose users are those of all hosts
 abbrev pub merged_group : List Host → List ℕ → ℕ → List ℕ
 merged_group hosts name number = group_line name number (joined_users (groups_named name hosts)) (first_of (groups_named name hosts))
-
--- the number of the name at an index, in place of another; that one stays where there is no name
-abbrev pub number_under : List ℕ → Option ℕ → ℕ → ℕ
-number_under m None number = number
-number_under m (Some i) number = number_at m i
 
 -- the new number of the group that has the number on the host
 abbrev pub new_gid : Accounts → List ℕ → Host → ℕ → ℕ

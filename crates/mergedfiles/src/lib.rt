@@ -39,3 +39,5 @@ pub struct Difference<'a> {
     pub host: Name<'a>,
 }
 
+#[cfg(test)]
+mod tests;

@@ -29,11 +29,7 @@ fn host_at<'h, 'a>(hosts: &'h [Host<'a>], index: u32) -> Option<&'h Host<'a>>
 }
 
 /// The row of a user on the host of a spot.
-pub fn user_at<'h, 'a>(
-    hosts: &'h [Host<'a>],
-    name: &[u8],
-    spot: &Spot,
-) -> Option<UserOn<'h, 'a>>
+pub fn user_at<'h, 'a>(hosts: &'h [Host<'a>], name: &[u8], spot: &Spot) -> Option<UserOn<'h, 'a>>
     ensures { user_told result ≡ spots.user_at hosts.now name.now spot.now }
 {
     let host = host_at(hosts, spot.host)?;

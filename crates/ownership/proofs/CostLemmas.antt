@@ -2,16 +2,19 @@
 -- keep theirs.
 use Rattle.std.proofs.Common.{◌≡◌, ℕ, ◌+◌, ◌-◌, ◌<◌, ◌≤◌, ◌==◌, ◌&&◌, Bool, true, false, not, cond, List, [], ◌∷◌, length, Option, Some, None, refl, ap, ◌∙◌, arith, inl, inr}
 use Rattle.std.specs.Prelude.{is_some}
-use Rattle.std.specs.List.{count_by, sum_by}
+use Rattle.std.specs.List.{All, count_by, sum_by}
+use Rattle.std.proofs.lemmas.List.Elements.{All-head, All-tail}
 use Rattle.std.proofs.lemmas.List.Sums.{sum_by-cons}
 use Rattle.std.proofs.lemmas.Bool.{cases_Bool, eqb-true}
 use Rattle.hosts_join.specs.Accounts.{Account, Accounts, lines, all_lines, nobody, owner, number_on, has_number}
 use Rattle.hosts_join.specs.Rules.{account}
 use Rattle.hosts_join.specs.Lawful.{AreLawfulAccounts}
+use Rattle.hosts_join.specs.Site.{Joined}
 use Rattle.hosts_join.proofs.Pairing.{place-holds}
 use Rattle.hosts_join.proofs.Once.{number-once}
 use Rattle.ownership.specs.Sums.{sum_below}
-use Rattle.ownership.specs.Files.{File, owns, has_there, is_number, is_place, kept, total}
+use Rattle.ownership.specs.Faults.{unowned, uid_fault, gid_fault}
+use Rattle.ownership.specs.Files.{File, Added, by_user, by_group, owns, has_there, is_number, is_place, kept, total}
 use Rattle.ownership.specs.Mappings.{number_at}
 use Rattle.ownership.specs.Costs.{changes, cost_of, changed_rows}
 use Rattle.ownership.proofs.SumsBelow.{sum_below-same, sum_below-add, sum_below-pick, sum_below-zero, sum_below-places}
@@ -163,3 +166,18 @@ rows_and_lines a m =
     let same = sum_below-same (λ i. keeps i + moved i) (λ i. length (account a i).spots) (length a.names) (λ i l. count-both (λ s. s.number == number_at m i) (account a i).spots) in
     let all = sum_below-places (λ (x : Account). length x.spots) a.names nobody in
     omega (arith, sums, same, all, all_lines-sum a.names)
+
+-- where no file is without an account, each file has an owner of each kind
+pub all-owned : (site : Joined) (files : List Added) → All (λ f. unowned site f.host f.uid f.gid ≡ None) files → (owned_files site.users (by_user files) ≡ length files) × (owned_files site.groups (by_group files) ≡ length files)
+all-owned site [] owned = (refl, refl)
+all-owned site (f ∷ fs) owned =
+    let rest = all-owned site fs (All-tail (λ f. unowned site f.host f.uid f.gid ≡ None) f fs owned) in
+    let here = both (owner site.users.names f.host f.uid) (owner site.groups.names f.host f.gid) (All-head (λ f. unowned site f.host f.uid f.gid ≡ None) f fs owned) in
+    let users = sum_by-cons (λ (g : File). cond (is_some (owner site.users.names g.host g.number)) 1 0) (record { host = f.host; number = f.uid }) (by_user fs) in
+    let groups = sum_by-cons (λ (g : File). cond (is_some (owner site.groups.names g.host g.number)) 1 0) (record { host = f.host; number = f.gid }) (by_group fs) in
+    (omega (arith, users, rest.0, here.0), omega (arith, groups, rest.1, here.1))
+  where
+    both : (u g : Option ℕ) → uid_fault u f.uid (gid_fault g f.gid) ≡ None → (cond {A = ℕ} (is_some u) 1 0 ≡ 1) × (cond {A = ℕ} (is_some g) 1 0 ≡ 1)
+    both None g e = absurd (cc)
+    both (Some i) None e = absurd (cc)
+    both (Some i) (Some j) e = (refl, refl)

@@ -1,5 +1,5 @@
 -- Mappings: a number for each name of a kind, by the index of the name.
-use Rattle.std.specs.Prelude.{◌≡◌, ℕ, ◌<◌, true, List, length, slice_index_or}
+use Rattle.std.specs.Prelude.{◌≡◌, ℕ, ◌<◌, true, List, length, slice_index_or, Option, Some, None}
 use Rattle.hosts_join.specs.Accounts.{Accounts}
 use Rattle.hosts_join.specs.Rules.{class_at, in_pool}
 use Rattle.hosts_join.specs.Site.{Joined}
@@ -9,6 +9,11 @@ use Rattle.hosts_join.specs.declared.Class.TheVariants.{Pinned, Regular, System}
 -- the number of the name at an index
 abbrev pub number_at : List ℕ → ℕ → ℕ
 number_at m i = slice_index_or m i 0
+
+-- the number of the name at an index, in place of another; that one stays where there is no name
+abbrev pub number_under : List ℕ → Option ℕ → ℕ → ℕ
+number_under m None v = v
+number_under m (Some i) v = number_at m i
 
 -- A name may have its pin, or else the numbers of its pool.
 abbrev pub MayHave : Accounts → Class → ℕ → Type 0

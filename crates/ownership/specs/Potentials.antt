@@ -1,5 +1,5 @@
 -- Potentials, and what they certify (weak duality of the assignment problem; Kuhn 1955, Munkres 1957).
-use Rattle.std.specs.Prelude.{◌≡◌, ◌≢◌, ℕ, ◌+◌, ◌<◌, ◌≤◌, true, false, if◌then◌else◌, ◌==◌, List, [], ◌∷◌, length, slice_index_or, sum, sum_by}
+use Rattle.std.specs.Prelude.{◌≡◌, ◌≢◌, ℕ, ◌+◌, ◌<◌, ◌≤◌, ◌^◌, true, false, if◌then◌else◌, ◌==◌, List, [], ◌∷◌, length, slice_index_or, sum, sum_by}
 use Rattle.hosts_join.specs.Accounts.{Accounts}
 use Rattle.hosts_join.specs.Lawful.{AreLawfulAccounts}
 use Rattle.hosts_join.specs.Rules.{class_at, in_pool, is_free_class}
@@ -16,6 +16,16 @@ potential_at y i = slice_index_or y i 0
 abbrev pub value_at : List (ℕ × ℕ) → ℕ → ℕ
 value_at [] v = 0
 value_at (e ∷ z) v = if e.0 == v then e.1 else value_at z v
+
+-- each number of z is larger than those before it
+abbrev pub AscendsByNumber : List (ℕ × ℕ) → Type 0
+AscendsByNumber z = (i j : ℕ) (d : ℕ × ℕ) → i < j → j < length z → (slice_index_or z i d).0 < (slice_index_or z j d).0
+
+-- a number that an account may have, with a potential that is not 0
+pub record IsZ (e : ℕ × ℕ) : Type 0 where
+  pub number : e.0 ≤ 4294967294
+  pub positive : 1 ≤ e.1
+  pub fits : e.1 < 2 ^ 64
 
 -- y on names and z on numbers together
 abbrev pub potential_sum : List ℕ → List (ℕ × ℕ) → ℕ

@@ -5,6 +5,7 @@ use Rattle.std.specs.Ordering.{nat_cmp}
 use Rattle.std.specs.declared.cmp.Ordering.TheVariants.{Less}
 use Rattle.hosts_join.specs.Accounts.{Accounts, lines, all_lines}
 use Rattle.hosts_join.specs.Rules.{account, class_at, in_pool, is_free_class}
+use Rattle.ownership.specs.Counts.{Tally, told_kept}
 use Rattle.ownership.specs.Files.{File, kept}
 use Rattle.ownership.specs.Mappings.{number_at}
 use Rattle.ownership.specs.Sums.{sum_below}
@@ -16,6 +17,10 @@ file_weight a = all_lines a.names + 1
 -- first the files that the name keeps with the number, and then its account rows that stay
 abbrev pub weight : Accounts → List File → ℕ → ℕ → ℕ
 weight a files i v = file_weight a * kept a.names files i v + lines (account a i) v
+
+-- the same, as the counters tell it
+abbrev pub told_weight : Accounts → List Tally → ℕ → ℕ → ℕ
+told_weight a tallies i v = file_weight a * told_kept tallies i v + lines (account a i) v
 
 -- what the numbers of the free names weigh together
 abbrev pub free_weight : Accounts → List File → List ℕ → ℕ

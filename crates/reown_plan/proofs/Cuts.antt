@@ -3,7 +3,8 @@ use Rattle.std.proofs.Common.{◌≡◌, ◌<◌, ◌+◌, ◌==◌, ◌^◌, �
 use Rattle.std.specs.Prelude.{decimal}
 use Rattle.reown_plan.specs.declared.plan.Owner.{Owner}
 use Rattle.reown_plan.specs.PlanData.{PlanRecord}
-use Rattle.reown_plan.specs.Spelling.{number, head, line, is_name_byte, IsHostName, IsLawfulRecord}
+use Rattle.reown_plan.specs.Spelling.{number, head, line, IsHostName, IsLawfulRecord}
+use Rattle.hosts_join.specs.Checks.{is_host_byte}
 use Rattle.std.specs.List.{list_any, list_all}
 use Rattle.std.specs.Char.{digit_value}
 use Rattle.std.specs.Str.Parse.{AllDigits}
@@ -88,15 +89,18 @@ and_right : (a b : Bool) → (a && b) ≡ true → b ≡ true
 and_right true b h = h
 and_right false b h = absurd cc
 
-pub name_no_newline : (name : List ℕ) → list_all is_name_byte name ≡ true → list_any (λ b. b == 10) name ≡ false
-name_no_newline [] h = refl
-name_no_newline (c ∷ cs) h =
-    let first : is_name_byte c ≡ true = and_left (is_name_byte c) (list_all is_name_byte cs) h in
-    let rest : list_all is_name_byte cs ≡ true = and_right (is_name_byte c) (list_all is_name_byte cs) h in
-    let other : (c == 10) ≡ false = not_equal c 10 (λ e. let t : is_name_byte 10 ≡ true = subst (λ d. is_name_byte d ≡ true) e first in cc) in
-    (λ j. other j || name_no_newline cs rest j)
+bytes-no_newline : (name : List ℕ) → list_all is_host_byte name ≡ true → list_any (λ b. b == 10) name ≡ false
+bytes-no_newline [] h = refl
+bytes-no_newline (c ∷ cs) h =
+    let first : is_host_byte c ≡ true = and_left (is_host_byte c) (list_all is_host_byte cs) h in
+    let rest : list_all is_host_byte cs ≡ true = and_right (is_host_byte c) (list_all is_host_byte cs) h in
+    let other : (c == 10) ≡ false = not_equal c 10 (λ e. let t : is_host_byte 10 ≡ true = subst (λ d. is_host_byte d ≡ true) e first in cc) in
+    (λ j. other j || bytes-no_newline cs rest j)
+
+pub name_no_newline : (name : List ℕ) → IsHostName name → list_any (λ b. b == 10) name ≡ false
+name_no_newline name h = bytes-no_newline name (and_right _ _ (and_right _ _ h))
 
 pub head_unique : (text after h r host rest : List ℕ) → after ≡ drop 13 text → after ≡ h ++ 10 ∷ r → list_any (λ b. b == 10) h ≡ false → IsHostName host → text ≡ head host ++ rest → (host ≡ h) × (rest ≡ r)
 head_unique text after h r host rest from cut first name e =
     let whole : drop 13 text ≡ host ++ 10 ∷ [] ++ rest = ap (λ t. drop 13 t) e in
-    cut_unique 10 host rest h r (name_no_newline host name.bytes) first (sym (append_assoc host (10 ∷ []) rest) ∙ sym whole ∙ sym from ∙ cut)
+    cut_unique 10 host rest h r (name_no_newline host name) first (sym (append_assoc host (10 ∷ []) rest) ∙ sym whole ∙ sym from ∙ cut)

@@ -5,3 +5,6 @@ pub mod Wholes
 pub mod Unique
 pub mod Faults
 pub mod Readings
+pub mod Writing
+pub mod Keeping
+pub mod Lawful

@@ -39,7 +39,7 @@ module _ (text : List ℕ) where
   same_host p q =
       let whole : text ≡ head q.host ++ (lines q.records ++ q.rest) = q.is ∙ append_assoc (head q.host) (lines q.records) q.rest in
       let cut : drop 13 text ≡ q.host ++ 10 ∷ (lines q.records ++ q.rest) = ap (drop 13) whole ∙ append_assoc q.host (10 ∷ []) (lines q.records ++ q.rest) in
-      head_unique text (drop 13 text) q.host (lines q.records ++ q.rest) p.host (lines p.records ++ p.rest) refl cut (name_no_newline q.host q.name.bytes) p.name (p.is ∙ append_assoc (head p.host) (lines p.records) p.rest)
+      head_unique text (drop 13 text) q.host (lines q.records ++ q.rest) p.host (lines p.records ++ p.rest) refl cut (name_no_newline q.host q.name) p.name (p.is ∙ append_assoc (head p.host) (lines p.records) p.rest)
 
   -- where no record of another path is, nothing goes on
   abbrev Stands : Front text → Type 0

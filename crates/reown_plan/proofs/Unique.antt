@@ -62,7 +62,7 @@ spelling_unique p q rest l m e =
     let text = spelling q in
     let whole : text ≡ head p.host ++ (lines p.records ++ (end ++ rest)) = e ∙ simp append_assoc in
     let cut : drop 13 text ≡ p.host ++ 10 ∷ (lines p.records ++ (end ++ rest)) = ap (drop 13) whole ∙ append_assoc p.host (10 ∷ []) (lines p.records ++ (end ++ rest)) in
-    let u = head_unique text (drop 13 text) p.host (lines p.records ++ (end ++ rest)) q.host (lines q.records ++ end) refl cut (name_no_newline p.host l.host.bytes) m.host (append_assoc (head q.host) (lines q.records) end) in
+    let u = head_unique text (drop 13 text) p.host (lines p.records ++ (end ++ rest)) q.host (lines q.records ++ end) refl cut (name_no_newline p.host l.host) m.host (append_assoc (head q.host) (lines q.records) end) in
     let v = lines_unique p.records q.records rest l.records m.records u.1 in
     let h = sym u.0 in
     ((λ i. record { host = h i; records = v.0 i }), v.1)

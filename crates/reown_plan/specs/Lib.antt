@@ -2,3 +2,6 @@ pub mod PlanData
 pub mod Records
 pub mod Spelling
 pub mod Reading
+pub mod Owners
+pub mod Target
+pub mod Keeps

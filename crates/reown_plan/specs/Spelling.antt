@@ -1,6 +1,7 @@
 -- How a plan is spelled.
-use Rattle.std.specs.Prelude.{◌≡◌, ◌≢◌, ◌≤◌, ℕ, Bool, ◌==◌, ◌||◌, ◌&&◌, not, nat_le, List, [], ◌∷◌, ◌++◌, All, true, length, flat_map, codes, decimal, slice_index}
-use Rattle.std.specs.List.{list_all}
+use Rattle.std.specs.Prelude.{◌≡◌, ◌≢◌, ◌≤◌, ℕ, List, [], ◌∷◌, ◌++◌, All, true, length, flat_map, codes, decimal}
+use Rattle.hosts_join.specs.Checks.{is_host_name}
+use Rattle.mtree_inv.specs.Files.{IsLawfulPath}
 use Rattle.reown_plan.specs.declared.plan.Owner.{Owner}
 use Rattle.reown_plan.specs.PlanData.{PlanRecord, PlanData, HaveDistinctPaths}
 
@@ -24,31 +25,18 @@ lines records = flat_map line records
 abbrev pub spelling : PlanData → List ℕ
 spelling plan = head plan.host ++ lines plan.records ++ end
 
--- a byte of a host's name: an ASCII letter or digit, a dot, a dash or an underscore
-abbrev pub is_name_byte : ℕ → Bool
-is_name_byte b = (nat_le 48 b && nat_le b 57) || (nat_le 65 b && nat_le b 90) || (nat_le 97 b && nat_le b 122) || (b == 45) || (b == 46) || (b == 95)
-
-pub record IsHostName (name : List ℕ) : Type 0 where
-  pub some : 1 ≤ length name
-  pub short : length name ≤ 64
-  pub bytes : list_all is_name_byte name ≡ true
-  pub no_dot : slice_index name 0 ≢ 46
-  pub no_dash : slice_index name 0 ≢ 45
+abbrev pub IsHostName : List ℕ → Type 0
+IsHostName name = is_host_name name ≡ true
 
 -- the numbers of an account
 abbrev pub IsOwner : Owner → Type 0
 IsOwner owner = (owner.uid ≤ 4294967294) × (owner.gid ≤ 4294967294)
 
-pub record IsPath (path : List ℕ) : Type 0 where
-  pub some : 1 ≤ length path
-  pub short : length path ≤ 65535
-  pub no_nul : list_all (λ b. not (b == 0)) path ≡ true
-
 pub record IsLawfulRecord (c : PlanRecord) : Type 0 where
   pub before : IsOwner c.before
   pub after : IsOwner c.after
   pub differ : c.before ≢ c.after
-  pub path : IsPath c.path
+  pub path : IsLawfulPath c.path
 
 pub record IsLawful (plan : PlanData) : Type 0 where
   pub host : IsHostName plan.host

@@ -1,8 +1,15 @@
 //! What holds of plans and their texts.
-ghost use Rattle.std.specs.Prelude.{◌≡◌, ◌++◌, ℕ, List, [], Result};
+ghost use Rattle.std.specs.Prelude.{◌≡◌, ◌++◌, ℕ, List, [], All, Result, Ok};
+ghost use Rattle.candidates.specs.Mapping.{IsMapping};
+ghost use Rattle.hosts_join.specs.Site.{Joined};
+ghost use Rattle.hosts_join.specs.declared.host.Host.{Host};
+ghost use Rattle.mtree_inv.specs.Files.{AreFiles, HaveDistinctFiles};
+ghost use Rattle.mtree_inv.specs.declared.entry.Entry.{Entry};
+ghost use Rattle.reown_plan.specs.Keeps.{KeepsNames};
 ghost use Rattle.reown_plan.specs.PlanData.{PlanData};
-ghost use Rattle.reown_plan.specs.Spelling.{spelling, IsLawful};
+ghost use Rattle.reown_plan.specs.Spelling.{spelling, IsHostName, IsLawful};
 ghost use Rattle.reown_plan.specs.Reading.{ReadsAs};
+ghost use Rattle.reown_plan.specs.Target.{target, plan_of, host_plan, name_at, owner_after};
 
 /// A plan has one spelling, and none begins another's.
 pub fn one_spelling()
@@ -12,4 +19,16 @@ pub fn one_spelling()
 /// A text is one plan, or has one place of its fault, and never both.
 pub fn one_reading()
     ensures { (text : List ℕ) (one other : Result PlanData ℕ) → ReadsAs text one → ReadsAs text other → one ≡ other }
+{}
+
+/// The plan that is written for a host is read back, where its name is lawful, its files are those of an inventory, and the
+/// mappings give numbers that an account may have.
+pub fn plans_read_back()
+    ensures { (hosts : List Host) (site : Joined) (users groups : List ℕ) (host : ℕ) (files : List Entry) → IsHostName (name_at hosts host) → IsMapping users → IsMapping groups → AreFiles files → ReadsAs (spelling (host_plan hosts site users groups host files)) (Ok (host_plan hosts site users groups host files)) }
+{}
+
+/// After a host's plan each file has its target, and so, under the mappings, the user name and the group name that it had.
+pub fn plans_keep_names()
+    ensures targets { (site : Joined) (users groups : List ℕ) (host : ℕ) (files : List Entry) → HaveDistinctFiles files → All (λ f. owner_after (plan_of site users groups host files) f ≡ target site users groups host f) files }
+    ensures names { (site : Joined) (users groups : List ℕ) (host : ℕ) (files : List Entry) → HaveDistinctFiles files → All (λ f. KeepsNames site users groups host f (owner_after (plan_of site users groups host files) f)) files }
 {}

@@ -1,16 +1,16 @@
 //! Readers of a plan's parts.
-ghost use Rattle.std.specs.Prelude.{◌≡◌, ◌≢◌, ◌++◌, ◌≤◌, ◌<◌, ◌^◌, [], ◌∷◌, ℕ, List, true, false, IsSomeAnd, decimal, length, ◌==◌, not, IfSome, IfNone};
-ghost use Rattle.std.specs.List.{list_all, list_any};
+ghost use Rattle.std.specs.Prelude.{◌≡◌, ◌≢◌, ◌++◌, ◌≤◌, ◌<◌, ◌^◌, [], ◌∷◌, ℕ, List, All, true, false, IsSomeAnd, decimal, length, ◌==◌, IfSome, IfNone};
+ghost use Rattle.std.specs.List.{list_any};
 ghost use Rattle.reown_plan.specs.declared.plan.Owner.{Owner};
-ghost use Rattle.reown_plan.specs.Spelling.{number, head, line, is_name_byte, IsHostName, IsOwner, IsPath, IsLawfulRecord};
+ghost use Rattle.reown_plan.specs.Spelling.{number, head, line, IsHostName, IsOwner, IsLawfulRecord};
+ghost use Rattle.mtree_inv.specs.Files.{IsLawfulPath};
 ghost use Rattle.reown_plan.specs.Records.{record_of};
 ghost use Rattle.reown_plan.specs.PlanData.{PlanRecord};
 
 use crate::{Owner, Record};
+use hosts_join::is_host_name;
 use idtext::{LARGEST_ID, MOST_BYTES};
 use itoa::Buffer;
-
-const LONGEST_NAME: usize = 64;
 
 // The number that these bytes write, without leading zeros.
 fn written(text: &[u8]) -> Option<u32>
@@ -77,33 +77,6 @@ pub(crate) fn read_head(text: &[u8]) -> Option<(&[u8], &[u8])>
     Some((host, rest))
 }
 
-fn is_host_byte(byte: u8) -> bool
-    ensures { result ≡ is_name_byte byte }
-{
-    byte.is_ascii_digit()
-        || byte.is_ascii_uppercase()
-        || byte.is_ascii_lowercase()
-        || byte == b'-'
-        || byte == b'.'
-        || byte == b'_'
-}
-
-fn are_host_bytes(name: &[u8]) -> bool
-    ensures { result ≡ list_all is_name_byte name.now }
-{
-    name.iter().all(|byte| is_host_byte(*byte))
-}
-
-fn is_host_name(name: &[u8]) -> bool
-    ensures lawful { result ≡ true → IsHostName name.now }
-    ensures complete { IsHostName name.now → result ≡ true }
-{
-    if name.is_empty() || name.len() > LONGEST_NAME || name[0] == b'.' || name[0] == b'-' {
-        return false;
-    }
-    are_host_bytes(name)
-}
-
 // A record, and what follows.
 pub(crate) fn read_record(text: &[u8]) -> Option<(Record<'_>, &[u8])>
     ensures spelled { IfSome result (λ r. text.now ≡ line (record_of r.0) ++ r.1.now) }
@@ -129,8 +102,8 @@ pub(crate) fn read_record(text: &[u8]) -> Option<(Record<'_>, &[u8])>
 fn read_path(text: &[u8], size: usize) -> Option<(&[u8], &[u8])>
     ensures spelled { IfSome result (λ r. text.now ≡ r.0.now ++ 10 ∷ r.1.now) }
     ensures length { IfSome result (λ r. length r.0.now ≡ size) }
-    ensures lawful { IfSome result (λ r. IsPath r.0.now) }
-    ensures complete { (path rest : List ℕ) → IsPath path → length path ≡ size → text.now ≡ path ++ 10 ∷ rest → IsSomeAnd result (λ r. (r.0.now ≡ path) × (r.1.now ≡ rest)) }
+    ensures lawful { IfSome result (λ r. IsLawfulPath r.0.now) }
+    ensures complete { (path rest : List ℕ) → IsLawfulPath path → length path ≡ size → text.now ≡ path ++ 10 ∷ rest → IsSomeAnd result (λ r. (r.0.now ≡ path) × (r.1.now ≡ rest)) }
 {
     if size == 0 || size > MOST_BYTES || size >= text.len() || text[size] != b'\n' {
         return None;
@@ -143,7 +116,8 @@ fn read_path(text: &[u8], size: usize) -> Option<(&[u8], &[u8])>
 }
 
 fn has_no_nul(path: &[u8]) -> bool
-    ensures { result ≡ list_all (λ b. not (b == 0)) path.now }
+    ensures lawful { result ≡ true → All (λ b. b ≢ 0) path.now }
+    ensures complete { All (λ b. b ≢ 0) path.now → result ≡ true }
 {
     path.iter().all(|byte| *byte != 0)
 }

@@ -10,7 +10,8 @@ use Rattle.reown_runner.specs.declared.runner.Progress.TheVariants.{Working, Don
 use Rattle.reown_runner.specs.declared.runner.RunFault.{RunFault}
 use Rattle.reown_runner.specs.declared.runner.RunFault.TheVariants.{Device, Missing, Foreign}
 use Rattle.reown_runner.specs.Tree.{Operation, Write, SetMark, Sync, counted}
-use Rattle.reown_runner.specs.Step.{Turn, turn, turn_at, record_turn, record_place, owner_eq, IsAdvance, IsAsked, IsTold, IsPlaceOf, progress_at, advances_left, operations_left}
+use Rattle.reown_plan.specs.Owners.{owner_eq}
+use Rattle.reown_runner.specs.Step.{Turn, turn, turn_at, record_turn, record_place, IsAdvance, IsAsked, IsTold, IsPlaceOf, progress_at, advances_left, operations_left}
 use Rattle.reown_runner.proofs.Cellwise.{either}
 
 -- where a turn leads

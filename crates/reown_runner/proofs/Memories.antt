@@ -13,7 +13,8 @@ use Rattle.mtree_inv.specs.Files.{HaveDistinctFiles}
 use Rattle.reown_plan.specs.declared.plan.Owner.{Owner}
 use Rattle.reown_runner.specs.declared.memory.FileCell.{FileCell}
 use Rattle.reown_runner.specs.Tree.{Cells, Writes, IsSettled, Syncs, Stops, cells_of}
-use Rattle.reown_runner.specs.Memory.{Mem, known_mem, cell_of, values_of, keeps_file, keeps_mark, settled_cell, left_cell, owner_of, owner_in, new_mem, IsReopened}
+use Rattle.reown_plan.specs.Owners.{owner_of}
+use Rattle.reown_runner.specs.Memory.{Mem, known_mem, cell_of, values_of, keeps_file, keeps_mark, settled_cell, left_cell, owner_in, new_mem, IsReopened}
 use Rattle.reown_runner.specs.Finished.{IsFresh}
 use Rattle.reown_runner.specs.MemoryReads.{first_of_two, last_of_two, now_left}
 use Rattle.reown_runner.proofs.Cellwise.{either}

@@ -12,7 +12,8 @@ use Rattle.reown_runner.specs.declared.runner.RunFault.TheVariants.{Device, Miss
 use Rattle.reown_runner.specs.Tree.{Cells, IsReadable, IsSettled, Same, Syncs, Writes, SetsMark, Does, Operation, Write, SetMark, Sync}
 use Rattle.reown_runner.specs.State.{Keeps}
 use Rattle.reown_runner.specs.Safe.{ReadNew, IsSafeInStep}
-use Rattle.reown_runner.specs.Step.{Turn, turn, turn_at, record_turn, record_place, owner_eq, IsAdvance, place_after}
+use Rattle.reown_plan.specs.Owners.{owner_eq}
+use Rattle.reown_runner.specs.Step.{Turn, turn, turn_at, record_turn, record_place, IsAdvance, place_after}
 use Rattle.reown_runner.proofs.Turns.{same_keeps, synced_keeps, turn-at_old, turn-at_new}
 use Rattle.reown_runner.proofs.Cellwise.{either, LeftNew, CellSafe, CellStep, CellSound, sound_cells, sound_images}
 

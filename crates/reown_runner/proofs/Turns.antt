@@ -8,7 +8,8 @@ use Rattle.reown_runner.specs.declared.runner.RunFault.{RunFault}
 use Rattle.reown_runner.specs.declared.runner.RunFault.TheVariants.{Device, Missing, Foreign}
 use Rattle.reown_runner.specs.Tree.{Cells, Operation, Write, SetMark, Sync, IsReadable, Same, SameOwners, SameMark, Writes, SetsMark, Syncs, IsSettled, Does, MayDo, counted}
 use Rattle.reown_runner.specs.State.{Keeps, KeepsOwners, KeepsMark}
-use Rattle.reown_runner.specs.Step.{Turn, owner_eq, record_turn, record_place, turn_at, turn, IsAdvance, IsAsked}
+use Rattle.reown_plan.specs.Owners.{owner_eq}
+use Rattle.reown_runner.specs.Step.{Turn, record_turn, record_place, turn_at, turn, IsAdvance, IsAsked}
 
 module _ (i : ℕ) (planned : PlanRecord) (next : Place) (owner : Owner) where
   pub turn-at_old : owner_eq owner planned.before ≡ true → record_turn i planned next (Some owner) ≡ Ok (record { operation = Some (Write planned.path planned.after); next = next })

@@ -4,7 +4,7 @@ use Rattle.std.specs.Option.{option_map, option_and_then}
 use Rattle.std.specs.Str.{bytes_eq}
 use Rattle.mtree_inv.specs.declared.entry.Entry.{Entry}
 use Rattle.reown_plan.specs.declared.plan.Owner.{Owner}
-use Rattle.reown_runner.specs.Step.{owner_eq}
+use Rattle.reown_plan.specs.Owners.{owner_of, owner_eq}
 use Rattle.reown_runner.specs.Tree.{TreeData}
 use Rattle.reown_runner.specs.declared.memory.Keep.{Keep}
 use Rattle.reown_runner.specs.declared.memory.Keep.TheVariants.{All, Lost, Alternate, MarkOnly}
@@ -79,10 +79,6 @@ pub record IsReopened (old new : Mem) : Type 0 where
   pub mark_synced : new.mark_synced ≡ new.mark_now
   pub keep : new.keep ≡ old.keep
   pub asked : new.asked ≡ old.asked
-
--- the numbers of an entry
-abbrev pub owner_of : Entry → Owner
-owner_of e = record { uid = e.uid; gid = e.gid }
 
 -- a tree as its inventory: each file at its owner, the mark not set, nothing pending
 abbrev pub new_mem : List Entry → Mem

@@ -1,6 +1,7 @@
 -- What one advance does.
-use Rattle.std.specs.Prelude.{◌≡◌, ◌⊎◌, ◌<◌, ◌^◌, ◌-◌, ⊤, min, IsSome, ℕ, ◌+◌, Bool, ◌==◌, ◌&&◌, List, Option, None, Some, Result, Ok, Err, length, slice_get, nat_lt, if◌then◌else◌}
+use Rattle.std.specs.Prelude.{◌≡◌, ◌⊎◌, ◌<◌, ◌^◌, ◌-◌, ⊤, min, IsSome, ℕ, ◌+◌, Bool, List, Option, None, Some, Result, Ok, Err, length, slice_get, nat_lt, if◌then◌else◌}
 use Rattle.reown_plan.specs.declared.plan.Owner.{Owner}
+use Rattle.reown_plan.specs.Owners.{owner_eq}
 use Rattle.reown_plan.specs.PlanData.{PlanRecord}
 use Rattle.reown_runner.specs.declared.runner.Place.{Place}
 use Rattle.reown_runner.specs.declared.runner.Place.TheVariants.{Start, Record, SyncOwners, Mark, SyncMark, Done}
@@ -14,9 +15,6 @@ use Rattle.reown_runner.specs.Tree.{Operation, Write, SetMark, Sync, counted}
 pub record Turn : Type 0 where
   pub operation : Option Operation
   pub next : Place
-
-abbrev pub owner_eq : Owner → Owner → Bool
-owner_eq a b = (a.uid == b.uid) && (a.gid == b.gid)
 
 -- the place of the record i, or behind the records
 abbrev pub record_place : List PlanRecord → ℕ → Place

@@ -6,7 +6,7 @@ use Rattle.hosts_join.specs.Accounts.{Pair}
 use Rattle.hosts_join.specs.Pairs.{number_of}
 use Rattle.unify.specs.declared.counting.Cost.{Cost}
 use Rattle.hosts_join.specs.declared.host.Host.{Host}
-use Rattle.unify.specs.Hosts.{user_at, group_at}
+use Rattle.hosts_join.specs.Kinds.{user_at, group_at}
 
 abbrev pub is_number : Option ℕ → ℕ → Bool
 is_number None n = false

@@ -24,8 +24,8 @@ pub struct Cost {
     pub groups: u64,
 }
 
-// The host list.
-fn check_list(hosts: &[HostText]) -> Result<(), Fault<'_>>
+/// Checks the host list: 1 to 64 hosts, whose names are lawful and differ. Linear in the names.
+pub fn check_list(hosts: &[HostText]) -> Result<(), Fault<'_>>
     ensures exact { Gives (λ x. x) told result (in_site (hosts_checked hosts.now)) }
     ensures few { IfOk result (λ _. length hosts.now ≤ 64) }
 {
@@ -193,7 +193,7 @@ fn count_files<'a>(
         groups: 0,
     };
     for loaded in hosts {
-        let files = load_files(alloc, loaded)?;
+        let files = load_files(alloc, &loaded.host, loaded.mtree.bytes())?;
         cost.users += users_cost(names, &loaded.host, files.entries());
         cost.groups += groups_cost(names, &loaded.host, files.entries());
     }

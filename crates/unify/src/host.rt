@@ -8,10 +8,11 @@ ghost use Rattle.logindefs.specs.Ranges.{IsHostRanges, ranges_of};
 ghost use Rattle.mtree_inv.specs.Inventory.{inventory};
 ghost use Rattle.hosts_join.specs.Checks.{primary_checked};
 ghost use Rattle.hosts_join.specs.Hosts.{IsLawfulHost};
+ghost use Rattle.hosts_join.specs.Kinds.{user_at, group_at};
 ghost use Rattle.unify_texts.specs.declared.fault.Fault.TheVariants.{Line};
 ghost use Rattle.unify_texts.specs.Told.{told};
 ghost use Rattle.unify.specs.Told.{in_file, site_told, in_site};
-ghost use Rattle.unify.specs.Hosts.{host_of, user_at, group_at, owner_fault, files_of};
+ghost use Rattle.unify.specs.Hosts.{host_of, owner_fault, files_of};
 
 use accounts::{GroupTable, PasswdTable, read_group, read_passwd};
 use hosts_join::{Host, HostText, SiteFault, check_primary};
@@ -239,12 +240,11 @@ fn check_owners<'a>(alloc: Global, host: &Host<'a>, files: &[Entry]) -> Result<(
 /// Reads a host's inventory of at most 16,777,216 files, and then checks that the uid and the gid of each file are
 /// numbers of a user and of a group on the host, in inventory order, uid before gid. One pass over the text.
 #[tactic(auto, unfolding(crate::specs::Hosts::files_of))]
-pub fn load_files<'a>(alloc: Global, loaded: &Loaded<'a>) -> Result<Inventory, Fault<'a>>
-    ensures exact { Gives (λ files. files) told result (files_of loaded.now) }
+pub fn load_files<'a>(alloc: Global, host: &Host<'a>, mtree: &[u8]) -> Result<Inventory, Fault<'a>>
+    ensures exact { Gives (λ files. files) told result (files_of (record { host = host.now; mtree = mtree.now })) }
     ensures few { IfOk result (λ files. length files ≤ 16777216) }
 {
-    let host = &loaded.host;
-    let files = inventory_at(alloc, host.name.bytes(), loaded.mtree.bytes())?;
+    let files = inventory_at(alloc, host.name.bytes(), mtree)?;
     check_owners(alloc, host, files.entries())?;
     Ok(files)
 }

@@ -3,10 +3,11 @@
 ghost use Rattle.std.specs.Prelude.{◌≡◌, Some, Err, IfOk};
 ghost use Rattle.unify_texts.specs.Told.{told};
 ghost use Rattle.unify_texts.specs.Codes.{code_of, status_of};
-ghost use Rattle.unify.specs.Output.{cost_lines, counted, answered};
+ghost use Rattle.unify.specs.Output.{cost_lines, counted, accepted_line, check_told, answered};
 ghost use Rattle.unify.specs.Replies.{reply_of};
 
 use crate::counting::{Cost, count};
+use crate::verifying::verify;
 use hosts_join::HostText;
 use idtext::push_number;
 use std::alloc::{AllocError, Global};
@@ -70,6 +71,35 @@ pub fn count_reply(alloc: Global, hosts: &[HostText], map: &[u8]) -> Result<Repl
     match count(alloc, hosts, map) {
         Ok(cost) => Ok(Reply {
             text: cost_text(alloc, cost)?,
+            status: 0,
+        }),
+        Err(fault) => refused(alloc, &fault),
+    }
+}
+
+// The line that tells an accepted certificate.
+fn accepted_text(alloc: Global, cost: u64) -> Result<Vec<u8>, AllocError>
+    ensures { IfOk result (λ text. text.items ≡ accepted_line cost) }
+{
+    let mut text = Vec::from_slice(alloc, b"accepted ")?;
+    push_number(&mut text, u128::from(cost))?;
+    text.push(b'\n')?;
+    Ok(text)
+}
+
+/// What goes out for a check of a certificate of these hosts with these pins: its line, or the fault line with its
+/// status. An error is a growth that was refused.
+pub fn check_reply(
+    alloc: Global,
+    hosts: &[HostText],
+    pins: &[u8],
+    certificate: &[u8],
+) -> Result<Reply, AllocError>
+    ensures { IfOk result (λ reply. reply_of reply ≡ answered (check_told hosts.now pins.now certificate.now)) }
+{
+    match verify(alloc, hosts, pins, certificate) {
+        Ok(cost) => Ok(Reply {
+            text: accepted_text(alloc, cost)?,
             status: 0,
         }),
         Err(fault) => refused(alloc, &fault),

@@ -29,6 +29,28 @@ fn count<'a>(alloc: Global) -> Result<Command<'a>, AllocError> {
         .arg(hosts(alloc))
 }
 
+// --pins FILE
+fn pins<'a>(alloc: Global) -> Arg<'a> {
+    Arg::new(alloc, "pins")
+        .long("pins")
+        .value_name("FILE")
+        .help("numbers that names must keep: lines as in a map")
+        .action(ArgAction::Set)
+}
+
+// check [--pins FILE] CERTIFICATE HOST...
+fn check<'a>(alloc: Global) -> Result<Command<'a>, AllocError> {
+    let certificate = Arg::new(alloc, "CERTIFICATE")
+        .help("the certificate of a map")
+        .required(true)
+        .action(ArgAction::Set);
+    Command::new(alloc, "check")
+        .about("Checks that no map changes fewer owner and group fields than that of a certificate")
+        .arg(pins(alloc))?
+        .arg(certificate)?
+        .arg(hosts(alloc))
+}
+
 /// The command line with words.
 pub fn command_line<'a>(alloc: Global) -> Result<Command<'a>, AllocError> {
     Command::new(alloc, "unify")
@@ -38,5 +60,6 @@ pub fn command_line<'a>(alloc: Global) -> Result<Command<'a>, AllocError> {
             "Without words a bundle, one command and its files in one text, is read from standard input.",
         )
         .subcommand_required(true)
-        .subcommand(count(alloc)?)
+        .subcommand(count(alloc)?)?
+        .subcommand(check(alloc)?)
 }

@@ -1,6 +1,7 @@
 //! The worked examples of the layers and of the commands. They stand here, since a crate is proved once more with its
 //! tests, and this one is small.
 
+mod check;
 mod count;
 mod runner;
 mod site;

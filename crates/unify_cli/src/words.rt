@@ -5,8 +5,9 @@ use crate::files::{FileFault, read_file, read_hosts};
 use crate::report::{file_failed, memory_refused, print_reply, write_failed};
 use clap::error::ErrorKind;
 use clap::{ArgMatches, Error};
+use idtext::ByteString;
 use std::alloc::AllocError;
-use unify::{Reply, count_reply};
+use unify::{Reply, check_reply, count_reply};
 
 // count MAP HOST...
 fn run_count(rt: &HostRuntime, matches: &ArgMatches<'_>) -> Result<Reply, FileFault> {
@@ -15,12 +16,37 @@ fn run_count(rt: &HostRuntime, matches: &ArgMatches<'_>) -> Result<Reply, FileFa
     Ok(count_reply(rt.alloc(), &hosts, map.bytes())?)
 }
 
+// The pins text, empty where none is named.
+fn read_pins(rt: &HostRuntime, matches: &ArgMatches<'_>) -> Result<ByteString, FileFault> {
+    match matches.get_str("pins") {
+        Some(path) => read_file(rt, path),
+        None => Ok(ByteString::new(rt.alloc())),
+    }
+}
+
+// check [--pins FILE] CERTIFICATE HOST...
+fn run_check(rt: &HostRuntime, matches: &ArgMatches<'_>) -> Result<Reply, FileFault> {
+    let certificate = read_file(rt, matches.get_str("CERTIFICATE").unwrap_or(""))?;
+    let pins = read_pins(rt, matches)?;
+    let hosts = read_hosts(rt, matches.get_strs("HOST").unwrap_or(&[]))?;
+    Ok(check_reply(rt.alloc(), &hosts, pins.bytes(), certificate.bytes())?)
+}
+
+// What the command that the words name answers, where there is such a command.
+fn reply_of(rt: &HostRuntime, matches: &ArgMatches<'_>) -> Option<Result<Reply, FileFault>> {
+    if let Some(matches) = matches.subcommand_matches("count") {
+        return Some(run_count(rt, matches));
+    }
+    let matches = matches.subcommand_matches("check")?;
+    Some(run_check(rt, matches))
+}
+
 // Runs the command that the words name.
 fn run_command(rt: &HostRuntime, matches: &ArgMatches<'_>) -> u8 {
-    let Some(matches) = matches.subcommand_matches("count") else {
+    let Some(answered) = reply_of(rt, matches) else {
         return 2;
     };
-    match run_count(rt, matches) {
+    match answered {
         Ok(reply) => print_reply(rt, &reply),
         Err(FileFault::Memory) => memory_refused(rt),
         Err(FileFault::File(path)) => file_failed(rt, path.as_str()),

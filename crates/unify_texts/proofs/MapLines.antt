@@ -10,9 +10,8 @@ use Rattle.hosts_join.specs.Accounts.{Account, Accounts, Pair, nobody, place, pl
 use Rattle.hosts_join.specs.Lawful.{AreLawfulAccounts}
 use Rattle.hosts_join.specs.Rules.{account}
 use Rattle.hosts_join.proofs.Grouping.{bytes_same, bytes_refl}
-use Rattle.ownership.specs.Mappings.{number_at}
+use Rattle.ownership.specs.Mappings.{number_under, number_at}
 use Rattle.mergedfiles.specs.Seen.{name_of}
-use Rattle.mergedfiles.specs.Texts.{number_under}
 use Rattle.unify_texts.specs.WrittenMap.{map_line, pair_for}
 
 -- the place of the first that passes

@@ -12,9 +12,8 @@ use Rattle.hosts_join.specs.Pairs.{number_of}
 use Rattle.hosts_join.specs.Rules.{account, is_name}
 use Rattle.hosts_join.proofs.Grouping.{bytes_same, bytes_refl, bytes_sym}
 use Rattle.candidates.specs.Mapping.{IsMapping}
-use Rattle.ownership.specs.Mappings.{number_at}
+use Rattle.ownership.specs.Mappings.{number_at, number_under}
 use Rattle.mergedfiles.specs.Order.{put, in_order, by_bytes}
-use Rattle.mergedfiles.specs.Texts.{number_under}
 use Rattle.unify_texts.specs.WrittenMap.{pair_for, numbered, SayMapping, IsMappingOf, WrittenMapsReadBack}
 use Rattle.unify_texts.proofs.MapLines.{place_named}
 use Rattle.unify_texts.proofs.MapBack.{IsPair, FreshAfter, listed, listed-some, read_back}

@@ -14,7 +14,6 @@ pub finish-requires : goal.finish-requires
 finish-requires c =
     let ch = choices_of c.self.inside in
     let given = c.args.given.now in
-    let settled = c.in_ok-settled.settled.items in
     let start = c.in_ok-filling.filling in
     let part : IsPartial ch given = rw c.self.view_is c.requires in
     let long : length start ≡ length ch.accounts.names = ap length c.in_ok-filling.ensures ∙ c.in_ok-settled.ensures.len in
@@ -27,7 +26,6 @@ pub new-requires : goal.new-requires
 new-requires c =
     let ch = choices_of c.self.inside in
     let given = c.args.given.now in
-    let settled = c.in_ok-settled.settled.items in
     let start = c.in_ok-filling.filling in
     let part : IsPartial ch given = rw c.self.view_is c.requires in
     let long : length start ≡ length ch.accounts.names = ap length c.in_ok-filling.ensures ∙ c.in_ok-settled.ensures.len in
@@ -40,7 +38,6 @@ pub returns-clause-admissible : goal.returns-clause-admissible
 returns-clause-admissible c =
     let ch = choices_of c.self.inside in
     let given = c.args.given.now in
-    let settled = c.in_ok-settled.settled.items in
     let start = c.in_ok-filling.filling in
     let part : IsPartial ch given = rw c.self.view_is c.requires in
     let long : length start ≡ length ch.accounts.names = ap length c.in_ok-filling.ensures ∙ c.in_ok-settled.ensures.len in
@@ -53,7 +50,6 @@ pub returns-clause-given_stay : goal.returns-clause-given_stay
 returns-clause-given_stay c =
     let ch = choices_of c.self.inside in
     let given = c.args.given.now in
-    let settled = c.in_ok-settled.settled.items in
     let start = c.in_ok-filling.filling in
     let part : IsPartial ch given = rw c.self.view_is c.requires in
     let long : length start ≡ length ch.accounts.names = ap length c.in_ok-filling.ensures ∙ c.in_ok-settled.ensures.len in
@@ -66,7 +62,6 @@ pub returns-clause-filled : goal.returns-clause-filled
 returns-clause-filled c =
     let ch = choices_of c.self.inside in
     let given = c.args.given.now in
-    let settled = c.in_ok-settled.settled.items in
     let start = c.in_ok-filling.filling in
     let part : IsPartial ch given = rw c.self.view_is c.requires in
     let long : length start ≡ length ch.accounts.names = ap length c.in_ok-filling.ensures ∙ c.in_ok-settled.ensures.len in

@@ -1,4 +1,4 @@
-use Rattle.std.proofs.Common.{◌≡◌, ◌++◌, take, map, ℕ, List}
+use Rattle.std.proofs.Common.{◌≡◌, ◌++◌, take, map}
 use Rattle.std.specs.List.{flat_map}
 use Rattle.mergedfiles.specs.Rows.{users_named, groups_named}
 use Rattle.mergedfiles.specs.Differences.{user_differences, group_differences}

@@ -1,4 +1,4 @@
-use Rattle.std.proofs.Common.{◌≡◌, ◌++◌, map, ℕ, List, length}
+use Rattle.std.proofs.Common.{◌≡◌, ◌++◌, map, ℕ, List}
 use Rattle.std.specs.Borrow.{Bor}
 use Rattle.accounts.specs.Rows.{members_of}
 use Rattle.mergedfiles.specs.Seen.{group_seen}

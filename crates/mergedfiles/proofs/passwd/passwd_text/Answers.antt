@@ -1,4 +1,4 @@
-use Rattle.std.proofs.Common.{ℕ, ◌≡◌, ◌<◌, ◌∙◌, ap, get_or, length, List, arith}
+use Rattle.std.proofs.Common.{ℕ, ◌<◌, ◌∙◌, ap, get_or, length}
 use Rattle.hosts_join.specs.Accounts.{Accounts}
 use Rattle.hosts_join.specs.Rules.{account}
 use Rattle.mergedfiles.specs.Texts.{merged_user}

@@ -1,4 +1,4 @@
-use Rattle.std.proofs.Common.{sym, ◌∙◌, ap, ◌≡◌, ◌++◌, ◌∷◌, [], List, map, take}
+use Rattle.std.proofs.Common.{sym, ◌∙◌, ap, ◌∷◌, [], List, map, take}
 use Rattle.std.proofs.lemmas.List.{map-append}
 use Rattle.mergedfiles.specs.Rows.{GroupRow}
 use Rattle.mergedfiles.specs.Seen.{group_seen, group_told}

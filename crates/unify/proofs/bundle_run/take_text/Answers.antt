@@ -1,9 +1,6 @@
-use Rattle.std.proofs.Common.{rules, ◌≡◌, ◌≢◌, IfOk, MatchBool, false, drop, ◌==◌, ℕ, ◌+◌, ◌-◌, ◌*◌, ◌<◌, ◌≤◌, length, ◌/◌, ◌%◌, Bool, true, nat_eq, nat_lt, List, [], ◌∷◌, ◌++◌, slice_index_or, slice_set, sym, ap, ◌∙◌, bit_and, bit_or, Fits, w8, w32, w64, Bor, MutBor}
+use Rattle.std.proofs.Common.{◌==◌, sym, ap, ◌∙◌}
 use Rattle.std.specs.List.{position}
 use Rattle.unify_texts.specs.BundleLines.{file_index}
-use Rattle.std.specs.Io.KnownBytes.{Appends}
-use Rattle.unify.specs.Output.{text_in, host_text, host_texts, head_files, count_lines, answered, Answers, IsReply, IsOutput, Tells, TakesAtMost}
-use Rattle.unify.specs.Replies.{reply_of}
 use Rattle.std.proofs.lemmas.List.Quantifiers.{position-Some}
 use Rattle.unify.proofs.Taking.{text_first, text_other, text_none}
 use Rattle.unify.proofs.bundle_run.take_text.Goals as goal

@@ -1,5 +1,5 @@
-use Rattle.std.proofs.Common.{ℕ, ◌++◌, take, arith, length-append, length-take, inl, inr, sym, ◌∙◌}
-use Rattle.unify.proofs.Telling.{consumes_more, taken_from}
+use Rattle.std.proofs.Common.{ℕ, ◌++◌, take, arith, length-append, length-take}
+use Rattle.unify.proofs.Telling.{consumes_more}
 use Rattle.unify.proofs.input.read_input.Goals as goal
 
 pub returns-then-count-len-clause-taken : goal.returns-then-count-len-clause-taken

@@ -1,0 +1,10 @@
+use Rattle.std.proofs.Common.{◌≡◌, ℕ, ◌<◌, ◌≤◌, ◌^◌, get_or, length}
+use Rattle.assignment.specs.Solutions.{row_weight}
+use Rattle.assignment.proofs.duals.first_y.Given as goal
+
+abbrev pub invariant-loop-name : goal.invariant-loop-name
+invariant-loop-name l = record {
+  long : length l.y.items ≡ l.name;
+  covers : (n v : ℕ) → n < l.name → row_weight l.rows n v ≤ get_or l.y.items n 0;
+  small : (n : ℕ) → get_or l.y.items n 0 < 2 ^ 63;
+}

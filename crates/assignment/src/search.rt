@@ -1,0 +1,168 @@
+//! One search: from a waiting name to a number that nobody has, or to a name that leaves.
+ghost use Rattle.std.specs.Prelude.{◌≡◌, ℕ, ◌+◌, ◌-◌, ◌<◌, ◌≤◌, length, OnOk, IfSome, ◌⊎◌, slice_index};
+ghost use Rattle.std.specs.BinaryHeap.{heap_items};
+ghost use Rattle.assignment.specs.Solutions.{row_weight};
+ghost use Rattle.assignment.specs.Standing.{IsSlack, IsMet};
+ghost use Rattle.assignment.specs.Solving.{IsServing, IsSearching, IsFlipping, root_of};
+ghost use Rattle.assignment.specs.Lazy.{level_of, lowered_to, IsLazy, IsExit, HasEdges, HasOtherEdges};
+
+use crate::queue::Queue;
+use crate::solver::Solver;
+use crate::tree::Tree;
+use std::alloc::AllocError;
+use std::cmp::Reverse;
+
+/// The level at which a pair of the name at a position is tight, or else at which the name leaves.
+#[derive(Clone, Copy, Debug)]
+pub struct Nearest {
+    pub level: u64,
+    pub at: usize,
+    pub number: Option<u32>,
+}
+
+impl Nearest {
+    /// The nearer of the two.
+    fn or(self, other: Nearest) -> Nearest
+        ensures one { (result ≡ self) ⊎ (result ≡ other) }
+        ensures first { result.level ≤ self.level }
+        ensures second { result.level ≤ other.level }
+    {
+        if other.level < self.level {
+            other
+        } else {
+            self
+        }
+    }
+}
+
+impl Solver<'_, '_, '_> {
+    /// Adds the edges of the tree's name at a position to the queue, but for those that are tight only when a name has left.
+    fn reach(
+        &self,
+        tree: &Tree,
+        queue: &mut Queue,
+        at: usize,
+        now: u64,
+        leaves: u64,
+    ) -> Result<(), AllocError>
+        requires searching { IsLazy self.now tree.now now }
+        requires at { at + 1 ≡ length tree.now.names.items }
+        requires level { level_of tree.now at ≡ now }
+        requires edges { HasEdges self.now tree.now now leaves (heap_items queue.old.heap) at }
+        ensures { OnOk result (HasEdges self.now tree.now now leaves (heap_items queue.new.heap) (length tree.now.names.items)) }
+    {
+        let name = tree.names[at];
+        let high = self.duals.y[name as usize];
+        let row = self.rows.row(name);
+        for candidate in row {
+            let slack = high + self.duals.value(candidate.number) - candidate.weight;
+            queue.offer(now, slack, at, candidate.number, leaves)?;
+        }
+        Ok(())
+    }
+
+    /// The least level at which a pair of the tree is tight, or else at which a name leaves.
+    fn next(&self, tree: &Tree, queue: &mut Queue, now: u64, exit: Nearest) -> Nearest
+        requires searching { IsLazy self.now tree.now now }
+        requires exit { IsExit self.now tree.now exit }
+        requires later { now ≤ exit.level }
+        requires edges { HasEdges self.now tree.now now exit.level (heap_items queue.old.heap) (length tree.now.names.items) }
+        ensures later { now ≤ result.level }
+        ensures below { result.level ≤ exit.level }
+        ensures slack { IsSlack (row_weight self.now.rows.now) (lowered_to self.now.duals self.now.pairs tree.now now) tree.now.position.items tree.now.names.items (result.level - now) }
+        ensures within { result.at < length tree.now.names.items }
+        ensures met { IsMet (row_weight self.now.rows.now) (lowered_to self.now.duals self.now.pairs tree.now now) tree.now.position.items tree.now.names.items (result.level - now) result.at result.number }
+        ensures rest { IfSome result.number (λ v. HasOtherEdges self.now tree.now result.level exit.level (heap_items queue.new.heap) v) }
+    {
+        while let Some((Reverse(level), at, number)) = queue.pop() {
+            if exit.level <= level {
+                return exit;
+            }
+            if !self.pairs.holds(tree, number) {
+                return Nearest {
+                    level,
+                    at,
+                    number: Some(number),
+                };
+            }
+        }
+        exit
+    }
+
+    /// Gives the number to the name at a position of the tree, its number to the one before it, and so on to the first.
+    fn flip(&mut self, tree: &Tree, mut at: usize, mut number: u32) -> Result<(), AllocError>
+        requires { IsFlipping self.old tree.now at number }
+        ensures rows { self.new.rows.now ≡ self.old.rows.now }
+        ensures served { OnOk result (IsServing self.new (root_of tree.now + 1)) }
+    {
+        'path: loop {
+            let name = tree.names[at];
+            let Some(held) = self.pairs.give(name, number)? else {
+                return Ok(());
+            };
+            number = held;
+            at = tree.parents[at];
+        }
+    }
+
+    /// The name at a position of the tree leaves, since its y is 0, and its number goes to the name before it.
+    fn leave(&mut self, tree: &Tree, at: usize) -> Result<(), AllocError>
+        requires searching { IsSearching self.old tree.now }
+        requires at { at < length tree.now.names.items }
+        requires zero { slice_index self.old.duals.y.items (slice_index tree.now.names.items at) ≡ 0 }
+        ensures rows { self.new.rows.now ≡ self.old.rows.now }
+        ensures served { OnOk result (IsServing self.new (root_of tree.now + 1)) }
+    {
+        let name = tree.names[at];
+        let Some(number) = self.pairs.take(name) else {
+            return Ok(());
+        };
+        let parent = tree.parents[at];
+        self.flip(tree, parent, number)
+    }
+
+    /// Serves the next name: it has a number afterwards, or its y is 0. Others may have another number, or leave.
+    pub fn search(
+        &mut self,
+        tree: &mut Tree,
+        queue: &mut Queue,
+        root: u32,
+    ) -> Result<(), AllocError>
+        requires serving { IsServing self.old root }
+        requires root { root < length self.old.rows.now.rows }
+        requires position { length tree.old.position.items ≡ length self.old.rows.now.rows }
+        ensures rows { self.new.rows.now ≡ self.old.rows.now }
+        ensures position { length tree.new.position.items ≡ length tree.old.position.items }
+        ensures served { OnOk result (IsServing self.new (root + 1)) }
+    {
+        queue.clear();
+        tree.start(root)?;
+        let mut now = 0;
+        let mut exit = Nearest {
+            level: self.duals.y[root as usize],
+            at: 0,
+            number: None,
+        };
+        self.reach(tree, queue, 0, now, exit.level)?;
+        'turns: loop {
+            let best = self.next(tree, queue, now, exit);
+            let Some(number) = best.number else {
+                self.duals.settle(&self.pairs, tree, best.level)?;
+                return self.leave(tree, best.at);
+            };
+            let Some(name) = self.pairs.owner_of(number) else {
+                self.duals.settle(&self.pairs, tree, best.level)?;
+                return self.flip(tree, best.at, number);
+            };
+            let at = tree.names.len();
+            tree.push(name, best.at, best.level)?;
+            now = best.level;
+            exit = exit.or(Nearest {
+                level: now + self.duals.y[name as usize],
+                at,
+                number: None,
+            });
+            self.reach(tree, queue, at, now, exit.level)?;
+        }
+    }
+}

@@ -1,0 +1,12 @@
+pub mod Certificate
+pub mod Views
+pub mod Check
+pub mod OneKind
+pub mod Told
+pub mod Certified
+pub mod Spelling
+pub mod Made
+pub mod Reading
+pub mod Items
+pub mod LinesRead
+pub mod Laws

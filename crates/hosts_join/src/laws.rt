@@ -1,0 +1,18 @@
+//! Laws of the join, each the contract of a call that does nothing.
+ghost use Rattle.hosts_join.specs.Laws.{JoinedSitesAreLawful, JoinedSitesKnowTheirHosts, ReadPinsArePins};
+
+/// A site knows the accounts of each of its hosts: who has a number there is the account of the name that the host's own
+/// passwd, or group, gives that number, and where it gives it to no name no account has it.
+pub fn a_site_knows_its_hosts()
+    ensures { JoinedSitesKnowTheirHosts }
+{}
+
+/// The accounts of a site that was joined from at most 64 lawful hosts are lawful.
+pub fn a_site_has_lawful_accounts()
+    ensures { JoinedSitesAreLawful }
+{}
+
+/// In the pins that a text gives, names differ and numbers differ, in each kind, and an account may have each number.
+pub fn pins_are_lawful()
+    ensures { ReadPinsArePins }
+{}

@@ -1,0 +1,56 @@
+-- The owners that the files of a host get.
+use Rattle.std.specs.Prelude.{◌≡◌, ℕ, not, List, [], map, filter, length, Option, Some, None, find, bytes_eq, slice_index_or}
+use Rattle.hosts_join.specs.Accounts.{Accounts, owner}
+use Rattle.hosts_join.specs.Site.{Joined}
+use Rattle.hosts_join.specs.declared.host.Host.{Host}
+use Rattle.mtree_inv.specs.declared.entry.Entry.{Entry}
+use Rattle.ownership.specs.Faults.{unowned}
+use Rattle.ownership.specs.Mappings.{number_under}
+use Rattle.reown_plan.specs.declared.plan.Owner.{Owner}
+use Rattle.reown_plan.specs.Owners.{owner_of, owner_eq}
+use Rattle.reown_plan.specs.PlanData.{PlanRecord, PlanData}
+
+-- the new number of the name that has the number on the host
+abbrev pub renumbered : Accounts → List ℕ → ℕ → ℕ → ℕ
+renumbered a m host v = number_under m (owner a.names host v) v
+
+-- what a file gets: the new number of its user's name, and that of its group's name
+abbrev pub target : Joined → List ℕ → List ℕ → ℕ → Entry → Owner
+target site users groups host file = record { uid = renumbered site.users users host file.uid; gid = renumbered site.groups groups host file.gid }
+
+-- the record of a file
+abbrev pub record_to : (Entry → Owner) → Entry → PlanRecord
+record_to to file = record { before = owner_of file; after = to file; path = file.path }
+
+-- the records of the files that get another owner than they have, in the order of the inventory
+abbrev pub records_to : (Entry → Owner) → List Entry → List PlanRecord
+records_to to files = map (record_to to) (filter (λ f. not (owner_eq (owner_of f) (to f))) files)
+
+-- the records of a host's plan
+abbrev pub plan_of : Joined → List ℕ → List ℕ → ℕ → List Entry → List PlanRecord
+plan_of site users groups host files = records_to (target site users groups host) files
+
+-- the name of the host at an index
+abbrev pub name_at : List Host → ℕ → List ℕ
+name_at hosts host = slice_index_or (map (λ h. h.name) hosts) host []
+
+-- the plan of the host at an index
+abbrev pub host_plan : List Host → Joined → List ℕ → List ℕ → ℕ → List Entry → PlanData
+host_plan hosts site users groups host files = record { host = name_at hosts host; records = plan_of site users groups host files }
+
+-- the owner that a file has after a plan: the new one of its record, else the one that it has
+abbrev pub after_record : Option PlanRecord → Owner → Owner
+after_record None has = has
+after_record (Some r) has = r.after
+
+abbrev pub owner_after : List PlanRecord → Entry → Owner
+owner_after records file = after_record (find (λ r. bytes_eq file.path r.path) records) (owner_of file)
+
+-- the file's uid and gid have accounts on the host
+abbrev pub IsOwned : Joined → ℕ → Entry → Type 0
+IsOwned site host file = unowned site host file.uid file.gid ≡ None
+
+-- the mappings have one number for each name of the site
+pub record AreForSite (site : Joined) (users groups : List ℕ) : Type 0 where
+  pub users_len : length users ≡ length site.users.names
+  pub groups_len : length groups ≡ length site.groups.names

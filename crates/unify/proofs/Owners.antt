@@ -1,0 +1,86 @@
+-- Files with owners by their host's own tables have them among the site's accounts.
+use Rattle.std.proofs.Common.{◌≡◌, ℕ, Bool, true, false, cond, List, [], ◌∷◌, ◌++◌, get_or, Option, Some, None, Result, Ok, Err, refl, sym, ap, subst, ◌∙◌}
+use Rattle.std.specs.List.{All}
+use Rattle.std.specs.Option.{is_some}
+use Rattle.std.proofs.lemmas.List.Elements.{All-nil, All-cons}
+use Rattle.idtext.specs.First.{first_fault, or_else, unless}
+use Rattle.idtext.specs.declared.faults.TextFault.{TextFault}
+use Rattle.idtext.proofs.OkLemmas.{bind_ok, ok_same, unless_ok}
+use Rattle.mtree_inv.specs.declared.entry.Entry.{Entry}
+use Rattle.mtree_inv.specs.Inventory.{inventory}
+use Rattle.hosts_join.specs.Accounts.{Account, owner}
+use Rattle.hosts_join.specs.Kinds.{user_at, group_at}
+use Rattle.hosts_join.specs.Laws.{IsOwnedAsTold, KnowsHost}
+use Rattle.hosts_join.specs.Site.{Joined}
+use Rattle.hosts_join.specs.declared.host.Host.{Host}
+use Rattle.ownership.specs.Faults.{unowned, uid_fault, gid_fault}
+use Rattle.unify_texts.specs.declared.bundle_line.FileName.{FileName}
+use Rattle.unify_texts.specs.declared.bundle_line.FileName.TheVariants as file
+use Rattle.unify.specs.declared.host.Loaded.{Loaded}
+use Rattle.unify.specs.Hosts.{owner_fault, files_of}
+use Rattle.unify.specs.Told.{in_file}
+
+pub file_ok : {A : Type 0} (host : List ℕ) (name : FileName) (r : Result A TextFault) (x : A) → in_file host name r ≡ Ok x → r ≡ Ok x
+file_ok host name (Ok y) x h = ap (λ z. Ok z) (ok_same y x h)
+file_ok host name (Err e) x h = absurd (cc)
+
+none_both : {F : Type 0} (o p : Option F) → or_else o p ≡ None → (o ≡ None) × (p ≡ None)
+none_both None p h = (refl, h)
+none_both (Some f) p h = absurd (cc)
+
+-- a judge that asks nothing of the items before finds no fault in any
+pub none_fails : {A F : Type 0} (judge : A → Option F) (before xs : List A) → first_fault (λ seen x. judge x) before xs ≡ None → All (λ x. judge x ≡ None) xs
+unfolding first_fault
+none_fails judge before [] h = All-nil (λ x. judge x ≡ None)
+none_fails judge before (x ∷ xs) h =
+    let both = none_both (judge x) (first_fault (λ seen y. judge y) (before ++ x ∷ []) xs) h in
+    All-cons (λ y. judge y ≡ None) x xs both.0 (none_fails judge (before ++ x ∷ []) xs both.1)
+
+-- the files that were read are those of the inventory, each with its owners
+pub files_read : (loaded : Loaded) (files : List Entry) → files_of loaded ≡ Ok files → (inventory 16777216 loaded.mtree ≡ Ok files) × All (λ f. owner_fault loaded.host [] f ≡ None) files
+unfolding files_of
+files_read loaded files h =
+    let first = bind_ok (in_file loaded.host.name file.Mtree (inventory 16777216 loaded.mtree)) _ files h in
+    let second = bind_ok (unless (first_fault (owner_fault loaded.host) [] first.0) (tt {0})) _ files first.2 in
+    let same : first.0 ≡ files = ok_same first.0 files second.2 in
+    let checked = unless_ok (first_fault (owner_fault loaded.host) [] first.0) (tt {0}) second.0 second.1 in (
+      file_ok loaded.host.name file.Mtree (inventory 16777216 loaded.mtree) files (first.1 ∙ ap (λ fs. Ok fs) same),
+      subst (λ fs. All (λ f. owner_fault loaded.host [] f ≡ None) fs) same (none_fails (owner_fault loaded.host []) [] first.0 checked.0),
+    )
+
+owner-told : (names : List Account) (h v : ℕ) (told : Option (List ℕ)) → IsOwnedAsTold names h v told → is_some (owner names h v) ≡ is_some told
+owner-told names h v (Some name) is = ap is_some is.1
+owner-told names h v None is = ap is_some is
+
+no-fault : (user group : Option ℕ) (uid gid : ℕ) → is_some user ≡ true → is_some group ≡ true → uid_fault user uid (gid_fault group gid) ≡ None
+no-fault None group uid gid u g = absurd (cc)
+no-fault (Some i) None uid gid u g = absurd (cc)
+no-fault (Some i) (Some j) uid gid u g = refl
+
+both-there : (user group : Option ℕ) (uid gid : ℕ) → uid_fault user uid (gid_fault group gid) ≡ None → (is_some user ≡ true) × (is_some group ≡ true)
+both-there None group uid gid e = absurd (cc)
+both-there (Some i) None uid gid e = absurd (cc)
+both-there (Some i) (Some j) uid gid e = (refl, refl)
+
+-- a file has its owners among the site's accounts exactly where it has them by the host's own tables
+pub owned-there : (site : Joined) (h : ℕ) (host : Host) (uid gid : ℕ) → KnowsHost site h host → is_some (user_at host.users uid) ≡ true → is_some (group_at host.groups gid) ≡ true → unowned site h uid gid ≡ None
+owned-there site h host uid gid knows u g =
+    no-fault _ _ uid gid (owner-told site.users.names h uid (user_at host.users uid) (knows.users uid) ∙ u) (owner-told site.groups.names h gid (group_at host.groups gid) (knows.groups gid) ∙ g)
+
+pub owned-here : (site : Joined) (h : ℕ) (host : Host) (uid gid : ℕ) → KnowsHost site h host → unowned site h uid gid ≡ None → (is_some (user_at host.users uid) ≡ true) × (is_some (group_at host.groups gid) ≡ true)
+owned-here site h host uid gid knows e =
+    let both = both-there (owner site.users.names h uid) (owner site.groups.names h gid) uid gid e in (
+      sym (owner-told site.users.names h uid (user_at host.users uid) (knows.users uid)) ∙ both.0,
+      sym (owner-told site.groups.names h gid (group_at host.groups gid) (knows.groups gid)) ∙ both.1,
+    )
+
+pub owners-told : {F : Type 0} (user group : Bool) (e f : F) → cond user (cond group None (Some e)) (Some f) ≡ None → (user ≡ true) × (group ≡ true)
+owners-told true true e f h = (refl, refl)
+owners-told true false e f h = absurd (cc)
+owners-told false group e f h = absurd (cc)
+
+pub all-owned : (site : Joined) (h : ℕ) (host : Host) (files : List Entry) → KnowsHost site h host → All (λ f. owner_fault host [] f ≡ None) files → All (λ f. unowned site h f.uid f.gid ≡ None) files
+all-owned site h host files knows none = λ k d l.
+    let f = get_or files k d in
+    let told = owners-told (is_some (user_at host.users f.uid)) (is_some (group_at host.groups f.gid)) _ _ (none k d l) in
+    owned-there site h host f.uid f.gid knows told.0 told.1

@@ -1,0 +1,176 @@
+-- What was read is whole.
+use Rattle.std.proofs.Common.{◌≡◌, ℕ, suc, ◌+◌, ◌≤◌, false, List, [], ◌∷◌, length, map, get_or, Some, None, Result, Ok, Err, refl, ap, subst, ◌∙◌, arith, inl, inr, ◌==◌, nat_lt}
+use Rattle.std.specs.List.{All, slice_get}
+use Rattle.std.specs.Option.{is_some, option_map}
+use Rattle.std.proofs.lemmas.Bool.{cases_Bool, both_ways, and_from, false_from_ne_true, ltb-false}
+use Rattle.std.proofs.lemmas.List.{length-map}
+use Rattle.std.proofs.lemmas.List.Elements.{All-nil, All-append, All-map}
+use Rattle.std.proofs.lemmas.Option.{slice_get-map, slice_get-get_or}
+use Rattle.idtext.specs.First.{each}
+use Rattle.idtext.proofs.OkLemmas.{bind_ok, ok_same, length-each, each-ok}
+use Rattle.accounts.specs.Tables.{passwd_table, group_table}
+use Rattle.accounts.proofs.LawLemmas.{passwd-law, group-law}
+use Rattle.logindefs.specs.declared.ranges.IdRange.{IdRange}
+use Rattle.logindefs.specs.declared.ranges.HostRanges.{HostRanges}
+use Rattle.logindefs.specs.Ranges.{AreApart, IsHostRanges, apart, in_range, ranges_of, share}
+use Rattle.logindefs.proofs.SetLemmas.{shared-both}
+use Rattle.mtree_inv.specs.declared.entry.Entry.{Entry}
+use Rattle.mtree_inv.proofs.LawfulLemmas.{inventory-files}
+use Rattle.hosts_join.specs.Checks.{hosts_checked, primary_checked}
+use Rattle.hosts_join.specs.Hosts.{IsLawfulHost}
+use Rattle.hosts_join.specs.Kinds.{user_at, group_at}
+use Rattle.hosts_join.specs.PinPairs.{PinPairs}
+use Rattle.hosts_join.specs.PinsText.{pins_of}
+use Rattle.hosts_join.specs.Site.{Joined, joined_site}
+use Rattle.hosts_join.specs.declared.host.Host.{Host}
+use Rattle.hosts_join.specs.declared.texts.HostText.{HostText}
+use Rattle.hosts_join.proofs.Knowing.{sites_know}
+use Rattle.hosts_join.proofs.SiteLemmas.{sites_are_lawful, pins_are_pins}
+use Rattle.ownership.specs.Faults.{unowned}
+use Rattle.ownership.specs.Files.{Added}
+use Rattle.unify_texts.specs.declared.bundle_line.FileName.TheVariants as file
+use Rattle.unify.specs.declared.host.Loaded.{Loaded}
+use Rattle.unify.specs.Count.{site_of}
+use Rattle.unify.specs.Hosts.{host_of, files_of}
+use Rattle.unify.specs.Laws.{IsReadHost, ReadSitesAreWhole, OwnersAgree}
+use Rattle.unify.specs.Reading.{WholeSite, added_on, added_from, site_read}
+use Rattle.unify.specs.Told.{in_file, in_site, in_pins}
+use Rattle.unify.proofs.Owners.{file_ok, files_read, owned-there, owned-here, owners-told}
+use Rattle.unify.proofs.Whole.{site_ok}
+
+pub owners_agree : OwnersAgree
+owners_agree joined h host uid gid knows = (
+  (λ none. let both = owned-here joined h host uid gid knows none in record { user = both.0; group = both.1 }),
+  (λ has. owned-there joined h host uid gid knows has.user has.group),
+)
+
+-- ---- a host
+
+not-shared : (r s : IdRange) → share r s ≡ false → AreApart r s
+not-shared r s none number there = false_from_ne_true (in_range s number) (λ t. both_ways (share r s) none ((shared-both r s).1 (number, and_from (in_range r number) (in_range s number) there t)))
+
+apart-ok : (given ranges : HostRanges) → apart given ≡ Ok ranges → IsHostRanges ranges
+unfolding apart
+apart-ok given ranges h = elim (cases_Bool (share given.uid given.sys_uid)) [
+  | inl t ↦ let h' = rw t at h in absurd (cc)
+  | inr f ↦ elim (cases_Bool (share given.gid given.sys_gid)) [
+    | inl t ↦ let h' = rw (f, t) at h in absurd (cc)
+    | inr g ↦ let h' = rw (f, g) at h in subst IsHostRanges (ok_same given ranges h') (record { uids_apart = not-shared given.uid given.sys_uid f; gids_apart = not-shared given.gid given.sys_gid g })
+  ]
+]
+
+ranges-law : (text : List ℕ) (ranges : HostRanges) → ranges_of text ≡ Ok ranges → IsHostRanges ranges
+unfolding ranges_of
+ranges-law text ranges h = let step = bind_ok _ apart ranges h in apart-ok step.0 ranges step.2
+
+pub host-lawful : (text : HostText) (loaded : Loaded) → host_of text ≡ Ok loaded → IsLawfulHost loaded.host
+unfolding host_of
+host-lawful text loaded h =
+    let ranges = bind_ok (in_file text.name file.LoginDefs (ranges_of text.logindefs)) _ loaded h in
+    let users = bind_ok (in_file text.name file.Passwd (passwd_table text.passwd)) _ loaded ranges.2 in
+    let groups = bind_ok (in_file text.name file.Group (group_table text.group)) _ loaded users.2 in
+    let made : Host = record { name = text.name; ranges = ranges.0; users = users.0; groups = groups.0 } in
+    let primary = bind_ok (in_site (primary_checked made)) _ loaded groups.2 in
+    let all : Loaded = record { host = made; mtree = text.mtree } in
+    subst (λ (l : Loaded). IsLawfulHost l.host) (ok_same all loaded primary.2)
+    (record {
+      ranges = ranges-law text.logindefs ranges.0 (file_ok text.name file.LoginDefs (ranges_of text.logindefs) ranges.0 ranges.1);
+      users = passwd-law text.passwd users.0 (file_ok text.name file.Passwd (passwd_table text.passwd) users.0 users.1);
+      groups = group-law text.group groups.0 (file_ok text.name file.Group (group_table text.group) groups.0 groups.1);
+    })
+
+hosts-few : (texts : List HostText) (u : Unit {0}) → hosts_checked texts ≡ Ok u → length texts ≤ 64
+unfolding hosts_checked
+hosts-few texts u h = elim (cases_Bool (length texts == 0)) [
+  | inl t ↦ let h' = rw t at h in absurd (cc)
+  | inr f ↦ elim (cases_Bool (nat_lt 64 (length texts))) [
+    | inl t ↦ let h' = rw (f, t) at h in absurd (cc)
+    | inr g ↦ ltb-false 64 (length texts) g
+  ]
+]
+
+-- ---- a site, step by step
+
+pub record Steps (texts : List HostText) (pins_text : List ℕ) (site : WholeSite) : Type 0 where
+  pub loaded : List Loaded
+  pub pins : PinPairs
+  pub few : length texts ≤ 64
+  pub hosts_are : each host_of texts ≡ Ok loaded
+  pub pins_are : pins_of pins_text ≡ Ok pins
+  pub joined_is : joined_site (map (λ l. l.host) loaded) pins ≡ Ok site.joined
+  pub files_are : each site_of loaded ≡ Ok site.hosts
+
+pins-ok : {A : Type 0} (r : Result A _) (x : A) → in_pins r ≡ Ok x → r ≡ Ok x
+pins-ok (Ok y) x h = ap (λ z. Ok z) (ok_same y x h)
+pins-ok (Err e) x h = absurd (cc)
+
+pub steps : (texts : List HostText) (pins_text : List ℕ) (site : WholeSite) → site_read texts pins_text ≡ Ok site → Steps texts pins_text site
+unfolding site_read
+steps texts pins_text site h =
+    let listed = bind_ok (in_site (hosts_checked texts)) _ site h in
+    let loading = bind_ok (each host_of texts) _ site listed.2 in
+    let pinning = bind_ok (in_pins (pins_of pins_text)) _ site loading.2 in
+    let joining = bind_ok (in_site (joined_site (map (λ (l : Loaded). l.host) loading.0) pinning.0)) _ site pinning.2 in
+    let filing = bind_ok (each site_of loading.0) _ site joining.2 in
+    let made : WholeSite = record { hosts = filing.0; joined = joining.0 } in
+    subst (Steps texts pins_text) (ok_same made site filing.2)
+    (record {
+      loaded = loading.0;
+      pins = pinning.0;
+      few = hosts-few texts listed.0 (site_ok (hosts_checked texts) listed.0 listed.1);
+      hosts_are = loading.1;
+      pins_are = pins-ok (pins_of pins_text) pinning.0 pinning.1;
+      joined_is = site_ok (joined_site (map (λ (l : Loaded). l.host) loading.0) pinning.0) joining.0 joining.1;
+      files_are = filing.1;
+    })
+
+pub loaded-lawful : (texts : List HostText) (loaded : List Loaded) → each host_of texts ≡ Ok loaded → All IsLawfulHost (map (λ l. l.host) loaded)
+loaded-lawful texts loaded h =
+    All-map IsLawfulHost (λ (l : Loaded). l.host) loaded
+    (λ k d l.
+    let from = each-ok host_of texts loaded h k (get_or loaded k d) (slice_get-get_or loaded k d l) in
+    host-lawful from.0 (get_or loaded k d) from.2)
+
+read-host : (texts : List HostText) (pins_text : List ℕ) (site : WholeSite) → Steps texts pins_text site → (h : ℕ) (host : Host) (files : List Entry) → slice_get site.hosts h ≡ Some (host, files) → IsReadHost site.joined h host files
+read-host texts pins_text site s h host files here =
+    let from = each-ok site_of s.loaded site.hosts s.files_are h (host, files) here in
+    let l = from.0 in
+    let filed = bind_ok (files_of l) (λ fs. Ok (l.host, fs)) (host, files) from.2 in
+    let pair : (l.host, filed.0) ≡ (host, files) = ok_same (l.host, filed.0) (host, files) filed.2 in
+    let text = each-ok host_of texts s.loaded s.hosts_are h l from.1 in
+    let read = files_read l filed.0 filed.1 in
+    let found = inventory-files 16777216 l.mtree filed.0 read.0 in
+    let there : slice_get (map (λ (l : Loaded). l.host) s.loaded) h ≡ Some l.host = slice_get-map (λ (l : Loaded). l.host) s.loaded h ∙ ap (option_map (λ (l : Loaded). l.host)) from.1 in
+    let known = sites_know (map (λ (l : Loaded). l.host) s.loaded) s.pins site.joined (loaded-lawful texts s.loaded s.hosts_are) s.joined_is h l.host there in
+    subst (λ (p : Host × List Entry). IsReadHost site.joined h p.0 p.1) pair
+    (record {
+      lawful = host-lawful text.0 l text.2;
+      files_are = found.0;
+      few = found.1;
+      owned = λ k d m.
+          let f = get_or filed.0 k d in
+          let told = owners-told (is_some (user_at l.host.users f.uid)) (is_some (group_at l.host.groups f.gid)) _ _ (read.1 k d m) in
+          record { user = told.0; group = told.1 };
+      known = known;
+    })
+
+all-from : (joined : Joined) (start : ℕ) (hosts : List (Host × List Entry)) → ((h : ℕ) (host : Host) (files : List Entry) → slice_get hosts h ≡ Some (host, files) → IsReadHost joined (start + h) host files) → All (λ f. unowned joined f.host f.uid f.gid ≡ None) (added_from start hosts)
+all-from joined start [] each_host = All-nil (λ (f : Added). unowned joined f.host f.uid f.gid ≡ None)
+all-from joined start (here ∷ more) each_host =
+    let first : IsReadHost joined start here.0 here.1 = subst (λ n. IsReadHost joined n here.0 here.1) (omega arith) (each_host 0 here.0 here.1 refl) in
+    All-append (λ (f : Added). unowned joined f.host f.uid f.gid ≡ None) (map (added_on start) here.1) (added_from (start + 1) more)
+    (All-map (λ (f : Added). unowned joined f.host f.uid f.gid ≡ None) (added_on start) here.1
+    (λ k d l. let f = get_or here.1 k d in let has = first.owned k d l in owned-there joined start here.0 f.uid f.gid first.known has.user has.group))
+    (all-from joined (start + 1) more (λ h host files at. subst (λ n. IsReadHost joined n host files) (omega arith) (each_host (suc h) host files at)))
+
+pub read_sites_are_whole : ReadSitesAreWhole
+read_sites_are_whole texts pins_text site h =
+    let s = steps texts pins_text site h in
+    let each_host = read-host texts pins_text site s in
+    let loaded = length-each host_of texts s.loaded s.hosts_are in
+    record {
+      few_hosts = omega (arith, s.few, loaded, length-each site_of s.loaded site.hosts s.files_are);
+      lawful = sites_are_lawful (map (λ (l : Loaded). l.host) s.loaded) s.pins site.joined (omega (arith, s.few, loaded, length-map s.loaded (λ (l : Loaded). l.host))) (loaded-lawful texts s.loaded s.hosts_are) (pins_are_pins pins_text s.pins s.pins_are) s.joined_is;
+      each_host = each_host;
+      owned = all-from site.joined 0 site.hosts (λ h host files here. subst (λ n. IsReadHost site.joined n host files) (omega arith) (each_host h host files here));
+    }

@@ -1,0 +1,27 @@
+-- What a check of a certificate answers: the cost, or the first fault: those of the site, then the certificate's text, then the check.
+use Rattle.std.specs.Prelude.{◌≡◌, ℕ, List, Result, Ok, Err}
+use Rattle.idtext.specs.First.{◌>>=◌}
+use Rattle.hosts_join.specs.declared.texts.HostText.{HostText}
+use Rattle.certcheck.specs.Certified.{IsAccepted}
+use Rattle.certcheck.specs.Check.{answer}
+use Rattle.certcheck.specs.Reading.{certificate_in}
+use Rattle.certcheck.specs.declared.certificate.Certificate.{Certificate}
+use Rattle.unify_texts.specs.declared.fault.Fault.{Fault}
+use Rattle.unify.specs.Reading.{WholeSite, files_of_site, site_read}
+use Rattle.unify.specs.Told.{in_certificate, in_check}
+
+-- a site with a certificate of it
+abbrev pub checked : WholeSite → Result Certificate Fault → Result ℕ Fault
+checked site certificate = certificate >>= λ c. in_check (answer site.joined (files_of_site site) c)
+
+unfoldable pub verified : List HostText → List ℕ → List ℕ → Result ℕ Fault
+verified texts pins_text text = site_read texts pins_text >>= λ site. checked site (in_certificate (certificate_in text))
+
+-- What a yes means: the texts say a site and a certificate of exactly its names; its mappings are admissible, its potentials certify
+-- them, no admissible mappings cost less, and this is their cost.
+pub record IsVerified (texts : List HostText) (pins_text text : List ℕ) (cost : ℕ) : Type 0 where
+  pub site : WholeSite
+  pub read : site_read texts pins_text ≡ Ok site
+  pub certificate : Certificate
+  pub said : certificate_in text ≡ Ok certificate
+  pub accepted : IsAccepted site.joined (files_of_site site) certificate cost

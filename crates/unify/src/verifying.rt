@@ -1,0 +1,81 @@
+//! From the texts of hosts and of a certificate to the cost of its mappings.
+
+ghost use Rattle.std.specs.Prelude.{◌≡◌, IfOk};
+ghost use Rattle.idtext.specs.First.{Gives};
+ghost use Rattle.ownership.specs.Counts.{IsMadeFor, StandsFor};
+ghost use Rattle.ownership.specs.Files.{Added};
+ghost use Rattle.certcheck.specs.Check.{answer as check_answer};
+ghost use Rattle.certcheck.specs.Reading.{certificate_in};
+ghost use Rattle.unify_texts.specs.Told.{told};
+ghost use Rattle.unify.specs.Told.{check_told, in_certificate, in_check};
+ghost use Rattle.unify.specs.Checking.{IsVerified, verified};
+
+use crate::site::{LoadedSite, read_site};
+use certcheck::{Certificate, CertificateFault, CheckFault, check, read_certificate};
+use hosts_join::HostText;
+use std::alloc::Global;
+use unify_texts::Fault;
+
+// A fault of the check, as the program tells it.
+fn check_fault(fault: CheckFault<'_>) -> Fault<'_>
+    ensures { result ≡ check_told fault.entry }
+{
+    match fault {
+        CheckFault::NameMissing { kind, name } => Fault::NameMissing { kind, name },
+        CheckFault::NumberTwice { kind, number } => Fault::NumberTwice { kind, number },
+        CheckFault::OutsidePool { kind, name } => Fault::OutsidePool { kind, name },
+        CheckFault::PinBroken { kind, name } => Fault::PinBroken { kind, name },
+        CheckFault::NotCovered { kind, name, number } => Fault::NotCovered { kind, name, number },
+        CheckFault::SumsDiffer { kind, sum, weight } => Fault::SumsDiffer { kind, sum, weight },
+        CheckFault::Memory => Fault::Memory,
+    }
+}
+
+// The certificate of a text.
+fn certificate_at<'a>(alloc: Global, text: &'a [u8]) -> Result<Certificate<'a>, Fault<'a>>
+    ensures { Gives (λ certificate. certificate) told result (in_certificate (certificate_in text.now)) }
+{
+    match read_certificate(alloc, text) {
+        Ok(certificate) => Ok(certificate),
+        Err(CertificateFault::BadCertificate(line)) => Err(Fault::BadCertificate(line)),
+        Err(CertificateFault::Memory) => Err(Fault::Memory),
+    }
+}
+
+// The check of a certificate of a site that was read.
+fn check_site<'a>(
+    alloc: Global,
+    loaded: &LoadedSite<'a>,
+    certificate: &Certificate<'a>,
+) -> Result<u64, Fault<'a>>
+    requires made { IsMadeFor loaded.now.site loaded.now.counts }
+    requires stands { (files : List Added) × StandsFor loaded.now.site loaded.now.counts files }
+    ensures { (files : List Added) → StandsFor loaded.now.site loaded.now.counts files → Gives (λ cost. cost) told result (in_check (check_answer loaded.now.site files certificate.now)) }
+{
+    match check(alloc, &loaded.site, &loaded.counts, certificate) {
+        Ok(cost) => Ok(cost),
+        Err(fault) => Err(check_fault(fault)),
+    }
+}
+
+/// How many owner and group fields the mappings of a certificate change, where the certificate proves that no admissible
+/// mappings change fewer; it may be written by anybody.
+///
+/// It refuses with the first fault in this order: those of `read_site`; the certificate's text, by line; the check, users
+/// before groups. `Fault::Memory` is a growth that was refused.
+///
+/// It reads each text once, and takes time near linear in account rows, files and the certificate's lines.
+#[tactic(auto, unfolding(crate::specs::Checking::verified))]
+pub fn verify<'a>(
+    alloc: Global,
+    hosts: &'a [HostText],
+    pins: &'a [u8],
+    certificate: &'a [u8],
+) -> Result<u64, Fault<'a>>
+    ensures exact { Gives (λ cost. cost) told result (verified hosts.now pins.now certificate.now) }
+    ensures proved { IfOk result (IsVerified hosts.now pins.now certificate.now) }
+{
+    let loaded = read_site(alloc, hosts, pins)?;
+    let certificate = certificate_at(alloc, certificate)?;
+    check_site(alloc, &loaded, &certificate)
+}
