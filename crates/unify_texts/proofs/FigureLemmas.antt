@@ -1,5 +1,5 @@
 -- Counts and sums over the names of a kind.
-use Rattle.std.proofs.Common.{◌≡◌, ℕ, zero, suc, ◌+◌, ◌-◌, ◌*◌, ◌<◌, ◌≤◌, ◌==◌, ◌&&◌, nat_lt, nat_le, nat_eq, not, Bool, true, false, cond, List, [], ◌∷◌, All, length, refl, sym, ap, ◌∙◌, add-one, arith, inl, inr}
+use Rattle.std.proofs.Common.{◌≡◌, ℕ, zero, suc, ◌+◌, ◌-◌, ◌*◌, ◌≤◌, ◌==◌, ◌&&◌, nat_lt, nat_le, nat_eq, not, Bool, true, false, cond, List, [], ◌∷◌, All, length, refl, sym, ap, ◌∙◌, add-one, arith, inl, inr}
 use Rattle.std.specs.Prelude.{is_some}
 use Rattle.std.specs.List.{count_by, find, AllByRecursion}
 use Rattle.std.specs.Option.{option_map}
@@ -13,7 +13,7 @@ use Rattle.hosts_join.specs.Lawful.{AreLawfulAccounts}
 use Rattle.hosts_join.specs.Rules.{account, class_at, is_free_class}
 use Rattle.hosts_join.proofs.Counting.{count_below-suc, count_below-same}
 use Rattle.ownership.specs.Counts.{Tally, CountFiles, told_kept}
-use Rattle.ownership.specs.Costs.{cost_of, changed_rows}
+use Rattle.ownership.specs.Costs.{cost_of}
 use Rattle.ownership.specs.Files.{File, kept, owns, has_there, is_number}
 use Rattle.ownership.specs.Mappings.{number_at}
 use Rattle.ownership.specs.Sums.{sum_below}

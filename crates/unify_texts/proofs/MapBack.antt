@@ -1,15 +1,14 @@
 -- The map that is written reads back.
-use Rattle.std.proofs.Common.{◌≡◌, ℕ, zero, suc, ◌+◌, ◌<◌, ◌≤◌, ◌==◌, ◌||◌, ◌&&◌, not, Bool, true, false, cond, List, [], ◌∷◌, ◌++◌, All, length, map, get_or, flat_map, decimal, Option, Some, None, Ok, refl, sym, ap, ◌∙◌, append_assoc, append-nil, arith, inl, inr}
-use Rattle.std.specs.Prelude.{is_some, codes}
+use Rattle.std.proofs.Common.{◌≡◌, ℕ, ◌<◌, ◌≤◌, ◌==◌, ◌||◌, not, Bool, true, false, cond, List, [], ◌∷◌, ◌++◌, map, flat_map, decimal, Some, None, Ok, refl, sym, ap, ◌∙◌, append_assoc, append-nil, arith, inl, inr}
+use Rattle.std.specs.Prelude.{is_some}
 use Rattle.std.specs.Char.{digit_value}
-use Rattle.std.specs.List.{list_any, list_all, find, AllByRecursion}
-use Rattle.std.specs.Option.{option_map}
+use Rattle.std.specs.List.{list_any, AllByRecursion}
 use Rattle.std.specs.Str.{bytes_eq}
 use Rattle.std.specs.Str.Parse.{AllDigits}
-use Rattle.std.proofs.lemmas.Bool.{cases_Bool, cases_lt, both_ways, eqb-true, ne_eqb, and_parts, not-true, or_cases}
+use Rattle.std.proofs.lemmas.Bool.{cases_Bool, ne_eqb, and_parts, not-true}
 use Rattle.std.proofs.lemmas.Fmt.{decimal_is_IsNumeral}
 use Rattle.std.proofs.lemmas.List.Concat.{flat_map-append}
-use Rattle.std.proofs.lemmas.List.Elements.{All-from_recursion, recursion_from_All}
+use Rattle.std.proofs.lemmas.List.Elements.{All-from_recursion}
 use Rattle.std.proofs.lemmas.List.Splits.{slice_split_at}
 use Rattle.idtext.specs.First.{first_fault, unless}
 use Rattle.idtext.specs.Names.{is_lawful_name, is_separator}
@@ -20,21 +19,13 @@ use Rattle.idtext.proofs.PieceLemmas.{lines-cut, lines-empty}
 use Rattle.hosts_join.specs.declared.Which.{Which}
 use Rattle.hosts_join.specs.declared.Which.TheVariants.{User, Group}
 use Rattle.hosts_join.specs.declared.pair_lines.PairLine.TheVariants.{Given, Wrong}
-use Rattle.hosts_join.specs.Accounts.{Account, Accounts, Pair, place_of}
-use Rattle.hosts_join.specs.Lawful.{AreLawfulAccounts}
+use Rattle.hosts_join.specs.Accounts.{Pair}
 use Rattle.hosts_join.specs.PairLines.{pair_line_of, cut_pair, named, user_pair, group_pair}
 use Rattle.hosts_join.specs.Pairs.{number_of}
-use Rattle.hosts_join.specs.Rules.{account, is_name}
-use Rattle.hosts_join.specs.Site.{Joined}
-use Rattle.hosts_join.proofs.Grouping.{bytes_same, bytes_refl}
-use Rattle.candidates.specs.Mapping.{IsMapping}
-use Rattle.ownership.specs.Mappings.{Mappings, number_at}
-use Rattle.mergedfiles.specs.Order.{put, in_order, by_bytes}
 use Rattle.unify_texts.specs.declared.map_text.MapText.{MapText}
 use Rattle.unify_texts.specs.Maps.{map_of, map_fault, numbering_of, is_good_after}
-use Rattle.unify_texts.specs.WrittenMap.{pair_for, numbered, map_line, map_text, SayMapping, ReadsBack, IsMappingOf, WrittenMapsReadBack}
+use Rattle.unify_texts.specs.WrittenMap.{map_line}
 use Rattle.unify_texts.specs.Words.{which_word}
-use Rattle.unify_texts.proofs.MapLines.{place_named}
 
 -- ---- a line
 

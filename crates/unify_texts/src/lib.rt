@@ -1,4 +1,4 @@
-//! The texts of the program: fault lines, maps and bundles.
+//! The texts of the program: fault lines, maps, reports and bundles.
 #![tactic(auto)]
 
 mod bundle;

@@ -115,8 +115,8 @@ fn map_lines(
 /// order of the names, and then a line `group NAME NUMBER` for each group alike. Asked is one number for each name.
 /// What is appended is read back by [`read_map`] as these numbers.
 ///
-/// One sort of the names of each kind, and time and memory in the length of the lines. `AllocError` where a growth was
-/// refused; then nothing is appended.
+/// One sort of the names of each kind, and time and memory in the length of the lines, of which a copy is made first.
+/// `AllocError` where a growth was refused; then nothing is appended.
 pub fn push_map(
     alloc: Global,
     out: &mut Vec<u8>,

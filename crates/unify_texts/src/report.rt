@@ -113,8 +113,8 @@ fn report_lines(
 /// Asked is that the site was joined from these hosts, that the counters were made for it, and that there is one number
 /// for each name. Where the counters stand for files, the report is that of these files.
 ///
-/// A few passes over the names, a scan of at most 64 counters for each, and what `differences` takes; memory in the
-/// length of the text. `AllocError` where a growth was refused.
+/// A few passes over the names, with a few scans of at most 64 counters or rows for each, and what `differences` takes;
+/// memory in the length of the text besides. `AllocError` where a growth was refused.
 pub fn report_text(
     alloc: Global,
     hosts: &[Host<'_>],

@@ -1,10 +1,10 @@
-use Rattle.std.proofs.Common.{◌≡◌, ℕ, ◌+◌, ◌-◌, ◌≤◌, List, [], length, arith, refl, sym, ap, ◌∙◌}
-use Rattle.hosts_join.specs.Accounts.{Accounts, all_lines}
+use Rattle.std.proofs.Common.{◌≡◌, ℕ, ◌+◌, ◌-◌, ◌≤◌, List, [], length, arith, ap, ◌∙◌}
+use Rattle.hosts_join.specs.Accounts.{Accounts}
 use Rattle.ownership.specs.Costs.{cost_of, changed_rows}
 use Rattle.ownership.specs.Files.{File}
 use Rattle.ownership.proofs.CostLemmas.{rows_and_lines}
 use Rattle.unify_texts.specs.Figures.{figures_of, pinned_names, kept_names, fresh_names}
-use Rattle.unify_texts.specs.Staying.{told_names, told_rows, told_files}
+use Rattle.unify_texts.specs.Staying.{told_names, told_files}
 use Rattle.unify_texts.specs.declared.figures.Figures.{Figures}
 use Rattle.unify_texts.proofs.FigureLemmas.{all_names, kept_told, cost_told}
 use Rattle.unify_texts.proofs.figures.figures_under.Goals as goal
