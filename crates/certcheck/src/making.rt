@@ -4,6 +4,7 @@ ghost use Rattle.std.specs.List.Sorted.{IsSortedBy};
 ghost use Rattle.std.specs.Ordering.{nat_cmp, is_lt};
 ghost use Rattle.std.specs.Cmp.Lexicographic.{slice_cmp};
 ghost use Rattle.hosts_join.specs.Lawful.{AreLawfulAccounts};
+ghost use Rattle.certcheck.specs.Certificate.{IsSide};
 ghost use Rattle.certcheck.specs.Made.{AreRowsOf, IsSolutionFor, IsSideOf};
 ghost use Rattle.certcheck.specs.Views.{rows_of};
 
@@ -54,7 +55,8 @@ pub fn side_of<'a>(
     z: &[(u32, u64)],
 ) -> Result<Side<'a>, AllocError>
     requires { IsSolutionFor names.now mapping.now y.now z.now }
-    ensures { IfOk result (IsSideOf names.now mapping.now y.now z.now) }
+    ensures side { IfOk result (IsSideOf names.now mapping.now y.now z.now) }
+    ensures ordered { IfOk result IsSide }
 {
     let mut rows = rows_in_order(alloc, names, mapping, y)?;
     sort_rows(&mut rows);
@@ -70,7 +72,8 @@ pub fn certificate_of<'a>(
     solution: &Solution,
 ) -> Result<Side<'a>, AllocError>
     requires { IsSolutionFor names.now solution.now.mapping solution.now.y.items solution.now.z.items }
-    ensures { IfOk result (IsSideOf names.now solution.now.mapping solution.now.y.items solution.now.z.items) }
+    ensures side { IfOk result (IsSideOf names.now solution.now.mapping solution.now.y.items solution.now.z.items) }
+    ensures ordered { IfOk result IsSide }
 {
     side_of(
         alloc,

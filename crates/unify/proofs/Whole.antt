@@ -11,6 +11,8 @@ use Rattle.hosts_join.specs.Hosts.{IsLawfulHost}
 use Rattle.hosts_join.specs.PinPairs.{PinPairs}
 use Rattle.hosts_join.specs.PinsText.{pins_of}
 use Rattle.hosts_join.specs.Site.{Joined, joined_site}
+use Rattle.hosts_join.proofs.Knowing.{site-is}
+use Rattle.mergedfiles.specs.Together.{AreJoined}
 use Rattle.hosts_join.specs.declared.fault.SiteFault.{SiteFault}
 use Rattle.hosts_join.specs.declared.host.Host.{Host}
 use Rattle.hosts_join.specs.declared.texts.HostText.{HostText}
@@ -62,3 +64,9 @@ hosts_read (l ∷ loaded) hosts h =
 -- the hosts that were loaded are lawful
 pub all_lawful : (loaded : List Loaded) (hosts : List Host) → hosts ≡ map (λ l. l.host) loaded → All (λ l. IsLawfulHost l.host) loaded → All IsLawfulHost hosts
 all_lawful loaded hosts same lawful = subst (λ hs. All IsLawfulHost hs) (sym same) (All-map IsLawfulHost (λ (l : Loaded). l.host) loaded lawful)
+
+-- what was joined belongs together
+pub together : (hosts : List Host) (pins : PinPairs) (site : Joined) → joined_site hosts pins ≡ Ok site → AreJoined hosts site
+together hosts pins site e =
+    let is = site-is hosts pins site e in
+    record { pins = pins; users = sym (ap (λ (s : Joined). s.users) is); groups = sym (ap (λ (s : Joined). s.groups) is) }

@@ -6,6 +6,7 @@ use Rattle.mtree_inv.specs.Inventory.{inventory}
 use Rattle.hosts_join.specs.Hosts.{IsLawfulHost}
 use Rattle.hosts_join.specs.declared.host.Host.{Host}
 use Rattle.ownership.specs.Counts.{IsMadeFor, StandsFor}
+use Rattle.mergedfiles.specs.Together.{AreJoined}
 use Rattle.unify.specs.declared.host.Loaded.{Loaded}
 use Rattle.unify.specs.declared.site.LoadedSite.{LoadedSite}
 use Rattle.unify.specs.Reading.{WholeSite, files_of_site}
@@ -21,6 +22,7 @@ pub record HoldsSite (site : WholeSite) (loaded : LoadedSite) : Type 0 where
   pub hosts : loaded.hosts.items ≡ map (λ h. h.0) site.hosts
   pub inventories : each (inventory 16777216) loaded.mtrees.items ≡ Ok (map (λ h. h.1) site.hosts)
   pub joined : loaded.site ≡ site.joined
+  pub together : AreJoined loaded.hosts.items loaded.site
   pub made : IsMadeFor site.joined loaded.counts
   pub counted : StandsFor site.joined loaded.counts (files_of_site site)
   pub few : length loaded.hosts.items ≤ 64

@@ -23,11 +23,11 @@ both_owners (Some u) None uid gid e = absurd (cc)
 both_owners (Some u) (Some g) uid gid e = (refl, refl)
 
 module _ (site : Joined) (files : List Added) (owned : All (λ f. unowned site f.host f.uid f.gid ≡ None) files) where
-  users_owned : All (λ (f : File). is_some (owner site.users.names f.host f.number) ≡ true) (by_user files)
+  pub users_owned : All (λ (f : File). is_some (owner site.users.names f.host f.number) ≡ true) (by_user files)
   users_owned = All-map (λ (f : File). is_some (owner site.users.names f.host f.number) ≡ true) (λ (f : Added). record { host = f.host; number = f.uid }) files
       (All-weaker (λ (f : Added). unowned site f.host f.uid f.gid ≡ None) (λ (f : Added). is_some (owner site.users.names f.host f.uid) ≡ true) (λ f e. (both_owners (owner site.users.names f.host f.uid) (owner site.groups.names f.host f.gid) f.uid f.gid e).0) files owned)
 
-  groups_owned : All (λ (f : File). is_some (owner site.groups.names f.host f.number) ≡ true) (by_group files)
+  pub groups_owned : All (λ (f : File). is_some (owner site.groups.names f.host f.number) ≡ true) (by_group files)
   groups_owned = All-map (λ (f : File). is_some (owner site.groups.names f.host f.number) ≡ true) (λ (f : Added). record { host = f.host; number = f.gid }) files
       (All-weaker (λ (f : Added). unowned site f.host f.uid f.gid ≡ None) (λ (f : Added). is_some (owner site.groups.names f.host f.gid) ≡ true) (λ f e. (both_owners (owner site.users.names f.host f.uid) (owner site.groups.names f.host f.gid) f.uid f.gid e).1) files owned)
 

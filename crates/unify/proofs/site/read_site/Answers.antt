@@ -13,7 +13,7 @@ use Rattle.unify.specs.Reading.{site_read}
 use Rattle.unify.specs.Told.{in_site}
 use Rattle.unify.proofs.Adding.{loaded_from-parts}
 use Rattle.unify.proofs.Faults.{passed_on}
-use Rattle.unify.proofs.Whole.{IsJoined, site_ok, read_fails, read_is, hosts_read, all_lawful}
+use Rattle.unify.proofs.Whole.{together, IsJoined, site_ok, read_fails, read_is, hosts_read, all_lawful}
 use Rattle.unify.proofs.site.read_site.Goals as goal
 
 pub join_hosts-requires-clause-lawful : goal.join_hosts-requires-clause-lawful
@@ -66,6 +66,7 @@ returns c =
         hosts = c.in_ok-hosts.ensures.hosts ∙ sym are.0;
         inventories = rw c.in_ok-hosts.ensures.mtrees are.1;
         joined = refl;
+        together = together c.in_ok-hosts.hosts.items c.in_ok-pins.pins c.in_ok-site.site (site_ok (joined_site c.in_ok-hosts.hosts.items c.in_ok-pins.pins) c.in_ok-site.site (ap (λ (hs : List Host). in_site (joined_site hs c.in_ok-pins.pins)) (sym c.deref.ensures.value) ∙ c.in_ok-site.ensures));
         made = c.in_ok-counts.ensures.made;
         counted = counted.2;
         few = omega (arith, ap length c.in_ok-hosts.ensures.hosts, length-map loaded (λ (l : Loaded). l.host), c.in_ok-loaded.ensures.len, c.in_ok-check_list.ensures.few);

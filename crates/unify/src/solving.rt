@@ -1,0 +1,42 @@
+//! The best mapping of the names of one kind, with its side of the certificate.
+
+ghost use Rattle.std.specs.Prelude.{◌≡◌, List, length, IfOk};
+ghost use Rattle.ownership.specs.Counts.{AreMadeFor, AreWithin, CountFiles};
+ghost use Rattle.ownership.specs.Files.{File};
+ghost use Rattle.unify.specs.Solving.{IsSolved};
+
+use assignment::{SolveFault, solve};
+use candidates::{Mapping, Rows};
+use certcheck::{Side, certificate_of};
+use hosts_join::Names;
+use ownership::KindCounts;
+use std::alloc::Global;
+
+/// A mapping of names, and the side of a certificate that certifies it.
+#[derive(Drop)]
+pub struct Solved<'a> {
+    pub mapping: Mapping,
+    pub side: Side<'a>,
+}
+
+/// The mapping of the names that changes the fewest files, and among those the fewest account rows, with its
+/// certificate. Asked is that the counters were made for the names. It fails for want of memory alone; its cost is that
+/// of `solve`.
+pub fn solve_names<'a>(
+    alloc: Global,
+    names: &Names<'a>,
+    counts: &KindCounts,
+) -> Result<Solved<'a>, SolveFault>
+    requires made { AreMadeFor names.now.names counts.now }
+    requires few { AreWithin counts.now 2147483648 }
+    ensures len { IfOk result (λ s. length s.mapping ≡ length names.now.names) }
+    ensures solved { IfOk result (λ s. (files : List File) → CountFiles names.now.names counts.now files → IsSolved names.now files s.mapping s.side) }
+{
+    let rows = Rows::build(alloc, names, counts)?;
+    let solution = solve(alloc, &rows)?;
+    let side = certificate_of(alloc, names, &solution)?;
+    Ok(Solved {
+        mapping: solution.mapping,
+        side,
+    })
+}
