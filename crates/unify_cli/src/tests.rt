@@ -3,6 +3,7 @@
 
 mod check;
 mod count;
+mod merge;
 mod runner;
 mod site;
 mod texts;

@@ -1,0 +1,121 @@
+//! Worked merges, by the call that gives all their texts.
+
+use hosts_join::HostText;
+use idtext::ByteString;
+use std::alloc::{AllocError, Global};
+use std::test::Fail;
+use unify::{Outcome, consolidate, verify};
+
+// A host of these files, without a login.defs.
+fn host(
+    alloc: Global,
+    name: &[u8],
+    passwd: &[u8],
+    group: &[u8],
+    mtree: &[u8],
+) -> Result<HostText, AllocError> {
+    Ok(HostText {
+        name: ByteString::copy_of(alloc, name)?,
+        passwd: ByteString::copy_of(alloc, passwd)?,
+        group: ByteString::copy_of(alloc, group)?,
+        logindefs: ByteString::new(alloc),
+        mtree: ByteString::copy_of(alloc, mtree)?,
+    })
+}
+
+// The outcome of a merge that nothing refuses.
+fn merged(alloc: Global, hosts: &[HostText]) -> Option<Outcome> {
+    match consolidate(alloc, hosts, b"") {
+        Ok(outcome) => Some(outcome),
+        Err(_) => None,
+    }
+}
+
+// The cost that the check of an outcome's certificate answers.
+fn cost_checked(alloc: Global, hosts: &[HostText], outcome: &Outcome) -> Option<u64> {
+    match verify(alloc, hosts, b"", outcome.certificate.bytes()) {
+        Ok(cost) => Some(cost),
+        Err(_) => None,
+    }
+}
+
+#[test]
+fn root_only(rt: HostRuntime) -> Result<(), Fail> {
+    let mut hosts = Vec::new(rt.alloc());
+    hosts.push(host(
+        rt.alloc(),
+        b"a",
+        b"root:x:0:0:root:/root:/bin/sh\n",
+        b"root:x:0:\n",
+        b"",
+    )?)?;
+    let Some(outcome) = merged(rt.alloc(), &hosts) else {
+        return Err(Fail::new("the site was refused"));
+    };
+    assert_eq!(rt;
+        outcome.passwd.bytes(),
+        b"root:x:0:0:root:/root:/bin/sh\n".as_slice()
+    );
+    assert_eq!(rt; outcome.group.bytes(), b"root:x:0:\n".as_slice());
+    assert_eq!(rt;
+        outcome.map.bytes(),
+        b"user root 0\ngroup root 0\n".as_slice()
+    );
+    assert_eq!(rt;
+        outcome.certificate.bytes(),
+        b"unify certificate 2\nuser root 0 0\ngroup root 0 0\nend\n".as_slice()
+    );
+    assert_eq!(rt;
+        outcome.report.bytes(),
+        b"unify report 2\nhosts 1\nusers 1 pinned 1 kept 0 fresh 0\ngroups 1 pinned 1 kept 0 fresh 0\nuser-fields 0 of 0\ngroup-fields 0 of 0\nuser-lines 0 of 1\ngroup-lines 0 of 1\nend\n".as_slice()
+    );
+    assert_eq!(rt; outcome.plans.texts().len(), 1);
+    assert_eq!(rt;
+        outcome.plans.texts()[0].bytes(),
+        b"unify plan 1 a\nend\n".as_slice()
+    );
+    Ok(())
+}
+
+#[test]
+fn two_hosts_swap(rt: HostRuntime) -> Result<(), Fail> {
+    let mut hosts = Vec::new(rt.alloc());
+    hosts.push(host(
+        rt.alloc(),
+        b"a",
+        b"alice:x:1001:100::/home/alice:/bin/sh\nbob:x:1002:100::/home/bob:/bin/sh\n",
+        b"users:x:100:\n",
+        b"/set gid=100\n./alice1 uid=1001\n./alice2 uid=1001\n./alice3 uid=1001\n./alice4 uid=1001\n./alice5 uid=1001\n./bob1 uid=1002\n",
+    )?)?;
+    hosts.push(host(
+        rt.alloc(),
+        b"b",
+        b"bob:x:1001:100::/home/bob:/bin/sh\nalice:x:1002:100::/home/alice:/bin/sh\n",
+        b"users:x:100:\n",
+        b"/set gid=100\n./bob1 uid=1001\n./bob2 uid=1001\n./bob3 uid=1001\n./bob4 uid=1001\n./alice1 uid=1002\n./alice2 uid=1002\n./alice3 uid=1002\n",
+    )?)?;
+    let Some(outcome) = merged(rt.alloc(), &hosts) else {
+        return Err(Fail::new("the site was refused"));
+    };
+    assert_eq!(rt; outcome.cost.users, 6);
+    assert_eq!(rt; outcome.cost.groups, 0);
+    assert_eq!(rt;
+        outcome.map.bytes(),
+        b"user alice 1002\nuser bob 1001\ngroup users 100\n".as_slice()
+    );
+    assert_eq!(rt;
+        outcome.passwd.bytes(),
+        b"bob:x:1001:100::/home/bob:/bin/sh\nalice:x:1002:100::/home/alice:/bin/sh\n".as_slice()
+    );
+    assert_eq!(rt; cost_checked(rt.alloc(), &hosts, &outcome), Some(6));
+    assert_eq!(rt; outcome.plans.texts().len(), 2);
+    assert_eq!(rt;
+        outcome.plans.texts()[0].bytes(),
+        b"unify plan 1 a\n1001 100 1002 100 6 alice1\n1001 100 1002 100 6 alice2\n1001 100 1002 100 6 alice3\n1001 100 1002 100 6 alice4\n1001 100 1002 100 6 alice5\n1002 100 1001 100 4 bob1\nend\n".as_slice()
+    );
+    assert_eq!(rt;
+        outcome.plans.texts()[1].bytes(),
+        b"unify plan 1 b\nend\n".as_slice()
+    );
+    Ok(())
+}
