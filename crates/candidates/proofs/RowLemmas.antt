@@ -13,7 +13,8 @@ use Rattle.hosts_join.specs.Rules.{account, in_pool, is_free_class, class_at}
 use Rattle.hosts_join.specs.declared.Class.{Class}
 use Rattle.hosts_join.specs.declared.Class.TheVariants.{Pinned, Regular, System}
 use Rattle.ownership.specs.Counts.{Tally, told_kept, count_in, has_cell, tally_at, AreMadeFor, CountFiles}
-use Rattle.candidates.specs.Told.{told_weight, IsToldRow}
+use Rattle.candidates.specs.Told.{IsToldRow}
+use Rattle.ownership.specs.Weights.{told_weight}
 use Rattle.hosts_join.specs.declared.Spot.{Spot}
 use Rattle.ownership.specs.Files.{File}
 use Rattle.std.proofs.Math.Bool.{and-false, and-true}

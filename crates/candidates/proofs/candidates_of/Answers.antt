@@ -5,7 +5,7 @@ use Rattle.hosts_join.specs.declared.Spot.{Spot}
 use Rattle.hosts_join.specs.declared.Class.{Class}
 use Rattle.hosts_join.specs.Pool.{AreAscending}
 use Rattle.hosts_join.specs.Rules.{account, in_pool, class_at}
-use Rattle.candidates.specs.Told.{told_weight}
+use Rattle.ownership.specs.Weights.{told_weight}
 use Rattle.candidates.proofs.RowLemmas.{so-far-push, so-far-skip, so-far-end, lines-some, lines-few, weight-fits, any-here}
 use Rattle.candidates.proofs.candidates_of.Goals as goal
 use Rattle.candidates.proofs.candidates_of.Goals.{then-next-from+in_ok-push, else-next-from}
