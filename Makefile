@@ -1,25 +1,51 @@
 # unify: one numbering for the accounts of many hosts.
-#   make demo              counts what the example map would change
-#   make test              the gate: proves every crate, tries the must-fail edits, runs the tests and the program
+#   make demo              merges the two hosts of examples/office, and shows what was written
+#   make test              the gate: proves every crate, tries the must-fail edits, runs the tests and the program, and
+#                          compares the merge of examples/office with what is committed
+#   make refused           refuses one growth of memory after another, to the program and to the first of each test
 #   make install PREFIX=.. puts the program into PREFIX/bin
 #   make clean             removes what was built
 
 PREFIX ?= /usr/local
 PROGRAM = crates/unify_cli/out/unify_cli
+OFFICE = amber=examples/office/amber basalt=examples/office/basalt
+DEMO = build/office
 
-.PHONY: demo test program install clean
+.PHONY: demo test compare refused program install clean
 
 demo: program
-	@./$(PROGRAM) count examples/stored-count/map a=examples/stored-count/a b=examples/stored-count/b
+	@rm -rf $(DEMO) && mkdir -p $(DEMO)
+	@./$(PROGRAM) merge $(DEMO) $(OFFICE)
+	@for file in passwd group map certificate report plan.amber plan.basalt; do \
+		echo; echo "$(DEMO)/$$file:"; cat $(DEMO)/$$file; done
 
 test:
 	rt ci
+	@$(MAKE) --no-print-directory compare
+
+# What the program that was built last makes of examples/office is what is committed there: the merge, its certificate
+# accepted with the same sum, the map counted, and each plan rehearsed.
+compare:
+	@rm -rf $(DEMO) && mkdir -p $(DEMO)
+	@./$(PROGRAM) merge $(DEMO) $(OFFICE) | diff - examples/office/expected-merge
+	@diff -r $(DEMO) examples/office/merged
+	@./$(PROGRAM) count $(DEMO)/map $(OFFICE) | diff - examples/office/expected-merge
+	@./$(PROGRAM) check $(DEMO)/certificate $(OFFICE) | diff - examples/office/expected-check
+	@./$(PROGRAM) count examples/office/map $(OFFICE) | diff - examples/office/expected-count
+	@for host in amber basalt; do \
+		./$(PROGRAM) rehearse $(DEMO)/plan.$$host examples/office/$$host/mtree; done | diff - examples/office/expected-rehearse
+	@echo 'examples/office: as committed'
 
 # Proves the program and the crates below it, and links it. What has not changed since is not proved again.
 program:
 	@echo 'proving and linking unify; the first time this takes a while' >&2
 	@mkdir -p build
 	@cd crates/unify_cli && rt run -- --version > ../../build/log 2>&1 || { cat ../../build/log >&2; exit 1; }
+
+# What the tests are granted is seen by `bench/refused.py tests FIRST LAST`; each growth takes a build of each crate with tests.
+refused: program
+	@bench/refused.py program bench/bundles/*
+	@bench/refused.py tests 1 4
 
 install: program
 	install -d $(DESTDIR)$(PREFIX)/bin

@@ -7,25 +7,10 @@ Run `make program` first. The site is made below bench/work, which git does not 
 """
 import os
 import shutil
-import subprocess
 import sys
-import time
 
+from measure import HERE, UNIFY, timed
 from site_of import write_site
-
-HERE = os.path.dirname(os.path.abspath(__file__))
-PROGRAM = os.path.join(HERE, "..", "crates", "unify_cli", "out", "unify_cli")
-
-
-def timed(words, **where):
-    """Runs the words; answers seconds, peak memory in MiB, and what they printed."""
-    begun = time.monotonic()
-    child = subprocess.Popen(words, stdout=subprocess.PIPE, **where)
-    printed = child.stdout.read()
-    _, status, usage = os.wait4(child.pid, 0)
-    if status != 0:
-        sys.exit(f"{words[0]} ended with {os.waitstatus_to_exitcode(status)}")
-    return time.monotonic() - begun, usage.ru_maxrss / 1024, printed.decode()
 
 
 def main():
@@ -38,7 +23,7 @@ def main():
     size = sum(os.path.getsize(path) for path in inventories)
     total = hosts * files
     print(f"{hosts} hosts, {users} users and {files} files a host: {size / 1e6:.1f} MB of inventories")
-    seconds, peak, printed = timed([PROGRAM, "count", f"{folder}/map", *words])
+    seconds, peak, printed = timed([UNIFY, "count", f"{folder}/map", *words])
     print(printed, end="")
     print(f"unify count: {seconds:.2f} s, {total / seconds:,.0f} files/s, peak {peak:.0f} MiB")
     seconds, peak, _ = timed(["wc", "-l", *inventories])

@@ -80,6 +80,3 @@ pub fn solve(alloc: Global, rows: &Rows<'_, '_>) -> Result<Solution, SolveFault>
 pub fn weak_duality()
     ensures { WeakDuality }
 {}
-
-#[cfg(test)]
-mod tests;

@@ -38,6 +38,3 @@ pub struct Difference<'a> {
     pub field: Field,
     pub host: Name<'a>,
 }
-
-#[cfg(test)]
-mod tests;

@@ -2,9 +2,10 @@
 ghost use Rattle.std.specs.Prelude.{◌≡◌, ◌↔◌, ◌+◌, ◌≤◌, ℕ, true, false, List, Option, None, length, replicate};
 ghost use Rattle.reown_plan.specs.declared.plan.Owner.{Owner};
 ghost use Rattle.reown_plan.specs.PlanData.{PlanRecord, HaveDistinctPaths};
+ghost use Rattle.reown_runner.specs.declared.runner.Place.{Place};
 ghost use Rattle.reown_runner.specs.declared.runner.Place.TheVariants.{Start, Done};
 ghost use Rattle.reown_runner.specs.declared.runner.RunFault.{RunFault};
-ghost use Rattle.reown_runner.specs.Tree.{TreeData, Image, IsImage, IsReadable, cells_of};
+ghost use Rattle.reown_runner.specs.Tree.{TreeData, Image, IsImage, IsReadable, Stops, cells_of};
 ghost use Rattle.reown_runner.specs.State.{State, fresh, cells_at};
 ghost use Rattle.reown_runner.specs.Safe.{IsSafe, IsSafeInStep};
 ghost use Rattle.reown_runner.specs.Finished.{IsFresh, AreOld, owner_after_plan, HasSafeLists};
@@ -22,6 +23,13 @@ pub fn stays_safe()
     ensures { (inventory : List ℕ → Option Owner) (records : List PlanRecord) → HaveDistinctPaths records
         → (host : Host) (events : List HostEvent) (refused : Option RunFault) (end : Host) → IsRun records host events refused end
         → IsSafeInStep inventory records host.place (cells_at host.state) → IsSafeInStep inventory records end.place (cells_at end.state) }
+{}
+
+/// A stop of a tree that is safe and in step, at whatever place, leaves one that is safe and in step at the start: `reopen`
+/// by itself, with a new `Runner` after it.
+pub fn a_stop_stays_safe()
+    ensures { (inventory : List ℕ → Option Owner) (records : List PlanRecord) (place : Place) (old new : TreeData) → IsReadable (cells_of old) → Stops (cells_of old) (cells_of new)
+        → IsSafeInStep inventory records place (cells_of old) → IsSafeInStep inventory records Start (cells_of new) }
 {}
 
 /// A tree is safe exactly where its lists are.

@@ -10,7 +10,10 @@ mod tree;
 
 pub use campaign::{Campaign, DriveFault, Event, EventFault};
 pub use failing::{FailTree, Item};
-pub use laws::{advances_from_start, done_means_done, fresh_is_safe, safe_by_lists, stays_safe};
+pub use laws::{
+    a_stop_stays_safe, advances_from_start, done_means_done, fresh_is_safe, safe_by_lists,
+    stays_safe,
+};
 pub use memory::{FileCell, Keep, MemTree};
 pub use runner::{Place, Progress, RunFault, Runner};
 pub use tree::{DeviceFault, Tree};

@@ -24,7 +24,7 @@ pub file_ok : {A : Type 0} (host : List ℕ) (name : FileName) (r : Result A Tex
 file_ok host name (Ok y) x h = ap (λ z. Ok z) (ok_same y x h)
 file_ok host name (Err e) x h = absurd (cc)
 
-none_both : {F : Type 0} (o p : Option F) → or_else o p ≡ None → (o ≡ None) × (p ≡ None)
+pub none_both : {F : Type 0} (o p : Option F) → or_else o p ≡ None → (o ≡ None) × (p ≡ None)
 none_both None p h = (refl, h)
 none_both (Some f) p h = absurd (cc)
 

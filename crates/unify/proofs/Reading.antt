@@ -1,13 +1,13 @@
 -- What was read is whole.
-use Rattle.std.proofs.Common.{◌≡◌, ℕ, suc, ◌+◌, ◌≤◌, false, List, [], ◌∷◌, length, map, get_or, Some, None, Result, Ok, Err, refl, ap, subst, ◌∙◌, arith, inl, inr, ◌==◌, nat_lt}
+use Rattle.std.proofs.Common.{◌≡◌, ℕ, zero, suc, ◌+◌, ◌≤◌, Bool, true, false, not, cond, List, [], ◌∷◌, ◌++◌, length, map, get_or, Option, Some, None, Result, Ok, Err, refl, sym, ap, subst, ◌∙◌, arith, inl, inr, ◌==◌, nat_lt}
 use Rattle.std.specs.List.{All, slice_get}
 use Rattle.std.specs.Option.{is_some, option_map}
 use Rattle.std.proofs.lemmas.Bool.{cases_Bool, both_ways, and_from, false_from_ne_true, ltb-false}
 use Rattle.std.proofs.lemmas.List.{length-map}
-use Rattle.std.proofs.lemmas.List.Elements.{All-nil, All-append, All-map}
+use Rattle.std.proofs.lemmas.List.Elements.{All-nil, All-cons, All-head, All-tail, All-append, All-map}
 use Rattle.std.proofs.lemmas.Option.{slice_get-map, slice_get-get_or}
-use Rattle.idtext.specs.First.{each}
-use Rattle.idtext.proofs.OkLemmas.{bind_ok, ok_same, length-each, each-ok}
+use Rattle.idtext.specs.First.{each, first_fault, unless}
+use Rattle.idtext.proofs.OkLemmas.{bind_ok, ok_same, unless_ok, length-each, each-ok}
 use Rattle.accounts.specs.Tables.{passwd_table, group_table}
 use Rattle.accounts.proofs.LawLemmas.{passwd-law, group-law}
 use Rattle.logindefs.specs.declared.ranges.IdRange.{IdRange}
@@ -16,7 +16,7 @@ use Rattle.logindefs.specs.Ranges.{AreApart, IsHostRanges, apart, in_range, rang
 use Rattle.logindefs.proofs.SetLemmas.{shared-both}
 use Rattle.mtree_inv.specs.declared.entry.Entry.{Entry}
 use Rattle.mtree_inv.proofs.LawfulLemmas.{inventory-files}
-use Rattle.hosts_join.specs.Checks.{hosts_checked, primary_checked}
+use Rattle.hosts_join.specs.Checks.{hosts_checked, is_host_name, name_fault, primary_checked}
 use Rattle.hosts_join.specs.Hosts.{IsLawfulHost}
 use Rattle.hosts_join.specs.Kinds.{user_at, group_at}
 use Rattle.hosts_join.specs.PinPairs.{PinPairs}
@@ -35,7 +35,7 @@ use Rattle.unify.specs.Hosts.{host_of, files_of}
 use Rattle.unify.specs.Laws.{IsReadHost, ReadSitesAreWhole, OwnersAgree}
 use Rattle.unify.specs.Reading.{WholeSite, added_on, added_from, site_read}
 use Rattle.unify.specs.Told.{in_file, in_site, in_pins}
-use Rattle.unify.proofs.Owners.{file_ok, files_read, owned-there, owned-here, owners-told}
+use Rattle.unify.proofs.Owners.{file_ok, files_read, none_both, owned-there, owned-here, owners-told}
 use Rattle.unify.proofs.Whole.{site_ok}
 
 pub owners_agree : OwnersAgree
@@ -79,6 +79,43 @@ host-lawful text loaded h =
       groups = group-law text.group groups.0 (file_ok text.name file.Group (group_table text.group) groups.0 groups.1);
     })
 
+host-named : (text : HostText) (loaded : Loaded) → host_of text ≡ Ok loaded → text.name ≡ loaded.host.name
+unfolding host_of
+host-named text loaded h =
+    let ranges = bind_ok (in_file text.name file.LoginDefs (ranges_of text.logindefs)) _ loaded h in
+    let users = bind_ok (in_file text.name file.Passwd (passwd_table text.passwd)) _ loaded ranges.2 in
+    let groups = bind_ok (in_file text.name file.Group (group_table text.group)) _ loaded users.2 in
+    let made : Host = record { name = text.name; ranges = ranges.0; users = users.0; groups = groups.0 } in
+    let primary = bind_ok (in_site (primary_checked made)) _ loaded groups.2 in
+    let all : Loaded = record { host = made; mtree = text.mtree } in
+    ap (λ (l : Loaded). l.host.name) (ok_same all loaded primary.2)
+
+passed : {F : Type 0} (b : Bool) (e : F) (rest : Option F) → cond (not b) (Some e) rest ≡ None → b ≡ true
+passed true e rest h = refl
+passed false e rest h = absurd (cc)
+
+all-named : (before texts : List HostText) → first_fault name_fault before texts ≡ None → All (λ t. is_host_name t.name ≡ true) texts
+unfolding first_fault
+all-named before [] h = All-nil (λ (t : HostText). is_host_name t.name ≡ true)
+all-named before (t ∷ texts) h =
+    let both = none_both (name_fault before t) (first_fault name_fault (before ++ t ∷ []) texts) h in
+    All-cons (λ (t : HostText). is_host_name t.name ≡ true) t texts (passed (is_host_name t.name) _ _ both.0) (all-named (before ++ t ∷ []) texts both.1)
+
+hosts-named : (texts : List HostText) (u : Unit {0}) → hosts_checked texts ≡ Ok u → All (λ t. is_host_name t.name ≡ true) texts
+unfolding hosts_checked
+hosts-named texts u h = elim (cases_Bool (length texts == 0)) [
+  | inl t ↦ let h' = rw t at h in absurd (cc)
+  | inr f ↦ elim (cases_Bool (nat_lt 64 (length texts))) [
+    | inl t ↦ let h' = rw (f, t) at h in absurd (cc)
+    | inr g ↦ let h' = rw (f, g) at h in all-named [] texts (unless_ok (first_fault name_fault [] texts) tt u h').0
+  ]
+]
+
+all-at : {X : Type 0} (P : X → Type 0) (xs : List X) (k : ℕ) (x : X) → All P xs → slice_get xs k ≡ Some x → P x
+all-at P [] k x all h = absurd (cc)
+all-at P (y ∷ ys) zero x all h = let same : y ≡ x = (cc) in subst P same (All-head P y ys all)
+all-at P (y ∷ ys) (suc k) x all h = all-at P ys k x (All-tail P y ys all) h
+
 hosts-few : (texts : List HostText) (u : Unit {0}) → hosts_checked texts ≡ Ok u → length texts ≤ 64
 unfolding hosts_checked
 hosts-few texts u h = elim (cases_Bool (length texts == 0)) [
@@ -95,6 +132,7 @@ pub record Steps (texts : List HostText) (pins_text : List ℕ) (site : WholeSit
   pub loaded : List Loaded
   pub pins : PinPairs
   pub few : length texts ≤ 64
+  pub named : All (λ t. is_host_name t.name ≡ true) texts
   pub hosts_are : each host_of texts ≡ Ok loaded
   pub pins_are : pins_of pins_text ≡ Ok pins
   pub joined_is : joined_site (map (λ l. l.host) loaded) pins ≡ Ok site.joined
@@ -118,6 +156,7 @@ steps texts pins_text site h =
       loaded = loading.0;
       pins = pinning.0;
       few = hosts-few texts listed.0 (site_ok (hosts_checked texts) listed.0 listed.1);
+      named = hosts-named texts listed.0 (site_ok (hosts_checked texts) listed.0 listed.1);
       hosts_are = loading.1;
       pins_are = pins-ok (pins_of pins_text) pinning.0 pinning.1;
       joined_is = site_ok (joined_site (map (λ (l : Loaded). l.host) loading.0) pinning.0) joining.0 joining.1;
@@ -144,6 +183,7 @@ read-host texts pins_text site s h host files here =
     let known = sites_know (map (λ (l : Loaded). l.host) s.loaded) s.pins site.joined (loaded-lawful texts s.loaded s.hosts_are) s.joined_is h l.host there in
     subst (λ (p : Host × List Entry). IsReadHost site.joined h p.0 p.1) pair
     (record {
+      named = subst (λ n. is_host_name n ≡ true) (host-named text.0 l text.2) (all-at (λ (t : HostText). is_host_name t.name ≡ true) texts h text.0 s.named text.1);
       lawful = host-lawful text.0 l text.2;
       files_are = found.0;
       few = found.1;

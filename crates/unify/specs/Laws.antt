@@ -1,15 +1,21 @@
 -- What holds of every site that was read.
-use Rattle.std.specs.Prelude.{◌≡◌, ◌≤◌, ◌↔◌, ℕ, true, List, length, Some, None, Ok, is_some, slice_get}
+use Rattle.std.specs.Prelude.{◌≡◌, ◌≤◌, ◌↔◌, ℕ, true, List, [], length, map, Some, None, Result, Ok, is_some, slice_get}
 use Rattle.std.specs.List.{All}
+use Rattle.idtext.specs.First.{◌>>=◌, each}
 use Rattle.mtree_inv.specs.declared.entry.Entry.{Entry}
 use Rattle.mtree_inv.specs.Files.{AreFiles}
+use Rattle.hosts_join.specs.Checks.{hosts_checked, is_host_name}
 use Rattle.hosts_join.specs.Hosts.{IsLawfulHost}
 use Rattle.hosts_join.specs.Kinds.{user_at, group_at}
 use Rattle.hosts_join.specs.Laws.{HasLawfulAccounts, KnowsHost}
-use Rattle.hosts_join.specs.Site.{Joined}
+use Rattle.hosts_join.specs.Site.{Joined, joined_site}
 use Rattle.hosts_join.specs.declared.host.Host.{Host}
 use Rattle.hosts_join.specs.declared.texts.HostText.{HostText}
 use Rattle.ownership.specs.Faults.{unowned}
+use Rattle.unify_texts.specs.declared.fault.Fault.{Fault}
+use Rattle.unify.specs.Count.{site_of}
+use Rattle.unify.specs.Hosts.{host_of}
+use Rattle.unify.specs.Told.{in_site}
 use Rattle.unify.specs.Reading.{WholeSite, files_of_site, site_read}
 
 -- a uid and a gid have a user and a group by the host's own tables
@@ -17,10 +23,11 @@ pub record HaveAccounts (host : Host) (uid gid : ℕ) : Type 0 where
   pub user : is_some (user_at host.users uid) ≡ true
   pub group : is_some (group_at host.groups gid) ≡ true
 
--- A host that was read, with its files: its tables are lawful, no path stands twice, each file has a user and a group, and the accounts
--- over all hosts know its own.
+-- A host that was read, with its files: its name and its tables are lawful, no path stands twice, each file has a user and a group, and the
+-- accounts over all hosts know its own.
 -- h: its index
 pub record IsReadHost (joined : Joined) (h : ℕ) (host : Host) (files : List Entry) : Type 0 where
+  pub named : is_host_name host.name ≡ true
   pub lawful : IsLawfulHost host
   pub files_are : AreFiles files
   pub few : length files ≤ 16777216
@@ -40,3 +47,16 @@ ReadSitesAreWhole = (texts : List HostText) (pins_text : List ℕ) (site : Whole
 -- a file has its owners among the accounts over all hosts exactly where it has them by its host's own tables
 abbrev pub OwnersAgree : Type 0
 OwnersAgree = (joined : Joined) (h : ℕ) (host : Host) (uid gid : ℕ) → KnowsHost joined h host → (unowned joined h uid gid ≡ None) ↔ HaveAccounts host uid gid
+
+-- what the texts of hosts say of a site, where there is no pins text
+abbrev pub site_without_pins : List HostText → Result WholeSite Fault
+site_without_pins texts = do
+  listed ← in_site (hosts_checked texts)
+  loaded ← each host_of texts
+  joined ← in_site (joined_site (map (λ l. l.host) loaded) (record { users = []; groups = [] }))
+  hosts ← each site_of loaded
+  Ok (record { hosts = hosts; joined = joined })
+
+-- an empty pins text is as none
+abbrev pub EmptyPinsAreNone : Type 0
+EmptyPinsAreNone = (texts : List HostText) → site_read texts [] ≡ site_without_pins texts

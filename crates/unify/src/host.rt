@@ -125,8 +125,8 @@ fn groups_at<'a>(alloc: Global, host: &'a [u8], text: &'a [u8]) -> Result<GroupT
     }
 }
 
-// The files of a host.
-fn inventory_at<'a>(alloc: Global, host: &'a [u8], text: &[u8]) -> Result<Inventory, Fault<'a>>
+/// The files of a host: its inventory of at most 16,777,216 files. One pass over the text.
+pub fn inventory_at<'a>(alloc: Global, host: &'a [u8], text: &[u8]) -> Result<Inventory, Fault<'a>>
     ensures exact { Gives (λ files. files) told result (in_file host.now FileName.Mtree (inventory 16777216 text.now)) }
     ensures few { IfOk result (λ files. length files ≤ 16777216) }
 {

@@ -1,7 +1,8 @@
 //! Laws of the definitions, each the contract of a call that does nothing.
-ghost use Rattle.unify.specs.Laws.{OwnersAgree, ReadSitesAreWhole};
+ghost use Rattle.unify.specs.Laws.{OwnersAgree, ReadSitesAreWhole, EmptyPinsAreNone};
+ghost use Rattle.unify.specs.Believed.{OutcomesAreBelieved, RunsKeepNames, NumbersTellNames};
 
-/// Every site that was read is whole: it has at most 64 hosts, whose tables are lawful and whose inventories have no path
+/// Every site that was read is whole: it has at most 64 hosts, whose names and tables are lawful and whose inventories have no path
 /// twice, the accounts over all hosts are lawful, and each file has a user and a group, by its host's own tables and as
 /// well by the accounts over all hosts.
 pub fn a_read_site_is_whole()
@@ -11,4 +12,28 @@ pub fn a_read_site_is_whole()
 /// A file has its owners among the accounts over all hosts exactly where it has them by its host's own tables.
 pub fn owners_agree()
     ensures { OwnersAgree }
+{}
+
+/// What a merge may answer for a site that was read is believed: the map that is printed gives every name one distinct
+/// number, in its pool or at its pin; no other such mappings rewrite fewer owner and group fields, as the printed
+/// potentials prove; and once its plan has finished, however often stopped, every file of a host has the names it had.
+pub fn outcomes_are_believed()
+    ensures { OutcomesAreBelieved }
+{}
+
+/// Where the plans of a merge were carried out on trees in memory as far as any events lead, the files of a host that is
+/// done have the names that they had.
+pub fn runs_keep_names()
+    ensures { RunsKeepNames }
+{}
+
+/// Two files, on any hosts, that keep their names have one uid exactly where their users had one name, and one gid exactly
+/// where their groups had one.
+pub fn numbers_tell_names()
+    ensures { NumbersTellNames }
+{}
+
+/// With an empty pins text a site reads as without one.
+pub fn empty_pins_are_none()
+    ensures { EmptyPinsAreNone }
 {}

@@ -14,6 +14,7 @@ ghost use Rattle.unify_texts.specs.Report.{report_of};
 ghost use Rattle.unify_texts.specs.WrittenMap.{map_text};
 ghost use Rattle.certcheck.specs.Spelling.{spelling};
 ghost use Rattle.unify.specs.Loading.{HoldsSite};
+ghost use Rattle.unify.specs.Headline.{Headline};
 ghost use Rattle.unify.specs.Laws.{IsWhole};
 ghost use Rattle.unify.specs.Outcomes.{IsOutcome, IsPrinted};
 ghost use Rattle.unify.specs.Reading.{WholeSite, site_read};
@@ -126,7 +127,8 @@ pub fn consolidate<'a>(
     hosts: &'a [HostText],
     pins: &'a [u8],
 ) -> Result<Outcome, Fault<'a>>
-    ensures { Yields IsOutcome told result (site_read hosts.now pins.now) }
+    ensures answers { Yields IsOutcome told result (site_read hosts.now pins.now) }
+    ensures believed { Yields Headline told result (site_read hosts.now pins.now) }
 {
     let loaded = read_site(alloc, hosts, pins)?;
     let Ok(users) = solve_names(alloc, loaded.site.users(), loaded.counts.users()) else {

@@ -1,9 +1,10 @@
 //! What goes out for a command: its lines or its fault, with the exit status.
 
-ghost use Rattle.std.specs.Prelude.{◌≡◌, Some, Err, IfOk};
+ghost use Rattle.std.specs.Prelude.{◌≡◌, Some, Ok, Err, IfOk};
 ghost use Rattle.unify_texts.specs.Told.{told};
 ghost use Rattle.unify_texts.specs.Codes.{code_of, status_of};
-ghost use Rattle.unify.specs.Output.{cost_lines, counted, accepted_line, check_told, answered};
+ghost use Rattle.unify.specs.Lines.{cost_lines, accepted_line};
+ghost use Rattle.unify.specs.Output.{counted, check_told, answered};
 ghost use Rattle.unify.specs.Replies.{reply_of};
 
 use crate::counting::{Cost, count};
@@ -63,16 +64,23 @@ fn cost_text(alloc: Global, cost: Cost) -> Result<Vec<u8>, AllocError>
     Ok(text)
 }
 
+/// What goes out for a cost: its two lines. An error is a growth that was refused.
+pub fn cost_reply(alloc: Global, cost: Cost) -> Result<Reply, AllocError>
+    ensures { IfOk result (λ reply. reply_of reply ≡ answered (Ok (cost_lines cost))) }
+{
+    Ok(Reply {
+        text: cost_text(alloc, cost)?,
+        status: 0,
+    })
+}
+
 /// What goes out for a count of these hosts with this map: the two lines, or the fault line with its status. An error is
 /// a growth that was refused.
 pub fn count_reply(alloc: Global, hosts: &[HostText], map: &[u8]) -> Result<Reply, AllocError>
     ensures { IfOk result (λ reply. reply_of reply ≡ answered (counted hosts.now map.now)) }
 {
     match count(alloc, hosts, map) {
-        Ok(cost) => Ok(Reply {
-            text: cost_text(alloc, cost)?,
-            status: 0,
-        }),
+        Ok(cost) => cost_reply(alloc, cost),
         Err(fault) => refused(alloc, &fault),
     }
 }

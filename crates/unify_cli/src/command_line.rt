@@ -38,6 +38,23 @@ fn pins<'a>(alloc: Global) -> Arg<'a> {
         .action(ArgAction::Set)
 }
 
+// merge [--pins FILE] OUT HOST...
+fn merge<'a>(alloc: Global) -> Result<Command<'a>, AllocError> {
+    let out = Arg::new(alloc, "OUT")
+        .help(
+            "the existing directory to write passwd, group, map, certificate, report and plan.NAME into",
+        )
+        .required(true)
+        .action(ArgAction::Set);
+    Command::new(alloc, "merge")
+        .about(
+            "Merges the accounts of hosts so that as few owner and group fields as possible change",
+        )
+        .arg(pins(alloc))?
+        .arg(out)?
+        .arg(hosts(alloc))
+}
+
 // check [--pins FILE] CERTIFICATE HOST...
 fn check<'a>(alloc: Global) -> Result<Command<'a>, AllocError> {
     let certificate = Arg::new(alloc, "CERTIFICATE")
@@ -51,6 +68,22 @@ fn check<'a>(alloc: Global) -> Result<Command<'a>, AllocError> {
         .arg(hosts(alloc))
 }
 
+// rehearse PLAN MTREE
+fn rehearse<'a>(alloc: Global) -> Result<Command<'a>, AllocError> {
+    let plan = Arg::new(alloc, "PLAN")
+        .help("the plan of a host")
+        .required(true)
+        .action(ArgAction::Set);
+    let mtree = Arg::new(alloc, "MTREE")
+        .help("the host's inventory")
+        .required(true)
+        .action(ArgAction::Set);
+    Command::new(alloc, "rehearse")
+        .about("Carries a plan out on a tree in memory that is as an inventory tells")
+        .arg(plan)?
+        .arg(mtree)
+}
+
 /// The command line with words.
 pub fn command_line<'a>(alloc: Global) -> Result<Command<'a>, AllocError> {
     Command::new(alloc, "unify")
@@ -61,5 +94,7 @@ pub fn command_line<'a>(alloc: Global) -> Result<Command<'a>, AllocError> {
         )
         .subcommand_required(true)
         .subcommand(count(alloc)?)?
-        .subcommand(check(alloc)?)
+        .subcommand(merge(alloc)?)?
+        .subcommand(check(alloc)?)?
+        .subcommand(rehearse(alloc)?)
 }

@@ -11,11 +11,11 @@ use std::path::Path;
 /// The most bytes that an input file may have.
 const MOST_BYTES: u64 = 4294967295;
 
-/// Why the files were not read.
+/// Why the files were not read or written.
 #[derive(Drop)]
 pub enum FileFault {
     Memory,
-    /// The path of the first file that cannot be read.
+    /// The path of the first file that cannot be read or written.
     File(String),
 }
 
@@ -39,8 +39,8 @@ fn read_bytes(rt: &HostRuntime, path: &str) -> io::Result<Vec<u8>> {
     Ok(bytes)
 }
 
-// Why a file was not read: for want of memory, or because of the file.
-fn fault_of(rt: &HostRuntime, path: &str, error: &io::Error) -> FileFault {
+/// Why a file was not read or written: for want of memory, or because of the file.
+pub fn fault_of(rt: &HostRuntime, path: &str, error: &io::Error) -> FileFault {
     if error.kind() == io::ErrorKind::OutOfMemory {
         return FileFault::Memory;
     }
@@ -78,10 +78,21 @@ fn read_logindefs(rt: &HostRuntime, directory: &str) -> Result<ByteString, FileF
     }
 }
 
-/// The texts of the host that a word names: NAME=DIR, split at the first `=`, or NAME alone for the directory of that
-/// name.
+// The name and the directory of the host that a word names: NAME=DIR, split at the first `=`, or NAME alone for the
+// directory of that name.
+fn host_parts(word: &str) -> (&str, &str) {
+    word.split_once('=').unwrap_or((word, word))
+}
+
+/// The name of the host that a word names.
+pub fn host_name(word: &str) -> &str {
+    let (name, _) = host_parts(word);
+    name
+}
+
+/// The texts of the host that a word names.
 pub fn read_host(rt: &HostRuntime, word: &str) -> Result<HostText, FileFault> {
-    let (name, directory) = word.split_once('=').unwrap_or((word, word));
+    let (name, directory) = host_parts(word);
     let passwd = read_host_file(rt, directory, "passwd")?;
     let group = read_host_file(rt, directory, "group")?;
     let logindefs = read_logindefs(rt, directory)?;

@@ -5,6 +5,7 @@ mod command_line;
 mod files;
 mod report;
 mod words;
+mod writing;
 
 use report::memory_refused;
 use std::io::{BufReader, BufWriter};

@@ -3,11 +3,12 @@
 use crate::command_line::command_line;
 use crate::files::{FileFault, read_file, read_hosts};
 use crate::report::{file_failed, memory_refused, print_reply, write_failed};
+use crate::writing::write_outcome;
 use clap::error::ErrorKind;
 use clap::{ArgMatches, Error};
 use idtext::ByteString;
 use std::alloc::AllocError;
-use unify::{Reply, check_reply, count_reply};
+use unify::{Reply, check_reply, consolidate, cost_reply, count_reply, refused, rehearse_reply};
 
 // count MAP HOST...
 fn run_count(rt: &HostRuntime, matches: &ArgMatches<'_>) -> Result<Reply, FileFault> {
@@ -32,13 +33,41 @@ fn run_check(rt: &HostRuntime, matches: &ArgMatches<'_>) -> Result<Reply, FileFa
     Ok(check_reply(rt.alloc(), &hosts, pins.bytes(), certificate.bytes())?)
 }
 
+// rehearse PLAN MTREE
+fn run_rehearse(rt: &HostRuntime, matches: &ArgMatches<'_>) -> Result<Reply, FileFault> {
+    let plan = read_file(rt, matches.get_str("PLAN").unwrap_or(""))?;
+    let mtree = read_file(rt, matches.get_str("MTREE").unwrap_or(""))?;
+    Ok(rehearse_reply(rt.alloc(), plan.bytes(), mtree.bytes())?)
+}
+
+// merge [--pins FILE] OUT HOST...
+fn run_merge(rt: &HostRuntime, matches: &ArgMatches<'_>) -> Result<Reply, FileFault> {
+    let words = matches.get_strs("HOST").unwrap_or(&[]);
+    let pins = read_pins(rt, matches)?;
+    let hosts = read_hosts(rt, words)?;
+    match consolidate(rt.alloc(), &hosts, pins.bytes()) {
+        Ok(outcome) => {
+            let directory = matches.get_str("OUT").unwrap_or("");
+            write_outcome(rt, directory, words, &outcome)?;
+            Ok(cost_reply(rt.alloc(), outcome.cost)?)
+        }
+        Err(fault) => Ok(refused(rt.alloc(), &fault)?),
+    }
+}
+
 // What the command that the words name answers, where there is such a command.
 fn reply_of(rt: &HostRuntime, matches: &ArgMatches<'_>) -> Option<Result<Reply, FileFault>> {
     if let Some(matches) = matches.subcommand_matches("count") {
         return Some(run_count(rt, matches));
     }
-    let matches = matches.subcommand_matches("check")?;
-    Some(run_check(rt, matches))
+    if let Some(matches) = matches.subcommand_matches("merge") {
+        return Some(run_merge(rt, matches));
+    }
+    if let Some(matches) = matches.subcommand_matches("check") {
+        return Some(run_check(rt, matches));
+    }
+    let matches = matches.subcommand_matches("rehearse")?;
+    Some(run_rehearse(rt, matches))
 }
 
 // Runs the command that the words name.

@@ -1,9 +1,9 @@
 //! Worked bundles of `run check`: two hosts that have each other's numbers, with the certificate of their exchange as it
 //! stands or damaged.
 
+use super::common::answered;
 use std::alloc::{AllocError, Global};
 use std::test::Fail;
-use unify::{Watched, run_bundle};
 
 const HOSTS: &[u8] = b"host a\n\
     file passwd\n\
@@ -40,9 +40,7 @@ fn checked(alloc: Global, pins: &[u8], certificate: &[u8]) -> Result<(u8, Vec<u8
     bundle.extend_from_slice(b"file certificate\n")?;
     bundle.extend_from_slice(certificate)?;
     bundle.extend_from_slice(HOSTS)?;
-    let mut writer = Watched::new(Vec::new(alloc));
-    let status = run_bundle(alloc, &mut Watched::new(bundle.as_slice()), &mut writer);
-    Ok((status, writer.inner))
+    answered(alloc, bundle.as_slice())
 }
 
 const EXCHANGE: &[u8] =

@@ -5,6 +5,7 @@ use idtext::ByteString;
 use std::alloc::{AllocError, Global};
 use std::test::Fail;
 use unify::{Outcome, consolidate, verify};
+use unify_texts::Fault;
 
 // A host of these files, without a login.defs.
 fn host(
@@ -24,18 +25,20 @@ fn host(
 }
 
 // The outcome of a merge that nothing refuses.
-fn merged(alloc: Global, hosts: &[HostText]) -> Option<Outcome> {
+fn merged(alloc: Global, hosts: &[HostText]) -> Result<Outcome, Fail> {
     match consolidate(alloc, hosts, b"") {
-        Ok(outcome) => Some(outcome),
-        Err(_) => None,
+        Ok(outcome) => Ok(outcome),
+        Err(Fault::Memory) => Err(AllocError.into()),
+        Err(_fault) => Err(Fail::new("the site was refused")),
     }
 }
 
 // The cost that the check of an outcome's certificate answers.
-fn cost_checked(alloc: Global, hosts: &[HostText], outcome: &Outcome) -> Option<u64> {
+fn cost_checked(alloc: Global, hosts: &[HostText], outcome: &Outcome) -> Result<u64, Fail> {
     match verify(alloc, hosts, b"", outcome.certificate.bytes()) {
-        Ok(cost) => Some(cost),
-        Err(_) => None,
+        Ok(cost) => Ok(cost),
+        Err(Fault::Memory) => Err(AllocError.into()),
+        Err(_fault) => Err(Fail::new("the certificate was refused")),
     }
 }
 
@@ -49,9 +52,7 @@ fn root_only(rt: HostRuntime) -> Result<(), Fail> {
         b"root:x:0:\n",
         b"",
     )?)?;
-    let Some(outcome) = merged(rt.alloc(), &hosts) else {
-        return Err(Fail::new("the site was refused"));
-    };
+    let outcome = merged(rt.alloc(), &hosts)?;
     assert_eq!(rt;
         outcome.passwd.bytes(),
         b"root:x:0:0:root:/root:/bin/sh\n".as_slice()
@@ -94,9 +95,7 @@ fn two_hosts_swap(rt: HostRuntime) -> Result<(), Fail> {
         b"users:x:100:\n",
         b"/set gid=100\n./bob1 uid=1001\n./bob2 uid=1001\n./bob3 uid=1001\n./bob4 uid=1001\n./alice1 uid=1002\n./alice2 uid=1002\n./alice3 uid=1002\n",
     )?)?;
-    let Some(outcome) = merged(rt.alloc(), &hosts) else {
-        return Err(Fail::new("the site was refused"));
-    };
+    let outcome = merged(rt.alloc(), &hosts)?;
     assert_eq!(rt; outcome.cost.users, 6);
     assert_eq!(rt; outcome.cost.groups, 0);
     assert_eq!(rt;
@@ -107,7 +106,7 @@ fn two_hosts_swap(rt: HostRuntime) -> Result<(), Fail> {
         outcome.passwd.bytes(),
         b"bob:x:1001:100::/home/bob:/bin/sh\nalice:x:1002:100::/home/alice:/bin/sh\n".as_slice()
     );
-    assert_eq!(rt; cost_checked(rt.alloc(), &hosts, &outcome), Some(6));
+    assert_eq!(rt; cost_checked(rt.alloc(), &hosts, &outcome)?, 6);
     assert_eq!(rt; outcome.plans.texts().len(), 2);
     assert_eq!(rt;
         outcome.plans.texts()[0].bytes(),

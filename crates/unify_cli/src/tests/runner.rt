@@ -98,16 +98,30 @@ fn stop_before_sync(rt: HostRuntime) -> Result<(), Fail> {
 }
 
 #[test]
-fn foreign_owner_and_missing_path(rt: HostRuntime) -> Result<(), Fail> {
+fn foreign_owner(rt: HostRuntime) -> Result<(), Fail> {
     let alloc = rt.alloc();
     let plan = Plan::read(alloc, PLAN_OF_A)?;
-    let mut foreign = tree_of(alloc, b"./alice1 uid=7 gid=100\n")?;
+    let mut tree = tree_of(
+        alloc,
+        b"/set gid=100\n./alice1 uid=7\n./alice2 uid=1001\n./alice3 uid=1001\n./alice4 uid=1001\n./alice5 uid=1001\n./bob1 uid=1002\n",
+    )?;
     let mut runner = Runner::new(&plan);
-    assert!(rt; runner.run(&mut foreign) == Err(RunFault::Foreign(0)));
+    assert!(rt; runner.run(&mut tree) == Err(RunFault::Foreign(0)));
     assert!(rt; runner.place() == Place::Record(0));
-    let mut missing = tree_of(alloc, b"./alice2 uid=1001 gid=100\n")?;
+    Ok(())
+}
+
+#[test]
+fn missing_path(rt: HostRuntime) -> Result<(), Fail> {
+    let alloc = rt.alloc();
+    let plan = Plan::read(alloc, PLAN_OF_A)?;
+    let mut tree = tree_of(
+        alloc,
+        b"/set gid=100\n./alice2 uid=1001\n./alice3 uid=1001\n./alice4 uid=1001\n./alice5 uid=1001\n./bob1 uid=1002\n",
+    )?;
     let mut runner = Runner::new(&plan);
-    assert!(rt; runner.run(&mut missing) == Err(RunFault::Missing(0)));
+    assert!(rt; runner.run(&mut tree) == Err(RunFault::Missing(0)));
+    assert!(rt; runner.place() == Place::Record(0));
     Ok(())
 }
 
@@ -186,6 +200,7 @@ fn sync_fails_once(rt: HostRuntime) -> Result<(), Fail> {
     assert!(rt; runner.run(&mut tree) == Err(RunFault::Device));
     assert!(rt; runner.place() == Place::SyncOwners);
     assert!(rt; runner.run(&mut tree) == Ok(()));
+    check(&rt, &mut tree, [true; 6], true);
     Ok(())
 }
 
@@ -245,12 +260,25 @@ fn swap_campaign(rt: HostRuntime) -> Result<(), Fail> {
             events.push(Event::Advance(host))?;
         }
         assert!(rt; campaign.drive(&events) == Ok(true));
-        assert!(rt; campaign.drive(&[Event::Stop(0)]) == Ok(false));
-        assert!(rt; campaign.drive(&[Event::Advance(0)]) == Ok(true));
         for mut tree in campaign.into_trees() {
             assert!(rt; tree.mark() == Ok(true));
         }
     }
+    Ok(())
+}
+
+#[test]
+fn swap_campaign_late_stop(rt: HostRuntime) -> Result<(), Fail> {
+    let alloc = rt.alloc();
+    let plans = both_plans(alloc)?;
+    let mut campaign = campaign_of(&rt, alloc, &plans, both_trees(alloc)?)?;
+    let mut events = Vec::new(alloc);
+    for i in 0..14 {
+        events.push(Event::Advance(if i < 10 { 0 } else { 1 }))?;
+    }
+    events.push(Event::Stop(0))?;
+    assert!(rt; campaign.drive(&events) == Ok(false));
+    assert!(rt; campaign.drive(&[Event::Advance(0)]) == Ok(true));
     Ok(())
 }
 

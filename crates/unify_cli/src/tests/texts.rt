@@ -1,24 +1,34 @@
 use hosts_join::{PoolClass, Which};
 use idtext::{ByteString, Name, TextCode};
-use std::alloc::Global;
+use std::alloc::{AllocError, Global};
 use std::process::Abort;
 use std::test::Fail;
-use unify_texts::{Command, Fault, FileName, push_fault, read_bundle, read_map};
+use unify_texts::{Bundle, Command, Fault, FileName, MapText, push_fault, read_bundle, read_map};
 
 const ROOT_ONLY: &[u8] =
     b"run merge\nhost a\nfile passwd\n|root:x:0:0:root:/root:/bin/sh\nfile group\n|root:x:0:\n";
 
 /// The line that a bundle is refused at, 0 where it is read, and another number where something else is answered.
-fn bad_line(alloc: Global, text: &[u8]) -> u64 {
+fn bad_line(alloc: Global, text: &[u8]) -> Result<u64, AllocError> {
     match read_bundle(alloc, text) {
-        Ok(_) => 0,
-        Err(Fault::BadBundle(line)) => line,
-        Err(_) => u64::MAX,
+        Ok(_) => Ok(0),
+        Err(Fault::BadBundle(line)) => Ok(line),
+        Err(Fault::Memory) => Err(AllocError),
+        Err(_) => Ok(u64::MAX),
+    }
+}
+
+/// A bundle that is not refused.
+fn bundle(alloc: Global, text: &[u8]) -> Result<Bundle, Fail> {
+    match read_bundle(alloc, text) {
+        Ok(bundle) => Ok(bundle),
+        Err(Fault::Memory) => Err(AllocError.into()),
+        Err(_) => Err(Fail::new("the bundle was refused")),
     }
 }
 
 #[test]
-fn every_bundle_prefix(rt: HostRuntime) {
+fn every_bundle_prefix(rt: HostRuntime) -> Result<(), Fail> {
     let answers: [(usize, usize, u64); 9] = [
         (0, 8, 1),
         (9, 10, 0),
@@ -33,28 +43,24 @@ fn every_bundle_prefix(rt: HostRuntime) {
     for (first, last, line) in answers {
         for length in first..=last {
             let prefix = ROOT_ONLY.get(..length).unwrap_or(b"");
-            assert_eq!(rt; bad_line(rt.alloc(), prefix), line, "at {length}");
+            assert_eq!(rt; bad_line(rt.alloc(), prefix)?, line, "at {length}");
         }
     }
+    Ok(())
 }
 
 #[test]
-fn root_only(rt: HostRuntime) {
-    let Ok(bundle) = read_bundle(rt.alloc(), ROOT_ONLY) else {
-        assert!(rt; false);
-        return;
-    };
+fn root_only(rt: HostRuntime) -> Result<(), Fail> {
+    let bundle = bundle(rt.alloc(), ROOT_ONLY)?;
     assert_eq!(rt; bundle.command, Command::Merge);
     let [head, host] = bundle.places.places() else {
-        assert!(rt; false);
-        return;
+        return Err(Fail::new("the bundle is another"));
     };
     assert!(rt; head.name.bytes().is_empty());
     assert!(rt; head.files.files().is_empty());
     assert_eq!(rt; host.name.bytes(), b"a".as_slice());
     let [passwd, group] = host.files.files() else {
-        assert!(rt; false);
-        return;
+        return Err(Fail::new("the bundle is another"));
     };
     assert_eq!(rt; passwd.file, FileName::Passwd);
     assert_eq!(rt;
@@ -63,10 +69,11 @@ fn root_only(rt: HostRuntime) {
     );
     assert_eq!(rt; group.file, FileName::Group);
     assert_eq!(rt; group.text.bytes(), b"root:x:0:\n".as_slice());
+    Ok(())
 }
 
 #[test]
-fn bad_bundles(rt: HostRuntime) {
+fn bad_bundles(rt: HostRuntime) -> Result<(), Fail> {
     let answers: [(&[u8], u64); 14] = [
         (b"\n", 1),
         (b"host a\n", 1),
@@ -90,26 +97,34 @@ fn bad_bundles(rt: HostRuntime) {
         (b"run rehearse\nfile mtree\nfile plan\n|end", 0),
     ];
     for (text, line) in answers {
-        assert_eq!(rt; bad_line(rt.alloc(), text), line);
+        assert_eq!(rt; bad_line(rt.alloc(), text)?, line);
     }
+    Ok(())
 }
 
 /// The line that a map is refused at, 0 where it is read, and another number where something else is answered.
-fn bad_map_line(alloc: Global, text: &[u8]) -> u64 {
+fn bad_map_line(alloc: Global, text: &[u8]) -> Result<u64, AllocError> {
     match read_map(alloc, text) {
-        Ok(_) => 0,
-        Err(Fault::BadMap(line)) => line,
-        Err(_) => u64::MAX,
+        Ok(_) => Ok(0),
+        Err(Fault::BadMap(line)) => Ok(line),
+        Err(Fault::Memory) => Err(AllocError),
+        Err(_) => Ok(u64::MAX),
+    }
+}
+
+/// A map that is not refused.
+fn map(alloc: Global, text: &[u8]) -> Result<MapText<'_>, Fail> {
+    match read_map(alloc, text) {
+        Ok(map) => Ok(map),
+        Err(Fault::Memory) => Err(AllocError.into()),
+        Err(_) => Err(Fail::new("the map was refused")),
     }
 }
 
 #[test]
-fn maps(rt: HostRuntime) {
+fn maps(rt: HostRuntime) -> Result<(), Fail> {
     let text = b"group users 0100\n\n# two users\nuser bob 1001\nuser al ice 1001\ngroup bob 7";
-    let Ok(map) = read_map(rt.alloc(), text) else {
-        assert!(rt; false);
-        return;
-    };
+    let map = map(rt.alloc(), text)?;
     assert_eq!(rt; map.users.len(), 2);
     assert_eq!(rt; map.users.number(b"bob"), Some(1001));
     assert_eq!(rt; map.users.number(b"al ice"), Some(1001));
@@ -125,8 +140,9 @@ fn maps(rt: HostRuntime) {
         (b"user alice 1001\ngroup alice 1001\nuser alice 1001\n", 3),
     ];
     for (text, line) in answers {
-        assert_eq!(rt; bad_map_line(rt.alloc(), text), line);
+        assert_eq!(rt; bad_map_line(rt.alloc(), text)?, line);
     }
+    Ok(())
 }
 
 /// Checks the line of a fault, behind what is there already.

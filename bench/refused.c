@@ -1,0 +1,20 @@
+// To be loaded before the C library: refuses the growth whose number, from 1, the environment gives as REFUSED.
+#include <stddef.h>
+#include <stdlib.h>
+
+extern void *__libc_malloc(size_t size);
+extern void *__libc_realloc(void *block, size_t size);
+
+static long left = -1;
+
+static int refused(void) {
+    if (left < 0) {
+        const char *number = getenv("REFUSED");
+        left = number ? atol(number) : 0;
+    }
+    return left > 0 && --left == 0;
+}
+
+void *malloc(size_t size) { return refused() ? NULL : __libc_malloc(size); }
+
+void *realloc(void *block, size_t size) { return refused() ? NULL : __libc_realloc(block, size); }

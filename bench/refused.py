@@ -1,0 +1,93 @@
+#!/usr/bin/env python3
+"""Refuses one growth of memory after another, and sees that each is told as such.
+
+    bench/refused.py tests [FIRST [LAST [CRATE..]]]   the tests of each crate, with the first growth of each test refused, then
+                                                      the second, and so on; a test has to pass, or to end with the error
+                                                      that says that memory was refused
+    bench/refused.py program BUNDLE..                 the program, on each bundle: `unify: memory` and the status 3, until so
+                                                      many growths are granted that it answers as it does with all
+
+It prints the first that fails, and ends with status 1 then.
+"""
+import os
+import re
+import subprocess
+import sys
+
+ROOT = os.path.dirname(os.path.dirname(os.path.abspath(__file__)))
+PROGRAM = f"{ROOT}/crates/unify_cli/out/unify_cli"
+SHIM = f"{ROOT}/build/refused.so"
+TOLD = ("error: AllocError", "error: AllocFailed { .. }", "error: Memory")
+
+
+def crates_with_tests():
+    for line in open(f"{ROOT}/crates.txt"):
+        name = line.partition(":")[0].strip()
+        if line.strip() and not name.startswith("#") and os.path.exists(f"{ROOT}/crates/{name}/src/tests.rt"):
+            yield name
+
+
+def failed_tests(crate, number):
+    """How many tests were told that memory was refused, and what the others that do not pass printed."""
+    words = ["rt", "try", "--test", "--seconds", "600", "--fail-alloc", str(number)]
+    ran = subprocess.run(words, cwd=f"{ROOT}/crates/{crate}", capture_output=True, text=True)
+    printed = ran.stdout + ran.stderr
+    if "test result:" not in printed:
+        return 0, [printed]
+    told, failed = 0, []
+    for part in re.split(r"(?m)^test (?=.* \.\.\. |result)", printed)[1:]:
+        lines = part.splitlines()
+        if lines[0].endswith("FAILED") and len(lines) > 1 and lines[1].strip() in TOLD:
+            told += 1
+        elif lines[0].endswith("FAILED"):
+            failed.append(part)
+    return told, failed
+
+
+def try_tests(first, last, crates):
+    for crate in crates or crates_with_tests():
+        for number in range(first, last + 1):
+            told, failed = failed_tests(crate, number)
+            if failed:
+                print(f"{crate}: with the growth {number} of each test refused:\n{failed[0]}")
+                return 1
+            print(f"{crate}: growth {number}: {told} tests were refused and told so", flush=True)
+            if told == 0:
+                break
+    return 0
+
+
+def answer(bundle, refused):
+    env = {"LD_PRELOAD": SHIM, "REFUSED": str(refused)}
+    with open(bundle, "rb") as it:
+        ran = subprocess.run([PROGRAM], stdin=it, capture_output=True, env=env)
+    return ran.returncode, ran.stdout
+
+
+def try_program(bundles):
+    os.makedirs(f"{ROOT}/build", exist_ok=True)
+    words = ["cc", "-O2", "-shared", "-fPIC", "-o", SHIM, f"{ROOT}/bench/refused.c"]
+    subprocess.run(words, check=True)
+    for bundle in bundles:
+        granted = answer(bundle, 0)
+        number = 1
+        while (given := answer(bundle, number)) != granted:
+            if given != (3, b"unify: memory\n"):
+                print(f"{bundle}: with the growth {number} refused, status {given[0]}:\n{given[1].decode()}")
+                return 1
+            number += 1
+        print(f"{bundle}: {number - 1} growths refused, each told; then status {granted[0]}")
+    return 0
+
+
+def main(words):
+    if words[:1] == ["tests"]:
+        first, last = (int(word) for word in (words[1:3] + ["1", "8"][len(words[1:3]) :]))
+        return try_tests(first, last, words[3:])
+    if words[:1] == ["program"] and words[1:]:
+        return try_program(words[1:])
+    print(__doc__)
+    return 2
+
+
+sys.exit(main(sys.argv[1:]))

@@ -1,0 +1,6 @@
+use Rattle.reown_runner.specs.Tree.{cells_of}
+use Rattle.reown_runner.proofs.Histories.{stop_sound}
+use Rattle.reown_runner.proofs.laws.a_stop_stays_safe.Goals as goal
+
+pub returns : goal.returns
+returns c = λ inventory records place old new readable stop safe. stop_sound inventory records place (cells_of old) (cells_of new) readable stop safe

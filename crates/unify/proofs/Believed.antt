@@ -1,0 +1,151 @@
+-- What a merge may answer is what it is believed for.
+use Rattle.std.proofs.Common.{◌≡◌, ℕ, zero, suc, ◌+◌, ◌<◌, ◌↔◌, true, false, List, [], ◌∷◌, length, get_or, map, Option, Some, None, Ok, refl, sym, ap, subst, ◌∙◌, arith}
+use Rattle.std.specs.List.{slice_get}
+use Rattle.std.specs.Option.{is_some, option_map}
+use Rattle.std.specs.Str.{bytes_eq}
+use Rattle.std.proofs.lemmas.Option.{slice_get-map}
+use Rattle.hosts_join.specs.Accounts.{Account, Accounts, Pair, nobody, place_of}
+use Rattle.hosts_join.specs.Pairs.{number_of}
+use Rattle.hosts_join.specs.Rules.{account, is_name}
+use Rattle.hosts_join.specs.Site.{Joined}
+use Rattle.hosts_join.specs.declared.host.Host.{Host}
+use Rattle.hosts_join.proofs.Grouping.{bytes_same}
+use Rattle.hosts_join.proofs.Pairing.{place-holds}
+use Rattle.mtree_inv.specs.declared.entry.Entry.{Entry}
+use Rattle.ownership.specs.Mappings.{IsAdmissible, Mappings, number_at}
+use Rattle.certcheck.specs.Reading.{certificate_in}
+use Rattle.certcheck.proofs.Missing.{any_is_place}
+use Rattle.certcheck.proofs.Spelled.{spelled_is_read}
+use Rattle.reown_plan.specs.PlanData.{PlanData}
+use Rattle.reown_plan.specs.Reading.{ReadsAs}
+use Rattle.reown_plan.specs.Spelling as plan
+use Rattle.reown_plan.specs.Target.{plan_of, host_plan, name_at}
+use Rattle.reown_plan.proofs.Lawful.{plan-lawful}
+use Rattle.reown_runner.specs.declared.runner.Place.TheVariants.{Done}
+use Rattle.reown_runner.specs.Memory.{owner_in}
+use Rattle.reown_runner.specs.Safe.{IsSafeInStep}
+use Rattle.reown_runner.specs.State.{fresh, cells_at}
+use Rattle.reown_runner.specs.Tree.{Image}
+use Rattle.reown_runner.proofs.Finishing.{fresh_safe, fresh_history, done_image}
+use Rattle.reown_runner.proofs.Runs.{run_sound}
+use Rattle.unify_texts.specs.WrittenMap.{SayMapping}
+use Rattle.unify_texts.specs.declared.map_text.MapText.{MapText}
+use Rattle.unify.specs.declared.outcome.Outcome.{Outcome}
+use Rattle.unify.specs.Believed.{OutcomesAreBelieved, NumbersTellNames}
+use Rattle.unify.specs.Headline.{HaveOneNumberEach, FinishedPlanKeepsNames, untouched}
+use Rattle.unify.specs.Laws.{IsWhole}
+use Rattle.unify.specs.Outcomes.{IsOutcome, hosts_in, plan_texts_from}
+use Rattle.unify.specs.Reading.{WholeSite}
+use Rattle.unify.proofs.Keeping.{is_mapping, map_says_mappings, plan_is_old, keeps_names}
+use Rattle.unify.proofs.SiteRuns.{some_same}
+
+-- ---- one number each
+
+-- a name that stands among accounts is that of one of them
+named_at : (a : Accounts) (n : List ℕ) → is_name a.names n ≡ true → (i : ℕ) × (i < length a.names) × (n ≡ (account a i).name)
+named_at a n h = at (place_of a.names n) refl (ap is_some refl ∙ sym (any_is_place (λ (x : Account). bytes_eq n x.name) a.names) ∙ h)
+  where
+    at : (o : Option ℕ) → place_of a.names n ≡ o → is_some o ≡ true → (i : ℕ) × (i < length a.names) × (n ≡ (account a i).name)
+    at None e there = absurd (cc)
+    at (Some i) e there = let holds = place-holds (λ (x : Account). bytes_eq n x.name) a.names i nobody e in (i, holds.0, bytes_same n (account a i).name holds.1)
+
+-- a name that has a number has it by its index
+numbered_at : (a : Accounts) (m : List ℕ) (pairs : List Pair) → SayMapping a m pairs → (n : List ℕ) (v : ℕ) → number_of pairs n ≡ Some v → (i : ℕ) × (i < length a.names) × (n ≡ (account a i).name) × (number_at m i ≡ v)
+numbered_at a m pairs say n v h =
+    let at = named_at a n (sym (say.names n) ∙ ap is_some h) in
+    (at.0, at.1, at.2, some_same (number_at m at.0) v (sym (say.numbers at.0 at.1) ∙ ap (number_of pairs) (sym at.2) ∙ h))
+
+one_number_each : (a : Accounts) (m : List ℕ) (pairs : List Pair) → IsAdmissible a m → SayMapping a m pairs → HaveOneNumberEach a m pairs
+one_number_each a m pairs ok say = record {
+  admissible = ok;
+  say = say;
+  distinct = λ name other v one two.
+      let i = numbered_at a m pairs say name v one in
+      let j = numbered_at a m pairs say other v two in
+      let same : i.0 ≡ j.0 = ok.distinct i.0 j.0 (omega (arith, i.1, ok.len)) (omega (arith, j.1, ok.len)) (i.3 ∙ sym j.3) in
+      i.2 ∙ ap (λ k. (account a k).name) same ∙ sym j.2;
+}
+
+-- ---- plans
+
+-- the text at an index is that of the plan of the host there
+text_at : (hosts : List Host) (site : Joined) (m : Mappings) (all : List (Host × List Entry)) (start k : ℕ) (host : Host) (files : List Entry) → slice_get all k ≡ Some (host, files)
+    → slice_get (plan_texts_from hosts site m start (map (λ h. h.1) all)) k ≡ Some (plan.spelling (host_plan hosts site m.users m.groups (start + k) files))
+text_at hosts site m [] start k host files here = absurd (cc)
+text_at hosts site m (h ∷ hs) start zero host files here =
+    let same : h ≡ (host, files) = some_same h (host, files) here in
+    let index : start ≡ start + 0 = omega arith in
+    ap (λ (x : Host × List Entry). Some (plan.spelling (host_plan hosts site m.users m.groups start x.1))) same ∙ ap (λ i. Some (plan.spelling (host_plan hosts site m.users m.groups i files))) index
+text_at hosts site m (h ∷ hs) start (suc k) host files here =
+    let index : (start + 1) + k ≡ start + suc k = omega arith in
+    text_at hosts site m hs (start + 1) k host files here ∙ ap (λ i. Some (plan.spelling (host_plan hosts site m.users m.groups i files))) index
+
+read_at : {X : Type 0} (xs : List X) (k : ℕ) (d x : X) → slice_get xs k ≡ Some x → get_or xs k d ≡ x
+read_at [] k d x here = absurd (cc)
+read_at (y ∷ ys) zero d x here = some_same y x here
+read_at (y ∷ ys) (suc k) d x here = read_at ys k d x here
+
+-- the name at an index is that of the host there
+name_is : (site : WholeSite) (h : ℕ) (host : Host) (files : List Entry) → slice_get site.hosts h ≡ Some (host, files) → name_at (hosts_in site) h ≡ host.name
+name_is site h host files here =
+    let there : slice_get (hosts_in site) h ≡ Some host = slice_get-map (λ (x : Host × List Entry). x.0) site.hosts h ∙ ap (option_map (λ (x : Host × List Entry). x.0)) here in
+    read_at (map (λ (x : Host). x.name) (hosts_in site)) h [] host.name (slice_get-map (λ (x : Host). x.name) (hosts_in site) h ∙ ap (option_map (λ (x : Host). x.name)) there)
+
+finished : (site : WholeSite) (outcome : Outcome) → IsWhole site → (o : IsOutcome site outcome) (printed : MapText) → SayMapping site.joined.users o.mappings.users printed.users → SayMapping site.joined.groups o.mappings.groups printed.groups
+    → (h : ℕ) (host : Host) (files : List Entry) → slice_get site.hosts h ≡ Some (host, files) → FinishedPlanKeepsNames printed outcome.plans h host files
+finished site outcome whole o printed users groups h host files here =
+    let m = o.mappings in
+    let is = whole.each_host h host files here in
+    let records = plan_of site.joined m.users m.groups h files in
+    let made : PlanData = record { host = host.name; records = records } in
+    let from_zero : 0 + h ≡ h = omega arith in
+    let name = name_is site h host files here in
+    let same : host_plan (hosts_in site) site.joined m.users m.groups h files ≡ made = ap (λ (n : List ℕ). record { host = n; records = records }) name in
+    let ok = o.answered.least.admissible in
+    let lawful = plan-lawful (hosts_in site) site.joined m.users m.groups h files (subst plan.IsHostName (sym name) is.named) (is_mapping site.joined.users m.users whole.lawful.users ok.users).numbers (is_mapping site.joined.groups m.groups whole.lawful.groups ok.groups).numbers is.files_are in
+    let at_first : Image = record { owner = owner_in files; mark = false } in
+    record {
+      plan = plan.spelling made;
+      printed = ap (λ texts. slice_get texts h) o.printed.plans ∙ text_at (hosts_in site) site.joined m site.hosts 0 h host files here ∙ ap (λ i. Some (plan.spelling (host_plan (hosts_in site) site.joined m.users m.groups i files))) from_zero ∙ ap (λ p. Some (plan.spelling p)) same;
+      records = records;
+      read = (subst plan.IsLawful same lawful, refl);
+      kept = λ events refused end run done image is_image.
+          let old = plan_is_old site.joined m.users m.groups h files is.files_are.distinct in
+          let start = fresh_safe (owner_in files) records (cells_at (fresh at_first)) (fresh_history (owner_in files) at_first (λ path. refl) refl) old in
+          let safe = run_sound (owner_in files) records lawful.distinct (untouched files) events refused end start run in
+          let at_done : IsSafeInStep (owner_in files) records Done (cells_at end.state) = subst (λ p. IsSafeInStep (owner_in files) records p (cells_at end.state)) done safe in
+          keeps_names site.joined m printed users groups h host files is image.owner (done_image (owner_in files) records (cells_at end.state) at_done image is_image).1;
+    }
+
+pub outcomes_are_believed : OutcomesAreBelieved
+outcomes_are_believed site outcome whole o =
+    let back = map_says_mappings site outcome whole o in
+    let ok = o.answered.least.admissible in
+    record {
+      map = back.pairs;
+      map_read = back.read;
+      certificate = o.certificate;
+      certificate_read = ap certificate_in o.printed.certificate ∙ spelled_is_read o.certificate (record { users = o.answered.user_side; groups = o.answered.group_side });
+      mappings = o.mappings;
+      users_have_one_number_each = one_number_each site.joined.users o.mappings.users back.pairs.users ok.users back.users;
+      groups_have_one_number_each = one_number_each site.joined.groups o.mappings.groups back.pairs.groups ok.groups back.groups;
+      no_other_rewrites_fewer = o.answered.least;
+      potentials_are_of_these = o.answered.certificate_has;
+      potentials_prove_it = o.answered.certified;
+      cost_is_told = o.printed.cost;
+      a_finished_plan_keeps_names = finished site outcome whole o back.pairs back.users back.groups;
+    }
+
+-- ---- numbers and names
+
+same_names : (a : Accounts) (m : List ℕ) (pairs : List Pair) → HaveOneNumberEach a m pairs → (name other : List ℕ) (v w : ℕ) → number_of pairs name ≡ Some v → number_of pairs other ≡ Some w → (v ≡ w) ↔ (name ≡ other)
+same_names a m pairs have name other v w one two = (
+  (λ e. have.distinct name other v one (two ∙ ap (λ (n : ℕ). Some n) (sym e))),
+  (λ e. some_same v w (sym one ∙ ap (number_of pairs) e ∙ two)),
+)
+
+pub numbers_tell_names : NumbersTellNames
+numbers_tell_names users groups m n printed by_user by_group host other tree other_tree file other_file one two = (
+  same_names users m printed.users by_user one.user two.user one.now.uid two.now.uid one.has_user two.has_user,
+  same_names groups n printed.groups by_group one.group two.group one.now.gid two.now.gid one.has_group two.has_group,
+)

@@ -1,0 +1,56 @@
+-- What a rehearsal answers, from its parts.
+use Rattle.std.proofs.Common.{◌≡◌, ℕ, List, [], length, Option, None, Some, Result, Ok, Err, IfSome, IfOk, refl, sym, ◌∙◌, ap, subst}
+use Rattle.idtext.specs.First.{◌>>=◌, Gives, first_fault, unless}
+use Rattle.mtree_inv.specs.declared.entry.Entry.{Entry}
+use Rattle.mtree_inv.specs.Inventory.{inventory}
+use Rattle.reown_plan.specs.PlanData.{PlanData}
+use Rattle.reown_plan.specs.Reading.{ReadsAs}
+use Rattle.unify_texts.specs.declared.bundle_line.FileName.TheVariants as file
+use Rattle.unify_texts.specs.declared.fault.Fault.{Fault}
+use Rattle.unify_texts.specs.declared.fault.Fault.TheVariants.{BadPlan}
+use Rattle.unify_texts.specs.Told.{told}
+use Rattle.unify.specs.declared.reply.Reply.{Reply}
+use Rattle.unify.specs.Lines.{records_lines}
+use Rattle.unify.specs.Output.{Answer, Answers, IsRehearsalTold, answered}
+use Rattle.unify.specs.Replies.{reply_of}
+use Rattle.unify.specs.Rehearsing.{IsRehearsed, Rehearses, record_fault, rehearsed}
+use Rattle.unify.specs.Told.{in_file}
+
+module _ (text mtree : List ℕ) where
+  pub plan_refused : (o : Option Fault) → IfSome o (λ f. (offset : ℕ) × (f ≡ BadPlan offset) × ReadsAs text (Err offset)) → IfSome o (λ f. IsRehearsed text mtree (Err f))
+  plan_refused None h = tt
+  plan_refused (Some f) h = record { plan = Err h.0; reads = h.2; answered = ap (λ g. Err g) (sym h.1) }
+
+  module _ (plan : PlanData) (reads : ReadsAs text (Ok plan)) (host : List ℕ) (same : host ≡ plan.host) where
+    abbrev carried : List Entry → Result ℕ Fault
+    carried files = unless (first_fault (record_fault files) [] plan.records) (length plan.records)
+
+    as_read : (read : Result (List Entry) Fault) → in_file host file.Mtree (inventory 16777216 mtree) ≡ read → rehearsed (Ok plan) mtree ≡ (read >>= carried)
+    as_read read e = ap (λ h. in_file h file.Mtree (inventory 16777216 mtree) >>= carried) (sym same) ∙ ap (λ r. r >>= carried) e
+
+    pub files_refused : (o : Option Fault) → IfSome o (λ f. in_file host file.Mtree (inventory 16777216 mtree) ≡ Err f) → IfSome o (λ f. IsRehearsed text mtree (Err f))
+    files_refused None h = tt
+    files_refused (Some f) h = record { plan = Ok plan; reads = reads; answered = as_read (Err f) h }
+
+    module _ (files : List Entry) (read : in_file host file.Mtree (inventory 16777216 mtree) ≡ Ok files) where
+      run_refused : (o : Option Fault) → IfSome o (λ f. carried files ≡ Err f) → IfSome o (λ f. IsRehearsed text mtree (Err f))
+      run_refused None h = tt
+      run_refused (Some f) h = record { plan = Ok plan; reads = reads; answered = as_read (Ok files) read ∙ h }
+
+      pub carried_out : (result : Result ℕ Fault) → Gives (λ n. n) told result (carried files) → Rehearses told text mtree result
+      carried_out (Ok n) h = record { plan = Ok plan; reads = reads; answered = as_read (Ok files) read ∙ h }
+      carried_out (Err e) h = run_refused (told e) h
+
+  -- ---- the reply
+
+  pub lines_told : (n : ℕ) (lines : List ℕ) → IsRehearsed text mtree (Ok n) → lines ≡ records_lines n → Answers (IsRehearsalTold text mtree) (record { text = lines; status = 0 })
+  lines_told n lines is e =
+      let with_text : List ℕ → Answer = λ t. record { text = t; status = 0 } in
+      (Ok (records_lines n), (Ok n, is, refl), ap with_text e)
+
+  pub refusal_told : {E : Type 0} (f : Fault) (r : Result Reply E) → IfSome (told f) (λ g. IsRehearsed text mtree (Err g)) → IfOk r (λ reply. (told f ≡ Some f) × (reply_of reply ≡ answered (Err f)))
+      → IfOk r (λ reply. Answers (IsRehearsalTold text mtree) (reply_of reply))
+  refusal_told f (Ok reply) is h =
+      let P : Option Fault → Type 0 = λ o. IfSome o (λ g. IsRehearsed text mtree (Err g)) in
+      (Err f, (Err f, subst P h.0 is, refl), h.1)
+  refusal_told f (Err e) is h = tt

@@ -1,0 +1,39 @@
+-- Laws of what a merge answers.
+use Rattle.std.specs.Prelude.{◌≡◌, ◌↔◌, ℕ, List, [], Option, None, Ok, map}
+use Rattle.mtree_inv.specs.declared.entry.Entry.{Entry}
+use Rattle.hosts_join.specs.Accounts.{Accounts, Pair}
+use Rattle.hosts_join.specs.declared.host.Host.{Host}
+use Rattle.reown_plan.specs.declared.plan.Owner.{Owner}
+use Rattle.reown_runner.specs.declared.campaign.Event.{Event}
+use Rattle.reown_runner.specs.declared.memory.Keep.{Keep}
+use Rattle.reown_runner.specs.Campaign.{EachGoes, is_done}
+use Rattle.reown_runner.specs.Memory.{Mem, known_mem}
+use Rattle.reown_runner.specs.RunnerData.{RunnerData}
+use Rattle.unify_texts.specs.declared.map_text.MapText.{MapText}
+use Rattle.unify_texts.specs.Maps.{map_of}
+use Rattle.unify.specs.declared.outcome.Outcome.{Outcome}
+use Rattle.unify.specs.Headline.{Headline, HaveOneNumberEach, KeepsItsNames}
+use Rattle.unify.specs.Laws.{IsWhole}
+use Rattle.unify.specs.Outcomes.{IsOutcome}
+use Rattle.unify.specs.Reading.{WholeSite}
+use Rattle.unify.specs.SiteRuns.{new_world, DoneKeepsNames}
+
+-- what a merge may answer for a site is believed
+abbrev pub OutcomesAreBelieved : Type 0
+OutcomesAreBelieved = (site : WholeSite) (outcome : Outcome) → IsWhole site → IsOutcome site outcome → Headline site outcome
+
+-- Where the plans of a merge were carried out on trees in memory as far as any events lead, the files of a host that is done have
+-- the names that they had, by the map that the merge printed.
+abbrev pub RunsKeepNames : Type 0
+RunsKeepNames = (keep : Keep) (events : List Event) (site : WholeSite) (outcome : Outcome) → IsWhole site → (merged : IsOutcome site outcome)
+    → (printed : MapText) → map_of outcome.map ≡ Ok printed → (runners : List RunnerData) (trees : List Mem)
+    → EachGoes known_mem (new_world keep site merged.mappings) events (λ host. None) (record { runners = runners; trees = trees })
+    → DoneKeepsNames site printed (map (λ runner. is_done runner.place) runners) trees
+
+-- Two files, on any hosts, that keep their names under one map have one uid exactly where their users had one name, and one gid
+-- exactly where their groups had one.
+abbrev pub NumbersTellNames : Type 0
+NumbersTellNames = (users groups : Accounts) (m n : List ℕ) (printed : MapText) → HaveOneNumberEach users m printed.users → HaveOneNumberEach groups n printed.groups
+    → (host other : Host) (tree other_tree : List ℕ → Option Owner) (file other_file : Entry)
+    → (one : KeepsItsNames printed host tree file) (two : KeepsItsNames printed other other_tree other_file)
+    → ((one.now.uid ≡ two.now.uid) ↔ (one.user ≡ two.user)) × ((one.now.gid ≡ two.now.gid) ↔ (one.group ≡ two.group))

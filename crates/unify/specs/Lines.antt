@@ -1,0 +1,37 @@
+-- The lines that tell what a command answered.
+use Rattle.std.specs.Prelude.{ℕ, List, [], ◌∷◌, ◌++◌, codes, decimal, flat_map}
+use Rattle.idtext.specs.Pieces.{lines}
+use Rattle.hosts_join.specs.declared.texts.HostText.{HostText}
+use Rattle.unify.specs.declared.counting.Cost.{Cost}
+use Rattle.unify.specs.declared.outcome.Outcome.{Outcome}
+
+abbrev pub cost_lines : Cost → List ℕ
+cost_lines cost = codes "user-fields " ++ decimal cost.users ++ codes "\ngroup-fields " ++ decimal cost.groups ++ 10 ∷ []
+
+-- a certificate that is accepted, with its cost
+abbrev pub accepted_line : ℕ → List ℕ
+accepted_line cost = codes "accepted " ++ decimal cost ++ 10 ∷ []
+
+-- a plan that was carried out, with the number of its records
+abbrev pub records_lines : ℕ → List ℕ
+records_lines n = codes "records " ++ decimal n ++ codes "\ndone\n"
+
+-- a line of a file in a bundle
+abbrev pub barred : List ℕ → List ℕ
+barred line = 124 ∷ line ++ 10 ∷ []
+
+-- a file as a bundle has it: its name, and each line of its text behind a bar
+abbrev pub file_lines : List ℕ → List ℕ → List ℕ
+file_lines name text = codes "file " ++ name ++ 10 ∷ flat_map barred (lines text)
+
+-- the plan of each host, in a file plan.NAME
+abbrev pub plan_lines : List HostText → List (List ℕ) → List ℕ
+plan_lines [] plans = []
+plan_lines (host ∷ hosts) [] = []
+plan_lines (host ∷ hosts) (plan ∷ plans) = file_lines (codes "plan." ++ host.name) plan ++ plan_lines hosts plans
+
+-- what a merge writes: a file for each text, and then for each plan
+abbrev pub merge_lines : List HostText → Outcome → List ℕ
+merge_lines hosts outcome =
+    file_lines (codes "passwd") outcome.passwd ++ file_lines (codes "group") outcome.group ++ file_lines (codes "map") outcome.map
+    ++ file_lines (codes "certificate") outcome.certificate ++ file_lines (codes "report") outcome.report ++ plan_lines hosts outcome.plans

@@ -1,0 +1,47 @@
+-- What a rehearsal of a whole site answers.
+use Rattle.std.specs.Prelude.{◌≡◌, ℕ, ◌+◌, Bool, true, List, [], ◌∷◌, map, length, Option, Some, None, slice_get, All}
+use Rattle.mtree_inv.specs.declared.entry.Entry.{Entry}
+use Rattle.hosts_join.specs.declared.host.Host.{Host}
+use Rattle.ownership.specs.Mappings.{Mappings}
+use Rattle.reown_plan.specs.Target.{plan_of}
+use Rattle.reown_runner.specs.declared.campaign.Event.{Event}
+use Rattle.reown_runner.specs.declared.memory.Keep.{Keep}
+use Rattle.reown_runner.specs.declared.runner.Place.TheVariants.{Start}
+use Rattle.reown_runner.specs.Campaign.{EachGoes, is_done}
+use Rattle.reown_runner.specs.Memory.{Mem, known_mem, new_mem}
+use Rattle.reown_runner.specs.RunnerData.{RunnerData}
+use Rattle.reown_runner.specs.Tree.{Image, IsImage, cells_of}
+use Rattle.reown_runner.specs.World.{World}
+use Rattle.unify_texts.specs.declared.map_text.MapText.{MapText}
+use Rattle.unify.specs.declared.rehearsing_site.SiteRun.{SiteRun}
+use Rattle.unify.specs.Headline.{Headline, KeepsItsNames}
+use Rattle.unify.specs.Outcomes.{IsOutcome}
+use Rattle.unify.specs.Reading.{WholeSite}
+
+-- a runner at its start for each host's plan, where the first host stands at the index
+abbrev pub runners_from : WholeSite → Mappings → ℕ → List (Host × List Entry) → List RunnerData
+runners_from site m h [] = []
+runners_from site m h (here ∷ more) = record { records = plan_of site.joined m.users m.groups h here.1; place = Start } ∷ runners_from site m (h + 1) more
+
+-- trees in memory as the inventories tell them
+abbrev pub new_trees : Keep → WholeSite → List Mem
+new_trees keep site = map (λ here. record (new_mem here.1) { keep = keep }) site.hosts
+
+abbrev pub new_world : Keep → WholeSite → Mappings → World Mem
+new_world keep site m = record { runners = runners_from site m 0 site.hosts; trees = new_trees keep site }
+
+-- on a host that is done every file has the names that it had, whatever a further stop leaves
+abbrev pub DoneKeepsNames : WholeSite → MapText → List Bool → List Mem → Type 0
+DoneKeepsNames site map done trees = (h : ℕ) (host : Host) (files : List Entry) (tree : Mem) → slice_get site.hosts h ≡ Some (host, files) → slice_get done h ≡ Some true → slice_get trees h ≡ Some tree
+    → (image : Image) → IsImage (cells_of (known_mem tree)) image → All (KeepsItsNames map host image.owner) files
+
+-- A site that was merged, and whose plans went on as far as these events lead, each host by its own, none of them refused.
+pub record IsSiteRun (keep : Keep) (events : List Event) (site : WholeSite) (run : SiteRun) : Type 0 where
+  pub merged : IsOutcome site run.outcome
+  pub believed : Headline site run.outcome
+  pub runners : List RunnerData
+  pub a_runner_each : length runners ≡ length site.hosts
+  pub a_tree_each : length run.trees.items ≡ length site.hosts
+  pub went : EachGoes known_mem (new_world keep site merged.mappings) events (λ host. None) (record { runners = runners; trees = run.trees.items })
+  pub done : run.done.items ≡ map (λ runner. is_done runner.place) runners
+  pub names_kept : DoneKeepsNames site believed.map run.done.items run.trees.items

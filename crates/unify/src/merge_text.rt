@@ -1,0 +1,94 @@
+//! What goes out for a merge: each text that it writes, as a file of a bundle.
+
+ghost use Rattle.std.specs.Prelude.{◌≡◌, ◌++◌, OnOk, IfOk, flat_map, codes};
+ghost use Rattle.idtext.specs.Pieces.{lines};
+ghost use Rattle.unify.specs.Lines.{barred, file_lines, merge_lines, plan_lines};
+ghost use Rattle.unify.specs.Output.{Answers, IsMerged};
+ghost use Rattle.unify.specs.Replies.{reply_of};
+
+use crate::merging::consolidate;
+use crate::outcome::Outcome;
+use crate::reply::{Reply, refused};
+use hosts_join::HostText;
+use idtext::{ByteString, Lines};
+use std::alloc::{AllocError, Global};
+
+// Appends a line of a file: behind a bar, and with its newline.
+fn push_barred(out: &mut Vec<u8>, line: &[u8]) -> Result<(), AllocError>
+    ensures { OnOk result (out.new.items ≡ out.old.items ++ barred line.now) }
+{
+    out.push(b'|')?;
+    out.extend_from_slice(line)?;
+    out.push(b'\n')?;
+    Ok(())
+}
+
+// Appends the lines of a text, each behind a bar, in one pass over it.
+fn push_text(out: &mut Vec<u8>, text: &[u8]) -> Result<(), AllocError>
+    ensures { OnOk result (out.new.items ≡ out.old.items ++ flat_map barred (lines text.now)) }
+{
+    for line in Lines::new(text) {
+        push_barred(out, line)?;
+    }
+    Ok(())
+}
+
+// Appends a file: its name and the lines of its text.
+fn push_file(out: &mut Vec<u8>, name: &str, text: &ByteString) -> Result<(), AllocError>
+    ensures { OnOk result (out.new.items ≡ out.old.items ++ file_lines name.now text.now) }
+{
+    out.extend_from_slice(b"file ")?;
+    out.extend_from_slice(name.as_bytes())?;
+    out.push(b'\n')?;
+    push_text(out, text.bytes())
+}
+
+// Appends the plan of a host, as the file plan.NAME.
+fn push_plan(out: &mut Vec<u8>, host: &HostText, plan: &ByteString) -> Result<(), AllocError>
+    ensures { OnOk result (out.new.items ≡ out.old.items ++ file_lines (codes "plan." ++ host.now.name) plan.now) }
+{
+    out.extend_from_slice(b"file plan.")?;
+    out.extend_from_slice(host.name.bytes())?;
+    out.push(b'\n')?;
+    push_text(out, plan.bytes())
+}
+
+// Appends the plan of each host.
+fn push_plans(out: &mut Vec<u8>, hosts: &[HostText], plans: &[ByteString]) -> Result<(), AllocError>
+    ensures { OnOk result (out.new.items ≡ out.old.items ++ plan_lines hosts.now plans.now) }
+{
+    for (host, plan) in hosts.iter().zip(plans) {
+        push_plan(out, host, plan)?;
+    }
+    Ok(())
+}
+
+// The files of an outcome, behind one another.
+fn outcome_text(alloc: Global, hosts: &[HostText], outcome: &Outcome) -> Result<Vec<u8>, AllocError>
+    ensures { IfOk result (λ text. text.items ≡ merge_lines hosts.now outcome.now) }
+{
+    let mut text = Vec::new(alloc);
+    push_file(&mut text, "passwd", &outcome.passwd)?;
+    push_file(&mut text, "group", &outcome.group)?;
+    push_file(&mut text, "map", &outcome.map)?;
+    push_file(&mut text, "certificate", &outcome.certificate)?;
+    push_file(&mut text, "report", &outcome.report)?;
+    push_plans(&mut text, hosts, outcome.plans.texts())?;
+    Ok(text)
+}
+
+/// What goes out for a merge of these hosts with these pins: the files of its outcome, or the fault line with its status.
+/// An error is a growth that was refused.
+///
+/// Beside what `consolidate` takes, it is one pass over the texts of the outcome.
+pub fn merge_reply(alloc: Global, hosts: &[HostText], pins: &[u8]) -> Result<Reply, AllocError>
+    ensures { IfOk result (λ reply. Answers (IsMerged hosts.now pins.now) (reply_of reply)) }
+{
+    match consolidate(alloc, hosts, pins) {
+        Ok(outcome) => Ok(Reply {
+            text: outcome_text(alloc, hosts, &outcome)?,
+            status: 0,
+        }),
+        Err(fault) => refused(alloc, &fault),
+    }
+}
