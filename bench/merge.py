@@ -1,11 +1,11 @@
 #!/usr/bin/env python3
-"""Times `unify merge` on a generated site, beside the commands that do a part of it.
+"""Times `unify merge` on a generated site, the commands that do a part of it, and its parts.
 
     bench/merge.py [HOSTS [USERS_A_HOST [FILES_A_HOST]]]
 
-`count` reads all files and counts; `check` reads and joins them, counts, and checks the certificate; `merge` reads the
-inventories twice, and also solves and writes. Run `make program` first. The site is made below bench/work, which git does
-not see.
+`count` reads and joins the accounts, and counts the files; `check` does that and checks the certificate; `merge` reads the
+inventories twice, and also solves and writes. The parts are differences between such runs, on the site and on the same
+hosts with empty inventories. Run `make program` first. The site is made below bench/work, which git does not see.
 """
 import os
 import shutil
@@ -13,6 +13,50 @@ import sys
 
 from measure import HERE, UNIFY, timed
 from site_of import write_site
+
+
+def without_files(folder, words):
+    """The words for the same hosts with empty inventories."""
+    bare = []
+    for word in words:
+        name, directory = word.split("=")
+        to = f"{folder}/bare/{name}"
+        os.makedirs(to)
+        for file in ("passwd", "group"):
+            os.symlink(os.path.abspath(f"{directory}/{file}"), f"{to}/{file}")
+        open(f"{to}/mtree", "w").close()
+        bare.append(f"{name}={to}")
+    return bare
+
+
+def run(folder, words, files):
+    """Runs the three commands, and tells and answers their times by name."""
+    out = f"{folder}/out"
+    shutil.rmtree(out, ignore_errors=True)
+    os.mkdir(out)
+    times = {}
+    for name, command in [
+        ("count", ["count", f"{folder}/map"]),
+        ("merge", ["merge", out]),
+        ("check", ["check", f"{out}/certificate"]),
+    ]:
+        seconds, peak, printed = timed([UNIFY, *command, *words])
+        times[name] = seconds
+        rate = f", {files / seconds:9,.0f} files/s" if files else ""
+        print(f"unify {name}: {seconds:6.2f} s{rate}, peak {peak:6,.0f} MiB; {' '.join(printed.split())}", flush=True)
+    return times
+
+
+def print_parts(whole, bare):
+    """The parts of a merge, from the times of the commands on the site and on its accounts alone."""
+    solving = bare["merge"] - bare["count"]
+    for what, seconds in [
+        ("reading and joining accounts", bare["count"]),
+        ("reading inventories, counting", whole["count"] - bare["count"]),
+        ("solving, merged files, certificate", solving),
+        ("inventories again, plans", whole["merge"] - whole["count"] - solving),
+    ]:
+        print(f"  {what:36}{seconds:6.2f} s")
 
 
 def main():
@@ -23,20 +67,14 @@ def main():
     words = write_site(folder, hosts, users, files)
     size = sum(os.path.getsize(f"{word.split('=')[1]}/mtree") for word in words)
     print(f"{hosts} hosts, {users} users and {files} files a host: {size / 1e6:.1f} MB of inventories", flush=True)
-    out = os.path.join(folder, "out")
-    os.mkdir(out)
-    for name, command in [
-        ("count", ["count", f"{folder}/map"]),
-        ("merge", ["merge", out]),
-        ("check", ["check", f"{out}/certificate"]),
-    ]:
-        seconds, peak, printed = timed([UNIFY, *command, *words])
-        told = " ".join(printed.split())
-        print(f"unify {name}: {seconds:6.2f} s, {hosts * files / seconds:9,.0f} files/s, peak {peak:6,.0f} MiB; {told}", flush=True)
-    for word in words[:1]:
-        name, directory = word.split("=")
-        seconds, peak, printed = timed([UNIFY, "rehearse", f"{out}/plan.{name}", f"{directory}/mtree"])
-        print(f"unify rehearse {name}: {seconds:.2f} s, peak {peak:,.0f} MiB; {' '.join(printed.split())}")
+    whole = run(folder, words, hosts * files)
+    name, directory = words[0].split("=")
+    seconds, peak, printed = timed([UNIFY, "rehearse", f"{folder}/out/plan.{name}", f"{directory}/mtree"])
+    print(f"unify rehearse {name}: {seconds:.2f} s, peak {peak:,.0f} MiB; {' '.join(printed.split())}")
+    print("the same hosts with empty inventories:")
+    bare = run(folder, without_files(folder, words), 0)
+    print("the parts of the merge:")
+    print_parts(whole, bare)
 
 
 if __name__ == "__main__":
