@@ -1,8 +1,8 @@
 //! Worked texts, whole and in pieces.
 ghost use Rattle.std.specs.Prelude.{◌≡◌};
 
-use crate::{Entry, Reader, read_inventory};
 use idtext::{ReadError, TextFault};
+use mtree_inv::{Entry, Reader, read_inventory};
 use std::alloc::{AllocError, Global};
 use std::test::Fail;
 
