@@ -19,6 +19,7 @@ from sites import Site
 
 FOLDER = pathlib.Path(__file__).resolve().parent
 SITES = 300
+ENDINGS = {"bundle", "answer", "parts", "status", "accepted"}
 
 # The answers to the prefixes of merge/root-only.bundle: the first and the last length, the status, and the fault line or the
 # example that has the answer.
@@ -49,9 +50,14 @@ def read(path):
     return path.read_bytes().decode("latin-1")
 
 
+def shown(it):
+    """A status with an output, as lines; or anything else."""
+    return "status {}\n{}".format(*it) if isinstance(it, tuple) else it
+
+
 def want(name, wanted, came):
     if wanted != came:
-        sys.exit(f"{name}: wanted\n{wanted}\n{name}: came\n{came}")
+        sys.exit(f"{name}: wanted\n{shown(wanted)}\n{name}: came\n{shown(came)}")
 
 
 def has_part(answer, part):
@@ -61,8 +67,8 @@ def has_part(answer, part):
 
 def check_of(bundle, answer):
     """The bundle that has the certificate of a merge's answer checked, with the same pins and hosts."""
-    certificate = re.search(r"^file certificate\n(?:\|.*\n)*", answer, re.M).group()
-    return bundle.replace("run merge\n", "run check\n" + certificate, 1)
+    certificate = re.search(r"^file certificate\n(?:\|.*\n)*", answer, re.M)
+    return bundle.replace("run merge\n", "run check\n" + (certificate.group() if certificate else ""), 1)
 
 
 def compare_accepted(program, name, bundle, answer, accepted):
@@ -73,18 +79,16 @@ def compare_file(program, path):
     """One example that is a file with its answer beside it."""
     name = f"{path.parent.name}/{path.stem}"
     beside = {file.suffix[1:]: read(file) for file in path.parent.glob(path.stem + ".*")}
-    bundle = read(path)
-    status, answer = answered(program, bundle)
-    want(f"{name}, status", int(beside.get("status", "0")), status)
-    if "answer" in beside:
-        want(name, beside["answer"], answer)
+    if set(beside) - ENDINGS or len({"answer", "parts"} & set(beside)) != 1:
+        sys.exit(f"{name}: wanted an answer or parts of one, came\n{sorted(beside)}")
+    wanted = int(beside.get("status", "0"))
+    status, answer = answered(program, beside["bundle"])
+    want(name, (wanted, beside.get("answer", answer)), (status, answer))
     for part in beside["parts"].split("\n\n") if "parts" in beside else []:
         if not has_part(answer, part):
             want(name, part, answer)
     if "accepted" in beside:
-        compare_accepted(program, name, bundle, answer, beside["accepted"])
-    if not {"answer", "parts"} & set(beside):
-        sys.exit(f"{name}: neither an answer nor parts of one are there")
+        compare_accepted(program, name, beside["bundle"], answer, beside["accepted"])
 
 
 def empty_hosts(count):
@@ -121,15 +125,15 @@ def compare_prefixes(program):
 def compare_merged(program, name, site):
     """The merge of a site that can be merged: admissible, of the least cost, as told, and with a certificate of that cost."""
     status, answer = answered(program, site.bundle())
-    want(f"{name}, status of\n{site.bundle()}", 0, status)
     cost = 0
     for kind in site.kinds():
-        changes, told = kind.cost(kind.mapping_in(answer)), kind.least()
-        want(f"{name}, changed fields and rows of the {kind.name}s of\n{site.bundle()}", told, changes)
-        for what, changed, total in zip(("fields", "lines"), told, kind.totals()):
-            want(f"{name}, report", True, has_part(answer, f"|{kind.name}-{what} {changed} of {total}"))
-        cost += told[0]
-    compare_accepted(program, name, site.bundle(), answer, f"accepted {cost}\n")
+        fields, rows = kind.least()
+        all_fields, all_rows = kind.totals()
+        lines = f"|{kind.name}-fields {fields} of {all_fields}", f"|{kind.name}-lines {rows} of {all_rows}"
+        if status != 0 or kind.cost(kind.mapping_in(answer)) != (fields, rows) or not all(has_part(answer, line) for line in lines):
+            want(f"{name}:\n{site.bundle()}{name}", "\n".join(lines) + "\nand a map that changes so many", (status, answer))
+        cost += fields
+    compare_accepted(program, f"{name}:\n{site.bundle()}{name}", site.bundle(), answer, f"accepted {cost}\n")
 
 
 def compare_sites(program):
@@ -160,6 +164,7 @@ def main(words):
         want(name, (status, answer), answered(program, bundle))
     compare_prefixes(program)
     merged = compare_sites(program)
+    want("generated sites, more than half merged, but not all", True, SITES // 2 < merged < SITES)
     print(f"generated sites: {merged} merged at the least cost, {SITES - merged} refused for a small pool")
     print(f"worked examples: {len(files) + len(large)} as committed")
     return 0
