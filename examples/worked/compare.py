@@ -123,14 +123,15 @@ def compare_prefixes(program):
 
 
 def compare_merged(program, name, site):
-    """The merge of a site that can be merged: admissible, of the least cost, as told, and with a certificate of that cost."""
+    """The merge of a site: admissible, of the least cost, which is told, and with a certificate that is accepted with it."""
     status, answer = answered(program, site.bundle())
     cost = 0
     for kind in site.kinds():
         fields, rows = kind.least()
         all_fields, all_rows = kind.totals()
         lines = f"|{kind.name}-fields {fields} of {all_fields}", f"|{kind.name}-lines {rows} of {all_rows}"
-        if status != 0 or kind.cost(kind.mapping_in(answer)) != (fields, rows) or not all(has_part(answer, line) for line in lines):
+        told = all(has_part(answer, line) for line in lines)
+        if status != 0 or not told or kind.cost(kind.mapping_in(answer)) != (fields, rows):
             want(f"{name}:\n{site.bundle()}{name}", "\n".join(lines) + "\nand a map that changes so many", (status, answer))
         cost += fields
     compare_accepted(program, f"{name}:\n{site.bundle()}{name}", site.bundle(), answer, f"accepted {cost}\n")

@@ -19,7 +19,7 @@ class Kind:
         return self.files, sum(self.rows.values()) + self.pinned
 
     def mapping_in(self, answer):
-        """The numbers that the map of a merge's answer gives the names, in their order; nothing where it is not admissible."""
+        """The numbers that the map in a merge's answer gives the names, in their order; none if it is not admissible."""
         lines = re.findall(rf"^\|{self.name} (\S+) (\d+)$", answer.partition("file certificate\n")[0], re.M)
         mapping = {name: int(number) for name, number in lines if name != "users"}
         numbers = [number for _, number in sorted(mapping.items())]
@@ -42,8 +42,8 @@ class Kind:
 class Site:
     """Two to four hosts with two to six users and three groups, and pools that have about as many numbers.
 
-    users and groups have for each host the (name, number) of its rows, the group users at 100 aside; owners has for each host
-    the user's and the group's row of each file."""
+    users and groups have for each host the (name, number) of its rows, without the group users, which has 100; owners has
+    for each host the user's and the group's row of each file."""
 
     def __init__(self, chance):
         names = chance.randint(2, 6)
