@@ -132,9 +132,9 @@ def compare_merged(program, name, site):
         lines = f"|{kind.name}-fields {fields} of {all_fields}", f"|{kind.name}-lines {rows} of {all_rows}"
         told = all(has_part(answer, line) for line in lines)
         if status != 0 or not told or kind.cost(kind.mapping_in(answer)) != (fields, rows):
-            want(f"{name}:\n{site.bundle()}{name}", "\n".join(lines) + "\nand a map that changes so many", (status, answer))
+            want(name, "\n".join([*lines, "and a map that changes so many, for", site.bundle()]), (status, answer))
         cost += fields
-    compare_accepted(program, f"{name}:\n{site.bundle()}{name}", site.bundle(), answer, f"accepted {cost}\n")
+    compare_accepted(program, name, site.bundle(), answer, f"accepted {cost}\n")
 
 
 def compare_sites(program):
