@@ -1,7 +1,7 @@
 # unify: one numbering for the accounts of many hosts.
 #   make demo              merges the two hosts of examples/office, and shows what was written
 #   make test              the gate: proves every crate, tries the must-fail edits, runs the tests and the program, and
-#                          compares the merge of examples/office with what is committed
+#                          compares what the program makes of examples/office and of examples/worked with what is committed
 #   make refused           refuses one growth of memory after another, to the program and to the first of each test
 #   make install PREFIX=.. puts the program into PREFIX/bin
 #   make clean             removes what was built
@@ -9,6 +9,7 @@
 PREFIX ?= /usr/local
 PROGRAM = crates/unify_cli/out/unify_cli
 OFFICE = amber=examples/office/amber basalt=examples/office/basalt
+BUNDLES = count/swap-counted check/swap-checked merge/two-hosts-swap rehearse/swap-rehearsed
 DEMO = build/office
 
 .PHONY: demo test compare refused program install clean
@@ -24,7 +25,7 @@ test:
 	@$(MAKE) --no-print-directory compare
 
 # What the program that was built last makes of examples/office is what is committed there: the merge, its certificate
-# accepted with the same sum, the map counted, and each plan rehearsed.
+# accepted with the same sum, the map counted, and each plan rehearsed. Then each bundle of examples/worked.
 compare:
 	@rm -rf $(DEMO) && mkdir -p $(DEMO)
 	@./$(PROGRAM) merge $(DEMO) $(OFFICE) | diff - examples/office/expected-merge
@@ -35,6 +36,7 @@ compare:
 	@for host in amber basalt; do \
 		./$(PROGRAM) rehearse $(DEMO)/plan.$$host examples/office/$$host/mtree; done | diff - examples/office/expected-rehearse
 	@echo 'examples/office: as committed'
+	@examples/worked/compare.py $(PROGRAM)
 
 # Proves the program and the crates below it, and links it. What has not changed since is not proved again.
 program:
@@ -44,7 +46,7 @@ program:
 
 # What the tests are granted is seen by `bench/refused.py tests FIRST LAST`; each growth takes a build of each crate with tests.
 refused: program
-	@bench/refused.py program bench/bundles/*
+	@bench/refused.py program $(BUNDLES:%=examples/worked/%.bundle)
 	@bench/refused.py tests 1 4
 
 install: program

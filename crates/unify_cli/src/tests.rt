@@ -1,25 +1,21 @@
 //! The worked examples of the layers and of the commands. They stand here, since a crate is proved once more with its
-//! tests, and this one is small.
+//! tests, and this one is small. Those that are whole bundles are files of `examples/worked` but for one of each command.
 
+mod bundles;
 mod certificates;
-mod check;
 mod common;
-mod count;
 mod counting;
-mod generated;
-mod hostile_merges;
 mod inventories;
 mod lines;
 mod merge;
 mod merged;
-mod merges;
 mod plans;
 mod ranges;
-mod rehearse;
 mod rows;
 mod runner;
 mod site;
 mod solver;
 mod tables;
 mod texts;
+mod whole_site;
 mod written;

@@ -14,9 +14,7 @@ use mergedfiles::joined_together;
 use mtree_inv::Entry;
 use ownership::Counts;
 use std::alloc::{AllocError, Global};
-use std::io::Read;
 use std::test::Fail;
-use unify::{Watched, run_bundle};
 
 pub const NONE: &[u8] = b"";
 
@@ -158,20 +156,4 @@ pub fn counted(alloc: Global, site: &Site<'_>, files: &[Files]) -> Result<Counts
     ensures { IfOk result (IsMadeFor site.now) }
 {
     standing(alloc, site, files)
-}
-
-/// The status and the output of a bundle from a reader, unless what is answered is that memory was refused.
-pub fn answer_from<R: Read + Drop>(alloc: Global, reader: R) -> Result<(u8, Vec<u8>), AllocError> {
-    let mut writer = Watched::new(Vec::with_capacity(alloc, 65536)?);
-    let status = run_bundle(alloc, &mut Watched::new(reader), &mut writer);
-    let out = writer.inner;
-    if status == 3 && out.as_slice() == b"unify: memory\n".as_slice() {
-        return Err(AllocError);
-    }
-    Ok((status, out))
-}
-
-/// The status and the output of a bundle, unless what is answered is that memory was refused.
-pub fn answered(alloc: Global, bundle: &[u8]) -> Result<(u8, Vec<u8>), AllocError> {
-    answer_from(alloc, bundle)
 }

@@ -1,4 +1,4 @@
-//! Worked merges, by the call that gives all their texts.
+//! A worked merge, by the call that gives all its texts.
 
 use hosts_join::HostText;
 use idtext::ByteString;
@@ -40,42 +40,6 @@ fn cost_checked(alloc: Global, hosts: &[HostText], outcome: &Outcome) -> Result<
         Err(Fault::Memory) => Err(AllocError.into()),
         Err(_fault) => Err(Fail::new("the certificate was refused")),
     }
-}
-
-#[test]
-fn root_only(rt: HostRuntime) -> Result<(), Fail> {
-    let mut hosts = Vec::new(rt.alloc());
-    hosts.push(host(
-        rt.alloc(),
-        b"a",
-        b"root:x:0:0:root:/root:/bin/sh\n",
-        b"root:x:0:\n",
-        b"",
-    )?)?;
-    let outcome = merged(rt.alloc(), &hosts)?;
-    assert_eq!(rt;
-        outcome.passwd.bytes(),
-        b"root:x:0:0:root:/root:/bin/sh\n".as_slice()
-    );
-    assert_eq!(rt; outcome.group.bytes(), b"root:x:0:\n".as_slice());
-    assert_eq!(rt;
-        outcome.map.bytes(),
-        b"user root 0\ngroup root 0\n".as_slice()
-    );
-    assert_eq!(rt;
-        outcome.certificate.bytes(),
-        b"unify certificate 2\nuser root 0 0\ngroup root 0 0\nend\n".as_slice()
-    );
-    assert_eq!(rt;
-        outcome.report.bytes(),
-        b"unify report 2\nhosts 1\nusers 1 pinned 1 kept 0 fresh 0\ngroups 1 pinned 1 kept 0 fresh 0\nuser-fields 0 of 0\ngroup-fields 0 of 0\nuser-lines 0 of 1\ngroup-lines 0 of 1\nend\n".as_slice()
-    );
-    assert_eq!(rt; outcome.plans.texts().len(), 1);
-    assert_eq!(rt;
-        outcome.plans.texts()[0].bytes(),
-        b"unify plan 1 a\nend\n".as_slice()
-    );
-    Ok(())
 }
 
 #[test]

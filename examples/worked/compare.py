@@ -1,0 +1,174 @@
+#!/usr/bin/env python3
+"""Runs each worked example of this folder through the program and compares what it answers.
+
+    examples/worked/compare.py PROGRAM
+
+README.md beside this file has the form of the examples. Also compared: examples that are too large to be kept as files,
+each prefix of merge/root-only.bundle, and the merges of 300 small generated sites, whose cost has to be the least that
+trying every admissible mapping finds, and what the check of the printed certificate answers.
+
+Prints the first difference and ends with status 1 there; else the last line tells how many examples there were.
+"""
+import pathlib
+import random
+import re
+import subprocess
+import sys
+
+from sites import Site
+
+FOLDER = pathlib.Path(__file__).resolve().parent
+SITES = 300
+ENDINGS = {"bundle", "answer", "parts", "status", "accepted"}
+
+# The answers to the prefixes of merge/root-only.bundle: the first and the last length, the status, and the fault line or the
+# example that has the answer.
+PREFIXES = [
+    (0, 8, 2, "unify: 42 BadBundle line 1"),
+    (9, 10, 1, "unify: 20 HostCount 0"),
+    (11, 14, 2, "unify: 42 BadBundle line 2"),
+    (15, 15, 1, "unify: 18 BadHostName -"),
+    (16, 17, 0, "merge/empty-merge.answer"),
+    (18, 27, 2, "unify: 42 BadBundle line 3"),
+    (28, 30, 0, "merge/empty-merge.answer"),
+    (31, 51, 1, "unify: 1 BadFields host a passwd line 1"),
+    (52, 60, 1, "unify: 21 NoPrimaryGroup host a user root"),
+    (61, 69, 2, "unify: 42 BadBundle line 5"),
+    (70, 72, 1, "unify: 21 NoPrimaryGroup host a user root"),
+    (73, 80, 1, "unify: 1 BadFields host a group line 1"),
+    (81, 82, 0, "merge/root-only.answer"),
+]
+
+
+def answered(program, bundle):
+    """The status and the standard output for a bundle."""
+    ran = subprocess.run([program], input=bundle.encode("latin-1"), stdout=subprocess.PIPE, timeout=120)
+    return ran.returncode, ran.stdout.decode("latin-1")
+
+
+def read(path):
+    return path.read_bytes().decode("latin-1")
+
+
+def shown(it):
+    """A status with an output, as lines; or anything else."""
+    return "status {}\n{}".format(*it) if isinstance(it, tuple) else it
+
+
+def want(name, wanted, came):
+    if wanted != came:
+        sys.exit(f"{name}: wanted\n{shown(wanted)}\n{name}: came\n{shown(came)}")
+
+
+def has_part(answer, part):
+    """Whether the lines of a part stand in an answer, one after the other."""
+    return "\n" + part.strip("\n") + "\n" in "\n" + answer
+
+
+def check_of(bundle, answer):
+    """The bundle that has the certificate of a merge's answer checked, with the same pins and hosts."""
+    certificate = re.search(r"^file certificate\n(?:\|.*\n)*", answer, re.M)
+    return bundle.replace("run merge\n", "run check\n" + (certificate.group() if certificate else ""), 1)
+
+
+def compare_accepted(program, name, bundle, answer, accepted):
+    want(f"{name}, its certificate checked", (0, accepted), answered(program, check_of(bundle, answer)))
+
+
+def compare_file(program, path):
+    """One example that is a file with its answer beside it."""
+    name = f"{path.parent.name}/{path.stem}"
+    beside = {file.suffix[1:]: read(file) for file in path.parent.glob(path.stem + ".*")}
+    if set(beside) - ENDINGS or len({"answer", "parts"} & set(beside)) != 1:
+        sys.exit(f"{name}: wanted an answer or parts of one, came\n{sorted(beside)}")
+    wanted = int(beside.get("status", "0"))
+    status, answer = answered(program, beside["bundle"])
+    want(name, (wanted, beside.get("answer", answer)), (status, answer))
+    for part in beside["parts"].split("\n\n") if "parts" in beside else []:
+        if not has_part(answer, part):
+            want(name, part, answer)
+    if "accepted" in beside:
+        compare_accepted(program, name, beside["bundle"], answer, beside["accepted"])
+
+
+def empty_hosts(count):
+    return "".join(f"host h{number}\n" for number in range(count))
+
+
+def large_examples():
+    """The name, the bundle, the status and the answer of each example that is made here."""
+    long_line = "host a\nfile passwd\n|" + 65536 * "#" + "\n"
+    too_long = "unify: 8 LineTooLong host a passwd line 1\n"
+    many_lines = "host a\nfile passwd\n" + 65537 * "|#\n"
+    pins = "run merge\nfile pins\n" + 1048577 * "|\n" + "host a\n"
+    merged = read(FOLDER / "merge/empty-merge.answer").replace("hosts 1", "hosts 64").partition("file plan")[0]
+    plans = "".join(f"file plan.h{number}\n|unify plan 1 h{number}\n|end\n" for number in range(64))
+    return [
+        ("count/long-first-line", "run count\n" + long_line, 1, too_long),
+        ("merge/long-first-line", "run merge\n" + long_line, 1, too_long),
+        ("merge/too-many-lines", "run merge\n" + many_lines, 1, "unify: 7 TooManyLines host a passwd line 65537\n"),
+        ("merge/too-many-pins", pins, 1, "unify: 43 BadPins line 1048577\n"),
+        ("merge/sixty-four-hosts", "run merge\n" + empty_hosts(64), 0, merged + plans),
+        ("merge/sixty-five-hosts", "run merge\n" + empty_hosts(65), 1, "unify: 20 HostCount 65\n"),
+    ]
+
+
+def compare_prefixes(program):
+    bundle = read(FOLDER / "merge/root-only.bundle")
+    for first, last, status, told in PREFIXES:
+        answer = read(FOLDER / told) if told.endswith(".answer") else told + "\n"
+        for length in range(first, last + 1):
+            want(f"merge/root-only, its first {length} bytes", (status, answer), answered(program, bundle[:length]))
+    want("merge/root-only, its length", PREFIXES[-1][1], len(bundle))
+
+
+def compare_merged(program, name, site):
+    """The merge of a site: admissible, of the least cost, which is told, and with a certificate that is accepted with it."""
+    status, answer = answered(program, site.bundle())
+    cost = 0
+    for kind in site.kinds():
+        fields, rows = kind.least()
+        all_fields, all_rows = kind.totals()
+        lines = f"|{kind.name}-fields {fields} of {all_fields}", f"|{kind.name}-lines {rows} of {all_rows}"
+        told = all(has_part(answer, line) for line in lines)
+        if status != 0 or not told or kind.cost(kind.mapping_in(answer)) != (fields, rows):
+            want(name, "\n".join([*lines, "and a map that changes so many, for", site.bundle()]), (status, answer))
+        cost += fields
+    compare_accepted(program, name, site.bundle(), answer, f"accepted {cost}\n")
+
+
+def compare_sites(program):
+    """Merges sites that look random, the same ones at each run, and tells how many could be merged."""
+    chance = random.Random(2026)
+    merged = 0
+    for number in range(SITES):
+        site = Site(chance)
+        if refusal := site.refusal():
+            want(f"site {number}", (1, refusal), answered(program, site.bundle()))
+            want(f"site {number}, checked", (1, refusal), answered(program, check_of(site.bundle(), "file certificate\n")))
+        else:
+            compare_merged(program, f"site {number}", site)
+            merged += 1
+    return merged
+
+
+def main(words):
+    if len(words) != 1:
+        print(__doc__)
+        return 2
+    program = pathlib.Path(words[0]).resolve()
+    files = sorted(FOLDER.glob("*/*.bundle"))
+    for path in files:
+        compare_file(program, path)
+    large = large_examples()
+    for name, bundle, status, answer in large:
+        want(name, (status, answer), answered(program, bundle))
+    compare_prefixes(program)
+    merged = compare_sites(program)
+    want("generated sites, more than half merged, but not all", True, SITES // 2 < merged < SITES)
+    print(f"generated sites: {merged} merged at the least cost, {SITES - merged} refused for a small pool")
+    print(f"worked examples: {len(files) + len(large)} as committed")
+    return 0
+
+
+sys.exit(main(sys.argv[1:]))
