@@ -86,7 +86,7 @@ read_at (y ∷ ys) zero d x here = some_same y x here
 read_at (y ∷ ys) (suc k) d x here = read_at ys k d x here
 
 -- the name at an index is that of the host there
-name_is : (site : WholeSite) (h : ℕ) (host : Host) (files : List Entry) → slice_get site.hosts h ≡ Some (host, files) → name_at (hosts_in site) h ≡ host.name
+pub name_is : (site : WholeSite) (h : ℕ) (host : Host) (files : List Entry) → slice_get site.hosts h ≡ Some (host, files) → name_at (hosts_in site) h ≡ host.name
 name_is site h host files here =
     let there : slice_get (hosts_in site) h ≡ Some host = slice_get-map (λ (x : Host × List Entry). x.0) site.hosts h ∙ ap (option_map (λ (x : Host × List Entry). x.0)) here in
     read_at (map (λ (x : Host). x.name) (hosts_in site)) h [] host.name (slice_get-map (λ (x : Host). x.name) (hosts_in site) h ∙ ap (option_map (λ (x : Host). x.name)) there)

@@ -114,6 +114,21 @@ fn outcome_of(
     })
 }
 
+/// What a merge of a site that was read writes. Asked is that the site is whole. It fails for want of memory alone; it
+/// reads each inventory once more, one at a time.
+pub fn merge_loaded(alloc: Global, loaded: &LoadedSite<'_>) -> Result<Outcome, AllocError>
+    requires { (site : WholeSite) × IsWhole site × HoldsSite site loaded.now }
+    ensures { IfOk result (λ outcome. (site : WholeSite) → HoldsSite site loaded.now → IsOutcome site outcome) }
+{
+    let Ok(users) = solve_names(alloc, loaded.site.users(), loaded.counts.users()) else {
+        return Err(AllocError);
+    };
+    let Ok(groups) = solve_names(alloc, loaded.site.groups(), loaded.counts.groups()) else {
+        return Err(AllocError);
+    };
+    outcome_of(alloc, loaded, users, groups)
+}
+
 /// One passwd and one group for all hosts, the map of every name to its number, its certificate, a report and a plan for
 /// each host, where the map changes the owners of as few files as possible.
 ///
@@ -131,11 +146,5 @@ pub fn consolidate<'a>(
     ensures believed { Yields Headline told result (site_read hosts.now pins.now) }
 {
     let loaded = read_site(alloc, hosts, pins)?;
-    let Ok(users) = solve_names(alloc, loaded.site.users(), loaded.counts.users()) else {
-        return Err(Fault::Memory);
-    };
-    let Ok(groups) = solve_names(alloc, loaded.site.groups(), loaded.counts.groups()) else {
-        return Err(Fault::Memory);
-    };
-    Ok(outcome_of(alloc, &loaded, users, groups)?)
+    Ok(merge_loaded(alloc, &loaded)?)
 }

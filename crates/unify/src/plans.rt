@@ -16,8 +16,8 @@ use mtree_inv::{Inventory, read_inventory};
 use reown_plan::plan_text;
 use std::alloc::{AllocError, Global};
 
-// The files of an inventory that was read before.
-fn read_again(alloc: Global, mtree: &[u8]) -> Result<Inventory, AllocError>
+/// The files of an inventory that was read before. It fails for want of memory alone.
+pub fn read_again(alloc: Global, mtree: &[u8]) -> Result<Inventory, AllocError>
     requires { (files : List Entry) × (inventory 16777216 mtree.now ≡ Ok files) }
     ensures { IfOk result (λ read. inventory 16777216 mtree.now ≡ Ok read) }
 {
