@@ -1,5 +1,5 @@
 -- What a merge may answer is what it is believed for.
-use Rattle.std.proofs.Common.{◌≡◌, ℕ, zero, suc, ◌+◌, ◌<◌, ◌↔◌, true, false, List, [], ◌∷◌, length, get_or, map, Option, Some, None, Ok, refl, sym, ap, subst, ◌∙◌, arith}
+use Rattle.std.proofs.Common.{◌≡◌, ℕ, zero, suc, ◌+◌, ◌<◌, ◌↔◌, true, false, List, [], ◌∷◌, length, get_or, map, Option, Some, None, refl, sym, ap, subst, ◌∙◌, arith}
 use Rattle.std.specs.List.{slice_get}
 use Rattle.std.specs.Option.{is_some, option_map}
 use Rattle.std.specs.Str.{bytes_eq}
@@ -17,7 +17,6 @@ use Rattle.certcheck.specs.Reading.{certificate_in}
 use Rattle.certcheck.proofs.Missing.{any_is_place}
 use Rattle.certcheck.proofs.Spelled.{spelled_is_read}
 use Rattle.reown_plan.specs.PlanData.{PlanData}
-use Rattle.reown_plan.specs.Reading.{ReadsAs}
 use Rattle.reown_plan.specs.Spelling as plan
 use Rattle.reown_plan.specs.Target.{plan_of, host_plan, name_at}
 use Rattle.reown_plan.proofs.Lawful.{plan-lawful}

@@ -1,5 +1,5 @@
 -- An empty pins text is as none.
-use Rattle.std.proofs.Common.{◌≡◌, List, [], None, Ok, refl, ap, ◌∙◌}
+use Rattle.std.proofs.Common.{◌≡◌, [], None, Ok, refl, ap, ◌∙◌}
 use Rattle.idtext.specs.First.{first_fault, unless}
 use Rattle.idtext.proofs.PieceLemmas.{lines-empty}
 use Rattle.hosts_join.specs.PinsText.{pins_of, pins_on, pins_fault}

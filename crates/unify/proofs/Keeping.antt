@@ -1,6 +1,6 @@
 -- Files that keep their names.
-use Rattle.std.proofs.Common.{◌≡◌, ℕ, ◌<◌, ◌≤◌, true, List, length, get_or, Option, Some, None, refl, sym, ap, subst, ◌∙◌, arith}
-use Rattle.std.specs.List.{All, filter, find, slice_get}
+use Rattle.std.proofs.Common.{◌≡◌, ℕ, ◌≤◌, true, List, get_or, Option, Some, None, refl, sym, ap, subst, ◌∙◌, arith}
+use Rattle.std.specs.List.{All, filter, find}
 use Rattle.std.specs.Option.{is_some, option_map}
 use Rattle.std.specs.Prelude.{not}
 use Rattle.std.specs.Str.{bytes_eq}
@@ -24,7 +24,7 @@ use Rattle.reown_plan.specs.declared.plan.Owner.{Owner}
 use Rattle.reown_plan.specs.Owners.{owner_of, owner_eq}
 use Rattle.reown_plan.specs.PlanData.{PlanRecord}
 use Rattle.reown_plan.specs.Target as target
-use Rattle.reown_plan.specs.Target.{renumbered, record_to, records_to, plan_of, owner_after}
+use Rattle.reown_plan.specs.Target.{renumbered, record_to, records_to, plan_of}
 use Rattle.reown_plan.proofs.Keeping.{owner_after-target}
 use Rattle.reown_runner.specs.Finished.{after_record, owner_after_plan, AreOld}
 use Rattle.reown_runner.specs.Memory.{owner_in}

@@ -7,7 +7,6 @@ use Rattle.ownership.specs.Mappings.{IsAdmissible, Mappings}
 use Rattle.ownership.specs.Potentials.{AreCertifying}
 use Rattle.ownership.specs.Weights.{IsFilled, IsFresh}
 use Rattle.certcheck.specs.Certificate.{Side, IsSide}
-use Rattle.certcheck.specs.Certified.{IsCertified}
 use Rattle.certcheck.specs.Check.{mapping_of, potentials_of}
 use Rattle.certcheck.specs.Made.{IsSideOf}
 use Rattle.unify.specs.Solving.{IsSolved}

@@ -1,5 +1,5 @@
 -- A host that is done in a rehearsal keeps its names.
-use Rattle.std.proofs.Common.{◌≡◌, ℕ, zero, suc, ◌+◌, Bool, true, false, List, [], ◌∷◌, map, Option, Some, None, Ok, refl, sym, ap, subst, ◌∙◌, arith}
+use Rattle.std.proofs.Common.{◌≡◌, ℕ, zero, suc, ◌+◌, true, false, List, [], ◌∷◌, Some, refl, sym, ap, subst, ◌∙◌, arith}
 use Rattle.std.specs.List.{slice_get}
 use Rattle.std.specs.Option.{option_map}
 use Rattle.std.proofs.lemmas.Bool.{false≢true}
@@ -24,7 +24,7 @@ use Rattle.unify_texts.specs.WrittenMap.{SayMapping}
 use Rattle.unify_texts.specs.declared.map_text.MapText.{MapText}
 use Rattle.unify.specs.Believed.{RunsKeepNames}
 use Rattle.unify.specs.Reading.{WholeSite}
-use Rattle.unify.specs.SiteRuns.{runners_from, new_trees, new_world}
+use Rattle.unify.specs.SiteRuns.{runners_from, new_world}
 use Rattle.unify.proofs.Keeping.{map_says_mappings, plan_is_old, keeps_names}
 
 pub some_same : {X : Type 0} (x y : X) → Some x ≡ Some y → x ≡ y

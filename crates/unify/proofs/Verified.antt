@@ -1,5 +1,5 @@
 -- What a check of a certificate answers, once the site and the certificate are read.
-use Rattle.std.proofs.Common.{◌≡◌, ℕ, List, Option, Some, None, Result, Ok, Err, refl, sym, ap, ◌∙◌}
+use Rattle.std.proofs.Common.{◌≡◌, ℕ, List, Result, Ok, Err, refl, ap}
 use Rattle.std.specs.Prelude.{IfOk}
 use Rattle.idtext.specs.First.{Gives}
 use Rattle.idtext.proofs.OkLemmas.{ok_same}

@@ -1,18 +1,12 @@
 //! From the texts of hosts to one passwd and group, a map, a certificate, a report and plans.
 
 ghost use Rattle.std.specs.Prelude.{◌≡◌, List, length, IfOk};
-ghost use Rattle.std.specs.List.{All};
 ghost use Rattle.idtext.specs.First.{Yields};
-ghost use Rattle.hosts_join.specs.Hosts.{IsLawfulHost};
 ghost use Rattle.ownership.specs.Costs.{cost_of};
 ghost use Rattle.ownership.specs.Counts.{IsMadeFor, StandsFor};
 ghost use Rattle.ownership.specs.Files.{Added, by_user, by_group};
-ghost use Rattle.mergedfiles.specs.Texts.{merged_users, merged_groups};
-ghost use Rattle.mergedfiles.specs.Together.{AreJoined};
 ghost use Rattle.unify_texts.specs.Told.{told};
-ghost use Rattle.unify_texts.specs.Report.{report_of};
 ghost use Rattle.unify_texts.specs.WrittenMap.{map_text};
-ghost use Rattle.certcheck.specs.Spelling.{spelling};
 ghost use Rattle.unify.specs.Loading.{HoldsSite};
 ghost use Rattle.unify.specs.Headline.{Headline};
 ghost use Rattle.unify.specs.Laws.{IsWhole};

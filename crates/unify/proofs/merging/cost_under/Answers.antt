@@ -1,6 +1,6 @@
-use Rattle.std.proofs.Common.{◌≡◌, ℕ, List, length, sym, ap, ◌∙◌}
+use Rattle.std.proofs.Common.{sym, ap, ◌∙◌}
 use Rattle.std.proofs.lemmas.List.{length-map}
-use Rattle.ownership.specs.Files.{File, Added, by_user, by_group}
+use Rattle.ownership.specs.Files.{Added, by_user, by_group}
 use Rattle.unify_texts.proofs.ReportLemmas.{users_owned, groups_owned}
 use Rattle.unify_texts.specs.Figures.{figures_of}
 use Rattle.unify_texts.specs.declared.figures.Figures.{Figures}

@@ -1,7 +1,5 @@
-use Rattle.std.proofs.Common.{◌≡◌, List, ℕ}
 use Rattle.std.specs.Result.{IfOk}
 use Rattle.std.specs.Prelude.{Result, Ok, Err}
-use Rattle.ownership.specs.Files.{File}
 use Rattle.certcheck.specs.declared.certificate.Certificate.{Certificate}
 use Rattle.ownership.specs.Mappings.{Mappings}
 use Rattle.unify.specs.Loading.{HoldsSite}

@@ -1,10 +1,8 @@
-use Rattle.std.proofs.Common.{◌≡◌, ℕ, suc, ◌+◌, ◌<◌, ◌≤◌, List, [], ◌∷◌, ◌++◌, length, get_or, take, Ok, sym, ap, subst, ◌∙◌, arith}
+use Rattle.std.proofs.Common.{◌≡◌, suc, ◌+◌, ◌<◌, ◌≤◌, [], ◌∷◌, ◌++◌, length, get_or, take, sym, ap, subst, ◌∙◌, arith}
 use Rattle.std.proofs.lemmas.List.{take_all}
 use Rattle.std.specs.Prelude.{All}
-use Rattle.idtext.specs.First.{each}
 use Rattle.idtext.proofs.OkLemmas.{ok_same, length-each}
 use Rattle.mtree_inv.specs.Inventory.{inventory}
-use Rattle.mtree_inv.specs.declared.entry.Entry.{Entry}
 use Rattle.ownership.specs.Mappings.{Mappings}
 use Rattle.reown_plan.specs.Spelling.{spelling}
 use Rattle.reown_plan.specs.Target.{host_plan, IsOwned}

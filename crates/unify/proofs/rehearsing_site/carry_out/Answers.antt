@@ -1,4 +1,4 @@
-use Rattle.std.proofs.Common.{◌≡◌, length, ap, sym, ◌∙◌}
+use Rattle.std.proofs.Common.{length, ap, sym, ◌∙◌}
 use Rattle.std.proofs.lemmas.List.{length-map}
 use Rattle.reown_plan.specs.PlanData.{PlanData}
 use Rattle.reown_runner.specs.declared.runner.Place.TheVariants.{Start}

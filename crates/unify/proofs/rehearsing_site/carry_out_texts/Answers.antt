@@ -1,8 +1,6 @@
-use Rattle.std.proofs.Common.{◌≡◌, Bool, List, map, ◌∙◌}
+use Rattle.std.proofs.Common.{map, ◌∙◌}
 use Rattle.std.proofs.lemmas.Result.{IfOk-weaker}
-use Rattle.mtree_inv.specs.declared.entry.Entry.{Entry}
-use Rattle.reown_plan.specs.PlanData.{PlanData}
-use Rattle.unify.specs.Carrying.{AreSpelledFor, AreCarriedOut, new_tree_of}
+use Rattle.unify.specs.Carrying.{new_tree_of}
 use Rattle.unify.proofs.Carrying.{read_ready, hosts_there, told_carried}
 use Rattle.unify.proofs.rehearsing_site.carry_out_texts.Goals as goal
 

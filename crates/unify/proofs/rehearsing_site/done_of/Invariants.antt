@@ -1,4 +1,4 @@
-use Rattle.std.specs.Prelude.{◌≡◌, List, map, take}
+use Rattle.std.specs.Prelude.{◌≡◌, map, take}
 use Rattle.reown_runner.specs.Campaign.{is_done}
 use Rattle.unify.proofs.rehearsing_site.done_of.Given as goal
 

@@ -1,4 +1,4 @@
-use Rattle.std.proofs.Common.{◌≡◌, ◌≤◌, length, get_or, map, ap, sym, ◌∙◌, arith, [], ◌∷◌, ◌++◌}
+use Rattle.std.proofs.Common.{◌≤◌, length, get_or, map, ap, sym, ◌∙◌, arith, [], ◌∷◌, ◌++◌}
 use Rattle.std.proofs.lemmas.List.{take_all}
 use Rattle.idtext.proofs.OkLemmas.{length-each}
 use Rattle.mtree_inv.specs.Inventory.{inventory}

@@ -1,4 +1,4 @@
-use Rattle.std.proofs.Common.{◌≡◌, ◌≤◌, ℕ, length, get_or, ap, sym, ◌∙◌, arith, [], ◌∷◌, ◌++◌, List}
+use Rattle.std.proofs.Common.{◌≡◌, ◌≤◌, length, get_or, ap, sym, ◌∙◌, arith, []}
 use Rattle.std.proofs.lemmas.List.{take_all, length-map}
 use Rattle.reown_plan.specs.PlanData.{PlanData}
 use Rattle.reown_plan.specs.Spelling.{spelling}

@@ -1,7 +1,6 @@
-use Rattle.std.proofs.Common.{◌≡◌, ◌<◌, List, ℕ, length, map, sym, subst}
+use Rattle.std.proofs.Common.{◌<◌, List, ℕ, length, map, sym, subst}
 use Rattle.std.specs.List.{All}
 use Rattle.reown_runner.specs.Campaign.{host_of}
-use Rattle.unify.specs.declared.rehearsing_site.SiteRun.{SiteRun}
 use Rattle.unify.proofs.RunSites.{plans_in, spelled_for, loaded_runs}
 use Rattle.unify.proofs.rehearsing_site.rehearse_loaded.Goals as goal
 
