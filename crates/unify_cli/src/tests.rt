@@ -16,6 +16,7 @@ mod rehearse;
 mod rows;
 mod runner;
 mod site;
+mod site_runs;
 mod solver;
 mod texts;
 mod written;
