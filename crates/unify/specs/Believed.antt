@@ -1,7 +1,7 @@
 -- Laws of what a merge answers.
-use Rattle.std.specs.Prelude.{◌≡◌, ◌↔◌, ℕ, List, [], Option, None, Ok, map}
+use Rattle.std.specs.Prelude.{◌≡◌, ◌↔◌, ℕ, List, Option, None, Ok, map}
 use Rattle.mtree_inv.specs.declared.entry.Entry.{Entry}
-use Rattle.hosts_join.specs.Accounts.{Accounts, Pair}
+use Rattle.hosts_join.specs.Accounts.{Accounts}
 use Rattle.hosts_join.specs.declared.host.Host.{Host}
 use Rattle.reown_plan.specs.declared.plan.Owner.{Owner}
 use Rattle.reown_runner.specs.declared.campaign.Event.{Event}

@@ -1,5 +1,5 @@
 -- What a check of a certificate answers: the cost, or the first fault: those of the site, then the certificate's text, then the check.
-use Rattle.std.specs.Prelude.{◌≡◌, ℕ, List, Result, Ok, Err}
+use Rattle.std.specs.Prelude.{◌≡◌, ℕ, List, Result, Ok}
 use Rattle.idtext.specs.First.{◌>>=◌}
 use Rattle.hosts_join.specs.declared.texts.HostText.{HostText}
 use Rattle.certcheck.specs.Certified.{IsAccepted}

@@ -1,11 +1,10 @@
 -- What a merge may answer for a site. Several mappings may cost the least, so it is a relation.
 use Rattle.std.specs.Prelude.{◌≡◌, ℕ, ◌+◌, List, [], ◌∷◌, map, All}
 use Rattle.mtree_inv.specs.declared.entry.Entry.{Entry}
-use Rattle.hosts_join.specs.Accounts.{Accounts}
 use Rattle.hosts_join.specs.Site.{Joined}
 use Rattle.hosts_join.specs.declared.host.Host.{Host}
 use Rattle.ownership.specs.Costs.{AreLeast, ChangesFewestRows, cost_of}
-use Rattle.ownership.specs.Files.{File, Added, by_user, by_group}
+use Rattle.ownership.specs.Files.{File, by_user, by_group}
 use Rattle.ownership.specs.Mappings.{Mappings}
 use Rattle.ownership.specs.Weights.{IsFilled, IsFresh}
 use Rattle.certcheck.specs.Certificate.{IsSide}

@@ -14,6 +14,7 @@ mod ranges;
 mod rows;
 mod runner;
 mod site;
+mod site_runs;
 mod solver;
 mod tables;
 mod texts;
