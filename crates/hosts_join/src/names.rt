@@ -9,11 +9,12 @@ ghost use Rattle.hosts_join.specs.Rules.{is_taken, is_id, joined};
 ghost use Rattle.hosts_join.specs.Accounts.{AreApart, AreNamedApart, IsSpotAmong, grouped, spot_of, spots_of};
 ghost use Rattle.hosts_join.specs.PinPairs.{ArePins};
 ghost use Rattle.hosts_join.specs.Told.{told};
+ghost use Rattle.hosts_join.specs.declared.fault.SiteFault.TheVariants as refusal;
 ghost use Rattle.hosts_join.specs.Views.{rows_of, pairs_of, entry_of};
 ghost use Rattle.std.specs.Prelude.{true, false};
 ghost use Rattle.logindefs.specs.Ranges.{in_range};
 
-use crate::clash::find_clash;
+use crate::clash::{Clash, find_clash};
 use crate::index::Index;
 use crate::members::{claims, classes, common, names_in};
 use crate::{
@@ -109,6 +110,18 @@ fn copy_pins<'a>(alloc: Global, pins: &PairTable<'a>) -> Result<Vec<Pair<'a>>, A
     Ok(copy)
 }
 
+/// The refusal of a number that two names are pinned to.
+fn clash_fault<'a>(kind: Which, clash: Clash<'a>) -> SiteFault<'a>
+    ensures { result ≡ refusal.PinClash kind clash.entry.number clash.entry.first.now clash.entry.second.now }
+{
+    SiteFault::PinClash {
+        kind,
+        number: clash.number,
+        first: Name::new(clash.first),
+        second: Name::new(clash.second),
+    }
+}
+
 /// The names of the rows, or the first reason why they cannot be joined.
 pub fn join_rows<'a>(
     alloc: Global,
@@ -131,14 +144,7 @@ pub fn join_rows<'a>(
     let classes = classes(alloc, kind, hosts.as_slice(), &index, pins)?;
     let claims = claims(alloc, &index, classes.as_slice(), pins)?;
     match find_clash(alloc, claims.as_slice())? {
-        Some(clash) => {
-            return Err(SiteFault::PinClash {
-                kind,
-                number: clash.number,
-                first: Name::new(clash.first),
-                second: Name::new(clash.second),
-            });
-        }
+        Some(clash) => return Err(clash_fault(kind, clash)),
         None => {}
     }
     let (regular, system) = pools(alloc, hosts.as_slice(), claims.as_slice())?;

@@ -3,6 +3,7 @@
 
 mod bundle;
 mod bundle_line;
+mod details;
 mod fault;
 mod fault_text;
 mod figures;
