@@ -1,5 +1,5 @@
 //! The worked examples of the layers and of the commands. They stand here, since a crate is proved once more with its
-//! tests, and this one is small. Those that are whole bundles are files of `examples/worked` but for one of each command.
+//! tests, and this one is small. Those that are whole bundles are files of `examples/worked`.
 
 mod bundles;
 mod certificates;

@@ -1,5 +1,5 @@
-//! Bundles from their bytes to the bytes that go out, one for each command, and readers and writers that fail. The other
-//! worked examples of the commands are files of `examples/worked`, which the gate has the proved program answer.
+//! Bundles from their bytes to the bytes that go out, with readers and writers that fail. The worked examples of the
+//! commands are files of `examples/worked`, which the gate has the proved program answer.
 
 use std::alloc::{AllocError, Global};
 use std::io;
@@ -57,51 +57,6 @@ fn stored_count(rt: HostRuntime) -> Result<(), Fail> {
     Ok(())
 }
 
-#[test]
-fn swap_checked(rt: HostRuntime) -> Result<(), Fail> {
-    let (status, out) = answered(
-        rt.alloc(),
-        b"run check\n\
-        file certificate\n\
-        |unify certificate 2\n\
-        |user alice 1002 16\n\
-        |user bob 1001 11\n\
-        |zuser 1001 10\n\
-        |group users 100 0\n\
-        |end\n\
-        host a\n\
-        file passwd\n\
-        |alice:x:1001:100::/home/alice:/bin/sh\n\
-        |bob:x:1002:100::/home/bob:/bin/sh\n\
-        file group\n\
-        |users:x:100:\n\
-        file mtree\n\
-        |./alice1 uid=1001 gid=100\n\
-        |./alice2 uid=1001 gid=100\n\
-        |./alice3 uid=1001 gid=100\n\
-        |./alice4 uid=1001 gid=100\n\
-        |./alice5 uid=1001 gid=100\n\
-        |./bob1 uid=1002 gid=100\n\
-        host b\n\
-        file passwd\n\
-        |bob:x:1001:100::/home/bob:/bin/sh\n\
-        |alice:x:1002:100::/home/alice:/bin/sh\n\
-        file group\n\
-        |users:x:100:\n\
-        file mtree\n\
-        |./bob1 uid=1001 gid=100\n\
-        |./bob2 uid=1001 gid=100\n\
-        |./bob3 uid=1001 gid=100\n\
-        |./bob4 uid=1001 gid=100\n\
-        |./alice1 uid=1002 gid=100\n\
-        |./alice2 uid=1002 gid=100\n\
-        |./alice3 uid=1002 gid=100\n",
-    )?;
-    assert_eq!(rt; status, 0);
-    assert_eq!(rt; out.as_slice(), b"accepted 6\n".as_slice());
-    Ok(())
-}
-
 const ROOT_ONLY: &[u8] = b"run merge\n\
     host a\n\
     file passwd\n\
@@ -140,33 +95,6 @@ fn root_only(rt: HostRuntime) -> Result<(), Fail> {
     let (status, out) = answered(rt.alloc(), ROOT_ONLY)?;
     assert_eq!(rt; status, 0);
     assert_eq!(rt; out.as_slice(), ROOT_ONLY_MERGED);
-    Ok(())
-}
-
-#[test]
-fn swap_rehearsed(rt: HostRuntime) -> Result<(), Fail> {
-    let (status, out) = answered(
-        rt.alloc(),
-        b"run rehearse\n\
-        file plan\n\
-        |unify plan 1 a\n\
-        |1001 100 1002 100 6 alice1\n\
-        |1001 100 1002 100 6 alice2\n\
-        |1001 100 1002 100 6 alice3\n\
-        |1001 100 1002 100 6 alice4\n\
-        |1001 100 1002 100 6 alice5\n\
-        |1002 100 1001 100 4 bob1\n\
-        |end\n\
-        file mtree\n\
-        |./alice1 uid=1001 gid=100\n\
-        |./alice2 uid=1001 gid=100\n\
-        |./alice3 uid=1001 gid=100\n\
-        |./alice4 uid=1001 gid=100\n\
-        |./alice5 uid=1001 gid=100\n\
-        |./bob1 uid=1002 gid=100\n",
-    )?;
-    assert_eq!(rt; status, 0);
-    assert_eq!(rt; out.as_slice(), b"records 6\ndone\n".as_slice());
     Ok(())
 }
 
