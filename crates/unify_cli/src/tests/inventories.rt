@@ -105,40 +105,103 @@ fn one_up_too_many(rt: HostRuntime) -> Result<(), Fail> {
     Ok(())
 }
 
-#[test]
-fn same_path_twice(rt: HostRuntime) -> Result<(), Fail> {
-    assert_eq!(rt;
-        answer(
-            rt.alloc(),
-            b"./f uid=1001 gid=100\n./f uid=1001 gid=100\n",
-            9
-        )?
-        .as_str(),
-        "f 1001 100\n"
-    );
-    Ok(())
-}
+// Worked texts by name: the text, how many files it may have, and the answer.
+const WORKED: &[(&str, &[u8], u32, &str)] = &[
+    (
+        "same-path-twice",
+        b"./f uid=1001 gid=100\n./f uid=1001 gid=100\n",
+        9,
+        "f 1001 100\n",
+    ),
+    (
+        "same-path-other-owner",
+        b"./f uid=1001 gid=100\n./f uid=1002 gid=100\n",
+        9,
+        "15 OwnersDiffer at line 2\n",
+    ),
+    (
+        "cut-continuation",
+        b"./f uid=1001 gid=100 \\",
+        9,
+        "17 CutContinuation at line 1\n",
+    ),
+    (
+        "too-many-entries",
+        b"./f uid=1 gid=1\n./g uid=1 gid=1\n",
+        1,
+        "16 TooManyEntries at line 2\n",
+    ),
+    (
+        "joined-not-escaped",
+        b"./a\\\n040b uid=1 gid=1\n",
+        9,
+        "a040b 1 1\n",
+    ),
+    (
+        "set-keeps-other-defaults",
+        b"/set uid=1 gid=2\n/set uid=3\n./f\n",
+        9,
+        "f 3 2\n",
+    ),
+    (
+        "full-entry-opens-nothing",
+        b"d/e type=dir uid=1 gid=1\nf uid=1 gid=1\n",
+        9,
+        "d/e 1 1\nf 1 1\n",
+    ),
+    (
+        "full-entry-between",
+        b"a type=dir uid=1 gid=1\nb/c uid=1 gid=1\nd uid=1 gid=1\n",
+        9,
+        "a 1 1\nb/c 1 1\na/d 1 1\n",
+    ),
+    (
+        "entry-without-uid",
+        b"./f gid=1\n",
+        9,
+        "11 NoUid at line 1\n",
+    ),
+    (
+        "unknown-command",
+        b"/etc uid=1\n",
+        9,
+        "10 BadCommand at line 1\n",
+    ),
+    (
+        "dot-dot-inside",
+        b"./a/../b uid=1 gid=1\n",
+        9,
+        "14 BadPath at line 1\n",
+    ),
+    (
+        "escaped-dot-dot",
+        b"\\056\\056 uid=1 gid=1\n",
+        9,
+        "14 BadPath at line 1\n",
+    ),
+    (
+        "unset-gid",
+        b"/set uid=1 gid=2\n/unset gid\n./f\n",
+        9,
+        "12 NoGid at line 3\n",
+    ),
+    (
+        "set-bad-number",
+        b"/set uid=x\n",
+        9,
+        "3 BadNumber at line 1\n",
+    ),
+];
 
 #[test]
-fn same_path_other_owner(rt: HostRuntime) -> Result<(), Fail> {
-    assert_eq!(rt;
-        answer(
-            rt.alloc(),
-            b"./f uid=1001 gid=100\n./f uid=1002 gid=100\n",
-            9
-        )?
-        .as_str(),
-        "15 OwnersDiffer at line 2\n"
-    );
-    Ok(())
-}
-
-#[test]
-fn cut_continuation(rt: HostRuntime) -> Result<(), Fail> {
-    assert_eq!(rt;
-        answer(rt.alloc(), b"./f uid=1001 gid=100 \\", 9)?.as_str(),
-        "17 CutContinuation at line 1\n"
-    );
+fn worked_inventories(rt: HostRuntime) -> Result<(), Fail> {
+    for (name, text, most, wanted) in WORKED {
+        assert_eq!(rt;
+            answer(rt.alloc(), text, *most)?.as_str(),
+            *wanted,
+            "{name}"
+        );
+    }
     Ok(())
 }
 
@@ -163,106 +226,6 @@ fn finishes_once_and_keeps_a_fault(rt: HostRuntime) -> Result<(), Fail> {
     assert_eq!(rt; reader.finish(), refused);
     assert!(rt; !reader.is_finished());
     assert_eq!(rt; reader.next_entry().map(|file| file.uid), Some(1));
-    Ok(())
-}
-
-#[test]
-fn too_many_entries(rt: HostRuntime) -> Result<(), Fail> {
-    assert_eq!(rt;
-        answer(rt.alloc(), b"./f uid=1 gid=1\n./g uid=1 gid=1\n", 1)?.as_str(),
-        "16 TooManyEntries at line 2\n"
-    );
-    Ok(())
-}
-
-#[test]
-fn joined_not_escaped(rt: HostRuntime) -> Result<(), Fail> {
-    assert_eq!(rt;
-        answer(rt.alloc(), b"./a\\\n040b uid=1 gid=1\n", 9)?.as_str(),
-        "a040b 1 1\n"
-    );
-    Ok(())
-}
-
-#[test]
-fn set_keeps_other_defaults(rt: HostRuntime) -> Result<(), Fail> {
-    assert_eq!(rt;
-        answer(rt.alloc(), b"/set uid=1 gid=2\n/set uid=3\n./f\n", 9)?.as_str(),
-        "f 3 2\n"
-    );
-    Ok(())
-}
-
-#[test]
-fn full_entry_opens_nothing(rt: HostRuntime) -> Result<(), Fail> {
-    assert_eq!(rt;
-        answer(rt.alloc(), b"d/e type=dir uid=1 gid=1\nf uid=1 gid=1\n", 9)?.as_str(),
-        "d/e 1 1\nf 1 1\n"
-    );
-    Ok(())
-}
-
-#[test]
-fn full_entry_between(rt: HostRuntime) -> Result<(), Fail> {
-    let text = b"a type=dir uid=1 gid=1\nb/c uid=1 gid=1\nd uid=1 gid=1\n";
-    assert_eq!(rt;
-        answer(rt.alloc(), text, 9)?.as_str(),
-        "a 1 1\nb/c 1 1\na/d 1 1\n"
-    );
-    Ok(())
-}
-
-#[test]
-fn entry_without_uid(rt: HostRuntime) -> Result<(), Fail> {
-    assert_eq!(rt;
-        answer(rt.alloc(), b"./f gid=1\n", 9)?.as_str(),
-        "11 NoUid at line 1\n"
-    );
-    Ok(())
-}
-
-#[test]
-fn unknown_command(rt: HostRuntime) -> Result<(), Fail> {
-    assert_eq!(rt;
-        answer(rt.alloc(), b"/etc uid=1\n", 9)?.as_str(),
-        "10 BadCommand at line 1\n"
-    );
-    Ok(())
-}
-
-#[test]
-fn dot_dot_inside(rt: HostRuntime) -> Result<(), Fail> {
-    assert_eq!(rt;
-        answer(rt.alloc(), b"./a/../b uid=1 gid=1\n", 9)?.as_str(),
-        "14 BadPath at line 1\n"
-    );
-    Ok(())
-}
-
-#[test]
-fn escaped_dot_dot(rt: HostRuntime) -> Result<(), Fail> {
-    assert_eq!(rt;
-        answer(rt.alloc(), b"\\056\\056 uid=1 gid=1\n", 9)?.as_str(),
-        "14 BadPath at line 1\n"
-    );
-    Ok(())
-}
-
-#[test]
-fn unset_gid(rt: HostRuntime) -> Result<(), Fail> {
-    assert_eq!(rt;
-        answer(rt.alloc(), b"/set uid=1 gid=2\n/unset gid\n./f\n", 9)?.as_str(),
-        "12 NoGid at line 3\n"
-    );
-    Ok(())
-}
-
-#[test]
-fn set_bad_number(rt: HostRuntime) -> Result<(), Fail> {
-    assert_eq!(rt;
-        answer(rt.alloc(), b"/set uid=x\n", 9)?.as_str(),
-        "3 BadNumber at line 1\n"
-    );
     Ok(())
 }
 
