@@ -5,7 +5,7 @@
 
 `count` reads and joins the accounts, and counts the files; `check` does that and checks the certificate; `merge` reads the
 inventories twice, and also solves and writes. The parts are differences between such runs, on the site and on the same
-hosts with empty inventories. Run `make program` first. The site is made below bench/work, which git does not see.
+hosts with one file of fifty, where solving is as hard and the rest takes a fiftieth. Run `make program` first. The site is made below bench/work, which git does not see.
 """
 import os
 import shutil
@@ -15,18 +15,23 @@ from measure import HERE, UNIFY, timed
 from site_of import write_site
 
 
-def without_files(folder, words):
-    """The words for the same hosts with empty inventories."""
-    bare = []
+# one file of so many is kept where the parts of the time are told apart
+THINNED = 50
+
+
+def thinned(folder, words):
+    """The words for the same hosts with one file of fifty."""
+    thin = []
     for word in words:
         name, directory = word.split("=")
-        to = f"{folder}/bare/{name}"
+        to = f"{folder}/thin/{name}"
         os.makedirs(to)
         for file in ("passwd", "group"):
             os.symlink(os.path.abspath(f"{directory}/{file}"), f"{to}/{file}")
-        open(f"{to}/mtree", "w").close()
-        bare.append(f"{name}={to}")
-    return bare
+        with open(f"{directory}/mtree") as whole, open(f"{to}/mtree", "w") as mtree:
+            mtree.writelines(line for index, line in enumerate(whole) if index % THINNED == 0)
+        thin.append(f"{name}={to}")
+    return thin
 
 
 def run(folder, words, files):
@@ -42,19 +47,18 @@ def run(folder, words, files):
     ]:
         seconds, peak, printed = timed([UNIFY, *command, *words])
         times[name] = seconds
-        rate = f", {files / seconds:9,.0f} files/s" if files else ""
-        print(f"unify {name}: {seconds:6.2f} s{rate}, peak {peak:6,.0f} MiB; {' '.join(printed.split())}", flush=True)
+        print(f"unify {name}: {seconds:6.2f} s, {files / seconds:9,.0f} files/s, peak {peak:6,.0f} MiB; {' '.join(printed.split())}", flush=True)
     return times
 
 
-def print_parts(whole, bare):
-    """The parts of a merge, from the times of the commands on the site and on its accounts alone."""
-    solving = bare["merge"] - bare["count"]
+def print_parts(whole, thin):
+    """The parts of a merge, from the times of the commands on the site and on the same hosts with one file of fifty."""
+    solving = thin["merge"] - thin["count"]
     for what, seconds in [
-        ("reading and joining accounts", bare["count"]),
-        ("reading inventories, counting", whole["count"] - bare["count"]),
+        ("accounts read and joined", thin["count"]),
+        ("inventories read, files counted", whole["count"] - thin["count"]),
         ("solving, merged files, certificate", solving),
-        ("inventories again, plans", whole["merge"] - whole["count"] - solving),
+        ("inventories read again, plans", whole["merge"] - whole["count"] - solving),
     ]:
         print(f"  {what:36}{seconds:6.2f} s")
 
@@ -71,10 +75,10 @@ def main():
     name, directory = words[0].split("=")
     seconds, peak, printed = timed([UNIFY, "rehearse", f"{folder}/out/plan.{name}", f"{directory}/mtree"])
     print(f"unify rehearse {name}: {seconds:.2f} s, peak {peak:,.0f} MiB; {' '.join(printed.split())}")
-    print("the same hosts with empty inventories:")
-    bare = run(folder, without_files(folder, words), 0)
+    print("the same hosts with one file of fifty:")
+    thin = run(folder, thinned(folder, words), hosts * files // THINNED)
     print("the parts of the merge:")
-    print_parts(whole, bare)
+    print_parts(whole, thin)
 
 
 if __name__ == "__main__":
