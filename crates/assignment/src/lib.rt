@@ -80,3 +80,6 @@ pub fn solve(alloc: Global, rows: &Rows<'_, '_>) -> Result<Solution, SolveFault>
 pub fn weak_duality()
     ensures { WeakDuality }
 {}
+
+#[cfg(test)]
+mod tests;

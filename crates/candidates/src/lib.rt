@@ -166,3 +166,6 @@ impl<'n, 'a> Rows<'n, 'a> {
         Ok(Mapping::new(filling.finish(alloc)?))
     }
 }
+
+#[cfg(test)]
+mod tests;

@@ -38,3 +38,6 @@ pub struct Difference<'a> {
     pub field: Field,
     pub host: Name<'a>,
 }
+
+#[cfg(test)]
+mod tests;

@@ -1,41 +1,69 @@
 //! Worked examples of the checks and of the join.
-ghost use Rattle.std.specs.Prelude.{IfOk};
+ghost use Rattle.std.specs.Prelude.{◌≡◌, ◌≤◌, IfOk, length};
 ghost use Rattle.std.specs.List.{All};
 ghost use Rattle.hosts_join.specs.Hosts.{IsLawfulHost};
 
-use super::common::{NONE, Texts, USERS, host, joined, lawful_hosts};
+use accounts::{read_group, read_passwd};
 use hosts_join::{
-    Class, Host, HostText, Pins, PinsFault, PoolClass, SiteFault, check_hosts, check_primary, join,
+    Class, Host, HostText, Pins, PinsFault, PoolClass, Site, SiteFault, check_hosts, check_primary,
+    join,
 };
-use idtext::{ByteString, Name, ReadError};
+use idtext::{ByteString, Name};
+use logindefs::read_ranges;
 use std::alloc::{AllocError, Global};
 use std::test::Fail;
 
 // A host's name, its login.defs and its passwd.
-type Users<'a> = (&'a [u8], &'a [u8], &'a [u8]);
+pub type Texts<'a> = (&'a [u8], &'a [u8], &'a [u8]);
 
 // The number of a fault, its names, and its other number: that of a clash, or 1000 times the names and then the numbers.
 type Told<'a> = (u32, &'a [u8], &'a [u8], &'a [u8], u64);
+
+const NONE: &[u8] = b"";
 
 const SMALL: &[u8] = b"UID_MIN 1000\nUID_MAX 1001\n";
 
 const ALICE_AND_BOB: &[u8] = b"alice:x:1000:100:::\nbob:x:1001:100:::\n";
 
-// The texts of a host with such a group.
-fn texts<'a>(users: Users<'a>, group: &'a [u8]) -> Texts<'a> {
-    Texts {
-        name: users.0,
-        logindefs: users.1,
-        passwd: users.2,
-        group,
-    }
+fn host<'a>(alloc: Global, texts: Texts<'a>, group: &'a [u8]) -> Result<Host<'a>, SiteFault<'a>>
+    ensures { IfOk result IsLawfulHost }
+{
+    let Ok(ranges) = read_ranges(texts.1) else {
+        return Err(SiteFault::Memory);
+    };
+    let Ok(users) = read_passwd(alloc, texts.2) else {
+        return Err(SiteFault::Memory);
+    };
+    let Ok(groups) = read_group(alloc, group) else {
+        return Err(SiteFault::Memory);
+    };
+    Ok(Host {
+        name: Name::new(texts.0),
+        ranges,
+        users,
+        groups,
+    })
 }
 
-// The hosts of these users, with one group.
-fn hosts<'a>(alloc: Global, a: Users<'a>, b: Users<'a>) -> Result<Vec<Host<'a>>, ReadError>
+pub fn lawful_hosts<'a>(alloc: Global, texts: &[Texts<'a>]) -> Result<Vec<Host<'a>>, SiteFault<'a>>
     ensures { IfOk result (λ hosts. All IsLawfulHost hosts.items) }
 {
-    lawful_hosts(alloc, &[texts(a, USERS), texts(b, USERS)])
+    let mut hosts = Vec::new(alloc);
+    for one in texts {
+        hosts.push(host(alloc, *one, b"users:x:100:\n")?)?;
+    }
+    Ok(hosts)
+}
+
+fn site<'a>(alloc: Global, texts: &[Texts<'a>], pins: &'a [u8]) -> Result<Site<'a>, SiteFault<'a>> {
+    let hosts = lawful_hosts(alloc, texts)?;
+    let Ok(pins) = Pins::read(alloc, pins) else {
+        return Err(SiteFault::Memory);
+    };
+    if hosts.len() > 64 {
+        return Err(SiteFault::Memory);
+    }
+    join(alloc, hosts.as_slice(), &pins)
 }
 
 fn named<'a>(host: &Option<Name<'a>>) -> &'a [u8] {
@@ -45,8 +73,8 @@ fn named<'a>(host: &Option<Name<'a>>) -> &'a [u8] {
     }
 }
 
-fn told<'a>(fault: &SiteFault<'a>) -> Result<Told<'a>, AllocError> {
-    Ok(match fault {
+fn told<'a>(fault: &SiteFault<'a>) -> Told<'a> {
+    match fault {
         SiteFault::BadHostName(name) => (18, name.bytes(), NONE, NONE, 0),
         SiteFault::HostTwice(name) => (19, name.bytes(), NONE, NONE, 0),
         SiteFault::HostCount(count) => (20, NONE, NONE, NONE, *count),
@@ -84,25 +112,16 @@ fn told<'a>(fault: &SiteFault<'a>) -> Result<Told<'a>, AllocError> {
                 names.saturating_mul(1000).saturating_add(*numbers),
             )
         }
-        SiteFault::Memory => return Err(AllocError),
-    })
+        SiteFault::Memory => (0, NONE, NONE, NONE, 0),
+    }
 }
 
 // What the join of two hosts tells, or 1 where it is accepted.
-fn refused<'a>(
-    alloc: Global,
-    a: Users<'a>,
-    b: Users<'a>,
-    pins: &'a [u8],
-) -> Result<Told<'a>, Fail> {
-    let hosts = hosts(alloc, a, b)?;
-    let pins = Pins::read(alloc, pins)?;
-    if hosts.len() > 64 {
-        return Err(Fail::new("there are more than 64 hosts"));
-    }
-    match join(alloc, &hosts, &pins) {
-        Ok(_site) => Ok((1, NONE, NONE, NONE, 0)),
-        Err(fault) => Ok(told(&fault)?),
+fn refused<'a>(alloc: Global, a: Texts<'a>, b: Texts<'a>, pins: &'a [u8]) -> Told<'a> {
+    let texts = [a, b];
+    match site(alloc, &texts, pins) {
+        Ok(_site) => (1, NONE, NONE, NONE, 0),
+        Err(fault) => told(&fault),
     }
 }
 
@@ -123,57 +142,58 @@ fn listed(alloc: Global, count: usize) -> Result<Vec<HostText>, AllocError> {
     Ok(hosts)
 }
 
-fn checked(hosts: &[HostText]) -> Result<Told<'_>, AllocError> {
+fn checked(hosts: &[HostText]) -> Told<'_> {
     match check_hosts(hosts) {
-        Ok(()) => Ok((1, NONE, NONE, NONE, 0)),
+        Ok(()) => (1, NONE, NONE, NONE, 0),
         Err(fault) => told(&fault),
     }
 }
 
-fn primary<'a>(alloc: Global, users: Users<'a>, group: &'a [u8]) -> Result<Told<'a>, Fail> {
-    let host = host(alloc, texts(users, group))?;
-    match check_primary(&host) {
-        Ok(()) => Ok((1, NONE, NONE, NONE, 0)),
-        Err(fault) => Ok(told(&fault)?),
+fn primary<'a>(alloc: Global, texts: Texts<'a>, group: &'a [u8]) -> Told<'a> {
+    match host(alloc, texts, group) {
+        Ok(host) => match check_primary(&host) {
+            Ok(()) => (1, NONE, NONE, NONE, 0),
+            Err(fault) => told(&fault),
+        },
+        Err(fault) => told(&fault),
     }
 }
 
 #[test]
 fn no_host(rt: HostRuntime) -> Result<(), Fail> {
     let hosts = listed(rt.alloc(), 0)?;
-    assert_eq!(rt; checked(hosts.as_slice())?, (20, NONE, NONE, NONE, 0));
+    assert_eq!(rt; checked(hosts.as_slice()), (20, NONE, NONE, NONE, 0));
     Ok(())
 }
 
 #[test]
 fn sixty_five_hosts(rt: HostRuntime) -> Result<(), Fail> {
     let hosts = listed(rt.alloc(), 65)?;
-    assert_eq!(rt; checked(hosts.as_slice())?, (20, NONE, NONE, NONE, 65));
+    assert_eq!(rt; checked(hosts.as_slice()), (20, NONE, NONE, NONE, 65));
     Ok(())
 }
 
 #[test]
 fn sixty_four_hosts(rt: HostRuntime) -> Result<(), Fail> {
     let hosts = listed(rt.alloc(), 64)?;
-    assert_eq!(rt; checked(hosts.as_slice())?, (1, NONE, NONE, NONE, 0));
+    assert_eq!(rt; checked(hosts.as_slice()), (1, NONE, NONE, NONE, 0));
     Ok(())
 }
 
 #[test]
-fn missing_primary_group(rt: HostRuntime) -> Result<(), Fail> {
+fn missing_primary_group(rt: HostRuntime) {
     let alice = (b"a".as_slice(), NONE, b"alice:x:1001:100:::\n".as_slice());
     let missing = (21, b"a".as_slice(), b"alice".as_slice(), NONE, 0);
     for (group, answer) in [
         (b"staff:x:50:\n".as_slice(), missing),
         (b"users:x:100:\n".as_slice(), (1, NONE, NONE, NONE, 0)),
     ] {
-        assert_eq!(rt; primary(rt.alloc(), alice, group)?, answer);
+        assert_eq!(rt; primary(rt.alloc(), alice, group), answer);
     }
-    Ok(())
 }
 
 #[test]
-fn refusals(rt: HostRuntime) -> Result<(), Fail> {
+fn refusals(rt: HostRuntime) {
     let games = (b"a".as_slice(), NONE, b"games:x:5:100:::\n".as_slice());
     let games_on_b = (b"b".as_slice(), NONE, b"games:x:12:100:::\n".as_slice());
     let eve = (b"a".as_slice(), NONE, b"eve:x:50:100:::\n".as_slice());
@@ -211,35 +231,35 @@ fn refusals(rt: HostRuntime) -> Result<(), Fail> {
         ),
         (dbus, other, b"user zed 81\n".as_slice(), reserved_clash),
     ] {
-        assert_eq!(rt; refused(rt.alloc(), a, b, pins)?, answer);
+        assert_eq!(rt; refused(rt.alloc(), a, b, pins), answer);
     }
-    Ok(())
 }
 
 // What the join of two hosts says of its first user, and of the regular pool: the class, whether the pool has 1000, and
 // how many numbers it has.
 fn accepted<'a>(
     alloc: Global,
-    a: Users<'a>,
-    b: Users<'a>,
+    a: Texts<'a>,
+    b: Texts<'a>,
     pins: &'a [u8],
-) -> Result<Option<(Class, bool, u64)>, Fail> {
-    let hosts = hosts(alloc, a, b)?;
-    let site = joined(alloc, &hosts, pins)?;
+) -> Option<(Class, bool, u64)> {
+    let Ok(site) = site(alloc, &[a, b], pins) else {
+        return None;
+    };
     let users = site.users();
     if users.len() == 0 || site.hosts() != 2 || site.groups().len() != 1 {
-        return Ok(None);
+        return None;
     }
     let pool = users.pool(Class::Regular);
     let seen = users.owner(1, 500) == users.find(b"carol") && pool.next_from(60001).is_none();
     if !seen {
-        return Ok(None);
+        return None;
     }
-    Ok(Some((users.class(0), pool.has(1000), pool.len())))
+    Some((users.class(0), pool.has(1000), pool.len()))
 }
 
 #[test]
-fn joined_sites(rt: HostRuntime) -> Result<(), Fail> {
+fn joined_sites(rt: HostRuntime) {
     let dave = (b"a".as_slice(), NONE, b"dave:x:200:100:::\n".as_slice());
     let dave_on_b = (b"b".as_slice(), NONE, b"dave:x:1000:100:::\n".as_slice());
     let no_users = (b"a".as_slice(), b"UID_MIN 0x3E8\n".as_slice(), NONE);
@@ -273,21 +293,20 @@ fn joined_sites(rt: HostRuntime) -> Result<(), Fail> {
         (max, bob, NONE, highest_number),
         (alice, bob, b"user zed 1000\n".as_slice(), pin_reserves),
     ] {
-        assert_eq!(rt; accepted(rt.alloc(), a, b, pins)?, Some(answer));
+        assert_eq!(rt; accepted(rt.alloc(), a, b, pins), Some(answer));
     }
-    Ok(())
 }
 
-fn bad_pins(alloc: Global, text: &[u8]) -> Result<u64, AllocError> {
+fn bad_pins(alloc: Global, text: &[u8]) -> u64 {
     match Pins::read(alloc, text) {
-        Ok(_) => Ok(0),
-        Err(PinsFault::BadPins(line)) => Ok(line),
-        Err(PinsFault::Memory) => Err(AllocError),
+        Ok(_) => 0,
+        Err(PinsFault::BadPins(line)) => line,
+        Err(PinsFault::Memory) => 99,
     }
 }
 
 #[test]
-fn pins_number_twice(rt: HostRuntime) -> Result<(), Fail> {
+fn pins_number_twice(rt: HostRuntime) {
     for (text, line) in [
         (b"user amy 5\nuser bea 5\n".as_slice(), 2),
         (
@@ -298,7 +317,6 @@ fn pins_number_twice(rt: HostRuntime) -> Result<(), Fail> {
         (b"user a b 5\ngroup a b 5".as_slice(), 0),
         (NONE, 0),
     ] {
-        assert_eq!(rt; bad_pins(rt.alloc(), text)?, line);
+        assert_eq!(rt; bad_pins(rt.alloc(), text), line);
     }
-    Ok(())
 }
