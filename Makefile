@@ -2,7 +2,7 @@
 #   make demo              merges the two hosts of examples/office, and shows what was written
 #   make test              the gate: proves every crate, tries the must-fail edits, runs the tests and the program, and
 #                          compares what the program makes of examples/office and of examples/worked with what is committed
-#   make refused           refuses one growth of memory after another, to the program and to the first of each test
+#   make refused           refuses one growth of memory after another, to the program and to the readers' tests
 #   make install PREFIX=.. puts the program into PREFIX/bin
 #   make clean             removes what was built
 
@@ -47,7 +47,7 @@ program:
 # What the tests are granted is seen by `bench/refused.py tests FIRST LAST`; each growth takes a build of each crate with tests.
 refused: program
 	@bench/refused.py program $(BUNDLES:%=examples/worked/%.bundle)
-	@bench/refused.py tests 1 4
+	@bench/refused.py tests 1 4 idtext accounts logindefs mtree_inv
 
 install: program
 	install -d $(DESTDIR)$(PREFIX)/bin
