@@ -8,20 +8,19 @@ use std::process::Abort;
 use std::test::Fail;
 use unify::{Watched, run_bundle};
 
-// The status and the output of a bundle from a reader, unless what is answered is that memory was refused.
-fn answer_from<R: Read + Drop>(alloc: Global, reader: R) -> Result<(u8, Vec<u8>), AllocError> {
-    let mut writer = Watched::new(Vec::with_capacity(alloc, 65536)?);
-    let status = run_bundle(alloc, &mut Watched::new(reader), &mut writer);
-    let out = writer.inner;
+// The status and the output, unless what is answered is that memory was refused.
+fn unless_refused(status: u8, out: Vec<u8>) -> Result<(u8, Vec<u8>), AllocError> {
     if status == 3 && out.as_slice() == b"unify: memory\n".as_slice() {
         return Err(AllocError);
     }
     Ok((status, out))
 }
 
-// The status and the output of a bundle, unless what is answered is that memory was refused.
+// The status and the output of a bundle.
 fn answered(alloc: Global, bundle: &[u8]) -> Result<(u8, Vec<u8>), AllocError> {
-    answer_from(alloc, bundle)
+    let mut writer = Watched::new(Vec::with_capacity(alloc, 65536)?);
+    let status = run_bundle(alloc, &mut Watched::new(bundle), &mut writer);
+    unless_refused(status, writer.inner)
 }
 
 const COUNTED: &[u8] = b"user-fields 2\ngroup-fields 0\n";
@@ -128,11 +127,13 @@ fn read_and_failed(
     bundle: &[u8],
     reads: usize,
 ) -> Result<(u8, Vec<u8>), AllocError> {
-    let reader = FailingReader {
+    let mut reader = Watched::new(FailingReader {
         rest: bundle,
         reads,
-    };
-    answer_from(alloc, reader)
+    });
+    let mut writer = Watched::new(Vec::with_capacity(alloc, 65536)?);
+    let status = run_bundle(alloc, &mut reader, &mut writer);
+    unless_refused(status, writer.inner)
 }
 
 // Checks that a failed read is told, whichever read of a bundle it is.
@@ -174,7 +175,9 @@ impl Read for Endless {
 
 #[test]
 fn endless_reader(rt: HostRuntime) -> Result<(), Fail> {
-    let (status, out) = answer_from(rt.alloc(), Endless)?;
+    let mut writer = Watched::new(Vec::with_capacity(rt.alloc(), 65536)?);
+    let status = run_bundle(rt.alloc(), &mut Watched::new(Endless), &mut writer);
+    let (status, out) = unless_refused(status, writer.inner)?;
     assert_eq!(rt; status, 3);
     assert_eq!(rt; out.as_slice(), b"unify: read\n".as_slice());
     Ok(())
