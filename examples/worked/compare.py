@@ -4,11 +4,12 @@
     examples/worked/compare.py PROGRAM
 
 README.md beside this file has the form of the examples. Also compared: examples that are too large to be kept as files,
-each prefix of merge/root-only.bundle, and the merges of 300 small generated sites, whose cost has to be the least that
-trying every admissible mapping finds, and what the check of the printed certificate answers.
+each prefix of merge/root-only.bundle, inputs and outputs that fail, and the merges of 300 small generated sites, whose
+cost has to be the least that trying every admissible mapping finds, and what the check of the printed certificate answers.
 
 Prints the first difference and ends with status 1 there; else the last line tells how many examples there were.
 """
+import os
 import pathlib
 import random
 import re
@@ -122,6 +123,24 @@ def compare_prefixes(program):
     want("merge/root-only, its length", PREFIXES[-1][1], len(bundle))
 
 
+def compare_failures(program):
+    """What is told where standard input cannot be read or never ends, and where standard output cannot be written."""
+    told = (3, b"unify: read\n")
+    folder = os.open(FOLDER, os.O_RDONLY)
+    try:
+        ran = subprocess.run([program], stdin=folder, stdout=subprocess.PIPE, timeout=120)
+        want("a folder as standard input", told, (ran.returncode, ran.stdout))
+    finally:
+        os.close(folder)
+    with open("/dev/zero", "rb") as endless:
+        ran = subprocess.run([program], stdin=endless, stdout=subprocess.PIPE, timeout=120)
+        want("an input without an end", told, (ran.returncode, ran.stdout))
+    for name in ("count/stored-count", "merge/root-only"):
+        with open(FOLDER / f"{name}.bundle", "rb") as bundle, open("/dev/full", "wb") as full:
+            ran = subprocess.run([program], stdin=bundle, stdout=full, timeout=120)
+        want(f"{name}, an output that is full", 3, ran.returncode)
+
+
 def compare_merged(program, name, site):
     """The merge of a site: admissible, of the least cost, which is told, and with a certificate that is accepted with it."""
     status, answer = answered(program, site.bundle())
@@ -164,6 +183,7 @@ def main(words):
     for name, bundle, status, answer in large:
         want(name, (status, answer), answered(program, bundle))
     compare_prefixes(program)
+    compare_failures(program)
     merged = compare_sites(program)
     want("generated sites, more than half merged, but not all", True, SITES // 2 < merged < SITES)
     print(f"generated sites: {merged} merged at the least cost, {SITES - merged} refused for a small pool")

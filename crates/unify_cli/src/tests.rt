@@ -1,7 +1,6 @@
 //! Worked examples of the layers and of the commands that cross crates: a crate is proved once more with its tests, and
 //! this one is small. Those that are whole bundles are files of `examples/worked`.
 
-mod bundles;
 mod merge;
 mod runner;
 mod site;
