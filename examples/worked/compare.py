@@ -4,8 +4,9 @@
     examples/worked/compare.py PROGRAM
 
 README.md beside this file has the form of the examples. Also compared: examples that are too large to be kept as files,
-each prefix of merge/root-only.bundle, inputs and outputs that fail, and the merges of 300 small generated sites, whose
-cost has to be the least that trying every admissible mapping finds, and what the check of the printed certificate answers.
+each prefix of merge/root-only.bundle, inputs and outputs that fail, each merge by words with directories, inventories of many
+pieces and one that changes while it is read twice, and the merges of 300 small generated sites, whose cost has to be the
+least that trying every admissible mapping finds, and what the check of the printed certificate answers.
 
 Prints the first difference and ends with status 1 there; else the last line tells how many examples there were.
 """
@@ -17,6 +18,7 @@ import subprocess
 import sys
 
 from sites import Site
+from words import Bundle, merged_by_bundle, merged_by_words, merged_while_changing
 
 FOLDER = pathlib.Path(__file__).resolve().parent
 SITES = 300
@@ -53,7 +55,7 @@ def read(path):
 
 def shown(it):
     """A status with an output, as lines; or anything else."""
-    return "status {}\n{}".format(*it) if isinstance(it, tuple) else it
+    return "status {}\n{}".format(*it[:2]) + "".join(f"\n{more}" for more in it[2:]) if isinstance(it, tuple) else it
 
 
 def want(name, wanted, came):
@@ -141,6 +143,55 @@ def compare_failures(program):
         want(f"{name}, an output that is full", 3, ran.returncode)
 
 
+def long_inventories():
+    """A merge of two hosts whose inventories have many pieces, which end anywhere in a line, and in joined lines too."""
+    hosts = ""
+    for host, uids in (("a", (1001, 1002)), ("b", (1002, 1001))):
+        hosts += f"host {host}\nfile passwd\n"
+        hosts += "".join(f"|{name}:x:{uid}:100::/:/bin/sh\n" for name, uid in zip(("alice", "bob"), uids))
+        hosts += "file group\n|users:x:100:\nfile mtree\n|/set gid=100\n"
+        for number in range(9000):
+            joined = "\\\n|" if number % 7 == 0 else ""
+            hosts += f"|./{'d' * (number % 50)}/f{number} {joined}uid={uids[number % 3 == 0]}\n"
+    return "run merge\n" + hosts
+
+
+def compare_words(program, bundles):
+    """Merges by words what is in bundles, and tells how many were compared."""
+    compared = 0
+    for name, text in bundles:
+        bundle = Bundle(text)
+        status, answer = answered(program, text)
+        if status != 2 and bundle.is_for_words():
+            want(f"{name}, by words", merged_by_bundle(status, answer), merged_by_words(program, bundle))
+            compared += 1
+    return compared
+
+
+def compare_changing(program):
+    """Inventories that are other texts when they are read for the second time: a file less, another order, a new file."""
+    swap = read(FOLDER / "merge/two-hosts-swap.bundle")
+    names = read(FOLDER / "merge/two-names-one-number.bundle") + "host c\n"
+    first, second = "|./bob1 uid=1001 gid=100\n", "|./bob2 uid=1001 gid=100\n"
+    records = "1001 100 1000 100 4 bob1\n", "1001 100 1000 100 4 bob2\n"
+    for name, text, host, old, new, told, plan in [
+        ("swap-short-second-pass", swap, 0, "|./bob1 uid=1002 gid=100\n", "", "unify: 41 InventoryChanged host a\n", "1002 100 1001"),
+        ("second-pass-reordered", names, 1, first + second, second + first, None, records),
+        ("second-pass-new-file", names, 1, second, second + "|./bob3 uid=1005 gid=100\n", "unify: 41 InventoryChanged host b\n", ""),
+    ]:
+        status, kept, files = merged_by_words(program, Bundle(text))
+        changed = "plan.a", "plan.b"
+        if told is None:
+            files["plan.b"] = files["plan.b"].replace("".join(plan), "".join(reversed(plan)))
+        else:
+            status, kept = 1, told
+            for later in [f"plan.{host_name}" for host_name, _ in Bundle(text).hosts[host + 1 :]]:
+                del files[later]
+            files[changed[host]] = files[changed[host]].partition(plan)[0] if plan else ""
+        again = Bundle(text.replace(old, new, 1)).hosts[host][1]["mtree"]
+        want(name, (status, kept, files), merged_while_changing(program, Bundle(text), host, again))
+
+
 def compare_merged(program, name, site):
     """The merge of a site: admissible, of the least cost, which is told, and with a certificate that is accepted with it."""
     status, answer = answered(program, site.bundle())
@@ -184,9 +235,13 @@ def main(words):
         want(name, (status, answer), answered(program, bundle))
     compare_prefixes(program)
     compare_failures(program)
+    merges = [(f"merge/{path.stem}", read(path)) for path in files if path.parent.name == "merge"]
+    by_words = compare_words(program, [*merges, ("long inventories", long_inventories())])
+    compare_changing(program)
     merged = compare_sites(program)
     want("generated sites, more than half merged, but not all", True, SITES // 2 < merged < SITES)
     print(f"generated sites: {merged} merged at the least cost, {SITES - merged} refused for a small pool")
+    print(f"merges by words: {by_words} as by bundle")
     print(f"worked examples: {len(files) + len(large)} as committed")
     return 0
 

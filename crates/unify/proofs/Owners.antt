@@ -57,7 +57,7 @@ no-fault None group uid gid u g = absurd (cc)
 no-fault (Some i) None uid gid u g = absurd (cc)
 no-fault (Some i) (Some j) uid gid u g = refl
 
-both-there : (user group : Option ℕ) (uid gid : ℕ) → uid_fault user uid (gid_fault group gid) ≡ None → (is_some user ≡ true) × (is_some group ≡ true)
+pub both-there : (user group : Option ℕ) (uid gid : ℕ) → uid_fault user uid (gid_fault group gid) ≡ None → (is_some user ≡ true) × (is_some group ≡ true)
 both-there None group uid gid e = absurd (cc)
 both-there (Some i) None uid gid e = absurd (cc)
 both-there (Some i) (Some j) uid gid e = (refl, refl)

@@ -19,6 +19,7 @@ use Rattle.mtree_inv.proofs.LawfulLemmas.{inventory-files}
 use Rattle.hosts_join.specs.Checks.{hosts_checked, is_host_name, name_fault, primary_checked}
 use Rattle.hosts_join.specs.Hosts.{IsLawfulHost}
 use Rattle.hosts_join.specs.Kinds.{user_at, group_at}
+use Rattle.hosts_join.specs.Laws.{KnowsHost}
 use Rattle.hosts_join.specs.PinPairs.{PinPairs}
 use Rattle.hosts_join.specs.PinsText.{pins_of}
 use Rattle.hosts_join.specs.Site.{Joined, joined_site}
@@ -101,9 +102,9 @@ all-named before (t ∷ texts) h =
     let both = none_both (name_fault before t) (first_fault name_fault (before ++ t ∷ []) texts) h in
     All-cons (λ (t : HostText). is_host_name t.name ≡ true) t texts (passed (is_host_name t.name) _ _ both.0) (all-named (before ++ t ∷ []) texts both.1)
 
-hosts-named : (texts : List HostText) (u : Unit {0}) → hosts_checked texts ≡ Ok u → All (λ t. is_host_name t.name ≡ true) texts
+pub texts-named : (texts : List HostText) (u : Unit {0}) → hosts_checked texts ≡ Ok u → All (λ t. is_host_name t.name ≡ true) texts
 unfolding hosts_checked
-hosts-named texts u h = elim (cases_Bool (length texts == 0)) [
+texts-named texts u h = elim (cases_Bool (length texts == 0)) [
   | inl t ↦ let h' = rw t at h in absurd (cc)
   | inr f ↦ elim (cases_Bool (nat_lt 64 (length texts))) [
     | inl t ↦ let h' = rw (f, t) at h in absurd (cc)
@@ -111,7 +112,7 @@ hosts-named texts u h = elim (cases_Bool (length texts == 0)) [
   ]
 ]
 
-all-at : {X : Type 0} (P : X → Type 0) (xs : List X) (k : ℕ) (x : X) → All P xs → slice_get xs k ≡ Some x → P x
+pub all-at : {X : Type 0} (P : X → Type 0) (xs : List X) (k : ℕ) (x : X) → All P xs → slice_get xs k ≡ Some x → P x
 all-at P [] k x all h = absurd (cc)
 all-at P (y ∷ ys) zero x all h = let same : y ≡ x = (cc) in subst P same (All-head P y ys all)
 all-at P (y ∷ ys) (suc k) x all h = all-at P ys k x (All-tail P y ys all) h
@@ -138,7 +139,7 @@ pub record Steps (texts : List HostText) (pins_text : List ℕ) (site : WholeSit
   pub joined_is : joined_site (map (λ l. l.host) loaded) pins ≡ Ok site.joined
   pub files_are : each site_of loaded ≡ Ok site.hosts
 
-pins-ok : {A : Type 0} (r : Result A _) (x : A) → in_pins r ≡ Ok x → r ≡ Ok x
+pub pins-ok : {A : Type 0} (r : Result A _) (x : A) → in_pins r ≡ Ok x → r ≡ Ok x
 pins-ok (Ok y) x h = ap (λ z. Ok z) (ok_same y x h)
 pins-ok (Err e) x h = absurd (cc)
 
@@ -156,7 +157,7 @@ steps texts pins_text site h =
       loaded = loading.0;
       pins = pinning.0;
       few = hosts-few texts listed.0 (site_ok (hosts_checked texts) listed.0 listed.1);
-      named = hosts-named texts listed.0 (site_ok (hosts_checked texts) listed.0 listed.1);
+      named = texts-named texts listed.0 (site_ok (hosts_checked texts) listed.0 listed.1);
       hosts_are = loading.1;
       pins_are = pins-ok (pins_of pins_text) pinning.0 pinning.1;
       joined_is = site_ok (joined_site (map (λ (l : Loaded). l.host) loading.0) pinning.0) joining.0 joining.1;
@@ -170,29 +171,51 @@ loaded-lawful texts loaded h =
     let from = each-ok host_of texts loaded h k (get_or loaded k d) (slice_get-get_or loaded k d l) in
     host-lawful from.0 (get_or loaded k d) from.2)
 
-read-host : (texts : List HostText) (pins_text : List ℕ) (site : WholeSite) → Steps texts pins_text site → (h : ℕ) (host : Host) (files : List Entry) → slice_get site.hosts h ≡ Some (host, files) → IsReadHost site.joined h host files
-read-host texts pins_text site s h host files here =
-    let from = each-ok site_of s.loaded site.hosts s.files_are h (host, files) here in
+-- the hosts that were loaded have the names that the list gives them
+pub loaded-named : (texts : List HostText) (loaded : List Loaded) → each host_of texts ≡ Ok loaded → All (λ t. is_host_name t.name ≡ true) texts → All (λ h. is_host_name h.name ≡ true) (map (λ l. l.host) loaded)
+loaded-named texts loaded h named =
+    All-map (λ (x : Host). is_host_name x.name ≡ true) (λ (l : Loaded). l.host) loaded
+    (λ k d l.
+    let from = each-ok host_of texts loaded h k (get_or loaded k d) (slice_get-get_or loaded k d l) in
+    subst (λ n. is_host_name n ≡ true) (host-named from.0 (get_or loaded k d) from.2) (all-at (λ (t : HostText). is_host_name t.name ≡ true) texts k from.0 named from.1))
+
+-- what is known of a host before its inventory is read
+abbrev pub IsKnownHost : Joined → ℕ → Host → Type 0
+IsKnownHost joined h host = (is_host_name host.name ≡ true) × IsLawfulHost host × KnowsHost joined h host
+
+-- hosts of whom that is known, with the files of their inventories
+pub read-host-of : (joined : Joined) (loaded : List Loaded) (read : List (Host × List Entry)) → each site_of loaded ≡ Ok read → ((h : ℕ) (l : Loaded) → slice_get loaded h ≡ Some l → IsKnownHost joined h l.host)
+    → (h : ℕ) (host : Host) (files : List Entry) → slice_get read h ≡ Some (host, files) → IsReadHost joined h host files
+read-host-of joined loaded read are known h host files here =
+    let from = each-ok site_of loaded read are h (host, files) here in
     let l = from.0 in
     let filed = bind_ok (files_of l) (λ fs. Ok (l.host, fs)) (host, files) from.2 in
     let pair : (l.host, filed.0) ≡ (host, files) = ok_same (l.host, filed.0) (host, files) filed.2 in
-    let text = each-ok host_of texts s.loaded s.hosts_are h l from.1 in
-    let read = files_read l filed.0 filed.1 in
-    let found = inventory-files 16777216 l.mtree filed.0 read.0 in
-    let there : slice_get (map (λ (l : Loaded). l.host) s.loaded) h ≡ Some l.host = slice_get-map (λ (l : Loaded). l.host) s.loaded h ∙ ap (option_map (λ (l : Loaded). l.host)) from.1 in
-    let known = sites_know (map (λ (l : Loaded). l.host) s.loaded) s.pins site.joined (loaded-lawful texts s.loaded s.hosts_are) s.joined_is h l.host there in
-    subst (λ (p : Host × List Entry). IsReadHost site.joined h p.0 p.1) pair
+    let text = files_read l filed.0 filed.1 in
+    let found = inventory-files 16777216 l.mtree filed.0 text.0 in
+    let knows = known h l from.1 in
+    subst (λ (p : Host × List Entry). IsReadHost joined h p.0 p.1) pair
     (record {
-      named = subst (λ n. is_host_name n ≡ true) (host-named text.0 l text.2) (all-at (λ (t : HostText). is_host_name t.name ≡ true) texts h text.0 s.named text.1);
-      lawful = host-lawful text.0 l text.2;
+      named = knows.0;
+      lawful = knows.1;
       files_are = found.0;
       few = found.1;
       owned = λ k d m.
           let f = get_or filed.0 k d in
-          let told = owners-told (is_some (user_at l.host.users f.uid)) (is_some (group_at l.host.groups f.gid)) _ _ (read.1 k d m) in
+          let told = owners-told (is_some (user_at l.host.users f.uid)) (is_some (group_at l.host.groups f.gid)) _ _ (text.1 k d m) in
           record { user = told.0; group = told.1 };
-      known = known;
+      known = knows.2;
     })
+
+known-host : (texts : List HostText) (pins_text : List ℕ) (site : WholeSite) → (s : Steps texts pins_text site) → (h : ℕ) (l : Loaded) → slice_get s.loaded h ≡ Some l → IsKnownHost site.joined h l.host
+known-host texts pins_text site s h l here =
+    let hosts : List Host = map (λ (l : Loaded). l.host) s.loaded in
+    let lawful = loaded-lawful texts s.loaded s.hosts_are in
+    let there : slice_get hosts h ≡ Some l.host = slice_get-map (λ (l : Loaded). l.host) s.loaded h ∙ ap (option_map (λ (l : Loaded). l.host)) here in (
+      all-at (λ (x : Host). is_host_name x.name ≡ true) hosts h l.host (loaded-named texts s.loaded s.hosts_are s.named) there,
+      all-at IsLawfulHost hosts h l.host lawful there,
+      sites_know hosts s.pins site.joined lawful s.joined_is h l.host there,
+    )
 
 all-from : (joined : Joined) (start : ℕ) (hosts : List (Host × List Entry)) → ((h : ℕ) (host : Host) (files : List Entry) → slice_get hosts h ≡ Some (host, files) → IsReadHost joined (start + h) host files) → All (λ f. unowned joined f.host f.uid f.gid ≡ None) (added_from start hosts)
 all-from joined start [] each_host = All-nil (λ (f : Added). unowned joined f.host f.uid f.gid ≡ None)
@@ -203,14 +226,18 @@ all-from joined start (here ∷ more) each_host =
     (λ k d l. let f = get_or here.1 k d in let has = first.owned k d l in owned-there joined start here.0 f.uid f.gid first.known has.user has.group))
     (all-from joined (start + 1) more (λ h host files at. subst (λ n. IsReadHost joined n host files) (omega arith) (each_host (suc h) host files at)))
 
+-- the files of hosts that were read have their owners
+pub all-owned : (joined : Joined) (read : List (Host × List Entry)) → ((h : ℕ) (host : Host) (files : List Entry) → slice_get read h ≡ Some (host, files) → IsReadHost joined h host files) → All (λ f. unowned joined f.host f.uid f.gid ≡ None) (added_from 0 read)
+all-owned joined read each_host = all-from joined 0 read (λ h host files here. subst (λ n. IsReadHost joined n host files) (omega arith) (each_host h host files here))
+
 pub read_sites_are_whole : ReadSitesAreWhole
 read_sites_are_whole texts pins_text site h =
     let s = steps texts pins_text site h in
-    let each_host = read-host texts pins_text site s in
+    let each_host = read-host-of site.joined s.loaded site.hosts s.files_are (known-host texts pins_text site s) in
     let loaded = length-each host_of texts s.loaded s.hosts_are in
     record {
       few_hosts = omega (arith, s.few, loaded, length-each site_of s.loaded site.hosts s.files_are);
       lawful = sites_are_lawful (map (λ (l : Loaded). l.host) s.loaded) s.pins site.joined (omega (arith, s.few, loaded, length-map s.loaded (λ (l : Loaded). l.host))) (loaded-lawful texts s.loaded s.hosts_are) (pins_are_pins pins_text s.pins s.pins_are) s.joined_is;
       each_host = each_host;
-      owned = all-from site.joined 0 site.hosts (λ h host files here. subst (λ n. IsReadHost site.joined n host files) (omega arith) (each_host h host files here));
+      owned = all-owned site.joined site.hosts each_host;
     }

@@ -20,6 +20,7 @@ use Rattle.unify_texts.specs.declared.fault.Fault.{Fault}
 use Rattle.unify.specs.declared.host.Loaded.{Loaded}
 use Rattle.unify.specs.Count.{site_of}
 use Rattle.unify.specs.Hosts.{host_of, files_of}
+use Rattle.unify.specs.Passes.{site_begun}
 use Rattle.unify.specs.Reading.{site_read}
 use Rattle.unify.specs.Told.{in_site, in_pins}
 use Rattle.unify.proofs.Owners.{files_read}
@@ -70,3 +71,7 @@ pub together : (hosts : List Host) (pins : PinPairs) (site : Joined) → joined_
 together hosts pins site e =
     let is = site-is hosts pins site e in
     record { pins = pins; users = sym (ap (λ (s : Joined). s.users) is); groups = sym (ap (λ (s : Joined). s.groups) is) }
+
+pub begun_is : (texts : List HostText) (pins_text : List ℕ) (loaded : List Loaded) (joined : Joined) → IsJoined texts pins_text loaded joined → site_begun texts pins_text ≡ Ok (record { hosts = map (λ l. l.host) loaded; joined = joined })
+unfolding site_begun
+begun_is texts pins_text loaded joined so_far = rw (so_far.list_is, so_far.hosts_are, so_far.pins_are, so_far.joined_is) refl

@@ -15,6 +15,8 @@ use Rattle.ownership.specs.Faults.{unowned}
 use Rattle.unify_texts.specs.declared.fault.Fault.{Fault}
 use Rattle.unify.specs.Count.{site_of}
 use Rattle.unify.specs.Hosts.{host_of}
+use Rattle.unify.specs.Loading.{loaded_from}
+use Rattle.unify.specs.Passes.{site_begun}
 use Rattle.unify.specs.Told.{in_site}
 use Rattle.unify.specs.Reading.{WholeSite, files_of_site, site_read}
 
@@ -60,3 +62,7 @@ site_without_pins texts = do
 -- an empty pins text is as none
 abbrev pub EmptyPinsAreNone : Type 0
 EmptyPinsAreNone = (texts : List HostText) → site_read texts [] ≡ site_without_pins texts
+
+-- what the texts of hosts say of a site is what comes before the inventories, and then, host by host, what the inventories say
+abbrev pub PassesReadTheSite : Type 0
+PassesReadTheSite = (texts : List HostText) (pins_text : List ℕ) → site_read texts pins_text ≡ (site_begun texts pins_text >>= λ begun. each site_of (loaded_from begun.hosts (map (λ t. t.mtree) texts)) >>= λ hosts. Ok (record { hosts = hosts; joined = begun.joined }))

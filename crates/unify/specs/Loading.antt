@@ -5,7 +5,8 @@ use Rattle.idtext.specs.First.{each}
 use Rattle.mtree_inv.specs.Inventory.{inventory}
 use Rattle.hosts_join.specs.Hosts.{IsLawfulHost}
 use Rattle.hosts_join.specs.declared.host.Host.{Host}
-use Rattle.ownership.specs.Counts.{IsMadeFor, StandsFor}
+use Rattle.hosts_join.specs.Site.{Joined}
+use Rattle.ownership.specs.Counts.{Counted, IsMadeFor, StandsFor}
 use Rattle.mergedfiles.specs.Together.{AreJoined}
 use Rattle.unify.specs.declared.host.Loaded.{Loaded}
 use Rattle.unify.specs.declared.site.LoadedSite.{LoadedSite}
@@ -27,3 +28,13 @@ pub record HoldsSite (site : WholeSite) (loaded : LoadedSite) : Type 0 where
   pub counted : StandsFor site.joined loaded.counts (files_of_site site)
   pub few : length loaded.hosts.items ≤ 64
   pub lawful : All IsLawfulHost loaded.hosts.items
+
+-- what is kept of a site whose files were counted: the hosts, the accounts, and the counts
+pub record HoldsCounted (site : WholeSite) (hosts : List Host) (joined : Joined) (counted : Counted) : Type 0 where
+  pub hosts_are : hosts ≡ map (λ h. h.0) site.hosts
+  pub joined_is : joined ≡ site.joined
+  pub together : AreJoined hosts joined
+  pub made : IsMadeFor site.joined counted
+  pub counted_are : StandsFor site.joined counted (files_of_site site)
+  pub few : length hosts ≤ 64
+  pub lawful : All IsLawfulHost hosts

@@ -32,8 +32,8 @@ pub struct Loaded<'a> {
     pub mtree: Name<'a>,
 }
 
-// A fault of a line, told with its host and file.
-fn line_fault(host: &[u8], file: FileName, fault: TextFault) -> Fault<'_>
+/// A fault of a line, told with its host and file. Constant time.
+pub fn line_fault(host: &[u8], file: FileName, fault: TextFault) -> Fault<'_>
     ensures { result ≡ Line host.now file fault.code fault.line }
 {
     Fault::Line {
@@ -200,8 +200,9 @@ pub fn group_named<'a>(groups: &GroupTable<'a>, gid: u32) -> Option<&'a [u8]>
     Some(row.name)
 }
 
-// What is wrong with a file's owners: its uid or its gid is the number of no account of its host, the uid first.
-fn ownership_fault<'a>(
+/// What is wrong with a file's owners: its uid or its gid is the number of no account of its host, the uid first. Two
+/// look-ups by hash; `AllocError` where memory for the path is refused.
+pub fn ownership_fault<'a>(
     alloc: Global,
     host: &Host<'a>,
     file: &Entry,

@@ -1,5 +1,5 @@
 //! Laws of the definitions, each the contract of a call that does nothing.
-ghost use Rattle.unify.specs.Laws.{OwnersAgree, ReadSitesAreWhole, EmptyPinsAreNone};
+ghost use Rattle.unify.specs.Laws.{OwnersAgree, ReadSitesAreWhole, EmptyPinsAreNone, PassesReadTheSite};
 ghost use Rattle.unify.specs.Believed.{OutcomesAreBelieved, RunsKeepNames, NumbersTellNames};
 
 /// Every site that was read is whole: it has at most 64 hosts, whose names and tables are lawful and whose inventories have no path
@@ -36,4 +36,10 @@ pub fn numbers_tell_names()
 /// With an empty pins text a site reads as without one.
 pub fn empty_pins_are_none()
     ensures { EmptyPinsAreNone }
+{}
+
+/// A site is read as its tables, and then, host by host, its inventories, so that two passes over inventories that come in
+/// pieces read the same site.
+pub fn passes_read_the_site()
+    ensures { PassesReadTheSite }
 {}

@@ -7,17 +7,18 @@ ghost use Rattle.ownership.specs.Counts.{IsMadeFor, StandsFor};
 ghost use Rattle.ownership.specs.Files.{Added, by_user, by_group};
 ghost use Rattle.unify_texts.specs.Told.{told};
 ghost use Rattle.unify_texts.specs.WrittenMap.{map_text};
-ghost use Rattle.unify.specs.Loading.{HoldsSite};
+ghost use Rattle.unify.specs.Loading.{HoldsCounted, HoldsSite};
 ghost use Rattle.unify.specs.Headline.{Headline};
 ghost use Rattle.unify.specs.Laws.{IsWhole};
-ghost use Rattle.unify.specs.Outcomes.{IsOutcome, IsPrinted};
+ghost use Rattle.unify.specs.Merging.{IsMerged, IsPrintedButPlans, mappings_in};
+ghost use Rattle.unify.specs.Outcomes.{IsOutcome};
 ghost use Rattle.unify.specs.Reading.{WholeSite, site_read};
 
 use crate::counting::Cost;
-use crate::outcome::Outcome;
+use crate::outcome::{Outcome, TextList};
 use crate::plans::plan_texts;
 use crate::site::{LoadedSite, read_site};
-use crate::solving::{Solved, solve_names};
+use crate::solving::{CertifiedMapping, solve_names};
 use candidates::Mapping;
 use certcheck::{Certificate, write_certificate};
 use hosts_join::{Host, HostText, Site};
@@ -26,6 +27,15 @@ use mergedfiles::{group_text, passwd_text};
 use ownership::Counts;
 use std::alloc::{AllocError, Global};
 use unify_texts::{Fault, figures_under, push_map, report_text};
+
+/// What a merge gives for a site but for its plans, and the mappings that these go by.
+#[derive(Drop)]
+pub struct Merged {
+    /// Its list of plans is empty.
+    pub outcome: Outcome,
+    pub users: Mapping,
+    pub groups: Mapping,
+}
 
 // How many owner and group fields mappings change.
 fn cost_under(site: &Site<'_>, counts: &Counts, users: &Mapping, groups: &Mapping) -> Cost
@@ -59,53 +69,64 @@ fn map_of(
     Ok(ByteString::from_vec(text))
 }
 
-// What a merge of a site that was read writes, by its mappings and their certificate.
-fn outcome_of(
+// What a merge of a site that was counted writes, by its mappings and their certificate, but for the plans.
+fn texts_of(
     alloc: Global,
-    loaded: &LoadedSite<'_>,
-    users: Solved<'_>,
-    groups: Solved<'_>,
-) -> Result<Outcome, AllocError>
-    requires holds { (site : WholeSite) × IsWhole site × HoldsSite site loaded.now }
-    requires users { length users.mapping ≡ length loaded.now.site.users.names }
-    requires groups { length groups.mapping ≡ length loaded.now.site.groups.names }
-    ensures { IfOk result (λ outcome. (site : WholeSite) → HoldsSite site loaded.now → IsPrinted site (record { users = users.entry.mapping; groups = groups.entry.mapping }) (record { users = users.entry.side; groups = groups.entry.side }) outcome) }
+    hosts: &[Host<'_>],
+    site: &Site<'_>,
+    counts: &Counts,
+    users: CertifiedMapping<'_>,
+    groups: CertifiedMapping<'_>,
+) -> Result<Merged, AllocError>
+    requires holds { (whole : WholeSite) × IsWhole whole × HoldsCounted whole hosts.now site.now counts.now }
+    requires users { length users.mapping ≡ length site.now.users.names }
+    requires groups { length groups.mapping ≡ length site.now.groups.names }
+    ensures mappings { IfOk result (λ merged. (merged.users ≡ users.entry.mapping) × (merged.groups ≡ groups.entry.mapping)) }
+    ensures printed { IfOk result (λ merged. (whole : WholeSite) → HoldsCounted whole hosts.now site.now counts.now → IsPrintedButPlans whole (mappings_in merged) (record { users = users.entry.side; groups = groups.entry.side }) merged.outcome) }
 {
-    let site = &loaded.site;
-    let hosts = loaded.hosts.as_slice();
-    let plans = plan_texts(
-        alloc,
-        hosts,
-        &loaded.mtrees,
-        site,
-        &users.mapping,
-        &groups.mapping,
-    )?;
     let passwd = passwd_text(alloc, hosts, site, &users.mapping, &groups.mapping)?;
     let group = group_text(alloc, hosts, site, &users.mapping, &groups.mapping)?;
     let map = map_of(alloc, site, &users.mapping, &groups.mapping)?;
-    let report = report_text(
-        alloc,
-        hosts,
-        site,
-        &loaded.counts,
-        &users.mapping,
-        &groups.mapping,
-    )?;
-    let cost = cost_under(site, &loaded.counts, &users.mapping, &groups.mapping);
+    let report = report_text(alloc, hosts, site, counts, &users.mapping, &groups.mapping)?;
+    let cost = cost_under(site, counts, &users.mapping, &groups.mapping);
     let certificate = Certificate {
         users: users.side,
         groups: groups.side,
     };
-    Ok(Outcome {
+    let outcome = Outcome {
         passwd: ByteString::from_vec(passwd),
         group: ByteString::from_vec(group),
         map,
         certificate: ByteString::from_vec(write_certificate(alloc, &certificate)?),
         report: ByteString::from_vec(report),
-        plans,
+        plans: TextList::new(alloc),
         cost,
+    };
+    Ok(Merged {
+        outcome,
+        users: users.mapping,
+        groups: groups.mapping,
     })
+}
+
+/// What a merge of a site that was counted gives but for its plans. Asked is that the site is whole. It fails for want of
+/// memory alone.
+pub fn merge_counted(
+    alloc: Global,
+    hosts: &[Host<'_>],
+    site: &Site<'_>,
+    counts: &Counts,
+) -> Result<Merged, AllocError>
+    requires { (whole : WholeSite) × IsWhole whole × HoldsCounted whole hosts.now site.now counts.now }
+    ensures { IfOk result (λ merged. (whole : WholeSite) → HoldsCounted whole hosts.now site.now counts.now → IsMerged whole merged) }
+{
+    let Ok(users) = solve_names(alloc, site.users(), counts.users()) else {
+        return Err(AllocError);
+    };
+    let Ok(groups) = solve_names(alloc, site.groups(), counts.groups()) else {
+        return Err(AllocError);
+    };
+    texts_of(alloc, hosts, site, counts, users, groups)
 }
 
 /// What a merge of a site that was read writes. Asked is that the site is whole. It fails for want of memory alone; it
@@ -114,13 +135,14 @@ pub fn merge_loaded(alloc: Global, loaded: &LoadedSite<'_>) -> Result<Outcome, A
     requires { (site : WholeSite) × IsWhole site × HoldsSite site loaded.now }
     ensures { IfOk result (λ outcome. (site : WholeSite) → HoldsSite site loaded.now → IsOutcome site outcome) }
 {
-    let Ok(users) = solve_names(alloc, loaded.site.users(), loaded.counts.users()) else {
-        return Err(AllocError);
-    };
-    let Ok(groups) = solve_names(alloc, loaded.site.groups(), loaded.counts.groups()) else {
-        return Err(AllocError);
-    };
-    outcome_of(alloc, loaded, users, groups)
+    let hosts = loaded.hosts.as_slice();
+    let Merged {
+        mut outcome,
+        users,
+        groups,
+    } = merge_counted(alloc, hosts, &loaded.site, &loaded.counts)?;
+    outcome.plans = plan_texts(alloc, hosts, &loaded.mtrees, &loaded.site, &users, &groups)?;
+    Ok(outcome)
 }
 
 /// One passwd and one group for all hosts, the map of every name to its number, its certificate, a report and a plan for

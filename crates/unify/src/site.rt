@@ -16,6 +16,7 @@ ghost use Rattle.unify.specs.Count.{site_of};
 ghost use Rattle.unify.specs.Hosts.{files_of};
 ghost use Rattle.unify.specs.Reading.{added_on, added_from, site_read};
 ghost use Rattle.unify.specs.Loading.{loaded_from, HoldsSite};
+ghost use Rattle.unify.specs.Passes.{site_begun, HoldsBegun};
 
 use crate::counting::check_list;
 use crate::host::{Loaded, load_files, load_hosts, site_fault};
@@ -34,6 +35,13 @@ pub struct LoadedSite<'a> {
     pub mtrees: Vec<Name<'a>>,
     pub site: Site<'a>,
     pub counts: Counts,
+}
+
+/// The hosts of a site with their tables, and the accounts over all hosts. It borrows the texts.
+#[derive(Drop)]
+pub struct JoinedHosts<'a> {
+    pub hosts: Vec<Host<'a>>,
+    pub site: Site<'a>,
 }
 
 // The pins.
@@ -168,4 +176,26 @@ pub fn read_site<'a>(
         site,
         counts,
     })
+}
+
+/// Reads of a site what comes before the inventories: the files of each host but its inventory, the pins text and the join.
+///
+/// It refuses with the first fault in this order: the host list; host by host login.defs, passwd, group and the primary
+/// groups; the pins text, by line; the join, users before groups. `Fault::Memory` is a growth that was refused. One pass
+/// over each text; the inventories are not read.
+#[tactic(auto, unfolding(crate::specs::Passes::site_begun))]
+pub fn begin_site<'a>(
+    alloc: Global,
+    host_texts: &'a [HostText],
+    pins: &'a [u8],
+) -> Result<JoinedHosts<'a>, Fault<'a>>
+    ensures begun { Yields HoldsBegun told result (site_begun host_texts.now pins.now) }
+    ensures hosts { IfOk result (λ begun. length begun.hosts.items ≡ length host_texts.now) }
+{
+    check_list(host_texts)?;
+    let loaded = load_hosts(alloc, host_texts)?;
+    let (hosts, _mtrees) = hosts_and_mtrees(alloc, loaded)?;
+    let pins = load_pins(alloc, pins)?;
+    let site = join_hosts(alloc, &hosts, &pins)?;
+    Ok(JoinedHosts { hosts, site })
 }

@@ -14,7 +14,7 @@ use std::alloc::Global;
 
 /// A mapping of names, and the side of a certificate that certifies it.
 #[derive(Drop)]
-pub struct Solved<'a> {
+pub struct CertifiedMapping<'a> {
     pub mapping: Mapping,
     pub side: Side<'a>,
 }
@@ -26,7 +26,7 @@ pub fn solve_names<'a>(
     alloc: Global,
     names: &Names<'a>,
     counts: &KindCounts,
-) -> Result<Solved<'a>, SolveFault>
+) -> Result<CertifiedMapping<'a>, SolveFault>
     requires made { AreMadeFor names.now.names counts.now }
     requires few { AreWithin counts.now 2147483648 }
     ensures len { IfOk result (λ s. length s.mapping ≡ length names.now.names) }
@@ -35,7 +35,7 @@ pub fn solve_names<'a>(
     let rows = Rows::build(alloc, names, counts)?;
     let solution = solve(alloc, &rows)?;
     let side = certificate_of(alloc, names, &solution)?;
-    Ok(Solved {
+    Ok(CertifiedMapping {
         mapping: solution.mapping,
         side,
     })

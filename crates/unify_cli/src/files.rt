@@ -1,5 +1,7 @@
 //! The files that words name.
 
+ghost use Rattle.std.specs.Prelude.{◌≡◌, length, IfOk};
+
 use hosts_join::HostText;
 use idtext::ByteString;
 use std::alloc::{AllocError, AllocFailed};
@@ -90,27 +92,45 @@ pub fn host_name(word: &str) -> &str {
     name
 }
 
-/// The texts of the host that a word names.
-pub fn read_host(rt: &HostRuntime, word: &str) -> Result<HostText, FileFault> {
+/// The directory of the host that a word names.
+pub fn host_directory(word: &str) -> &str {
+    let (_, directory) = host_parts(word);
+    directory
+}
+
+// The texts of the host that a word names but its inventory, which is left empty.
+fn read_tables(rt: &HostRuntime, word: &str) -> Result<HostText, FileFault> {
     let (name, directory) = host_parts(word);
     let passwd = read_host_file(rt, directory, "passwd")?;
     let group = read_host_file(rt, directory, "group")?;
     let logindefs = read_logindefs(rt, directory)?;
-    let mtree = read_host_file(rt, directory, "mtree")?;
     Ok(HostText {
         name: ByteString::copy_of(rt.alloc(), name.as_bytes())?,
         passwd,
         group,
         logindefs,
-        mtree,
+        mtree: ByteString::new(rt.alloc()),
     })
+}
+
+/// The texts of the hosts that words name, in order, but their inventories, which are left empty.
+pub fn read_hosts_tables(rt: &HostRuntime, words: &[&str]) -> Result<Vec<HostText>, FileFault>
+    ensures { IfOk result (λ hosts. length hosts.items ≡ length words.now) }
+{
+    let mut hosts = Vec::new(rt.alloc());
+    for word in words {
+        hosts.push(read_tables(rt, *word)?)?;
+    }
+    Ok(hosts)
 }
 
 /// The texts of the hosts that words name, in order.
 pub fn read_hosts(rt: &HostRuntime, words: &[&str]) -> Result<Vec<HostText>, FileFault> {
     let mut hosts = Vec::new(rt.alloc());
     for word in words {
-        hosts.push(read_host(rt, *word)?)?;
+        let mut host = read_tables(rt, *word)?;
+        host.mtree = read_host_file(rt, host_directory(*word), "mtree")?;
+        hosts.push(host)?;
     }
     Ok(hosts)
 }

@@ -3,6 +3,8 @@
 
 mod command_line;
 mod files;
+mod inventory;
+mod merging;
 mod report;
 mod words;
 mod writing;

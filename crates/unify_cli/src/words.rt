@@ -1,14 +1,14 @@
 //! Commands given in words.
 
 use crate::command_line::command_line;
-use crate::files::{FileFault, read_file, read_hosts};
+use crate::files::{FileFault, read_file, read_hosts, read_hosts_tables};
+use crate::merging::{MergeFault, merge_hosts};
 use crate::report::{file_failed, memory_refused, print_reply, write_failed};
-use crate::writing::write_outcome;
 use clap::error::ErrorKind;
 use clap::{ArgMatches, Error};
 use idtext::ByteString;
 use std::alloc::AllocError;
-use unify::{Reply, check_reply, consolidate, cost_reply, count_reply, refused, rehearse_reply};
+use unify::{Reply, check_reply, cost_reply, count_reply, refused, rehearse_reply};
 
 // count MAP HOST...
 fn run_count(rt: &HostRuntime, matches: &ArgMatches<'_>) -> Result<Reply, FileFault> {
@@ -42,16 +42,14 @@ fn run_rehearse(rt: &HostRuntime, matches: &ArgMatches<'_>) -> Result<Reply, Fil
 
 // merge [--pins FILE] OUT HOST...
 fn run_merge(rt: &HostRuntime, matches: &ArgMatches<'_>) -> Result<Reply, FileFault> {
+    let directory = matches.get_str("OUT").unwrap_or("");
     let words = matches.get_strs("HOST").unwrap_or(&[]);
     let pins = read_pins(rt, matches)?;
-    let hosts = read_hosts(rt, words)?;
-    match consolidate(rt.alloc(), &hosts, pins.bytes()) {
-        Ok(outcome) => {
-            let directory = matches.get_str("OUT").unwrap_or("");
-            write_outcome(rt, directory, words, &outcome)?;
-            Ok(cost_reply(rt.alloc(), outcome.cost)?)
-        }
-        Err(fault) => Ok(refused(rt.alloc(), &fault)?),
+    let hosts = read_hosts_tables(rt, words)?;
+    match merge_hosts(rt, directory, words, &hosts, pins.bytes()) {
+        Ok(cost) => Ok(cost_reply(rt.alloc(), cost)?),
+        Err(MergeFault::Refused(fault)) => Ok(refused(rt.alloc(), &fault)?),
+        Err(MergeFault::File(fault)) => Err(fault),
     }
 }
 

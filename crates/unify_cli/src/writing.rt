@@ -1,9 +1,11 @@
 //! The files that a merge writes.
 
-use crate::files::{FileFault, fault_of, host_name};
+use crate::files::{FileFault, fault_of};
 use idtext::ByteString;
 use std::fs;
-use std::path::Path;
+use std::fs::File;
+use std::io::Write;
+use std::path::{Path, PathBuf};
 use unify::Outcome;
 
 // Writes a text as a file of a directory. A file of that name is cut short first.
@@ -20,33 +22,47 @@ fn write_file(
     }
 }
 
-// Writes the plan of the host of each word, as plan.NAME.
-fn write_plans(
-    rt: &HostRuntime,
-    directory: &str,
-    words: &[&str],
-    plans: &[ByteString],
-) -> Result<(), FileFault> {
-    for (word, plan) in words.iter().zip(plans) {
-        let mut name = String::from_str(rt.alloc(), "plan.")?;
-        name.push_str(host_name(*word))?;
-        write_file(rt, directory, name.as_str(), plan)?;
-    }
-    Ok(())
-}
-
-/// Writes what a merge of the hosts of these words gave into a directory: passwd, group, map, certificate, report, and
-/// plan.NAME for each host. At the first file that cannot be written it stops; what was written before stays.
-pub fn write_outcome(
-    rt: &HostRuntime,
-    directory: &str,
-    words: &[&str],
-    outcome: &Outcome,
-) -> Result<(), FileFault> {
+/// Writes what a merge gave into a directory but for the plans: passwd, group, map, certificate and report. At the first
+/// file that cannot be written it stops; what was written before stays.
+pub fn write_texts(rt: &HostRuntime, directory: &str, outcome: &Outcome) -> Result<(), FileFault> {
     write_file(rt, directory, "passwd", &outcome.passwd)?;
     write_file(rt, directory, "group", &outcome.group)?;
     write_file(rt, directory, "map", &outcome.map)?;
     write_file(rt, directory, "certificate", &outcome.certificate)?;
-    write_file(rt, directory, "report", &outcome.report)?;
-    write_plans(rt, directory, words, outcome.plans.texts())
+    write_file(rt, directory, "report", &outcome.report)
+}
+
+/// The plan of a host, which is written in pieces.
+#[derive(Drop)]
+pub struct PlanFile {
+    path: PathBuf,
+    file: File,
+    /// What is still to be written.
+    pub text: Vec<u8>,
+}
+
+impl PlanFile {
+    /// Makes plan.NAME in a directory. A file of that name is cut short.
+    pub fn create(rt: &HostRuntime, directory: &str, host: &str) -> Result<PlanFile, FileFault> {
+        let mut name = String::from_str(rt.alloc(), "plan.")?;
+        name.push_str(host)?;
+        let path = Path::new(directory).join(rt.alloc(), name.as_str())?;
+        match File::create(rt, path.as_str()) {
+            Ok(file) => Ok(PlanFile {
+                path,
+                file,
+                text: Vec::new(rt.alloc()),
+            }),
+            Err(error) => Err(fault_of(rt, path.as_str(), &error)),
+        }
+    }
+
+    /// Writes what is still to be written.
+    pub fn write(&mut self, rt: &HostRuntime) -> Result<(), FileFault> {
+        if let Err(error) = self.file.write_all(&self.text) {
+            return Err(fault_of(rt, self.path.as_str(), &error));
+        }
+        self.text.clear();
+        Ok(())
+    }
 }

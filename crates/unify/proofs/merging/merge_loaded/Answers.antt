@@ -1,30 +1,60 @@
-use Rattle.std.specs.Result.{IfOk}
-use Rattle.std.specs.Prelude.{Result, Ok, Err}
-use Rattle.certcheck.specs.declared.certificate.Certificate.{Certificate}
-use Rattle.ownership.specs.Mappings.{Mappings}
-use Rattle.unify.specs.Loading.{HoldsSite}
-use Rattle.unify.specs.Outcomes.{IsOutcome, IsPrinted, user_files, group_files}
-use Rattle.unify.specs.Reading.{WholeSite}
-use Rattle.unify.specs.declared.outcome.Outcome.{Outcome}
-use Rattle.unify.proofs.Merged.{both_answered}
+use Rattle.std.proofs.Common.{◌≡◌, List, length, map, sym, ap, subst, ◌∙◌, arith}
+use Rattle.std.proofs.lemmas.List.{length-map}
+use Rattle.idtext.proofs.OkLemmas.{length-each}
+use Rattle.mtree_inv.specs.Inventory.{inventory}
+use Rattle.mtree_inv.specs.declared.entry.Entry.{Entry}
+use Rattle.hosts_join.specs.declared.host.Host.{Host}
+use Rattle.unify.specs.Loading.{HoldsCounted}
+use Rattle.unify.specs.Merging.{mappings_in}
+use Rattle.unify.specs.Outcomes.{AreOwnedFrom, hosts_in, plan_texts_from}
+use Rattle.unify.proofs.Merged.{still_counted}
+use Rattle.unify.proofs.PlanTexts.{owned_from}
 use Rattle.unify.proofs.merging.merge_loaded.Goals as goal
 
-mapped : {A E : Type 0} (r : Result A E) (P Q : A → Type 0) → ((x : A) → P x → Q x) → IfOk r P → IfOk r Q
-mapped (Ok x) P Q f p = f x p
-mapped (Err e) P Q f p = p
+pub plan_texts-requires-clause-paired : goal.plan_texts-requires-clause-paired
+plan_texts-requires-clause-paired c =
+    let site = c.requires.0 in
+    let holds = c.requires.2 in
+    omega (
+      arith,
+      ap length c.deref.ensures.value,
+      ap length c.as_slice-hosts.ensures.value,
+      length-each (inventory 16777216) c.args.loaded.now.mtrees.items (map (λ h. h.1) site.hosts) holds.inventories,
+      length-map site.hosts (λ (h : Host × List Entry). h.1),
+      ap length holds.hosts,
+      length-map site.hosts (λ (h : Host × List Entry). h.0),
+    )
+
+pub plan_texts-requires-clause-read : goal.plan_texts-requires-clause-read
+plan_texts-requires-clause-read c =
+    let site = c.requires.0 in
+    let holds = c.requires.2 in (
+      map (λ h. h.1) site.hosts,
+      rw c.deref.ensures.value holds.inventories,
+      subst (λ s. AreOwnedFrom s 0 (map (λ h. h.1) site.hosts)) (sym holds.joined) (owned_from site.joined 0 site.hosts c.requires.1.owned),
+    )
 
 pub returns : goal.returns
-returns c =
-    let mappings : Mappings = record { users = c.in-Ok.users.mapping; groups = c.in-Ok-solve_names.groups.mapping } in
-    let sides : Certificate = record { users = c.in-Ok.users.side; groups = c.in-Ok-solve_names.groups.side } in
-    mapped c.outcome_of.result (λ (outcome : Outcome). (site : WholeSite) → HoldsSite site c.args.loaded.now → IsPrinted site mappings sides outcome) (λ (outcome : Outcome). (site : WholeSite) → HoldsSite site c.args.loaded.now → IsOutcome site outcome)
-    (λ outcome printed site holds.
-    let users = (rw (c.users.ensures, c.users-2.ensures.users, holds.joined) at c.in-Ok.ensures.solved) (user_files site) holds.counted.users in
-    let groups = (rw (c.groups.ensures, c.groups-2.ensures.groups, holds.joined) at c.in-Ok-solve_names.ensures.solved) (group_files site) holds.counted.groups in
+returns c = λ site holds.
+    let hosts : c.as_slice-hosts.result.now ≡ hosts_in site = c.as_slice-hosts.ensures.value ∙ holds.hosts in
+    let joined : c.args.loaded.now.site ≡ site.joined = holds.joined in
+    let counted : HoldsCounted site c.as_slice-hosts.result.now c.args.loaded.now.site c.args.loaded.now.counts = rw c.as_slice-hosts.ensures.value (still_counted site c.args.loaded.now holds) in
+    let merged = c.in_ok-outcome.ensures site counted in
+    let m = mappings_in c.in_ok-outcome.field-0 in
+    let printed = merged.printed.printed in
     record {
-      mappings = mappings;
-      certificate = sides;
-      answered = both_answered site c.in-Ok.users.mapping c.in-Ok-solve_names.groups.mapping c.in-Ok.users.side c.in-Ok-solve_names.groups.side users groups;
-      printed = printed site holds;
-    })
-    c.outcome_of.ensures
+      mappings = m;
+      certificate = merged.certificate;
+      answered = merged.answered;
+      printed = record {
+        passwd = printed.passwd;
+        group = printed.group;
+        map_is = printed.map_is;
+        certificate = printed.certificate;
+        report = printed.report;
+        plans =
+            c.in_ok-outcome-2.ensures (map (λ h. h.1) site.hosts) (rw c.deref.ensures.value holds.inventories) ∙ ap (λ hs. plan_texts_from hs c.args.loaded.now.site m 0 (map (λ h. h.1) site.hosts)) hosts
+            ∙ ap (λ s. plan_texts_from (hosts_in site) s m 0 (map (λ h. h.1) site.hosts)) joined;
+        cost = printed.cost;
+      };
+    }

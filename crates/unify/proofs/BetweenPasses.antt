@@ -1,0 +1,138 @@
+-- From the end of a first pass to a second one.
+use Rattle.std.proofs.Common.{◌≡◌, ℕ, zero, suc, true, List, [], ◌∷◌, length, map, Some, None, refl, sym, ap, subst, ◌∙◌, arith, append-nil}
+use Rattle.std.specs.List.{slice_get}
+use Rattle.std.specs.Option.{option_map}
+use Rattle.std.proofs.lemmas.Option.{slice_get_past}
+use Rattle.hosts_join.specs.Checks.{is_host_name}
+use Rattle.hosts_join.specs.Hosts.{IsLawfulHost}
+use Rattle.hosts_join.specs.Site.{Joined}
+use Rattle.hosts_join.specs.declared.host.Host.{Host}
+use Rattle.ownership.specs.Counts as counts
+use Rattle.ownership.specs.Counts.{Counted}
+use Rattle.ownership.specs.Files.{Added}
+use Rattle.unify.specs.declared.host.Loaded.{Loaded}
+use Rattle.unify.specs.declared.merging.Merged.{Merged}
+use Rattle.unify.specs.declared.plan_turn.PlanTurn.{PlanTurn}
+use Rattle.unify.specs.declared.turn.Turn.{Turn}
+use Rattle.unify.specs.Laws.{IsWhole}
+use Rattle.unify.specs.Loading.{HoldsCounted, loaded_from}
+use Rattle.unify.specs.Merging.{IsMerged}
+use Rattle.unify.specs.Passes.{AreCounted, CountingValue, IsCounting, StandsFor, ended_in, fault_met, met_on}
+use Rattle.unify.specs.Reading.{WholeSite, added_from}
+use Rattle.unify.specs.SecondPass as second
+use Rattle.unify.specs.SecondPass.{IsFreshTurn, IsSolvedFrom, IsSolving, SolvedValue}
+use Rattle.unify.proofs.Reading.{all-at, all-owned, read-host-of}
+use Rattle.unify.proofs.Whole.{hosts_read}
+
+-- ---- hosts whose inventories were ended
+
+-- a host that stands with a text stands among the hosts
+loaded_host : (hosts : List Host) (ended : List (List ℕ)) (k : ℕ) (l : Loaded) → slice_get (loaded_from hosts ended) k ≡ Some l → slice_get hosts k ≡ Some l.host
+loaded_host [] ended k l at = absurd (cc)
+loaded_host (host ∷ hosts) [] k l at = absurd (cc)
+loaded_host (host ∷ hosts) (text ∷ ended) zero l at = ap (option_map (λ (x : Loaded). x.host)) at
+loaded_host (host ∷ hosts) (text ∷ ended) (suc k) l at = loaded_host hosts ended k l at
+
+loaded_hosts : (hosts : List Host) (ended : List (List ℕ)) → length ended ≡ length hosts → map (λ l. l.host) (loaded_from hosts ended) ≡ hosts
+loaded_hosts [] ended same = refl
+loaded_hosts (host ∷ hosts) [] same = absurd (omega (arith, same))
+loaded_hosts (host ∷ hosts) (text ∷ ended) same = ap (λ t. host ∷ t) (loaded_hosts hosts ended (omega (arith, same)))
+
+-- ---- the end of a first pass
+
+-- no host is left
+abbrev pub IsOver : CountingValue → Type 0
+IsOver c = ended_in c ≡ length c.hosts
+
+-- then it met no fault
+over_unmet : (c : CountingValue) → IsOver c → fault_met c ≡ None
+over_unmet c over = ap (λ o. met_on o c.turn) (slice_get_past c.hosts (ended_in c) (omega (arith, over)))
+
+over_whole : (c : CountingValue) (ended : List (List ℕ)) (text : List ℕ) → IsCounting c → (were : StandsFor c ended text) → IsWhole (record { hosts = were.read; joined = c.joined })
+over_whole c ended text counting were =
+    let loaded = loaded_from c.hosts ended in
+    let each_host = read-host-of c.joined loaded were.read were.accepted
+    (λ k l at.
+    let here = loaded_host c.hosts ended k l at in (
+      all-at (λ (h : Host). is_host_name h.name ≡ true) c.hosts k l.host counting.whole.named here,
+      all-at IsLawfulHost c.hosts k l.host counting.whole.lawful here,
+      counting.whole.known k l.host here,
+    )) in
+    record {
+      few_hosts = omega (arith, counting.whole.few, counting.within, were.read_are);
+      lawful = counting.whole.accounts;
+      each_host = each_host;
+      owned = all-owned c.joined were.read each_host;
+    }
+
+-- a turn of which nothing has come
+over_counted : (joined : Joined) (index : ℕ) (earlier : List Added) (turn : Turn) → (turn.reader.files ≡ []) × (turn.unowned ≡ None) → AreCounted joined index earlier turn.counts turn.unowned turn.reader.files → counts.StandsFor joined turn.counts.all earlier × counts.StandsFor joined turn.counts.own []
+over_counted joined index earlier turn fresh counted =
+    let both = rw (fresh.0, fresh.1) at counted in
+    (subst (counts.StandsFor joined turn.counts.all) (append-nil earlier) both.all, both.own)
+
+over_holds : (c : CountingValue) (ended : List (List ℕ)) (text : List ℕ) → IsCounting c → IsOver c → (were : StandsFor c ended text) → HoldsCounted (record { hosts = were.read; joined = c.joined }) c.hosts c.joined c.turn.counts.all
+over_holds c ended text counting over were =
+    let loaded = loaded_from c.hosts ended in
+    record {
+      hosts_are = sym (loaded_hosts c.hosts ended (were.ended_are ∙ over)) ∙ sym (hosts_read loaded were.read were.accepted).0;
+      joined_is = refl;
+      together = counting.whole.together;
+      made = were.turns.made.all;
+      counted_are = (over_counted c.joined (ended_in c) (added_from 0 were.read) c.turn (counting.fresh over) were.turns.counted).0;
+      few = counting.whole.few;
+      lawful = counting.whole.lawful;
+    }
+
+-- the site of which the first pass stands for the texts
+pub whole_of : (c : CountingValue) → IsCounting c → IsOver c → (whole : WholeSite) × IsWhole whole × HoldsCounted whole c.hosts c.joined c.turn.counts.all
+whole_of c counting over =
+    let s = counting.standing (over_unmet c over) in
+    (record { hosts = s.2.read; joined = c.joined }, over_whole c s.0 s.1 counting s.2, over_holds c s.0 s.1 counting over s.2)
+
+-- ---- the second pass
+
+-- the turn of a host of whose second inventory nothing has come, with counters at zero
+pub fresh_turn : (host : Host) (joined : Joined) (merged : Merged) (index : ℕ) (turn : PlanTurn) (counted : Counted) → IsFreshTurn counted turn → counts.IsMadeFor joined counted → counts.StandsFor joined counted [] → second.TurnsFor host joined merged index turn [] []
+fresh_turn host joined merged index turn counted fresh made stands = record {
+  goes = fresh.goes;
+  reading = fresh.reading;
+  most = fresh.most;
+  going = fresh.going;
+  sound = fresh.sound;
+  waiting = fresh.waiting;
+  made = rw fresh.counts_are made;
+  counted = rw (fresh.counts_are, fresh.none) stands;
+  none_unbegun = λ no. fresh.none;
+  planned_is = rw fresh.unbegun refl;
+}
+
+-- behind a first pass of which no host is left
+abbrev pub solved_value : CountingValue → Merged → PlanTurn → SolvedValue
+solved_value c merged turn = record { hosts = c.hosts; joined = c.joined; passed = c.passed; merged = merged; ended = 0; turn = turn }
+
+pub solving_from : (c : CountingValue) (merged : Merged) (turn : PlanTurn) → IsCounting c → IsOver c → ((whole : WholeSite) → HoldsCounted whole c.hosts c.joined c.turn.counts.all → IsMerged whole merged) → IsFreshTurn c.turn.counts.own turn → IsSolving (solved_value c merged turn)
+solving_from c merged turn counting over are fresh =
+    let s = counting.standing (over_unmet c over) in
+    let is = are (record { hosts = s.2.read; joined = c.joined }) (over_holds c s.0 s.1 counting over s.2) in
+    let counted = over_counted c.joined (ended_in c) (added_from 0 s.2.read) c.turn (counting.fresh over) s.2.turns.counted in
+    record {
+      whole = counting.whole;
+      for_site = record { users_len = is.answered.least.admissible.users.len; groups_len = is.answered.least.admissible.groups.len };
+      within = omega arith;
+      passed_are = over;
+      standing = λ host here goes. ([], [], fresh_turn host c.joined merged 0 turn c.turn.counts.own fresh s.2.turns.made.own counted.1);
+    }
+
+pub solved_from : (c : CountingValue) (merged : Merged) (turn : PlanTurn) → IsCounting c → IsOver c → ((whole : WholeSite) → HoldsCounted whole c.hosts c.joined c.turn.counts.all → IsMerged whole merged) → IsFreshTurn c.turn.counts.own turn → IsSolvedFrom c (solved_value c merged turn)
+solved_from c merged turn counting over are fresh =
+    let s = counting.standing (over_unmet c over) in
+    let counted = over_counted c.joined (ended_in c) (added_from 0 s.2.read) c.turn (counting.fresh over) s.2.turns.counted in
+    record {
+      hosts = refl;
+      joined = refl;
+      passed = refl;
+      ended = refl;
+      stands = λ host here. fresh_turn host c.joined merged 0 turn c.turn.counts.own fresh s.2.turns.made.own counted.1;
+      merged = λ ended text were. are (record { hosts = were.read; joined = c.joined }) (over_holds c ended text counting over were);
+    }

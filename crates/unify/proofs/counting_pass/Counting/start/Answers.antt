@@ -1,0 +1,28 @@
+use Rattle.std.proofs.Common.{List, [], None, refl, sym, ap, subst, arith, length}
+use Rattle.unify.specs.declared.turn.Turn.{Turn}
+use Rattle.unify.specs.Passes.{StandsFor}
+use Rattle.unify.specs.RowFiles.{RowFiles}
+use Rattle.unify.proofs.Passing.{IsFreshReader, stands_start}
+use Rattle.unify.proofs.counting_pass.Counting.start.Goals as goal
+
+pub invariant_of-result : goal.invariant_of-result
+invariant_of-result c =
+    let begun = c.in_ok-begun.ensures.begun in
+    let fresh : IsFreshReader c.new-4.result = record { stands = c.new-4.ensures.stands; most = c.new-4.ensures.most; fault = c.new-4.ensures.fault; going = c.new-4.ensures.going; waiting = c.new-4.ensures.waiting; files = c.new-4.ensures.files } in
+    let turn : Turn = record { reader = c.new-4.result; counts = record { all = c.in_ok-new.field-0; own = c.in_ok-new-2.field-0 }; unowned = None } in
+    let hosts = c.in_ok-begun.begun.hosts.items in
+    let joined = c.in_ok-begun.begun.site in
+    let stands = stands_start hosts joined turn fresh refl (record { all = c.in_ok-new.ensures.made; own = c.in_ok-new-2.ensures.made }) c.in_ok-new.ensures.empty c.in_ok-new-2.ensures.empty in
+    let start : StandsFor (record { hosts = hosts; joined = joined; passed = c.new-3.result.items; turn = turn }) [] [] = subst (λ (ps : List RowFiles). StandsFor (record { hosts = hosts; joined = joined; passed = ps; turn = turn }) [] []) (sym c.new-3.ensures.items) stands in
+    record { whole = begun.2.whole; within = omega (arith, ap length c.new-3.ensures.items); fresh = λ over. (fresh.files, refl); standing = λ none. ([], [], start) }
+
+pub returns-clause-begun : goal.returns-clause-begun
+returns-clause-begun c =
+    let begun = c.in_ok-begun.ensures.begun in
+    let fresh : IsFreshReader c.new-4.result = record { stands = c.new-4.ensures.stands; most = c.new-4.ensures.most; fault = c.new-4.ensures.fault; going = c.new-4.ensures.going; waiting = c.new-4.ensures.waiting; files = c.new-4.ensures.files } in
+    let turn : Turn = record { reader = c.new-4.result; counts = record { all = c.in_ok-new.field-0; own = c.in_ok-new-2.field-0 }; unowned = None } in
+    let hosts = c.in_ok-begun.begun.hosts.items in
+    let joined = c.in_ok-begun.begun.site in
+    let stands = stands_start hosts joined turn fresh refl (record { all = c.in_ok-new.ensures.made; own = c.in_ok-new-2.ensures.made }) c.in_ok-new.ensures.empty c.in_ok-new-2.ensures.empty in
+    let start : StandsFor (record { hosts = hosts; joined = joined; passed = c.new-3.result.items; turn = turn }) [] [] = subst (λ (ps : List RowFiles). StandsFor (record { hosts = hosts; joined = joined; passed = ps; turn = turn }) [] []) (sym c.new-3.ensures.items) stands in
+    (begun.0, begun.1, record { hosts = begun.2.hosts; joined = begun.2.joined; passed = c.new-3.ensures.items; stands = start })

@@ -1,0 +1,44 @@
+use Rattle.std.proofs.Common.{◌≡◌, List, sym, ap, subst, ◌∙◌}
+use Rattle.mtree_inv.proofs.StandLemmas.{at_none}
+use Rattle.mtree_inv.specs.declared.entry.Entry.{Entry}
+use Rattle.unify.specs.Passes.{AreCounted, is_read}
+use Rattle.unify.proofs.Turns.{accepted_at_end, files_fail, grown_files, inventory_is, met_none, refused_at_end, room_after, sound_before}
+use Rattle.unify.proofs.turn.end_turn.Goals as goal
+
+pub returns-in-Err-clause-told : goal.returns-in-Err-clause-told
+returns-in-Err-clause-told c = λ earlier text turns.
+    rw c.read_fault.ensures (files_fail c.args.host.now c.args.turn.now.reader.most text c.in-Err.fault turns.most (at_none _ turns.sound (c.in-Err.ensures.told text turns.reading)))
+
+pub count_new-requires-clause-room : goal.count_new-requires-clause-room
+count_new-requires-clause-room c =
+    let turn = c.args.turn.now in
+    let sound = sound_before turn.reader.fault (λ f. c.finish.new.self ≡ turn.reader) c.in_default.field-0 c.in_default.ensures.failed in
+    let going = c.requires.going (met_none c.args.host.now turn.reader.is_finished turn.reader.fault turn.unowned (sym c.is_finished.ensures ∙ c.if-is_finished.false) sound) in
+    room_after c.args.site.now c.args.index turn c.finish.new.self going.0 going.1 going.1 going.2 going.3 (c.in_default.ensures.stands going.1 going.2.reading) c.in_default.ensures.most c.in_default.ensures.grow
+
+pub returns-in-Some-clause-told : goal.returns-in-Some-clause-told
+returns-in-Some-clause-told c = λ earlier text turns.
+    let turn = c.args.turn.now in
+    let after = c.finish.new.self in
+    let read = inventory_is text turn.reader.most after.files turns.most (at_none _ turns.sound (c.in_default.ensures.told text turns.reading)) in
+    let files = grown_files turn.reader.files after.files turn.reader.waiting after.waiting c.in_default.ensures.grow turns.waiting in
+    let counted = subst (λ (fs : List Entry). AreCounted c.args.site.now c.args.index earlier c.count_new.new.turn.counts c.count_new.new.turn.unowned fs) (sym files) (c.count_new.ensures.counted earlier turn.reader.files turns.counted) in
+    refused_at_end c.args.site.now c.args.index c.args.host.now earlier c.count_new.new.turn.counts c.count_new.new.turn.unowned c.in-Some.field-0 text after.files c.tell_owner-in-Some.result c.requires.known c.in-Some.is counted read c.tell_owner-in-Some.ensures
+
+pub returns-clause-accepted : goal.returns-clause-accepted
+returns-clause-accepted c = λ earlier text turns.
+    let turn = c.args.turn.now in
+    let after = c.finish.new.self in
+    let read = inventory_is text turn.reader.most after.files turns.most (at_none _ turns.sound (c.in_default.ensures.told text turns.reading)) in
+    let files = grown_files turn.reader.files after.files turn.reader.waiting after.waiting c.in_default.ensures.grow turns.waiting in
+    let counted = subst (λ (fs : List Entry). AreCounted c.args.site.now c.args.index earlier c.count_new.new.turn.counts c.count_new.new.turn.unowned fs) (sym files) (c.count_new.ensures.counted earlier turn.reader.files turns.counted) in
+    accepted_at_end c.args.site.now c.args.index c.args.host.now earlier c.count_new.new.turn text after.files c.requires.known c.in_default-unowned.is counted c.count_new.ensures.made read
+
+pub returns-clause-told : goal.returns-clause-told
+returns-clause-told c = λ earlier text turns.
+    let turn = c.args.turn.now in
+    let after = c.finish.new.self in
+    let read = inventory_is text turn.reader.most after.files turns.most (at_none _ turns.sound (c.in_default.ensures.told text turns.reading)) in
+    let files = grown_files turn.reader.files after.files turn.reader.waiting after.waiting c.in_default.ensures.grow turns.waiting in
+    let counted = subst (λ (fs : List Entry). AreCounted c.args.site.now c.args.index earlier c.count_new.new.turn.counts c.count_new.new.turn.unowned fs) (sym files) (c.count_new.ensures.counted earlier turn.reader.files turns.counted) in
+    ap is_read (accepted_at_end c.args.site.now c.args.index c.args.host.now earlier c.count_new.new.turn text after.files c.requires.known c.in_default-unowned.is counted c.count_new.ensures.made read).are

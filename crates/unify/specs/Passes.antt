@@ -1,0 +1,202 @@
+-- Inventories that come in pieces, host by host, and of which no text is kept.
+use Rattle.std.specs.Prelude.{◌≡◌, ◌≤◌, ◌*◌, ◌⊎◌, ℕ, Bool, true, false, List, [], ◌∷◌, ◌++◌, map, length, All, Option, Some, None, Result, Ok, Err, slice_get}
+use Rattle.idtext.specs.First.{◌>>=◌, each}
+use Rattle.idtext.specs.declared.faults.ReadError.{ReadError}
+use Rattle.idtext.specs.declared.faults.ReadError.TheVariants as read
+use Rattle.mtree_inv.specs.declared.entry.Entry.{Entry}
+use Rattle.mtree_inv.specs.Inventory.{inventory_of_lines}
+use Rattle.mtree_inv.specs.Logical.{whole_lines}
+use Rattle.mtree_inv.specs.Standing as reader
+use Rattle.hosts_join.specs.Checks.{hosts_checked, is_host_name}
+use Rattle.hosts_join.specs.Hosts.{IsLawfulHost}
+use Rattle.hosts_join.specs.Laws.{HasLawfulAccounts, KnowsItsHosts}
+use Rattle.hosts_join.specs.PinsText.{pins_of}
+use Rattle.hosts_join.specs.Site.{Joined, joined_site}
+use Rattle.hosts_join.specs.declared.host.Host.{Host}
+use Rattle.hosts_join.specs.declared.texts.HostText.{HostText}
+use Rattle.mergedfiles.specs.Together.{AreJoined}
+use Rattle.ownership.specs.Counts as counts
+use Rattle.ownership.specs.Faults.{unowned}
+use Rattle.ownership.specs.Files.{Added}
+use Rattle.ownership.specs.declared.OwnerFault.{OwnerFault}
+use Rattle.reown_plan.specs.Target.{IsOwned}
+use Rattle.unify_texts.specs.declared.bundle_line.FileName.TheVariants as file
+use Rattle.unify_texts.specs.declared.fault.Fault.{Fault}
+use Rattle.unify_texts.specs.declared.fault.Fault.TheVariants.{Line, Memory}
+use Rattle.unify.specs.declared.site.JoinedHosts.{JoinedHosts}
+use Rattle.unify.specs.declared.turn.BothCounts.{BothCounts}
+use Rattle.unify.specs.declared.turn.Turn.{Turn}
+use Rattle.unify.specs.Told.{in_file, in_site, in_pins}
+use Rattle.unify.specs.Hosts.{host_of, owner_fault, files_of}
+use Rattle.unify.specs.Count.{site_of}
+use Rattle.unify.specs.Loading.{loaded_from}
+use Rattle.unify.specs.Reading.{added_on, added_from}
+use Rattle.unify.specs.RowFiles.{RowFiles, row_files}
+
+-- ---- what is read before the inventories
+
+pub record BegunSite : Type 0 where
+  pub hosts : List Host
+  pub joined : Joined
+
+-- the host list; host by host its files but the inventory; the pins text; the join, users and then groups
+unfoldable pub site_begun : List HostText → List ℕ → Result BegunSite Fault
+site_begun texts pins_text = do
+  listed ← in_site (hosts_checked texts)
+  loaded ← each host_of texts
+  pins ← in_pins (pins_of pins_text)
+  joined ← in_site (joined_site (map (λ l. l.host) loaded) pins)
+  Ok (record { hosts = map (λ l. l.host) loaded; joined = joined })
+
+-- hosts that were read, and what was joined from them
+pub record AreTogether (hosts : List Host) (joined : Joined) : Type 0 where
+  pub few : length hosts ≤ 64
+  pub lawful : All IsLawfulHost hosts
+  pub together : AreJoined hosts joined
+  pub known : KnowsItsHosts hosts joined
+  pub accounts : HasLawfulAccounts joined
+  pub named : All (λ h. is_host_name h.name ≡ true) hosts
+
+-- the hosts with their tables, and the accounts over all of them
+pub record HoldsBegun (begun : BegunSite) (held : JoinedHosts) : Type 0 where
+  pub hosts : held.hosts.items ≡ begun.hosts
+  pub joined : held.site ≡ begun.joined
+  pub whole : AreTogether held.hosts.items held.site
+
+-- ---- one host's inventory
+
+-- only whether there is a fault, and which
+abbrev pub is_read : {A : Type 0} → Result A Fault → Result (Unit {0}) Fault
+is_read (Ok x) = Ok tt
+is_read (Err f) = Err f
+
+-- the lines of an inventory of which this much has come
+abbrev pub lines_of : Host → List ℕ → Result (List Entry) Fault
+lines_of host text = in_file host.name file.Mtree (inventory_of_lines 16777216 (whole_lines text))
+
+-- the first file without an account: its uid or its gid has none on the host with the index
+pub record IsFirstUnowned (joined : Joined) (index : ℕ) (files : List Entry) (e : Entry) : Type 0 where
+  pub before : List Entry
+  pub after : List Entry
+  pub stands : files ≡ before ++ e ∷ after
+  pub owned : All (IsOwned joined index) before
+  pub fault : OwnerFault
+  pub unowned_is : unowned joined index e.uid e.gid ≡ Some fault
+
+-- counters that were made for the site
+pub record AreBothMadeFor (joined : Joined) (c : BothCounts) : Type 0 where
+  pub all : counts.IsMadeFor joined c.all
+  pub own : counts.IsMadeFor joined c.own
+
+-- these files of the host with the index are counted behind those of the hosts before it, and by themselves
+-- earlier: the files of the hosts before it
+pub record BothStandFor (joined : Joined) (index : ℕ) (earlier : List Added) (c : BothCounts) (files : List Entry) : Type 0 where
+  pub all : counts.StandsFor joined c.all (earlier ++ map (added_on index) files)
+  pub own : counts.StandsFor joined c.own (map (added_on index) files)
+
+-- the files of the host are counted, unless one of them is not owned: then it is the first
+abbrev pub AreCounted : Joined → ℕ → List Added → BothCounts → Option Entry → List Entry → Type 0
+AreCounted joined index earlier c None files = BothStandFor joined index earlier c files
+AreCounted joined index earlier c (Some e) files = IsFirstUnowned joined index files e
+
+-- of the inventory of the host with the index this text has come, in which there is no reader fault so far
+pub record TurnsFor (joined : Joined) (index : ℕ) (earlier : List Added) (turn : Turn) (text : List ℕ) : Type 0 where
+  pub reading : reader.StandsFor turn.reader text
+  pub most : turn.reader.most ≡ 16777216
+  pub going : turn.reader.is_finished ≡ false
+  pub sound : turn.reader.fault ≡ None
+  pub waiting : turn.reader.waiting ≡ []
+  pub made : AreBothMadeFor joined turn.counts
+  pub counted : AreCounted joined index earlier turn.counts turn.unowned turn.reader.files
+
+-- the inventory was ended with this text, which was accepted: its files are counted
+pub record IsAccepted (joined : Joined) (index : ℕ) (host : Host) (earlier : List Added) (turn : Turn) (text : List ℕ) : Type 0 where
+  pub files : List Entry
+  pub are : files_of (record { host = host; mtree = text }) ≡ Ok files
+  pub few : length files ≤ 16777216
+  pub none : turn.unowned ≡ None
+  pub made : AreBothMadeFor joined turn.counts
+  pub counted : BothStandFor joined index earlier turn.counts files
+
+-- ---- the fault that ended a reading
+
+abbrev pub read_told : Host → ReadError → Fault
+read_told host (read.Fault f) = Line host.name file.Mtree f.code f.line
+read_told host read.Memory = Memory
+
+abbrev pub or_memory : Option Fault → Fault
+or_memory None = Memory
+or_memory (Some f) = f
+
+abbrev pub owner_told : Host → Option Entry → Fault
+owner_told host None = Memory
+owner_told host (Some e) = or_memory (owner_fault host [] e)
+
+abbrev pub met_at : Host → Bool → Option ReadError → Option Entry → Option Fault
+met_at host true fault unowned = Some (owner_told host unowned)
+met_at host false (Some f) unowned = Some (read_told host f)
+met_at host false None unowned = None
+
+-- the fault that a host's turn came to: a reader fault, or at its end an unowned file
+abbrev pub met_by : Host → Turn → Option Fault
+met_by host turn = met_at host turn.reader.is_finished turn.reader.fault turn.unowned
+
+-- the fault itself is told, or want of memory to tell it
+abbrev pub IsToldAs : Fault → Fault → Type 0
+IsToldAs f told = (told ≡ f) ⊎ (told ≡ Memory)
+
+-- an answer that is such a fault
+abbrev pub TellsFault : {A : Type 0} → Fault → Result A Fault → Type 0
+TellsFault f (Ok x) = ⊥
+TellsFault f (Err e) = IsToldAs f e
+
+-- ---- the first pass
+
+-- what contracts see of a first pass: the hosts, their accounts together, how many files each row owns of each host whose inventory was ended, and
+-- the turn of the next host
+pub record CountingValue : Type 0 where
+  pub hosts : List Host
+  pub joined : Joined
+  pub passed : List RowFiles
+  pub turn : Turn
+
+-- how many inventories were ended; it is as well the index of the next host
+abbrev pub ended_in : CountingValue → ℕ
+ended_in c = length c.passed
+
+-- of each host, how many of its files each of its rows owns
+abbrev pub ArePassed : List RowFiles → List (Host × List Entry) → Type 0
+ArePassed passed read = passed ≡ map (λ here. row_files here.0 here.1) read
+
+-- the inventories of the first hosts were ended with these texts, each of which was accepted, and of the next host this text has come
+pub record StandsFor (c : CountingValue) (ended : List (List ℕ)) (text : List ℕ) : Type 0 where
+  pub read : List (Host × List Entry)
+  pub accepted : each site_of (loaded_from c.hosts ended) ≡ Ok read
+  pub ended_are : length ended ≡ ended_in c
+  pub read_are : length read ≡ ended_in c
+  pub few : length (added_from 0 read) ≤ 16777216 * ended_in c
+  pub passed : ArePassed c.passed read
+  pub turns : TurnsFor c.joined (ended_in c) (added_from 0 read) c.turn text
+
+-- the fault that it met on the way, if any
+abbrev pub met_on : Option Host → Turn → Option Fault
+met_on None turn = None
+met_on (Some host) turn = met_by host turn
+
+abbrev pub fault_met : CountingValue → Option Fault
+fault_met c = met_on (slice_get c.hosts (ended_in c)) c.turn
+
+-- what holds of every first pass: unless it met a fault, it stands for some texts
+pub record IsCounting (c : CountingValue) : Type 0 where
+  pub whole : AreTogether c.hosts c.joined
+  pub within : ended_in c ≤ length c.hosts
+  pub standing : fault_met c ≡ None → (ended : List (List ℕ)) × (text : List ℕ) × StandsFor c ended text
+  -- where no host is left, nothing has come of another
+  pub fresh : ended_in c ≡ length c.hosts → (c.turn.reader.files ≡ []) × (c.turn.unowned ≡ None)
+
+-- a first pass of which no inventory has come
+pub record IsAtStart (begun : BegunSite) (c : CountingValue) : Type 0 where
+  pub hosts : c.hosts ≡ begun.hosts
+  pub joined : c.joined ≡ begun.joined
+  pub passed : c.passed ≡ []
+  pub stands : StandsFor c [] []

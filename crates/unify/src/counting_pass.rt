@@ -1,0 +1,178 @@
+//! The first pass over inventories that come in pieces: their files are counted.
+
+ghost use Rattle.std.specs.Prelude.{List};
+
+use crate::host::MOST_FILES;
+use crate::merging::merge_counted;
+use crate::plan_turn::new_turn;
+use crate::row_files::{RowFiles, files_of_rows};
+use crate::site::begin_site;
+use crate::solved_pass::Solved;
+use crate::turn::{BothCounts, Turn, end_turn, feed_turn};
+use hosts_join::{Host, HostText, Site};
+use mtree_inv::Reader;
+use ownership::Counts;
+use std::alloc::Global;
+use std::marker::Model;
+use unify_texts::Fault;
+
+/// A site whose inventories come in pieces, host by host, and are counted. It keeps the tables of the hosts, which borrow
+/// their texts, counters for all hosts and for the present one, how many files each row owns of each host that was ended,
+/// and of the present inventory each path once; no text of an inventory is kept.
+#[derive(Drop)]
+pub struct Counting<'a> {
+    alloc: Global,
+    hosts: Vec<Host<'a>>,
+    site: Site<'a>,
+    passed: Vec<RowFiles>,
+    turn: Turn,
+}
+
+impl<'a> Model for Counting<'a> {
+    ghost use Rattle.unify.specs.Passes.{CountingValue, IsCounting};
+
+    ghost Value = { CountingValue };
+
+    ghost view = { λ c. record { hosts = c.hosts.items; joined = c.site; passed = c.passed.items; turn = c.turn } };
+
+    ghost invariant = { λ c. IsCounting (record { hosts = c.hosts.items; joined = c.site; passed = c.passed.items; turn = c.turn }) };
+}
+
+impl<'a> Counting<'a> {
+    ghost use Rattle.std.specs.Prelude.{◌≡◌, ◌+◌, ◌-◌, ◌<◌, ◌≤◌, ◌++◌, ◌∷◌, [], ℕ, length, Some, IfSome, IfErr, OnOk, MatchResult, slice_get, IfOk};
+    ghost use Rattle.idtext.specs.First.{Gives, Yields};
+    ghost use Rattle.hosts_join.specs.declared.host.Host.{Host};
+    ghost use Rattle.unify_texts.specs.declared.fault.Fault.{Fault};
+    ghost use Rattle.unify_texts.specs.declared.fault.Fault.TheVariants.{Memory};
+    ghost use Rattle.unify_texts.specs.Told.{told};
+    ghost use Rattle.unify.specs.Hosts.{files_of};
+    ghost use Rattle.unify.specs.Passes.{site_begun, is_read, lines_of, StandsFor, IsAtStart, ended_in, fault_met, IsToldAs, TellsFault};
+    ghost use Rattle.unify.specs.SecondPass.{IsSolvedFrom};
+
+    /// Reads what comes before the inventories; the texts of these are not looked at.
+    ///
+    /// It refuses with the first fault in this order: the host list; host by host login.defs, passwd, group and the
+    /// primary groups; the pins text, by line; the join, users before groups. `Fault::Memory` is a growth that was
+    /// refused. One pass over each text.
+    pub fn start(
+        alloc: Global,
+        hosts: &'a [HostText],
+        pins: &'a [u8],
+    ) -> Result<Counting<'a>, Fault<'a>>
+        ensures begun { Yields IsAtStart told result (site_begun hosts.now pins.now) }
+        ensures hosts { IfOk result (λ c. length c.hosts ≡ length hosts.now) }
+    {
+        let begun = begin_site(alloc, hosts, pins)?;
+        let counts = BothCounts {
+            all: Counts::new(alloc, &begun.site)?,
+            own: Counts::new(alloc, &begun.site)?,
+        };
+        Ok(Counting {
+            alloc,
+            hosts: begun.hosts,
+            site: begun.site,
+            passed: Vec::new(alloc),
+            turn: Turn {
+                reader: Reader::new(alloc, MOST_FILES),
+                counts,
+                unowned: None,
+            },
+        })
+    }
+
+    /// Takes the next bytes of the inventory of the present host. Asked is that a host is left.
+    ///
+    /// The answer is exactly the first reader fault of the whole logical lines so far, or want of memory; a file without
+    /// an account is told by `end_host`. After a fault of either call it is always that one, or want of memory to tell it,
+    /// and nothing changes. One pass over the bytes, and a few look-ups by hash for each file.
+    pub fn piece(&mut self, bytes: &[u8]) -> Result<(), Fault<'a>>
+        requires left { ended_in self.old < length self.old.hosts }
+        ensures told { (ended : List (List ℕ)) (text : List ℕ) (host : Host) → StandsFor self.old ended text → slice_get self.old.hosts (ended_in self.old) ≡ Some host → Gives (λ _. tt) told result (is_read (lines_of host (text ++ bytes.now))) }
+        ensures stands { OnOk result ((ended : List (List ℕ)) (text : List ℕ) → StandsFor self.old ended text → StandsFor self.new ended (text ++ bytes.now)) }
+        ensures failed { IfErr result (λ e. (f : Fault) × (fault_met self.new ≡ Some f) × IsToldAs f e) }
+        ensures again { IfSome (fault_met self.old) (λ f. TellsFault f result × (self.new ≡ self.old)) }
+        ensures site { self.new ≡ record self.old { turn = self.new.turn } }
+    {
+        let index = self.passed.len();
+        let host = &self.hosts[index];
+        feed_turn(
+            self.alloc,
+            &mut self.turn,
+            &self.site,
+            index as u32,
+            host,
+            bytes,
+        )
+    }
+
+    /// Ends the inventory of the present host. Asked is that a host is left.
+    ///
+    /// The answer is exactly the first fault of the whole inventory, and else its first file without an account, uid
+    /// before gid; or want of memory. After a fault of either call it is always that one, or want of memory to tell it,
+    /// and nothing changes. At most one line is still to be read here.
+    pub fn end_host(&mut self) -> Result<(), Fault<'a>>
+        requires left { ended_in self.old < length self.old.hosts }
+        ensures told { (ended : List (List ℕ)) (text : List ℕ) (host : Host) → StandsFor self.old ended text → slice_get self.old.hosts (ended_in self.old) ≡ Some host → Gives (λ _. tt) told result (is_read (files_of (record { host = host; mtree = text }))) }
+        ensures stands { OnOk result ((ended : List (List ℕ)) (text : List ℕ) → StandsFor self.old ended text → StandsFor self.new (ended ++ text ∷ []) []) }
+        ensures failed { IfErr result (λ e. (f : Fault) × (fault_met self.new ≡ Some f) × IsToldAs f e) }
+        ensures again { IfSome (fault_met self.old) (λ f. TellsFault f result × (self.new ≡ self.old)) }
+        ensures left { MatchResult result (λ _. ended_in self.new ≡ ended_in self.old + 1) (λ _. self.new.passed ≡ self.old.passed) }
+        ensures site { (self.new.hosts ≡ self.old.hosts) × (self.new.joined ≡ self.old.joined) }
+    {
+        let index = self.passed.len();
+        let host = &self.hosts[index];
+        end_turn(self.alloc, &mut self.turn, &self.site, index as u32, host)?;
+        let own = &self.turn.counts.own;
+        let rows = files_of_rows(self.alloc, &self.site, index as u32, host, own)?;
+        let next = Counts::new(self.alloc, &self.site)?;
+        self.passed.push(rows)?;
+        self.turn.counts.own = next;
+        self.turn.reader = Reader::new(self.alloc, MOST_FILES);
+        Ok(())
+    }
+
+    /// Merges the site whose inventories were ended. Asked is that no host is left.
+    ///
+    /// A refusal, which is want of memory, hands the same value back, and `solve` may be called again. Its time is near
+    /// linear in the names and account rows but for the solver, which is near linear where few numbers are contested.
+    pub fn solve(self) -> Result<Solved<'a>, (Counting<'a>, Fault<'a>)>
+        requires none_left { ended_in self ≡ length self.hosts }
+        ensures { MatchResult result (λ solved. IsSolvedFrom self.entry solved) (λ back. (back.0 ≡ self.entry) × (back.1 ≡ Memory)) }
+    {
+        let Counting {
+            alloc,
+            hosts,
+            site,
+            passed,
+            turn,
+        } = self;
+        let Ok(merged) = merge_counted(alloc, &hosts, &site, &turn.counts.all) else {
+            let back = Counting {
+                alloc,
+                hosts,
+                site,
+                passed,
+                turn,
+            };
+            return Err((back, Fault::Memory));
+        };
+        let counts = turn.counts;
+        Ok(Solved {
+            alloc,
+            hosts,
+            site,
+            passed,
+            merged,
+            ended: 0,
+            turn: new_turn(alloc, counts.own),
+        })
+    }
+
+    /// How many hosts' inventories have not been ended. No cost.
+    pub fn hosts_left(&self) -> usize
+        ensures left { result ≡ length self.now.hosts - ended_in self.now }
+        ensures within { ended_in self.now ≤ length self.now.hosts }
+    {
+        self.hosts.len() - self.passed.len()
+    }
+}

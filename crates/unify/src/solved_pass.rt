@@ -1,0 +1,143 @@
+//! The second pass over inventories that come in pieces: plans are appended.
+
+ghost use Rattle.std.specs.Prelude.{◌≡◌, List};
+ghost use Rattle.unify.specs.SecondPass.{stop_told};
+
+use crate::merging::Merged;
+use crate::outcome::Outcome;
+use crate::plan_turn::{PlanTurn, Stop, feed_plan, finish_plan, next_turn};
+use crate::row_files::RowFiles;
+use hosts_join::{Host, Site};
+use idtext::Name;
+use std::alloc::Global;
+use std::marker::Model;
+use unify_texts::Fault;
+
+/// A site that was merged, whose inventories come a second time in pieces, host by host, while plans are appended. It
+/// keeps the tables of the hosts, what was merged, how many files each of their rows owned in the first pass, and of the
+/// present inventory each path once; no text of an inventory and no plan is kept.
+#[derive(Drop)]
+pub struct Solved<'a> {
+    pub(crate) alloc: Global,
+    pub(crate) hosts: Vec<Host<'a>>,
+    pub(crate) site: Site<'a>,
+    pub(crate) passed: Vec<RowFiles>,
+    pub(crate) merged: Merged,
+    pub(crate) ended: usize,
+    pub(crate) turn: PlanTurn,
+}
+
+impl<'a> Model for Solved<'a> {
+    ghost use Rattle.unify.specs.SecondPass.{SolvedValue, IsSolving};
+
+    ghost Value = { SolvedValue };
+
+    ghost view = { λ s. record { hosts = s.hosts.items; joined = s.site; passed = s.passed.items; merged = s.merged; ended = s.ended; turn = s.turn } };
+
+    ghost invariant = { λ s. IsSolving (record { hosts = s.hosts.items; joined = s.site; passed = s.passed.items; merged = s.merged; ended = s.ended; turn = s.turn }) };
+}
+
+// Why the reading of a host's second inventory ended, as it is told.
+fn stopped<'a>(host: &Host<'a>, stop: Stop) -> Fault<'a>
+    ensures { result ≡ stop_told host.now stop }
+{
+    match stop {
+        Stop::Changed => Fault::InventoryChanged(Name::new(host.name.bytes())),
+        Stop::Memory => Fault::Memory,
+    }
+}
+
+impl<'a> Solved<'a> {
+    ghost use Rattle.std.specs.Prelude.{◌≡◌, ◌+◌, ◌-◌, ◌<◌, ◌≤◌, ◌++◌, [], ℕ, length, Ok, Err, Some, IfSome, IfErr, OnOk, MatchResult, slice_get};
+    ghost use Rattle.idtext.specs.First.{Gives};
+    ghost use Rattle.mtree_inv.specs.declared.entry.Entry.{Entry};
+    ghost use Rattle.hosts_join.specs.declared.host.Host.{Host};
+    ghost use Rattle.unify_texts.specs.Told.{told};
+    ghost use Rattle.unify_texts.specs.declared.fault.Fault.TheVariants.{InventoryChanged};
+    ghost use Rattle.unify.specs.Passes.{is_read};
+    ghost use Rattle.unify.specs.RowFiles.{RowFiles, row_files};
+    ghost use Rattle.unify.specs.SecondPass.{HaveSameCounts, IsUnfinished, StandsFor, fault_met, second_files, second_lines, whole_plan};
+
+    /// What was merged; its list of plans is empty. No cost.
+    pub fn outcome(&self) -> &Outcome
+        ensures { result.now ≡ self.now.merged.outcome }
+    {
+        &self.merged.outcome
+    }
+
+    /// Takes the next bytes of the second inventory of the present host, and appends to the plan of the host. Asked is that
+    /// a host is left.
+    ///
+    /// `Fault::InventoryChanged` is answered exactly where the whole logical lines so far have a fault, or a file without
+    /// an account. After a fault of either call, want of memory too, it is always that one, and nothing changes. Behind a
+    /// fault all that the calls for this host have appended is a prefix of a plan without its `end` line.
+    ///
+    /// One pass over the bytes, and a few look-ups by hash for each file.
+    pub fn piece(&mut self, bytes: &[u8], plan: &mut Vec<u8>) -> Result<(), Fault<'a>>
+        requires left { self.old.ended < length self.old.hosts }
+        ensures told { (host : Host) (text planned : List ℕ) → slice_get self.old.hosts self.old.ended ≡ Some host → StandsFor self.old host text planned → Gives (λ _. tt) told result (is_read (second_lines host (text ++ bytes.now))) }
+        ensures planned { (host : Host) (text planned : List ℕ) → slice_get self.old.hosts self.old.ended ≡ Some host → StandsFor self.old host text planned → (more : List ℕ) × (plan.new.items ≡ plan.old.items ++ more) × MatchResult result (λ _. StandsFor self.new host (text ++ bytes.now) (planned ++ more)) (λ _. IsUnfinished host self.old.joined self.old.merged self.old.ended (planned ++ more)) }
+        ensures stopped { IfErr result (λ e. fault_met self.new ≡ Some e) }
+        ensures again { IfSome (fault_met self.old) (λ f. (result ≡ Err f) × (self.new ≡ self.old) × (plan.new ≡ plan.old)) }
+        ensures site { self.new ≡ record self.old { turn = self.new.turn } }
+    {
+        let host = &self.hosts[self.ended];
+        if let Err(stop) = feed_plan(
+            &mut self.turn,
+            &self.site,
+            &self.merged,
+            self.ended as u32,
+            host,
+            bytes,
+            plan,
+        ) {
+            return Err(stopped(host, stop));
+        }
+        Ok(())
+    }
+
+    /// Ends the second inventory of the present host, and its plan. Asked is that a host is left.
+    ///
+    /// `Fault::InventoryChanged` is answered exactly where the whole inventory has a fault, or a file without an account,
+    /// or where a user or a group of the host owns not as many of its files as in the first pass. After a fault of
+    /// either call, want of memory too, it is always that one, and nothing changes. Behind a fault all that the calls for
+    /// this host have appended is a prefix of a plan without its `end` line.
+    pub fn end_host(&mut self, plan: &mut Vec<u8>) -> Result<(), Fault<'a>>
+        requires left { self.old.ended < length self.old.hosts }
+        ensures told { (host : Host) (first : RowFiles) (were : List Entry) (text planned : List ℕ) → slice_get self.old.hosts self.old.ended ≡ Some host → slice_get self.old.passed self.old.ended ≡ Some first → first ≡ row_files host were → StandsFor self.old host text planned → MatchResult result (λ _. (files : List Entry) × (second_files host text ≡ Ok files) × HaveSameCounts host were files) (λ e. IfSome (told e) (λ f. (f ≡ InventoryChanged host.name) × ((files : List Entry) → second_files host text ≡ Ok files → HaveSameCounts host were files → ⊥))) }
+        ensures planned { (host : Host) (text planned : List ℕ) → slice_get self.old.hosts self.old.ended ≡ Some host → StandsFor self.old host text planned → (more : List ℕ) × (plan.new.items ≡ plan.old.items ++ more) × MatchResult result (λ _. (files : List Entry) × (second_files host text ≡ Ok files) × (planned ++ more ≡ whole_plan host self.old.joined self.old.merged self.old.ended files)) (λ _. IsUnfinished host self.old.joined self.old.merged self.old.ended (planned ++ more)) }
+        ensures next { OnOk result ((host : Host) → slice_get self.new.hosts self.new.ended ≡ Some host → StandsFor self.new host [] []) }
+        ensures left { MatchResult result (λ _. self.new.ended ≡ self.old.ended + 1) (λ _. self.new.ended ≡ self.old.ended) }
+        ensures stopped { IfErr result (λ e. fault_met self.new ≡ Some e) }
+        ensures again { IfSome (fault_met self.old) (λ f. (result ≡ Err f) × (self.new ≡ self.old) × (plan.new ≡ plan.old)) }
+        ensures site { self.new ≡ record self.old { ended = self.new.ended; turn = self.new.turn } }
+    {
+        let host = &self.hosts[self.ended];
+        if let Err(stop) = finish_plan(
+            &mut self.turn,
+            &self.site,
+            &self.merged,
+            self.ended as u32,
+            host,
+            &self.passed[self.ended],
+            plan,
+        ) {
+            return Err(stopped(host, stop));
+        }
+        let Ok(next) = next_turn(self.alloc, &self.site, plan) else {
+            self.turn.stop = Some(Stop::Memory);
+            return Err(Fault::Memory);
+        };
+        self.turn = next;
+        self.ended += 1;
+        Ok(())
+    }
+
+    /// How many hosts' inventories have not been ended a second time. No cost.
+    pub fn hosts_left(&self) -> usize
+        ensures left { result ≡ length self.now.hosts - self.now.ended }
+        ensures within { self.now.ended ≤ length self.now.hosts }
+    {
+        self.hosts.len() - self.ended
+    }
+}

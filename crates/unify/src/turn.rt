@@ -1,0 +1,187 @@
+//! The inventory of one host, which comes in pieces and whose files are counted.
+
+ghost use Rattle.std.specs.Prelude.{◌≡◌, ◌+◌, ◌≤◌, ◌++◌, ◌∷◌, ◌⊎◌, ℕ, List, [], length, true, false, Some, None, IfSome, IfNone, IfErr, OnOk};
+ghost use Rattle.idtext.specs.First.{Gives};
+ghost use Rattle.mtree_inv.specs.Standing as standing;
+ghost use Rattle.mtree_inv.specs.declared.entry.Entry.{Entry};
+ghost use Rattle.hosts_join.specs.Laws.{KnowsHost};
+ghost use Rattle.ownership.specs.Faults.{unowned};
+ghost use Rattle.ownership.specs.Files.{Added};
+ghost use Rattle.reown_plan.specs.Target.{IsOwned};
+ghost use Rattle.unify_texts.specs.declared.fault.Fault.{Fault};
+ghost use Rattle.unify_texts.specs.declared.fault.Fault.TheVariants.{Memory};
+ghost use Rattle.unify_texts.specs.Told.{told};
+ghost use Rattle.unify.specs.Hosts.{files_of};
+ghost use Rattle.unify.specs.Passes.{is_read, lines_of, AreBothMadeFor, BothStandFor, AreCounted, TurnsFor, IsAccepted, read_told, owner_told, met_by, IsToldAs, TellsFault};
+
+use crate::host::{line_fault, ownership_fault};
+use hosts_join::{Host, Site};
+use idtext::ReadError;
+use mtree_inv::{Entry, Reader};
+use ownership::{Counts, OwnerFault};
+use std::alloc::Global;
+use unify_texts::{Fault, FileName};
+
+/// Counters for the files of all hosts so far, and for those of the present host alone.
+#[derive(Drop)]
+pub struct BothCounts {
+    pub all: Counts,
+    pub own: Counts,
+}
+
+/// The reader of a host's inventory, the counters to which its files are added, and the first file without an account.
+#[derive(Drop)]
+pub struct Turn {
+    pub reader: Reader,
+    pub counts: BothCounts,
+    pub unowned: Option<Entry>,
+}
+
+// A fault of the reader, told with its host.
+fn read_fault<'a>(host: &Host<'a>, fault: ReadError) -> Fault<'a>
+    ensures { result ≡ read_told host.now fault }
+{
+    match fault {
+        ReadError::Fault(fault) => line_fault(host.name.bytes(), FileName::Mtree, fault),
+        ReadError::Memory => Fault::Memory,
+    }
+}
+
+// The fault of a file without an account, or want of memory for its path.
+fn tell_owner<'a>(alloc: Global, host: &Host<'a>, unowned: &Option<Entry>) -> Fault<'a>
+    ensures { IsToldAs (owner_told host.now unowned.now) result }
+{
+    let Some(entry) = unowned else {
+        return Fault::Memory;
+    };
+    match ownership_fault(alloc, host, entry) {
+        Ok(Some(fault)) => fault,
+        Ok(None) => Fault::Memory,
+        Err(_) => Fault::Memory,
+    }
+}
+
+// Drops the files that wait.
+fn drain(reader: &mut Reader)
+    ensures stays { reader.new ≡ record reader.old { waiting = [] } }
+    ensures stands { (text : List ℕ) → standing.StandsFor reader.old text → standing.StandsFor reader.new text }
+{
+    while let Some(_) = reader.next_entry() {}
+}
+
+// Counts a file of the host with the index.
+fn add_to_both(
+    counts: &mut BothCounts,
+    site: &Site<'_>,
+    index: u32,
+    file: &Entry,
+) -> Result<(), OwnerFault>
+    requires made { AreBothMadeFor site.now counts.old }
+    requires room { (earlier : List Added) × (files : List Entry) × BothStandFor site.now index earlier counts.old files × (length earlier + length files + 1 ≤ 2147483648) }
+    ensures made { AreBothMadeFor site.now counts.new }
+    ensures owned { OnOk result (IsOwned site.now index file.now) }
+    ensures counted { OnOk result ((earlier : List Added) (files : List Entry) → BothStandFor site.now index earlier counts.old files → BothStandFor site.now index earlier counts.new (files ++ file.now ∷ [])) }
+    ensures fault { IfErr result (λ e. unowned site.now index file.now.uid file.now.gid ≡ Some e) }
+{
+    counts.all.add(site, index, file)?;
+    counts.own.add(site, index, file)
+}
+
+// Counts the files that wait, up to the first without an account.
+fn count_waiting(
+    site: &Site<'_>,
+    index: u32,
+    from: &mut Reader,
+    counts: &mut BothCounts,
+) -> Option<Entry>
+    requires made { AreBothMadeFor site.now counts.old }
+    requires room { (earlier : List Added) × (files : List Entry) × BothStandFor site.now index earlier counts.old files × (length earlier + length files + length from.old.waiting ≤ 2147483648) }
+    ensures made { AreBothMadeFor site.now counts.new }
+    ensures stays { from.new ≡ record from.old { waiting = [] } }
+    ensures stands { (text : List ℕ) → standing.StandsFor from.old text → standing.StandsFor from.new text }
+    ensures counted { (earlier : List Added) (files : List Entry) → BothStandFor site.now index earlier counts.old files → AreCounted site.now index earlier counts.new result (files ++ from.old.waiting) }
+{
+    while let Some(entry) = from.next_entry() {
+        if let Err(_) = add_to_both(counts, site, index, &entry) {
+            drain(from);
+            return Some(entry);
+        }
+    }
+    None
+}
+
+// Counts the files that wait, unless there was a file without an account before.
+fn count_new(turn: &mut Turn, site: &Site<'_>, index: u32)
+    requires made { AreBothMadeFor site.now turn.old.counts }
+    requires room { IfNone turn.old.unowned ((earlier : List Added) × (files : List Entry) × BothStandFor site.now index earlier turn.old.counts files × (length earlier + length files + length turn.old.reader.waiting ≤ 2147483648)) }
+    ensures made { AreBothMadeFor site.now turn.new.counts }
+    ensures stays { turn.new.reader ≡ record turn.old.reader { waiting = [] } }
+    ensures stands { (text : List ℕ) → standing.StandsFor turn.old.reader text → standing.StandsFor turn.new.reader text }
+    ensures counted { (earlier : List Added) (files : List Entry) → AreCounted site.now index earlier turn.old.counts turn.old.unowned files → AreCounted site.now index earlier turn.new.counts turn.new.unowned (files ++ turn.old.reader.waiting) }
+{
+    if let Some(_) = &turn.unowned {
+        drain(&mut turn.reader);
+        return;
+    }
+    turn.unowned = count_waiting(site, index, &mut turn.reader, &mut turn.counts);
+}
+
+/// Takes the next piece of the inventory of the host with the index. The answer is the first fault of the whole lines so
+/// far, and no file without an account is told. After a fault it is always that one, or want of memory to tell it.
+///
+/// One pass over the piece, with a few look-ups by hash for each file.
+pub fn feed_turn<'a>(
+    alloc: Global,
+    turn: &mut Turn,
+    site: &Site<'a>,
+    index: u32,
+    host: &Host<'a>,
+    bytes: &[u8],
+) -> Result<(), Fault<'a>>
+    requires going { met_by host.now turn.old ≡ None → (earlier : List Added) × (text : List ℕ) × TurnsFor site.now index earlier turn.old text × (length earlier ≤ 1073741824) }
+    ensures told { (earlier : List Added) (text : List ℕ) → TurnsFor site.now index earlier turn.old text → Gives (λ _. tt) told result (is_read (lines_of host.now (text ++ bytes.now))) }
+    ensures stands { OnOk result ((earlier : List Added) (text : List ℕ) → TurnsFor site.now index earlier turn.old text → TurnsFor site.now index earlier turn.new (text ++ bytes.now)) }
+    ensures failed { IfErr result (λ e. (f : Fault) × (met_by host.now turn.new ≡ Some f) × IsToldAs f e) }
+    ensures again { IfSome (met_by host.now turn.old) (λ f. TellsFault f result × (turn.new ≡ turn.old)) }
+{
+    if turn.reader.is_finished() {
+        return Err(tell_owner(alloc, host, &turn.unowned));
+    }
+    if let Err(fault) = turn.reader.feed(bytes) {
+        return Err(read_fault(host, fault));
+    }
+    count_new(turn, site, index);
+    Ok(())
+}
+
+/// Takes the end of the inventory of the host with the index. The answer is the first fault of the whole text, and else
+/// the first file without an account. After a fault it is always that one, or want of memory to tell it. After `Ok` the
+/// turn is over, and every further call would be answered with want of memory.
+pub fn end_turn<'a>(
+    alloc: Global,
+    turn: &mut Turn,
+    site: &Site<'a>,
+    index: u32,
+    host: &Host<'a>,
+) -> Result<(), Fault<'a>>
+    requires known { KnowsHost site.now index host.now }
+    requires going { met_by host.now turn.old ≡ None → (earlier : List Added) × (text : List ℕ) × TurnsFor site.now index earlier turn.old text × (length earlier ≤ 1073741824) }
+    ensures told { (earlier : List Added) (text : List ℕ) → TurnsFor site.now index earlier turn.old text → Gives (λ _. tt) told result (is_read (files_of (record { host = host.now; mtree = text }))) }
+    ensures accepted { OnOk result ((earlier : List Added) (text : List ℕ) → TurnsFor site.now index earlier turn.old text → IsAccepted site.now index host.now earlier turn.new text) }
+    ensures ended { OnOk result (met_by host.now turn.new ≡ Some Memory) }
+    ensures none { OnOk result (turn.new.unowned ≡ None) }
+    ensures failed { IfErr result (λ e. (f : Fault) × (met_by host.now turn.new ≡ Some f) × IsToldAs f e) }
+    ensures again { IfSome (met_by host.now turn.old) (λ f. TellsFault f result × (turn.new ≡ turn.old)) }
+{
+    if turn.reader.is_finished() {
+        return Err(tell_owner(alloc, host, &turn.unowned));
+    }
+    if let Err(fault) = turn.reader.finish() {
+        return Err(read_fault(host, fault));
+    }
+    count_new(turn, site, index);
+    if let Some(_) = &turn.unowned {
+        return Err(tell_owner(alloc, host, &turn.unowned));
+    }
+    Ok(())
+}

@@ -1,0 +1,103 @@
+"""Merges by words: what the program writes into a directory where the files of a bundle lie in directories.
+
+With words each inventory is read twice, in pieces, so these merges go through other code than a bundle does. What is written
+and told is to be the same."""
+import os
+import pathlib
+import re
+import subprocess
+import tempfile
+import threading
+
+
+def sections(lines, word):
+    """The parts of some lines that begin with a line of the word, each with what stands behind the word, and what is before them."""
+    before, parts = [], []
+    for line in lines:
+        if line.startswith(word + " "):
+            parts.append((line[len(word) + 1 :], []))
+        else:
+            (parts[-1][1] if parts else before).append(line)
+    return before, parts
+
+
+def texts_of(lines):
+    """The files of a place of a bundle, or of an answer, by name."""
+    _, files = sections(lines, "file")
+    return {name: "".join(line[1:] + "\n" for line in text) for name, text in files}
+
+
+def bytes_of(text):
+    return text.encode("latin-1")
+
+
+class Bundle:
+    """The pins text of a bundle, if it has one, and its hosts with their files."""
+
+    def __init__(self, text):
+        head, hosts = sections(text.split("\n")[1:-1], "host")
+        self.pins = texts_of(head).get("pins")
+        self.hosts = [(name, texts_of(lines)) for name, lines in hosts]
+
+    def is_for_words(self):
+        """Whether words can name its hosts."""
+        return bool(self.hosts) and all(name.isascii() and "=" not in name and name[:1] != "-" for name, _ in self.hosts)
+
+    def lay_out(self, room):
+        """Writes the files into a directory for each host, and hands out the words that name them."""
+        words = []
+        if self.pins is not None:
+            (room / "pins").write_bytes(bytes_of(self.pins))
+            words = ["--pins", str(room / "pins")]
+        words.append(str(room / "out"))
+        (room / "out").mkdir()
+        for index, (name, texts) in enumerate(self.hosts):
+            folder = room / f"host{index}"
+            folder.mkdir()
+            for file in ("passwd", "group", "login.defs", "mtree"):
+                (folder / file).write_bytes(bytes_of(texts.get(file, "")))
+            words.append(f"{name}={folder}")
+        return words
+
+
+def written(folder):
+    return {path.name: path.read_bytes().decode("latin-1") for path in folder.iterdir()}
+
+
+def merged_by_words(program, bundle):
+    """The status of the merge by words, what it tells, and the files that it writes."""
+    with tempfile.TemporaryDirectory() as name:
+        room = pathlib.Path(name)
+        ran = subprocess.run([program, "merge", *bundle.lay_out(room)], stdout=subprocess.PIPE, stderr=subprocess.PIPE, timeout=120)
+        return ran.returncode, (ran.stdout + ran.stderr).decode("latin-1"), written(room / "out")
+
+
+def merged_by_bundle(status, answer):
+    """The same, of the answer to the bundle: what is told stands in the report."""
+    if status != 0:
+        return status, answer, {}
+    files = texts_of(answer.split("\n")[:-1])
+    changed = re.findall(r"^(user|group)-fields (\d+) of", files["report"], re.M)
+    return status, "".join(f"{kind}-fields {number}\n" for kind, number in changed), files
+
+
+def merged_while_changing(program, bundle, host, again):
+    """The same, where the inventory of a host is another text when it is read for the second time. That of the last host, a later
+    one, is a pipe: the program opens it when it has read the others once."""
+    with tempfile.TemporaryDirectory() as name:
+        room = pathlib.Path(name)
+        words = bundle.lay_out(room)
+        changing, last = room / f"host{host}/mtree", room / f"host{len(bundle.hosts) - 1}/mtree"
+        text, after = last.read_bytes(), room / "after"
+        last.rename(after)
+        os.mkfifo(last)
+
+        def hand_out():
+            with open(last, "wb") as pipe:
+                changing.write_bytes(bytes_of(again))
+                after.replace(last)
+                pipe.write(text)
+
+        threading.Thread(target=hand_out, daemon=True).start()
+        ran = subprocess.run([program, "merge", *words], stdout=subprocess.PIPE, stderr=subprocess.PIPE, timeout=120)
+        return ran.returncode, (ran.stdout + ran.stderr).decode("latin-1"), written(room / "out")
