@@ -153,6 +153,7 @@ fn read_on(
     requires for_site { AreForSite site.now merged.now.users merged.now.groups }
     ensures told { (text planned : List ℕ) → TurnsFor host.now site.now merged.now index turn.old text planned → MatchResult result (λ _. (files : List Entry) × (owned_lines host.now (text ++ bytes.now) ≡ Ok files)) (λ s. s ≡ stop.Changed → (f : Fault) × (owned_lines host.now (text ++ bytes.now) ≡ Err f)) }
     ensures stands { (text planned : List ℕ) → TurnsFor host.now site.now merged.now index turn.old text planned → (more : List ℕ) × (plan.new.items ≡ plan.old.items ++ more) × MatchResult result (λ _. TurnsFor host.now site.now merged.now index turn.new (text ++ bytes.now) (planned ++ more)) (λ _. IsUnfinished host.now site.now merged.now index (planned ++ more)) }
+    ensures begun { OnOk result (turn.new.is_begun ≡ true) }
 {
     begin_plan(turn, host, plan)?;
     turn.reader.feed(bytes)?;
@@ -161,7 +162,8 @@ fn read_on(
 
 /// Takes the next piece of the second inventory of the host with the index, and appends to the host's plan. `Stop::Changed`
 /// is answered exactly where the whole lines so far have a fault, or a file without an account. After it stopped it always
-/// answers the same, and nothing changes. What is appended until then is a prefix of a plan without its `end` line.
+/// answers the same, and nothing changes. What is appended until then is a prefix of a plan without its `end` line. After
+/// the first piece the plan has its header.
 ///
 /// One pass over the piece, with a few look-ups by hash for each file.
 pub fn feed_plan(
@@ -178,6 +180,7 @@ pub fn feed_plan(
     requires for_site { AreForSite site.now merged.now.users merged.now.groups }
     ensures told { (text planned : List ℕ) → TurnsFor host.now site.now merged.now index turn.old text planned → MatchResult result (λ _. (files : List Entry) × (owned_lines host.now (text ++ bytes.now) ≡ Ok files)) (λ s. s ≡ stop.Changed → (f : Fault) × (owned_lines host.now (text ++ bytes.now) ≡ Err f)) }
     ensures stands { (text planned : List ℕ) → TurnsFor host.now site.now merged.now index turn.old text planned → (more : List ℕ) × (plan.new.items ≡ plan.old.items ++ more) × MatchResult result (λ _. TurnsFor host.now site.now merged.now index turn.new (text ++ bytes.now) (planned ++ more)) (λ _. IsUnfinished host.now site.now merged.now index (planned ++ more)) }
+    ensures begun { OnOk result (turn.new.is_begun ≡ true) }
     ensures stopped { IfErr result (λ s. turn.new.stop ≡ Some s) }
     ensures again { IfSome turn.old.stop (λ s. (result ≡ Err s) × (turn.new ≡ turn.old) × (plan.new ≡ plan.old)) }
 {

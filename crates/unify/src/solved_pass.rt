@@ -48,7 +48,7 @@ fn stopped<'a>(host: &Host<'a>, stop: Stop) -> Fault<'a>
 }
 
 impl<'a> Solved<'a> {
-    ghost use Rattle.std.specs.Prelude.{◌≡◌, ◌+◌, ◌-◌, ◌<◌, ◌≤◌, ◌++◌, [], ℕ, length, Ok, Err, Some, IfSome, IfErr, OnOk, MatchResult, slice_get};
+    ghost use Rattle.std.specs.Prelude.{◌≡◌, ◌+◌, ◌-◌, ◌<◌, ◌≤◌, ◌++◌, [], ℕ, length, true, Ok, Err, Some, IfSome, IfErr, OnOk, MatchResult, slice_get};
     ghost use Rattle.idtext.specs.First.{Gives};
     ghost use Rattle.mtree_inv.specs.declared.entry.Entry.{Entry};
     ghost use Rattle.hosts_join.specs.declared.host.Host.{Host};
@@ -70,13 +70,15 @@ impl<'a> Solved<'a> {
     ///
     /// `Fault::InventoryChanged` is answered exactly where the whole logical lines so far have a fault, or a file without
     /// an account. After a fault of either call, want of memory too, it is always that one, and nothing changes. Behind a
-    /// fault all that the calls for this host have appended is a prefix of a plan without its `end` line.
+    /// fault all that the calls for this host have appended is a prefix of a plan without its `end` line. The first piece
+    /// appends the header, though it be empty.
     ///
     /// One pass over the bytes, and a few look-ups by hash for each file.
     pub fn piece(&mut self, bytes: &[u8], plan: &mut Vec<u8>) -> Result<(), Fault<'a>>
         requires left { self.old.ended < length self.old.hosts }
         ensures told { (host : Host) (text planned : List ℕ) → slice_get self.old.hosts self.old.ended ≡ Some host → StandsFor self.old host text planned → Gives (λ _. tt) told result (is_read (second_lines host (text ++ bytes.now))) }
         ensures planned { (host : Host) (text planned : List ℕ) → slice_get self.old.hosts self.old.ended ≡ Some host → StandsFor self.old host text planned → (more : List ℕ) × (plan.new.items ≡ plan.old.items ++ more) × MatchResult result (λ _. StandsFor self.new host (text ++ bytes.now) (planned ++ more)) (λ _. IsUnfinished host self.old.joined self.old.merged self.old.ended (planned ++ more)) }
+        ensures begun { OnOk result (self.new.turn.is_begun ≡ true) }
         ensures stopped { IfErr result (λ e. fault_met self.new ≡ Some e) }
         ensures again { IfSome (fault_met self.old) (λ f. (result ≡ Err f) × (self.new ≡ self.old) × (plan.new ≡ plan.old)) }
         ensures site { self.new ≡ record self.old { turn = self.new.turn } }
