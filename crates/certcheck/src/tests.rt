@@ -384,16 +384,21 @@ fn solved<'a>(alloc: Global, names: &Names<'a>, counts: &KindCounts) -> Result<S
     certificate_of(alloc, names, &solution)
 }
 
+// The certificate that the solver gives.
+fn solver_certificate<'a>(alloc: Global, site: &Site<'a>) -> Result<Certificate<'a>, AllocError> {
+    let counts = counted(alloc, site)?;
+    Ok(Certificate {
+        users: solved(alloc, site.users(), counts.users())?,
+        groups: solved(alloc, site.groups(), counts.groups())?,
+    })
+}
+
 // What the check tells of what the solver gives for two-hosts-swap.
 fn solver_checked<'a>(alloc: Global) -> Result<Told<'a>, AllocError> {
     let Ok(site) = swapped(alloc, NONE) else {
         return Err(AllocError);
     };
-    let counts = counted(alloc, &site)?;
-    let certificate = Certificate {
-        users: solved(alloc, site.users(), counts.users())?,
-        groups: solved(alloc, site.groups(), counts.groups())?,
-    };
+    let certificate = solver_certificate(alloc, &site)?;
     Ok(checked(alloc, &site, &certificate))
 }
 
