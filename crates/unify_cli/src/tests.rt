@@ -7,4 +7,3 @@ mod site;
 mod site_runs;
 mod texts;
 mod whole_site;
-mod written;

@@ -70,6 +70,11 @@ fn two_hosts_swap(rt: HostRuntime) -> Result<(), Fail> {
         outcome.passwd.bytes(),
         b"bob:x:1001:100::/home/bob:/bin/sh\nalice:x:1002:100::/home/alice:/bin/sh\n".as_slice()
     );
+    assert_eq!(rt; outcome.group.bytes(), b"users:x:100:\n".as_slice());
+    assert_eq!(rt;
+        outcome.report.bytes(),
+        b"unify report 2\nhosts 2\nusers 2 pinned 0 kept 2 fresh 0\ngroups 1 pinned 1 kept 0 fresh 0\nuser-fields 6 of 13\ngroup-fields 0 of 13\nuser-lines 2 of 4\ngroup-lines 0 of 2\nend\n".as_slice()
+    );
     assert_eq!(rt; cost_checked(rt.alloc(), &hosts, &outcome)?, 6);
     assert_eq!(rt; outcome.plans.texts().len(), 2);
     assert_eq!(rt;

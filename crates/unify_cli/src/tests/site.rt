@@ -14,7 +14,7 @@ use std::alloc::{AllocError, Global};
 use std::test::Fail;
 
 // A host's name, its login.defs and its passwd.
-pub type Texts<'a> = (&'a [u8], &'a [u8], &'a [u8]);
+type Texts<'a> = (&'a [u8], &'a [u8], &'a [u8]);
 
 // The number of a fault, its names, and its other number: that of a clash, or 1000 times the names and then the numbers.
 type Told<'a> = (u32, &'a [u8], &'a [u8], &'a [u8], u64);
@@ -45,7 +45,7 @@ fn host<'a>(alloc: Global, texts: Texts<'a>, group: &'a [u8]) -> Result<Host<'a>
     })
 }
 
-pub fn lawful_hosts<'a>(alloc: Global, texts: &[Texts<'a>]) -> Result<Vec<Host<'a>>, SiteFault<'a>>
+fn lawful_hosts<'a>(alloc: Global, texts: &[Texts<'a>]) -> Result<Vec<Host<'a>>, SiteFault<'a>>
     ensures { IfOk result (λ hosts. All IsLawfulHost hosts.items) }
 {
     let mut hosts = Vec::new(alloc);
@@ -235,27 +235,31 @@ fn refusals(rt: HostRuntime) {
     }
 }
 
-// What the join of two hosts says of its first user, and of the regular pool: the class, whether the pool has 1000, and
-// how many numbers it has.
+// What a site of two hosts says of its first user, and of the regular pool: the class, whether the pool has 1000, and how
+// many numbers it has.
+fn figures(site: &Site<'_>) -> Option<(Class, bool, u64)> {
+    let users = site.users();
+    if users.len() == 0 || site.hosts() != 2 || site.groups().len() != 1 {
+        return None;
+    }
+    let pool = users.pool(Class::Regular);
+    if users.owner(1, 500) != users.find(b"carol") || pool.next_from(60001).is_some() {
+        return None;
+    }
+    Some((users.class(0), pool.has(1000), pool.len()))
+}
+
+// What the join of two hosts says, where it is accepted.
 fn accepted<'a>(
     alloc: Global,
     a: Texts<'a>,
     b: Texts<'a>,
     pins: &'a [u8],
 ) -> Option<(Class, bool, u64)> {
-    let Ok(site) = site(alloc, &[a, b], pins) else {
-        return None;
-    };
-    let users = site.users();
-    if users.len() == 0 || site.hosts() != 2 || site.groups().len() != 1 {
-        return None;
+    match site(alloc, &[a, b], pins) {
+        Ok(site) => figures(&site),
+        Err(_fault) => None,
     }
-    let pool = users.pool(Class::Regular);
-    let seen = users.owner(1, 500) == users.find(b"carol") && pool.next_from(60001).is_none();
-    if !seen {
-        return None;
-    }
-    Some((users.class(0), pool.has(1000), pool.len()))
 }
 
 #[test]

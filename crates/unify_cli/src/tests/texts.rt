@@ -61,7 +61,7 @@ fn map(alloc: Global, text: &[u8]) -> Result<MapText<'_>, Fail> {
 }
 
 #[test]
-fn maps(rt: HostRuntime) -> Result<(), Fail> {
+fn map_read(rt: HostRuntime) -> Result<(), Fail> {
     let text = b"group users 0100\n\n# two users\nuser bob 1001\nuser al ice 1001\ngroup bob 7";
     let map = map(rt.alloc(), text)?;
     assert_eq!(rt; map.users.len(), 2);
@@ -70,6 +70,11 @@ fn maps(rt: HostRuntime) -> Result<(), Fail> {
     assert_eq!(rt; map.users.number(b"users"), None);
     assert_eq!(rt; map.groups.number(b"users"), Some(100));
     assert_eq!(rt; map.groups.number(b"bob"), Some(7));
+    Ok(())
+}
+
+#[test]
+fn maps_refused(rt: HostRuntime) -> Result<(), Fail> {
     let answers: [(&[u8], u64); 6] = [
         (b"", 0),
         (b"user alice\n", 1),

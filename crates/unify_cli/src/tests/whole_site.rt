@@ -1,11 +1,13 @@
-//! Whole sites, as they are read from their texts.
+//! A whole site, as it is read from its texts.
 
-use hosts_join::{Class, HostText};
+use hosts_join::{Class, HostText, Names};
 use idtext::ByteString;
 use std::alloc::{AllocError, Global};
 use std::test::Fail;
-use unify::read_site;
-use unify_texts::Fault;
+use unify::{LoadedSite, read_site};
+
+// How many hosts, inventories, files, users and groups a site has.
+type Sizes = (usize, usize, u64, u32, u32);
 
 // A host with one group, and no login.defs.
 fn host_text(
@@ -23,62 +25,52 @@ fn host_text(
     })
 }
 
-// Alice with three files on the host a, and on the host b the rows of a passwd with the files of an inventory.
-fn two_hosts(alloc: Global, passwd: &[u8], mtree: &[u8]) -> Result<Vec<HostText>, AllocError> {
+// Alice with three files on the host a, and bob with two on the host b, both as 1001.
+fn two_hosts(alloc: Global) -> Result<Vec<HostText>, AllocError> {
     let alice = b"alice:x:1001:100::/home/alice:/bin/sh\n";
-    let files =
+    let of_alice =
         b"./alice1 uid=1001 gid=100\n./alice2 uid=1001 gid=100\n./alice3 uid=1001 gid=100\n";
+    let bob = b"bob:x:1001:100::/home/bob:/bin/sh\n";
+    let of_bob = b"./bob1 uid=1001 gid=100\n./bob2 uid=1001 gid=100\n";
     let mut hosts = Vec::new(alloc);
-    hosts.push(host_text(alloc, b"a", alice, files)?)?;
-    hosts.push(host_text(alloc, b"b", passwd, mtree)?)?;
+    hosts.push(host_text(alloc, b"a", alice, of_alice)?)?;
+    hosts.push(host_text(alloc, b"b", bob, of_bob)?)?;
     Ok(hosts)
 }
 
-const BOB: &[u8] = b"bob:x:1001:100::/home/bob:/bin/sh\n";
+// The class of bob, if alice and bob have 1001 on their hosts.
+fn class_of_bob(users: &Names<'_>) -> Option<Class> {
+    let bob = users.owner(1, 1001)?;
+    if Some(bob) != users.find(b"bob") || users.owner(0, 1001) != users.find(b"alice") {
+        return None;
+    }
+    Some(users.class(bob))
+}
+
+fn sizes(loaded: &LoadedSite<'_>) -> Sizes {
+    (
+        loaded.hosts.len(),
+        loaded.mtrees.len(),
+        loaded.counts.added(),
+        loaded.site.users().len(),
+        loaded.site.groups().len(),
+    )
+}
+
+// The sizes of a site that is accepted, and the class of bob.
+fn accepted(alloc: Global, texts: &[HostText], pins: &[u8]) -> Option<(Sizes, Option<Class>)> {
+    match read_site(alloc, texts, pins) {
+        Ok(loaded) => Some((sizes(&loaded), class_of_bob(loaded.site.users()))),
+        Err(_fault) => None,
+    }
+}
 
 #[test]
 fn whole_site(rt: HostRuntime) -> Result<(), Fail> {
-    let files = b"./bob1 uid=1001 gid=100\n./bob2 uid=1001 gid=100\n";
-    let texts = two_hosts(rt.alloc(), BOB, files)?;
-    let loaded = match read_site(rt.alloc(), &texts, b"user bob 1002\n") {
-        Ok(loaded) => loaded,
-        Err(Fault::Memory) => return Err(AllocError.into()),
-        Err(_fault) => return Err(Fail::new("the site was refused")),
-    };
-    assert_eq!(rt; loaded.hosts.len(), 2);
-    assert_eq!(rt; loaded.mtrees.len(), 2);
-    assert_eq!(rt; loaded.counts.added(), 5);
-    assert_eq!(rt; loaded.site.groups().len(), 1);
-    let users = loaded.site.users();
-    assert_eq!(rt; users.len(), 2);
-    assert_eq!(rt; users.owner(0, 1001), users.find(b"alice"));
-    assert_eq!(rt; users.owner(1, 1001), users.find(b"bob"));
-    let Some(bob) = users.owner(1, 1001) else {
-        return Err(Fail::new("bob has no number"));
-    };
-    assert_eq!(rt; users.class(bob), Class::Pinned(1002));
-    Ok(())
-}
-
-#[test]
-fn pins_before_inventories(rt: HostRuntime) -> Result<(), Fail> {
-    let texts = two_hosts(rt.alloc(), BOB, b"./f uid=x gid=100\n")?;
-    let read = read_site(rt.alloc(), &texts, b"# pins\nuser bob x\n");
-    if matches!(read, Err(Fault::Memory)) {
-        return Err(AllocError.into());
-    }
-    assert!(rt; matches!(read, Err(Fault::BadPins(2))));
-    Ok(())
-}
-
-#[test]
-fn join_before_inventories(rt: HostRuntime) -> Result<(), Fail> {
-    let pinning = b"bob:x:50:100::/home/bob:/bin/sh\n";
-    let texts = two_hosts(rt.alloc(), pinning, b"./f uid=x gid=100\n")?;
-    let read = read_site(rt.alloc(), &texts, b"user alice 50\n");
-    if matches!(read, Err(Fault::Memory)) {
-        return Err(AllocError.into());
-    }
-    assert!(rt; matches!(read, Err(Fault::PinClash { number: 50, .. })));
+    let texts = two_hosts(rt.alloc())?;
+    assert_eq!(rt;
+        accepted(rt.alloc(), &texts, b"user bob 1002\n"),
+        Some(((2, 2, 5, 2, 1), Some(Class::Pinned(1002))))
+    );
     Ok(())
 }
