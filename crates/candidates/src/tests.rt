@@ -108,38 +108,44 @@ fn has_rows(
     Ok(rows.row(0) == first && rows.row(1) == second)
 }
 
+// Whether the two users of the site of the hosts a and b have these candidates.
+fn rows_are(
+    alloc: Global,
+    hosts: (Texts<'_>, Texts<'_>),
+    pins: &[u8],
+    files: &[Files],
+    candidates: (&[Candidate], &[Candidate]),
+) -> Result<bool, AllocError> {
+    match site(alloc, hosts.0, hosts.1, pins) {
+        Some(site) => has_rows(alloc, &site, files, candidates.0, candidates.1),
+        None => Ok(false),
+    }
+}
+
 fn candidate(number: u32, weight: u64) -> Candidate {
     Candidate { number, weight }
 }
 
 #[test]
 fn greedy_trap_rows(rt: HostRuntime) -> Result<(), Fail> {
-    let alloc = rt.alloc();
     let a = (NONE, b"alice:x:1001:100:::\n".as_slice());
     let b = (NONE, b"alice:x:1002:100:::\nbob:x:1001:100:::\n".as_slice());
     let files = [(0, 1001, 10), (1, 1002, 9), (1, 1001, 8)];
     let alice = [candidate(1001, 41), candidate(1002, 37)];
     let bob = [candidate(1001, 33)];
-    match site(alloc, a, b, NONE) {
-        Some(site) => assert!(rt; has_rows(alloc, &site, &files, &alice, &bob)?),
-        None => assert!(rt; false),
-    }
+    assert!(rt; rows_are(rt.alloc(), (a, b), NONE, &files, (&alice, &bob))?);
     Ok(())
 }
 
 // A name in neither range is pinned, and has no candidate; a number that is given away is none either.
 #[test]
 fn rows_of_pinned(rt: HostRuntime) -> Result<(), Fail> {
-    let alloc = rt.alloc();
     let a = (NONE, b"lp:x:7:100:::\nalice:x:1001:100:::\n".as_slice());
     let b = (NONE, b"alice:x:1002:100:::\n".as_slice());
+    let pins = b"user zed 1001\n";
     let files = [(0, 7, 5), (0, 1001, 2)];
-    match site(alloc, a, b, b"user zed 1001\n") {
-        Some(site) => {
-            assert!(rt; has_rows(alloc, &site, &files, &[], &[candidate(1002, 1)])?);
-        }
-        None => assert!(rt; false),
-    }
+    let alice = [candidate(1002, 1)];
+    assert!(rt; rows_are(rt.alloc(), (a, b), pins, &files, (&[], &alice))?);
     Ok(())
 }
 
@@ -199,6 +205,20 @@ fn filled(
     Ok(Some((numbers.0, numbers.1, rows.pool_of(1).len())))
 }
 
+// What is filled for the site of the hosts a and b.
+fn fills(
+    alloc: Global,
+    a: Texts<'_>,
+    b: Texts<'_>,
+    pins: &[u8],
+    first: Option<u32>,
+) -> Result<Option<(u32, u32, u64)>, AllocError> {
+    match site(alloc, a, b, pins) {
+        Some(site) => filled(alloc, &site, first),
+        None => Ok(None),
+    }
+}
+
 #[test]
 fn two_fills(rt: HostRuntime) -> Result<(), Fail> {
     let alloc = rt.alloc();
@@ -220,10 +240,7 @@ fn two_fills(rt: HostRuntime) -> Result<(), Fail> {
         (alice, bob, pinned, None, (1000, 1001, 0)),
         (full, empty, NONE, Some(1000), (1000, 1001, 2)),
     ] {
-        match site(alloc, a, b, pins) {
-            Some(site) => assert_eq!(rt; filled(alloc, &site, first)?, Some(answer)),
-            None => assert!(rt; false),
-        }
+        assert_eq!(rt; fills(alloc, a, b, pins, first)?, Some(answer));
     }
     Ok(())
 }

@@ -146,27 +146,42 @@ fn trap_same(alloc: Global, site: &Site<'_>) -> Option<(bool, bool)> {
     Some((before, after))
 }
 
+// What new counters of the site of alice say to one file.
+fn file_told(
+    alloc: Global,
+    host: u32,
+    uid: u32,
+    gid: u32,
+) -> Option<(Option<OwnerFault>, u64, u64)> {
+    one_file(alloc, &site(alloc, ALICE, b"")?, host, uid, gid)
+}
+
 #[test]
 fn unowned_file(rt: HostRuntime) {
     let alloc = rt.alloc();
-    let joined = site(alloc, ALICE, b"");
-    assert!(rt; joined.is_some());
-    if let Some(site) = joined {
-        let lost = Some(OwnerFault::UnownedUid(1005));
-        let no_group = Some(OwnerFault::UnownedGid(1005));
-        let elsewhere = Some(OwnerFault::UnownedUid(1001));
-        assert_eq!(rt; one_file(alloc, &site, 0, 1005, 100), Some((lost, 0, 0)));
-        assert_eq!(rt;
-            one_file(alloc, &site, 0, 1001, 1005),
-            Some((no_group, 0, 0))
-        );
-        assert_eq!(rt; one_file(alloc, &site, 0, 1005, 1005), Some((lost, 0, 0)));
-        assert_eq!(rt;
-            one_file(alloc, &site, 1, 1001, 100),
-            Some((elsewhere, 0, 0))
-        );
-        assert_eq!(rt; one_file(alloc, &site, 0, 1001, 100), Some((None, 1, 1)));
-    }
+    let lost = Some(OwnerFault::UnownedUid(1005));
+    let no_group = Some(OwnerFault::UnownedGid(1005));
+    let elsewhere = Some(OwnerFault::UnownedUid(1001));
+    assert_eq!(rt; file_told(alloc, 0, 1005, 100), Some((lost, 0, 0)));
+    assert_eq!(rt; file_told(alloc, 0, 1001, 1005), Some((no_group, 0, 0)));
+    assert_eq!(rt; file_told(alloc, 0, 1005, 1005), Some((lost, 0, 0)));
+    assert_eq!(rt; file_told(alloc, 1, 1001, 100), Some((elsewhere, 0, 0)));
+    assert_eq!(rt; file_told(alloc, 0, 1001, 100), Some((None, 1, 1)));
+}
+
+// The counts of a user of the trap.
+fn user_told(alloc: Global, user: u32, number: u32) -> Option<(u64, u64)> {
+    trap_user(alloc, &site(alloc, ALICE, BOTH)?, user, number)
+}
+
+// The counts of the first group of the trap.
+fn group_told(alloc: Global, number: u32) -> Option<(u64, u64)> {
+    trap_group(alloc, &site(alloc, ALICE, BOTH)?, number)
+}
+
+// Whether counters of the trap are the same as others, first without and then with its files.
+fn same_told(alloc: Global) -> Option<(bool, bool)> {
+    trap_same(alloc, &site(alloc, ALICE, BOTH)?)
 }
 
 #[test]
@@ -174,14 +189,10 @@ fn greedy_trap(rt: HostRuntime) {
     certified_is_optimal();
     certified_is_tight();
     let alloc = rt.alloc();
-    let joined = site(alloc, ALICE, BOTH);
-    assert!(rt; joined.is_some());
-    if let Some(site) = joined {
-        assert_eq!(rt; trap_user(alloc, &site, 0, 1001), Some((19, 10)));
-        assert_eq!(rt; trap_user(alloc, &site, 0, 1002), Some((19, 9)));
-        assert_eq!(rt; trap_user(alloc, &site, 1, 1001), Some((8, 8)));
-        assert_eq!(rt; trap_user(alloc, &site, 1, 1002), Some((8, 0)));
-        assert_eq!(rt; trap_group(alloc, &site, 100), Some((27, 27)));
-        assert_eq!(rt; trap_same(alloc, &site), Some((false, true)));
-    }
+    assert_eq!(rt; user_told(alloc, 0, 1001), Some((19, 10)));
+    assert_eq!(rt; user_told(alloc, 0, 1002), Some((19, 9)));
+    assert_eq!(rt; user_told(alloc, 1, 1001), Some((8, 8)));
+    assert_eq!(rt; user_told(alloc, 1, 1002), Some((8, 0)));
+    assert_eq!(rt; group_told(alloc, 100), Some((27, 27)));
+    assert_eq!(rt; same_told(alloc), Some((false, true)));
 }
