@@ -71,7 +71,7 @@ impl<'a> Solved<'a> {
     /// `Fault::InventoryChanged` is answered exactly where the whole logical lines so far have a fault, or a file without
     /// an account. After a fault of either call, want of memory too, it is always that one, and nothing changes. Behind a
     /// fault all that the calls for this host have appended is a prefix of a plan without its `end` line. The first piece
-    /// appends the header, though it be empty.
+    /// appends the header, even if it is empty.
     ///
     /// One pass over the bytes, and a few look-ups by hash for each file.
     pub fn piece(&mut self, bytes: &[u8], plan: &mut Vec<u8>) -> Result<(), Fault<'a>>
