@@ -1,5 +1,5 @@
 -- A first pass, call by call.
-use Rattle.std.proofs.Common.{◌≡◌, ℕ, false, ◌<◌, ◌≤◌, List, [], ◌∷◌, ◌++◌, length, map, Option, Some, None, Result, Ok, Err, refl, sym, ap, subst, ◌∙◌, inl, arith, append-nil, length-append}
+use Rattle.std.proofs.Common.{◌≡◌, ℕ, ◌+◌, false, ◌<◌, ◌≤◌, List, [], ◌∷◌, ◌++◌, length, map, Option, Some, None, Result, Ok, Err, refl, sym, ap, subst, ◌∙◌, inl, arith, append-nil, length-append}
 use Rattle.std.specs.Prelude.{IfSome, IfErr, OnOk}
 use Rattle.std.specs.List.{slice_get}
 use Rattle.std.proofs.lemmas.List.{length-map, map-append}
@@ -16,13 +16,12 @@ use Rattle.ownership.specs.Files.{Added}
 use Rattle.unify_texts.specs.declared.fault.Fault.{Fault}
 use Rattle.unify_texts.specs.declared.fault.Fault.TheVariants.{Memory}
 use Rattle.unify.specs.declared.host.Loaded.{Loaded}
-use Rattle.unify.specs.declared.turn.BothCounts.{BothCounts}
 use Rattle.unify.specs.declared.turn.Turn.{Turn}
 use Rattle.unify.specs.Count.{site_of}
 use Rattle.unify.specs.Loading.{loaded_from}
-use Rattle.unify.specs.Passes.{AreBothMadeFor, AreCounted, ArePassed, BothStandFor, CountingValue, IsAccepted, IsCounting, IsToldAs, StandsFor, TellsFault, TurnsFor, ended_in, fault_met, met_by, met_on}
+use Rattle.unify.specs.Passes.{AreCounted, ArePassed, CountingValue, IsAccepted, IsCounting, IsToldAs, StandBehind, StandsFor, TellsFault, TurnsFor, ended_in, fault_met, met_by, met_on}
 use Rattle.unify.specs.Reading.{added_on, added_from}
-use Rattle.unify.specs.RowFiles.{RowFiles, row_files}
+use Rattle.unify.specs.RowFiles.{RowFiles, row_files, rows_among}
 use Rattle.unify.proofs.Adding.{added_from-push}
 use Rattle.unify.proofs.Sites.{site_given}
 
@@ -62,33 +61,35 @@ pub record IsFreshReader (r : ReaderValue) : Type 0 where
   pub waiting : r.waiting ≡ []
   pub files : standing.files r ≡ []
 
-fresh_counted : (joined : Joined) (index : ℕ) (earlier : List Added) (c : BothCounts) (found : Option Entry) (files : List Entry) → found ≡ None → files ≡ [] → counts.StandsFor joined c.all earlier → counts.StandsFor joined c.own [] → AreCounted joined index earlier c found files
-fresh_counted joined index earlier c (Some e) files none no_files all own = absurd (cc)
-fresh_counted joined index earlier c None files none no_files all own =
-    let both : BothStandFor joined index earlier c [] = record { all = subst (counts.StandsFor joined c.all) (sym (append-nil earlier)) all; own = own } in
-    subst (BothStandFor joined index earlier c) (sym no_files) both
+fresh_counted : (joined : Joined) (index : ℕ) (earlier : List Added) (c : Counted) (found : Option Entry) (files : List Entry) → found ≡ None → files ≡ [] → counts.StandsFor joined c earlier → AreCounted joined index earlier c found files
+fresh_counted joined index earlier c (Some e) files none no_files stands = absurd (cc)
+fresh_counted joined index earlier c None files none no_files stands =
+    let empty : StandBehind joined index earlier c [] = subst (counts.StandsFor joined c) (sym (append-nil earlier)) stands in
+    subst (StandBehind joined index earlier c) (sym no_files) empty
 
-fresh_turn : (joined : Joined) (index : ℕ) (earlier : List Added) (turn : Turn) → IsFreshReader turn.reader → turn.unowned ≡ None → AreBothMadeFor joined turn.counts → counts.StandsFor joined turn.counts.all earlier → counts.StandsFor joined turn.counts.own [] → TurnsFor joined index earlier turn []
-fresh_turn joined index earlier turn fresh none made all own = record {
+fresh_turn : (joined : Joined) (index : ℕ) (earlier : List Added) (turn : Turn) → IsFreshReader turn.reader → turn.unowned ≡ None → counts.IsMadeFor joined turn.counts → counts.StandsFor joined turn.counts earlier → TurnsFor joined index earlier turn []
+fresh_turn joined index earlier turn fresh none made stands = record {
   reading = fresh.stands;
   most = fresh.most;
   going = fresh.going;
   sound = fresh.fault;
   waiting = fresh.waiting;
   made = made;
-  counted = fresh_counted joined index earlier turn.counts turn.unowned turn.reader.files none fresh.files all own;
+  counted = fresh_counted joined index earlier turn.counts turn.unowned turn.reader.files none fresh.files stands;
 }
 
-pub stands_start : (hosts : List Host) (joined : Joined) (turn : Turn) → IsFreshReader turn.reader → turn.unowned ≡ None → AreBothMadeFor joined turn.counts → counts.StandsFor joined turn.counts.all [] → counts.StandsFor joined turn.counts.own [] → StandsFor (record { hosts = hosts; joined = joined; passed = []; turn = turn }) [] []
+pub stands_start : (hosts : List Host) (joined : Joined) (before : RowFiles) (turn : Turn) → IsFreshReader turn.reader → turn.unowned ≡ None → counts.IsMadeFor joined turn.counts → counts.StandsFor joined turn.counts []
+    → ((host : Host) → slice_get hosts 0 ≡ Some host → before ≡ rows_among joined 0 host []) → StandsFor (record { hosts = hosts; joined = joined; passed = []; before = before; turn = turn }) [] []
 unfolding each
-stands_start hosts joined turn fresh none made all own = record {
+stands_start hosts joined before turn fresh none made stands rows = record {
   read = [];
   accepted = ap (each site_of) (loaded_none hosts);
   ended_are = refl;
   read_are = refl;
   few = omega arith;
   passed = refl;
-  turns = fresh_turn joined 0 [] turn fresh none made all own;
+  before = rows;
+  turns = fresh_turn joined 0 [] turn fresh none made stands;
 }
 
 pub stands_fed : (c : CountingValue) (turn : Turn) (ended : List (List ℕ)) (text more : List ℕ) (s : StandsFor c ended text) → TurnsFor c.joined (ended_in c) (added_from 0 s.read) turn more → StandsFor (record c { turn = turn }) ended more
@@ -99,17 +100,18 @@ stands_fed c turn ended text more s turns = record {
   read_are = s.read_are;
   few = s.few;
   passed = s.passed;
+  before = s.before;
   turns = turns;
 }
 
 -- the turn of the next host
-abbrev pub turn_next : Turn → ReaderValue → Counted → Turn
-turn_next turn r next = record turn { reader = r; counts = record turn.counts { own = next } }
+abbrev pub turn_next : Turn → ReaderValue → Turn
+turn_next turn r = record turn { reader = r }
 
 -- behind the end of a host's turn
--- rows: how many files the rows of the host own
-abbrev pub counting_next : CountingValue → Turn → ReaderValue → Counted → RowFiles → CountingValue
-counting_next c turn r next rows = record { hosts = c.hosts; joined = c.joined; passed = c.passed ++ rows ∷ []; turn = turn_next turn r next }
+-- rows: how many files the rows of the host own; before: what the counters tell of the rows of the next
+abbrev pub counting_next : CountingValue → Turn → ReaderValue → RowFiles → RowFiles → CountingValue
+counting_next c turn r rows before = record { hosts = c.hosts; joined = c.joined; passed = c.passed ++ rows ∷ []; before = before; turn = turn_next turn r }
 
 -- the rows of a host more
 passed_push : (passed : List RowFiles) (read : List (Host × List Entry)) (rows : RowFiles) (here : Host × List Entry) → ArePassed passed read → rows ≡ row_files here.0 here.1 → ArePassed (passed ++ rows ∷ []) (read ++ here ∷ [])
@@ -117,25 +119,31 @@ passed_push passed read rows here are is =
     let rows_of : Host × List Entry → RowFiles = λ x. row_files x.0 x.1 in
     ap (λ ps. ps ++ rows ∷ []) are ∙ ap (λ r. map rows_of read ++ r ∷ []) is ∙ sym (map-append rows_of read (here ∷ []))
 
--- rows that were counted from counters of the host's files alone
-abbrev pub AreRowsOf : Joined → ℕ → Host → Counted → RowFiles → Type 0
-AreRowsOf joined index host own rows = (files : List Entry) → counts.StandsFor joined own (map (added_on index) files) → rows ≡ row_files host files
+-- the rows of a host, whose files were counted behind those of the hosts before it
+abbrev pub AreRowsOf : CountingValue → Host → Turn → RowFiles → Type 0
+AreRowsOf c host turn rows = (earlier : List Added) (files : List Entry) → c.before ≡ rows_among c.joined (ended_in c) host earlier → StandBehind c.joined (ended_in c) earlier turn.counts files → rows ≡ row_files host files
 
-pub stands_ended : (c : CountingValue) (turn : Turn) (r : ReaderValue) (next : Counted) (rows : RowFiles) (ended : List (List ℕ)) (text : List ℕ) (host : Host) (s : StandsFor c ended text) → slice_get c.hosts (ended_in c) ≡ Some host → IsAccepted c.joined (ended_in c) host (added_from 0 s.read) turn text → IsFreshReader r
-    → counts.IsMadeFor c.joined next → counts.StandsFor c.joined next [] → AreRowsOf c.joined (ended_in c) host turn.counts.own rows → StandsFor (counting_next c turn r next rows) (ended ++ text ∷ []) []
-stands_ended c turn r next rows ended text host s here a fresh made empty are_rows =
+-- what the counters tell of the rows of the host behind it
+abbrev pub AreRowsBefore : CountingValue → Turn → RowFiles → Type 0
+AreRowsBefore c turn before = (host : Host) (files : List Added) → slice_get c.hosts (ended_in c + 1) ≡ Some host → counts.StandsFor c.joined turn.counts files → before ≡ rows_among c.joined (ended_in c + 1) host files
+
+pub stands_ended : (c : CountingValue) (turn : Turn) (r : ReaderValue) (rows before : RowFiles) (ended : List (List ℕ)) (text : List ℕ) (host : Host) (s : StandsFor c ended text) → slice_get c.hosts (ended_in c) ≡ Some host → IsAccepted c.joined (ended_in c) host (added_from 0 s.read) turn text → IsFreshReader r
+    → AreRowsOf c host turn rows → AreRowsBefore c turn before → StandsFor (counting_next c turn r rows before) (ended ++ text ∷ []) []
+stands_ended c turn r rows before ended text host s here a fresh are_rows are_before =
     let l : Loaded = record { host = host; mtree = text } in
     let more = added_from-push 0 (ended_in c) s.read host a.files (omega (arith, s.read_are)) in
     let there : slice_get c.hosts (length ended) ≡ Some host = subst (λ k. slice_get c.hosts k ≡ Some host) (sym s.ended_are) here in
-    let one = length-append c.passed (rows ∷ []) in
+    let one : length (c.passed ++ rows ∷ []) ≡ ended_in c + 1 = length-append c.passed (rows ∷ []) in
+    let counted : counts.StandsFor c.joined turn.counts (added_from 0 (s.read ++ (host, a.files) ∷ [])) = subst (counts.StandsFor c.joined turn.counts) (sym more) a.counted in
     record {
       read = s.read ++ (host, a.files) ∷ [];
       accepted = ap (each site_of) (loaded_push c.hosts ended host text there) ∙ each_push site_of (loaded_from c.hosts ended) l s.read (host, a.files) s.accepted (site_given l text a.files refl a.are);
       ended_are = omega (arith, s.ended_are, length-append ended (text ∷ []), one);
       read_are = omega (arith, s.read_are, length-append s.read ((host, a.files) ∷ []), one);
       few = omega (arith, s.few, a.few, ap length more, length-append (added_from 0 s.read) (map (added_on (ended_in c)) a.files), length-map a.files (added_on (ended_in c)), one);
-      passed = passed_push c.passed s.read rows (host, a.files) s.passed (are_rows a.files a.counted.own);
-      turns = fresh_turn c.joined (length (c.passed ++ rows ∷ [])) (added_from 0 (s.read ++ (host, a.files) ∷ [])) (turn_next turn r next) fresh a.none (record { all = a.made.all; own = made }) (subst (counts.StandsFor c.joined turn.counts.all) (sym more) a.counted.all) empty;
+      passed = passed_push c.passed s.read rows (host, a.files) s.passed (are_rows (added_from 0 s.read) a.files (s.before host here) a.counted);
+      before = subst (λ (k : ℕ). (next : Host) → slice_get c.hosts k ≡ Some next → before ≡ rows_among c.joined k next (added_from 0 (s.read ++ (host, a.files) ∷ []))) (sym one) (λ next at. are_before next (added_from 0 (s.read ++ (host, a.files) ∷ [])) at counted);
+      turns = fresh_turn c.joined (length (c.passed ++ rows ∷ [])) (added_from 0 (s.read ++ (host, a.files) ∷ [])) (turn_next turn r) fresh a.none a.made counted;
     }
 
 -- ---- faults
@@ -185,25 +193,25 @@ refused_counting c host turn f inv left here met = record {
       absurd (cc);
 }
 
-pub ended_counting : (c : CountingValue) (host : Host) (turn : Turn) (r : ReaderValue) (next : Counted) (rows : RowFiles) → IsCounting c → ended_in c < length c.hosts → slice_get c.hosts (ended_in c) ≡ Some host → turn.unowned ≡ None → IsFreshReader r → counts.IsMadeFor c.joined next → counts.StandsFor c.joined next []
+pub ended_counting : (c : CountingValue) (host : Host) (turn : Turn) (r : ReaderValue) (rows before : RowFiles) → IsCounting c → ended_in c < length c.hosts → slice_get c.hosts (ended_in c) ≡ Some host → turn.unowned ≡ None → IsFreshReader r
     → ((earlier : List Added) (text : List ℕ) → TurnsFor c.joined (ended_in c) earlier c.turn text → IsAccepted c.joined (ended_in c) host earlier turn text)
-    → IfSome (met_by host c.turn) (λ f. ⊥ × (turn ≡ c.turn)) → AreRowsOf c.joined (ended_in c) host turn.counts.own rows → IsCounting (counting_next c turn r next rows)
-ended_counting c host turn r next rows inv left here none_unowned fresh made empty accepted again are_rows = record {
+    → IfSome (met_by host c.turn) (λ f. ⊥ × (turn ≡ c.turn)) → AreRowsOf c host turn rows → AreRowsBefore c turn before → IsCounting (counting_next c turn r rows before)
+ended_counting c host turn r rows before inv left here none_unowned fresh accepted again are_rows are_before = record {
   whole = inv.whole;
   within = omega (arith, left, length-append c.passed (rows ∷ []));
   fresh = λ over. (fresh.files, none_unowned);
   standing = λ none.
       let s = inv.standing (met_here c c.turn host here ∙ unmet (λ f. turn ≡ c.turn) (met_by host c.turn) again) in
-      (s.0 ++ s.1 ∷ [], [], stands_ended c turn r next rows s.0 s.1 host s.2 here (accepted (added_from 0 s.2.read) s.1 s.2.turns) fresh made empty are_rows);
+      (s.0 ++ s.1 ∷ [], [], stands_ended c turn r rows before s.0 s.1 host s.2 here (accepted (added_from 0 s.2.read) s.1 s.2.turns) fresh are_rows are_before);
 }
 
 -- a turn that was accepted has counters that were made for the site
 pub made_ended : (c : CountingValue) (host : Host) (turn : Turn) → IsCounting c → slice_get c.hosts (ended_in c) ≡ Some host
     → ((earlier : List Added) (text : List ℕ) → TurnsFor c.joined (ended_in c) earlier c.turn text → IsAccepted c.joined (ended_in c) host earlier turn text)
-    → IfSome (met_by host c.turn) (λ f. ⊥ × (turn ≡ c.turn)) → counts.IsMadeFor c.joined turn.counts.own
+    → IfSome (met_by host c.turn) (λ f. ⊥ × (turn ≡ c.turn)) → counts.IsMadeFor c.joined turn.counts
 made_ended c host turn inv here accepted again =
     let s = inv.standing (met_here c c.turn host here ∙ unmet (λ f. turn ≡ c.turn) (met_by host c.turn) again) in
-    (accepted (added_from 0 s.2.read) s.1 s.2.turns).made.own
+    (accepted (added_from 0 s.2.read) s.1 s.2.turns).made
 
 pub same_host : (hosts : List Host) (k : ℕ) (a b : Host) → slice_get hosts k ≡ Some a → slice_get hosts k ≡ Some b → a ≡ b
 same_host hosts k a b here there =

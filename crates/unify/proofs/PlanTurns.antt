@@ -4,7 +4,7 @@ use Rattle.std.specs.Prelude.{IfSome, if◌then◌else◌}
 use Rattle.std.specs.List.{All, filter}
 use Rattle.std.specs.Result.{MatchResult, OnOk}
 use Rattle.std.proofs.lemmas.Bool.{true≢false}
-use Rattle.std.proofs.lemmas.List.{get_or_append_left, map-append}
+use Rattle.std.proofs.lemmas.List.{get_or_append_left, length-map, map-append}
 use Rattle.std.proofs.lemmas.List.Concat.{flat_map-append}
 use Rattle.std.proofs.lemmas.List.Elements.{All-append, filter-append}
 use Rattle.idtext.specs.First.{◌>>=◌, first_fault, unless}
@@ -24,7 +24,7 @@ use Rattle.hosts_join.specs.Site.{Joined}
 use Rattle.hosts_join.specs.declared.host.Host.{Host}
 use Rattle.ownership.specs.Counts as counts
 use Rattle.ownership.specs.Counts.{Counted}
-use Rattle.ownership.specs.Faults.{unowned}
+use Rattle.ownership.specs.Files.{Added}
 use Rattle.reown_plan.specs.declared.plan.Owner.{Owner}
 use Rattle.reown_plan.specs.Owners.{owner_of, owner_eq}
 use Rattle.reown_plan.specs.Spelling.{head, line, lines}
@@ -37,10 +37,11 @@ use Rattle.unify.specs.declared.plan_turn.PlanTurn.{PlanTurn}
 use Rattle.unify.specs.declared.plan_turn.Stop.{Stop}
 use Rattle.unify.specs.declared.plan_turn.Stop.TheVariants as stop
 use Rattle.unify.specs.Hosts.{owner_fault, files_of}
-use Rattle.unify.specs.Passes.{IsFirstUnowned}
+use Rattle.unify.specs.Passes.{IsFirstUnowned, StandBehind}
 use Rattle.unify.specs.Reading.{added_on}
-use Rattle.unify.specs.SecondPass.{IsUnfinished, TurnsFor, or_changed, owned_lines, plan_before_end, planned_so_far, second_files, stop_of}
-use Rattle.unify.proofs.Turns.{all_here, all_of_map, files_accepted, files_with, first_at, first_none, grown_files, inventory_is, none-owned}
+use Rattle.unify.specs.RowFiles.{rows_among}
+use Rattle.unify.specs.SecondPass.{CountHosts, IsUnfinished, TurnsFor, or_changed, owned_lines, plan_before_end, planned_so_far, second_files, stop_of}
+use Rattle.unify.proofs.Turns.{all_here, counted_owned, files_accepted, files_with, first_at, first_none, grown_files, inventory_is, none-owned}
 
 -- ---- plans of files behind files
 
@@ -90,6 +91,9 @@ begun_turn host joined merged index old turn text planned turns is =
       sound = turns.sound;
       waiting = turns.waiting;
       made = turns.made;
+      earlier = turns.earlier;
+      few = turns.few;
+      before_are = turns.before_are;
       counted = turns.counted;
       none_unbegun = λ e. absurd (true≢false e);
       planned_is = begun_plan host joined merged index old.is_begun old.reader.files planned turns.none_unbegun turns.planned_is;
@@ -169,10 +173,6 @@ first_more joined index files more e owned first = record {
   unowned_is = first.unowned_is;
 }
 
--- the files that were counted have their owners
-turn_owned : (joined : Joined) (index : ℕ) (c : Counted) (files : List Entry) → counts.StandsFor joined c (map (added_on index) files) → All (IsOwned joined index) files
-turn_owned joined index c files stands = all_of_map (λ f. unowned joined f.host f.uid f.gid ≡ None) (added_on index) files stands.owned
-
 second_faulty : (host : Host) (most : ℕ) (text : List ℕ) (t : TextFault) → most ≡ 16777216 → inventory most text ≡ Err t → second_files host text ≡ Err (InventoryChanged host.name)
 unfolding files_of
 second_faulty host most text t is h =
@@ -214,7 +214,12 @@ pub next_stays : (initial turn : PlanTurn) (after : ReaderValue) (c : Counted) �
     → record turn { reader = after; counts = c } ≡ record initial { reader = record initial.reader { waiting = after.waiting }; counts = c }
 next_stays initial turn after c stays next =
     let same : after ≡ record initial.reader { waiting = after.waiting } = next ∙ ap (λ (t : PlanTurn). record t.reader { waiting = after.waiting }) stays in
-    λ i. record { reader = same i; counts = c; is_begun = (stays i).is_begun; stop = (stays i).stop }
+    λ i. record { reader = same i; counts = c; before = (stays i).before; is_begun = (stays i).is_begun; stop = (stays i).stop }
+
+-- what was told of the rows before stays
+pub rows_before : (joined : Joined) (host : Host) (index : ℕ) (turn new : PlanTurn) (reader : ReaderValue) (earlier : List Added) → new ≡ record turn { reader = reader; counts = new.counts } → turn.before ≡ rows_among joined index host earlier
+    → new.before ≡ rows_among joined index host earlier
+rows_before joined host index turn new reader earlier is before = ap (λ (t : PlanTurn). t.before) is ∙ before
 
 -- the plan has its header, and the reader took more, of which the files wait
 -- text: what came before; fed: what came by now
@@ -238,13 +243,16 @@ GoesOn host joined merged index turn text r planned = MatchResult r (λ _. Turns
 
 module _ (host : Host) (joined : Joined) (merged : Merged) (index : ℕ) (turn : PlanTurn) (after : ReaderValue) (text fed planned : List ℕ) (more : HasMore host joined merged index turn after text fed planned) where
   -- there is room for them
-  pub room_more : (files : List Entry) × counts.StandsFor joined turn.counts (map (added_on index) files) × (length files + length after.waiting ≤ 2147483648)
-  room_more =
+  pub room_more : index < 64 → (earlier : List Added) × (files : List Entry) × StandBehind joined index earlier turn.counts files × (length earlier + length files + length after.waiting ≤ 2147483648)
+  room_more there =
       let most : length after.files ≤ 16777216 = subst (λ n. length after.files ≤ n) (more.most ∙ more.turns.most) (reader-files after fed more.stands).1 in (
+        more.turns.earlier,
         turn.reader.files,
         more.turns.counted,
         omega (
           arith,
+          there,
+          more.turns.few,
           most,
           ap length more.grow.1,
           length-append turn.reader.files more.grow.0,
@@ -275,15 +283,15 @@ module _ (host : Host) (joined : Joined) (merged : Merged) (index : ℕ) (turn :
 
   -- all of them are owned
   pub owned_more : All (IsOwned joined index) after.waiting → All (IsOwned joined index) after.files
-  owned_more owned = subst (All (IsOwned joined index)) (sym files_more) (All-append (IsOwned joined index) turn.reader.files after.waiting (turn_owned joined index turn.counts turn.reader.files more.turns.counted) owned)
+  owned_more owned = subst (All (IsOwned joined index)) (sym files_more) (All-append (IsOwned joined index) turn.reader.files after.waiting (counted_owned joined index more.turns.earlier turn.counts turn.reader.files more.turns.counted) owned)
 
   -- one of them is not
   pub unowned_more : (e : Entry) → IsFirstUnowned joined index after.waiting e → IsFirstUnowned joined index after.files e
-  unowned_more e first = subst (λ fs. IsFirstUnowned joined index fs e) (sym files_more) (first_more joined index turn.reader.files after.waiting e (turn_owned joined index turn.counts turn.reader.files more.turns.counted) first)
+  unowned_more e first = subst (λ fs. IsFirstUnowned joined index fs e) (sym files_more) (first_more joined index turn.reader.files after.waiting e (counted_owned joined index more.turns.earlier turn.counts turn.reader.files more.turns.counted) first)
 
   -- the turn when all of them were appended
   turn_more : (new : PlanTurn) → new ≡ record turn { reader = record after { waiting = [] }; counts = new.counts } → after.is_finished ≡ false → after.fault ≡ None → standing.StandsFor new.reader fed → counts.IsMadeFor joined new.counts
-      → counts.StandsFor joined new.counts (map (added_on index) (turn.reader.files ++ after.waiting)) → TurnsFor host joined merged index new fed (planned ++ lines (plan_of joined merged.users merged.groups index after.waiting))
+      → StandBehind joined index more.turns.earlier new.counts (turn.reader.files ++ after.waiting) → TurnsFor host joined merged index new fed (planned ++ lines (plan_of joined merged.users merged.groups index after.waiting))
   turn_more new is going sound stands made counted =
       let begun : new.is_begun ≡ true = ap (λ (t : PlanTurn). t.is_begun) is ∙ more.begun in
       let files : new.reader.files ≡ after.files = ap (λ (t : PlanTurn). t.reader.files) is in
@@ -295,7 +303,10 @@ module _ (host : Host) (joined : Joined) (merged : Merged) (index : ℕ) (turn :
         sound = ap (λ (t : PlanTurn). t.reader.fault) is ∙ sound;
         waiting = ap (λ (t : PlanTurn). t.reader.waiting) is;
         made = made;
-        counted = subst (λ fs. counts.StandsFor joined new.counts (map (added_on index) fs)) (sym (files ∙ files_more)) counted;
+        earlier = more.turns.earlier;
+        few = more.turns.few;
+        before_are = ap (λ (t : PlanTurn). t.before) is ∙ more.turns.before_are;
+        counted = subst (StandBehind joined index more.turns.earlier new.counts) (sym (files ∙ files_more)) counted;
         none_unbegun = λ e. absurd (true≢false (sym begun ∙ e));
         planned_is = planned_all ∙ ap (plan_before_end host joined merged index) (sym files) ∙ ap (λ b. planned_so_far host joined merged index b new.reader.files) (sym begun);
       }
@@ -317,9 +328,21 @@ module _ (host : Host) (joined : Joined) (merged : Merged) (index : ℕ) (turn :
 
   -- and how the turn and the plan go on
   pub stands_more : (r : Result (Unit {0}) Stop) (new : PlanTurn) (done left : List Entry) → after.waiting ≡ done ++ left → OnOk r (left ≡ []) → OnOk r (new ≡ record turn { reader = record after { waiting = [] }; counts = new.counts }) → after.is_finished ≡ false → after.fault ≡ None
-      → OnOk r (standing.StandsFor new.reader fed) → counts.IsMadeFor joined new.counts → OnOk r (counts.StandsFor joined new.counts (map (added_on index) (turn.reader.files ++ after.waiting)))
+      → OnOk r (standing.StandsFor new.reader fed) → counts.IsMadeFor joined new.counts → OnOk r (StandBehind joined index more.turns.earlier new.counts (turn.reader.files ++ after.waiting))
       → GoesOn host joined merged index new fed r (planned ++ lines (plan_of joined merged.users merged.groups index done))
   stands_more (Ok u) new done left split none is going sound stands made counted =
       let whole : after.waiting ≡ done = split ∙ ap (λ ws. done ++ ws) none ∙ append-nil done in
       subst (λ ws. TurnsFor host joined merged index new fed (planned ++ lines (plan_of joined merged.users merged.groups index ws))) whole (turn_more new is going sound stands made counted)
   stands_more (Err s) new done left split none is going sound stands made counted = unfinished_more done left split
+
+  -- when the inventory ends with them, the files of one host more are counted
+  pub counted_more : (c : Counted) → counts.IsMadeFor joined c → StandBehind joined index more.turns.earlier c (turn.reader.files ++ after.waiting) → CountHosts joined (index + 1) c
+  counted_more c made counted =
+      let most : length after.files ≤ 16777216 = subst (λ n. length after.files ≤ n) (more.most ∙ more.turns.most) (reader-files after fed more.stands).1 in
+      let stands = subst (StandBehind joined index more.turns.earlier c) (sym files_more) counted in
+      record {
+        made = made;
+        earlier = more.turns.earlier ++ map (added_on index) after.files;
+        few = omega (arith, most, more.turns.few, length-append more.turns.earlier (map (added_on index) after.files), length-map after.files (added_on index));
+        stands = stands;
+      }

@@ -1,6 +1,6 @@
 -- The turn of a host.
 use Rattle.std.proofs.Common.{◌≡◌, ℕ, ◌+◌, ◌≤◌, Bool, true, false, cond, List, [], ◌∷◌, ◌++◌, length, map, get_or, Option, Some, None, Result, Ok, Err, refl, sym, ap, subst, ◌∙◌, arith, append_assoc, inl, inr, length-append}
-use Rattle.std.specs.Prelude.{IfSome, IfNone, OnOk}
+use Rattle.std.specs.Prelude.{IfSome, IfNone}
 use Rattle.std.specs.List.{All}
 use Rattle.std.specs.Option.{is_some}
 use Rattle.std.proofs.lemmas.List.Elements.{All-nil, All-cons, All-head, All-tail, All-append}
@@ -20,6 +20,7 @@ use Rattle.hosts_join.specs.Kinds.{user_at, group_at}
 use Rattle.hosts_join.specs.Site.{Joined}
 use Rattle.hosts_join.specs.declared.host.Host.{Host}
 use Rattle.ownership.specs.Counts as counts
+use Rattle.ownership.specs.Counts.{Counted}
 use Rattle.ownership.specs.Faults.{unowned}
 use Rattle.ownership.specs.Files.{Added}
 use Rattle.ownership.specs.declared.OwnerFault.{OwnerFault}
@@ -27,11 +28,10 @@ use Rattle.reown_plan.specs.Target.{IsOwned}
 use Rattle.unify_texts.specs.Told.{told}
 use Rattle.unify_texts.specs.declared.bundle_line.FileName.TheVariants as file
 use Rattle.unify_texts.specs.declared.fault.Fault.{Fault}
-use Rattle.unify.specs.declared.turn.BothCounts.{BothCounts}
 use Rattle.unify.specs.declared.turn.Turn.{Turn}
 use Rattle.unify.specs.Told.{in_file}
 use Rattle.unify.specs.Hosts.{owner_fault, files_of}
-use Rattle.unify.specs.Passes.{is_read, lines_of, IsAccepted, IsFirstUnowned, AreBothMadeFor, AreCounted, BothStandFor, TurnsFor, read_told, or_memory, owner_told, met_at, IsToldAs}
+use Rattle.unify.specs.Passes.{is_read, lines_of, IsAccepted, IsFirstUnowned, AreCounted, StandBehind, TurnsFor, read_told, or_memory, owner_told, met_at, IsToldAs}
 use Rattle.unify.specs.Reading.{added_on}
 use Rattle.unify.proofs.Faults.{told_is}
 use Rattle.unify.proofs.Owners.{owned-here, owned-there, owners-told}
@@ -47,9 +47,13 @@ pub all_of_map : {A B : Type 0} (P : B → Type 0) (g : A → B) (xs : List A) �
 all_of_map P g [] all = All-nil (λ x. P (g x))
 all_of_map P g (x ∷ xs) all = All-cons (λ y. P (g y)) x xs (All-head P (g x) (map g xs) all) (all_of_map P g xs (All-tail P (g x) (map g xs) all))
 
+pub all_right : {A : Type 0} (P : A → Type 0) (xs ys : List A) → All P (xs ++ ys) → All P ys
+all_right P [] ys all = all
+all_right P (x ∷ xs) ys all = all_right P xs ys (All-tail P x (xs ++ ys) all)
+
 -- the files of a host that are counted have their owners
-pub counted_owned : (joined : Joined) (index : ℕ) (earlier : List Added) (c : BothCounts) (files : List Entry) → BothStandFor joined index earlier c files → All (IsOwned joined index) files
-counted_owned joined index earlier c files stands = all_of_map (λ f. unowned joined f.host f.uid f.gid ≡ None) (added_on index) files stands.own.owned
+pub counted_owned : (joined : Joined) (index : ℕ) (earlier : List Added) (c : Counted) (files : List Entry) → StandBehind joined index earlier c files → All (IsOwned joined index) files
+counted_owned joined index earlier c files stands = all_of_map (λ f. unowned joined f.host f.uid f.gid ≡ None) (added_on index) files (all_right (λ f. unowned joined f.host f.uid f.gid ≡ None) earlier (map (added_on index) files) stands.owned)
 
 -- files that came after the first that is not owned
 pub still_first : (joined : Joined) (index : ℕ) (files more : List Entry) (e : Entry) → IsFirstUnowned joined index files e → IsFirstUnowned joined index (files ++ more) e
@@ -63,22 +67,12 @@ still_first joined index files more e first = record {
 }
 
 -- one file more is counted
-pub counted_one : (joined : Joined) (index : ℕ) (earlier : List Added) (old new : BothCounts) (files : List Entry) (file : Entry) → BothStandFor joined index earlier old files
-    → ((fs : List Added) → counts.StandsFor joined old.all fs → counts.StandsFor joined new.all (fs ++ added_on index file ∷ [])) → ((fs : List Added) → counts.StandsFor joined old.own fs → counts.StandsFor joined new.own (fs ++ added_on index file ∷ []))
-    → BothStandFor joined index earlier new (files ++ file ∷ [])
-counted_one joined index earlier old new files file stands all own = record {
-  all = subst (counts.StandsFor joined new.all) (sym (added_both earlier index files (file ∷ []))) (all (earlier ++ map (added_on index) files) stands.all);
-  own = subst (counts.StandsFor joined new.own) (sym (added_both [] index files (file ∷ []))) (own (map (added_on index) files) stands.own);
-}
-
-pub counted_if : {E : Type 0} (joined : Joined) (index : ℕ) (old new : BothCounts) (file : Entry) (r : Result (Unit {0}) E)
-    → ((fs : List Added) → counts.StandsFor joined old.all fs → counts.StandsFor joined new.all (fs ++ added_on index file ∷ [])) → OnOk r ((fs : List Added) → counts.StandsFor joined old.own fs → counts.StandsFor joined new.own (fs ++ added_on index file ∷ []))
-    → OnOk r ((earlier : List Added) (files : List Entry) → BothStandFor joined index earlier old files → BothStandFor joined index earlier new (files ++ file ∷ []))
-counted_if joined index old new file (Ok u) all own = λ earlier files s. counted_one joined index earlier old new files file s all own
-counted_if joined index old new file (Err e) all own = tt
+pub counted_one : (joined : Joined) (index : ℕ) (earlier : List Added) (old new : Counted) (files : List Entry) (file : Entry) → StandBehind joined index earlier old files
+    → ((fs : List Added) → counts.StandsFor joined old fs → counts.StandsFor joined new (fs ++ added_on index file ∷ [])) → StandBehind joined index earlier new (files ++ file ∷ [])
+counted_one joined index earlier old new files file stands added = subst (counts.StandsFor joined new) (sym (added_both earlier index files (file ∷ []))) (added (earlier ++ map (added_on index) files) stands)
 
 -- behind files that are counted, the first that is not owned
-pub first_behind : (joined : Joined) (index : ℕ) (earlier : List Added) (c : BothCounts) (files done after : List Entry) (e : Entry) (fault : OwnerFault) → BothStandFor joined index earlier c files → All (IsOwned joined index) done
+pub first_behind : (joined : Joined) (index : ℕ) (earlier : List Added) (c : Counted) (files done after : List Entry) (e : Entry) (fault : OwnerFault) → StandBehind joined index earlier c files → All (IsOwned joined index) done
     → unowned joined index e.uid e.gid ≡ Some fault → IsFirstUnowned joined index (files ++ (done ++ e ∷ after)) e
 first_behind joined index earlier c files done after e fault stands owned is = record {
   before = files ++ done;
@@ -90,13 +84,13 @@ first_behind joined index earlier c files done after e fault stands owned is = r
 }
 
 -- after the first file that is not owned nothing more is counted
-pub counted_still : (joined : Joined) (index : ℕ) (earlier : List Added) (c d : BothCounts) (found : Option Entry) (e : Entry) (files more : List Entry) → found ≡ Some e → AreCounted joined index earlier c found files → AreCounted joined index earlier d found (files ++ more)
+pub counted_still : (joined : Joined) (index : ℕ) (earlier : List Added) (c d : Counted) (found : Option Entry) (e : Entry) (files more : List Entry) → found ≡ Some e → AreCounted joined index earlier c found files → AreCounted joined index earlier d found (files ++ more)
 counted_still joined index earlier c d None e files more is counted = absurd (cc)
 counted_still joined index earlier c d (Some x) e files more is first = still_first joined index files more x first
 
 -- until then all files are
-pub counted_next : (joined : Joined) (index : ℕ) (earlier : List Added) (old new : BothCounts) (was found : Option Entry) (files more : List Entry) → was ≡ None → AreCounted joined index earlier old was files
-    → ((e : List Added) (fs : List Entry) → BothStandFor joined index e old fs → AreCounted joined index e new found (fs ++ more)) → AreCounted joined index earlier new found (files ++ more)
+pub counted_next : (joined : Joined) (index : ℕ) (earlier : List Added) (old new : Counted) (was found : Option Entry) (files more : List Entry) → was ≡ None → AreCounted joined index earlier old was files
+    → ((e : List Added) (fs : List Entry) → StandBehind joined index e old fs → AreCounted joined index e new found (fs ++ more)) → AreCounted joined index earlier new found (files ++ more)
 counted_next joined index earlier old new (Some x) found files more is counted goes = absurd (cc)
 counted_next joined index earlier old new None found files more is counted goes = goes earlier files counted
 
@@ -218,13 +212,13 @@ kept_going old new (Some f) e is again now = ap (λ (r : ReaderValue). r.is_fini
 -- there is room for the files that came
 pub room_after : (joined : Joined) (index : ℕ) (turn : Turn) (after : ReaderValue) (earlier : List Added) (text fed : List ℕ) → TurnsFor joined index earlier turn text → length earlier ≤ 1073741824
     → standing.StandsFor after fed → after.most ≡ turn.reader.most → standing.GrowAlike turn.reader.files after.files turn.reader.waiting after.waiting
-    → IfNone turn.unowned ((x : List Added) × (fs : List Entry) × BothStandFor joined index x turn.counts fs × (length x + length fs + length after.waiting ≤ 2147483648))
+    → IfNone turn.unowned ((x : List Added) × (fs : List Entry) × StandBehind joined index x turn.counts fs × (length x + length fs + length after.waiting ≤ 2147483648))
 room_after joined index turn after earlier text fed turns few stands same grow = by turn.unowned turns.counted
   where
     most : length after.files ≤ 16777216
     most = subst (λ n. length after.files ≤ n) (same ∙ turns.most) (reader-files after fed stands).1
 
-    by : (o : Option Entry) → AreCounted joined index earlier turn.counts o turn.reader.files → IfNone o ((x : List Added) × (fs : List Entry) × BothStandFor joined index x turn.counts fs × (length x + length fs + length after.waiting ≤ 2147483648))
+    by : (o : Option Entry) → AreCounted joined index earlier turn.counts o turn.reader.files → IfNone o ((x : List Added) × (fs : List Entry) × StandBehind joined index x turn.counts fs × (length x + length fs + length after.waiting ≤ 2147483648))
     by (Some e) counted = tt
     by None counted = (
       earlier,
@@ -249,15 +243,15 @@ grown_files files new_files waiting new_waiting grow none = grow.1 ∙ ap (λ ws
 pub inventory_is : (text : List ℕ) (most : ℕ) (files : List Entry) → most ≡ 16777216 → inventory most text ≡ Ok files → inventory 16777216 text ≡ Ok files
 inventory_is text most files is h = ap (λ n. inventory n text) (sym is) ∙ h
 
-pub refused_at_end : (joined : Joined) (index : ℕ) (host : Host) (earlier : List Added) (c : BothCounts) (found : Option Entry) (e : Entry) (text : List ℕ) (files : List Entry) (said : Fault) → KnowsHost joined index host → found ≡ Some e → AreCounted joined index earlier c found files
+pub refused_at_end : (joined : Joined) (index : ℕ) (host : Host) (earlier : List Added) (c : Counted) (found : Option Entry) (e : Entry) (text : List ℕ) (files : List Entry) (said : Fault) → KnowsHost joined index host → found ≡ Some e → AreCounted joined index earlier c found files
     → inventory 16777216 text ≡ Ok files → IsToldAs (owner_told host found) said → IfSome (told said) (λ f. is_read (files_of (record { host = host; mtree = text })) ≡ Err f)
 refused_at_end joined index host earlier c None e text files said knows is counted h as_told = absurd (cc)
 refused_at_end joined index host earlier c (Some x) e text files said knows is first h as_told = owner_refused joined index host text files x said knows h first as_told
 
 pub accepted_at_end : (joined : Joined) (index : ℕ) (host : Host) (earlier : List Added) (turn : Turn) (text : List ℕ) (files : List Entry) → KnowsHost joined index host → turn.unowned ≡ None → AreCounted joined index earlier turn.counts turn.unowned files
-    → AreBothMadeFor joined turn.counts → inventory 16777216 text ≡ Ok files → IsAccepted joined index host earlier turn text
+    → counts.IsMadeFor joined turn.counts → inventory 16777216 text ≡ Ok files → IsAccepted joined index host earlier turn text
 accepted_at_end joined index host earlier turn text files knows none counted made h =
-    let stands : BothStandFor joined index earlier turn.counts files = subst (λ o. AreCounted joined index earlier turn.counts o files) none counted in
+    let stands : StandBehind joined index earlier turn.counts files = subst (λ o. AreCounted joined index earlier turn.counts o files) none counted in
     record {
       files = files;
       are = files_accepted joined index host text files knows h (counted_owned joined index earlier turn.counts files stands);

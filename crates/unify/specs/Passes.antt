@@ -16,6 +16,7 @@ use Rattle.hosts_join.specs.declared.host.Host.{Host}
 use Rattle.hosts_join.specs.declared.texts.HostText.{HostText}
 use Rattle.mergedfiles.specs.Together.{AreJoined}
 use Rattle.ownership.specs.Counts as counts
+use Rattle.ownership.specs.Counts.{Counted}
 use Rattle.ownership.specs.Faults.{unowned}
 use Rattle.ownership.specs.Files.{Added}
 use Rattle.ownership.specs.declared.OwnerFault.{OwnerFault}
@@ -24,14 +25,13 @@ use Rattle.unify_texts.specs.declared.bundle_line.FileName.TheVariants as file
 use Rattle.unify_texts.specs.declared.fault.Fault.{Fault}
 use Rattle.unify_texts.specs.declared.fault.Fault.TheVariants.{Line, Memory}
 use Rattle.unify.specs.declared.site.JoinedHosts.{JoinedHosts}
-use Rattle.unify.specs.declared.turn.BothCounts.{BothCounts}
 use Rattle.unify.specs.declared.turn.Turn.{Turn}
 use Rattle.unify.specs.Told.{in_file, in_site, in_pins}
 use Rattle.unify.specs.Hosts.{host_of, owner_fault, files_of}
 use Rattle.unify.specs.Count.{site_of}
 use Rattle.unify.specs.Loading.{loaded_from}
 use Rattle.unify.specs.Reading.{added_on, added_from}
-use Rattle.unify.specs.RowFiles.{RowFiles, row_files}
+use Rattle.unify.specs.RowFiles.{RowFiles, row_files, rows_among}
 
 -- ---- what is read before the inventories
 
@@ -83,20 +83,14 @@ pub record IsFirstUnowned (joined : Joined) (index : ℕ) (files : List Entry) (
   pub fault : OwnerFault
   pub unowned_is : unowned joined index e.uid e.gid ≡ Some fault
 
--- counters that were made for the site
-pub record AreBothMadeFor (joined : Joined) (c : BothCounts) : Type 0 where
-  pub all : counts.IsMadeFor joined c.all
-  pub own : counts.IsMadeFor joined c.own
-
--- these files of the host with the index are counted behind those of the hosts before it, and by themselves
+-- these files of the host with the index are counted behind those of the hosts before it
 -- earlier: the files of the hosts before it
-pub record BothStandFor (joined : Joined) (index : ℕ) (earlier : List Added) (c : BothCounts) (files : List Entry) : Type 0 where
-  pub all : counts.StandsFor joined c.all (earlier ++ map (added_on index) files)
-  pub own : counts.StandsFor joined c.own (map (added_on index) files)
+abbrev pub StandBehind : Joined → ℕ → List Added → Counted → List Entry → Type 0
+StandBehind joined index earlier c files = counts.StandsFor joined c (earlier ++ map (added_on index) files)
 
 -- the files of the host are counted, unless one of them is not owned: then it is the first
-abbrev pub AreCounted : Joined → ℕ → List Added → BothCounts → Option Entry → List Entry → Type 0
-AreCounted joined index earlier c None files = BothStandFor joined index earlier c files
+abbrev pub AreCounted : Joined → ℕ → List Added → Counted → Option Entry → List Entry → Type 0
+AreCounted joined index earlier c None files = StandBehind joined index earlier c files
 AreCounted joined index earlier c (Some e) files = IsFirstUnowned joined index files e
 
 -- of the inventory of the host with the index this text has come, in which there is no reader fault so far
@@ -106,7 +100,7 @@ pub record TurnsFor (joined : Joined) (index : ℕ) (earlier : List Added) (turn
   pub going : turn.reader.is_finished ≡ false
   pub sound : turn.reader.fault ≡ None
   pub waiting : turn.reader.waiting ≡ []
-  pub made : AreBothMadeFor joined turn.counts
+  pub made : counts.IsMadeFor joined turn.counts
   pub counted : AreCounted joined index earlier turn.counts turn.unowned turn.reader.files
 
 -- the inventory was ended with this text, which was accepted: its files are counted
@@ -115,8 +109,8 @@ pub record IsAccepted (joined : Joined) (index : ℕ) (host : Host) (earlier : L
   pub are : files_of (record { host = host; mtree = text }) ≡ Ok files
   pub few : length files ≤ 16777216
   pub none : turn.unowned ≡ None
-  pub made : AreBothMadeFor joined turn.counts
-  pub counted : BothStandFor joined index earlier turn.counts files
+  pub made : counts.IsMadeFor joined turn.counts
+  pub counted : StandBehind joined index earlier turn.counts files
 
 -- ---- the fault that ended a reading
 
@@ -152,12 +146,13 @@ TellsFault f (Err e) = IsToldAs f e
 
 -- ---- the first pass
 
--- what contracts see of a first pass: the hosts, their accounts together, how many files each row owns of each host whose inventory was ended, and
--- the turn of the next host
+-- what contracts see of a first pass: the hosts, their accounts together, how many files each row owns of each host whose inventory was ended,
+-- what was counted of the rows of the next host before its turn, and its turn
 pub record CountingValue : Type 0 where
   pub hosts : List Host
   pub joined : Joined
   pub passed : List RowFiles
+  pub before : RowFiles
   pub turn : Turn
 
 -- how many inventories were ended; it is as well the index of the next host
@@ -176,6 +171,7 @@ pub record StandsFor (c : CountingValue) (ended : List (List ℕ)) (text : List 
   pub read_are : length read ≡ ended_in c
   pub few : length (added_from 0 read) ≤ 16777216 * ended_in c
   pub passed : ArePassed c.passed read
+  pub before : (host : Host) → slice_get c.hosts (ended_in c) ≡ Some host → c.before ≡ rows_among c.joined (ended_in c) host (added_from 0 read)
   pub turns : TurnsFor c.joined (ended_in c) (added_from 0 read) c.turn text
 
 -- the fault that it met on the way, if any

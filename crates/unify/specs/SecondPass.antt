@@ -1,5 +1,5 @@
 -- Inventories that come a second time in pieces, host by host, while plans are appended.
-use Rattle.std.specs.Prelude.{◌≡◌, ◌≤◌, ◌⊎◌, ℕ, Bool, true, false, List, [], ◌++◌, map, length, Option, Some, None, Result, Ok, Err, slice_get}
+use Rattle.std.specs.Prelude.{◌≡◌, ◌≤◌, ◌*◌, ◌⊎◌, ℕ, Bool, true, false, List, [], ◌++◌, map, length, Option, Some, None, Result, Ok, Err, slice_get}
 use Rattle.idtext.specs.First.{◌>>=◌, first_fault, unless}
 use Rattle.idtext.specs.declared.faults.ReadError.{ReadError}
 use Rattle.idtext.specs.declared.faults.ReadError.TheVariants as read
@@ -10,6 +10,7 @@ use Rattle.hosts_join.specs.Site.{Joined}
 use Rattle.hosts_join.specs.declared.host.Host.{Host}
 use Rattle.ownership.specs.Counts as counts
 use Rattle.ownership.specs.Counts.{Counted}
+use Rattle.ownership.specs.Files.{Added}
 use Rattle.reown_plan.specs.Spelling.{head, lines, spelling}
 use Rattle.reown_plan.specs.Target.{AreForSite, plan_of}
 use Rattle.unify_texts.specs.declared.fault.Fault.{Fault}
@@ -21,9 +22,9 @@ use Rattle.unify.specs.declared.plan_turn.Stop.TheVariants as stop
 use Rattle.unify.specs.Hosts.{owner_fault, files_of}
 use Rattle.unify.specs.Merging.{IsMerged}
 use Rattle.unify.specs.Passes as first
-use Rattle.unify.specs.Passes.{AreTogether, CountingValue, lines_of}
+use Rattle.unify.specs.Passes.{AreTogether, CountingValue, StandBehind, lines_of}
 use Rattle.unify.specs.Reading.{added_on}
-use Rattle.unify.specs.RowFiles.{RowFiles, row_files}
+use Rattle.unify.specs.RowFiles.{RowFiles, row_files, rows_among}
 
 -- ---- what the second text of an inventory says
 
@@ -77,7 +78,7 @@ stop_of (read.Fault f) = stop.Changed
 stop_of read.Memory = stop.Memory
 
 -- the turn of a host of whose second inventory nothing has come
-pub record IsFreshTurn (counted : Counted) (turn : PlanTurn) : Type 0 where
+pub record IsFreshTurn (turn : PlanTurn) : Type 0 where
   pub goes : turn.stop ≡ None
   pub reading : reader.StandsFor turn.reader []
   pub most : turn.reader.most ≡ 16777216
@@ -85,8 +86,14 @@ pub record IsFreshTurn (counted : Counted) (turn : PlanTurn) : Type 0 where
   pub sound : turn.reader.fault ≡ None
   pub waiting : turn.reader.waiting ≡ []
   pub none : turn.reader.files ≡ []
-  pub counts_are : turn.counts ≡ counted
   pub unbegun : turn.is_begun ≡ false
+
+-- the files of as many hosts as the index says are counted
+pub record CountHosts (joined : Joined) (index : ℕ) (counted : Counted) : Type 0 where
+  pub made : counts.IsMadeFor joined counted
+  pub earlier : List Added
+  pub few : length earlier ≤ 16777216 * index
+  pub stands : counts.StandsFor joined counted earlier
 
 -- of the second inventory of the host with the index this text has come, in which there is no fault so far and each file is owned; and for it this
 -- much of a plan was appended
@@ -98,7 +105,10 @@ pub record TurnsFor (host : Host) (joined : Joined) (merged : Merged) (index : �
   pub sound : turn.reader.fault ≡ None
   pub waiting : turn.reader.waiting ≡ []
   pub made : counts.IsMadeFor joined turn.counts
-  pub counted : counts.StandsFor joined turn.counts (map (added_on index) turn.reader.files)
+  pub earlier : List Added
+  pub few : length earlier ≤ 16777216 * index
+  pub before_are : turn.before ≡ rows_among joined index host earlier
+  pub counted : StandBehind joined index earlier turn.counts turn.reader.files
   pub none_unbegun : turn.is_begun ≡ false → turn.reader.files ≡ []
   pub planned_is : planned ≡ planned_so_far host joined merged index turn.is_begun turn.reader.files
 

@@ -1,30 +1,40 @@
 //! The first pass over inventories that come in pieces: their files are counted.
 
-ghost use Rattle.std.specs.Prelude.{List};
+ghost use Rattle.std.specs.Prelude.{◌≡◌, [], List, slice_get, Some, IfOk};
+ghost use Rattle.hosts_join.specs.declared.host.Host.{Host};
+ghost use Rattle.ownership.specs.Counts as counters;
+ghost use Rattle.ownership.specs.Counts.{IsMadeFor};
+ghost use Rattle.unify.specs.Laws.{IsWhole};
+ghost use Rattle.unify.specs.Loading.{HoldsCounted};
+ghost use Rattle.unify.specs.Merging.{IsMerged};
+ghost use Rattle.unify.specs.Reading.{WholeSite};
+ghost use Rattle.unify.specs.RowFiles.{rows_among};
+ghost use Rattle.unify.specs.SecondPass.{IsFreshTurn};
 
 use crate::host::MOST_FILES;
-use crate::merging::merge_counted;
-use crate::plan_turn::new_turn;
-use crate::row_files::{RowFiles, files_of_rows};
+use crate::merging::{Merged, merge_counted};
+use crate::plan_turn::{PlanTurn, new_turn};
+use crate::row_files::{RowFiles, files_before, files_since};
 use crate::site::begin_site;
 use crate::solved_pass::Solved;
-use crate::turn::{BothCounts, Turn, end_turn, feed_turn};
+use crate::turn::{Turn, end_turn, feed_turn};
 use hosts_join::{Host, HostText, Site};
 use mtree_inv::Reader;
 use ownership::Counts;
-use std::alloc::Global;
+use std::alloc::{AllocError, Global};
 use std::marker::Model;
 use unify_texts::Fault;
 
 /// A site whose inventories come in pieces, host by host, and are counted. It keeps the tables of the hosts, which borrow
-/// their texts, counters for all hosts and for the present one, how many files each row owns of each host that was ended,
-/// and of the present inventory each path once; no text of an inventory is kept.
+/// their texts, counters for all hosts, what these told of the rows of the present host before its turn, how many files
+/// each row owns of each host that was ended, and of the present inventory each path once; no text of an inventory is kept.
 #[derive(Drop)]
 pub struct Counting<'a> {
     alloc: Global,
     hosts: Vec<Host<'a>>,
     site: Site<'a>,
     passed: Vec<RowFiles>,
+    before: RowFiles,
     turn: Turn,
 }
 
@@ -33,9 +43,29 @@ impl<'a> Model for Counting<'a> {
 
     ghost Value = { CountingValue };
 
-    ghost view = { λ c. record { hosts = c.hosts.items; joined = c.site; passed = c.passed.items; turn = c.turn } };
+    ghost view = { λ c. record { hosts = c.hosts.items; joined = c.site; passed = c.passed.items; before = c.before; turn = c.turn } };
 
-    ghost invariant = { λ c. IsCounting (record { hosts = c.hosts.items; joined = c.site; passed = c.passed.items; turn = c.turn }) };
+    ghost invariant = { λ c. IsCounting (record { hosts = c.hosts.items; joined = c.site; passed = c.passed.items; before = c.before; turn = c.turn }) };
+}
+
+// What is merged from the counters, and the turn of the first host in the second pass.
+fn solve_counted(
+    alloc: Global,
+    hosts: &[Host<'_>],
+    site: &Site<'_>,
+    counts: &Counts,
+) -> Result<(Merged, PlanTurn), AllocError>
+    requires { (whole : WholeSite) × IsWhole whole × HoldsCounted whole hosts.now site.now counts.now }
+    ensures merged { IfOk result (λ solved. (whole : WholeSite) → HoldsCounted whole hosts.now site.now counts.now → IsMerged whole solved.0) }
+    ensures fresh { IfOk result (λ solved. IsFreshTurn solved.1) }
+    ensures made { IfOk result (λ solved. IsMadeFor site.now solved.1.counts) }
+    ensures none { IfOk result (λ solved. counters.StandsFor site.now solved.1.counts []) }
+    ensures before { IfOk result (λ solved. (host : Host) → slice_get hosts.now 0 ≡ Some host → solved.1.before ≡ rows_among site.now 0 host []) }
+{
+    let merged = merge_counted(alloc, hosts, site, counts)?;
+    let none = Counts::new(alloc, site)?;
+    let before = files_before(alloc, site, hosts, 0, &none)?;
+    Ok((merged, new_turn(alloc, none, before)))
 }
 
 impl<'a> Counting<'a> {
@@ -63,15 +93,14 @@ impl<'a> Counting<'a> {
         ensures hosts { IfOk result (λ c. length c.hosts ≡ length hosts.now) }
     {
         let begun = begin_site(alloc, hosts, pins)?;
-        let counts = BothCounts {
-            all: Counts::new(alloc, &begun.site)?,
-            own: Counts::new(alloc, &begun.site)?,
-        };
+        let counts = Counts::new(alloc, &begun.site)?;
+        let before = files_before(alloc, &begun.site, begun.hosts.as_slice(), 0, &counts)?;
         Ok(Counting {
             alloc,
             hosts: begun.hosts,
             site: begun.site,
             passed: Vec::new(alloc),
+            before,
             turn: Turn {
                 reader: Reader::new(alloc, MOST_FILES),
                 counts,
@@ -122,11 +151,19 @@ impl<'a> Counting<'a> {
         let index = self.passed.len();
         let host = &self.hosts[index];
         end_turn(self.alloc, &mut self.turn, &self.site, index as u32, host)?;
-        let own = &self.turn.counts.own;
-        let rows = files_of_rows(self.alloc, &self.site, index as u32, host, own)?;
-        let next = Counts::new(self.alloc, &self.site)?;
+        let counts = &self.turn.counts;
+        let rows = files_since(
+            self.alloc,
+            &self.site,
+            index as u32,
+            host,
+            counts,
+            &self.before,
+        )?;
+        let hosts = self.hosts.as_slice();
+        let before = files_before(self.alloc, &self.site, hosts, index + 1, counts)?;
         self.passed.push(rows)?;
-        self.turn.counts.own = next;
+        self.before = before;
         self.turn.reader = Reader::new(self.alloc, MOST_FILES);
         Ok(())
     }
@@ -144,19 +181,20 @@ impl<'a> Counting<'a> {
             hosts,
             site,
             passed,
+            before,
             turn,
         } = self;
-        let Ok(merged) = merge_counted(alloc, &hosts, &site, &turn.counts.all) else {
+        let Ok((merged, first)) = solve_counted(alloc, &hosts, &site, &turn.counts) else {
             let back = Counting {
                 alloc,
                 hosts,
                 site,
                 passed,
+                before,
                 turn,
             };
             return Err((back, Fault::Memory));
         };
-        let counts = turn.counts;
         Ok(Solved {
             alloc,
             hosts,
@@ -164,7 +202,7 @@ impl<'a> Counting<'a> {
             passed,
             merged,
             ended: 0,
-            turn: new_turn(alloc, counts.own),
+            turn: first,
         })
     }
 

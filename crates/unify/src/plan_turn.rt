@@ -1,24 +1,25 @@
 //! The inventory of one host a second time, in pieces, and its plan.
 
-ghost use Rattle.std.specs.Prelude.{◌≡◌, ◌+◌, ◌<◌, ◌≤◌, ◌++◌, ◌∷◌, ℕ, List, [], length, map, All, true, false, if◌then◌else◌, is_ok, Some, None, Ok, Err, IfSome, IfErr, IfOk, OnOk, MatchResult};
+ghost use Rattle.std.specs.Prelude.{◌≡◌, ◌+◌, ◌<◌, ◌≤◌, ◌++◌, ◌∷◌, ℕ, List, [], length, All, true, false, if◌then◌else◌, is_ok, slice_get, Some, None, Ok, Err, IfSome, IfErr, OnOk, OnErr, MatchResult};
 ghost use Rattle.mtree_inv.specs.Standing as standing;
 ghost use Rattle.mtree_inv.specs.declared.entry.Entry.{Entry};
 ghost use Rattle.hosts_join.specs.Laws.{HasLawfulAccounts, KnowsHost};
+ghost use Rattle.hosts_join.specs.declared.host.Host.{Host};
 ghost use Rattle.ownership.specs.Counts.{IsMadeFor, StandsFor};
 ghost use Rattle.ownership.specs.Faults.{unowned};
+ghost use Rattle.ownership.specs.Files.{Added};
 ghost use Rattle.ownership.specs.declared.OwnerFault.{OwnerFault};
 ghost use Rattle.reown_plan.specs.Spelling.{head, lines, end};
 ghost use Rattle.reown_plan.specs.Target.{AreForSite, IsOwned, plan_of};
 ghost use Rattle.unify_texts.specs.declared.fault.Fault.{Fault};
 ghost use Rattle.unify.specs.declared.plan_turn.Stop.TheVariants as stop;
-ghost use Rattle.unify.specs.Passes.{IsFirstUnowned};
-ghost use Rattle.unify.specs.Reading.{added_on};
-ghost use Rattle.unify.specs.RowFiles.{row_files};
-ghost use Rattle.unify.specs.SecondPass.{HaveSameCounts, IsAccepted, IsFreshTurn, IsUnfinished, TurnsFor, owned_lines, second_files, stop_of};
+ghost use Rattle.unify.specs.Passes.{IsFirstUnowned, StandBehind};
+ghost use Rattle.unify.specs.RowFiles.{row_files, rows_among};
+ghost use Rattle.unify.specs.SecondPass.{CountHosts, HaveSameCounts, IsAccepted, IsFreshTurn, IsUnfinished, TurnsFor, owned_lines, second_files, stop_of};
 
 use crate::host::MOST_FILES;
 use crate::merging::Merged;
-use crate::row_files::{RowFiles, are_same, files_of_rows};
+use crate::row_files::{RowFiles, are_same, files_before, files_since};
 use hosts_join::{Host, Site};
 use idtext::ReadError;
 use mtree_inv::{Entry, Reader};
@@ -54,23 +55,27 @@ impl From<ReadError> for Stop {
     }
 }
 
-/// The reader of a host's inventory, counters of its files, whether its plan has its header, and why the reading ended
-/// early, if it did.
+/// The reader of a host's inventory, the counters to which its files are added, behind those of the hosts before it, what
+/// these told of its rows, whether its plan has its header, and why the reading ended early, if it did.
 #[derive(Drop)]
 pub struct PlanTurn {
     pub reader: Reader,
     pub counts: Counts,
+    pub before: RowFiles,
     pub is_begun: bool,
     pub stop: Option<Stop>,
 }
 
-/// The turn of a host of whose second inventory nothing has come, with counters at zero. Takes no memory.
-pub fn new_turn(alloc: Global, counts: Counts) -> PlanTurn
-    ensures { IsFreshTurn counts result }
+/// The turn of a host of whose second inventory nothing has come. Takes no memory.
+pub fn new_turn(alloc: Global, counts: Counts, before: RowFiles) -> PlanTurn
+    ensures fresh { IsFreshTurn result }
+    ensures counts { result.counts ≡ counts }
+    ensures before { result.before ≡ before }
 {
     PlanTurn {
         reader: Reader::new(alloc, MOST_FILES),
         counts,
+        before,
         is_begun: false,
         stop: None,
     }
@@ -102,7 +107,7 @@ fn plan_file(
     requires for_site { AreForSite site.now merged.now.users merged.now.groups }
     ensures made { IsMadeFor site.now counts.new }
     ensures owned { OnOk result (IsOwned site.now index file.now) }
-    ensures counted { OnOk result ((files : List Entry) → StandsFor site.now counts.old (map (added_on index) files) → StandsFor site.now counts.new (map (added_on index) (files ++ file.now ∷ []))) }
+    ensures counted { OnOk result ((earlier : List Added) (files : List Entry) → StandBehind site.now index earlier counts.old files → StandBehind site.now index earlier counts.new (files ++ file.now ∷ [])) }
     ensures plan { plan.new.items ≡ (if is_ok result then plan.old.items ++ lines (plan_of site.now merged.now.users merged.now.groups index (file.now ∷ [])) else plan.old.items) }
     ensures changed { result ≡ Err stop.Changed → (fault : OwnerFault) × (unowned site.now index file.now.uid file.now.gid ≡ Some fault) }
 {
@@ -122,13 +127,13 @@ fn plan_waiting(
     plan: &mut Vec<u8>,
 ) -> Result<(), Stop>
     requires made { IsMadeFor site.now turn.old.counts }
-    requires room { (files : List Entry) × StandsFor site.now turn.old.counts (map (added_on index) files) × (length files + length turn.old.reader.waiting ≤ 2147483648) }
+    requires room { (earlier : List Added) × (files : List Entry) × StandBehind site.now index earlier turn.old.counts files × (length earlier + length files + length turn.old.reader.waiting ≤ 2147483648) }
     requires for_site { AreForSite site.now merged.now.users merged.now.groups }
     ensures made { IsMadeFor site.now turn.new.counts }
     ensures turn { OnOk result (turn.new ≡ record turn.old { reader = record turn.old.reader { waiting = [] }; counts = turn.new.counts }) }
     ensures stands { OnOk result ((text : List ℕ) → standing.StandsFor turn.old.reader text → standing.StandsFor turn.new.reader text) }
     ensures owned { OnOk result (All (IsOwned site.now index) turn.old.reader.waiting) }
-    ensures counted { OnOk result ((files : List Entry) → StandsFor site.now turn.old.counts (map (added_on index) files) → StandsFor site.now turn.new.counts (map (added_on index) (files ++ turn.old.reader.waiting))) }
+    ensures counted { OnOk result ((earlier : List Added) (files : List Entry) → StandBehind site.now index earlier turn.old.counts files → StandBehind site.now index earlier turn.new.counts (files ++ turn.old.reader.waiting)) }
     ensures planned { (done : List Entry) × (left : List Entry) × (turn.old.reader.waiting ≡ done ++ left) × (plan.new.items ≡ plan.old.items ++ lines (plan_of site.now merged.now.users merged.now.groups index done)) × OnOk result (left ≡ []) }
     ensures changed { result ≡ Err stop.Changed → (file : Entry) × IsFirstUnowned site.now index turn.old.reader.waiting file }
 {
@@ -149,6 +154,7 @@ fn read_on(
     plan: &mut Vec<u8>,
 ) -> Result<(), Stop>
     requires goes { (text : List ℕ) × (planned : List ℕ) × TurnsFor host.now site.now merged.now index turn.old text planned }
+    requires there { index < 64 }
     requires known { KnowsHost site.now index host.now }
     requires for_site { AreForSite site.now merged.now.users merged.now.groups }
     ensures told { (text planned : List ℕ) → TurnsFor host.now site.now merged.now index turn.old text planned → MatchResult result (λ _. (files : List Entry) × (owned_lines host.now (text ++ bytes.now) ≡ Ok files)) (λ s. s ≡ stop.Changed → (f : Fault) × (owned_lines host.now (text ++ bytes.now) ≡ Err f)) }
@@ -176,6 +182,7 @@ pub fn feed_plan(
     plan: &mut Vec<u8>,
 ) -> Result<(), Stop>
     requires goes { turn.old.stop ≡ None → (text : List ℕ) × (planned : List ℕ) × TurnsFor host.now site.now merged.now index turn.old text planned }
+    requires there { index < 64 }
     requires known { KnowsHost site.now index host.now }
     requires for_site { AreForSite site.now merged.now.users merged.now.groups }
     ensures told { (text planned : List ℕ) → TurnsFor host.now site.now merged.now index turn.old text planned → MatchResult result (λ _. (files : List Entry) × (owned_lines host.now (text ++ bytes.now) ≡ Ok files)) (λ s. s ≡ stop.Changed → (f : Fault) × (owned_lines host.now (text ++ bytes.now) ≡ Err f)) }
@@ -205,16 +212,19 @@ fn read_end(
     plan: &mut Vec<u8>,
 ) -> Result<(), Stop>
     requires goes { (text : List ℕ) × (planned : List ℕ) × TurnsFor host.now site.now merged.now index turn.old text planned }
+    requires there { index < 64 }
     requires known { KnowsHost site.now index host.now }
     requires for_site { AreForSite site.now merged.now.users merged.now.groups }
     requires lawful { HasLawfulAccounts site.now }
     ensures told { (text planned : List ℕ) (were : List Entry) → TurnsFor host.now site.now merged.now index turn.old text planned → first.now ≡ row_files host.now were → MatchResult result (λ _. (files : List Entry) × (second_files host.now text ≡ Ok files) × HaveSameCounts host.now were files) (λ s. s ≡ stop.Changed → (files : List Entry) → second_files host.now text ≡ Ok files → HaveSameCounts host.now were files → ⊥) }
     ensures stands { (text planned : List ℕ) → TurnsFor host.now site.now merged.now index turn.old text planned → (more : List ℕ) × (plan.new.items ≡ plan.old.items ++ more) × MatchResult result (λ _. IsAccepted host.now site.now merged.now index text (planned ++ more)) (λ _. IsUnfinished host.now site.now merged.now index (planned ++ more)) }
+    ensures counted { OnOk result ((text planned : List ℕ) → TurnsFor host.now site.now merged.now index turn.old text planned → CountHosts site.now (index + 1) turn.new.counts) }
 {
     begin_plan(turn, host, plan)?;
     turn.reader.finish()?;
     plan_waiting(turn, site, merged, index, plan)?;
-    let rows = files_of_rows(*plan.allocator(), site, index, host, &turn.counts)?;
+    let alloc = *plan.allocator();
+    let rows = files_since(alloc, site, index, host, &turn.counts, &turn.before)?;
     if are_same(first, &rows) {
         Ok(())
     } else {
@@ -236,11 +246,13 @@ pub fn finish_plan(
     plan: &mut Vec<u8>,
 ) -> Result<(), Stop>
     requires goes { turn.old.stop ≡ None → (text : List ℕ) × (planned : List ℕ) × TurnsFor host.now site.now merged.now index turn.old text planned }
+    requires there { index < 64 }
     requires known { KnowsHost site.now index host.now }
     requires for_site { AreForSite site.now merged.now.users merged.now.groups }
     requires lawful { HasLawfulAccounts site.now }
     ensures told { (text planned : List ℕ) (were : List Entry) → TurnsFor host.now site.now merged.now index turn.old text planned → first.now ≡ row_files host.now were → MatchResult result (λ _. (files : List Entry) × (second_files host.now text ≡ Ok files) × HaveSameCounts host.now were files) (λ s. s ≡ stop.Changed → (files : List Entry) → second_files host.now text ≡ Ok files → HaveSameCounts host.now were files → ⊥) }
     ensures stands { (text planned : List ℕ) → TurnsFor host.now site.now merged.now index turn.old text planned → (more : List ℕ) × (plan.new.items ≡ plan.old.items ++ more) × MatchResult result (λ _. IsAccepted host.now site.now merged.now index text (planned ++ more)) (λ _. IsUnfinished host.now site.now merged.now index (planned ++ more)) }
+    ensures counted { OnOk result ((text planned : List ℕ) → TurnsFor host.now site.now merged.now index turn.old text planned → CountHosts site.now (index + 1) turn.new.counts) }
     ensures stopped { IfErr result (λ s. turn.new.stop ≡ Some s) }
     ensures again { IfSome turn.old.stop (λ s. (result ≡ Err s) × (turn.new ≡ turn.old) × (plan.new ≡ plan.old)) }
 {
@@ -254,14 +266,30 @@ pub fn finish_plan(
     read
 }
 
-/// Appends the `end` line to a plan, and hands out the turn of the next host. Where memory is refused the text is as before.
-pub fn next_turn(alloc: Global, site: &Site<'_>, plan: &mut Vec<u8>) -> Result<PlanTurn, AllocError>
-    ensures made { IfOk result (λ turn. IsMadeFor site.now turn.counts) }
-    ensures counted { IfOk result (λ turn. StandsFor site.now turn.counts []) }
-    ensures fresh { IfOk result (λ turn. IsFreshTurn turn.counts turn) }
+/// Appends the `end` line to a plan, and begins the turn of the host at the next index, if there is one. Where memory is
+/// refused turn and plan are as before.
+pub fn next_turn(
+    alloc: Global,
+    turn: &mut PlanTurn,
+    site: &Site<'_>,
+    hosts: &[Host<'_>],
+    next: usize,
+    plan: &mut Vec<u8>,
+) -> Result<(), AllocError>
+    requires lawful { HasLawfulAccounts site.now }
+    requires made { IsMadeFor site.now turn.old.counts }
+    requires few { length hosts.now ≤ 64 }
+    ensures fresh { OnOk result (IsFreshTurn turn.new) }
+    ensures counts { OnOk result (turn.new.counts ≡ turn.old.counts) }
+    ensures before { OnOk result ((host : Host) (files : List Added) → slice_get hosts.now next ≡ Some host → StandsFor site.now turn.old.counts files → turn.new.before ≡ rows_among site.now next host files) }
+    ensures failed { OnErr result (turn.new ≡ turn.old) }
     ensures plan { plan.new.items ≡ (if is_ok result then plan.old.items ++ end else plan.old.items) }
 {
-    let counts = Counts::new(alloc, site)?;
+    let before = files_before(alloc, site, hosts, next, &turn.counts)?;
     push_plan_end(plan)?;
-    Ok(new_turn(alloc, counts))
+    turn.reader = Reader::new(alloc, MOST_FILES);
+    turn.before = before;
+    turn.is_begun = false;
+    turn.stop = None;
+    Ok(())
 }

@@ -126,12 +126,19 @@ impl<'a> Solved<'a> {
         ) {
             return Err(stopped(host, stop));
         }
-        let Ok(next) = next_turn(self.alloc, &self.site, plan) else {
+        let next = self.ended + 1;
+        if let Err(_) = next_turn(
+            self.alloc,
+            &mut self.turn,
+            &self.site,
+            self.hosts.as_slice(),
+            next,
+            plan,
+        ) {
             self.turn.stop = Some(Stop::Memory);
             return Err(Fault::Memory);
-        };
-        self.turn = next;
-        self.ended += 1;
+        }
+        self.ended = next;
         Ok(())
     }
 

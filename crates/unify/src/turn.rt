@@ -5,35 +5,28 @@ ghost use Rattle.idtext.specs.First.{Gives};
 ghost use Rattle.mtree_inv.specs.Standing as standing;
 ghost use Rattle.mtree_inv.specs.declared.entry.Entry.{Entry};
 ghost use Rattle.hosts_join.specs.Laws.{KnowsHost};
-ghost use Rattle.ownership.specs.Faults.{unowned};
+ghost use Rattle.ownership.specs.Counts.{IsMadeFor};
 ghost use Rattle.ownership.specs.Files.{Added};
-ghost use Rattle.reown_plan.specs.Target.{IsOwned};
 ghost use Rattle.unify_texts.specs.declared.fault.Fault.{Fault};
 ghost use Rattle.unify_texts.specs.declared.fault.Fault.TheVariants.{Memory};
 ghost use Rattle.unify_texts.specs.Told.{told};
 ghost use Rattle.unify.specs.Hosts.{files_of};
-ghost use Rattle.unify.specs.Passes.{is_read, lines_of, AreBothMadeFor, BothStandFor, AreCounted, TurnsFor, IsAccepted, read_told, owner_told, met_by, IsToldAs, TellsFault};
+ghost use Rattle.unify.specs.Passes.{is_read, lines_of, AreCounted, StandBehind, TurnsFor, IsAccepted, read_told, owner_told, met_by, IsToldAs, TellsFault};
 
 use crate::host::{line_fault, ownership_fault};
 use hosts_join::{Host, Site};
 use idtext::ReadError;
 use mtree_inv::{Entry, Reader};
-use ownership::{Counts, OwnerFault};
+use ownership::Counts;
 use std::alloc::Global;
 use unify_texts::{Fault, FileName};
 
-/// Counters for the files of all hosts so far, and for those of the present host alone.
-#[derive(Drop)]
-pub struct BothCounts {
-    pub all: Counts,
-    pub own: Counts,
-}
-
-/// The reader of a host's inventory, the counters to which its files are added, and the first file without an account.
+/// The reader of a host's inventory, the counters to which its files are added, behind those of the hosts before it, and the
+/// first file without an account.
 #[derive(Drop)]
 pub struct Turn {
     pub reader: Reader,
-    pub counts: BothCounts,
+    pub counts: Counts,
     pub unowned: Option<Entry>,
 }
 
@@ -69,40 +62,22 @@ fn drain(reader: &mut Reader)
     while let Some(_) = reader.next_entry() {}
 }
 
-// Counts a file of the host with the index.
-fn add_to_both(
-    counts: &mut BothCounts,
-    site: &Site<'_>,
-    index: u32,
-    file: &Entry,
-) -> Result<(), OwnerFault>
-    requires made { AreBothMadeFor site.now counts.old }
-    requires room { (earlier : List Added) × (files : List Entry) × BothStandFor site.now index earlier counts.old files × (length earlier + length files + 1 ≤ 2147483648) }
-    ensures made { AreBothMadeFor site.now counts.new }
-    ensures owned { OnOk result (IsOwned site.now index file.now) }
-    ensures counted { OnOk result ((earlier : List Added) (files : List Entry) → BothStandFor site.now index earlier counts.old files → BothStandFor site.now index earlier counts.new (files ++ file.now ∷ [])) }
-    ensures fault { IfErr result (λ e. unowned site.now index file.now.uid file.now.gid ≡ Some e) }
-{
-    counts.all.add(site, index, file)?;
-    counts.own.add(site, index, file)
-}
-
 // Counts the files that wait, up to the first without an account.
 fn count_waiting(
     site: &Site<'_>,
     index: u32,
     from: &mut Reader,
-    counts: &mut BothCounts,
+    counts: &mut Counts,
 ) -> Option<Entry>
-    requires made { AreBothMadeFor site.now counts.old }
-    requires room { (earlier : List Added) × (files : List Entry) × BothStandFor site.now index earlier counts.old files × (length earlier + length files + length from.old.waiting ≤ 2147483648) }
-    ensures made { AreBothMadeFor site.now counts.new }
+    requires made { IsMadeFor site.now counts.old }
+    requires room { (earlier : List Added) × (files : List Entry) × StandBehind site.now index earlier counts.old files × (length earlier + length files + length from.old.waiting ≤ 2147483648) }
+    ensures made { IsMadeFor site.now counts.new }
     ensures stays { from.new ≡ record from.old { waiting = [] } }
     ensures stands { (text : List ℕ) → standing.StandsFor from.old text → standing.StandsFor from.new text }
-    ensures counted { (earlier : List Added) (files : List Entry) → BothStandFor site.now index earlier counts.old files → AreCounted site.now index earlier counts.new result (files ++ from.old.waiting) }
+    ensures counted { (earlier : List Added) (files : List Entry) → StandBehind site.now index earlier counts.old files → AreCounted site.now index earlier counts.new result (files ++ from.old.waiting) }
 {
     while let Some(entry) = from.next_entry() {
-        if let Err(_) = add_to_both(counts, site, index, &entry) {
+        if let Err(_) = counts.add(site, index, &entry) {
             drain(from);
             return Some(entry);
         }
@@ -112,9 +87,9 @@ fn count_waiting(
 
 // Counts the files that wait, unless there was a file without an account before.
 fn count_new(turn: &mut Turn, site: &Site<'_>, index: u32)
-    requires made { AreBothMadeFor site.now turn.old.counts }
-    requires room { IfNone turn.old.unowned ((earlier : List Added) × (files : List Entry) × BothStandFor site.now index earlier turn.old.counts files × (length earlier + length files + length turn.old.reader.waiting ≤ 2147483648)) }
-    ensures made { AreBothMadeFor site.now turn.new.counts }
+    requires made { IsMadeFor site.now turn.old.counts }
+    requires room { IfNone turn.old.unowned ((earlier : List Added) × (files : List Entry) × StandBehind site.now index earlier turn.old.counts files × (length earlier + length files + length turn.old.reader.waiting ≤ 2147483648)) }
+    ensures made { IsMadeFor site.now turn.new.counts }
     ensures stays { turn.new.reader ≡ record turn.old.reader { waiting = [] } }
     ensures stands { (text : List ℕ) → standing.StandsFor turn.old.reader text → standing.StandsFor turn.new.reader text }
     ensures counted { (earlier : List Added) (files : List Entry) → AreCounted site.now index earlier turn.old.counts turn.old.unowned files → AreCounted site.now index earlier turn.new.counts turn.new.unowned (files ++ turn.old.reader.waiting) }

@@ -1,8 +1,5 @@
-use Rattle.std.proofs.Common.{[], ◌∷◌, map, sym, subst}
 use Rattle.std.proofs.lemmas.Result.{err_from_is_err_and}
-use Rattle.ownership.specs.Counts.{StandsFor}
-use Rattle.unify.specs.Reading.{added_on}
-use Rattle.unify.proofs.Turns.{added_both}
+use Rattle.unify.proofs.Turns.{counted_one}
 use Rattle.unify.proofs.PlanTurns.{never-changed}
 use Rattle.unify.proofs.plan_turn.plan_file.Goals as goal
 
@@ -12,5 +9,4 @@ returns-in_err-push_plan_entry-clause-changed c = λ changed.
     absurd (never-changed c.from_residual.result p.0 p.1 p.2 changed)
 
 pub returns-clause-counted : goal.returns-clause-counted
-returns-clause-counted c = λ files s.
-    subst (StandsFor c.args.site.now c.add.new.self) (sym (added_both [] c.args.index files (c.args.file.now ∷ []))) (c.in_default.ensures.added (map (added_on c.args.index) files) s)
+returns-clause-counted c = λ earlier files s. counted_one c.args.site.now c.args.index earlier c.args.counts.now c.add.new.self files c.args.file.now s c.in_default.ensures.added

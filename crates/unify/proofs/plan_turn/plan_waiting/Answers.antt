@@ -1,9 +1,8 @@
-use Rattle.std.proofs.Common.{[], ◌∷◌, ◌++◌, map, sym, ap, subst, ◌∙◌, append_assoc}
+use Rattle.std.proofs.Common.{[], ◌∷◌, ◌++◌, sym, ap, subst, ◌∙◌, append_assoc}
 use Rattle.std.proofs.lemmas.List.Elements.{All-push}
-use Rattle.ownership.specs.Counts.{StandsFor}
 use Rattle.reown_plan.specs.Spelling.{lines}
 use Rattle.reown_plan.specs.Target.{IsOwned, plan_of}
-use Rattle.unify.specs.Reading.{added_on}
+use Rattle.unify.specs.Passes.{StandBehind}
 use Rattle.unify.proofs.PlanTurns.{lines_both, next_stays}
 use Rattle.unify.proofs.plan_turn.plan_waiting.Goals as goal
 
@@ -23,7 +22,7 @@ loop-file-preserved c =
       done = inv.done ++ file ∷ [];
       so_far = inv.so_far ∙ ap (λ ws. inv.done ++ ws) c.in-Some.ensures.next ∙ sym (append_assoc inv.done (file ∷ []) left);
       owned = All-push (IsOwned site index) inv.done file inv.owned c.in_ok-plan_file.ensures.owned;
-      counted = λ files s. subst (λ fs. StandsFor site c.plan_file.new.counts (map (added_on index) fs)) (append_assoc files inv.done (file ∷ [])) (c.in_ok-plan_file.ensures.counted (files ++ inv.done) (inv.counted files s));
+      counted = λ earlier files s. subst (StandBehind site index earlier c.plan_file.new.counts) (append_assoc files inv.done (file ∷ [])) (c.in_ok-plan_file.ensures.counted earlier (files ++ inv.done) (inv.counted earlier files s));
       planned = c.in_ok-plan_file.ensures.plan
           ∙ ap (λ t. t ++ lines (plan_of site merged.users merged.groups index (file ∷ []))) inv.planned
           ∙ append_assoc start (lines (plan_of site merged.users merged.groups index inv.done)) (lines (plan_of site merged.users merged.groups index (file ∷ [])))

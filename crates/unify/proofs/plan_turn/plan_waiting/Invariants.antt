@@ -1,11 +1,12 @@
-use Rattle.std.proofs.Common.{◌≡◌, ◌++◌, ℕ, List, map, length}
+use Rattle.std.proofs.Common.{◌≡◌, ◌++◌, ℕ, List, length}
 use Rattle.std.specs.Prelude.{All}
 use Rattle.mtree_inv.specs.Standing as standing
 use Rattle.mtree_inv.specs.declared.entry.Entry.{Entry}
-use Rattle.ownership.specs.Counts.{IsMadeFor, StandsFor}
+use Rattle.ownership.specs.Counts.{IsMadeFor}
+use Rattle.ownership.specs.Files.{Added}
 use Rattle.reown_plan.specs.Spelling.{lines}
 use Rattle.reown_plan.specs.Target.{IsOwned, plan_of}
-use Rattle.unify.specs.Reading.{added_on}
+use Rattle.unify.specs.Passes.{StandBehind}
 use Rattle.unify.proofs.plan_turn.plan_waiting.Given as goal
 
 -- done: the files that were appended and counted
@@ -17,7 +18,7 @@ invariant-loop-file l = record {
   done : List Entry;
   so_far : l.initial.turn.reader.waiting ≡ done ++ l.turn.reader.waiting;
   owned : All (IsOwned l.site l.index) done;
-  counted : (files : List Entry) → StandsFor l.site l.initial.turn.counts (map (added_on l.index) files) → StandsFor l.site l.turn.counts (map (added_on l.index) (files ++ done));
+  counted : (earlier : List Added) (files : List Entry) → StandBehind l.site l.index earlier l.initial.turn.counts files → StandBehind l.site l.index earlier l.turn.counts (files ++ done);
   planned : l.plan.items ≡ l.initial.plan.items ++ lines (plan_of l.site l.merged.users l.merged.groups l.index done);
 }
 

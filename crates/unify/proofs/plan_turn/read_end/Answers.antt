@@ -1,15 +1,14 @@
-use Rattle.std.proofs.Common.{[], ◌++◌, Err, map, sym, ap, subst, ◌∙◌, append-nil, append_assoc}
+use Rattle.std.proofs.Common.{[], ◌++◌, Err, sym, ap, subst, ◌∙◌, append-nil, append_assoc}
 use Rattle.std.proofs.lemmas.Result.{err_from_is_err_and}
 use Rattle.idtext.proofs.OkLemmas.{ok_same}
 use Rattle.mtree_inv.proofs.StandLemmas.{at_none}
-use Rattle.ownership.specs.Counts.{StandsFor}
 use Rattle.reown_plan.specs.Spelling.{lines}
 use Rattle.reown_plan.specs.Target.{plan_of}
 use Rattle.unify_texts.specs.declared.fault.Fault.TheVariants.{InventoryChanged}
-use Rattle.unify.specs.Reading.{added_on}
+use Rattle.unify.specs.Passes.{StandBehind}
 use Rattle.unify.specs.RowFiles.{row_files}
 use Rattle.unify.specs.SecondPass.{IsUnfinished, second_files}
-use Rattle.unify.proofs.PlanTurns.{begun_turn, files_more, head_left, head_more, memory-changed, more_after, not_both, owned_more, planned_done, room_more, second_changed, second_owned, second_unowned, unfinished_more, unfinished_still, unfinished_turn, unowned_more}
+use Rattle.unify.proofs.PlanTurns.{begun_turn, counted_more, files_more, head_left, head_more, memory-changed, more_after, not_both, owned_more, planned_done, room_more, rows_before, second_changed, second_owned, second_unowned, unfinished_more, unfinished_still, unfinished_turn, unowned_more}
 use Rattle.unify.proofs.plan_turn.read_end.Goals as goal
 
 pub returns-in_err-begin_plan-clause-told : goal.returns-in_err-begin_plan-clause-told
@@ -52,7 +51,7 @@ plan_waiting-requires-clause-room c =
     let host = c.args.host.now in
     let goes = c.requires.goes in
     let more = more_after host c.args.site.now c.args.merged.now c.args.index old turn after goes.0 goes.0 goes.1 goes.2 c.in_ok-begin_plan.ensures.turn c.in_ok-finish.ensures.most c.in_ok-finish.ensures.grow (c.in_ok-finish.ensures.stands goes.0) in
-    room_more host c.args.site.now c.args.merged.now c.args.index turn after goes.0 goes.0 (goes.1 ++ head_left host old.is_begun) more
+    room_more host c.args.site.now c.args.merged.now c.args.index turn after goes.0 goes.0 (goes.1 ++ head_left host old.is_begun) more c.requires.there
 
 pub returns-in_err-plan_waiting-clause-told : goal.returns-in_err-plan_waiting-clause-told
 returns-in_err-plan_waiting-clause-told c = λ text planned were turns stood.
@@ -130,10 +129,10 @@ returns-then-are_same-clause-told c = λ text planned were turns stood.
     let told = at_none _ more.turns.sound (c.in_ok-finish.ensures.told text more.turns.reading) in
     let files = files_more host site merged index turn after text text (planned ++ heading) more in
     let now = c.plan_waiting.new.turn.counts in
-    let counted = subst (λ fs. StandsFor site now (map (added_on index) fs)) (sym files) (c.in_ok-plan_waiting.ensures.counted turn.reader.files more.turns.counted) in (
+    let counted = subst (StandBehind site index more.turns.earlier now) (sym files) (c.in_ok-plan_waiting.ensures.counted more.turns.earlier turn.reader.files more.turns.counted) in (
       after.files,
       second_owned site index host turn.reader.most text after.files c.requires.known more.turns.most told (owned_more host site merged index turn after text text (planned ++ heading) more c.in_ok-plan_waiting.ensures.owned),
-      sym stood ∙ c.are_same.ensures.same c.if-are_same.true ∙ c.in_ok-rows.ensures after.files counted,
+      sym stood ∙ c.are_same.ensures.same c.if-are_same.true ∙ c.in_ok-rows.ensures more.turns.earlier after.files (rows_before site host index (record turn { reader = after }) c.plan_waiting.new.turn _ more.turns.earlier c.in_ok-plan_waiting.ensures.turn more.turns.before_are) counted,
     )
 
 pub returns-then-are_same-clause-stands : goal.returns-then-are_same-clause-stands
@@ -174,9 +173,9 @@ returns-clause-told c = λ text planned were turns stood changed files is same.
     let told = at_none _ more.turns.sound (c.in_ok-finish.ensures.told text more.turns.reading) in
     let all = files_more host site merged index turn after text text (planned ++ heading) more in
     let now = c.plan_waiting.new.turn.counts in
-    let counted = subst (λ fs. StandsFor site now (map (added_on index) fs)) (sym all) (c.in_ok-plan_waiting.ensures.counted turn.reader.files more.turns.counted) in
+    let counted = subst (StandBehind site index more.turns.earlier now) (sym all) (c.in_ok-plan_waiting.ensures.counted more.turns.earlier turn.reader.files more.turns.counted) in
     let whole = second_owned site index host turn.reader.most text after.files c.requires.known more.turns.most told (owned_more host site merged index turn after text text (planned ++ heading) more c.in_ok-plan_waiting.ensures.owned) in
-    c.are_same.ensures.differ c.if-are_same.false (stood ∙ same ∙ ap (row_files host) (ok_same files after.files (sym is ∙ whole)) ∙ sym (c.in_ok-rows.ensures after.files counted))
+    c.are_same.ensures.differ c.if-are_same.false (stood ∙ same ∙ ap (row_files host) (ok_same files after.files (sym is ∙ whole)) ∙ sym (c.in_ok-rows.ensures more.turns.earlier after.files (rows_before site host index (record turn { reader = after }) c.plan_waiting.new.turn _ more.turns.earlier c.in_ok-plan_waiting.ensures.turn more.turns.before_are) counted))
 
 pub returns-clause-stands : goal.returns-clause-stands
 returns-clause-stands c = λ text planned turns.
@@ -196,3 +195,16 @@ returns-clause-stands c = λ text planned turns.
       done.3 ∙ ap (λ t. t ++ added) (c.in_ok-begin_plan.ensures.plan ∙ head_more host old.is_begun start) ∙ append_assoc start heading added,
       subst (IsUnfinished host site merged index) (append_assoc planned heading added) (unfinished_more host site merged index turn after text text (planned ++ heading) more done.0 done.1 done.2),
     )
+
+pub returns-then-are_same-clause-counted : goal.returns-then-are_same-clause-counted
+returns-then-are_same-clause-counted c = λ text planned turns.
+    let old = c.args.turn.now in
+    let turn = c.begin_plan.new.turn in
+    let after = c.finish.new.self in
+    let host = c.args.host.now in
+    let site = c.args.site.now in
+    let merged = c.args.merged.now in
+    let index = c.args.index in
+    let heading = head_left host old.is_begun in
+    let more = more_after host site merged index old turn after text text planned turns c.in_ok-begin_plan.ensures.turn c.in_ok-finish.ensures.most c.in_ok-finish.ensures.grow (c.in_ok-finish.ensures.stands text) in
+    counted_more host site merged index turn after text text (planned ++ heading) more c.plan_waiting.new.turn.counts c.in_ok-plan_waiting.ensures.made (c.in_ok-plan_waiting.ensures.counted more.turns.earlier turn.reader.files more.turns.counted)

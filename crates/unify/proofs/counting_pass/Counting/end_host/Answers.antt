@@ -10,18 +10,36 @@ use Rattle.unify.specs.RowFiles.{RowFiles}
 use Rattle.unify.proofs.Passing.{IsFreshReader, ended_counting, failed_for_memory, made_ended, refused_counting, same_host, stands_ended, turn_next}
 use Rattle.unify.proofs.counting_pass.Counting.end_host.Goals as goal
 
-pub files_of_rows-requires-clause-made : goal.files_of_rows-requires-clause-made
-files_of_rows-requires-clause-made c =
-    let v : CountingValue = record { hosts = c.self.inside.hosts.items; joined = c.self.inside.site; passed = c.self.inside.passed.items; turn = c.self.inside.turn } in
+pub files_since-requires-clause-made : goal.files_since-requires-clause-made
+files_since-requires-clause-made c =
+    let v : CountingValue = record { hosts = c.self.inside.hosts.items; joined = c.self.inside.site; passed = c.self.inside.passed.items; before = c.self.inside.before; turn = c.self.inside.turn } in
     let index : c.len-index.result ≡ length v.passed = omega (arith, c.len-index.ensures, c.self.inside.passed.ok.0) in
     let host = c.index-host.result.now in
     let left : length v.passed < length v.hosts = rw (← c.self.view_is) at c.requires.left in
     let here : slice_get v.hosts (length v.passed) ≡ Some host = slice_get-get_or v.hosts (length v.passed) host left ∙ ap (λ (h : Host). Some h) (sym (rw index at c.index-host.ensures)) in
     made_ended v host c.end_turn.new.turn c.self.invariant here (rw index at c.in_ok-end_turn.ensures.accepted) c.in_ok-end_turn.ensures.again
 
+pub files_before-requires-clause-made : goal.files_before-requires-clause-made
+files_before-requires-clause-made c =
+    let v : CountingValue = record { hosts = c.self.inside.hosts.items; joined = c.self.inside.site; passed = c.self.inside.passed.items; before = c.self.inside.before; turn = c.self.inside.turn } in
+    let index : c.len-index.result ≡ length v.passed = omega (arith, c.len-index.ensures, c.self.inside.passed.ok.0) in
+    let host = c.index-host.result.now in
+    let left : length v.passed < length v.hosts = rw (← c.self.view_is) at c.requires.left in
+    let here : slice_get v.hosts (length v.passed) ≡ Some host = slice_get-get_or v.hosts (length v.passed) host left ∙ ap (λ (h : Host). Some h) (sym (rw index at c.index-host.ensures)) in
+    made_ended v host c.end_turn.new.turn c.self.invariant here (rw index at c.in_ok-end_turn.ensures.accepted) c.in_ok-end_turn.ensures.again
+
+pub invariant_of-self-in_err-before : goal.invariant_of-self-in_err-before
+invariant_of-self-in_err-before c =
+    let v : CountingValue = record { hosts = c.self.inside.hosts.items; joined = c.self.inside.site; passed = c.self.inside.passed.items; before = c.self.inside.before; turn = c.self.inside.turn } in
+    let index : c.len-index.result ≡ length v.passed = omega (arith, c.len-index.ensures, c.self.inside.passed.ok.0) in
+    let host = c.index-host.result.now in
+    let left : length v.passed < length v.hosts = rw (← c.self.view_is) at c.requires.left in
+    let here : slice_get v.hosts (length v.passed) ≡ Some host = slice_get-get_or v.hosts (length v.passed) host left ∙ ap (λ (h : Host). Some h) (sym (rw index at c.index-host.ensures)) in
+    refused_counting v host c.end_turn.new.turn Memory c.self.invariant left here c.in_ok-end_turn.ensures.ended
+
 pub returns-in_err-rows-clause-failed : goal.returns-in_err-rows-clause-failed
 returns-in_err-rows-clause-failed c =
-    let v : CountingValue = record { hosts = c.self.inside.hosts.items; joined = c.self.inside.site; passed = c.self.inside.passed.items; turn = c.self.inside.turn } in
+    let v : CountingValue = record { hosts = c.self.inside.hosts.items; joined = c.self.inside.site; passed = c.self.inside.passed.items; before = c.self.inside.before; turn = c.self.inside.turn } in
     let index : c.len-index.result ≡ length v.passed = omega (arith, c.len-index.ensures, c.self.inside.passed.ok.0) in
     let host = c.index-host.result.now in
     let left : length v.passed < length v.hosts = rw (← c.self.view_is) at c.requires.left in
@@ -29,30 +47,30 @@ returns-in_err-rows-clause-failed c =
     let memory : c.from_residual-in_err-rows.result ≡ Err Memory = search rules in
     failed_for_memory (record v { turn = c.end_turn.new.turn }) host c.from_residual-in_err-rows.result here c.in_ok-end_turn.ensures.ended memory
 
-pub returns-in_err-next-clause-failed : goal.returns-in_err-next-clause-failed
-returns-in_err-next-clause-failed c =
-    let v : CountingValue = record { hosts = c.self.inside.hosts.items; joined = c.self.inside.site; passed = c.self.inside.passed.items; turn = c.self.inside.turn } in
+pub returns-in_err-before-clause-failed : goal.returns-in_err-before-clause-failed
+returns-in_err-before-clause-failed c =
+    let v : CountingValue = record { hosts = c.self.inside.hosts.items; joined = c.self.inside.site; passed = c.self.inside.passed.items; before = c.self.inside.before; turn = c.self.inside.turn } in
     let index : c.len-index.result ≡ length v.passed = omega (arith, c.len-index.ensures, c.self.inside.passed.ok.0) in
     let host = c.index-host.result.now in
     let left : length v.passed < length v.hosts = rw (← c.self.view_is) at c.requires.left in
     let here : slice_get v.hosts (length v.passed) ≡ Some host = slice_get-get_or v.hosts (length v.passed) host left ∙ ap (λ (h : Host). Some h) (sym (rw index at c.index-host.ensures)) in
-    let memory : c.from_residual-in_err-next.result ≡ Err Memory = search rules in
-    failed_for_memory (record v { turn = c.end_turn.new.turn }) host c.from_residual-in_err-next.result here c.in_ok-end_turn.ensures.ended memory
+    let memory : c.from_residual-in_err-before.result ≡ Err Memory = search rules in
+    failed_for_memory (record v { turn = c.end_turn.new.turn }) host c.from_residual-in_err-before.result here c.in_ok-end_turn.ensures.ended memory
 
 pub invariant_of-self-in_err-push : goal.invariant_of-self-in_err-push
 invariant_of-self-in_err-push c =
-    let v : CountingValue = record { hosts = c.self.inside.hosts.items; joined = c.self.inside.site; passed = c.self.inside.passed.items; turn = c.self.inside.turn } in
+    let v : CountingValue = record { hosts = c.self.inside.hosts.items; joined = c.self.inside.site; passed = c.self.inside.passed.items; before = c.self.inside.before; turn = c.self.inside.turn } in
     let index : c.len-index.result ≡ length v.passed = omega (arith, c.len-index.ensures, c.self.inside.passed.ok.0) in
     let host = c.index-host.result.now in
     let left : length v.passed < length v.hosts = rw (← c.self.view_is) at c.requires.left in
     let here : slice_get v.hosts (length v.passed) ≡ Some host = slice_get-get_or v.hosts (length v.passed) host left ∙ ap (λ (h : Host). Some h) (sym (rw index at c.index-host.ensures)) in
     let turn = c.end_turn.new.turn in
     let items : c.push.new.self.items ≡ v.passed = c.in_err-push.ensures.items in
-    subst (λ (ps : List RowFiles). IsCounting (record { hosts = v.hosts; joined = v.joined; passed = ps; turn = turn })) (sym items) (refused_counting v host turn Memory c.self.invariant left here c.in_ok-end_turn.ensures.ended)
+    subst (λ (ps : List RowFiles). IsCounting (record { hosts = v.hosts; joined = v.joined; passed = ps; before = v.before; turn = turn })) (sym items) (refused_counting v host turn Memory c.self.invariant left here c.in_ok-end_turn.ensures.ended)
 
 pub returns-in_err-push-clause-failed : goal.returns-in_err-push-clause-failed
 returns-in_err-push-clause-failed c =
-    let v : CountingValue = record { hosts = c.self.inside.hosts.items; joined = c.self.inside.site; passed = c.self.inside.passed.items; turn = c.self.inside.turn } in
+    let v : CountingValue = record { hosts = c.self.inside.hosts.items; joined = c.self.inside.site; passed = c.self.inside.passed.items; before = c.self.inside.before; turn = c.self.inside.turn } in
     let index : c.len-index.result ≡ length v.passed = omega (arith, c.len-index.ensures, c.self.inside.passed.ok.0) in
     let host = c.index-host.result.now in
     let left : length v.passed < length v.hosts = rw (← c.self.view_is) at c.requires.left in
@@ -61,23 +79,23 @@ returns-in_err-push-clause-failed c =
     let items : c.push.new.self.items ≡ v.passed = c.in_err-push.ensures.items in
     let there : slice_get v.hosts (length c.push.new.self.items) ≡ Some host = subst (λ (ps : List RowFiles). slice_get v.hosts (length ps) ≡ Some host) (sym items) here in
     let memory : c.from_residual-in_err-push.result ≡ Err Memory = search rules in
-    failed_for_memory (record { hosts = v.hosts; joined = v.joined; passed = c.push.new.self.items; turn = turn }) host c.from_residual-in_err-push.result there c.in_ok-end_turn.ensures.ended memory
+    failed_for_memory (record { hosts = v.hosts; joined = v.joined; passed = c.push.new.self.items; before = v.before; turn = turn }) host c.from_residual-in_err-push.result there c.in_ok-end_turn.ensures.ended memory
 
 pub invariant_of-self-2 : goal.invariant_of-self-2
 invariant_of-self-2 c =
-    let v : CountingValue = record { hosts = c.self.inside.hosts.items; joined = c.self.inside.site; passed = c.self.inside.passed.items; turn = c.self.inside.turn } in
+    let v : CountingValue = record { hosts = c.self.inside.hosts.items; joined = c.self.inside.site; passed = c.self.inside.passed.items; before = c.self.inside.before; turn = c.self.inside.turn } in
     let index : c.len-index.result ≡ length v.passed = omega (arith, c.len-index.ensures, c.self.inside.passed.ok.0) in
     let host = c.index-host.result.now in
     let left : length v.passed < length v.hosts = rw (← c.self.view_is) at c.requires.left in
     let here : slice_get v.hosts (length v.passed) ≡ Some host = slice_get-get_or v.hosts (length v.passed) host left ∙ ap (λ (h : Host). Some h) (sym (rw index at c.index-host.ensures)) in
-    let fresh : IsFreshReader c.new-2.result = record { stands = c.new-2.ensures.stands; most = c.new-2.ensures.most; fault = c.new-2.ensures.fault; going = c.new-2.ensures.going; waiting = c.new-2.ensures.waiting; files = c.new-2.ensures.files } in
+    let fresh : IsFreshReader c.new.result = record { stands = c.new.ensures.stands; most = c.new.ensures.most; fault = c.new.ensures.fault; going = c.new.ensures.going; waiting = c.new.ensures.waiting; files = c.new.ensures.files } in
     let items : c.push.new.self.items ≡ v.passed ++ c.in_ok-rows.rows ∷ [] = c.in_ok-push.ensures.items in
-    subst (λ (ps : List RowFiles). IsCounting (record { hosts = v.hosts; joined = v.joined; passed = ps; turn = turn_next c.end_turn.new.turn c.new-2.result c.in_ok-next.next })) (sym items)
-    (ended_counting v host c.end_turn.new.turn c.new-2.result c.in_ok-next.next c.in_ok-rows.rows c.self.invariant left here c.in_ok-end_turn.ensures.none fresh c.in_ok-next.ensures.made c.in_ok-next.ensures.empty (rw index at c.in_ok-end_turn.ensures.accepted) c.in_ok-end_turn.ensures.again (rw index at c.in_ok-rows.ensures))
+    subst (λ (ps : List RowFiles). IsCounting (record { hosts = v.hosts; joined = v.joined; passed = ps; before = c.in_ok-before.before; turn = turn_next c.end_turn.new.turn c.new.result })) (sym items)
+    (ended_counting v host c.end_turn.new.turn c.new.result c.in_ok-rows.rows c.in_ok-before.before c.self.invariant left here c.in_ok-end_turn.ensures.none fresh (rw index at c.in_ok-end_turn.ensures.accepted) c.in_ok-end_turn.ensures.again (rw index at c.in_ok-rows.ensures) (rw (index, c.as_slice-hosts.ensures.value) at c.in_ok-before.ensures))
 
 pub returns-clause-told : goal.returns-clause-told
 returns-clause-told c =
-    let v : CountingValue = record { hosts = c.self.inside.hosts.items; joined = c.self.inside.site; passed = c.self.inside.passed.items; turn = c.self.inside.turn } in
+    let v : CountingValue = record { hosts = c.self.inside.hosts.items; joined = c.self.inside.site; passed = c.self.inside.passed.items; before = c.self.inside.before; turn = c.self.inside.turn } in
     let index : c.len-index.result ≡ length v.passed = omega (arith, c.len-index.ensures, c.self.inside.passed.ok.0) in
     let host = c.index-host.result.now in
     let left : length v.passed < length v.hosts = rw (← c.self.view_is) at c.requires.left in
@@ -87,13 +105,13 @@ returns-clause-told c =
 
 pub returns-clause-stands : goal.returns-clause-stands
 returns-clause-stands c =
-    let v : CountingValue = record { hosts = c.self.inside.hosts.items; joined = c.self.inside.site; passed = c.self.inside.passed.items; turn = c.self.inside.turn } in
+    let v : CountingValue = record { hosts = c.self.inside.hosts.items; joined = c.self.inside.site; passed = c.self.inside.passed.items; before = c.self.inside.before; turn = c.self.inside.turn } in
     let index : c.len-index.result ≡ length v.passed = omega (arith, c.len-index.ensures, c.self.inside.passed.ok.0) in
     let host = c.index-host.result.now in
     let left : length v.passed < length v.hosts = rw (← c.self.view_is) at c.requires.left in
     let here : slice_get v.hosts (length v.passed) ≡ Some host = slice_get-get_or v.hosts (length v.passed) host left ∙ ap (λ (h : Host). Some h) (sym (rw index at c.index-host.ensures)) in
-    let fresh : IsFreshReader c.new-2.result = record { stands = c.new-2.ensures.stands; most = c.new-2.ensures.most; fault = c.new-2.ensures.fault; going = c.new-2.ensures.going; waiting = c.new-2.ensures.waiting; files = c.new-2.ensures.files } in
+    let fresh : IsFreshReader c.new.result = record { stands = c.new.ensures.stands; most = c.new.ensures.most; fault = c.new.ensures.fault; going = c.new.ensures.going; waiting = c.new.ensures.waiting; files = c.new.ensures.files } in
     let items : c.push.new.self.items ≡ v.passed ++ c.in_ok-rows.rows ∷ [] = c.in_ok-push.ensures.items in
     rw (← c.self.view_is)
-    (λ ended text s. subst (λ (ps : List RowFiles). StandsFor (record { hosts = v.hosts; joined = v.joined; passed = ps; turn = turn_next c.end_turn.new.turn c.new-2.result c.in_ok-next.next }) (ended ++ text ∷ []) []) (sym items)
-    (stands_ended v c.end_turn.new.turn c.new-2.result c.in_ok-next.next c.in_ok-rows.rows ended text host s here ((rw index at c.in_ok-end_turn.ensures.accepted) (added_from 0 s.read) text s.turns) fresh c.in_ok-next.ensures.made c.in_ok-next.ensures.empty (rw index at c.in_ok-rows.ensures)))
+    (λ ended text s. subst (λ (ps : List RowFiles). StandsFor (record { hosts = v.hosts; joined = v.joined; passed = ps; before = c.in_ok-before.before; turn = turn_next c.end_turn.new.turn c.new.result }) (ended ++ text ∷ []) []) (sym items)
+    (stands_ended v c.end_turn.new.turn c.new.result c.in_ok-rows.rows c.in_ok-before.before ended text host s here ((rw index at c.in_ok-end_turn.ensures.accepted) (added_from 0 s.read) text s.turns) fresh (rw index at c.in_ok-rows.ensures) (rw (index, c.as_slice-hosts.ensures.value) at c.in_ok-before.ensures)))

@@ -12,7 +12,7 @@ use Rattle.unify.proofs.counting_pass.Counting.piece.Goals as goal
 
 pub invariant_of-self : goal.invariant_of-self
 invariant_of-self c =
-    let v : CountingValue = record { hosts = c.self.inside.hosts.items; joined = c.self.inside.site; passed = c.self.inside.passed.items; turn = c.self.inside.turn } in
+    let v : CountingValue = record { hosts = c.self.inside.hosts.items; joined = c.self.inside.site; passed = c.self.inside.passed.items; before = c.self.inside.before; turn = c.self.inside.turn } in
     let index : c.len-index.result ≡ length v.passed = omega (arith, c.len-index.ensures, c.self.inside.passed.ok.0) in
     let host = c.index-host.result.now in
     let left : length v.passed < length v.hosts = rw (← c.self.view_is) at c.requires.left in
@@ -21,7 +21,7 @@ invariant_of-self c =
 
 pub returns-clause-told : goal.returns-clause-told
 returns-clause-told c =
-    let v : CountingValue = record { hosts = c.self.inside.hosts.items; joined = c.self.inside.site; passed = c.self.inside.passed.items; turn = c.self.inside.turn } in
+    let v : CountingValue = record { hosts = c.self.inside.hosts.items; joined = c.self.inside.site; passed = c.self.inside.passed.items; before = c.self.inside.before; turn = c.self.inside.turn } in
     let index : c.len-index.result ≡ length v.passed = omega (arith, c.len-index.ensures, c.self.inside.passed.ok.0) in
     let host = c.index-host.result.now in
     let left : length v.passed < length v.hosts = rw (← c.self.view_is) at c.requires.left in
@@ -32,13 +32,13 @@ returns-clause-told c =
 
 pub returns-clause-stands : goal.returns-clause-stands
 returns-clause-stands c =
-    let v : CountingValue = record { hosts = c.self.inside.hosts.items; joined = c.self.inside.site; passed = c.self.inside.passed.items; turn = c.self.inside.turn } in
+    let v : CountingValue = record { hosts = c.self.inside.hosts.items; joined = c.self.inside.site; passed = c.self.inside.passed.items; before = c.self.inside.before; turn = c.self.inside.turn } in
     let index : c.len-index.result ≡ length v.passed = omega (arith, c.len-index.ensures, c.self.inside.passed.ok.0) in
     rw (← c.self.view_is) (stands_if v c.feed_turn.new.turn c.args.bytes.now c.feed_turn.result (rw index at c.feed_turn.ensures.stands))
 
 pub returns-clause-failed : goal.returns-clause-failed
 returns-clause-failed c =
-    let v : CountingValue = record { hosts = c.self.inside.hosts.items; joined = c.self.inside.site; passed = c.self.inside.passed.items; turn = c.self.inside.turn } in
+    let v : CountingValue = record { hosts = c.self.inside.hosts.items; joined = c.self.inside.site; passed = c.self.inside.passed.items; before = c.self.inside.before; turn = c.self.inside.turn } in
     let index : c.len-index.result ≡ length v.passed = omega (arith, c.len-index.ensures, c.self.inside.passed.ok.0) in
     let host = c.index-host.result.now in
     let left : length v.passed < length v.hosts = rw (← c.self.view_is) at c.requires.left in
@@ -47,8 +47,8 @@ returns-clause-failed c =
 
 pub returns-clause-again : goal.returns-clause-again
 returns-clause-again c =
-    let v : CountingValue = record { hosts = c.self.inside.hosts.items; joined = c.self.inside.site; passed = c.self.inside.passed.items; turn = c.self.inside.turn } in
-    let new : CountingValue = record { hosts = c.self.inside.hosts.items; joined = c.self.inside.site; passed = c.self.inside.passed.items; turn = c.feed_turn.new.turn } in
+    let v : CountingValue = record { hosts = c.self.inside.hosts.items; joined = c.self.inside.site; passed = c.self.inside.passed.items; before = c.self.inside.before; turn = c.self.inside.turn } in
+    let new : CountingValue = record { hosts = c.self.inside.hosts.items; joined = c.self.inside.site; passed = c.self.inside.passed.items; before = c.self.inside.before; turn = c.feed_turn.new.turn } in
     let index : c.len-index.result ≡ length v.passed = omega (arith, c.len-index.ensures, c.self.inside.passed.ok.0) in
     let host = c.index-host.result.now in
     let left : length v.passed < length v.hosts = rw (← c.self.view_is) at c.requires.left in

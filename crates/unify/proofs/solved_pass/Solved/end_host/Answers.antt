@@ -1,4 +1,4 @@
-use Rattle.std.proofs.Common.{◌≡◌, ℕ, ◌<◌, List, ◌++◌, length, Some, Result, Ok, Err, refl, sym, ap, subst, ◌∙◌, arith, append_assoc}
+use Rattle.std.proofs.Common.{◌≡◌, ℕ, ◌+◌, ◌<◌, List, [], ◌++◌, length, Some, Result, Ok, Err, refl, sym, ap, subst, ◌∙◌, arith, append_assoc}
 use Rattle.std.specs.Prelude.{IfSome}
 use Rattle.std.specs.List.{slice_get}
 use Rattle.std.proofs.lemmas.Option.{slice_get-get_or}
@@ -10,8 +10,8 @@ use Rattle.unify_texts.specs.declared.fault.Fault.{Fault}
 use Rattle.unify_texts.specs.declared.fault.Fault.TheVariants.{InventoryChanged, Memory}
 use Rattle.unify.specs.declared.plan_turn.Stop.TheVariants as stop
 use Rattle.unify.specs.RowFiles.{RowFiles, row_files}
-use Rattle.unify.specs.SecondPass.{HaveSameCounts, IsUnfinished, SolvedValue, StandsFor, fault_met, second_files, whole_plan}
-use Rattle.unify.proofs.SecondPasses.{accepted_unfinished, accepted_whole, again_stopped, changed_told, same_at, stop_met}
+use Rattle.unify.specs.SecondPass.{HaveSameCounts, IsUnfinished, SolvedValue, StandsFor, TurnsFor, fault_met, second_files, whole_plan}
+use Rattle.unify.proofs.SecondPasses.{accepted_unfinished, accepted_whole, again_stopped, changed_told, ended_counts, next_stands, same_at, solving_next, stop_met}
 use Rattle.unify.proofs.solved_pass.Solved.end_host.Goals as goal
 
 pub returns-in-Err-clause-told : goal.returns-in-Err-clause-told
@@ -55,8 +55,8 @@ returns-in-Err-clause-again c =
     subst (λ (w : SolvedValue). IfSome (fault_met w) (λ f. (◌≡◌ {A = Result (Unit {0}) Fault} (Err c.stopped.result) (Err f)) × (record v { turn = c.finish_plan.new.turn } ≡ w) × (c.finish_plan.new.plan ≡ c.args.plan.now))) c.self.view_is
     (again_stopped v c.finish_plan.new.turn host c.in-Err.stop c.stopped.result (c.finish_plan.new.plan ≡ c.args.plan.now) here c.stopped.ensures c.in-Err.ensures.again)
 
-pub returns-in_default-next_turn-clause-planned : goal.returns-in_default-next_turn-clause-planned
-returns-in_default-next_turn-clause-planned c =
+pub returns-in-Err-next_turn-clause-planned : goal.returns-in-Err-next_turn-clause-planned
+returns-in-Err-next_turn-clause-planned c =
     let v : SolvedValue = record { hosts = c.self.inside.hosts.items; joined = c.self.inside.site; passed = c.self.inside.passed.items; merged = c.self.inside.merged; ended = c.self.inside.ended; turn = c.self.inside.turn } in
     let host = c.index-host.result.now in
     let left : v.ended < length v.hosts = rw (← c.self.view_is) at c.requires.left in
@@ -66,10 +66,10 @@ returns-in_default-next_turn-clause-planned c =
     subst (λ (h : Host). StandsFor v h text planned → (more : List ℕ) × (c.next_turn.new.plan.items ≡ c.args.plan.now.items ++ more) × IsUnfinished h v.joined v.merged v.ended (planned ++ more)) (same_at v.hosts v.ended host other here at)
     (λ t.
     let so_far = c.in_default.ensures.stands text planned t in
-    (so_far.0, c.in_default-next_turn.ensures.plan ∙ so_far.1, accepted_unfinished host v.joined v.merged v.ended text (planned ++ so_far.0) so_far.2)) turns)
+    (so_far.0, c.in-Err-next_turn.ensures.plan ∙ so_far.1, accepted_unfinished host v.joined v.merged v.ended text (planned ++ so_far.0) so_far.2)) turns)
 
-pub returns-in_default-next_turn-clause-stopped : goal.returns-in_default-next_turn-clause-stopped
-returns-in_default-next_turn-clause-stopped c =
+pub returns-in-Err-next_turn-clause-stopped : goal.returns-in-Err-next_turn-clause-stopped
+returns-in-Err-next_turn-clause-stopped c =
     let v : SolvedValue = record { hosts = c.self.inside.hosts.items; joined = c.self.inside.site; passed = c.self.inside.passed.items; merged = c.self.inside.merged; ended = c.self.inside.ended; turn = c.self.inside.turn } in
     let host = c.index-host.result.now in
     let left : v.ended < length v.hosts = rw (← c.self.view_is) at c.requires.left in
@@ -100,5 +100,36 @@ returns-clause-planned c =
     subst (λ (h : Host). StandsFor v h text planned → (more : List ℕ) × (c.next_turn.new.plan.items ≡ c.args.plan.now.items ++ more) × ((files : List Entry) × (second_files h text ≡ Ok files) × (planned ++ more ≡ whole_plan h v.joined v.merged v.ended files))) (same_at v.hosts v.ended host other here at)
     (λ t.
     let so_far = c.in_default.ensures.stands text planned t in
-    (so_far.0 ++ end, c.in-Ok.ensures.plan ∙ ap (λ p. p ++ end) so_far.1 ∙ append_assoc c.args.plan.now.items so_far.0 end, (so_far.2.files, so_far.2.are, accepted_whole host v.joined v.merged v.ended text planned so_far.0 so_far.2)))
+    (so_far.0 ++ end, c.in_default-next_turn.ensures.plan ∙ ap (λ p. p ++ end) so_far.1 ∙ append_assoc c.args.plan.now.items so_far.0 end, (so_far.2.files, so_far.2.are, accepted_whole host v.joined v.merged v.ended text planned so_far.0 so_far.2)))
     turns)
+
+pub next_turn-requires-clause-made : goal.next_turn-requires-clause-made
+next_turn-requires-clause-made c =
+    let v : SolvedValue = record { hosts = c.self.inside.hosts.items; joined = c.self.inside.site; passed = c.self.inside.passed.items; merged = c.self.inside.merged; ended = c.self.inside.ended; turn = c.self.inside.turn } in
+    let host = c.index-host.result.now in
+    let left : v.ended < length v.hosts = rw (← c.self.view_is) at c.requires.left in
+    let here : slice_get v.hosts v.ended ≡ Some host = slice_get-get_or v.hosts v.ended host left ∙ ap (λ (h : Host). Some h) (sym c.index-host.ensures) in
+    let counted = ended_counts v host c.finish_plan.new.turn.counts _ _ _ c.self.invariant here c.in_default.ensures.again c.in_default.ensures.counted in
+    counted.made
+
+pub invariant_of-self-2 : goal.invariant_of-self-2
+invariant_of-self-2 c =
+    let v : SolvedValue = record { hosts = c.self.inside.hosts.items; joined = c.self.inside.site; passed = c.self.inside.passed.items; merged = c.self.inside.merged; ended = c.self.inside.ended; turn = c.self.inside.turn } in
+    let host = c.index-host.result.now in
+    let left : v.ended < length v.hosts = rw (← c.self.view_is) at c.requires.left in
+    let here : slice_get v.hosts v.ended ≡ Some host = slice_get-get_or v.hosts v.ended host left ∙ ap (λ (h : Host). Some h) (sym c.index-host.ensures) in
+    let counted = ended_counts v host c.finish_plan.new.turn.counts _ _ _ c.self.invariant here c.in_default.ensures.again c.in_default.ensures.counted in
+    let stands : (next : Host) → slice_get v.hosts (v.ended + 1) ≡ Some next → TurnsFor next v.joined v.merged (v.ended + 1) c.next_turn.new.turn [] [] =
+    λ next at. next_stands v c.finish_plan.new.turn c.next_turn.new.turn next counted c.in_default-next_turn.ensures.fresh c.in_default-next_turn.ensures.counts (rw c.as_slice.ensures.value at c.in_default-next_turn.ensures.before) at in
+    solving_next v c.next_turn.new.turn c.self.invariant left stands
+
+pub returns-clause-next : goal.returns-clause-next
+returns-clause-next c =
+    let v : SolvedValue = record { hosts = c.self.inside.hosts.items; joined = c.self.inside.site; passed = c.self.inside.passed.items; merged = c.self.inside.merged; ended = c.self.inside.ended; turn = c.self.inside.turn } in
+    let host = c.index-host.result.now in
+    let left : v.ended < length v.hosts = rw (← c.self.view_is) at c.requires.left in
+    let here : slice_get v.hosts v.ended ≡ Some host = slice_get-get_or v.hosts v.ended host left ∙ ap (λ (h : Host). Some h) (sym c.index-host.ensures) in
+    let counted = ended_counts v host c.finish_plan.new.turn.counts _ _ _ c.self.invariant here c.in_default.ensures.again c.in_default.ensures.counted in
+    let stands : (next : Host) → slice_get v.hosts (v.ended + 1) ≡ Some next → TurnsFor next v.joined v.merged (v.ended + 1) c.next_turn.new.turn [] [] =
+    λ next at. next_stands v c.finish_plan.new.turn c.next_turn.new.turn next counted c.in_default-next_turn.ensures.fresh c.in_default-next_turn.ensures.counts (rw c.as_slice.ensures.value at c.in_default-next_turn.ensures.before) at in
+    stands
