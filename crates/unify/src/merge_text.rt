@@ -3,7 +3,7 @@
 ghost use Rattle.std.specs.Prelude.{◌≡◌, ◌++◌, OnOk, IfOk, flat_map, codes};
 ghost use Rattle.idtext.specs.Pieces.{lines};
 ghost use Rattle.unify.specs.Lines.{barred, file_lines, merge_lines, plan_lines};
-ghost use Rattle.unify.specs.Output.{Answers, IsMerged};
+ghost use Rattle.unify.specs.Output.{Answers, IsMergeTold};
 ghost use Rattle.unify.specs.Replies.{reply_of};
 
 use crate::merging::consolidate;
@@ -82,7 +82,7 @@ fn outcome_text(alloc: Global, hosts: &[HostText], outcome: &Outcome) -> Result<
 ///
 /// Beside what `consolidate` takes, it is one pass over the texts of the outcome.
 pub fn merge_reply(alloc: Global, hosts: &[HostText], pins: &[u8]) -> Result<Reply, AllocError>
-    ensures { IfOk result (λ reply. Answers (IsMerged hosts.now pins.now) (reply_of reply)) }
+    ensures { IfOk result (λ reply. Answers (IsMergeTold hosts.now pins.now) (reply_of reply)) }
 {
     match consolidate(alloc, hosts, pins) {
         Ok(outcome) => Ok(Reply {

@@ -146,7 +146,7 @@ pub fn merge_loaded(alloc: Global, loaded: &LoadedSite<'_>) -> Result<Outcome, A
 }
 
 /// One passwd and one group for all hosts, the map of every name to its number, its certificate, a report and a plan for
-/// each host, where the map changes the owners of as few files as possible.
+/// each host, where the map changes as few owner and group fields of files as possible.
 ///
 /// It refuses with the first fault of `read_site`, and else for want of memory alone. Several maps may cost the least;
 /// which of them is given is not said.

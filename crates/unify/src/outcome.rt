@@ -1,6 +1,6 @@
 //! What a merge writes.
 
-ghost use Rattle.std.specs.Prelude.{◌≡◌, ◌++◌, ◌∷◌, [], ℕ, List, OnOk};
+ghost use Rattle.std.specs.Prelude.{◌≡◌, ◌++◌, ◌∷◌, [], ℕ, List, OnErr, OnOk};
 
 use crate::counting::Cost;
 use idtext::ByteString;
@@ -36,9 +36,11 @@ impl TextList {
         self.texts.as_slice()
     }
 
-    /// Appends a text, in constant time but for growth. `AllocError` where a growth was refused.
+    /// Appends a text, in constant time but for growth. `AllocError` where a growth was refused; the texts are then as
+    /// before.
     pub fn push(&mut self, text: ByteString) -> Result<(), AllocError>
-        ensures { OnOk result (self.new ≡ self.old ++ text ∷ []) }
+        ensures pushed { OnOk result (self.new ≡ self.old ++ text ∷ []) }
+        ensures err { OnErr result (self.new ≡ self.old) }
     {
         self.texts.push(text)?;
         Ok(())

@@ -4,7 +4,7 @@ ghost use Rattle.std.specs.Prelude.{◌≡◌, Some, Ok, Err, IfOk};
 ghost use Rattle.unify_texts.specs.Told.{told};
 ghost use Rattle.unify_texts.specs.Codes.{code_of, status_of};
 ghost use Rattle.unify.specs.Lines.{cost_lines, accepted_line};
-ghost use Rattle.unify.specs.Output.{counted, check_told, answered};
+ghost use Rattle.unify.specs.Output.{counted, checked, answered};
 ghost use Rattle.unify.specs.Replies.{reply_of};
 
 use crate::counting::{Cost, count};
@@ -103,7 +103,7 @@ pub fn check_reply(
     pins: &[u8],
     certificate: &[u8],
 ) -> Result<Reply, AllocError>
-    ensures { IfOk result (λ reply. reply_of reply ≡ answered (check_told hosts.now pins.now certificate.now)) }
+    ensures { IfOk result (λ reply. reply_of reply ≡ answered (checked hosts.now pins.now certificate.now)) }
 {
     match verify(alloc, hosts, pins, certificate) {
         Ok(cost) => Ok(Reply {

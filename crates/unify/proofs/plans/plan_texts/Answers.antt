@@ -37,7 +37,7 @@ loop-index-preserved c = λ files read.
     let text = c.from_vec.ensures ∙ c.in_ok-text.ensures ∙ ap (λ fs. spelling (host_plan c.args.hosts.now c.args.site.now m.users m.groups i fs)) same in
     let next : suc i ≡ i + 1 = omega arith in
     let index : i ≡ 0 + i = omega arith in
-    c.in_ok-push.ensures
+    c.in_ok-push.ensures.pushed
     ∙ ap (λ t. t ++ c.from_vec.result ∷ []) (c.loop-index.invariant files read)
     ∙ ap (λ t. plan_texts_from c.args.hosts.now c.args.site.now m 0 (take i files) ++ t ∷ []) text
     ∙ ap (λ k. plan_texts_from c.args.hosts.now c.args.site.now m 0 (take i files) ++ spelling (host_plan c.args.hosts.now c.args.site.now m.users m.groups k (get_or files i [])) ∷ []) index
