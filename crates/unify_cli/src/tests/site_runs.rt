@@ -145,6 +145,26 @@ fn site_not_done(rt: HostRuntime) -> Result<(), Fail> {
     Ok(())
 }
 
+// The first file of the first host has the user with the number.
+fn check_first(rt: &impl Abort, run: SiteRun, uid: u32) {
+    let mut trees = run.trees;
+    assert!(rt; trees.len() == 2);
+    let file: File = (b"alice1", uid);
+    check_tree(rt, &mut trees[0], [file].as_slice());
+}
+
+// A stop loses a write that was not synced, or does not, as the choice says.
+#[test]
+fn stop_keeps_the_choice(rt: HostRuntime) -> Result<(), Fail> {
+    let alloc = rt.alloc();
+    let hosts = hosts(alloc)?;
+    let events = [Event::Advance(0), Event::Advance(0), Event::Stop(0)];
+    for (keep, uid) in [(Keep::Lost, 1001), (Keep::All, 1002)] {
+        check_first(&rt, rehearsed(alloc, &hosts, keep, events.as_slice())?, uid);
+    }
+    Ok(())
+}
+
 // A generator of numbers that only look random.
 #[derive(Drop)]
 struct Draw {
