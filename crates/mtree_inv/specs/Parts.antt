@@ -1,4 +1,4 @@
--- What a reader that has met no fault stands for.
+-- Words of private contracts: what a reader that has met no fault stands for.
 use Rattle.std.specs.Prelude.{◌≡◌, ℕ, Bool, not, ◌&&◌, ◌==◌, List, ◌++◌, Some, None, Result, Ok, Err}
 use Rattle.idtext.specs.declared.faults.TextCode.{TextCode}
 use Rattle.idtext.specs.declared.faults.TextFault.{TextFault}

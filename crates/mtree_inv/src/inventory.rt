@@ -33,7 +33,7 @@ impl Inventory {
     ghost use Rattle.std.specs.Prelude.{◌≡◌};
     ghost use Rattle.mtree_inv.specs.Files.{AreFiles};
 
-    /// Its files. They have paths of their own, of 1 to 65,535 bytes without NUL, and numbers of at most 4294967294. Takes no memory.
+    /// Its files. No two have one path; a path has 1 to 65,535 bytes without NUL, and a number is at most 4294967294. Takes no memory.
     pub fn entries(&self) -> &[Entry]
         ensures files { result.now ≡ self.now }
         ensures lawful { AreFiles self.now }
@@ -62,7 +62,8 @@ fn all_entries(alloc: Global, reader: Reader) -> Result<Vec<Entry>, ReadError>
 /// `CutContinuation`, `BadCommand`, `DotDotAbove`, `BadPath`, `BadNumber`, `NoUid`, `NoGid`, `OwnersDiffer`, `TooManyEntries`, in this
 /// order. The line is counted from 1, and of lines that are joined it is the first. `ReadError::Memory` says that memory was refused.
 ///
-/// One pass over the text, with one hash look-up for each entry. Each path stands in memory twice until the call returns.
+/// One pass over the text and over the whole path of each entry; one or two look-ups by hash an entry. Each path stands in memory
+/// twice until the call returns; until then it also keeps the current directory's path and a number for each open directory.
 pub fn read_inventory(alloc: Global, text: &[u8], most: u32) -> Result<Inventory, ReadError>
     ensures exact { Gives (λ inventory. inventory) fault_told result (inventory most text.now) }
     ensures few { IfOk result (λ inventory. length inventory ≤ most) }

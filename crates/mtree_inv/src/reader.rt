@@ -11,7 +11,7 @@ use std::marker::Model;
 /// states. Files can be taken while it reads.
 ///
 /// It keeps each path once and the line in progress, of which it keeps 65,535 bytes at most, and not the text. A file that waits to be
-/// taken has a copy of its path.
+/// taken has a copy of its path. It also keeps the current directory's path and a number for each open directory.
 #[derive(Drop)]
 pub struct Reader {
     parts: Parts,
@@ -57,7 +57,7 @@ impl Reader {
     /// lines so far have a fault, with the first, and `ReadError::Memory` where memory was refused. After a fault, `Memory` too, it is
     /// always that one and nothing changes; files read before it can still be taken.
     ///
-    /// One pass over the piece, with one hash look-up for each entry.
+    /// One pass over the piece and over the whole path of each entry; one or two look-ups by hash an entry.
     pub fn feed(&mut self, piece: &[u8]) -> Result<(), ReadError>
         requires { self.old.is_finished ≡ false }
         ensures stands { (text : List ℕ) → StandsFor self.old text → StandsFor self.new (text ++ piece.now) }

@@ -166,6 +166,21 @@ fn finishes_once_and_keeps_a_fault(rt: HostRuntime) -> Result<(), Fail> {
     Ok(())
 }
 
+// To be run with each growth refused in turn.
+#[test]
+fn refused_reader_keeps_its_fault(rt: HostRuntime) -> Result<(), Fail> {
+    let mut reader = Reader::new(rt.alloc(), 9);
+    let fed = reader.feed(b"./f uid=1 gid=2\n");
+    if fed.is_err() {
+        assert_eq!(rt; reader.feed(b"./g uid=1 gid=2\n"), fed);
+    }
+    let mut files = String::new(rt.alloc());
+    drain(rt.alloc(), &mut reader, &mut files)?;
+    let want = if fed.is_ok() { "f 1 2\n" } else { "" };
+    assert_eq!(rt; files.as_str(), want);
+    Ok(())
+}
+
 #[test]
 fn too_many_entries(rt: HostRuntime) -> Result<(), Fail> {
     assert_eq!(rt;
