@@ -1,4 +1,5 @@
 -- Laws over the ranges of numbers, in the words of sets.
+-- Source: login.defs(5) of the shadow suite for the ranges; the laws say that a range is the set of its numbers.
 use Rattle.std.specs.Prelude.{◌≡◌, ◌<◌, ◌&&◌, ◌↔◌, ℕ, IsTrue, count_by}
 use Rattle.std.specs.List.{range_with_len}
 use Rattle.logindefs.specs.declared.ranges.IdRange.{IdRange}
