@@ -13,7 +13,7 @@ use Rattle.idtext.specs.declared.faults.TextFault.{TextFault}
 use Rattle.idtext.specs.First.{◌>>=◌, or_else, first_fault, unless}
 use Rattle.idtext.specs.Numbers.{id_of, numeral}
 use Rattle.idtext.specs.Pieces.{lines, fields_of}
-use Rattle.accounts.specs.Laws.{AreDistinct, AreIds, IsTable, IsPasswdTable, HavePrimaryGroups, IsGroupTable}
+use Rattle.accounts.specs.Laws.{AreDistinct, AreIds, IsTable, IsPasswdTable, HaveLawfulGids, IsGroupTable}
 use Rattle.idtext.specs.Names.{is_lawful_name}
 use Rattle.accounts.specs.Lines.{is_kept}
 use Rattle.accounts.specs.Rows.{Passwd, Group, passwd_from, passwd_line, group_from, group_line, named, numbered}
@@ -257,7 +257,7 @@ pub passwd-law : (text : List ℕ) (rows : List Passwd) → passwd_table text �
 unfolding passwd_table
 passwd-law text rows e = table-law passwd_line (λ row. row.name) (λ row. row.uid) passwd_row-lawful text rows e
 
-pub primary_groups-law : (text : List ℕ) (rows : List Passwd) → passwd_table text ≡ Ok rows → HavePrimaryGroups rows
+pub primary_groups-law : (text : List ℕ) (rows : List Passwd) → passwd_table text ≡ Ok rows → HaveLawfulGids rows
 unfolding passwd_table
 primary_groups-law text rows e =
     ids-law passwd_line (λ row. row.name) (λ row. row.uid) passwd_row-lawful (λ row. row.gid) (λ n line row is. (passwd_line-lawful n line row is).3) text rows e

@@ -155,7 +155,7 @@ impl<'a> GroupTable<'a> {
     pub fn by_name(&self, name: &[u8]) -> Option<&GroupRow<'a>>
         ensures { option_copied result ≡ find (λ row. bytes_eq name.now row.name) self.now }
     {
-        let place = self.index.place_of_name(name)?;
+        let place = self.index.index_of_name(name)?;
         Some(&self.rows[place])
     }
 
@@ -163,7 +163,7 @@ impl<'a> GroupTable<'a> {
     pub fn by_number(&self, gid: u32) -> Option<&GroupRow<'a>>
         ensures { option_copied result ≡ find (λ row. nat_eq gid row.gid) self.now }
     {
-        let place = self.index.place_of_number(gid)?;
+        let place = self.index.index_of_number(gid)?;
         Some(&self.rows[place])
     }
 }

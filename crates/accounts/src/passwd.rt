@@ -6,7 +6,7 @@ ghost use Rattle.idtext.specs.Faults.{fault_told};
 ghost use Rattle.idtext.specs.First.{Gives};
 ghost use Rattle.idtext.specs.Pieces.{fields_of};
 ghost use Rattle.accounts.specs.Known.{known_of};
-ghost use Rattle.accounts.specs.Laws.{IsPasswdTable, HavePrimaryGroups};
+ghost use Rattle.accounts.specs.Laws.{IsPasswdTable, HaveLawfulGids};
 ghost use Rattle.accounts.specs.Tables.{passwd_table};
 ghost use Rattle.accounts.specs.Rows.{Passwd, passwd_from, passwd_line};
 
@@ -160,7 +160,7 @@ impl<'a> Model for PasswdTable<'a> {
     ghost view = { λ it. it.rows.items };
 
     ghost invariant = { λ it.
-        (it.index ≡ known_of (λ row. row.name) (λ row. row.uid) it.rows.items) × IsPasswdTable it.rows.items × HavePrimaryGroups it.rows.items };
+        (it.index ≡ known_of (λ row. row.name) (λ row. row.uid) it.rows.items) × IsPasswdTable it.rows.items × HaveLawfulGids it.rows.items };
 }
 
 impl<'a> PasswdTable<'a> {
@@ -168,7 +168,7 @@ impl<'a> PasswdTable<'a> {
     pub fn rows(&self) -> &[PasswdRow<'a>]
         ensures rows { result.now ≡ self.now }
         ensures table { IsPasswdTable self.now }
-        ensures primary_groups { HavePrimaryGroups self.now }
+        ensures primary_groups { HaveLawfulGids self.now }
     {
         self.rows.as_slice()
     }
@@ -177,7 +177,7 @@ impl<'a> PasswdTable<'a> {
     pub fn by_name(&self, name: &[u8]) -> Option<&PasswdRow<'a>>
         ensures { option_copied result ≡ find (λ row. bytes_eq name.now row.name) self.now }
     {
-        let place = self.index.place_of_name(name)?;
+        let place = self.index.index_of_name(name)?;
         Some(&self.rows[place])
     }
 
@@ -185,7 +185,7 @@ impl<'a> PasswdTable<'a> {
     pub fn by_number(&self, uid: u32) -> Option<&PasswdRow<'a>>
         ensures { option_copied result ≡ find (λ row. nat_eq uid row.uid) self.now }
     {
-        let place = self.index.place_of_number(uid)?;
+        let place = self.index.index_of_number(uid)?;
         Some(&self.rows[place])
     }
 }
@@ -209,7 +209,7 @@ impl<'a> PasswdTable<'a> {
 pub fn read_passwd(alloc: Global, text: &[u8]) -> Result<PasswdTable<'_>, ReadError>
     ensures exact { Gives (λ table. table) fault_told result (passwd_table text.now) }
     ensures table { IfOk result (λ table. IsPasswdTable table) }
-    ensures primary_groups { IfOk result (λ table. HavePrimaryGroups table) }
+    ensures primary_groups { IfOk result (λ table. HaveLawfulGids table) }
 {
     let (rows, index) = read_rows(alloc, text)?;
     Ok(PasswdTable { rows, index })
