@@ -1,4 +1,5 @@
 -- The accounts of one kind, users or groups, over all hosts of a site.
+-- Source: passwd(5) and group(5) (rows with names and numbers); how hosts are joined is this project's own rule.
 use Rattle.std.specs.Prelude.{◌≡◌, ℕ, suc, ◌+◌, ◌<◌, ◌≤◌, Bool, false, not, ◌&&◌, ◌==◌, if◌then◌else◌, List, [], ◌∷◌, ◌++◌, map, length, filter, count_by, find, Option, Some, None}
 use Rattle.std.specs.Option.{option_map}
 use Rattle.std.specs.List.{list_any}
@@ -103,9 +104,9 @@ abbrev pub nobody : Account
 nobody = record { name = []; spots = [] }
 
 -- no two rows of one host have one number
-unfoldable pub AreApart : List Row → Type 0
-AreApart [] = Unit {0}
-AreApart (r ∷ rows) = (list_any (λ q. (q.host == r.host) && (q.number == r.number)) rows ≡ false) × AreApart rows
+unfoldable pub AreNumberedApart : List Row → Type 0
+AreNumberedApart [] = Unit {0}
+AreNumberedApart (r ∷ rows) = (list_any (λ q. (q.host == r.host) && (q.number == r.number)) rows ≡ false) × AreNumberedApart rows
 
 -- the host is one of so many, and an account may have the number
 abbrev pub IsSpotAmong : ℕ → Spot → Type 0

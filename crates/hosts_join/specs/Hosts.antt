@@ -1,4 +1,5 @@
 -- What holds of a host that was read.
+-- Source: passwd(5), group(5) and login.defs(5) of the shadow suite.
 use Rattle.accounts.specs.Laws.{IsPasswdTable, IsGroupTable}
 use Rattle.logindefs.specs.Ranges.{IsHostRanges}
 use Rattle.hosts_join.specs.declared.host.Host.{Host}

@@ -1,4 +1,5 @@
 -- What holds of accounts that were joined.
+-- Source: this project's own rule.
 use Rattle.std.specs.Prelude.{◌≡◌, ℕ, ◌<◌, ◌≤◌, true, length}
 use Rattle.std.specs.List.{All}
 use Rattle.idtext.specs.Names.{is_lawful_name}

@@ -1,4 +1,5 @@
 -- What holds of a site that was joined.
+-- Source: this project's own rule.
 use Rattle.std.specs.Prelude.{◌≡◌, ℕ, ◌≤◌, List, length, Option, Some, None, Ok, slice_get}
 use Rattle.std.specs.List.{All}
 use Rattle.hosts_join.specs.Accounts.{Account, owner, place_of}

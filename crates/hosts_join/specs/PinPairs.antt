@@ -1,4 +1,5 @@
 -- The pins: names with the numbers that they are to have.
+-- Source: this project's own rule.
 use Rattle.std.specs.Prelude.{◌≤◌, List, map}
 use Rattle.std.specs.List.{All}
 use Rattle.accounts.specs.Laws.{AreDistinct}

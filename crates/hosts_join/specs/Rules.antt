@@ -1,4 +1,5 @@
 -- The rules of a site, for the accounts of one kind: which names are pinned, to what, and which numbers a free name may get.
+-- Source: this project's own rule.
 use Rattle.std.specs.Prelude.{ℕ, ◌^◌, Bool, true, false, not, ◌&&◌, ◌==◌, nat_le, nat_lt, slice_get, if◌then◌else◌, List, [], ◌∷◌, ◌++◌, map, filter, count_by, find, Option, Some, None, Result, slice_index_or}
 use Rattle.std.specs.Option.{option_map, option_to_list, option_and_then}
 use Rattle.std.specs.List.{list_any, list_all, flat_map}
@@ -66,24 +67,29 @@ abbrev pub first_some : {X Y : Type 0} → (X → Option Y) → List X → Optio
 first_some f [] = None
 first_some f (x ∷ xs) = or_else (f x) (first_some f xs)
 
--- the numbers that are given away: those of the pinned names, and then those of names in the pins text that no host has
+-- the name with its pin, where the class has one
 abbrev pub pinned_to : Class → List ℕ → List Pair
 pinned_to (Pinned v) n = record { name = n; number = v } ∷ []
 pinned_to Regular n = []
 pinned_to System n = []
 
+-- some account has the name
 abbrev pub is_name : List Account → List ℕ → Bool
 is_name names n = list_any (λ a. bytes_eq n a.name) names
 
+-- the pairs of the pins text whose name is on no host
 abbrev pub reserved : List Account → List Pair → List Pair
 reserved names pins = filter (λ p. not (is_name names p.name)) pins
 
+-- the pinned names, each with its pin
 abbrev pub pinned_names : List Pair → List Account → List Pair
 pinned_names pins names = flat_map (λ n. pinned_to (class_of pins n) n.name) names
 
+-- the numbers that are given away: those of the pinned names, and then those of names in the pins text that no host has
 abbrev pub claims : Accounts → List Pair
 claims a = pinned_names a.pins a.names ++ reserved a.names a.pins
 
+-- some name is given the number
 abbrev pub is_taken : List Pair → ℕ → Bool
 is_taken given v = list_any (λ p. p.number == v) given
 

@@ -1,4 +1,5 @@
 -- The accounts of a kind on hosts, and a site.
+-- Source: this project's own rule.
 use Rattle.std.specs.Prelude.{◌≡◌, ℕ, ◌≤◌, List, map, length, Result, Ok}
 use Rattle.idtext.specs.First.{◌>>=◌}
 use Rattle.hosts_join.specs.declared.fault.SiteFault.{SiteFault}

@@ -1,4 +1,5 @@
 -- The fault that an error tells.
+-- Source: this project's own rule.
 use Rattle.std.specs.Prelude.{Option, Some, None}
 use Rattle.hosts_join.specs.declared.fault.SiteFault.{SiteFault}
 use Rattle.hosts_join.specs.declared.fault.SiteFault.TheVariants.{Memory}

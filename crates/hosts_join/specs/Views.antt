@@ -1,4 +1,5 @@
 -- What a contract sees of values that lie in the input.
+-- Values that borrow from the input, without the borrow: words of the code and not of the subject.
 use Rattle.std.specs.Prelude.{ℕ, List, map, Option}
 use Rattle.std.specs.Option.{option_map}
 use Rattle.std.specs.Borrow.{Bor}

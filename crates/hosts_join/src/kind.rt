@@ -4,11 +4,12 @@ ghost use Rattle.std.specs.Prelude.{◌≡◌, ◌<◌, length, map, slice_index
 use crate::{Host, Pair, PairTable, Pins, Which};
 use logindefs::{HostRanges, IdRange};
 
-/// Users or groups: what a host, its ranges and the pins have of the kind. No call takes memory or time.
+/// Users or groups: what a host, its ranges and the pins have of the kind. No call takes memory, and
+/// each takes constant time.
 pub trait Kind {
-    ghost use Rattle.std.specs.Prelude.{◌≡◌, ℕ, ◌<◌, ◌≤◌, List, map, length, slice_index_or, true, false};
+    ghost use Rattle.std.specs.Prelude.{◌≡◌, ℕ, ◌<◌, List, map, length, slice_index_or};
     ghost use Rattle.accounts.specs.Laws.{IsTable};
-    ghost use Rattle.logindefs.specs.Ranges.{in_range, AreApart};
+    ghost use Rattle.logindefs.specs.Ranges.{AreApart};
     ghost use Rattle.logindefs.specs.declared.ranges.IdRange.{IdRange};
     ghost use Rattle.logindefs.specs.declared.ranges.HostRanges.{HostRanges};
     ghost use Rattle.hosts_join.specs.declared.Which.{Which};

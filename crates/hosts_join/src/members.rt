@@ -1,5 +1,5 @@
 //! What the tables of the join give: classes, claims and ranges.
-ghost use Rattle.std.specs.Prelude.{◌≡◌, ℕ, ◌&&◌, ◌++◌, Some, None, map, count_by, IfOk, IfErr, OnOk, IfSome, length};
+ghost use Rattle.std.specs.Prelude.{◌≡◌, ℕ, ◌&&◌, ◌++◌, Some, None, map, count_by, IfOk, IfErr, OnOk, IfSome};
 ghost use Rattle.std.specs.List.{list_all};
 ghost use Rattle.logindefs.specs.Ranges.{in_range};
 ghost use Rattle.hosts_join.specs.Rules as rules;

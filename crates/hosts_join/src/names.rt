@@ -1,17 +1,17 @@
 //! The names of one kind over all hosts.
-ghost use Rattle.std.specs.Prelude.{◌≡◌, ℕ, List, ◌<◌, ◌≤◌, ◌&&◌, ◌==◌, ◌^◌, not, map, length, IfOk, IfErr, OnOk, IfSome, None, Some, IfNone, slice_index_or, nat_lt, count_by};
+ghost use Rattle.std.specs.Prelude.{◌≡◌, ℕ, List, ◌<◌, ◌≤◌, ◌&&◌, ◌==◌, not, map, length, IfOk, IfSome, None, Some, count_by};
 ghost use Rattle.std.specs.List.{All, list_all, list_any, find};
 ghost use Rattle.std.specs.Option.{option_map};
 ghost use Rattle.idtext.specs.First.{Gives};
 ghost use Rattle.idtext.specs.Names.{is_lawful_name};
 ghost use Rattle.hosts_join.specs.Pool.{AreAscending, in_runs, run_size};
 ghost use Rattle.hosts_join.specs.Rules.{is_taken, is_id, joined};
-ghost use Rattle.hosts_join.specs.Accounts.{AreApart, AreNamedApart, IsSpotAmong, grouped, spot_of, spots_of};
+ghost use Rattle.hosts_join.specs.Accounts.{AreNumberedApart, AreNamedApart, IsSpotAmong, grouped, spot_of, spots_of};
 ghost use Rattle.hosts_join.specs.PinPairs.{ArePins};
 ghost use Rattle.hosts_join.specs.Told.{told};
 ghost use Rattle.hosts_join.specs.declared.fault.SiteFault.TheVariants as refusal;
 ghost use Rattle.hosts_join.specs.Views.{rows_of, pairs_of, entry_of};
-ghost use Rattle.std.specs.Prelude.{true, false};
+ghost use Rattle.std.specs.Prelude.{true};
 ghost use Rattle.logindefs.specs.Ranges.{in_range};
 
 use crate::clash::{Clash, find_clash};
@@ -130,7 +130,7 @@ pub fn join_rows<'a>(
     rows: &[Row<'a>],
     pins: &PairTable<'a>,
 ) -> Result<Names<'a>, SiteFault<'a>>
-    requires apart { AreApart (rows_of rows.now) }
+    requires apart { AreNumberedApart (rows_of rows.now) }
     requires named { AreNamedApart (rows_of rows.now) }
     requires lawful { All (λ r. is_lawful_name r.name ≡ true) (rows_of rows.now) }
     requires few { length rows.now ≤ 4194304 }
@@ -182,7 +182,7 @@ pub fn join_rows<'a>(
 }
 
 impl<'a> Names<'a> {
-    ghost use Rattle.hosts_join.specs.Accounts.{nobody, place_of, owner, number_on, lines, all_lines};
+    ghost use Rattle.hosts_join.specs.Accounts.{place_of, owner, number_on, lines, all_lines};
     ghost use Rattle.hosts_join.specs.Rules as rules;
     ghost use Rattle.hosts_join.specs.Rules.{account};
     ghost use Rattle.hosts_join.specs.Lawful.{AreLawfulAccounts};
