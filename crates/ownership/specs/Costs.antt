@@ -1,4 +1,5 @@
 -- What a mapping costs: the files, and the account rows, that it gives another number.
+-- Source: the assignment problem (least cost); what is counted is this project's own rule.
 use Rattle.std.specs.Prelude.{◌≡◌, ℕ, ◌+◌, ◌≤◌, Bool, false, not, ◌==◌, List, length, count_by, Option, Some, None}
 use Rattle.hosts_join.specs.Accounts.{Accounts, owner}
 use Rattle.hosts_join.specs.Rules.{account}

@@ -1,4 +1,5 @@
 -- Weights: how well a name keeps its ways with a number.
+-- Source: the assignment problem (weights); what they weigh, and the filling, is this project's own rule.
 use Rattle.std.specs.Prelude.{◌≡◌, ◌≢◌, ℕ, ◌+◌, ◌*◌, ◌<◌, true, if◌then◌else◌, List, length}
 use Rattle.std.specs.Cmp.Lexicographic.{slice_cmp}
 use Rattle.std.specs.Ordering.{nat_cmp}
