@@ -1,4 +1,5 @@
 -- What the fill is given.
+-- Source: this project's own rule.
 use Rattle.std.specs.Prelude.{◌≡◌, ℕ, ◌≤◌, true, List, length, slice_index_or, Option, Some, None}
 use Rattle.hosts_join.specs.Accounts.{Accounts}
 use Rattle.hosts_join.specs.Rules.{class_at, is_free_class}

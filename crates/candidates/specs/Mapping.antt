@@ -1,4 +1,5 @@
 -- What a mapping is.
+-- Source: the assignment problem.
 use Rattle.std.specs.Prelude.{ℕ, ◌≤◌, List}
 use Rattle.std.specs.List.{All}
 use Rattle.ownership.specs.Mappings.{AreDistinct}

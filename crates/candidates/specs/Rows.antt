@@ -1,4 +1,5 @@
 -- Rows: the candidates of each name, with their weights.
+-- Source: the assignment problem (a matrix of weights); which numbers are candidates is this project's own rule.
 use Rattle.std.specs.Prelude.{◌≡◌, ℕ, ◌<◌, ◌≤◌, ◌^◌, ◌==◌, if◌then◌else◌, true, List, [], ◌∷◌, length, slice_index_or}
 use Rattle.std.specs.List.{All}
 use Rattle.hosts_join.specs.Accounts.{Accounts}

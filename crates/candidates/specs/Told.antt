@@ -1,4 +1,5 @@
 -- A row as the counters tell it.
+-- Only private contracts and what the fields of a value keep speak of it: words of the code and not of the subject.
 use Rattle.std.specs.Prelude.{◌≡◌, ℕ, if◌then◌else◌, List}
 use Rattle.hosts_join.specs.Accounts.{Accounts}
 use Rattle.hosts_join.specs.Rules.{class_at, in_pool}

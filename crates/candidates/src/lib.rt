@@ -102,8 +102,8 @@ impl<'n, 'a> Rows<'n, 'a> {
     ///
     /// Near linear in the account rows: the numbers of a name, at most 64, are sorted, each is sought in the pool by a
     /// binary search, and its files and rows by a scan of the name's. A name takes 80 bytes, and with more than four
-    /// candidates up to 32 more for each; so a row takes at most 80 bytes, and 64 hosts of 65,536 rows some 336 MB.
-    /// `AllocError` where memory is refused.
+    /// candidates up to 32 more for each; so an account row takes at most 80 bytes, and 64 hosts of 65,536 rows some
+    /// 336 MB. `AllocError` where memory is refused.
     pub fn build(
         alloc: Global,
         names: &'n Names<'a>,

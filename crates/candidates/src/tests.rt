@@ -1,5 +1,5 @@
 //! Worked examples of the rows and of the fill.
-ghost use Rattle.std.specs.Prelude.{◌≡◌, ◌==◌, ◌≤◌, ℕ, find, IfOk, IfSome, Some, true, length};
+ghost use Rattle.std.specs.Prelude.{◌≡◌, ◌==◌, ◌≤◌, ℕ, find, IfOk, IfSome, Some, true};
 ghost use Rattle.std.specs.Option.{option_map};
 ghost use Rattle.hosts_join.specs.Hosts.{IsLawfulHost};
 ghost use Rattle.ownership.specs.Counts.{IsMadeFor};

@@ -17,7 +17,14 @@ use Rattle.unify_texts.specs.declared.fault.Fault.{Fault}
 use Rattle.unify_texts.specs.declared.fault.Fault.TheVariants.{BadBundle}
 use Rattle.unify_texts.specs.BundleLines.{bundle_line_of, same_file}
 use Rattle.unify_texts.specs.Bundles.{is_among, head_files, host_files, is_host_line, is_rehearsal, begun_here, is_in_file, listed_here, may_follow, bundle_fault, text_behind, files_behind, hosts_behind, commanded}
-use Rattle.unify_texts.specs.Drafts.{has_file, closed, bundle_so_far, takes, with_content, with_line, start_of, taken_from}
+use Rattle.unify_texts.specs.Drafts.{has_file, closed, bundle_so_far, takes, with_content, with_line, start_of}
+
+-- the draft after more lines, where it takes each of them; so many lines stand before them
+unfoldable pub taken_from : ℕ → Draft → List BundleLine → Result Draft Fault
+taken_from before d [] = Ok d
+taken_from before d (line ∷ lines) =
+    if takes d line then taken_from (before + 1) (with_line d line) lines
+    else Err (BadBundle (line_number before))
 
 -- ---- which lines the draft takes
 

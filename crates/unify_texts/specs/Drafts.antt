@@ -1,7 +1,6 @@
 -- What the reader of bundles keeps of the lines so far. No public contract speaks of it.
-use Rattle.std.specs.Prelude.{ℕ, ◌+◌, Bool, true, false, not, ◌&&◌, List, [], ◌∷◌, ◌++◌, Option, Some, None, is_some, Result, Ok, Err, if◌then◌else◌, option_to_list}
+use Rattle.std.specs.Prelude.{ℕ, Bool, true, false, not, ◌&&◌, List, [], ◌∷◌, ◌++◌, Option, Some, None, is_some, if◌then◌else◌, option_to_list}
 use Rattle.std.specs.List.{list_any}
-use Rattle.idtext.specs.Faults.{line_number}
 use Rattle.unify_texts.specs.declared.bundle_line.Command.{Command}
 use Rattle.unify_texts.specs.declared.bundle_line.FileName.{FileName}
 use Rattle.unify_texts.specs.declared.bundle_line.BundleLine.{BundleLine}
@@ -10,8 +9,6 @@ use Rattle.unify_texts.specs.declared.places.NamedFile.{NamedFile}
 use Rattle.unify_texts.specs.declared.places.Place.{Place}
 use Rattle.unify_texts.specs.declared.bundle.Draft.{Draft}
 use Rattle.unify_texts.specs.declared.bundle.Bundle.{Bundle}
-use Rattle.unify_texts.specs.declared.fault.Fault.{Fault}
-use Rattle.unify_texts.specs.declared.fault.Fault.TheVariants.{BadBundle}
 use Rattle.unify_texts.specs.BundleLines.{same_file}
 use Rattle.unify_texts.specs.Bundles.{is_among, head_files, host_files, is_rehearsal}
 
@@ -52,10 +49,3 @@ with_line d Wrong = d
 -- the draft of the first line alone
 abbrev pub start_of : Command → Draft
 start_of command = record { command = command; done = []; place = record { name = []; files = [] }; opened = None; in_head = true }
-
--- the draft after more lines, where it takes each of them; so many lines stand before them
-unfoldable pub taken_from : ℕ → Draft → List BundleLine → Result Draft Fault
-taken_from before d [] = Ok d
-taken_from before d (line ∷ lines) =
-    if takes d line then taken_from (before + 1) (with_line d line) lines
-    else Err (BadBundle (line_number before))

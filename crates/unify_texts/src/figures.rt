@@ -1,6 +1,6 @@
 //! What a mapping of one kind keeps and changes.
 
-ghost use Rattle.std.specs.Prelude.{◌≡◌, ◌+◌, ◌≤◌, List, length, not, is_some, All, true};
+ghost use Rattle.std.specs.Prelude.{◌≡◌, ◌+◌, List, length, is_some, All, true};
 ghost use Rattle.hosts_join.specs.Accounts.{owner, all_lines};
 ghost use Rattle.hosts_join.specs.Rules.{is_free_class};
 ghost use Rattle.ownership.specs.Counts.{AreMadeFor, AreWithin, CountFiles};
@@ -101,6 +101,8 @@ fn staying_rows(names: &Names<'_>, mapping: &Mapping) -> u64
 
 /// The figures of a mapping of the names. Asked is that there is a number for each name, and that the counters were
 /// made for the names; where they count files, of which each has its owner, the figures are those of the files.
+///
+/// One pass over the names, with two scans of a name's rows and one of its counters, each at most 64. It takes no memory.
 pub fn figures_under(
     names: &Names<'_>,
     counts: &KindCounts,

@@ -18,7 +18,7 @@ pub use bundle::{Bundle, read_bundle};
 pub use bundle_line::{Command, FileName};
 pub use fault::Fault;
 pub use fault_text::push_fault;
-pub use figures::figures_under;
+pub use figures::{Figures, figures_under};
 pub use laws::{bundles_are_spelled, written_maps_read_back};
 pub use map_text::{MapText, push_map, read_map};
 pub use place_list::PlaceList;

@@ -1,6 +1,6 @@
 //! The map text. The format is this product's own.
 
-ghost use Rattle.std.specs.Prelude.{◌≡◌, ◌++◌, IfOk, OnOk, OnErr, if◌then◌else◌, length, flat_map};
+ghost use Rattle.std.specs.Prelude.{◌≡◌, ◌++◌, IfOk, OnOk, OnErr, length, flat_map};
 ghost use Rattle.idtext.specs.First.{Gives};
 ghost use Rattle.unify_texts.specs.WrittenMap.{numbered, map_line, map_text};
 ghost use Rattle.unify_texts.specs.Told.{told};
