@@ -1,22 +1,21 @@
 -- How a host goes, event after event.
-use Rattle.std.proofs.Common.{◌≡◌, ◌≢◌, ◌⊎◌, inl, inr, ◌<◌, ◌≤◌, ◌+◌, ◌==◌, ℕ, zero, suc, Bool, true, false, cond, List, [], ◌∷◌, ◌++◌, Option, None, Some, Result, Ok, Err, IfSome, IfErr, MatchResult, length, All, take, set, get_or, slice_get, refl, sym, ◌∙◌, ap, subst, arith, length-append, append_assoc}
+use Rattle.std.proofs.Common.{◌≡◌, ◌≢◌, inl, inr, ◌<◌, ◌≤◌, ◌+◌, ◌==◌, ℕ, true, cond, List, [], ◌∷◌, ◌++◌, Option, None, Some, Result, Ok, Err, IfSome, IfErr, MatchResult, length, All, take, set, get_or, slice_get, refl, sym, ◌∙◌, ap, subst, arith, length-append}
 use Rattle.std.proofs.lemmas.Bool.Decides.{nat_tests}
 use Rattle.std.proofs.lemmas.List.Elements.{filter_map-append, All-more}
 use Rattle.std.proofs.lemmas.List.{take_more}
 use Rattle.reown_plan.specs.declared.plan.Owner.{Owner}
 use Rattle.reown_runner.specs.declared.campaign.Event.{Event}
-use Rattle.reown_runner.specs.declared.runner.Place.{Place}
 use Rattle.reown_runner.specs.declared.runner.Place.TheVariants.{Start}
 use Rattle.reown_runner.specs.declared.runner.Progress.{Progress}
 use Rattle.reown_runner.specs.declared.runner.RunFault.{RunFault}
 use Rattle.reown_runner.specs.declared.runner.RunFault.TheVariants.{Device, Missing, Foreign}
-use Rattle.reown_runner.specs.Tree.{TreeData, IsReadable, Stops, counted, cells_of}
+use Rattle.reown_runner.specs.Tree.{TreeData, IsReadable, Stops, cells_of}
 use Rattle.reown_runner.specs.State.{State, StandsFor, cells_at, did, fresh}
 use Rattle.reown_runner.specs.Safe.{IsSafeInStep}
 use Rattle.reown_runner.specs.Step.{turn, IsAdvance, IsAsked, IsTold, moved}
 use Rattle.reown_runner.specs.RunnerData.{RunnerData}
-use Rattle.reown_runner.specs.World.{World, Hosted, IsHostOf}
-use Rattle.reown_runner.specs.Run.{Host, HostEvent, Advances, Stops as Halts, IsRun, refusal}
+use Rattle.reown_runner.specs.World.{World, Hosted}
+use Rattle.reown_runner.specs.Run.{HostEvent, Advances, Stops as Halts, IsRun, refusal}
 use Rattle.reown_runner.specs.Campaign.{Goes, EachGoes, IsToldBy, own, host_of, host_event}
 use Rattle.std.specs.List.{cons_option}
 use Rattle.reown_runner.proofs.Cellwise.{either}

@@ -1,5 +1,5 @@
 -- What is said of every image, said cell by cell.
-use Rattle.std.proofs.Common.{◌≡◌, ◌≢◌, ◌⊎◌, ◌<◌, ◌≤◌, ◌+◌, inl, inr, ℕ, Bool, true, false, cond, List, Option, Some, All, length, take, get_or, refl, sym, ◌∙◌, ap, subst, arith}
+use Rattle.std.proofs.Common.{◌≡◌, ◌≢◌, ◌⊎◌, ◌<◌, inl, inr, ℕ, Bool, true, false, cond, List, Option, Some, All, length, take, get_or, refl, sym, ◌∙◌, ap, subst}
 use Rattle.std.specs.Str.{bytes_eq}
 use Rattle.std.specs.Cmp.Lexicographic.{bytes_decides}
 use Rattle.reown_plan.specs.declared.plan.Owner.{Owner}
@@ -7,7 +7,7 @@ use Rattle.reown_plan.specs.PlanData.{PlanRecord}
 use Rattle.reown_runner.specs.declared.runner.Place.{Place}
 use Rattle.reown_runner.specs.declared.runner.Place.TheVariants.{Start, Record, SyncOwners, Mark, SyncMark, Done}
 use Rattle.reown_runner.specs.Tree.{Cells, Image, IsImage, IsReadable, IsSettled}
-use Rattle.reown_runner.specs.Safe.{AllNew, IsSafe, IsAllNew, IsMarked, ReadNew, IsInStep, IsSafeInStep}
+use Rattle.reown_runner.specs.Safe.{IsSafe, IsAllNew, IsMarked, ReadNew, IsInStep, IsSafeInStep}
 
 pub either : (b : Bool) → (b ≡ true) ⊎ (b ≡ false)
 either true = inl refl

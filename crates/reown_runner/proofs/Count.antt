@@ -1,5 +1,5 @@
 -- Each advance is one nearer to the end.
-use Rattle.std.proofs.Common.{◌≡◌, ◌⊎◌, inl, inr, ◌<◌, ◌≤◌, ◌+◌, ◌-◌, ℕ, zero, suc, min, max, Bool, true, false, cond, nat_lt, ◌&&◌, List, [], ◌∷◌, Option, None, Some, Result, Ok, Err, IsSome, length, slice_get, refl, sym, ◌∙◌, ap, subst, arith}
+use Rattle.std.proofs.Common.{◌≡◌, inl, inr, ◌<◌, ◌≤◌, ◌+◌, ◌-◌, ℕ, zero, suc, max, Bool, true, false, cond, nat_lt, List, [], ◌∷◌, Option, None, Some, Ok, Err, IsSome, length, slice_get, refl, sym, ◌∙◌, ap, subst, arith}
 use Rattle.std.proofs.lemmas.Bool.Decides.{nat_tests}
 use Rattle.reown_plan.specs.declared.plan.Owner.{Owner}
 use Rattle.reown_plan.specs.PlanData.{PlanRecord}
@@ -9,9 +9,8 @@ use Rattle.reown_runner.specs.declared.runner.Progress.{Progress}
 use Rattle.reown_runner.specs.declared.runner.Progress.TheVariants.{Working, Done as Finished}
 use Rattle.reown_runner.specs.declared.runner.RunFault.{RunFault}
 use Rattle.reown_runner.specs.declared.runner.RunFault.TheVariants.{Device, Missing, Foreign}
-use Rattle.reown_runner.specs.Tree.{Operation, Write, SetMark, Sync, counted}
 use Rattle.reown_plan.specs.Owners.{owner_eq}
-use Rattle.reown_runner.specs.Step.{Turn, turn, turn_at, record_turn, record_place, IsAdvance, IsAsked, IsTold, IsPlaceOf, progress_at, advances_left, operations_left}
+use Rattle.reown_runner.specs.Step.{Turn, turn, turn_at, record_turn, record_place, IsAsked, IsTold, IsPlaceOf, progress_at, advances_left, operations_left}
 use Rattle.reown_runner.proofs.Cellwise.{either}
 
 -- where a turn leads

@@ -1,9 +1,7 @@
 -- Plans from their start to their end.
-use Rattle.std.proofs.Common.{◌≡◌, ◌≢◌, ◌⊎◌, ◌↔◌, inl, inr, ◌<◌, ◌≤◌, ◌+◌, ◌-◌, ℕ, zero, suc, Bool, true, false, cond, nat_lt, List, [], ◌∷◌, Option, None, Some, Result, Ok, Err, MatchResult, All, length, get_or, replicate, find, refl, sym, ◌∙◌, ap, subst, arith}
-use Rattle.std.specs.Prelude.{⊤}
+use Rattle.std.proofs.Common.{◌≡◌, ◌≢◌, ◌↔◌, inl, inr, ◌≤◌, ◌+◌, ◌-◌, ℕ, zero, suc, Bool, true, false, cond, List, [], ◌∷◌, Option, None, Some, Result, Ok, Err, MatchResult, All, length, get_or, replicate, find, refl, sym, ◌∙◌, ap, subst, arith}
 use Rattle.std.specs.Str.{bytes_eq}
 use Rattle.std.specs.Cmp.Lexicographic.{bytes_decides}
-use Rattle.std.proofs.lemmas.Bool.Decides.{nat_tests}
 use Rattle.std.proofs.lemmas.List.Elements.{All-head, All-tail, All-cons}
 use Rattle.reown_plan.specs.declared.plan.Owner.{Owner}
 use Rattle.reown_plan.specs.PlanData.{PlanRecord}
@@ -13,7 +11,7 @@ use Rattle.reown_runner.specs.declared.runner.RunFault.{RunFault}
 use Rattle.reown_runner.specs.Tree.{TreeData, Cells, Image, IsImage, IsReadable, cells_of}
 use Rattle.reown_runner.specs.State.{State, fresh, did, cells_at}
 use Rattle.reown_runner.specs.Safe.{AllNew, IsSafe, IsSafeInStep}
-use Rattle.reown_runner.specs.Step.{Turn, turn, record_place, IsAdvance, IsPlaceOf, advances_left}
+use Rattle.reown_runner.specs.Step.{turn, IsAdvance, IsPlaceOf, advances_left}
 use Rattle.reown_runner.specs.Run.{Host, Advances, IsRun}
 use Rattle.reown_runner.specs.Finished.{IsFresh, AreOld, after_record, owner_after_plan, HasSafeLists}
 use Rattle.reown_runner.proofs.Cellwise.{either, safe_cells, safe_images}

@@ -1,23 +1,22 @@
 -- Histories of operations, and the trees that stand for them.
-use Rattle.std.proofs.Common.{◌≡◌, ◌≢◌, ◌⊎◌, ◌↔◌, inl, inr, ℕ, Bool, true, false, cond, fold, get_or, slice_get, ◌+◌, List, [], ◌∷◌, ◌++◌, Option, None, Some, Result, Ok, Err, refl, sym, ◌∙◌, ap, subst}
+use Rattle.std.proofs.Common.{◌≡◌, ◌≢◌, ◌⊎◌, ◌↔◌, inl, inr, ℕ, true, false, cond, get_or, slice_get, ◌+◌, List, [], ◌∷◌, ◌++◌, Option, None, Some, Result, Ok, Err, refl, sym, ◌∙◌, ap, subst}
 use Rattle.std.specs.List.{AllByRecursion}
 use Rattle.std.specs.Str.{bytes_eq}
 use Rattle.std.specs.Cmp.Lexicographic.{bytes_decides}
 use Rattle.std.proofs.lemmas.List.{append-nil, append_assoc}
 use Rattle.std.proofs.lemmas.List.Sums.{fold_push}
 use Rattle.reown_plan.specs.declared.plan.Owner.{Owner}
-use Rattle.reown_plan.specs.PlanData.{PlanRecord, HaveDistinctPaths}
+use Rattle.reown_plan.specs.PlanData.{PlanRecord}
 use Rattle.reown_runner.specs.declared.runner.Place.{Place}
 use Rattle.reown_runner.specs.declared.runner.Place.TheVariants.{Start, Record, SyncOwners, Mark, SyncMark, Done}
 use Rattle.reown_runner.specs.declared.runner.RunFault.{RunFault}
 use Rattle.reown_runner.specs.declared.runner.RunFault.TheVariants.{Device, Missing, Foreign}
-use Rattle.reown_runner.specs.Tree.{Cells, Image, IsImage, IsReadable, IsSettled, Same, SameOwners, SameMark, Syncs, Writes, SetsMark, Does, Stops, Operation, Write, SetMark, Sync}
-use Rattle.reown_runner.specs.State.{State, Keeps, KeepsOwners, KeepsMark, fresh, did, owner_then, mark_then, owner_after, mark_after, IsKept, cells_at}
-use Rattle.reown_runner.specs.Safe.{IsSafe, IsSafeInStep}
-use Rattle.reown_runner.specs.Step.{Turn, turn, turn_at, record_turn, record_place, IsAdvance, place_after}
+use Rattle.reown_runner.specs.Tree.{Cells, Image, IsImage, IsReadable, IsSettled, SameMark, Does, Stops, Operation, Write, SetMark, Sync}
+use Rattle.reown_runner.specs.State.{State, Keeps, fresh, did, owner_then, mark_then, owner_after, mark_after, IsKept, cells_at}
+use Rattle.reown_runner.specs.Safe.{IsSafeInStep}
+use Rattle.reown_runner.specs.Step.{Turn, turn, turn_at, record_turn, record_place, IsAdvance}
 use Rattle.reown_runner.proofs.Turns.{keeps, kept, same_keeps}
-use Rattle.reown_runner.proofs.Cellwise.{either, CellSafe, CellSound, safe_cells, safe_images, sound_cells, sound_images}
-use Rattle.reown_runner.proofs.Sound.{advance_sound}
+use Rattle.reown_runner.proofs.Cellwise.{either, safe_cells, safe_images}
 
 split_last : {X : Type 0} (front lost xs : List X) (x : X) → front ++ lost ≡ xs ++ x ∷ [] → (front ≡ xs ++ x ∷ []) ⊎ ((rest : List X) × (front ++ rest ≡ xs) × (lost ≡ rest ++ x ∷ []))
 split_last [] lost xs x h = inr (xs, refl, h)

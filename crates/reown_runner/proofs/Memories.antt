@@ -1,5 +1,5 @@
 -- What is done to a tree in memory.
-use Rattle.std.proofs.Common.{◌≡◌, ◌≢◌, ◌⊎◌, inl, inr, ◌<◌, ◌≤◌, ◌+◌, ◌==◌, ℕ, zero, suc, Bool, true, false, cond, nat_lt, List, [], ◌∷◌, ◌++◌, Option, None, Some, Contains, IsSome, map, take, set, get_or, length, find, slice_get, refl, sym, ◌∙◌, ap, subst, arith}
+use Rattle.std.proofs.Common.{◌≡◌, ◌≢◌, ◌⊎◌, inl, inr, ◌<◌, ◌≤◌, ◌+◌, ℕ, zero, suc, Bool, true, false, cond, nat_lt, List, [], ◌∷◌, ◌++◌, Option, None, Some, Contains, map, take, set, get_or, length, slice_get, refl, sym, ◌∙◌, ap, subst, arith}
 use Rattle.std.specs.List.{position_or_len, position, list_any}
 use Rattle.std.specs.Option.{option_map, option_and_then}
 use Rattle.std.specs.Str.{bytes_eq}
@@ -12,7 +12,7 @@ use Rattle.mtree_inv.specs.declared.entry.Entry.{Entry}
 use Rattle.mtree_inv.specs.Files.{HaveDistinctFiles}
 use Rattle.reown_plan.specs.declared.plan.Owner.{Owner}
 use Rattle.reown_runner.specs.declared.memory.FileCell.{FileCell}
-use Rattle.reown_runner.specs.Tree.{Cells, Writes, IsSettled, Syncs, Stops, cells_of}
+use Rattle.reown_runner.specs.Tree.{Writes, IsSettled, Syncs, Stops, cells_of}
 use Rattle.reown_plan.specs.Owners.{owner_of}
 use Rattle.reown_runner.specs.Memory.{Mem, known_mem, cell_of, values_of, keeps_file, keeps_mark, settled_cell, left_cell, owner_in, new_mem, IsReopened}
 use Rattle.reown_runner.specs.Finished.{IsFresh}

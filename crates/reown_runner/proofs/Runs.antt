@@ -1,5 +1,5 @@
 -- Courses of one host.
-use Rattle.std.proofs.Common.{◌≡◌, inl, inr, ℕ, zero, suc, ◌+◌, Bool, List, [], ◌∷◌, ◌++◌, Option, None, Some, Result, Ok, Err, MatchResult, replicate, refl, sym, ◌∙◌, ap, subst}
+use Rattle.std.proofs.Common.{◌≡◌, ℕ, ◌+◌, List, [], ◌∷◌, ◌++◌, Option, None, Some, Result, Ok, Err, MatchResult, replicate, refl, sym, ap, subst}
 use Rattle.std.proofs.lemmas.List.{replicate-append-replicate}
 use Rattle.reown_plan.specs.declared.plan.Owner.{Owner}
 use Rattle.reown_plan.specs.PlanData.{PlanRecord, HaveDistinctPaths}
@@ -7,7 +7,6 @@ use Rattle.reown_runner.specs.declared.runner.Place.{Place}
 use Rattle.reown_runner.specs.declared.runner.Place.TheVariants.{Start}
 use Rattle.reown_runner.specs.declared.runner.RunFault.{RunFault}
 use Rattle.reown_runner.specs.declared.runner.Progress.{Progress}
-use Rattle.reown_runner.specs.Tree.{Image, IsImage}
 use Rattle.reown_runner.specs.State.{State, fresh, did, cells_at}
 use Rattle.reown_runner.specs.Safe.{IsSafeInStep}
 use Rattle.reown_runner.specs.Step.{turn, IsAdvance, moved}

@@ -1,5 +1,5 @@
 -- An advance keeps a host sound.
-use Rattle.std.proofs.Common.{◌≡◌, ◌≢◌, ◌⊎◌, ◌<◌, ◌≤◌, ◌+◌, inl, inr, ℕ, zero, suc, Bool, true, false, cond, ◌&&◌, ◌==◌, nat_lt, List, [], ◌∷◌, Option, None, Some, Result, Ok, Err, All, length, take, get_or, slice_get, refl, sym, ◌∙◌, ap, subst, arith}
+use Rattle.std.proofs.Common.{◌≡◌, ◌≢◌, ◌⊎◌, ◌<◌, ◌≤◌, ◌+◌, inl, inr, ℕ, zero, suc, Bool, true, false, cond, ◌==◌, nat_lt, List, [], ◌∷◌, Option, None, Some, Result, Ok, Err, length, take, get_or, slice_get, refl, sym, ◌∙◌, ap, subst, arith}
 use Rattle.std.proofs.lemmas.Bool.Decides.{nat_tests}
 use Rattle.std.proofs.lemmas.List.{take_all, get_or-take, length-take-le}
 use Rattle.std.proofs.lemmas.List.Elements.{All-more}
@@ -9,7 +9,7 @@ use Rattle.reown_runner.specs.declared.runner.Place.{Place}
 use Rattle.reown_runner.specs.declared.runner.Place.TheVariants.{Start, Record, SyncOwners, Mark, SyncMark, Done}
 use Rattle.reown_runner.specs.declared.runner.RunFault.{RunFault}
 use Rattle.reown_runner.specs.declared.runner.RunFault.TheVariants.{Device, Missing, Foreign}
-use Rattle.reown_runner.specs.Tree.{Cells, IsReadable, IsSettled, Same, Syncs, Writes, SetsMark, Does, Operation, Write, SetMark, Sync}
+use Rattle.reown_runner.specs.Tree.{Cells, IsReadable, Same, Syncs, Writes, SetsMark, Does, Write, SetMark, Sync}
 use Rattle.reown_runner.specs.State.{Keeps}
 use Rattle.reown_runner.specs.Safe.{ReadNew, IsSafeInStep}
 use Rattle.reown_plan.specs.Owners.{owner_eq}

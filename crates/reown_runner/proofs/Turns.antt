@@ -1,12 +1,12 @@
 -- Turns, and what calls do in a row.
-use Rattle.std.proofs.Common.{◌≡◌, ◌≢◌, ◌⊎◌, ◌<◌, inl, inr, ℕ, zero, suc, length, map, get_or, [], ◌∷◌, arith, Bool, true, false, cond, not, List, Option, None, Some, Result, Ok, Err, IsSome, IsErrAnd, slice_get, ◌+◌, refl, sym, ◌∙◌, ap, subst}
+use Rattle.std.proofs.Common.{◌≡◌, ◌⊎◌, ◌<◌, inl, inr, ℕ, zero, suc, length, map, get_or, [], ◌∷◌, arith, Bool, true, false, cond, not, List, Option, None, Some, Result, Ok, Err, IsErrAnd, slice_get, ◌+◌, refl, sym, ◌∙◌, ap, subst}
 use Rattle.reown_plan.specs.declared.plan.Owner.{Owner}
 use Rattle.reown_plan.specs.PlanData.{PlanRecord}
 use Rattle.reown_runner.specs.declared.runner.Place.{Place}
 use Rattle.reown_runner.specs.declared.runner.Place.TheVariants.{Start, Record, SyncOwners, Mark, SyncMark, Done}
 use Rattle.reown_runner.specs.declared.runner.RunFault.{RunFault}
 use Rattle.reown_runner.specs.declared.runner.RunFault.TheVariants.{Device, Missing, Foreign}
-use Rattle.reown_runner.specs.Tree.{Cells, Operation, Write, SetMark, Sync, IsReadable, Same, SameOwners, SameMark, Writes, SetsMark, Syncs, IsSettled, Does, MayDo, counted}
+use Rattle.reown_runner.specs.Tree.{Cells, Operation, Write, SetMark, Sync, IsReadable, Same, SameOwners, SameMark, Syncs, Does, MayDo, counted}
 use Rattle.reown_runner.specs.State.{Keeps, KeepsOwners, KeepsMark}
 use Rattle.reown_plan.specs.Owners.{owner_eq}
 use Rattle.reown_runner.specs.Step.{Turn, record_turn, record_place, turn_at, turn, IsAdvance, IsAsked}

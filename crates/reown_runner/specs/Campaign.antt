@@ -1,5 +1,5 @@
 -- Several hosts, whose events come interleaved.
-use Rattle.std.specs.Prelude.{◌≡◌, ◌<◌, ◌≤◌, ◌+◌, ℕ, ◌==◌, Bool, List, [], ◌∷◌, Option, None, Some, Result, Ok, Err, IfSome, All, slice_get, take, length, filter_map, true, false, if◌then◌else◌}
+use Rattle.std.specs.Prelude.{◌≡◌, ◌<◌, ◌≤◌, ◌+◌, ℕ, ◌==◌, Bool, List, Option, None, Some, Result, Ok, Err, IfSome, All, slice_get, take, length, filter_map, true, false, if◌then◌else◌}
 use Rattle.reown_plan.specs.declared.plan.Owner.{Owner}
 use Rattle.reown_runner.specs.declared.campaign.Event.{Event}
 use Rattle.reown_runner.specs.declared.campaign.Event.TheVariants.{Advance, Stop}
@@ -13,9 +13,8 @@ use Rattle.reown_runner.specs.declared.runner.Place.TheVariants.{Start, Record, 
 use Rattle.reown_runner.specs.Tree.{TreeData, cells_of}
 use Rattle.reown_runner.specs.State.{State, StandsFor}
 use Rattle.reown_runner.specs.Safe.{IsSafeInStep}
-use Rattle.reown_runner.specs.RunnerData.{RunnerData}
 use Rattle.reown_runner.specs.World.{World, Hosted, IsHostOf}
-use Rattle.reown_runner.specs.Run.{Host, HostEvent, Advances, Stops, IsRun}
+use Rattle.reown_runner.specs.Run.{HostEvent, Advances, Stops, IsRun}
 
 -- the host that an event is for
 abbrev pub host_of : Event → ℕ

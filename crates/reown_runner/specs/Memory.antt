@@ -1,11 +1,11 @@
 -- A tree in memory: for each cell the value at the last sync and the value now.
-use Rattle.std.specs.Prelude.{◌≡◌, ℕ, ◌+◌, ◌%◌, ◌==◌, Bool, true, false, not, List, [], ◌∷◌, Option, None, Some, map, take, length, ◌<◌, slice_index_or, count_by, position, slice_get, find, if◌then◌else◌}
+use Rattle.std.specs.Prelude.{◌≡◌, ℕ, ◌%◌, ◌==◌, Bool, true, false, not, List, [], ◌∷◌, Option, None, Some, map, take, length, ◌<◌, slice_index_or, count_by, position, slice_get, slice_set, find, if◌then◌else◌}
 use Rattle.std.specs.Option.{option_map, option_and_then}
 use Rattle.std.specs.Str.{bytes_eq}
 use Rattle.mtree_inv.specs.declared.entry.Entry.{Entry}
 use Rattle.reown_plan.specs.declared.plan.Owner.{Owner}
 use Rattle.reown_plan.specs.Owners.{owner_of, owner_eq}
-use Rattle.reown_runner.specs.Tree.{TreeData}
+use Rattle.reown_runner.specs.Tree.{TreeData, counted}
 use Rattle.reown_runner.specs.declared.memory.Keep.{Keep}
 use Rattle.reown_runner.specs.declared.memory.Keep.TheVariants.{All, Lost, Alternate, MarkOnly}
 use Rattle.reown_runner.specs.declared.memory.FileCell.{FileCell}
@@ -65,6 +65,20 @@ keeps_mark MarkOnly before = true
 -- a cell with this value at the last sync and now
 abbrev pub settled_cell : Owner → FileCell
 settled_cell owner = record { synced = owner; now = owner }
+
+-- a write: the file at the path has this owner now, and nothing else changes
+abbrev pub IsWritten : List ℕ → Owner → Mem → Mem → Type 0
+IsWritten path owner old new =
+    (i : ℕ) × (position (bytes_eq path) old.paths ≡ Some i)
+    × ((c : FileCell) × (slice_get old.cells i ≡ Some c) × (new ≡ record old { cells = slice_set old.cells i (record { synced = c.synced; now = owner }); asked = counted old.asked }))
+
+-- the mark's write: it is set now, and nothing else changes
+abbrev pub marked : Mem → Mem
+marked m = record m { mark_now = true; asked = counted m.asked }
+
+-- a sync: what is there now is synced, and nothing else changes
+abbrev pub settled : Mem → Mem
+settled m = record m { cells = map (λ c. settled_cell c.now) m.cells; mark_synced = m.mark_now; asked = counted m.asked }
 
 -- what a stop leaves in a file's cell
 abbrev pub left_cell : Bool → FileCell → FileCell

@@ -38,7 +38,7 @@ impl Model for FailTree {
 }
 
 ghost use Rattle.reown_runner.specs.Failing.{Failing, known_failing, readable_failing, next_item, IsScripted};
-ghost use Rattle.reown_runner.specs.Memory.{known_mem, IsReopened};
+ghost use Rattle.reown_runner.specs.Memory.{known_mem, IsWritten, marked, settled, IsReopened};
 ghost use Rattle.reown_runner.specs.Tree.{cells_of, counted, Same, Writes, SetsMark, Syncs, Stops, MayDo, Write, SetMark, Sync, IsCounted};
 ghost use Rattle.std.specs.Prelude.{⊤, OnOk, OnErr, IfOk, IsSome};
 
@@ -92,16 +92,14 @@ impl FailTree {
 impl FailTree {
     fn read_owner(&mut self, path: &[u8]) -> Option<Owner>
         ensures answer { result ≡ (known_mem self.old.tree).owner path.now }
-        ensures same { Same (cells_of (known_mem self.old.tree)) (cells_of (known_mem self.new.tree)) }
-        ensures rest { self.new ≡ record self.old { tree = self.new.tree } }
+        ensures untouched { self.new ≡ self.old }
     {
         self.tree.owner(path).unwrap()
     }
 
     fn read_mark(&mut self) -> bool
         ensures answer { result ≡ (known_mem self.old.tree).mark }
-        ensures same { Same (cells_of (known_mem self.old.tree)) (cells_of (known_mem self.new.tree)) }
-        ensures rest { self.new ≡ record self.old { tree = self.new.tree } }
+        ensures untouched { self.new ≡ self.old }
     {
         self.tree.mark().unwrap()
     }
@@ -109,6 +107,7 @@ impl FailTree {
     fn write(&mut self, path: &[u8], owner: Owner)
         requires { IsSome ((known_mem self.old.tree).owner path.now) }
         ensures done { Writes path.now owner (cells_of (known_mem self.old.tree)) (cells_of (known_mem self.new.tree)) }
+        ensures written { IsWritten path.now owner self.old.tree self.new.tree }
         ensures rest { self.new ≡ record self.old { tree = self.new.tree } }
     {
         self.tree.set_owner(path, owner).unwrap()
@@ -116,14 +115,14 @@ impl FailTree {
 
     fn write_mark(&mut self)
         ensures done { SetsMark (cells_of (known_mem self.old.tree)) (cells_of (known_mem self.new.tree)) }
-        ensures rest { self.new ≡ record self.old { tree = self.new.tree } }
+        ensures marked { self.new ≡ record self.old { tree = marked self.old.tree } }
     {
         self.tree.set_mark().unwrap()
     }
 
     fn settle(&mut self)
         ensures done { Syncs (cells_of (known_mem self.old.tree)) (cells_of (known_mem self.new.tree)) }
-        ensures rest { self.new ≡ record self.old { tree = self.new.tree } }
+        ensures settled { self.new ≡ record self.old { tree = settled self.old.tree } }
     {
         self.tree.sync().unwrap()
     }
@@ -146,6 +145,7 @@ impl Tree for FailTree {
         ensures faults { IsCounted (known_failing self.old).faults (known_failing self.new).faults result }
         ensures asked { (known_failing self.new).asked ≡ (known_failing self.old).asked }
         ensures scripted { IsScripted (next_item self.old) result ⊤ ⊤ }
+        ensures untouched { self.new.tree ≡ self.old.tree }
         ensures script { self.new.script ≡ drop 1 self.old.script }
     {
         match self.take() {
@@ -160,7 +160,7 @@ impl Tree for FailTree {
         ensures failed { OnErr result (MayDo (Write path.now owner) (cells_of (known_failing self.old)) (cells_of (known_failing self.new))) }
         ensures faults { IsCounted (known_failing self.old).faults (known_failing self.new).faults result }
         ensures asked { (known_failing self.new).asked ≡ counted (known_failing self.old).asked }
-        ensures scripted { IsScripted (next_item self.old) result (Same (cells_of (known_failing self.old)) (cells_of (known_failing self.new))) (Writes path.now owner (cells_of (known_failing self.old)) (cells_of (known_failing self.new))) }
+        ensures scripted { IsScripted (next_item self.old) result (self.new.tree ≡ self.old.tree) (IsWritten path.now owner self.old.tree self.new.tree) }
         ensures script { self.new.script ≡ drop 1 self.old.script }
     {
         self.count();
@@ -183,6 +183,7 @@ impl Tree for FailTree {
         ensures faults { IsCounted (known_failing self.old).faults (known_failing self.new).faults result }
         ensures asked { (known_failing self.new).asked ≡ (known_failing self.old).asked }
         ensures scripted { IsScripted (next_item self.old) result ⊤ ⊤ }
+        ensures untouched { self.new.tree ≡ self.old.tree }
         ensures script { self.new.script ≡ drop 1 self.old.script }
     {
         match self.take() {
@@ -196,7 +197,7 @@ impl Tree for FailTree {
         ensures failed { OnErr result (MayDo SetMark (cells_of (known_failing self.old)) (cells_of (known_failing self.new))) }
         ensures faults { IsCounted (known_failing self.old).faults (known_failing self.new).faults result }
         ensures asked { (known_failing self.new).asked ≡ counted (known_failing self.old).asked }
-        ensures scripted { IsScripted (next_item self.old) result (Same (cells_of (known_failing self.old)) (cells_of (known_failing self.new))) (SetsMark (cells_of (known_failing self.old)) (cells_of (known_failing self.new))) }
+        ensures scripted { IsScripted (next_item self.old) result (self.new.tree ≡ self.old.tree) (self.new.tree ≡ marked self.old.tree) }
         ensures script { self.new.script ≡ drop 1 self.old.script }
     {
         self.count();
@@ -218,7 +219,7 @@ impl Tree for FailTree {
         ensures failed { OnErr result (MayDo Sync (cells_of (known_failing self.old)) (cells_of (known_failing self.new))) }
         ensures faults { IsCounted (known_failing self.old).faults (known_failing self.new).faults result }
         ensures asked { (known_failing self.new).asked ≡ counted (known_failing self.old).asked }
-        ensures scripted { IsScripted (next_item self.old) result (Same (cells_of (known_failing self.old)) (cells_of (known_failing self.new))) (Syncs (cells_of (known_failing self.old)) (cells_of (known_failing self.new))) }
+        ensures scripted { IsScripted (next_item self.old) result (self.new.tree ≡ self.old.tree) (self.new.tree ≡ settled self.old.tree) }
         ensures script { self.new.script ≡ drop 1 self.old.script }
     {
         self.count();

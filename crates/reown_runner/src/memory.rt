@@ -1,5 +1,5 @@
 //! A tree in memory, which never fails.
-ghost use Rattle.std.specs.Prelude.{◌≡◌, ◌<◌, ℕ, List, map, take, length, position, slice_get, slice_set, slice_index_or, Option, Some, IfOk, IfSome};
+ghost use Rattle.std.specs.Prelude.{◌≡◌, ◌<◌, ℕ, List, map, take, length, position, slice_get, slice_set, slice_index_or, Option, Some, IfOk, IfSome, OnOk, OnErr, IsSome};
 ghost use Rattle.std.specs.Option.{option_map};
 ghost use Rattle.std.specs.Str.{bytes_eq};
 ghost use Rattle.reown_plan.specs.declared.plan.Owner.{Owner};
@@ -50,9 +50,9 @@ impl Model for MemTree {
     ghost invariant = { λ m. length m.paths.keys ≡ length m.cells.items };
 }
 
-ghost use Rattle.reown_runner.specs.Memory.{Mem, known_mem, cell_of, keeps_file, keeps_mark, is_odd_one, settled_cell, left_cell, owner_in, new_mem, IsReopened};
+ghost use Rattle.reown_runner.specs.Memory.{Mem, known_mem, cell_of, keeps_file, keeps_mark, is_odd_one, settled_cell, left_cell, owner_in, new_mem, IsWritten, marked, settled, IsReopened};
 ghost use Rattle.reown_runner.specs.MemoryReads.{readable_mem};
-ghost use Rattle.reown_runner.specs.Tree.{cells_of, counted, Stops};
+ghost use Rattle.reown_runner.specs.Tree.{cells_of, counted, Same, Writes, SetsMark, Syncs, Stops, MayDo, Write, SetMark, Sync, IsCounted};
 ghost use Rattle.reown_runner.specs.Finished.{IsFresh};
 
 fn sync_cells(cells: &mut [FileCell])
@@ -152,7 +152,7 @@ impl MemTree {
 
     // What is pending is synced.
     fn settle(&mut self)
-        ensures { self.new ≡ record self.old { cells = map (λ c. settled_cell c.now) self.old.cells; mark_synced = self.old.mark_now; asked = counted self.old.asked } }
+        ensures { self.new ≡ settled self.old }
     {
         sync_cells(&mut self.cells);
         self.mark_synced = self.mark_now;
@@ -182,30 +182,61 @@ impl MemTree {
 impl Tree for MemTree {
     ghost known = { known_mem };
 
-    fn owner(&mut self, path: &[u8]) -> Result<Option<Owner>, DeviceFault> {
+    fn owner(&mut self, path: &[u8]) -> Result<Option<Owner>, DeviceFault>
+        ensures answer { IfOk result (λ owner. owner ≡ (known_mem self.old).owner path.now) }
+        ensures same { Same (cells_of (known_mem self.old)) (cells_of (known_mem self.new)) }
+        ensures faults { IsCounted (known_mem self.old).faults (known_mem self.new).faults result }
+        ensures asked { (known_mem self.new).asked ≡ (known_mem self.old).asked }
+        ensures untouched { self.new ≡ self.old }
+    {
         match self.index_of(path) {
             None => Ok(None),
             Some(i) => Ok(Some(self.owner_at(i))),
         }
     }
 
-    fn set_owner(&mut self, path: &[u8], owner: Owner) -> Result<(), DeviceFault> {
+    fn set_owner(&mut self, path: &[u8], owner: Owner) -> Result<(), DeviceFault>
+        requires { IsSome ((known_mem self.old).owner path.now) }
+        ensures done { OnOk result (Writes path.now owner (cells_of (known_mem self.old)) (cells_of (known_mem self.new))) }
+        ensures failed { OnErr result (MayDo (Write path.now owner) (cells_of (known_mem self.old)) (cells_of (known_mem self.new))) }
+        ensures faults { IsCounted (known_mem self.old).faults (known_mem self.new).faults result }
+        ensures asked { (known_mem self.new).asked ≡ counted (known_mem self.old).asked }
+        ensures written { IsWritten path.now owner self.old self.new }
+    {
         let i = self.index_of(path).unwrap();
         self.write(i, owner);
         Ok(())
     }
 
-    fn mark(&mut self) -> Result<bool, DeviceFault> {
+    fn mark(&mut self) -> Result<bool, DeviceFault>
+        ensures answer { IfOk result (λ mark. mark ≡ (known_mem self.old).mark) }
+        ensures same { Same (cells_of (known_mem self.old)) (cells_of (known_mem self.new)) }
+        ensures faults { IsCounted (known_mem self.old).faults (known_mem self.new).faults result }
+        ensures asked { (known_mem self.new).asked ≡ (known_mem self.old).asked }
+        ensures untouched { self.new ≡ self.old }
+    {
         Ok(self.mark_now)
     }
 
-    fn set_mark(&mut self) -> Result<(), DeviceFault> {
+    fn set_mark(&mut self) -> Result<(), DeviceFault>
+        ensures done { OnOk result (SetsMark (cells_of (known_mem self.old)) (cells_of (known_mem self.new))) }
+        ensures failed { OnErr result (MayDo SetMark (cells_of (known_mem self.old)) (cells_of (known_mem self.new))) }
+        ensures faults { IsCounted (known_mem self.old).faults (known_mem self.new).faults result }
+        ensures asked { (known_mem self.new).asked ≡ counted (known_mem self.old).asked }
+        ensures marked { self.new ≡ marked self.old }
+    {
         self.mark_now = true;
         self.asked = self.asked.saturating_add(1);
         Ok(())
     }
 
-    fn sync(&mut self) -> Result<(), DeviceFault> {
+    fn sync(&mut self) -> Result<(), DeviceFault>
+        ensures done { OnOk result (Syncs (cells_of (known_mem self.old)) (cells_of (known_mem self.new))) }
+        ensures failed { OnErr result (MayDo Sync (cells_of (known_mem self.old)) (cells_of (known_mem self.new))) }
+        ensures faults { IsCounted (known_mem self.old).faults (known_mem self.new).faults result }
+        ensures asked { (known_mem self.new).asked ≡ counted (known_mem self.old).asked }
+        ensures settled { self.new ≡ settled self.old }
+    {
         self.settle();
         Ok(())
     }

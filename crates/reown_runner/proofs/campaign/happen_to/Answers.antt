@@ -1,4 +1,4 @@
-use Rattle.std.proofs.Common.{sym, subst, ap, Ok, Err, [], ◌∷◌, None, Some}
+use Rattle.std.proofs.Common.{sym, subst, Ok, Err, [], ◌∷◌, None, Some}
 use Rattle.reown_runner.specs.declared.campaign.Event.{Event}
 use Rattle.reown_runner.specs.Campaign.{Goes, host_event}
 use Rattle.reown_runner.proofs.Campaigns.{hosted, goes_on_by, goes_down}

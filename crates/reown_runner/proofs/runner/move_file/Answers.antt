@@ -1,8 +1,7 @@
-use Rattle.std.proofs.Common.{◌≡◌, refl, sym, ◌∙◌, ap, None, Some}
+use Rattle.std.proofs.Common.{refl, sym, ◌∙◌, ap, None}
 use Rattle.reown_plan.specs.Records.{record_of}
-use Rattle.reown_runner.specs.Tree.{cells_of, Write}
-use Rattle.reown_runner.specs.Step.{record_turn, IsAdvance}
-use Rattle.reown_runner.proofs.Turns.{turn-at_old, turn-at_new, advance-done, advance-failed, asked-one, keeps, at_device, not-not}
+use Rattle.reown_runner.specs.Step.{record_turn}
+use Rattle.reown_runner.proofs.Turns.{turn-at_old, turn-at_new, advance-done, advance-failed, asked-one, at_device, not-not}
 use Rattle.reown_runner.proofs.runner.move_file.Goals as goal
 
 pub returns-in_err-set_owner-in-Some-clause-step : goal.returns-in_err-set_owner-in-Some-clause-step

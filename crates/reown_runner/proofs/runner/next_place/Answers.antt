@@ -1,8 +1,8 @@
-use Rattle.std.proofs.Common.{◌≡◌, refl, sym, ◌∙◌, ap, subst, map, None, Some, Ok}
+use Rattle.std.proofs.Common.{refl, sym, ◌∙◌, ap, subst, map, None, Ok}
 use Rattle.reown_plan.specs.Records.{record_of}
 use Rattle.reown_runner.specs.declared.runner.Place.TheVariants.{Done}
 use Rattle.reown_runner.specs.Step.{IsPlaceOf}
-use Rattle.reown_runner.proofs.Turns.{turn-start_done, turn-start, turn-record, turn-sync_owners, turn-mark, turn-sync_mark, turn-done, advance-done, advance-failed, asked-one, at_device, kept, record_at, record-same}
+use Rattle.reown_runner.proofs.Turns.{turn-start_done, turn-start, turn-sync_owners, turn-mark, turn-sync_mark, turn-done, advance-done, advance-failed, asked-one, at_device, kept, record_at, record-same}
 use Rattle.reown_runner.proofs.runner.next_place.Goals as goal
 
 pub returns-in_err-sync-in-SyncOwners-clause-asked : goal.returns-in_err-sync-in-SyncOwners-clause-asked

@@ -1,9 +1,7 @@
-use Rattle.std.proofs.Common.{◌≡◌, ◌≢◌, ◌==◌, sym, subst, ap, refl, ◌∙◌, arith, Bool, true, false, cond, inl, inr, [], ◌∷◌, None, Some, Option, ◌<◌, ◌≤◌, length, set, List, ℕ}
-use Rattle.std.proofs.lemmas.Bool.Decides.{nat_tests}
+use Rattle.std.proofs.Common.{◌==◌, sym, subst, ap, refl, ◌∙◌, arith, cond, [], ◌∷◌, None, Some, Option, ◌<◌, ◌≤◌, length, set, ℕ}
 use Rattle.reown_runner.specs.declared.runner.RunFault.{RunFault}
 use Rattle.reown_runner.specs.World.{World}
 use Rattle.reown_runner.specs.Campaign.{EachGoes, Goes, host_of, host_event}
-use Rattle.reown_runner.proofs.Cellwise.{either}
 use Rattle.reown_runner.proofs.Lists.{slice_get-read}
 use Rattle.reown_runner.proofs.Campaigns.{hosted, each_absent, each_one, refused_here, refused_elsewhere}
 use Rattle.reown_runner.proofs.campaign.Campaign.happen.Goals as goal

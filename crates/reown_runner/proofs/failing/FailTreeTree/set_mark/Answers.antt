@@ -1,9 +1,8 @@
-use Rattle.std.proofs.Common.{◌≡◌, sym, ◌∙◌, ap, subst, inl, inr, refl, Ok, Err, Result}
-use Rattle.std.specs.Prelude.{⊤}
+use Rattle.std.proofs.Common.{◌≡◌, sym, ◌∙◌, ap, subst, inr, refl, Ok, Err, Result}
 use Rattle.reown_runner.specs.declared.failing.Item.{Item}
 use Rattle.reown_runner.specs.declared.tree.DeviceFault.{DeviceFault}
-use Rattle.reown_runner.specs.Tree.{cells_of, Same, Writes, SetsMark, Syncs, MayDo, Write, SetMark, Sync}
-use Rattle.reown_runner.specs.Memory.{Mem, known_mem}
+use Rattle.reown_runner.specs.Tree.{cells_of, SetsMark}
+use Rattle.reown_runner.specs.Memory.{Mem, known_mem, marked}
 use Rattle.reown_runner.specs.Failing.{Failing, known_failing, next_item, IsScripted}
 use Rattle.reown_runner.proofs.failing.FailTreeTree.set_mark.Goals as goal
 
@@ -14,7 +13,8 @@ pub returns-in-Pass-clause-scripted : goal.returns-in-Pass-clause-scripted
 returns-in-Pass-clause-scripted c =
     let result : Result (Unit {0}) DeviceFault = Ok tt in
     let item = sym (c.take.ensures.item ∙ ap next_item c.count.ensures) ∙ c.in-Pass.is in
-    subst (λ (i : Item). IsScripted i result (Same (cells_of (known_failing c.args.self.now)) (cells_of (known_failing c.write_mark.new.self))) (SetsMark (cells_of (known_failing c.args.self.now)) (cells_of (known_failing c.write_mark.new.self)))) (sym item) (refl, returns-in-Pass-clause-done c)
+    let exact = subst (λ (m : Mem). c.write_mark.new.self.tree ≡ marked m) (ap (λ (f : Failing). f.tree) c.take.ensures.script ∙ ap (λ (f : Failing). f.tree) c.count.ensures) (ap (λ (f : Failing). f.tree) c.write_mark.ensures.marked) in
+    subst (λ (i : Item). IsScripted i result (c.write_mark.new.self.tree ≡ c.args.self.now.tree) (c.write_mark.new.self.tree ≡ marked c.args.self.now.tree)) (sym item) (refl, exact)
 
 done_after : (c : goal.After-fail-in-FailAfter) → SetsMark (cells_of (known_failing c.args.self.now)) (cells_of (known_failing c.fail-in-FailAfter.new.self))
 done_after c = subst (λ (m : Mem). SetsMark (cells_of (known_mem c.args.self.now.tree)) (cells_of (known_mem m))) (sym (ap (λ (f : Failing). f.tree) c.fail-in-FailAfter.ensures)) (subst (λ (m : Mem). SetsMark (cells_of (known_mem m)) (cells_of (known_mem c.write_mark-in-FailAfter.new.self.tree))) (ap (λ (f : Failing). f.tree) c.take.ensures.script ∙ ap (λ (f : Failing). f.tree) c.count.ensures) c.write_mark-in-FailAfter.ensures.done)
@@ -26,4 +26,5 @@ pub returns-in-FailAfter-clause-scripted : goal.returns-in-FailAfter-clause-scri
 returns-in-FailAfter-clause-scripted c =
     let result : Result (Unit {0}) DeviceFault = Err c.fail-in-FailAfter.result in
     let item = sym (c.take.ensures.item ∙ ap next_item c.count.ensures) ∙ c.in-FailAfter.is in
-    subst (λ (i : Item). IsScripted i result (Same (cells_of (known_failing c.args.self.now)) (cells_of (known_failing c.fail-in-FailAfter.new.self))) (SetsMark (cells_of (known_failing c.args.self.now)) (cells_of (known_failing c.fail-in-FailAfter.new.self)))) (sym item) (refl, done_after c)
+    let exact = subst (λ (m : Mem). m ≡ marked c.args.self.now.tree) (sym (ap (λ (f : Failing). f.tree) c.fail-in-FailAfter.ensures)) (subst (λ (m : Mem). c.write_mark-in-FailAfter.new.self.tree ≡ marked m) (ap (λ (f : Failing). f.tree) c.take.ensures.script ∙ ap (λ (f : Failing). f.tree) c.count.ensures) (ap (λ (f : Failing). f.tree) c.write_mark-in-FailAfter.ensures.marked)) in
+    subst (λ (i : Item). IsScripted i result (c.fail-in-FailAfter.new.self.tree ≡ c.args.self.now.tree) (c.fail-in-FailAfter.new.self.tree ≡ marked c.args.self.now.tree)) (sym item) (refl, exact)

@@ -1,4 +1,4 @@
-use Rattle.std.proofs.Common.{◌≡◌, ◌∙◌, ap, sym, refl, subst, arith, ◌<◌, ℕ, Vec, Global, length}
+use Rattle.std.proofs.Common.{◌∙◌, ap, sym, subst, arith, ◌<◌, ℕ, Vec, Global, length}
 use Rattle.std.proofs.lemmas.Grind.{common_steps}
 use Rattle.mtree_inv.specs.declared.entry.Entry.{Entry}
 use Rattle.mtree_inv.specs.Files.{HaveDistinctFiles}

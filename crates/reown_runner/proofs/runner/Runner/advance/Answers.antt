@@ -1,4 +1,4 @@
-use Rattle.std.proofs.Common.{◌≡◌, refl, sym, ◌∙◌, ap, subst, Ok, Err, ◌≤◌, ◌-◌}
+use Rattle.std.proofs.Common.{sym, ◌∙◌, ap, subst, Ok, Err, ◌≤◌, ◌-◌}
 use Rattle.reown_plan.specs.PlanData.{HaveDistinctPaths}
 use Rattle.reown_runner.specs.Tree.{cells_of, Does}
 use Rattle.reown_runner.specs.RunnerData.{RunnerData}

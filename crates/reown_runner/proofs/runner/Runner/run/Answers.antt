@@ -1,5 +1,4 @@
-use Rattle.std.proofs.Common.{◌≡◌, ◌+◌, ◌-◌, ◌≤◌, length, refl, sym, ◌∙◌, ap, subst, arith, Ok, Err}
-use Rattle.reown_runner.specs.declared.runner.RunFault.TheVariants.{Device}
+use Rattle.std.proofs.Common.{◌+◌, ◌-◌, ◌≤◌, length, refl, sym, ◌∙◌, subst, arith, Ok, Err}
 use Rattle.reown_runner.specs.Tree.{cells_of}
 use Rattle.reown_runner.specs.Step.{advances_left, operations_left}
 use Rattle.reown_runner.specs.Safe.{IsSafeInStep}

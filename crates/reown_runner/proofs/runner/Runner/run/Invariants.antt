@@ -2,7 +2,7 @@ use Rattle.std.proofs.Common.{◌≡◌, ◌+◌, ◌≤◌, max, length, replic
 use Rattle.reown_plan.specs.declared.plan.Owner.{Owner}
 use Rattle.reown_runner.specs.Tree.{cells_of}
 use Rattle.reown_runner.specs.Step.{advances_left, operations_left}
-use Rattle.reown_runner.specs.Run.{IsRun, Host, Advances}
+use Rattle.reown_runner.specs.Run.{IsRun, Advances}
 use Rattle.reown_runner.specs.State.{State, StandsFor}
 use Rattle.reown_runner.specs.Safe.{IsSafeInStep}
 use Rattle.reown_runner.proofs.runner.Runner.run.Given as goal
