@@ -139,8 +139,9 @@ fn push_group_differences<'a>(
 /// names in byte order; of a user the password, comment, home, shell and primary group by its name, of a group the password;
 /// hosts in order. Asked is that the site was joined from these hosts, each lawful.
 ///
-/// Time in step with the account rows, with one look-up by hash for each, and a sort of the names. Memory for the list, 24
-/// bytes a name, and the rows of one name at a time. Names and hosts are slices of the input.
+/// Time in step with the account rows, with one look-up by hash for each group row and two for each user row, and a sort of
+/// the names. Memory for the list, 24 bytes a name, and the rows of one name at a time. Names and hosts are slices of the
+/// input.
 ///
 /// # Errors
 ///

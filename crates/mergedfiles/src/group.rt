@@ -1,5 +1,5 @@
 //! The merged group file, after group(5).
-ghost use Rattle.std.specs.Prelude.{◌≡◌, ◌++◌, ◌∷◌, [], length, map, IfOk, OnOk, decimal};
+ghost use Rattle.std.specs.Prelude.{◌≡◌, ◌++◌, length, map, IfOk, OnOk, decimal};
 ghost use Rattle.std.specs.List.{All, join_with_byte};
 ghost use Rattle.accounts.specs.Rows as rows;
 ghost use Rattle.hosts_join.specs.Accounts.{first_appearances};

@@ -1,6 +1,6 @@
 //! Names in order.
 ghost use Rattle.std.specs.Prelude.{◌≡◌, ◌<◌, length, map, IfOk};
-ghost use Rattle.std.specs.List.{All, enumerate_from};
+ghost use Rattle.std.specs.List.{All};
 ghost use Rattle.hosts_join.specs.Rules.{account};
 ghost use Rattle.mergedfiles.specs.Order as order;
 ghost use Rattle.mergedfiles.specs.Seen.{name_of};
