@@ -1,3 +1,4 @@
+-- The record of a plan as its values, with the path as bytes.
 use Rattle.reown_plan.specs.declared.plan.Record.{Record}
 use Rattle.reown_plan.specs.PlanData.{PlanRecord}
 

@@ -76,6 +76,10 @@ impl<'a> Plan<'a> {
     /// Reads a plan, whose paths are slices of its text. A text that is no plan is `BadPlan` with the byte at which the
     /// first header, record or end that is not lawful begins, or what stands behind the end. One pass over the text, one
     /// look-up a record.
+    ///
+    /// # Errors
+    ///
+    /// `BadPlan`; or `Memory` where a growth is refused. Of memory a record takes 32 bytes, and its path a place in a set.
     pub fn read(alloc: Global, text: &'a [u8]) -> Result<Plan<'a>, PlanFault>
         ensures spelled { IfOk result (λ plan. text.now ≡ spelling plan) }
         ensures lawful { IfOk result (λ plan. IsLawful plan) }

@@ -1,5 +1,5 @@
 //! Readers of a plan's parts.
-ghost use Rattle.std.specs.Prelude.{◌≡◌, ◌≢◌, ◌++◌, ◌≤◌, ◌<◌, ◌^◌, [], ◌∷◌, ℕ, List, All, true, false, IsSomeAnd, decimal, length, ◌==◌, IfSome, IfNone};
+ghost use Rattle.std.specs.Prelude.{◌≡◌, ◌≢◌, ◌++◌, ◌≤◌, ◌<◌, ◌^◌, ◌∷◌, ℕ, List, All, true, false, IsSomeAnd, decimal, length, ◌==◌, IfSome, IfNone};
 ghost use Rattle.std.specs.List.{list_any};
 ghost use Rattle.reown_plan.specs.declared.plan.Owner.{Owner};
 ghost use Rattle.reown_plan.specs.Spelling.{number, head, line, IsHostName, IsOwner, IsLawfulRecord};
