@@ -74,7 +74,7 @@ pub record IsLazy (s : Solver) (t : Tree) (now : ℕ) : Type 0 where
   pub high : (n : ℕ) → y_in s.duals n < 2 ^ 63
   pub cover : (n v : ℕ) → row_weight s.rows.now n v ≤ y_in s.duals n + z_in s.duals v
 
--- the level at which the first name of the tree leaves
+-- the least level at which a name of the tree leaves, and a position where that is so
 pub record IsExit (s : Solver) (t : Tree) (exit : Nearest) : Type 0 where
   pub within : exit.at < length t.names.items
   pub none : exit.number ≡ None

@@ -3,7 +3,7 @@
 //! with reduced weights is that of Edmonds and Karp 1972 and of Tomizawa 1971) over sparse rows.
 #![tactic(auto)]
 
-ghost use Rattle.std.specs.Prelude.{◌≡◌, IfOk, List};
+ghost use Rattle.std.specs.Prelude.{IfOk, List};
 ghost use Rattle.ownership.specs.Costs.{IsOptimal};
 ghost use Rattle.ownership.specs.Files.{File};
 ghost use Rattle.ownership.specs.Mappings.{IsAdmissible};

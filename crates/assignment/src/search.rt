@@ -1,5 +1,5 @@
 //! One search: from a waiting name to a number that nobody has, or to a name that leaves.
-ghost use Rattle.std.specs.Prelude.{◌≡◌, ℕ, ◌+◌, ◌-◌, ◌<◌, ◌≤◌, length, OnOk, IfSome, ◌⊎◌, slice_index};
+ghost use Rattle.std.specs.Prelude.{◌≡◌, ◌+◌, ◌-◌, ◌<◌, ◌≤◌, length, OnOk, IfSome, ◌⊎◌, slice_index};
 ghost use Rattle.std.specs.BinaryHeap.{heap_items};
 ghost use Rattle.assignment.specs.Solutions.{row_weight};
 ghost use Rattle.assignment.specs.Standing.{IsSlack, IsMet};

@@ -1,5 +1,5 @@
 //! Several hosts' plans, run interleaved.
-ghost use Rattle.std.specs.Prelude.{◌≡◌, ◌≢◌, ℕ, ◌<◌, ◌≤◌, [], ◌∷◌, List, Some, map, length, slice_get, All, IfOk, IfErr, OnOk, IsErrOf, take, IsSome};
+ghost use Rattle.std.specs.Prelude.{◌≡◌, ◌<◌, [], ◌∷◌, Some, map, length, slice_get, IfOk, IfErr};
 ghost use Rattle.std.specs.List.{list_all};
 
 use crate::{Place, RunFault, Runner, Tree};
@@ -48,7 +48,7 @@ impl<'p, 'a, T> Model for Campaign<'p, 'a, T> {
     ghost invariant = { λ c. length c.runners.items ≡ length c.trees.items };
 }
 
-ghost use Rattle.reown_runner.specs.Campaign.{host_of, host_event, refused_for, refused_of, happened, Goes, EachGoes, is_done, event_refusal, IsForHost, AreForHosts};
+ghost use Rattle.reown_runner.specs.Campaign.{host_of, host_event, refused_of, happened, Goes, EachGoes, is_done, event_refusal, IsForHost, AreForHosts};
 ghost use Rattle.reown_runner.specs.Run.{refusal};
 ghost use Rattle.reown_runner.specs.declared.campaign.EventFault.TheVariants.{NoSuchHost, Run};
 ghost use Rattle.reown_runner.specs.RunnerData.{RunnerData};
@@ -82,7 +82,11 @@ fn happen_to<T: Tree>(runner: &mut Runner, tree: &mut T, event: Event) -> Result
 }
 
 impl<'p, 'a, T> Campaign<'p, 'a, T> {
-    /// A runner at its start for each plan, with the trees. A refusal hands the trees back.
+    /// A runner at its start for each plan, with the trees. One runner of memory a plan.
+    ///
+    /// # Errors
+    ///
+    /// Want of memory, with the trees.
     pub fn new(
         alloc: Global,
         plans: &'p [Plan<'a>],
@@ -151,6 +155,9 @@ impl<'p, 'a, T: Tree> Campaign<'p, 'a, T> {
 
     /// Lets the events happen in order, up to the first that is refused: those before it have happened, those after it
     /// have not. Answers whether every host is done. One advance or stop an event, and one pass over the hosts.
+    ///
+    /// Of the trees it says what the contract of `Tree` says, so that it holds for whatever image a stop leaves. Which one that
+    /// is, as by the choice of a `MemTree`, it does not say.
     pub fn drive(&mut self, events: &[Event]) -> Result<bool, DriveFault>
         ensures goes { EachGoes T.known self.old (happened events.now result) (λ host. refused_of host events.now result) self.new }
         ensures hosts { AreForHosts events.now (length self.old.trees) result }

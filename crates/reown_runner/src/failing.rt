@@ -1,5 +1,5 @@
 //! A tree whose calls fail by a script.
-ghost use Rattle.std.specs.Prelude.{◌≡◌, ◌≢◌, ◌+◌, ◌-◌, ◌^◌, ◌<◌, [], drop};
+ghost use Rattle.std.specs.Prelude.{◌≡◌, ◌≢◌, ◌+◌, ◌-◌, ◌^◌, ◌<◌, drop};
 ghost use Rattle.reown_runner.specs.declared.failing.Item.TheVariants.{Pass};
 
 use crate::{DeviceFault, MemTree, Tree};

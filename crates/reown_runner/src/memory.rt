@@ -1,5 +1,5 @@
 //! A tree in memory, which never fails.
-ghost use Rattle.std.specs.Prelude.{◌≡◌, ◌<◌, ℕ, List, map, take, length, position, slice_get, slice_set, slice_index_or, Option, Some, IfOk, IfSome, OnOk, OnErr, IsSome};
+ghost use Rattle.std.specs.Prelude.{◌≡◌, ◌<◌, ℕ, map, take, length, position, slice_get, slice_set, slice_index_or, Option, Some, IfOk, IfSome, OnOk, OnErr, IsSome};
 ghost use Rattle.std.specs.Option.{option_map};
 ghost use Rattle.std.specs.Str.{bytes_eq};
 ghost use Rattle.reown_plan.specs.declared.plan.Owner.{Owner};
@@ -50,7 +50,7 @@ impl Model for MemTree {
     ghost invariant = { λ m. length m.paths.keys ≡ length m.cells.items };
 }
 
-ghost use Rattle.reown_runner.specs.Memory.{Mem, known_mem, cell_of, keeps_file, keeps_mark, is_odd_one, settled_cell, left_cell, owner_in, new_mem, IsWritten, marked, settled, IsReopened};
+ghost use Rattle.reown_runner.specs.Memory.{Mem, known_mem, keeps_file, is_odd_one, settled_cell, left_cell, owner_in, new_mem, IsWritten, marked, settled, IsReopened};
 ghost use Rattle.reown_runner.specs.MemoryReads.{readable_mem};
 ghost use Rattle.reown_runner.specs.Tree.{cells_of, counted, Same, Writes, SetsMark, Syncs, Stops, MayDo, Write, SetMark, Sync, IsCounted};
 ghost use Rattle.reown_runner.specs.Finished.{IsFresh};
@@ -90,6 +90,10 @@ fn leave_cells(cells: &mut [FileCell], keep: Keep) -> bool
 impl MemTree {
     /// A tree as its inventory, with the mark not set and nothing pending. A stop keeps all, until `on_reopen` chooses
     /// otherwise. One pass over the inventory, with a copy of each path.
+    ///
+    /// # Errors
+    ///
+    /// `AllocError` where memory is refused.
     pub fn new(alloc: Global, inventory: &Inventory) -> Result<MemTree, AllocError>
         ensures starts { IfOk result (λ tree. tree ≡ new_mem inventory.now) }
         ensures fresh { IfOk result (λ tree. IsFresh (owner_in inventory.now) (cells_of (known_mem tree))) }
@@ -118,7 +122,8 @@ impl MemTree {
         })
     }
 
-    /// Chooses what a stop keeps.
+    /// Chooses what a stop keeps. No call of `Tree` changes the choice. What is run over any tree (`Runner`, `Campaign`) says
+    /// nothing of it: that holds for whatever a stop leaves.
     pub fn on_reopen(&mut self, keep: Keep)
         ensures { self.new ≡ record self.old { keep = keep } }
     {

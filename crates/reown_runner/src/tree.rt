@@ -1,6 +1,6 @@
 //! A tree of files as a runner sees it: what a read answers, and what a stop may leave.
-ghost use Rattle.std.specs.Prelude.{◌≡◌, ℕ, List, IfOk, OnOk, OnErr, IsSome};
-ghost use Rattle.reown_runner.specs.Tree.{TreeData, Operation, Write, SetMark, Sync, Same, Writes, SetsMark, Syncs, IsReadable, Does, MayDo, Stops, cells_of, counted, IsCounted};
+ghost use Rattle.std.specs.Prelude.{◌≡◌, IfOk, OnOk, OnErr, IsSome};
+ghost use Rattle.reown_runner.specs.Tree.{TreeData, Write, SetMark, Sync, Same, Writes, SetsMark, Syncs, IsReadable, MayDo, Stops, cells_of, counted, IsCounted};
 
 use reown_plan::Owner;
 
