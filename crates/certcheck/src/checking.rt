@@ -82,7 +82,8 @@ fn check_kind<'a>(
 /// account rows of it, whoever wrote the certificate.
 ///
 /// A number that a name has on no host weighs nothing for it, so no pool is walked: a binary search or two for each row of the
-/// certificate and each account row of the site, and memory for the numbers of one kind. Sums are exact, in 128 bits.
+/// certificate; a few binary searches, and a scan of the name's hosts, for each account row of the site; and memory for the
+/// numbers of one kind. Sums are exact, in 128 bits.
 ///
 /// # Errors
 ///

@@ -4,7 +4,7 @@ ghost use Rattle.certcheck.specs.declared.fault.CheckFault.TheVariants.{Memory};
 
 use hosts_join::Which;
 use idtext::Name;
-use std::alloc::{AllocError, AllocFailed};
+use std::alloc::AllocError;
 
 /// The first reason why a certificate is refused, or want of memory. Names are slices of the input, and the least of several is
 /// the first in byte order.
@@ -50,14 +50,6 @@ impl From<AllocError> for CheckFault<'_> {
     ghost from_gives = { λ _ e. e ≡ Memory };
 
     fn from(_: AllocError) -> Self {
-        CheckFault::Memory
-    }
-}
-
-impl<T: Drop> From<AllocFailed<T>> for CheckFault<'_> {
-    ghost from_gives = { λ _ e. e ≡ Memory };
-
-    fn from(_: AllocFailed<T>) -> Self {
         CheckFault::Memory
     }
 }

@@ -1,5 +1,5 @@
 //! Whether a certificate has exactly the site's names.
-ghost use Rattle.std.specs.Prelude.{◌≡◌, ◌++◌, not, map, filter};
+ghost use Rattle.std.specs.Prelude.{◌≡◌, not, map, filter};
 ghost use Rattle.hosts_join.specs.Lawful.{AreLawfulAccounts};
 ghost use Rattle.hosts_join.specs.Rules.{is_name};
 ghost use Rattle.certcheck.specs.Certificate.{AreAscending};

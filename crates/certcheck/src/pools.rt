@@ -1,7 +1,6 @@
 //! Whether the numbers of a certificate are those that names may get.
 ghost use Rattle.std.specs.Prelude.{◌≡◌};
 ghost use Rattle.std.specs.Option.{option_map};
-ghost use Rattle.hosts_join.specs.Accounts.{place_of};
 ghost use Rattle.hosts_join.specs.Rules.{is_free_class};
 ghost use Rattle.certcheck.specs.Views.{rows_of, row_of};
 ghost use Rattle.certcheck.specs.Told.{text_of};
