@@ -4,9 +4,9 @@
     examples/worked/compare.py PROGRAM
 
 README.md beside this file has the form of the examples. Also compared: examples that are too large to be kept as files,
-each prefix of merge/root-only.bundle, inputs and outputs that fail, each merge by words with directories, inventories of many
-pieces and one that changes while it is read twice, and the merges of 300 small generated sites, whose cost has to be the
-least that trying every admissible mapping finds, and what the check of the printed certificate answers.
+each prefix of merge/root-only.bundle, inputs and outputs that fail, the command line, each merge by words with directories,
+inventories of many pieces and one that changes while it is read twice, and the merges of 300 small generated sites, whose
+cost has to be the least that trying every admissible mapping finds, and what the check of the printed certificate answers.
 
 Prints the first difference and ends with status 1 there; else the last line tells how many examples there were.
 """
@@ -17,6 +17,7 @@ import re
 import subprocess
 import sys
 
+from command_line import command_lines
 from sites import Site
 from words import Bundle, merged_by_bundle, merged_by_words, merged_while_changing
 
@@ -156,6 +157,14 @@ def long_inventories():
     return "run merge\n" + hosts
 
 
+def compare_command_line(program):
+    """Compares what is answered to each line of words, and tells how many there were."""
+    lines = list(command_lines(program))
+    for name, wanted, came in lines:
+        want(name, wanted, came)
+    return len(lines)
+
+
 def compare_words(program, bundles):
     """Merges by words what is in bundles, and tells how many were compared."""
     compared = 0
@@ -179,17 +188,17 @@ def compare_changing(program):
         ("second-pass-reordered", names, 1, first + second, second + first, None, records),
         ("second-pass-new-file", names, 1, second, second + "|./bob3 uid=1005 gid=100\n", "unify: 41 InventoryChanged host b\n", ""),
     ]:
-        status, kept, files = merged_by_words(program, Bundle(text))
+        status, kept, refused, files = merged_by_words(program, Bundle(text))
         changed = "plan.a", "plan.b"
         if told is None:
             files["plan.b"] = files["plan.b"].replace("".join(plan), "".join(reversed(plan)))
         else:
-            status, kept = 1, told
+            status, kept, refused = 1, "", told
             for later in [f"plan.{host_name}" for host_name, _ in Bundle(text).hosts[host + 1 :]]:
                 del files[later]
             files[changed[host]] = files[changed[host]].partition(plan)[0] if plan else ""
         again = Bundle(text.replace(old, new, 1)).hosts[host][1]["mtree"]
-        want(name, (status, kept, files), merged_while_changing(program, Bundle(text), host, again))
+        want(name, (status, kept, refused, files), merged_while_changing(program, Bundle(text), host, again))
 
 
 def compare_merged(program, name, site):
@@ -235,12 +244,14 @@ def main(words):
         want(name, (status, answer), answered(program, bundle))
     compare_prefixes(program)
     compare_failures(program)
+    by_line = compare_command_line(program)
     merges = [(f"merge/{path.stem}", read(path)) for path in files if path.parent.name == "merge"]
     by_words = compare_words(program, [*merges, ("long inventories", long_inventories())])
     compare_changing(program)
     merged = compare_sites(program)
     want("generated sites, more than half merged, but not all", True, SITES // 2 < merged < SITES)
     print(f"generated sites: {merged} merged at the least cost, {SITES - merged} refused for a small pool")
+    print(f"command lines: {by_line} as in the table")
     print(f"merges by words: {by_words} as by bundle")
     print(f"worked examples: {len(files) + len(large)} as committed")
     return 0

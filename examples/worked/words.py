@@ -64,21 +64,25 @@ def written(folder):
     return {path.name: path.read_bytes().decode("latin-1") for path in folder.iterdir()}
 
 
+def merged(program, room, words):
+    ran = subprocess.run([program, "merge", *words], stdout=subprocess.PIPE, stderr=subprocess.PIPE, timeout=120)
+    return ran.returncode, ran.stdout.decode("latin-1"), ran.stderr.decode("latin-1"), written(room / "out")
+
+
 def merged_by_words(program, bundle):
-    """The status of the merge by words, what it tells, and the files that it writes."""
+    """The status of the merge by words, what it tells on standard output and on standard error, and the files that it writes."""
     with tempfile.TemporaryDirectory() as name:
         room = pathlib.Path(name)
-        ran = subprocess.run([program, "merge", *bundle.lay_out(room)], stdout=subprocess.PIPE, stderr=subprocess.PIPE, timeout=120)
-        return ran.returncode, (ran.stdout + ran.stderr).decode("latin-1"), written(room / "out")
+        return merged(program, room, bundle.lay_out(room))
 
 
 def merged_by_bundle(status, answer):
-    """The same, of the answer to the bundle: what is told stands in the report."""
+    """The same, of the answer to the bundle: what is told stands in the report, and a refusal goes to standard error."""
     if status != 0:
-        return status, answer, {}
+        return status, "", answer, {}
     files = texts_of(answer.split("\n")[:-1])
     changed = re.findall(r"^(user|group)-fields (\d+) of", files["report"], re.M)
-    return status, "".join(f"{kind}-fields {number}\n" for kind, number in changed), files
+    return status, "".join(f"{kind}-fields {number}\n" for kind, number in changed), "", files
 
 
 def merged_while_changing(program, bundle, host, again):
@@ -99,5 +103,4 @@ def merged_while_changing(program, bundle, host, again):
                 pipe.write(text)
 
         threading.Thread(target=hand_out, daemon=True).start()
-        ran = subprocess.run([program, "merge", *words], stdout=subprocess.PIPE, stderr=subprocess.PIPE, timeout=120)
-        return ran.returncode, (ran.stdout + ran.stderr).decode("latin-1"), written(room / "out")
+        return merged(program, room, words)

@@ -1,0 +1,157 @@
+"""The command line: what the program answers to words, on which stream, and with which exit status.
+
+The words name files of a room, a folder that is made for them: the hosts a and b of examples/stored-count and a map of theirs,
+and the texts and hosts below."""
+import pathlib
+import shutil
+import subprocess
+import tempfile
+
+STORED = pathlib.Path(__file__).resolve().parents[1] / "stored-count"
+COUNTED = "user-fields 2\ngroup-fields 0\n"
+CERTIFICATE = "unify certificate 2\nuser alice 1001 3\nuser bob 1000 0\nzuser 1001 {}\ngroup users 100 0\nend\n"
+TEXTS = {
+    "good": CERTIFICATE.format(7),
+    "wrong": CERTIFICATE.format(8),
+    "plan": "unify plan 1 b\n1001 100 1000 100 4 bob1\n1001 100 1000 100 4 bob2\nend\n",
+    "pins": "user bob 1005\n",
+    "bad": "no line of any text\n",
+}
+# Hosts that are a without a file, and one whose passwd is refused and that has no inventory.
+LACKING = {"lacks-passwd": "passwd", "lacks-group": "group", "lacks-mtree": "mtree", "refused": "mtree"}
+
+# Words; the exit status; what is on standard output; and what on standard error. What the crate clap words is a tuple of what
+# it has to hold.
+TABLE = [
+    # Help and version.
+    ("--help", 0, ("unify", "count", "merge", "check", "rehearse", "--help", "--version"), ""),
+    ("count --help", 0, ("MAP", "HOST"), ""),
+    ("merge --help", 0, ("--pins", "OUT", "HOST"), ""),
+    ("check --help", 0, ("--pins", "CERTIFICATE", "HOST"), ""),
+    ("rehearse --help", 0, ("PLAN", "MTREE"), ""),
+    ("--version", 0, "unify 0.1.0\n", ""),
+    # Wrong words.
+    ("recount", 2, "", ("recount",)),
+    ("--nothing", 2, "", ("--nothing",)),
+    ("count --pins pins map a b", 2, "", ("--pins",)),
+    ("count", 2, "", ("MAP", "HOST")),
+    ("count map", 2, "", ("HOST",)),
+    ("merge", 2, "", ("OUT", "HOST")),
+    ("merge out", 2, "", ("HOST",)),
+    ("merge out a b --pins", 2, "", ("--pins",)),
+    ("check", 2, "", ("CERTIFICATE", "HOST")),
+    ("check good", 2, "", ("HOST",)),
+    ("rehearse", 2, "", ("PLAN", "MTREE")),
+    ("rehearse plan", 2, "", ("MTREE",)),
+    ("rehearse plan b/mtree more", 2, "", ("more",)),
+    (b"count map \xff", 2, "", ()),
+    # What the commands answer. No host has a login.defs.
+    ("count map a b", 0, COUNTED, ""),
+    ("count map a=a b=b", 0, COUNTED, ""),
+    ("count map a=odd=name b", 0, COUNTED, ""),
+    ("count map a= b", 0, COUNTED, ""),
+    ("merge out a b", 0, COUNTED, ""),
+    ("merge --pins pins out a b", 0, COUNTED, ""),
+    ("check good a b", 0, "accepted 2\n", ""),
+    ("rehearse plan b/mtree", 0, "records 2\ndone\n", ""),
+    # Refused texts, and certificates that are rejected.
+    ("count bad a b", 1, "", "unify: 40 BadMap line 1\n"),
+    ("count map a", 1, "", "unify: 40 BadMap line 0\n"),
+    ("count map a=a a=b", 1, "", "unify: 19 HostTwice a\n"),
+    ("count map .a=a", 1, "", "unify: 18 BadHostName .a\n"),
+    ("merge --pins bad out a b", 1, "", "unify: 43 BadPins line 1\n"),
+    ("merge out refused", 1, "", "unify: 1 BadFields host refused passwd line 1\n"),
+    ("check bad a b", 1, "", "unify: 28 BadCertificate line 1\n"),
+    ("check --pins pins good a b", 4, "", "unify: 32 PinBroken user bob\n"),
+    ("check wrong a b", 4, "", "unify: 34 SumsDiffer user 11 10\n"),
+    ("rehearse bad b/mtree", 1, "", "unify: 35 BadPlan byte 0\n"),
+    ("rehearse plan a/mtree", 1, "", "unify: 37 Missing bob1\n"),
+    # Files that are not there, or cannot be read or written.
+    ("count none a b", 3, "", "unify: file none\n"),
+    (["count", "", "a"], 3, "", "unify: file -\n"),
+    (["count", "no map", "a"], 3, "", "unify: file no\\040map\n"),
+    ("count map lacks-passwd", 3, "", "unify: file lacks-passwd/passwd\n"),
+    ("count map lacks-group", 3, "", "unify: file lacks-group/group\n"),
+    ("count map lacks-mtree", 3, "", "unify: file lacks-mtree/mtree\n"),
+    ("count map a=odd-defaults b", 3, "", "unify: file odd-defaults/login.defs\n"),
+    ("check none a b", 3, "", "unify: file none\n"),
+    ("check --pins none good a b", 3, "", "unify: file none\n"),
+    ("merge --pins none out a b", 3, "", "unify: file none\n"),
+    ("merge out lacks-mtree", 3, "", "unify: file lacks-mtree/mtree\n"),
+    ("merge none a b", 3, "", "unify: file none/passwd\n"),
+    ("merge map a b", 3, "", "unify: file map/passwd\n"),
+    ("rehearse none b/mtree", 3, "", "unify: file none\n"),
+    ("rehearse plan none", 3, "", "unify: file none\n"),
+    # The order in which files are read: all of them before anything is judged.
+    ("count none x y", 3, "", "unify: file none\n"),
+    ("count bad x y", 3, "", "unify: file x/passwd\n"),
+    ("count bad a y", 3, "", "unify: file y/passwd\n"),
+    ("count map lacks-group lacks-passwd", 3, "", "unify: file lacks-group/group\n"),
+    ("count map a=a a=lacks-mtree", 3, "", "unify: file lacks-mtree/mtree\n"),
+    ("count map lacks-mtree lacks-passwd", 3, "", "unify: file lacks-mtree/mtree\n"),
+    ("check none --pins later x", 3, "", "unify: file none\n"),
+    ("check --pins later none x", 3, "", "unify: file none\n"),
+    ("check bad x --pins none", 3, "", "unify: file none\n"),
+    ("check --pins bad bad x", 3, "", "unify: file x/passwd\n"),
+    ("merge x y --pins none", 3, "", "unify: file none\n"),
+    ("merge x a y", 3, "", "unify: file y/passwd\n"),
+    ("merge none lacks-mtree lacks-passwd", 3, "", "unify: file lacks-passwd/passwd\n"),
+    ("merge none .a=lacks-mtree", 1, "", "unify: 18 BadHostName .a\n"),
+    ("merge none lacks-mtree", 3, "", "unify: file lacks-mtree/mtree\n"),
+    ("rehearse none later", 3, "", "unify: file none\n"),
+    ("rehearse bad none", 3, "", "unify: file none\n"),
+]
+# Words that have an answer for standard output, which is full.
+UNWRITTEN = ["count map a b", "merge out a b", "check good a b", "rehearse plan b/mtree", "--help", "--version"]
+MERGED = {"passwd", "group", "map", "certificate", "report", "plan.a", "plan.b"}
+
+
+def lay_out(room):
+    """Makes the files of the room."""
+    shutil.copytree(STORED, room, dirs_exist_ok=True)
+    shutil.copytree(STORED / "a", room, dirs_exist_ok=True)
+    for host in ("odd=name", "odd-defaults", *LACKING):
+        shutil.copytree(STORED / "a", room / host)
+    for host, file in LACKING.items():
+        (room / host / file).unlink()
+    (room / "refused/passwd").write_text(TEXTS["bad"])
+    (room / "odd-defaults/login.defs").mkdir()
+    for name, text in TEXTS.items():
+        (room / name).write_text(text)
+
+
+def ran(program, words, folder, out=subprocess.PIPE):
+    """The status for some words, and the text of each stream."""
+    words = words if isinstance(words, list) else words.split()
+    came = subprocess.run([program, *words], cwd=folder, stdin=subprocess.DEVNULL, stdout=out, stderr=subprocess.PIPE, timeout=120)
+    return came.returncode, (came.stdout or b"").decode("latin-1"), came.stderr.decode("latin-1")
+
+
+def agreed(wanted, came):
+    """What came; or what was wanted, where that is what a text has to hold and it does."""
+    return wanted if isinstance(wanted, tuple) and all(part in came for part in wanted) else came
+
+
+def in_new_room(program, words, out=subprocess.PIPE):
+    """The status for some words, the text of each stream, and the names of the files that are written into the room's `out`."""
+    with tempfile.TemporaryDirectory() as name:
+        room = pathlib.Path(name)
+        lay_out(room)
+        (room / "out").mkdir()
+        return *ran(program, words, room, out), {path.name for path in (room / "out").iterdir()}
+
+
+def command_lines(program):
+    """For each line of words: a name, what is wanted, and what came."""
+    stored = (STORED.parents[1] / "crates/unify_cli/stdout").read_text()
+    yield "count map a b, in examples/stored-count", (0, stored, ""), ran(program, "count map a b", STORED)
+    for words, status, out, err in TABLE:
+        came, came_out, came_err, written = in_new_room(program, words)
+        merged = status == 0 and isinstance(words, str) and words.startswith("merge") and "--help" not in words
+        wanted = status, out, err, MERGED if merged else set()
+        yield f"unify {words}", wanted, (came, agreed(out, came_out), agreed(err, came_err), written)
+    for words in UNWRITTEN:
+        with open("/dev/full", "wb") as full:
+            came = in_new_room(program, words, full)
+        wanted = 3, "", "unify: write\n", MERGED if words.startswith("merge") else set()
+        yield f"unify {words}, standard output full", wanted, came
