@@ -1,8 +1,10 @@
 # unify: one numbering for the accounts of many hosts.
 #   make demo              merges the two hosts of examples/office, and shows what was written
 #   make test              the gate: proves every crate, tries the must-fail edits, runs the tests and the program, and
-#                          compares what the program makes of examples/office and of examples/worked with what is committed
-#   make refused           refuses one growth of memory after another, to the program and to the readers' tests
+#                          compares what the program makes of examples/office and of examples/worked, and what it answers
+#                          to other words, with what is committed
+#   make refused           refuses one growth of memory after another, to the program, by bundle and with words, and to the
+#                          readers' tests
 #   make install PREFIX=.. puts the program into PREFIX/bin
 #   make clean             removes what was built
 
@@ -11,6 +13,9 @@ PROGRAM = crates/unify_cli/out/unify_cli
 OFFICE = amber=examples/office/amber basalt=examples/office/basalt
 BUNDLES = count/swap-counted check/swap-checked merge/two-hosts-swap rehearse/swap-rehearsed
 DEMO = build/office
+STORED = examples/stored-count
+HOSTS = a=$(STORED)/a b=$(STORED)/b
+REFUSED = build/refused
 
 .PHONY: demo test compare refused program install clean
 
@@ -25,7 +30,8 @@ test:
 	@$(MAKE) --no-print-directory compare
 
 # What the program that was built last makes of examples/office is what is committed there: the merge, its certificate
-# accepted with the same sum, the map counted, and each plan rehearsed. Then each bundle of examples/worked.
+# accepted with the same sum, the map counted, and each plan rehearsed. Then each bundle of examples/worked, and the command
+# line.
 compare:
 	@rm -rf $(DEMO) && mkdir -p $(DEMO)
 	@./$(PROGRAM) merge $(DEMO) $(OFFICE) | diff - examples/office/expected-merge
@@ -47,6 +53,12 @@ program:
 # What the tests are granted is seen by `bench/refused.py tests FIRST LAST`; each growth takes a build of each crate with tests.
 refused: program
 	@bench/refused.py program $(BUNDLES:%=examples/worked/%.bundle)
+	@rm -rf $(REFUSED) && mkdir -p $(REFUSED)
+	@bench/refused.py words count $(STORED)/map $(HOSTS)
+	@bench/refused.py words merge $(REFUSED) $(HOSTS)
+	@bench/refused.py words check $(REFUSED)/certificate $(HOSTS)
+	@bench/refused.py words rehearse $(REFUSED)/plan.b $(STORED)/b/mtree
+	@bench/refused.py words --help
 	@bench/refused.py tests 1 4 idtext accounts logindefs mtree_inv
 
 install: program

@@ -1,6 +1,8 @@
-// To be loaded before the C library: refuses the growth whose number, from 1, the environment gives as REFUSED.
+// To be loaded before the C library: refuses the growth whose number, from 1, the environment gives as REFUSED, and then writes a
+// byte to the file descriptor that it gives as REFUSED_FD.
 #include <stddef.h>
 #include <stdlib.h>
+#include <unistd.h>
 
 extern void *__libc_malloc(size_t size);
 extern void *__libc_realloc(void *block, size_t size);
@@ -12,7 +14,12 @@ static int refused(void) {
         const char *number = getenv("REFUSED");
         left = number ? atol(number) : 0;
     }
-    return left > 0 && --left == 0;
+    if (left == 0 || --left > 0)
+        return 0;
+    const char *told = getenv("REFUSED_FD");
+    if (told && write(atoi(told), "!", 1) < 0)
+        abort();
+    return 1;
 }
 
 void *malloc(size_t size) { return refused() ? NULL : __libc_malloc(size); }

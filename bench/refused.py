@@ -4,8 +4,10 @@
     bench/refused.py tests [FIRST [LAST [CRATE..]]]   the tests of each crate, with the first growth of each test refused, then
                                                       the second, and so on; a test has to pass, or to end with the error
                                                       that says that memory was refused
-    bench/refused.py program BUNDLE..                 the program, on each bundle: `unify: memory` and the status 3, until so
-                                                      many growths are granted that it answers as it does with all
+    bench/refused.py program BUNDLE..                 the program, on each bundle: `unify: memory` on standard output and the
+                                                      status 3, or the answer that it gives with all growths, until there
+                                                      is no growth left to be refused
+    bench/refused.py words WORD..                     the program, on these words: the same, on standard error
 
 It prints the first that fails, and ends with status 1 then.
 """
@@ -57,27 +59,49 @@ def try_tests(first, last, crates):
     return 0
 
 
-def answer(bundle, refused):
-    env = {"LD_PRELOAD": SHIM, "REFUSED": str(refused)}
+def answer(words, bundle, refused):
+    """The status, standard output and standard error where a growth is refused, and whether there was such a growth."""
+    told, telling = os.pipe()
+    env = {**os.environ, "LD_PRELOAD": SHIM, "REFUSED": str(refused), "REFUSED_FD": str(telling)}
     with open(bundle, "rb") as it:
-        ran = subprocess.run([PROGRAM], stdin=it, capture_output=True, env=env)
-    return ran.returncode, ran.stdout
+        ran = subprocess.run([PROGRAM, *words], stdin=it, capture_output=True, env=env, pass_fds=[telling])
+    os.close(telling)
+    with os.fdopen(told, "rb") as it:
+        return (ran.returncode, ran.stdout, ran.stderr), it.read() != b""
 
 
-def try_program(bundles):
+def try_growths(name, words, bundle, memory):
+    """Whether each growth of a run can be refused so that it is told as memory, or makes no difference."""
+    granted, _ = answer(words, bundle, 0)
+    number = told = 0
+    while True:
+        number += 1
+        given, was_refused = answer(words, bundle, number)
+        if given not in (granted, memory) or not was_refused and given != granted:
+            print(f"{name}: with the growth {number} refused, status {given[0]}:\n{given[1].decode()}{given[2].decode()}")
+            return False
+        if not was_refused:
+            print(f"{name}: {number - 1} growths refused, {told} of them told; with all granted status {granted[0]}", flush=True)
+            return True
+        told += given == memory
+
+
+def make_shim():
     os.makedirs(f"{ROOT}/build", exist_ok=True)
     words = ["cc", "-O2", "-shared", "-fPIC", "-o", SHIM, f"{ROOT}/bench/refused.c"]
     subprocess.run(words, check=True)
-    for bundle in bundles:
-        granted = answer(bundle, 0)
-        number = 1
-        while (given := answer(bundle, number)) != granted:
-            if given != (3, b"unify: memory\n"):
-                print(f"{bundle}: with the growth {number} refused, status {given[0]}:\n{given[1].decode()}")
-                return 1
-            number += 1
-        print(f"{bundle}: {number - 1} growths refused, each told; then status {granted[0]}")
-    return 0
+
+
+def try_program(bundles):
+    make_shim()
+    memory = 3, b"unify: memory\n", b""
+    return 0 if all(try_growths(bundle, [], bundle, memory) for bundle in bundles) else 1
+
+
+def try_words(words):
+    make_shim()
+    memory = 3, b"", b"unify: memory\n"
+    return 0 if try_growths(" ".join(words), words, os.devnull, memory) else 1
 
 
 def main(words):
@@ -86,6 +110,8 @@ def main(words):
         return try_tests(first, last, words[3:])
     if words[:1] == ["program"] and words[1:]:
         return try_program(words[1:])
+    if words[:1] == ["words"] and words[1:]:
+        return try_words(words[1:])
     print(__doc__)
     return 2
 

@@ -9,7 +9,8 @@ mod report;
 mod words;
 mod writing;
 
-use report::memory_refused;
+use report::{bundle_memory_refused, memory_refused};
+use std::env::{Env, FillError};
 use std::io::{BufReader, BufWriter};
 use std::process::ExitCode;
 use std::{env, io};
@@ -25,10 +26,10 @@ const BUFFER_BYTES: usize = 65536;
 /// Answers the bundle on standard input, and hands out the exit status.
 fn run_stdin(rt: &HostRuntime) -> u8 {
     let Ok(reader) = BufReader::with_capacity(rt.alloc(), BUFFER_BYTES, rt.stdin()) else {
-        return memory_refused(rt);
+        return bundle_memory_refused(rt);
     };
     let Ok(writer) = BufWriter::with_capacity(rt.alloc(), BUFFER_BYTES, io::writer(rt)) else {
-        return memory_refused(rt);
+        return bundle_memory_refused(rt);
     };
     run_bundle(
         rt.alloc(),
@@ -37,19 +38,43 @@ fn run_stdin(rt: &HostRuntime) -> u8 {
     )
 }
 
-fn main(rt: HostRuntime) -> ExitCode {
-    let Ok(args) = env::args(&rt) else {
-        return ExitCode::from(2);
+/// Runs the command of the program's words, and hands out the exit status.
+fn run_args(rt: &HostRuntime) -> u8 {
+    let args = match env::args(rt) {
+        Ok(args) => args,
+        Err(error) => {
+            return if error.kind() == io::ErrorKind::OutOfMemory {
+                memory_refused(rt)
+            } else {
+                2
+            };
+        }
     };
-    let status = match args.collect::<Vec<String>>(rt.alloc()) {
-        Err(_) => memory_refused(&rt),
+    match args.collect::<Vec<String>>(rt.alloc()) {
+        Err(_) => memory_refused(rt),
         Ok(words) => {
             if words.len() <= 1 {
-                run_stdin(&rt)
+                2
             } else {
-                run_words(&rt, &words[1..])
+                run_words(rt, &words[1..])
             }
         }
+    }
+}
+
+/// Whether a word stands behind the program's name. It takes no memory.
+fn has_words(rt: &HostRuntime) -> bool {
+    match rt.arg(1, &mut [0; 1]) {
+        Err(FillError::NotPresent) => false,
+        _ => true,
+    }
+}
+
+fn main(rt: HostRuntime) -> ExitCode {
+    let status = if has_words(&rt) {
+        run_args(&rt)
+    } else {
+        run_stdin(&rt)
     };
     ExitCode::from(status)
 }

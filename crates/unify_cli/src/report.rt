@@ -1,17 +1,23 @@
-//! What the program tells on standard error, each with its exit status.
+//! What the program tells when it cannot answer, and the answers to words, each with its exit status.
 
 use idtext::push_escaped;
 use std::io;
 use std::io::Write;
 use unify::Reply;
 
-/// A growth was refused.
+/// A growth was refused before a bundle was read; what is told of a bundle stands on standard output.
+pub fn bundle_memory_refused(rt: &HostRuntime) -> u8 {
+    let _ = io::writer(rt).write_all(b"unify: memory\n");
+    3
+}
+
+/// A growth was refused in a command with words.
 pub fn memory_refused(rt: &HostRuntime) -> u8 {
     let _ = rt.eprintln("unify: memory");
     3
 }
 
-/// Standard output took no more.
+/// Standard output took no more of what words are answered.
 pub fn write_failed(rt: &HostRuntime) -> u8 {
     let _ = rt.eprintln("unify: write");
     3
