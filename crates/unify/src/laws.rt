@@ -1,6 +1,7 @@
 //! Laws of the definitions, each the contract of a call that does nothing.
 ghost use Rattle.unify.specs.Laws.{OwnersAgree, ReadSitesAreWhole, EmptyPinsAreNone, PassesReadTheSite};
 ghost use Rattle.unify.specs.Believed.{OutcomesAreBelieved, RunsKeepNames, NumbersTellNames};
+ghost use Rattle.unify.specs.TwoPasses.{TwoPassesAreBelieved};
 
 /// Every site that was read is whole: it has at most 64 hosts, whose names and tables are lawful and whose inventories have no path
 /// twice, the accounts over all hosts are lawful, and each file has a user and a group, by its host's own tables and as
@@ -42,4 +43,10 @@ pub fn empty_pins_are_none()
 /// pieces read the same site.
 pub fn passes_read_the_site()
     ensures { PassesReadTheSite }
+{}
+
+/// What was merged behind a first pass over inventories in pieces is believed as what one merge answers, once its plans
+/// are those that a second pass over the same inventories appends, one for each host.
+pub fn two_passes_are_believed()
+    ensures { TwoPassesAreBelieved }
 {}
