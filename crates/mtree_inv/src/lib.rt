@@ -6,8 +6,9 @@
 //!   A text that ends while a line waits to be joined is refused (`CutContinuation`).
 //! - Commands other than `/set` and `/unset` are refused. `/unset` looks at keys alone, with or without a value, and `/unset all`
 //!   takes away all defaults.
-//! - Of several keywords with one key on a line the last counts. `uid`, `gid` and `type` matter, the others are read over. The `uid` and
-//!   the `gid` that count on an entry or a `/set` line must be ids, decimal numbers up to 4294967294; those that do not are not looked at.
+//! - Of several keywords with one key on a line the last counts. `uid`, `gid` and `type` matter, the others are read over. The
+//!   `uid` and the `gid` that count on an entry or a `/set` line must be ids, decimal numbers up to 4294967294; one that does
+//!   not count is not looked at.
 //! - An entry with a `/` is a path from the starting directory and never opens a directory. Another entry is a name in the
 //!   directory that was opened last and is still open, and opens one where its `type`, its own or by `/set`, is `dir`. A line `..`
 //!   closes that directory; its keywords are ignored.
