@@ -1,5 +1,5 @@
 -- What rows stand for.
--- Only private contracts and what the fields of a value keep speak of it: words of the code and not of the subject.
+-- Words of the code and not of the subject: only private contracts, views and invariants cite them.
 use Rattle.std.specs.Prelude.{map}
 use Rattle.candidates.specs.Rows.{Choices}
 use Rattle.candidates.specs.declared.Rows.TheInside.{Inside}

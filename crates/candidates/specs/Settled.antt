@@ -1,5 +1,5 @@
 -- The numbers of names while the fill goes on.
--- Only private contracts and what the fields of a value keep speak of it: words of the code and not of the subject.
+-- Words of the code and not of the subject: only private contracts, views and invariants cite them.
 use Rattle.std.specs.Prelude.{◌≡◌, ◌≢◌, ℕ, ◌+◌, ◌<◌, ◌≤◌, ◌==◌, ◌&&◌, nat_lt, if◌then◌else◌, Bool, true, false, List, [], length, slice_index_or, slice_set, Option, Some, None}
 use Rattle.std.specs.List.{list_any, count_by, All}
 use Rattle.std.specs.Option.{is_none}

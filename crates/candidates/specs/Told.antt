@@ -1,5 +1,5 @@
 -- A row as the counters tell it.
--- Only private contracts and what the fields of a value keep speak of it: words of the code and not of the subject.
+-- Words of the code and not of the subject: only private contracts, views and invariants cite them.
 use Rattle.std.specs.Prelude.{◌≡◌, ℕ, if◌then◌else◌, List}
 use Rattle.hosts_join.specs.Accounts.{Accounts}
 use Rattle.hosts_join.specs.Rules.{class_at, in_pool}

@@ -1,5 +1,5 @@
 -- What the tables of names stand for.
--- Only private contracts and what the fields of a value keep speak of it: words of the code and not of the subject.
+-- Words of the code and not of the subject: only private contracts, views and invariants cite them.
 use Rattle.std.specs.Prelude.{◌≡◌, ℕ, ◌<◌, ◌≤◌, ◌^◌, false, map, length, slice_index_or}
 use Rattle.hosts_join.specs.Accounts.{Accounts, all_lines, IsOnceEach, nobody}
 use Rattle.hosts_join.specs.Index.{accounts_in, IsIndex}

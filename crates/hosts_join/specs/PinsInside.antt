@@ -1,5 +1,5 @@
 -- What the tables of pins stand for.
--- Only private contracts and what the fields of a value keep speak of it: words of the code and not of the subject.
+-- Words of the code and not of the subject: only private contracts, views and invariants cite them.
 use Rattle.std.specs.Prelude.{◌≡◌, ◌≤◌, map}
 use Rattle.hosts_join.specs.PinPairs.{PinPairs, ArePins, ArePinPairs}
 use Rattle.hosts_join.specs.declared.pair_lines.PairLine.{PairLine}

@@ -1,5 +1,5 @@
 -- What the fields of a site stand for.
--- Only private contracts and what the fields of a value keep speak of it: words of the code and not of the subject.
+-- Words of the code and not of the subject: only private contracts, views and invariants cite them.
 use Rattle.hosts_join.specs.Site.{Joined, IsSite}
 use Rattle.hosts_join.specs.declared.joining.Site.TheInside.{Inside}
 

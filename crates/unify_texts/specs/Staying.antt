@@ -1,5 +1,5 @@
 -- What stays as it is, as names and counters tell it.
--- Only private contracts and what the fields of a value keep speak of it: words of the code and not of the subject.
+-- Words of the code and not of the subject: only private contracts, views and invariants cite them.
 use Rattle.std.specs.Prelude.{ℕ, ◌&&◌, nat_lt, List, length}
 use Rattle.hosts_join.specs.Accounts.{Accounts, lines}
 use Rattle.hosts_join.specs.Count.{count_below}
