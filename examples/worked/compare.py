@@ -45,8 +45,9 @@ PREFIXES = [
 
 
 def answered(program, bundle):
-    """The status and the standard output for a bundle."""
-    ran = subprocess.run([program], input=bundle.encode("latin-1"), stdout=subprocess.PIPE, timeout=120)
+    """The status and the standard output for a bundle, of which nothing is told on standard error."""
+    ran = subprocess.run([program], input=bundle.encode("latin-1"), stdout=subprocess.PIPE, stderr=subprocess.PIPE, timeout=120)
+    want("standard error for a bundle", b"", ran.stderr)
     return ran.returncode, ran.stdout.decode("latin-1")
 
 
@@ -128,20 +129,20 @@ def compare_prefixes(program):
 
 def compare_failures(program):
     """What is told where standard input cannot be read or never ends, and where standard output cannot be written."""
-    told = (3, b"unify: read\n")
+    told = (3, b"unify: read\n", b"")
     folder = os.open(FOLDER, os.O_RDONLY)
     try:
-        ran = subprocess.run([program], stdin=folder, stdout=subprocess.PIPE, timeout=120)
-        want("a folder as standard input", told, (ran.returncode, ran.stdout))
+        ran = subprocess.run([program], stdin=folder, stdout=subprocess.PIPE, stderr=subprocess.PIPE, timeout=120)
+        want("a folder as standard input", told, (ran.returncode, ran.stdout, ran.stderr))
     finally:
         os.close(folder)
     with open("/dev/zero", "rb") as endless:
-        ran = subprocess.run([program], stdin=endless, stdout=subprocess.PIPE, timeout=120)
-        want("an input without an end", told, (ran.returncode, ran.stdout))
+        ran = subprocess.run([program], stdin=endless, stdout=subprocess.PIPE, stderr=subprocess.PIPE, timeout=120)
+        want("an input without an end", told, (ran.returncode, ran.stdout, ran.stderr))
     for name in ("count/stored-count", "merge/root-only"):
         with open(FOLDER / f"{name}.bundle", "rb") as bundle, open("/dev/full", "wb") as full:
-            ran = subprocess.run([program], stdin=bundle, stdout=full, timeout=120)
-        want(f"{name}, an output that is full", 3, ran.returncode)
+            ran = subprocess.run([program], stdin=bundle, stdout=full, stderr=subprocess.PIPE, timeout=120)
+        want(f"{name}, an output that is full", (3, b""), (ran.returncode, ran.stderr))
 
 
 def long_inventories():
