@@ -12,10 +12,15 @@ use Rattle.hosts_join.specs.Site.{Joined, joined_site}
 use Rattle.hosts_join.specs.declared.host.Host.{Host}
 use Rattle.hosts_join.specs.declared.texts.HostText.{HostText}
 use Rattle.ownership.specs.Faults.{unowned}
+use Rattle.ownership.specs.Mappings.{Mappings}
 use Rattle.unify_texts.specs.declared.fault.Fault.{Fault}
+use Rattle.unify_texts.specs.declared.map_text.MapText.{MapText}
+use Rattle.unify_texts.specs.WrittenMap.{SayMapping}
+use Rattle.unify.specs.Cost.{cost_of}
 use Rattle.unify.specs.Count.{site_of}
 use Rattle.unify.specs.Hosts.{host_of}
 use Rattle.unify.specs.Loading.{loaded_from}
+use Rattle.unify.specs.Outcomes.{cost_in}
 use Rattle.unify.specs.Passes.{site_begun}
 use Rattle.unify.specs.Told.{in_site}
 use Rattle.unify.specs.Reading.{WholeSite, files_of_site, site_read}
@@ -66,3 +71,8 @@ EmptyPinsAreNone = (texts : List HostText) → site_read texts [] ≡ site_witho
 -- what the texts of hosts say of a site is what comes before the inventories, and then, host by host, what the inventories say
 abbrev pub PassesReadTheSite : Type 0
 PassesReadTheSite = (texts : List HostText) (pins_text : List ℕ) → site_read texts pins_text ≡ (site_begun texts pins_text >>= λ begun. each site_of (loaded_from begun.hosts (map (λ t. t.mtree) texts)) >>= λ hosts. Ok (record { hosts = hosts; joined = begun.joined }))
+
+-- the cost of a map, by its pairs and each host's own tables, is the cost of its mappings, by the accounts over all hosts
+abbrev pub CostsAgree : Type 0
+CostsAgree = (site : WholeSite) (m : Mappings) (printed : MapText) → IsWhole site → SayMapping site.joined.users m.users printed.users → SayMapping site.joined.groups m.groups printed.groups
+    → cost_of printed site.hosts ≡ cost_in site m

@@ -1,5 +1,5 @@
 //! Laws of the definitions, each the contract of a call that does nothing.
-ghost use Rattle.unify.specs.Laws.{OwnersAgree, ReadSitesAreWhole, EmptyPinsAreNone, PassesReadTheSite};
+ghost use Rattle.unify.specs.Laws.{OwnersAgree, ReadSitesAreWhole, EmptyPinsAreNone, PassesReadTheSite, CostsAgree};
 ghost use Rattle.unify.specs.Believed.{OutcomesAreBelieved, RunsKeepNames, NumbersTellNames};
 ghost use Rattle.unify.specs.TwoPasses.{TwoPassesAreBelieved};
 
@@ -49,4 +49,10 @@ pub fn passes_read_the_site()
 /// are those that a second pass over the same inventories appends, one for each host.
 pub fn two_passes_are_believed()
     ensures { TwoPassesAreBelieved }
+{}
+
+/// The cost of a map by its pairs and each host's own tables, which `count` answers, is that of its mappings by the
+/// accounts over all hosts, which a merge and a check of a certificate answer.
+pub fn costs_agree()
+    ensures { CostsAgree }
 {}
