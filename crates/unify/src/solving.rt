@@ -19,7 +19,7 @@ pub struct CertifiedMapping<'a> {
     pub side: Side<'a>,
 }
 
-/// The mapping of the names that changes the fewest files, and among those the fewest account rows, with its
+/// The mapping of the names that changes the fewest fields of files, and among those the fewest account rows, with its
 /// certificate. Asked is that the counters were made for the names. It fails for want of memory alone; its cost is that
 /// of `solve`.
 pub fn solve_names<'a>(
