@@ -3,9 +3,10 @@
 
     bench/merge.py [HOSTS [USERS_A_HOST [FILES_A_HOST]]]
 
-`count` reads and joins the accounts, and counts the files; `check` does that and checks the certificate; `merge` reads the
-inventories twice, and also solves and writes. The parts are differences between such runs, on the site and on the same
-hosts with one file of fifty, where solving is as hard and the rest takes a fiftieth. Run `make program` first. The site is made below bench/work, which git does not see.
+`count` reads the accounts, and reads and counts the files; it makes no join. `check` joins the accounts too, and checks the
+certificate. `merge` reads the inventories twice, and also joins, solves and writes. The parts are differences between such
+runs, on the site and on the same hosts with one file of fifty, where joining and solving are as hard and the inventories take
+a fiftieth. Run `make program` first. The site is made below bench/work, which git does not see.
 """
 import os
 import shutil
@@ -55,12 +56,12 @@ def print_parts(whole, thin):
     """The parts of a merge, from the times of the commands on the site and on the same hosts with one file of fifty."""
     solving = thin["merge"] - thin["count"]
     for what, seconds in [
-        ("accounts read and joined", thin["count"]),
+        ("accounts read", thin["count"]),
         ("inventories read, files counted", whole["count"] - thin["count"]),
-        ("solving, merged files, certificate", solving),
+        ("join, solving, merged files, certificate", solving),
         ("inventories read again, plans", whole["merge"] - whole["count"] - solving),
     ]:
-        print(f"  {what:36}{seconds:6.2f} s")
+        print(f"  {what:42}{seconds:6.2f} s")
 
 
 def main():

@@ -1,5 +1,5 @@
-// To be loaded before the C library: refuses the growth whose number, from 1, the environment gives as REFUSED, and then writes a
-// byte to the file descriptor that it gives as REFUSED_FD.
+// To be loaded before the C library, glibc: refuses the growth whose number, from 1, the environment gives as REFUSED, and then
+// writes a byte to the file descriptor that it gives as REFUSED_FD. Growths are calls of malloc and realloc alone.
 #include <stddef.h>
 #include <stdlib.h>
 #include <unistd.h>

@@ -5,10 +5,10 @@
 
 A site of as few hosts as will do has NAMES users in ROWS account rows with NUMBERS numbers in all, so that each number is
 wanted by ROWS / NUMBERS names; no two names of a host share a number, and each row owns up to three files. Both find a
-mapping of most weight, and the weights have to be equal. What `count` takes, which only reads, joins and counts, is what
-`merge` takes for all but solving and writing. For scipy each name has one number more, of its own, that weighs nothing;
-above half a million names it is left out. It wants a Python that has scipy, and `make program` before it. The site is made
-below bench/work, which git does not see.
+mapping of most weight, and the weights have to be equal. What `count` takes, which only reads and counts, is what `merge`
+takes for all but the join, solving and writing; that is told beside it. For scipy each name has one number more, of its own,
+that weighs nothing; above half a million names it is left out. It wants a Python that has scipy, and `make program` before
+it. The site is made below bench/work, which git does not see.
 """
 import collections
 import os
@@ -26,7 +26,7 @@ MOST_FOR_SCIPY = 500_000
 
 
 def make_rows(names, rows, numbers, seed):
-    """The rows (host, name, number, files) of a site, host by host. A name has at most one row on a host, and so has a number."""
+    """The rows (host, name, number, files) of a site, host by host. A name has at most one row on a host; so has a number."""
     rng = random.Random(seed)
     hosts = -(-rows // min(numbers, names))
     made = []
@@ -110,7 +110,7 @@ def measure(names, rows, numbers, seed):
     counted, _, _ = timed([UNIFY, "count", f"{out}/map", *words])
     weight = weight_of_map(f"{out}/map", weights)
     print(f"{hosts} hosts, {len({name for _, name, _, _ in made}):,} names, {len(weights):,} candidates, {numbers:,} numbers", flush=True)
-    print(f"unify merge: {merged:.2f} s, peak {peak:,.0f} MiB; without solving and writing: {counted:.2f} s", flush=True)
+    print(f"unify merge: {merged:.2f} s, peak {peak:,.0f} MiB; without join, solving and writing: {counted:.2f} s", flush=True)
     if names > MOST_FOR_SCIPY:
         return
     seconds, best = scipy_answer(weights)

@@ -44,7 +44,7 @@ TABLE = [
     ("rehearse", 2, "", ("PLAN", "MTREE")),
     ("rehearse plan", 2, "", ("MTREE",)),
     ("rehearse plan b/mtree more", 2, "", ("more",)),
-    (b"count map \xff", 2, "", ()),
+    (b"count map \xff", 2, "", ""),
     # What the commands answer. No host has a login.defs.
     ("count map a b", 0, COUNTED, ""),
     ("count map a=a b=b", 0, COUNTED, ""),

@@ -4,18 +4,23 @@
     examples/worked/compare.py PROGRAM
 
 README.md beside this file has the form of the examples. Also compared: examples that are too large to be kept as files,
-each prefix of merge/root-only.bundle, inputs and outputs that fail, the command line, each merge by words with directories,
-inventories of many pieces and one that changes while it is read twice, and the merges of 300 small generated sites, whose
-cost has to be the least that trying every admissible mapping finds, and what the check of the printed certificate answers.
+each prefix of merge/root-only.bundle, the whole one byte a read, inputs and outputs that fail, the command line, each merge
+by words with directories, inventories of many pieces and one that changes or goes while it is read twice, and the merges of
+300 small generated sites, whose cost has to be the least that trying every admissible mapping finds, and what the check of
+the printed certificate answers.
 
 Prints the first difference and ends with status 1 there; else the last line tells how many examples there were.
 """
+import contextlib
+import fcntl
 import os
 import pathlib
 import random
 import re
 import subprocess
 import sys
+import termios
+import time
 
 from command_line import command_lines
 from sites import Site
@@ -24,6 +29,8 @@ from words import Bundle, merged_by_bundle, merged_by_words, merged_while_changi
 FOLDER = pathlib.Path(__file__).resolve().parent
 SITES = 300
 ENDINGS = {"bundle", "answer", "parts", "status", "accepted"}
+# So many there are at least: with fewer, some were lost.
+LEAST_FILES, LEAST_BY_WORDS, LEAST_BY_LINE = 110, 50, 75
 
 # The answers to the prefixes of merge/root-only.bundle: the first and the last length, the status, and the fault line or the
 # example that has the answer.
@@ -80,6 +87,19 @@ def compare_accepted(program, name, bundle, answer, accepted):
     want(f"{name}, its certificate checked", (0, accepted), answered(program, check_of(bundle, answer)))
 
 
+def example_files():
+    """The examples that are files. Each other file of their folders stands beside one of them."""
+    found = sorted(FOLDER.glob("*/*.bundle"))
+    for path in sorted(FOLDER.glob("[a-z]*/*")):
+        if path.with_suffix(".bundle") not in found:
+            sys.exit(f"{path.parent.name}/{path.name}: wanted a bundle beside it, came none")
+    return found
+
+
+def want_at_least(least, number, what):
+    want(f"{what}, {least} or more", True, number >= least)
+
+
 def compare_file(program, path):
     """One example that is a file with its answer beside it."""
     name = f"{path.parent.name}/{path.stem}"
@@ -125,6 +145,30 @@ def compare_prefixes(program):
         for length in range(first, last + 1):
             want(f"merge/root-only, its first {length} bytes", (status, answer), answered(program, bundle[:length]))
     want("merge/root-only, its length", PREFIXES[-1][1], len(bundle))
+
+
+def write_byte_by_byte(ran, text):
+    """Writes to a program that runs. The next byte is written when the pipe is empty, so that each read has one."""
+    for byte in text:
+        ran.stdin.write(bytes([byte]))
+        while ran.poll() is None and fcntl.ioctl(ran.stdin, termios.FIONREAD, bytes(4)) != bytes(4):
+            time.sleep(0.0001)
+
+
+def answered_byte_by_byte(program, bundle):
+    """The status, standard output and standard error for a bundle of which each read has one byte."""
+    pipe = subprocess.PIPE
+    with subprocess.Popen([program], bufsize=0, stdin=pipe, stdout=pipe, stderr=pipe) as ran:
+        with contextlib.suppress(BrokenPipeError):
+            write_byte_by_byte(ran, bundle)
+        out, err = ran.communicate(timeout=120)
+        return ran.returncode, out.decode("latin-1"), err.decode("latin-1")
+
+
+def compare_one_byte_a_read(program):
+    bundle = (FOLDER / "merge/root-only.bundle").read_bytes()
+    answer = read(FOLDER / "merge/root-only.answer")
+    want("one-byte-a-read", (0, answer, ""), answered_byte_by_byte(program, bundle))
 
 
 def compare_failures(program):
@@ -179,7 +223,8 @@ def compare_words(program, bundles):
 
 
 def compare_changing(program):
-    """Inventories that are other texts when they are read for the second time: a file less, another order, a new file."""
+    """Inventories that are other texts when they are read for the second time: a file less, another order, a new file. Behind two
+    of the merges stands a host c without accounts, whose inventory is the pipe."""
     swap = read(FOLDER / "merge/two-hosts-swap.bundle")
     names = read(FOLDER / "merge/two-names-one-number.bundle") + "host c\n"
     first, second = "|./bob1 uid=1001 gid=100\n", "|./bob2 uid=1001 gid=100\n"
@@ -196,10 +241,20 @@ def compare_changing(program):
         else:
             status, kept, refused = 1, "", told
             for later in [f"plan.{host_name}" for host_name, _ in Bundle(text).hosts[host + 1 :]]:
-                del files[later]
+                files[later] = ""
             files[changed[host]] = files[changed[host]].partition(plan)[0] if plan else ""
         again = Bundle(text.replace(old, new, 1)).hosts[host][1]["mtree"]
         want(name, (status, kept, refused, files), merged_while_changing(program, Bundle(text), host, again))
+
+
+def compare_gone(program):
+    """An inventory that is gone when it is to be read for the second time, where an earlier merge wrote plans: none is left."""
+    bundle = Bundle(read(FOLDER / "merge/two-names-one-number.bundle") + "host c\n")
+    older = {f"plan.{name}": f"unify plan 1 {name}\n1 1 2 2 5 older\nend\n" for name, _ in bundle.hosts}
+    *_, files = merged_by_words(program, bundle)
+    files |= {"plan.b": "", "plan.c": ""}
+    came = merged_while_changing(program, bundle, 1, None, older)
+    want("second-pass-gone", (3, "", "unify: file host1/mtree\n", files), came)
 
 
 def compare_merged(program, name, site):
@@ -237,19 +292,24 @@ def main(words):
         print(__doc__)
         return 2
     program = pathlib.Path(words[0]).resolve()
-    files = sorted(FOLDER.glob("*/*.bundle"))
+    files = example_files()
     for path in files:
         compare_file(program, path)
     large = large_examples()
     for name, bundle, status, answer in large:
         want(name, (status, answer), answered(program, bundle))
     compare_prefixes(program)
+    compare_one_byte_a_read(program)
     compare_failures(program)
     by_line = compare_command_line(program)
     merges = [(f"merge/{path.stem}", read(path)) for path in files if path.parent.name == "merge"]
     by_words = compare_words(program, [*merges, ("long inventories", long_inventories())])
     compare_changing(program)
+    compare_gone(program)
     merged = compare_sites(program)
+    want_at_least(LEAST_FILES, len(files), "examples that are files")
+    want_at_least(LEAST_BY_WORDS, by_words, "merges by words")
+    want_at_least(LEAST_BY_LINE, by_line, "command lines")
     want("generated sites, more than half merged, but not all", True, SITES // 2 < merged < SITES)
     print(f"generated sites: {merged} merged at the least cost, {SITES - merged} refused for a small pool")
     print(f"command lines: {by_line} as in the table")

@@ -11,7 +11,8 @@ import threading
 
 
 def sections(lines, word):
-    """The parts of some lines that begin with a line of the word, each with what stands behind the word, and what is before them."""
+    """The parts of some lines that begin with a line of the word, each with what stands behind the word, and what is before
+    them."""
     before, parts = [], []
     for line in lines:
         if line.startswith(word + " "):
@@ -44,19 +45,19 @@ class Bundle:
         return bool(self.hosts) and all(name.isascii() and "=" not in name and name[:1] != "-" for name, _ in self.hosts)
 
     def lay_out(self, room):
-        """Writes the files into a directory for each host, and hands out the words that name them."""
+        """Writes the files into a directory for each host, and hands out the words that name them in the room."""
         words = []
         if self.pins is not None:
             (room / "pins").write_bytes(bytes_of(self.pins))
-            words = ["--pins", str(room / "pins")]
-        words.append(str(room / "out"))
+            words = ["--pins", "pins"]
+        words.append("out")
         (room / "out").mkdir()
         for index, (name, texts) in enumerate(self.hosts):
             folder = room / f"host{index}"
             folder.mkdir()
             for file in ("passwd", "group", "login.defs", "mtree"):
                 (folder / file).write_bytes(bytes_of(texts.get(file, "")))
-            words.append(f"{name}={folder}")
+            words.append(f"{name}=host{index}")
         return words
 
 
@@ -65,12 +66,13 @@ def written(folder):
 
 
 def merged(program, room, words):
-    ran = subprocess.run([program, "merge", *words], stdout=subprocess.PIPE, stderr=subprocess.PIPE, timeout=120)
+    ran = subprocess.run([program, "merge", *words], cwd=room, stdout=subprocess.PIPE, stderr=subprocess.PIPE, timeout=120)
     return ran.returncode, ran.stdout.decode("latin-1"), ran.stderr.decode("latin-1"), written(room / "out")
 
 
 def merged_by_words(program, bundle):
-    """The status of the merge by words, what it tells on standard output and on standard error, and the files that it writes."""
+    """The status of the merge by words, what it tells on standard output and on standard error, and the files that it
+    writes."""
     with tempfile.TemporaryDirectory() as name:
         room = pathlib.Path(name)
         return merged(program, room, bundle.lay_out(room))
@@ -85,12 +87,23 @@ def merged_by_bundle(status, answer):
     return status, "".join(f"{kind}-fields {number}\n" for kind, number in changed), "", files
 
 
-def merged_while_changing(program, bundle, host, again):
-    """The same, where the inventory of a host is another text when it is read for the second time. That of the last host, a later
-    one, is a pipe: the program opens it when it has read the others once."""
+def change(path, text):
+    """Gives a file another text; or takes the file away, where there is none."""
+    if text is None:
+        path.unlink()
+    else:
+        path.write_bytes(bytes_of(text))
+
+
+def merged_while_changing(program, bundle, host, again, older=None):
+    """The same, where the inventory of a host is another text, or gone, when it is read for the second time, and where older
+    files are in the directory that is written into. The inventory of the last host, a later one, is a pipe: the program opens
+    it when it has read the others once."""
     with tempfile.TemporaryDirectory() as name:
         room = pathlib.Path(name)
         words = bundle.lay_out(room)
+        for file, text in (older or {}).items():
+            (room / "out" / file).write_bytes(bytes_of(text))
         changing, last = room / f"host{host}/mtree", room / f"host{len(bundle.hosts) - 1}/mtree"
         text, after = last.read_bytes(), room / "after"
         last.rename(after)
@@ -98,7 +111,7 @@ def merged_while_changing(program, bundle, host, again):
 
         def hand_out():
             with open(last, "wb") as pipe:
-                changing.write_bytes(bytes_of(again))
+                change(changing, again)
                 after.replace(last)
                 pipe.write(text)
 

@@ -10,11 +10,12 @@ use Rattle.idtext.specs.declared.faults.TextCode.TheVariants.{NameTwice, SharedN
 use Rattle.idtext.specs.declared.faults.TextFault.{TextFault}
 use Rattle.idtext.specs.First.{or_else, first_fault, unless}
 use Rattle.idtext.specs.Pieces.{lines}
+use Rattle.idtext.proofs.FirstLemmas.{none_of_both}
 use Rattle.accounts.specs.Accepted.{EachPasses, IsAccepted, PasswdIsAccepted, GroupIsAccepted}
 use Rattle.accounts.specs.Laws.{AreDistinct, IsTable}
 use Rattle.accounts.specs.Rows.{passwd_line, group_line}
 use Rattle.accounts.specs.Tables.{row_in, rows_from, shared, shared_fault, fault_in, line_fault, table, passwd_table, group_table}
-use Rattle.accounts.proofs.LawLemmas.{none_of_both, told_ok, passwd-law, group-law}
+use Rattle.accounts.proofs.LawLemmas.{told_ok, passwd-law, group-law}
 use Rattle.accounts.proofs.ListLemmas.{list_any-map}
 
 -- ---- what stands before a place of a list without repeats

@@ -10,9 +10,10 @@ use Rattle.std.proofs.lemmas.Slice.Eq.{bytes_eq-Decides}
 use Rattle.idtext.specs.declared.faults.TextCode.{TextCode}
 use Rattle.idtext.specs.declared.faults.TextCode.TheVariants.{NameTwice, SharedNumber}
 use Rattle.idtext.specs.declared.faults.TextFault.{TextFault}
-use Rattle.idtext.specs.First.{◌>>=◌, or_else, first_fault, unless}
+use Rattle.idtext.specs.First.{◌>>=◌, first_fault, unless}
 use Rattle.idtext.specs.Numbers.{id_of, numeral}
 use Rattle.idtext.specs.Pieces.{lines, fields_of}
+use Rattle.idtext.proofs.FirstLemmas.{none_of_both}
 use Rattle.accounts.specs.Laws.{AreDistinct, AreIds, IsTable, IsPasswdTable, HaveLawfulGids, IsGroupTable}
 use Rattle.idtext.specs.Names.{is_lawful_name}
 use Rattle.accounts.specs.Lines.{is_kept}
@@ -60,10 +61,6 @@ number_refl : (n : ℕ) → nat_eq n n ≡ true
 number_refl n = eq-eqb n n refl
 
 -- ---- tables
-
-pub none_of_both : {F : Type 0} (a b : Option F) → or_else a b ≡ None → (a ≡ None) × (b ≡ None)
-none_of_both None b e = (refl, e)
-none_of_both (Some f) b e = cc
 
 pub told_ok : {X : Type 0} (fault : Option TextFault) (made rows : X) → unless fault made ≡ Ok rows → (fault ≡ None) × (made ≡ rows)
 told_ok None made rows e = (refl, cc)
@@ -151,7 +148,7 @@ module _ {Row : Type 0} (line_of : ℕ → List ℕ → Result (Option Row) Text
         names_differ = apart.names;
         numbers_differ = apart.numbers;
         lawful = all_named 1 (lines text);
-        least = ids_from number (λ n line row is. (line_lawful n line row is).2) 1 (lines text);
+        ids = ids_from number (λ n line row is. (line_lawful n line row is).2) 1 (lines text);
         few = omega (arith, few_rows 1 (lines text), length-map (rows_from line_of name number 1 (lines text)) number);
       } in
       subst (λ (rs : List Row). IsTable (map name rs) (map number rs)) told.1 law

@@ -1,7 +1,7 @@
 //! Lines of account files, before their fields are looked at.
 #![tactic(auto)]
 
-ghost use Rattle.std.specs.Prelude.{◌≡◌, Some};
+ghost use Rattle.std.specs.Prelude.{Some};
 ghost use Rattle.idtext.specs.First.{Gives};
 ghost use Rattle.accounts.specs.Lines.{is_kept};
 

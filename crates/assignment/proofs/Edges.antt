@@ -1,5 +1,5 @@
 -- A queue of edges, as edges come and go.
-use Rattle.std.proofs.Common.{◌≡◌, ◌≢◌, ℕ, zero, suc, ◌+◌, ◌-◌, ◌<◌, ◌≤◌, true, false, eqb, List, [], ◌∷◌, length, get_or, Option, Some, refl, sym, ap, ◌∙◌, subst, ◌⊎◌, inl, inr, ⊎_elim, arith}
+use Rattle.std.proofs.Common.{◌≡◌, ◌≢◌, ℕ, zero, suc, ◌+◌, ◌-◌, ◌<◌, ◌≤◌, true, false, eqb, List, [], ◌∷◌, length, get_or, Some, refl, sym, ap, ◌∙◌, subst, ◌⊎◌, inl, inr, ⊎_elim, arith}
 use Rattle.std.specs.List.{All, Contains}
 use Rattle.std.specs.List.Sorted.{IsPermutation}
 use Rattle.std.specs.BTreeMap as btree
@@ -12,10 +12,9 @@ use Rattle.assignment.specs.Solutions.{row_weight}
 use Rattle.candidates.specs.declared.Candidate.{Candidate}
 use Rattle.assignment.specs.declared.tree.Tree.{Tree}
 use Rattle.assignment.specs.declared.solver.Solver.{Solver}
-use Rattle.assignment.specs.declared.search.Nearest.{Nearest}
 use Rattle.assignment.specs.Order.{Edge}
 use Rattle.assignment.specs.Standing.{IsMet, holds}
-use Rattle.assignment.specs.Lazy.{y_in, z_in, level_of, lowered_to, IsLazy, IsExit, IsEdge, IsQueued, HasEdges}
+use Rattle.assignment.specs.Lazy.{y_in, z_in, level_of, lowered_to, IsLazy, IsEdge, IsQueued, HasEdges}
 use Rattle.assignment.proofs.Lazy.{depth_at, height_out}
 
 contains_cons : (x e : Edge) (es : List Edge) → Contains es e → Contains (x ∷ es) e
@@ -99,9 +98,3 @@ edge_met s t now x q e free room =
     let dn = depth_at s t now now x.1 q e.within in
     let hv = height_out t now (btree.get nat_cmp s.pairs.owner x.2) free in
     (e.weighs, free, omega (arith, dn, hv, e.level, e.later, q.passed x.1 e.within, room))
-
-pub exit_met : (s : Solver) (t : Tree) (now : ℕ) (exit : Nearest) → IsLazy s t now → IsExit s t exit → now ≤ exit.level → IsMet (row_weight s.rows.now) (lowered_to s.duals s.pairs t now) t.position.items t.names.items (exit.level - now) exit.at exit.number
-exit_met s t now exit q ex l =
-    let dn = depth_at s t now now exit.at q ex.within in
-    let k : (lowered_to s.duals s.pairs t now).y (get_or t.names.items exit.at 0) ≡ exit.level - now = omega (arith, dn, ex.met, l, q.passed exit.at ex.within) in
-    subst (λ (o : Option ℕ). IsMet (row_weight s.rows.now) (lowered_to s.duals s.pairs t now) t.position.items t.names.items (exit.level - now) exit.at o) (sym ex.none) k

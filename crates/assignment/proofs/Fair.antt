@@ -1,8 +1,8 @@
 -- The steps of a search keep what it keeps.
-use Rattle.std.proofs.Common.{◌≡◌, ◌≢◌, ℕ, ◌+◌, ◌<◌, ◌≤◌, ◌&&◌, true, false, ltb, eqb, List, length, get_or, Option, Some, None, refl, sym, ap, ◌∙◌, subst, ⊎_elim, ◌⊎◌, inl, inr, arith}
+use Rattle.std.proofs.Common.{◌≡◌, ◌≢◌, ℕ, ◌+◌, ◌-◌, ◌<◌, ◌≤◌, ◌&&◌, true, false, ltb, eqb, List, length, get_or, Option, Some, None, refl, sym, ap, ◌∙◌, subst, ⊎_elim, ◌⊎◌, inl, inr, arith}
 use Rattle.std.proofs.lemmas.Bool.{ltb-true, lt-ltb, le-ltb, eqb-true, eq-eqb, ne_eqb, and_parts, and_from, and_left, and_right, cases_Bool, cases_eq, cases_lt}
 use Rattle.std.proofs.lemmas.Option.{same_Some, none-some}
-use Rattle.assignment.specs.Standing.{Standing, IsTightPair, IsFair, among, holds, IsTree, IsSlack, IsLowered, IsLoose}
+use Rattle.assignment.specs.Standing.{Standing, IsTightPair, IsFair, among, holds, IsTree, IsSlack, IsLoose}
 
 -- ---- among
 
@@ -14,11 +14,6 @@ among_position position names t n h =
 
 pub among_at : (position names : List ℕ) (t i : ℕ) → get_or position (get_or names i 0) 0 ≡ i → i < t → among position names t (get_or names i 0) ≡ true
 among_at position names t i p h = rw p (and_from _ _ (lt-ltb i t h) (eq-eqb _ _ refl))
-
-pub among_none : (position names : List ℕ) (n : ℕ) → among position names 0 n ≡ false
-among_none position names n =
-    let h : ltb (get_or position n 0) 0 ≡ false = le-ltb (get_or position n 0) 0 (omega arith) in
-    and_left _ _ h
 
 pub among_not_yet : (position names : List ℕ) (t : ℕ) → get_or position (get_or names t 0) 0 ≡ t → among position names t (get_or names t 0) ≡ false
 among_not_yet position names t p =
@@ -69,6 +64,13 @@ reach_at w s position names d n v h e f =
     let p = among_position position names (length names) n e in
     let q = h.reach (get_or position n 0) v p.0 f in
     subst (λ (k : ℕ). w k v + d ≤ s.y k + s.z v) p.1 q
+
+-- the first t names of the tree are lowered by d, and the numbers that they hold are raised by it
+pub record IsLowered (s : Standing) (y' : ℕ → ℕ) (z' : ℕ → ℕ) (position : List ℕ) (names : List ℕ) (t : ℕ) (d : ℕ) : Type 0 where
+  pub y_in : (n : ℕ) → among position names t n ≡ true → y' n ≡ s.y n - d
+  pub y_out : (n : ℕ) → among position names t n ≡ false → y' n ≡ s.y n
+  pub z_in : (v : ℕ) → holds position names t (s.owner v) ≡ true → z' v ≡ s.z v + d
+  pub z_out : (v : ℕ) → holds position names t (s.owner v) ≡ false → z' v ≡ s.z v
 
 lowered_tight : (w : ℕ → ℕ → ℕ) (s : Standing) (position names : List ℕ) (d : ℕ) (y z : ℕ → ℕ) → IsSlack w s position names d → IsLowered s y z position names (length names) d → (n v : ℕ) → among position names (length names) n ≡ holds position names (length names) (s.owner v) → IsTightPair w s n v → IsTightPair w (with_duals s y z) n v
 lowered_tight w s position names d y z slack low n v same h =

@@ -2,15 +2,11 @@
 use Rattle.std.proofs.Common.{◌≡◌, ◌≢◌, ℕ, suc, ◌+◌, ◌<◌, ◌≤◌, ◌++◌, true, false, eqb, List, [], ◌∷◌, length, get_or, set, Some, None, refl, sym, ap, ◌∙◌, subst, ⊎_elim, arith, get_or-set_same, get_or-set_other}
 use Rattle.std.specs.List.{list_any}
 use Rattle.std.proofs.lemmas.Bool.{cases_lt, both_ways, eqb-true, ne_eqb, or_cases}
-use Rattle.std.proofs.lemmas.List.{length_push, length-set, get_or_append_left, get_or_push, get_or_default}
+use Rattle.std.proofs.lemmas.List.{length_push, get_or_append_left, get_or_push, get_or_default}
 use Rattle.std.proofs.lemmas.Map.Keys.{IsDistinct-from_apart}
 use Rattle.std.proofs.lemmas.Map.Steps.{length-le_from_distinct_below}
-use Rattle.assignment.specs.Solutions.{row_weight}
-use Rattle.assignment.specs.declared.tree.Tree.{Tree}
-use Rattle.assignment.specs.declared.solver.Solver.{Solver}
-use Rattle.assignment.specs.Standing.{Standing, IsTightPair, IsTree, IsSlack, IsMet, IsLowered, among, holds}
-use Rattle.assignment.specs.Solving.{standing, IsServing, IsSearching, root_of}
-use Rattle.assignment.proofs.Fair.{with_duals, among_at, holds_given}
+use Rattle.assignment.specs.Standing.{Standing, IsTightPair, IsTree, IsSlack, IsMet, among, holds}
+use Rattle.assignment.proofs.Fair.{IsLowered, with_duals, among_at, holds_given}
 
 -- the slack that was met is gone: the pair is tight
 pub tight_from : (w : ℕ → ℕ → ℕ) (st : Standing) (position names : List ℕ) (y z : ℕ → ℕ) (d i v : ℕ) → i < length names → get_or position (get_or names i 0) 0 ≡ i → IsSlack w st position names d → IsLowered st y z position names (length names) d → IsMet w st position names d i (Some v) → IsTightPair w (with_duals st y z) (get_or names i 0) v × (holds position names (length names) (st.owner v) ≡ false)
@@ -28,20 +24,6 @@ zero_from w st position names y z d i l p low met =
     omega (arith, here, met)
 
 -- ---- the tree grows
-
-pub start_tree : (w : ℕ → ℕ → ℕ) (s : Standing) (size root : ℕ) (position : List ℕ) → s.given root ≡ None → root < size → length position ≡ size → IsTree w s size root (set position root 0) (root ∷ []) (0 ∷ [])
-start_tree w s size root position bare l long =
-    let one : (i : ℕ) → i < length (root ∷ []) → i ≡ 0 = λ i h. omega (arith, h) in
-    let here : get_or (set position root 0) root 0 ≡ 0 = get_or-set_same position root 0 0 (omega (arith, long)) in
-    record {
-      some = omega arith;
-      paired = refl;
-      first = refl;
-      bare = bare;
-      placed = λ i h. let e : i ≡ 0 = one i h in ap (λ k. get_or (set position root 0) (get_or (root ∷ []) k 0) 0) e ∙ here ∙ sym e;
-      below = λ i h. let e : i ≡ 0 = one i h in subst (λ (k : ℕ). get_or (root ∷ []) k 0 < size) (sym e) l;
-      hung = λ i a h. let e : i ≡ 0 = one i h in absurd (omega arith);
-    }
 
 pub push_tree : (w : ℕ → ℕ → ℕ) (s : Standing) (size root : ℕ) (position names parents : List ℕ) (i v m : ℕ) → IsTree w s size root position names parents → m < size → length position ≡ size → i < length names → s.owner v ≡ Some m → s.given m ≡ Some v → holds position names (length names) (s.owner v) ≡ false → IsTightPair w s (get_or names i 0) v → IsTree w s size root (set position m (length names)) (names ++ m ∷ []) (parents ++ i ∷ [])
 push_tree w s size root position names parents i v m tree ms long il own had free tight =
@@ -117,16 +99,3 @@ same_tree w s size root root' position names parents position' names' parents' a
     (subst (λ (l : List ℕ). IsTree w s size root l names' parents') (sym b)
     (subst (λ (l : List ℕ). IsTree w s size root position l parents') (sym c)
     (subst (λ (l : List ℕ). IsTree w s size root position names l) (sym d) h)))
-
-pub start_search : (s : Solver) (t : Tree) (root : ℕ) (position : List ℕ) → IsServing s root → root < length s.rows.now.rows → length position ≡ length s.rows.now.rows → t.position.items ≡ set position root 0 → t.names.items ≡ root ∷ [] → t.parents.items ≡ 0 ∷ [] → IsSearching s t × (root_of t ≡ root)
-start_search s t root position q l long a b c =
-    let r : root_of t ≡ root = ap (λ (x : List ℕ). get_or x 0 0) b in (
-      record {
-        serving = subst (λ (k : ℕ). IsServing s k) (sym r) q;
-        grown = record {
-          position_long = ap length a ∙ length-set position root 0 ∙ long;
-          shape = same_tree (row_weight s.rows.now) (standing s.duals s.pairs) (length s.rows.now.rows) root (root_of t) (set position root 0) (root ∷ []) (0 ∷ []) t.position.items t.names.items t.parents.items r a b c (start_tree (row_weight s.rows.now) (standing s.duals s.pairs) (length s.rows.now.rows) root position (q.fair.waits root (omega arith)) l long);
-        };
-      },
-      r,
-    )

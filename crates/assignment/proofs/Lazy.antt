@@ -12,12 +12,12 @@ use Rattle.assignment.specs.declared.tree.Tree.{Tree}
 use Rattle.assignment.specs.declared.solver.Solver.{Solver}
 use Rattle.assignment.specs.declared.search.Nearest.{Nearest}
 use Rattle.assignment.specs.Order.{Edge}
-use Rattle.assignment.specs.Standing.{Standing, IsFair, IsTree, IsSlack, IsLowered, among, holds}
+use Rattle.assignment.specs.Standing.{Standing, IsFair, IsTree, IsSlack, among, holds}
 use Rattle.assignment.specs.Solving.{HasNoZero, IsSearching, root_of}
 use Rattle.assignment.specs.Lazy.{y_in, z_in, level_of, depth_of, height_of, lowered_to, IsSettled, CanSettle, IsLazy, IsExit, IsEdge, HasEdges}
 use Rattle.assignment.proofs.Nearest.{z_small}
 use Rattle.assignment.proofs.Weigh.{row_weight_small}
-use Rattle.assignment.proofs.Fair.{lowered_fair, lowered_tree, among_at, among_position, with_duals}
+use Rattle.assignment.proofs.Fair.{IsLowered, lowered_fair, lowered_tree, among_at, among_position, with_duals}
 
 -- ---- two standings with the same values
 

@@ -1,5 +1,5 @@
 -- One turn of the loop that lowers a tree to a level.
-use Rattle.std.proofs.Common.{◌≡◌, ◌≢◌, ℕ, ◌+◌, ◌-◌, ◌<◌, ◌≤◌, ◌^◌, cond, length, get_or, Option, Some, None, refl, sym, ap, ◌∙◌, subst, ⊎_elim, arith}
+use Rattle.std.proofs.Common.{◌≡◌, ◌≢◌, ℕ, ◌+◌, ◌-◌, ◌<◌, cond, length, get_or, Option, Some, None, refl, sym, ap, ◌∙◌, subst, ⊎_elim, arith}
 use Rattle.std.specs.BTreeMap as btree
 use Rattle.std.specs.Ordering.{nat_cmp}
 use Rattle.std.proofs.lemmas.Bool.{cases_eq, cond-true, cond-false}
@@ -7,7 +7,7 @@ use Rattle.assignment.specs.declared.duals.Duals.{Duals}
 use Rattle.assignment.specs.declared.pairs.Pairs.{Pairs}
 use Rattle.assignment.specs.declared.tree.Tree.{Tree}
 use Rattle.assignment.specs.Lazy.{y_in, z_in, level_of, depth_in, height_in, IsSettled, CanSettle}
-use Rattle.assignment.proofs.Fair.{among_at, among_none, among_not_yet, among_other, is_owner}
+use Rattle.assignment.proofs.Fair.{among_at, among_not_yet, among_other, is_owner}
 
 -- what one name's lowering says of the potentials
 pub record LowersOne (a b : Duals) (p : Pairs) (name d : ℕ) : Type 0 where
@@ -54,24 +54,3 @@ settle_more start a b p t now i can l e one =
           omega (arith, rest, e.z v, height_other t now i o ne))
           (is_owner o name);
     }
-
-height_none : (t : Tree) (now : ℕ) (o : Option ℕ) → height_in t.position.items t.names.items t.levels.items now 0 o ≡ 0
-height_none t now None = refl
-height_none t now (Some n) = cond-false _ _ _ (among_none t.position.items t.names.items n)
-
-pub settle_none : (start : Duals) (p : Pairs) (t : Tree) (now : ℕ) → IsSettled start start p t now 0
-settle_none start p t now =
-    record {
-      y = λ n. let e : depth_in t.position.items t.names.items t.levels.items now 0 n ≡ 0 = cond-false _ _ _ (among_none t.position.items t.names.items n) in omega (arith, e);
-      z = λ v. omega (arith, height_none t now (btree.get nat_cmp p.owner v));
-    }
-
--- what the next name needs
-pub settle_room : (start a : Duals) (p : Pairs) (t : Tree) (now i : ℕ) → CanSettle start p t now → i < length t.names.items → IsSettled start a p t now i → now - level_of t i ≤ y_in a (get_or t.names.items i 0)
-settle_room start a p t now i can l e = omega (arith, e.y (get_or t.names.items i 0), late t now i (can.placed i l), can.room i l)
-
-pub settle_fits : (start a : Duals) (p : Pairs) (t : Tree) (now i v : ℕ) → CanSettle start p t now → i < length t.names.items → IsSettled start a p t now i → get_or p.given.items (get_or t.names.items i 0) None ≡ Some v → z_in a v + (now - level_of t i) < 2 ^ 64
-settle_fits start a p t now i v can l e g =
-    let q = can.owned (get_or t.names.items i 0) v g in
-    let h1 : height_in t.position.items t.names.items t.levels.items now i (btree.get nat_cmp p.owner v) ≡ 0 = ap (λ x. height_in t.position.items t.names.items t.levels.items now i x) q ∙ late t now i (can.placed i l) in
-    omega (arith, e.z v, h1, can.fits i v l)

@@ -6,7 +6,6 @@ use Rattle.std.specs.Ordering.{nat_cmp}
 use Rattle.std.proofs.lemmas.Bool.{cases_eq, cases_lt, cases_Bool, both_ways, cond-true, cond-false, lt-ltb}
 use Rattle.std.proofs.lemmas.Option.{same_Some}
 use Rattle.std.proofs.lemmas.List.{length_push, length-set, get_or_append_left, get_or_push}
-use Rattle.std.proofs.lemmas.List.Elements.{All-nil}
 use Rattle.assignment.specs.Solutions.{row_weight}
 use Rattle.assignment.specs.declared.duals.Duals.{Duals}
 use Rattle.assignment.specs.declared.tree.Tree.{Tree}
@@ -14,65 +13,12 @@ use Rattle.assignment.specs.declared.solver.Solver.{Solver}
 use Rattle.assignment.specs.declared.search.Nearest.{Nearest}
 use Rattle.assignment.specs.Order.{Edge}
 use Rattle.assignment.specs.Standing.{IsTightPair, IsFair, IsTree, IsSlack, IsMet, among, holds}
-use Rattle.assignment.specs.Solving.{standing, IsSearching, root_of}
-use Rattle.assignment.specs.Lazy.{y_in, z_in, level_of, depth_of, height_of, depth_in, lowered_to, IsSettled, IsLazy, IsExit, IsEdge, HasEdges, HasOtherEdges}
+use Rattle.assignment.specs.Solving.{standing, root_of}
+use Rattle.assignment.specs.Lazy.{y_in, z_in, level_of, depth_of, height_of, depth_in, lowered_to, IsSettled, IsLazy, IsExit, HasEdges, HasOtherEdges}
 use Rattle.assignment.proofs.Fair.{among_at, among_position, holds_given}
 use Rattle.assignment.proofs.Lazy.{same_fair, same_shape, later_lowered, later_lazy}
 use Rattle.assignment.proofs.Grow.{push_tree, same_tree, tree_short, tight_from, zero_from}
 use Rattle.assignment.proofs.Nearest.{given_within}
-
--- ---- the start
-
-no_depth : (t : Tree) (n : ℕ) → depth_of t 0 n ≡ 0
-no_depth t n =
-    ⊎_elim
-    (λ (e : among t.position.items t.names.items (length t.names.items) n ≡ true). let k : depth_of t 0 n ≡ 0 - level_of t (get_or t.position.items n 0) = cond-true _ _ _ e in omega (arith, k))
-    (λ (e : among t.position.items t.names.items (length t.names.items) n ≡ false). cond-false _ _ _ e)
-    (cases_Bool (among t.position.items t.names.items (length t.names.items) n))
-
-no_height : (t : Tree) (o : Option ℕ) → height_of t 0 o ≡ 0
-no_height t None = refl
-no_height t (Some n) = no_depth t n
-
-pub lazy_start : (s : Solver) (t : Tree) (root : ℕ) → IsSearching s t → t.names.items ≡ root ∷ [] → t.levels.items ≡ 0 ∷ [] → IsLazy s t 0
-lazy_start s t root q names levels =
-    let st = standing s.duals s.pairs in
-    let after = lowered_to s.duals s.pairs t 0 in
-    let hy : (n : ℕ) → after.y n ≡ st.y n = λ n. omega (arith, no_depth t n) in
-    let hz : (v : ℕ) → after.z v ≡ st.z v = λ v. omega (arith, no_height t (btree.get nat_cmp s.pairs.owner v)) in
-    let zero' : level_of t 0 ≡ 0 = ap (λ (l : List ℕ). get_or l 0 0) levels in
-    record {
-      lawful = q.serving.lawful;
-      fits = q.serving.fits;
-      positive = q.serving.positive;
-      position_long = q.grown.position_long;
-      levels_long = ap length levels ∙ sym (ap length names);
-      fair = same_fair (row_weight s.rows.now) st (root_of t) after.y after.z q.serving.fair hy hz;
-      shape = same_shape (row_weight s.rows.now) st (length s.rows.now.rows) (root_of t) (root_of t) t.position.items t.names.items t.parents.items after.y after.z q.serving.fair q.grown.shape hy hz;
-      passed = λ i l. let e : i ≡ 0 = omega (arith, l, ap length names) in let k : level_of t i ≡ 0 = ap (level_of t) e ∙ zero' in omega (arith, k);
-      starts = zero';
-      high = q.serving.fair.small;
-      cover = q.serving.fair.cover;
-    }
-
-pub exit_start : (s : Solver) (t : Tree) (root high : ℕ) → t.names.items ≡ root ∷ [] → t.levels.items ≡ 0 ∷ [] → high ≡ y_in s.duals root → IsExit s t (record { level = high; at = 0; number = None })
-exit_start s t root high names levels e =
-    let en : get_or t.names.items 0 0 ≡ root = ap (λ (l : List ℕ). get_or l 0 0) names in
-    let el : level_of t 0 ≡ 0 = ap (λ (l : List ℕ). get_or l 0 0) levels in
-    let ey : high ≡ y_in s.duals (get_or t.names.items 0 0) = e ∙ ap (y_in s.duals) (sym en) in
-    record {
-      within = omega (arith, ap length names);
-      none = refl;
-      least = λ i l.
-          let q : i ≡ 0 = omega (arith, l, ap length names) in
-          subst (λ (k : ℕ). high ≤ level_of t k + y_in s.duals (get_or t.names.items k 0)) (sym q) (omega (arith, ey, el));
-      met = omega (arith, ey, el);
-    }
-
-pub no_edges : (s : Solver) (t : Tree) (now leaves : ℕ) (edges : List Edge) → edges ≡ [] → HasEdges s t now leaves edges 0
-no_edges s t now leaves edges e =
-    subst (λ (l : List Edge). HasEdges s t now leaves l 0) (sym e)
-    (record { edge = All-nil (IsEdge s t now); all = λ i v l free w. absurd (omega (arith, l)) })
 
 -- ---- a name more
 

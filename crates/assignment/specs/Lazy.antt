@@ -1,4 +1,5 @@
 -- A search that lowers nothing until it ends: its levels, and the pairs that wait in its queue.
+-- Words of the code and not of the subject: only private contracts, views and invariants cite them.
 use Rattle.std.specs.Prelude.{◌≡◌, ◌≢◌, ℕ, ◌+◌, ◌-◌, ◌<◌, ◌≤◌, ◌^◌, ◌⊎◌, false, cond, List, length, slice_index, slice_index_or, Option, Some, None, unwrap_or}
 use Rattle.std.specs.List.{All, Contains}
 use Rattle.std.specs.BTreeMap as btree

@@ -1,4 +1,5 @@
 -- What a solver answers: a mapping, with potentials that certify it in the rows.
+-- Source: the assignment problem, with its weak duality (Kuhn 1955, Munkres 1957).
 use Rattle.std.specs.Prelude.{◌≡◌, ℕ, ◌+◌, ◌<◌, ◌≤◌, ◌^◌, true, List, length}
 use Rattle.std.specs.List.{All}
 use Rattle.hosts_join.specs.Rules.{class_at, is_free_class}
@@ -37,6 +38,7 @@ pub record IsFreshIn (c : Choices) (m : List ℕ) (i : ℕ) : Type 0 where
 abbrev pub IsGreatest : Choices → List ℕ → Type 0
 IsGreatest c m = (other : List ℕ) → IsAdmissible c.accounts other → total_weight c other ≤ total_weight c m
 
--- Weak duality: potentials that cover, and that together are what a mapping weighs, prove that no admissible mapping weighs more.
+-- Weak duality: potentials that cover, and that together are what a mapping weighs, prove that no admissible mapping weighs
+-- more.
 abbrev pub WeakDuality : Type 0
 WeakDuality = (c : Choices) (m y : List ℕ) (z : List (ℕ × ℕ)) → length c.rows ≡ length c.accounts.names → length y ≡ length c.rows → Cover c y z → potential_sum y z ≡ total_weight c m → IsGreatest c m

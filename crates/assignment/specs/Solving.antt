@@ -1,4 +1,5 @@
 -- What the solver's fields stand for.
+-- Words of the code and not of the subject: only private contracts, views and invariants cite them.
 use Rattle.std.specs.Prelude.{◌≡◌, ℕ, ◌≤◌, length, slice_index, slice_index_or, Some, None, unwrap_or}
 use Rattle.std.specs.BTreeMap as btree
 use Rattle.std.specs.Ordering.{nat_cmp}

@@ -1,5 +1,6 @@
 -- What a search keeps: potentials that cover, and what was given so far.
-use Rattle.std.specs.Prelude.{◌≡◌, ◌≢◌, ℕ, ◌+◌, ◌-◌, ◌<◌, ◌≤◌, ◌^◌, ◌&&◌, Bool, true, false, nat_lt, nat_eq, List, length, slice_index, Option, Some, None}
+-- Words of the code and not of the subject: only private contracts, views and invariants cite them.
+use Rattle.std.specs.Prelude.{◌≡◌, ◌≢◌, ℕ, ◌+◌, ◌<◌, ◌≤◌, ◌^◌, ◌&&◌, Bool, false, nat_lt, nat_eq, List, length, slice_index, Option, Some, None}
 
 -- the potentials, each name's number and each number's owner
 pub record Standing : Type 0 where
@@ -59,13 +60,6 @@ pub record IsSlack (w : ℕ → ℕ → ℕ) (s : Standing) (position : List ℕ
 abbrev pub IsMet : (ℕ → ℕ → ℕ) → Standing → List ℕ → List ℕ → ℕ → ℕ → Option ℕ → Type 0
 IsMet w s position names d i None = s.y (slice_index names i) ≡ d
 IsMet w s position names d i (Some v) = (0 < w (slice_index names i) v) × (holds position names (length names) (s.owner v) ≡ false) × (w (slice_index names i) v + d ≡ s.y (slice_index names i) + s.z v)
-
--- the first t names of the tree are lowered by d, and the numbers that they hold are raised by it
-pub record IsLowered (s : Standing) (y' : ℕ → ℕ) (z' : ℕ → ℕ) (position : List ℕ) (names : List ℕ) (t : ℕ) (d : ℕ) : Type 0 where
-  pub y_in : (n : ℕ) → among position names t n ≡ true → y' n ≡ s.y n - d
-  pub y_out : (n : ℕ) → among position names t n ≡ false → y' n ≡ s.y n
-  pub z_in : (v : ℕ) → holds position names t (s.owner v) ≡ true → z' v ≡ s.z v + d
-  pub z_out : (v : ℕ) → holds position names t (s.owner v) ≡ false → z' v ≡ s.z v
 
 -- in the midst of a flip: the number v, which nobody has, is to go to the name at the position i of the tree
 pub record IsLoose (w : ℕ → ℕ → ℕ) (s : Standing) (size : ℕ) (next : ℕ) (position : List ℕ) (names : List ℕ) (parents : List ℕ) (i : ℕ) (v : ℕ) : Type 0 where

@@ -74,14 +74,6 @@ pub record IsRowSoFar (a : Accounts) (tallies : List Tally) (i k next : ℕ) (nu
   pub last : (u : ℕ) → next ≡ suc u → (j : ℕ) × (j < k) × (get_or numbers j 0 ≡ u)
   pub weights : (v : ℕ) → weight_in row v ≡ cond (list_any (λ t. t == v) (take k numbers)) (told_weight a tallies i v) 0
 
-pub so-far-start : (a : Accounts) (tallies : List Tally) (i : ℕ) (numbers : List ℕ) (row : List Candidate) → row ≡ [] → IsRowSoFar a tallies i 0 0 numbers row
-so-far-start a tallies i numbers row e = rw e (record {
-  lawful = record { ascending = tt; weighed = All-nil IsWeighed; pooled = All-nil (λ (c : Candidate). in_pool a (class_at a i) c.number ≡ true) };
-  below = All-nil (λ (c : Candidate). c.number < 0);
-  last = λ u e. absurd (omega arith);
-  weights = λ v. refl;
-})
-
 pub so-far-push : (a : Accounts) (tallies : List Tally) (i k next : ℕ) (numbers : List ℕ) (row : List Candidate) (w : ℕ) → AreAscending numbers → k < length numbers
     → next ≤ get_or numbers k 0 → in_pool a (class_at a i) (get_or numbers k 0) ≡ true → w ≡ told_weight a tallies i (get_or numbers k 0) → 1 ≤ w → w < 2 ^ 63
     → IsRowSoFar a tallies i k next numbers row → IsRowSoFar a tallies i (k + 1) (get_or numbers k 0 + 1) numbers (row ++ record { number = get_or numbers k 0; weight = w } ∷ [])

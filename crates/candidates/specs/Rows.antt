@@ -29,8 +29,8 @@ abbrev pub weight_in : List Candidate → ℕ → ℕ
 weight_in [] v = 0
 weight_in (c ∷ row) v = if c.number == v then c.weight else weight_in row v
 
--- The row of the name at an index: ascending, nothing of weight 0, and each number of the pool has its weight there, where a number
--- that does not stand in the row has 0. So the row has exactly the candidates. (A pinned name has the empty pool.)
+-- The row of the name at an index: ascending, nothing of weight 0, and each number of the pool has its weight there, where a
+-- number that does not stand in the row has 0. So the row has exactly the candidates. (A pinned name has the empty pool.)
 pub record IsRow (a : Accounts) (files : List File) (i : ℕ) (row : List Candidate) : Type 0 where
   pub ascending : IsAscending row
   pub weighed : All IsWeighed row

@@ -89,7 +89,8 @@ impl Filling {
         None
     }
 
-    /// Gives to the name at an index the least number of the pool, from a cursor on, that no name has; and answers the next cursor.
+    /// Gives to the name at an index the least number of the pool, from a cursor on, that no name has; and answers the next
+    /// cursor.
     pub fn give(&mut self, pool: &Pool, index: u32, from: u32) -> Result<u32, AllocError>
         requires within { index < length self.old }
         requires none { gift self.old index ≡ None }

@@ -98,7 +98,7 @@ fn candidates_of(
 
 impl<'n, 'a> Rows<'n, 'a> {
     /// The candidates of each name, weighed by the files that were counted. Asked is that the counters were made for these
-    /// names, and that none is above 2147483648.
+    /// names, and that none is above 2147483648, as those that `Counts::users` and `Counts::groups` lend.
     ///
     /// Near linear in the account rows: the numbers of a name, at most 64, are sorted, each is sought in the pool by a
     /// binary search, and its files and rows by a scan of the name's. A name takes 80 bytes, and with more than four

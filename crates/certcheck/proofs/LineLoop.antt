@@ -1,5 +1,5 @@
 -- Reading the lines of a certificate.
-use Rattle.std.proofs.Common.{◌≡◌, ℕ, ◌+◌, min, true, false, List, [], ◌∷◌, ◌++◌, length, Option, Some, None, refl, sym, ap, ◌∙◌, append_assoc, append-nil, arith, length-append}
+use Rattle.std.proofs.Common.{◌≡◌, ℕ, ◌+◌, min, true, false, List, [], ◌∷◌, ◌++◌, length, Option, Some, None, sym, ap, ◌∙◌, append_assoc, append-nil, arith, length-append}
 use Rattle.std.specs.List.{flat_map}
 use Rattle.std.specs.Option.{option_map}
 use Rattle.std.proofs.lemmas.Bool.{cond-true, cond-false}
@@ -26,13 +26,6 @@ pub record SoFar (text : List ℕ) (seen rest : List (List ℕ)) (parts : Parts)
 
 pub saturated : (n m k : ℕ) → n ≡ min k 18446744073709551615 → m ≡ min (n + 1) 18446744073709551615 → m ≡ min (k + 1) 18446744073709551615
 saturated n m k p q = omega arith
-
-pub so_far_none : (text : List ℕ) (rest : List (List ℕ)) (parts : Parts) → rest ≡ lines_of text → parts.users.items ≡ [] → parts.users_z.items ≡ [] → parts.groups.items ≡ [] → parts.groups_z.items ≡ [] → SoFar text [] rest parts None 0
-so_far_none text rest parts is u uz g gz = record {
-  whole = sym is;
-  judged = ap (λ ls. first_fault line_fault [] ls) is;
-  read = record { users = ap rows_of u; users_z = uz; groups = ap rows_of g; groups_z = gz; last = refl; counted = refl };
-}
 
 pub so_far_fails : (text : List ℕ) (seen left rest : List (List ℕ)) (parts : Parts) (before : Option Item) (number next : ℕ) (line : List ℕ) → SoFar text seen left parts before number → left ≡ line ∷ rest → next ≡ min (number + 1) 18446744073709551615 → may_follow (option_map item_view before) (item_of line) ≡ false → first_fault line_fault [] (lines_of text) ≡ Some next
 so_far_fails text seen left rest parts before number next line so_far is counts bad =

@@ -1,28 +1,28 @@
 -- What is read from a text is spelled by it, and what is spelled is read.
-use Rattle.std.proofs.Common.{◌≡◌, ℕ, zero, suc, ◌+◌, ◌<◌, ◌≤◌, ◌==◌, ◌||◌, min, Bool, true, false, cond, codes, List, [], ◌∷◌, ◌++◌, map, length, get_or, Option, Some, None, Result, Ok, Err, refl, sym, ap, ◌∙◌, ⊎_elim, arith, subst, append_assoc, append-nil}
-use Rattle.std.specs.List.{All, list_any, flat_map}
-use Rattle.std.specs.Fmt.{decimal}
-use Rattle.std.proofs.lemmas.Bool.{cases_Bool, cond-true, cond-false, false≢true}
-use Rattle.std.proofs.lemmas.List.Concat.{flat_map-append, flat_map-cons}
+use Rattle.std.proofs.Common.{◌≡◌, ℕ, ◌+◌, ◌<◌, min, Bool, true, false, cond, codes, List, [], ◌∷◌, ◌++◌, map, length, Option, Some, None, Result, Ok, refl, sym, ap, ◌∙◌, arith, subst, append_assoc, append-nil}
+use Rattle.std.specs.List.{All, flat_map}
+use Rattle.std.proofs.lemmas.Bool.{cond-true, false≢true}
+use Rattle.std.proofs.lemmas.List.Concat.{flat_map-append}
 use Rattle.std.proofs.lemmas.List.Elements.{All-head, All-tail}
-use Rattle.std.proofs.lemmas.Option.{none-some, same_Some}
+use Rattle.std.proofs.lemmas.Option.{none-some}
 use Rattle.idtext.specs.Faults.{line_number}
 use Rattle.idtext.specs.First.{first_fault, or_else, unless}
 use Rattle.idtext.specs.Pieces.{lines}
 use Rattle.hosts_join.specs.declared.Which.{Which}
 use Rattle.hosts_join.specs.declared.Which.TheVariants.{User, Group}
-use Rattle.certcheck.specs.Certificate.{Row, IsRow, IsSide, Side}
+use Rattle.certcheck.specs.Certificate.{Row, IsRow}
 use Rattle.ownership.specs.Potentials.{IsZ}
 use Rattle.certcheck.specs.declared.certificate.Certificate.{Certificate}
 use Rattle.certcheck.specs.Laws.{IsCertificate, NoneBeginsAnother, ReadsWhatIsSpelled, SpelledIsRead}
-use Rattle.certcheck.specs.Reading.{Item, Head, RowItem, ZItem, End, certificate_in, end_fault, is_cut, is_end, item_before, item_of, last_line, line_fault, may_follow, rows_in, all_z_in, side_in}
+use Rattle.certcheck.specs.Reading.{Item, Head, RowItem, ZItem, End, certificate_in, end_fault, is_cut, is_end, item_before, item_of, line_fault, may_follow, rows_in, all_z_in, side_in}
 use Rattle.certcheck.specs.Spelling.{row_line, side_text, spelling, z_line}
 use Rattle.certcheck.proofs.Growing.{IsLawfulItem, item_push, line_fine, lines_give_side, no_item}
 use Rattle.certcheck.proofs.ItemLines.{item_line, line_plain, line_reads, line_says, row_text, z_text}
 use Rattle.certcheck.proofs.Least.{none_both}
 use Rattle.certcheck.proofs.TextLines.{ArePlain, cut_back, ended, lines_front, lines_whole, text_of_lines}
 use Rattle.certcheck.proofs.Turns.{Chain, given_by, items_chain, items_of, last_item, whole_chain}
-use Rattle.certcheck.proofs.WholeText.{ended_read, line_refused}
+use Rattle.certcheck.proofs.WholeText.{ended_read}
+use Rattle.certcheck.proofs.LineLoop.{side_equal}
 
 -- 1. Lines and what they say
 
@@ -293,9 +293,6 @@ module _ (c : Certificate) where
   group_z_back : flat_map (λ i. all_z_in Group (Some i)) (items_of c) ≡ c.groups.z
   group_z_back = pieces_of (λ i. all_z_in Group (Some i)) us uz gs gz (End ∷ []) [] [] [] c.groups.z [] (made_given (λ r. RowItem User r) (λ i. all_z_in Group (Some i)) c.users.rows (λ r. refl)) (made_given (λ e. ZItem User e) (λ i. all_z_in Group (Some i)) c.users.z (λ e. refl)) (made_given (λ r. RowItem Group r) (λ i. all_z_in Group (Some i)) c.groups.rows (λ r. refl)) (made_back (λ e. ZItem Group e) (λ i. all_z_in Group (Some i)) c.groups.z (λ e. refl)) refl ∙ append-nil c.groups.z
 
-side_made : (rows rows' : List Row) (z z' : List (ℕ × ℕ)) → rows ≡ rows' → z ≡ z' → ◌≡◌ {A = Side} (record { rows = rows; z = z }) (record { rows = rows'; z = z' })
-side_made rows rows' z z' er ez = ap (λ rs. record { rows = rs; z = z }) er ∙ ap (λ x. record { rows = rows'; z = x }) ez
-
 spelled_said : (c : Certificate) → IsCertificate c → lines (spelling c) ≡ map item_line (items_of c)
 spelled_said c is = ap lines (spelled_lines c ∙ sym (mapped (items_of c))) ∙ lines_whole (map item_line (items_of c)) (lawful_plain (items_of c) (items_lawful c is))
 
@@ -307,8 +304,8 @@ spelled_is_read c is =
     let chain = items_chain c is.users.names_ascend is.users.numbers_ascend is.groups.names_ascend is.groups.numbers_ascend in
     let end : is_end (item_before ls) ≡ true = ap is_end (said_last ls (items_of c) said ∙ items_end c) in
     ended_read (spelling c) c.users c.groups (says_fine [] ls (items_of c) said chain) (spelling_whole c) end
-    (sym (said_side User ls (items_of c) said ∙ side_made _ _ _ _ (users_back c) (user_z_back c)))
-    (sym (said_side Group ls (items_of c) said ∙ side_made _ _ _ _ (groups_back c) (group_z_back c)))
+    (sym (said_side User ls (items_of c) said ∙ side_equal _ _ _ _ (users_back c) (user_z_back c)))
+    (sym (said_side Group ls (items_of c) said ∙ side_equal _ _ _ _ (groups_back c) (group_z_back c)))
 
 -- 5. None begins another
 

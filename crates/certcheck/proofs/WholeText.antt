@@ -10,7 +10,7 @@ use Rattle.hosts_join.specs.declared.Which.TheVariants.{User, Group}
 use Rattle.certcheck.specs.Certificate.{Side, IsSide}
 use Rattle.certcheck.specs.declared.certificate.Certificate.{Certificate}
 use Rattle.certcheck.specs.declared.reading.CertificateFault.{CertificateFault}
-use Rattle.certcheck.specs.LinesRead.{line_told}
+use Rattle.certcheck.specs.Told.{line_told}
 use Rattle.certcheck.specs.Reading.{certificate_in, end_fault, is_cut, is_end, item_before, line_fault, side_in}
 use Rattle.certcheck.proofs.Growing.{lines_give_side}
 

@@ -1,4 +1,5 @@
 -- A certificate: rows of names with their numbers and their y, and the z of numbers.
+-- Source: this project's own format.
 use Rattle.std.specs.Prelude.{◌≡◌, ℕ, ◌<◌, ◌≤◌, ◌^◌, true, List, length, slice_index_or}
 use Rattle.std.specs.declared.cmp.Ordering.TheVariants.{Less}
 use Rattle.std.specs.Ordering.{nat_cmp}

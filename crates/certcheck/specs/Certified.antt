@@ -1,4 +1,5 @@
 -- What a yes of the check means.
+-- Source: the assignment problem, with its weak duality (Kuhn 1955, Munkres 1957); changed rows are this project's own rule.
 use Rattle.std.specs.Prelude.{◌≡◌, ℕ, List, Ok}
 use Rattle.hosts_join.specs.Accounts.{Accounts}
 use Rattle.hosts_join.specs.Lawful.{AreLawfulAccounts}

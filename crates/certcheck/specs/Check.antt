@@ -1,4 +1,6 @@
 -- Why a certificate is refused: the first fault of a kind by what numbers weigh, and the answer for files.
+-- Source: the assignment problem (coverage and equal sums: Kuhn 1955, Munkres 1957); the order of faults is this project's
+-- own rule.
 use Rattle.std.specs.Prelude.{ℕ, zero, suc, ◌+◌, ◌^◌, Bool, false, not, ◌&&◌, ◌==◌, nat_lt, if◌then◌else◌, List, [], ◌∷◌, ◌++◌, length, map, filter, find, count_by, Option, Some, None, Result}
 use Rattle.std.specs.Option.{option_map, option_map_or}
 use Rattle.std.specs.Ordering.{nat_cmp, is_lt}

@@ -1,4 +1,5 @@
 -- Laws of certificates and their texts.
+-- Source: this project's own format.
 use Rattle.std.specs.Prelude.{◌≡◌, ℕ, List, [], ◌++◌, Ok}
 use Rattle.certcheck.specs.Certificate.{IsSide}
 use Rattle.certcheck.specs.declared.certificate.Certificate.{Certificate}

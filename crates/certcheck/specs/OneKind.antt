@@ -1,4 +1,5 @@
 -- What the check of one kind answers, as the counters tell it.
+-- Words of the code and not of the subject: only private contracts, views and invariants cite them.
 use Rattle.std.specs.Prelude.{ℕ, ◌-◌, ◌<◌, ◌≤◌, List, length, Result}
 use Rattle.idtext.specs.First.{unless}
 use Rattle.hosts_join.specs.declared.Which.{Which}

@@ -1,4 +1,5 @@
 -- What a certificate text says, line by line. Each line is judged by the line before it.
+-- Source: this project's own format.
 use Rattle.std.specs.Prelude.{ℕ, ◌-◌, Bool, true, false, not, ◌&&◌, ◌==◌, nat_lt, nat_le, min, if◌then◌else◌, List, [], ◌∷◌, length, slice_index, drop, codes, decimal, flat_map, Option, Some, None, Result}
 use Rattle.std.specs.Option.{option_and_then, option_map}
 use Rattle.std.specs.Ordering.{nat_cmp, is_lt}

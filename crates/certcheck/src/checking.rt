@@ -76,10 +76,11 @@ fn check_kind<'a>(
 }
 
 /// The cost of the certificate's mappings, where it certifies them: how many owner fields and group fields of the counted files
-/// they change. Asked is that the counters were made for the site and stand for some list of added files.
+/// they change. Asked is that the counters were made for the site and stand for some list of added files, as those of
+/// `Counts::new` to which files were added do.
 ///
-/// A yes proves that no admissible pair of mappings costs less, and that among those of least cost for a kind none changes fewer
-/// account rows of it, whoever wrote the certificate.
+/// A yes proves that no admissible pair of mappings costs less, and that among those of least cost for a kind none changes
+/// fewer account rows of it, whoever wrote the certificate.
 ///
 /// A number that a name has on no host weighs nothing for it, so no pool is walked: a binary search or two for each row of the
 /// certificate; a few binary searches, and a scan of the name's hosts, for each account row of the site; and memory for the

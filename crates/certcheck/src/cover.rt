@@ -11,7 +11,7 @@ ghost use Rattle.certcheck.specs.Check as spec;
 
 use crate::CertRow;
 use crate::lookup::{index_of, value_of};
-use crate::numbers::lesser;
+use crate::numbers::lesser_number;
 use hosts_join::Names;
 use ownership::KindCounts;
 
@@ -61,7 +61,7 @@ fn uncovered_number(
     let mut least = None;
     for spot in names.spots(index) {
         if is_uncovered(names, counts, z, index, y, spot.number) {
-            least = Some(lesser(least, spot.number));
+            least = Some(lesser_number(least, spot.number));
         }
     }
     least

@@ -6,7 +6,8 @@ ghost use Rattle.std.specs.Option.{option_map};
 ghost use Rattle.certcheck.specs.Items.{item_view};
 ghost use Rattle.certcheck.specs.Reading as spec;
 ghost use Rattle.certcheck.specs.Reading.{certificate_in, line_fault};
-ghost use Rattle.certcheck.specs.LinesRead.{AreRead, line_told};
+ghost use Rattle.certcheck.specs.LinesRead.{AreRead};
+ghost use Rattle.certcheck.specs.Told.{line_told};
 
 use crate::line::{Item, item_in};
 use crate::reading::{Parts, may_follow, take_item};
@@ -63,9 +64,9 @@ fn is_end(last: Option<Item<'_>>) -> bool
 ///
 /// # Errors
 ///
-/// `BadCertificate` with the number of the first line that is wrong, out of place, missing or without its newline; a missing line
-/// has the number behind the last. A certificate has one spelling, so no other text is read, and none begins another. One pass
-/// over the text, and memory in step with its lines; `Memory` where that is refused.
+/// `BadCertificate` with the number of the first line that is wrong, out of place, missing or without its newline; a missing
+/// line has the number behind the last. A certificate has one spelling, so no other text is read, and none begins another. One
+/// pass over the text, and memory in step with its lines; `Memory` where that is refused.
 pub fn read_certificate<'a>(
     alloc: Global,
     text: &'a [u8],

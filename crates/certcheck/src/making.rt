@@ -46,7 +46,8 @@ fn sort_rows(rows: &mut Vec<CertRow<'_>>)
 
 /// The side that has each name with its number and its potential y, by the index of the name, ascending by name, and these
 /// potentials z of numbers. Asked is a number that an account may have and a y for each name, and z of at least 1 at ascending
-/// numbers that an account may have. One sort of the rows, and memory in step with them; `AllocError` where it is refused.
+/// numbers that an account may have, as a solution of `solve` for these names has them. One sort of the rows, and memory in
+/// step with them; `AllocError` where it is refused.
 pub fn side_of<'a>(
     alloc: Global,
     names: &Names<'a>,
@@ -65,7 +66,8 @@ pub fn side_of<'a>(
 }
 
 /// The side that tells a solution for these names: each with its number and its potential, and the potentials of numbers. Asked
-/// and answered is what `side_of` asks and answers.
+/// is a number that an account may have and a y for each name, and z of at least 1 at ascending numbers that an account may
+/// have, as the solution that `solve` gives for the rows of these names has them. Its cost and memory are those of `side_of`.
 pub fn certificate_of<'a>(
     alloc: Global,
     names: &Names<'a>,

@@ -1,5 +1,5 @@
 //! Worked examples of certificates and of their check.
-ghost use Rattle.std.specs.Prelude.{◌≡◌, ◌≤◌, IfOk, List, OnOk, length};
+ghost use Rattle.std.specs.Prelude.{◌≤◌, IfOk, List, OnOk, length};
 ghost use Rattle.std.specs.List.{All};
 ghost use Rattle.hosts_join.specs.Hosts.{IsLawfulHost};
 ghost use Rattle.ownership.specs.Counts.{AreMadeFor, AreWithin, IsMadeFor, StandsFor};

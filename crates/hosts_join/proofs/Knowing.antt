@@ -70,25 +70,6 @@ place-some p (x ∷ xs) h = elim (cases_Bool (p x)) [
 some_same : {X : Type 0} (a b : X) → Some a ≡ Some b → a ≡ b
 some_same a b e = cc
 
-first-is : {X : Type 0} (p : X → Bool) (x : X) (xs : List X) (i : ℕ) (d : X) → 0 ≡ i → p x ≡ true → (i < length (x ∷ xs)) × (p (get_or (x ∷ xs) i d) ≡ true)
-first-is p x xs zero d e it = (omega arith, it)
-first-is p x xs (suc i) d e it = absurd (omega (arith, e))
-
-later-is : {X : Type 0} (p : X → Bool) (x : X) (xs : List X) (i : ℕ) (d : X) (o : Option ℕ) → ((j : ℕ) → o ≡ Some j → (j < length xs) × (p (get_or xs j d) ≡ true)) → option_map suc o ≡ Some i → (i < length (x ∷ xs)) × (p (get_or (x ∷ xs) i d) ≡ true)
-later-is p x xs i d None rest e = absurd (cc)
-later-is p x xs zero d (Some j) rest e = absurd (omega (arith, some_same (suc j) 0 e))
-later-is p x xs (suc i) d (Some j) rest e =
-    let there = rest i (ap (λ (k : ℕ). Some k) (omega (arith, some_same (suc j) (suc i) e))) in
-    (omega (arith, there.0), there.1)
-
--- what stands at the place
-pub place-is : {X : Type 0} (p : X → Bool) (xs : List X) (i : ℕ) (d : X) → place p xs ≡ Some i → (i < length xs) × (p (get_or xs i d) ≡ true)
-place-is p [] i d e = absurd (cc)
-place-is p (x ∷ xs) i d e = elim (cases_Bool (p x)) [
-  | inl it ↦ let e' = rw it at e in first-is p x xs i d (some_same 0 i e') it
-  | inr away ↦ let e' = rw away at e in later-is p x xs i d (place p xs) (λ j. place-is p xs j d) e'
-]
-
 -- the name is among those of the rows
 name-there : (h v : ℕ) (n : List ℕ) (rows : List Row) → All (IsNamed h v n) rows → list_any (is_at h v) rows ≡ true → list_any (bytes_eq n) (map (λ r. r.name) rows) ≡ true
 name-there h v n [] named there = there

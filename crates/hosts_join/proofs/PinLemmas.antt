@@ -8,7 +8,6 @@ use Rattle.std.proofs.lemmas.Bool.{leb-true, cases_Bool, not-true, lt-ltb, le-lt
 use Rattle.std.proofs.lemmas.List.{map_push}
 use Rattle.std.proofs.lemmas.List.Concat.{flat_map-append}
 use Rattle.std.proofs.lemmas.List.Elements.{All-push}
-use Rattle.std.proofs.lemmas.Slice.Eq.{bytes_eq-Decides}
 use Rattle.idtext.specs.Faults.{line_number}
 use Rattle.idtext.specs.Numbers.{id_of, numeral}
 use Rattle.idtext.specs.Names.{is_lawful_name, is_skipped}
@@ -18,6 +17,7 @@ use Rattle.idtext.proofs.FirstLemmas.{Reads, reads_none, reads_fails, reads_more
 use Rattle.accounts.proofs.LawLemmas.{distinct-push}
 use Rattle.accounts.proofs.ListLemmas.{list_any-map}
 use Rattle.hosts_join.specs.Accounts.{Pair}
+use Rattle.hosts_join.proofs.Grouping.{bytes_refl}
 use Rattle.hosts_join.specs.Pairs.{number_of}
 use Rattle.hosts_join.specs.PairLines.{pair_line_of, cut_pair, named, user_pair, group_pair}
 use Rattle.hosts_join.specs.PinPairs.{PinPairs, ArePins}
@@ -70,9 +70,6 @@ pair_line-id line =
     (either is_group group Wrong (cut-id Group (cut_at_last_space (drop 6 line))) tt))
 
 -- ---- one pin more
-
-bytes_refl : (a : List ℕ) → bytes_eq a a ≡ true
-bytes_refl a = (bytes_eq-Decides a a).1 refl
 
 number_refl : (n : ℕ) → nat_eq n n ≡ true
 number_refl n = eq-eqb n n refl

@@ -1,12 +1,13 @@
 -- A joined site has lawful accounts.
-use Rattle.std.proofs.Common.{◌≡◌, ℕ, ◌+◌, ◌≤◌, true, not, List, [], ◌∷◌, ◌++◌, length, map, Option, Some, None, Ok, refl, sym, ap, subst, ◌∙◌, arith, inl, inr, append_assoc, append-nil, nat_eq, nat_lt}
+use Rattle.std.proofs.Common.{◌≡◌, ℕ, ◌+◌, ◌≤◌, true, not, List, [], ◌∷◌, ◌++◌, length, map, Some, None, Ok, refl, sym, ap, subst, ◌∙◌, arith, inl, inr, append_assoc, append-nil, nat_eq, nat_lt}
 use Rattle.std.specs.List.{All, list_any}
-use Rattle.std.specs.Option.{is_some, option_map}
+use Rattle.std.specs.Option.{is_some}
 use Rattle.std.proofs.lemmas.Bool.{cases_Bool, and_parts, not-true, false≢true}
 use Rattle.std.proofs.lemmas.List.{length-map}
 use Rattle.std.proofs.lemmas.List.Elements.{All-nil}
-use Rattle.idtext.specs.First.{first_fault, or_else}
+use Rattle.idtext.specs.First.{first_fault}
 use Rattle.idtext.specs.Pieces.{lines}
+use Rattle.idtext.proofs.FirstLemmas.{none_of_both}
 use Rattle.idtext.proofs.OkLemmas.{unless_ok, bind_ok}
 use Rattle.accounts.specs.Laws.{IsTable}
 use Rattle.logindefs.specs.Ranges.{AreApart}
@@ -35,17 +36,10 @@ use Rattle.hosts_join.proofs.Knowing.{site-is}
 use Rattle.hosts_join.proofs.Lawful.{lawful, no-hosts}
 use Rattle.hosts_join.proofs.Once.{rows_from-named}
 use Rattle.hosts_join.proofs.PinLemmas.{more, pair_line-id, pins-push, used-is}
+use Rattle.hosts_join.proofs.Sources.{none-mapped}
 use Rattle.hosts_join.proofs.Spots.{rows_from-among, rows_from-lawful, few-spots}
 
 -- ---- the accounts of a kind
-
-no-first : {X : Type 0} (o p : Option X) → or_else o p ≡ None → (o ≡ None) × (p ≡ None)
-no-first None p e = (refl, e)
-no-first (Some x) p e = absurd (cc)
-
-no-map : {X Y : Type 0} (f : X → Y) (o : Option X) → option_map f o ≡ None → o ≡ None
-no-map f None e = refl
-no-map f (Some x) e = absurd (cc)
 
 lines-rest : (seen rest : List Row) → all_lines (grouped (seen ++ rest)) ≡ all_lines (grouped seen) + length rest
 lines-rest seen [] = ap (λ rows. all_lines (grouped rows)) (append-nil seen) ∙ omega arith
@@ -65,10 +59,10 @@ accounts-lawful kind regular system listed table apart hosts pins b few all are 
     let a = accounts_of regular system listed hosts pins in
     let rows = rows_from r s listed 0 hosts in
     let none = (unless_ok (refusal kind a) a b is).0 in
-    let agreed = no-first (first_some (disagrees kind a.hosts a.pins) a.names) _ none in
-    let unclashed = no-first (clash kind (claims a)) _ agreed.1 in
+    let agreed = none_of_both (first_some (disagrees kind a.hosts a.pins) a.names) _ none in
+    let unclashed = none_of_both (clash kind (claims a)) _ agreed.1 in
     let len : length a.hosts ≡ length hosts = length-map hosts (entry_on regular system) in
-    lawful a rows refl (no-map _ (clash_of (claims a)) unclashed.0)
+    lawful a rows refl (none-mapped _ (clash_of (claims a)) unclashed.0)
     (rows_from-named r s listed IsLawfulHost table 0 hosts all)
     (rows_from-lawful r s listed IsLawfulHost table 0 hosts all)
     (omega (arith, length-rows_from r s listed IsLawfulHost table 0 hosts all, few))
@@ -112,7 +106,7 @@ pins-rest : (seen rest : List (List ℕ)) → ArePinPairs (pins_on seen) → fir
 unfolding first_fault
 pins-rest seen [] are none = rw (append-nil seen) are
 pins-rest seen (line ∷ rest) are none =
-    let parts = no-first (pins_fault seen line) (first_fault pins_fault (seen ++ line ∷ []) rest) none in
+    let parts = none_of_both (pins_fault seen line) (first_fault pins_fault (seen ++ line ∷ []) rest) none in
     let may = stands seen line parts.0 in
     let one = line-more (pins_on seen) (pair_line_of line) are (pair_line-id line) may in
     let next : ArePinPairs (pins_on (seen ++ line ∷ [])) = record {

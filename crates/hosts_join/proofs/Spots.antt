@@ -9,16 +9,13 @@ use Rattle.idtext.specs.Names.{is_lawful_name}
 use Rattle.accounts.specs.Laws.{IsTable}
 use Rattle.logindefs.specs.declared.ranges.IdRange.{IdRange}
 use Rattle.hosts_join.specs.declared.Spot.{Spot}
-use Rattle.hosts_join.specs.Accounts.{Account, Row, spot_of, spots_of, grouped, first_appearances, IsOnceEach, IsSpotAmong, host_rows, rows_from, nobody}
-use Rattle.hosts_join.proofs.Once.{IsOnceEach-spots_of, host_rows-named}
+use Rattle.hosts_join.specs.Accounts.{Row, spot_of, spots_of, grouped, first_appearances, IsOnceEach, IsSpotAmong, host_rows, rows_from, nobody}
+use Rattle.hosts_join.proofs.Once.{IsOnceEach-spots_of, account_with, host_rows-named}
 
 -- what holds of the rows holds of the spots
 pub spots_of-all : (P : Spot → Type 0) (rows : List Row) (n : List ℕ) → All (λ r. P (spot_of r)) rows → All P (spots_of rows n)
 unfolding spots_of
 spots_of-all P rows n all = All-map P spot_of (filter (λ (r : Row). bytes_eq n r.name) rows) (All-filter (λ (r : Row). bytes_eq n r.name) (λ r. P (spot_of r)) rows all)
-
-abbrev account_with : List ℕ → List Spot → Account
-account_with n ss = record { name = n; spots = ss }
 
 -- what holds of the spots of each name holds of each account
 pub grouped-spots : (P : List Spot → Type 0) (rows : List Row) → P [] → ((n : List ℕ) → P (spots_of rows n)) → (i : ℕ) → P (get_or (grouped rows) i nobody).spots
@@ -66,7 +63,7 @@ module _ {H : Type 0} (regular system : H → IdRange) (pairs : H → List (List
   rows_from-among place n [] fits l = All-nil (λ (q : Row). IsSpotAmong n (spot_of q))
   rows_from-among place n (h ∷ hs) fits l =
       All-append (λ (q : Row). IsSpotAmong n (spot_of q)) (host_rows place (regular h) (system h) (pairs h)) (rows_from regular system pairs (place + 1) hs)
-      (host_rows-among place n (regular h) (system h) (pairs h) (omega arith) (table h (All-head lawful h hs l)).least)
+      (host_rows-among place n (regular h) (system h) (pairs h) (omega arith) (table h (All-head lawful h hs l)).ids)
       (rows_from-among (place + 1) n hs (omega arith) (All-tail lawful h hs l))
 
   pub rows_from-lawful : (place : ℕ) (hs : List H) → All lawful hs → All (λ q. is_lawful_name q.name ≡ true) (rows_from regular system pairs place hs)

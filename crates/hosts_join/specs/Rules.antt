@@ -97,8 +97,8 @@ is_taken given v = list_any (λ p. p.number == v) given
 abbrev pub is_id : ℕ → Bool
 is_id v = nat_le v 4294967294
 
--- The pool of a class: the numbers that lie in its range on every host and are not given away. A pinned name has the empty pool.
--- (The test `is_id` is for ranges made by hand: those of a login.defs hold no other number.)
+-- The pool of a class: the numbers that lie in its range on every host and are not given away. A pinned name has the empty
+-- pool. (The test `is_id` is for ranges made by hand: those of a login.defs hold no other number.)
 abbrev pub in_pool : Accounts → Class → ℕ → Bool
 in_pool a (Pinned v) w = false
 in_pool a Regular w = (is_id w && list_all (λ h. in_range h.regular w) a.hosts) && not (is_taken (claims a) w)

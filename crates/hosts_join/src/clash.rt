@@ -1,5 +1,5 @@
 //! Numbers that are given to two names.
-ghost use Rattle.std.specs.Prelude.{◌≡◌, Option, IfOk};
+ghost use Rattle.std.specs.Prelude.{◌≡◌, IfOk};
 ghost use Rattle.hosts_join.specs.Rules.{clash_of};
 ghost use Rattle.hosts_join.specs.Clash.{clash_seen};
 ghost use Rattle.hosts_join.specs.Views.{pairs_of};
@@ -11,8 +11,11 @@ use std::collections::HashMap;
 /// A number that is given to two names.
 #[derive(Clone, Copy, Debug)]
 pub struct Clash<'a> {
+    /// The uid or gid.
     pub number: u32,
+    /// The name that came first.
     pub first: &'a [u8],
+    /// The other name.
     pub second: &'a [u8],
 }
 

@@ -9,8 +9,12 @@ use logindefs::HostRanges;
 /// what a lawful host has.
 #[derive(Drop)]
 pub struct Host<'a> {
+    /// The host's name.
     pub name: Name<'a>,
+    /// Which of its numbers are regular and which are system numbers.
     pub ranges: HostRanges,
+    /// Its users.
     pub users: PasswdTable<'a>,
+    /// Its groups.
     pub groups: GroupTable<'a>,
 }

@@ -1,6 +1,4 @@
 //! Users and groups.
-ghost use Rattle.std.specs.Prelude.{◌≡◌, ◌<◌, length, map, slice_index_or};
-
 use crate::{Host, Pair, PairTable, Pins, Which};
 use logindefs::{HostRanges, IdRange};
 
@@ -162,8 +160,8 @@ impl Kind for Groups {
     }
 
     fn name<'a>(host: &Host<'a>, place: usize) -> &'a [u8] {
-        let row = &host.groups.rows()[place];
-        row.name
+        let group = &host.groups.rows()[place];
+        group.name
     }
 
     fn number(host: &Host<'_>, place: usize) -> u32 {

@@ -7,7 +7,7 @@ pub fn a_site_knows_its_hosts()
     ensures { JoinedSitesKnowTheirHosts }
 {}
 
-/// The accounts of a site that was joined from at most 64 lawful hosts are lawful.
+/// The accounts of a site that was joined from at most 64 lawful hosts, and from pins as a pins text gives them, are lawful.
 pub fn a_site_has_lawful_accounts()
     ensures { JoinedSitesAreLawful }
 {}

@@ -37,7 +37,9 @@ pub use texts::HostText;
 /// Users or groups.
 #[derive(Clone, Copy, Debug, PartialEq, Eq)]
 pub enum Which {
+    /// Users, as passwd(5) has them.
     User,
+    /// Groups, as group(5) has them.
     Group,
 }
 
@@ -45,8 +47,11 @@ pub enum Which {
 /// pins the name to it.
 #[derive(Clone, Copy, Debug, PartialEq, Eq)]
 pub enum Standing {
+    /// In the regular range.
     Regular,
+    /// In the system range.
     System,
+    /// In neither range.
     Pinning,
 }
 
@@ -76,8 +81,11 @@ impl Standing {
 /// What a name is over all hosts: pinned to a number, or free to get one of the regular or of the system pool.
 #[derive(Clone, Copy, Debug, PartialEq, Eq)]
 pub enum Class {
+    /// Pinned to this number.
     Pinned(u32),
+    /// Free, with a number of the regular pool.
     Regular,
+    /// Free, with a number of the system pool.
     System,
 }
 
@@ -99,45 +107,61 @@ impl Class {
 /// The number that a name has on one host, by the host's index, and what that number is there.
 #[derive(Clone, Copy, Debug, PartialEq, Eq)]
 pub struct Spot {
+    /// The host's index, counted from 0.
     pub host: u32,
+    /// The uid or gid there.
     pub number: u32,
+    /// What that number is on the host.
     pub standing: Standing,
 }
 
 /// A number on a host, by the host's index.
 #[derive(Clone, Copy, Debug, PartialEq, Eq, Hash)]
-pub struct Seat {
+pub(crate) struct Seat {
+    /// The host's index, counted from 0.
     pub host: u32,
+    /// The uid or gid.
     pub number: u32,
 }
 
 /// A row of an account file, with its host's index.
 #[derive(Clone, Copy, Debug)]
-pub struct Row<'a> {
+pub(crate) struct Row<'a> {
+    /// The host's index, counted from 0.
     pub host: u32,
+    /// The user's or group's name.
     pub name: &'a [u8],
+    /// Its uid or gid there.
     pub number: u32,
+    /// What that number is on the host.
     pub standing: Standing,
 }
 
 /// A host's name, and its ranges for one kind.
 #[derive(Clone, Copy, Debug)]
-pub struct HostEntry<'a> {
+pub(crate) struct HostEntry<'a> {
+    /// The host's name.
     pub name: &'a [u8],
+    /// Its regular numbers.
     pub regular: IdRange,
+    /// Its system numbers.
     pub system: IdRange,
 }
 
 /// A name and its number.
 #[derive(Clone, Copy, Debug)]
 pub struct Pair<'a> {
+    /// The user's or group's name.
     pub name: &'a [u8],
+    /// Its uid or gid.
     pub number: u32,
 }
 
 /// What pins a name to a number: a host, or the pins text.
 #[derive(Clone, Copy, Debug, PartialEq, Eq)]
-pub struct Source {
+pub(crate) struct Source {
+    /// The host's index, counted from 0, or none for the pins text.
     pub host: Option<u32>,
+    /// The number that the name is pinned to.
     pub number: u32,
 }

@@ -1,5 +1,5 @@
 //! The names of one kind over all hosts.
-ghost use Rattle.std.specs.Prelude.{◌≡◌, ℕ, List, ◌<◌, ◌≤◌, ◌&&◌, ◌==◌, not, map, length, IfOk, IfSome, None, Some, count_by};
+ghost use Rattle.std.specs.Prelude.{◌≡◌, ℕ, List, ◌<◌, ◌≤◌, ◌&&◌, ◌==◌, not, map, length, IfOk, IfSome, Some, count_by};
 ghost use Rattle.std.specs.List.{All, list_all, list_any, find};
 ghost use Rattle.std.specs.Option.{option_map};
 ghost use Rattle.idtext.specs.First.{Gives};
@@ -26,7 +26,8 @@ use std::alloc::{AllocError, Global};
 use std::marker::Model;
 
 /// The names of one kind, by index in order of first appearance: hosts in order, and on a host its rows in order. A
-/// contract sees the accounts that they were joined from. No call takes memory.
+/// contract sees the accounts that they were joined from: for its sake alone the hosts and a copy of the pins of the kind
+/// are kept. No call takes memory.
 #[derive(Drop)]
 pub struct Names<'a> {
     hosts: Vec<HostEntry<'a>>,

@@ -128,8 +128,9 @@ impl<'a> Pins<'a> {
     /// Reads a pins text: lines `user NAME NUMBER` and `group NAME NUMBER`, where NAME is what stands between the first
     /// and the last space, blank lines, and lines that begin with `#`. The empty text has no pins.
     ///
-    /// Refused at its line is the first line that is none of these, that gives a name or a number a second time in its
-    /// kind, or that is past the 1,048,576th. One pass over the text, with a few look-ups by hash for each line.
+    /// Refused with `BadPins`, at its line, counted from 1, is the first line that is none of these, that gives a name or a
+    /// number a second time in its kind, or that is past the 1,048,576th; `Memory` where a growth was refused. One pass over
+    /// the text, with a few look-ups by hash for each line, and memory in step with the pins.
     pub fn read(alloc: Global, text: &'a [u8]) -> Result<Self, PinsFault>
         ensures { Gives (λ pins. pins) pins_told result (pins_of text.now) }
     {

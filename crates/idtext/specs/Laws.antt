@@ -1,4 +1,5 @@
 -- Laws over the definitions of this crate, in the words of its subject.
+-- Source: chown(2) for the greatest id; mtree(5) for escapes, with this project's own rules of which are read.
 use Rattle.std.specs.Prelude.{◌≡◌, ℕ, ◌<◌, ◌≤◌, List, [], ◌∷◌, length, drop, All, Some, IfSome, decimal}
 use Rattle.idtext.specs.Escapes.{escaped, front, unescaped}
 use Rattle.idtext.specs.Numbers.{c_number_of, greatest_id, id_of}

@@ -1,6 +1,6 @@
 -- Names of accounts, and lines that say nothing.
--- Source: passwd(5) and group(5), DESCRIPTION: colons part fields, commas the users of a group, newlines entries; a plus or a minus
--- begins an entry of NIS. Which names are lawful, and that a number sign begins a comment, are this project's own rules.
+-- Source: passwd(5) and group(5), DESCRIPTION: colons part fields, commas the users of a group, newlines entries; a plus or a
+-- minus begins an entry of NIS. Which names are lawful, and that a number sign begins a comment, are this project's own rules.
 use Rattle.std.specs.Prelude.{ℕ, Bool, List, ◌==◌, ◌||◌, ◌&&◌, not, length, slice_index}
 use Rattle.std.specs.List.{list_all, list_any}
 use Rattle.idtext.specs.Words.{is_white}

@@ -23,7 +23,8 @@ fn has_separator(name: &[u8]) -> bool
 }
 
 /// Whether a user or a group may have this name: it is not empty, has no comma, colon, newline or NUL, which part names in
-/// passwd(5) and group(5), and does not begin with `#`, `+` or `-`, which mark comments and NIS entries. One pass over the name.
+/// passwd(5) and group(5), and does not begin with `#`, `+` or `-`, which mark comments and NIS entries. One pass over the
+/// name.
 pub fn is_lawful_name(name: &[u8]) -> bool
     ensures { result ≡ is_lawful name.now }
 {

@@ -2,11 +2,12 @@
 use Rattle.std.proofs.Common.{◌≡◌, ℕ, zero, suc, ◌+◌, ◌<◌, Bool, true, false, not, cond, List, [], ◌∷◌, ◌++◌, length, map, take, get_or, Option, Some, None, refl, sym, ◌∙◌, ap, inl, inr, arith, append_assoc}
 use Rattle.std.proofs.lemmas.List.Elements.{filter_map-append}
 use Rattle.std.specs.Borrow.{Bor}
-use Rattle.std.specs.List.{filter_map, cons_option, join_with_byte, enumerate_from, list_any, flat_map}
+use Rattle.std.specs.List.{All, filter_map, cons_option, join_with_byte, enumerate_from, list_any, flat_map}
 use Rattle.std.specs.Str.{bytes_eq}
 use Rattle.std.proofs.lemmas.Bool.{cases_Bool}
 use Rattle.std.proofs.lemmas.List.{take_more, map-append, append-nil, length-take, length-map}
-use Rattle.hosts_join.specs.Accounts.{first_appearances}
+use Rattle.hosts_join.specs.Accounts.{Accounts, first_appearances}
+use Rattle.hosts_join.specs.Rules.{account}
 use Rattle.hosts_join.proofs.Grouping.{first_appearances-push}
 use Rattle.accounts.specs.Rows.{members_of}
 use Rattle.std.proofs.lemmas.List.Concat.{flat_map-append}
@@ -105,6 +106,13 @@ one_given before all next o y a b c = rw (b, ← a) c
 
 pub none_given : {Y : Type 0} (before all : List Y) (o : Option Y) → before ≡ all → o ≡ None → before ≡ all ++ cons_option o []
 none_given before all o a b = rw (b, append-nil) a
+
+abbrev pub nothing : Bor (List ℕ) × ℕ
+nothing = (record { ref_ptr = (0, 0); now = [] }, 0)
+
+-- each name with its index
+abbrev pub AllAreAt : Accounts → List (Bor (List ℕ) × ℕ) → Type 0
+AllAreAt a xs = All (λ p. (p.1 < length a.names) × (p.0.now ≡ (account a p.1).name)) xs
 
 -- what is told of one name more
 pub told_more : {A X P : Type 0} (f : P → List A) (see : X → P) (start : List A) (xs : List X) (i : ℕ) (d : X) (old new row : List A) → i < length xs → old ≡ start ++ flat_map f (map see (take i xs)) → new ≡ old ++ row → row ≡ f (see (get_or xs i d)) → new ≡ start ++ flat_map f (map see (take (i + 1) xs))

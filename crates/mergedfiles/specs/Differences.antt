@@ -1,4 +1,5 @@
 -- The fields in which a later host differs from the first.
+-- Source: this project's own rule.
 use Rattle.std.specs.Prelude.{ℕ, not, List, [], ◌∷◌, ◌++◌, map, filter, flat_map, find, nat_eq, bytes_eq, Option, Some, None}
 use Rattle.accounts.specs.Rows.{Group}
 use Rattle.hosts_join.specs.Site.{Joined}
@@ -43,6 +44,14 @@ abbrev pub group_differences : List ℕ → List GroupRow → List Difference
 group_differences name [] = []
 group_differences name (first ∷ later) = group_differs name first later
 
--- users before groups, each in byte order
+-- those of all users, names in byte order
+abbrev pub all_user_differences : List Host → Joined → List Difference
+all_user_differences hosts site = flat_map (λ name. user_differences name (users_named name hosts)) (by_bytes site.users)
+
+-- and of all groups
+abbrev pub all_group_differences : List Host → Joined → List Difference
+all_group_differences hosts site = flat_map (λ name. group_differences name (groups_named name hosts)) (by_bytes site.groups)
+
+-- users before groups
 abbrev pub site_differences : List Host → Joined → List Difference
-site_differences hosts site = flat_map (λ name. user_differences name (users_named name hosts)) (by_bytes site.users) ++ flat_map (λ name. group_differences name (groups_named name hosts)) (by_bytes site.groups)
+site_differences hosts site = all_user_differences hosts site ++ all_group_differences hosts site

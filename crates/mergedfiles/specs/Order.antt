@@ -1,4 +1,5 @@
 -- Names in order: by their numbers, and by their bytes.
+-- Source: this project's own rule.
 use Rattle.std.specs.Prelude.{ℕ, Bool, if◌then◌else◌, List, [], ◌∷◌, map}
 use Rattle.std.specs.List.{enumerate_from}
 use Rattle.std.specs.Cmp.Lexicographic.{slice_cmp}

@@ -1,4 +1,5 @@
 -- The rows that the hosts have of a name.
+-- Source: passwd(5) and group(5); that the first host's row counts, and that users are joined, is this project's own rule.
 use Rattle.std.specs.Prelude.{ℕ, List, [], ◌∷◌, Option, Some, None, find, bytes_eq, flat_map}
 use Rattle.std.specs.List.{filter_map}
 use Rattle.std.specs.Option.{option_map}

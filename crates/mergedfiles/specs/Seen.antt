@@ -1,4 +1,5 @@
 -- What a contract sees of rows that are lent.
+-- Values that are lent, without the borrow: words of the code and not of the subject.
 use Rattle.std.specs.Prelude.{ℕ, List, Option, map}
 use Rattle.std.specs.Borrow.{Bor}
 use Rattle.std.specs.Option.{option_map}

@@ -1,4 +1,5 @@
 -- The row of a name at one of its spots.
+-- Words of the code and not of the subject: only private contracts, views and invariants cite them.
 use Rattle.std.specs.Prelude.{ℕ, List, Option}
 use Rattle.std.specs.List.{slice_get, filter_map}
 use Rattle.std.specs.Option.{option_and_then}

@@ -1,4 +1,5 @@
 -- The merged files, after passwd(5) and group(5).
+-- Source: passwd(5) and group(5); the choice of fields is this project's own rule.
 use Rattle.std.specs.Prelude.{ℕ, List, [], ◌∷◌, ◌++◌, flat_map, Option, Some, None, find, nat_eq, decimal}
 use Rattle.std.specs.List.{join_with_byte}
 use Rattle.std.specs.Option.{option_and_then}

@@ -1,4 +1,5 @@
 -- Hosts, and what was joined from them.
+-- Source: this project's own rule.
 use Rattle.std.specs.Prelude.{◌≡◌, List}
 use Rattle.hosts_join.specs.PinPairs.{PinPairs}
 use Rattle.hosts_join.specs.Site.{Joined, users_of, groups_of}

@@ -3,7 +3,7 @@ ghost use Rattle.std.specs.Prelude.{◌≡◌, ◌++◌, map, IfOk, OnOk};
 ghost use Rattle.std.specs.List.{All};
 ghost use Rattle.hosts_join.specs.Hosts.{IsLawfulHost};
 ghost use Rattle.mergedfiles.specs.Differences as spec;
-ghost use Rattle.mergedfiles.specs.Differences.{site_differences};
+ghost use Rattle.mergedfiles.specs.Differences.{all_user_differences, all_group_differences, site_differences};
 ghost use Rattle.mergedfiles.specs.Seen.{user_seen, group_seen};
 ghost use Rattle.mergedfiles.specs.Spots as spots;
 ghost use Rattle.mergedfiles.specs.Together.{AreJoined};
@@ -135,9 +135,48 @@ fn push_group_differences<'a>(
     }
 }
 
+/// Adds the differences of all users, names in byte order.
+fn push_all_users<'a>(
+    alloc: Global,
+    told: &mut Vec<Difference<'a>>,
+    hosts: &[Host<'a>],
+    site: &Site<'a>,
+) -> Result<(), AllocError>
+    requires joined { AreJoined hosts.now site.now }
+    requires lawful { All IsLawfulHost hosts.now }
+    ensures { OnOk result (told.new.items ≡ told.old.items ++ all_user_differences hosts.now site.now) }
+{
+    let users = by_name(alloc, site.users())?;
+    for user in &users {
+        let (name, index) = *user;
+        push_user_differences(alloc, told, hosts, name, site.users().spots(index))?;
+    }
+    Ok(())
+}
+
+/// Adds the differences of all groups, names in byte order.
+fn push_all_groups<'a>(
+    alloc: Global,
+    told: &mut Vec<Difference<'a>>,
+    hosts: &[Host<'a>],
+    site: &Site<'a>,
+) -> Result<(), AllocError>
+    requires joined { AreJoined hosts.now site.now }
+    requires lawful { All IsLawfulHost hosts.now }
+    ensures { OnOk result (told.new.items ≡ told.old.items ++ all_group_differences hosts.now site.now) }
+{
+    let groups = by_name(alloc, site.groups())?;
+    for group in &groups {
+        let (name, index) = *group;
+        push_group_differences(alloc, told, hosts, name, site.groups().spots(index))?;
+    }
+    Ok(())
+}
+
 /// Each later host on which a field of a name is another than on the first host that has the name: users before groups,
-/// names in byte order; of a user the password, comment, home, shell and primary group by its name, of a group the password;
-/// hosts in order. Asked is that the site was joined from these hosts, each lawful.
+/// names in byte order; of a user the password, comment, home, shell and primary group by its name, which is the empty name
+/// where the host has no group of the number; of a group the password; hosts in order. Asked is that the site was joined from
+/// these hosts, each lawful.
 ///
 /// Time in step with the account rows, with one look-up by hash for each group row and two for each user row, and a sort of
 /// the names. Memory for the list, 24 bytes a name, and the rows of one name at a time. Names and hosts are slices of the
@@ -155,16 +194,8 @@ pub fn differences<'a>(
     requires lawful { All IsLawfulHost hosts.now }
     ensures { IfOk result (λ told. told.items ≡ site_differences hosts.now site.now) }
 {
-    let users = by_name(alloc, site.users())?;
-    let groups = by_name(alloc, site.groups())?;
     let mut told = Vec::new(alloc);
-    for user in &users {
-        let (name, index) = *user;
-        push_user_differences(alloc, &mut told, hosts, name, site.users().spots(index))?;
-    }
-    for group in &groups {
-        let (name, index) = *group;
-        push_group_differences(alloc, &mut told, hosts, name, site.groups().spots(index))?;
-    }
+    push_all_users(alloc, &mut told, hosts, site)?;
+    push_all_groups(alloc, &mut told, hosts, site)?;
     Ok(told)
 }

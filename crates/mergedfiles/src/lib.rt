@@ -23,19 +23,28 @@ pub use passwd::passwd_text;
 /// A field in which hosts may differ. `Group` is a user's primary group, by its name.
 #[derive(Clone, Copy, Debug, PartialEq, Eq)]
 pub enum Field {
+    /// The password field of passwd(5) or of group(5).
     Password,
+    /// The comment field of passwd(5).
     Comment,
+    /// The home directory.
     Home,
+    /// The login shell.
     Shell,
+    /// The name of the primary group; the empty name where the host has no group of its number.
     Group,
 }
 
 /// A field of a user or a group that is another on this later host than on the first host that has the name.
 #[derive(Drop)]
 pub struct Difference<'a> {
+    /// Users or groups.
     pub kind: Which,
+    /// The name of the user or of the group.
     pub name: Name<'a>,
+    /// The field that is another.
     pub field: Field,
+    /// The name of the later host.
     pub host: Name<'a>,
 }
 

@@ -13,6 +13,7 @@ use Rattle.std.specs.Str.Parse.{digits_value}
 use Rattle.std.specs.Str.{bytes_eq}
 use Rattle.idtext.specs.Numbers.{numeral, id_of, greatest_id}
 use Rattle.idtext.specs.First.{first_fault}
+use Rattle.idtext.proofs.FirstLemmas.{none_of_both}
 use Rattle.idtext.specs.declared.faults.TextCode.{TextCode}
 use Rattle.idtext.specs.declared.faults.TextCode.TheVariants.{BadPath, BadNumber, DotDotAbove}
 use Rattle.idtext.specs.declared.faults.ReadError.{ReadError}
@@ -32,7 +33,7 @@ use Rattle.mtree_inv.proofs.LookingLemmas.{looking_back-snoc}
 use Rattle.mtree_inv.proofs.FileLemmas.{after_said, files_of-snoc}
 use Rattle.mtree_inv.proofs.RunLemmas.{kinds-snoc}
 use Rattle.mtree_inv.proofs.CleanLemmas.{IsClean, OpensClean, components_clean, entry_clean}
-use Rattle.mtree_inv.proofs.RoomLemmas.{one_more, none_of_both, no_fault, told_ok}
+use Rattle.mtree_inv.proofs.RoomLemmas.{one_more, no_fault, told_ok}
 
 -- ---- one line
 

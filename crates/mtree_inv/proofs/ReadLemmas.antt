@@ -14,7 +14,6 @@ use Rattle.mtree_inv.specs.Kinds.{Kind, TooLong, Cut, Ignored, Sets, Unsets, Unk
 use Rattle.mtree_inv.specs.Inventory.{file_at, clash}
 use Rattle.mtree_inv.specs.Machine.{Kept, effective, owned, or_dot, path_below, is_bad_entry, with_file, with_new_file, unless_fault, entry_kept, with_opened, opens_directory, entry_step, closed, step}
 use Rattle.mtree_inv.specs.Reading.{Open, clip, grown, held, with_plain, with_backslash, with_join, is_joining, fresh, clipped_kind, Reading, after_step, with_line, with_newline, unless_ended, read_byte, read_bytes, at_end, finished}
-use Rattle.mtree_inv.specs.Standing.{GrowAlike}
 use Rattle.idtext.specs.Faults.{fault_told}
 use Rattle.mtree_inv.specs.Parts.{is_plain, at_line, TakenTo, FailedTo}
 use Rattle.idtext.specs.declared.faults.ReadError.{ReadError}
@@ -196,9 +195,6 @@ read-plain-run most (suc n) kept line new bytes run some le plain ends first e f
 pub plain-first : (b : ℕ) → (b ≡ 10 → ⊥) → (b ≡ 92 → ⊥) → is_plain b ≡ true
 plain-first b n m = and_from (not (b == 10)) (not (b == 92)) (not_from_false (b == 10) (ne_eqb b 10 n)) (not_from_false (b == 92) (ne_eqb b 92 m))
 
-pub grow-trans : (a b c d e f : List Entry) → GrowAlike a b d e → GrowAlike b c e f → GrowAlike a c d f
-grow-trans a b c d e f g h = (g.0 ++ h.0, h.1 ∙ ap (λ (l : List Entry). l ++ h.0) g.1 ∙ append_assoc a g.0 h.0, h.2 ∙ ap (λ (l : List Entry). l ++ h.0) g.2 ∙ append_assoc d g.0 h.0)
-
 pub newline-line : (most : ℕ) (reading : Reading) → is_joining reading.open_line.ends ≡ false → with_newline most reading ≡ with_line most reading
 newline-line most reading e = ap (λ (b : Bool). cond b (record reading { open_line = with_join reading.open_line }) (with_line most reading)) e
 
@@ -209,12 +205,6 @@ taken-err files left other target (Err f) e h = h
 pub end-nothing : (most : ℕ) (kept : Kept) (line : Open) → line.ends ≡ Nothing → finished most (reading_at kept line) ≡ reading_at kept line
 unfolding finished
 end-nothing most kept line e = ap (λ (x : Ends). at_end x most (reading_at kept line)) e
-
-abbrev is_cut_at : Ends → Bool
-is_cut_at Nothing = false
-is_cut_at Byte = false
-is_cut_at Joined = true
-is_cut_at Backslash = true
 
 pub end-byte : (most : ℕ) (kept : Kept) (line : Open) → line.ends ≡ Byte → finished most (reading_at kept line) ≡ after_step (step most kept (clipped_kind line.joined false)) (reading_at kept line) line.first line
 unfolding finished

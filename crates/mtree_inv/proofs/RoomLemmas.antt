@@ -2,7 +2,7 @@
 use Rattle.std.proofs.Common.{◌≡◌, ℕ, ◌≤◌, Bool, true, false, cond, List, [], ◌∷◌, ◌++◌, length, refl, sym, ap, ◌∙◌, arith, subst, length-append}
 use Rattle.std.specs.Prelude.{Option, Some, None, Result, Ok, Err, is_none, option_map, nat_lt}
 use Rattle.std.proofs.lemmas.Bool.{ltb-true}
-use Rattle.idtext.specs.First.{or_else, unless}
+use Rattle.idtext.specs.First.{unless}
 use Rattle.idtext.specs.declared.faults.TextCode.{TextCode}
 use Rattle.idtext.specs.declared.faults.TextFault.{TextFault}
 use Rattle.mtree_inv.specs.declared.entry.Entry.{Entry}
@@ -21,10 +21,6 @@ one_line : (most : ℕ) (files : List Entry) (said : Result (Option Entry) TextC
 one_line most files (Err code) e few = absurd (cc)
 one_line most files (Ok None) e few = few
 one_line most files (Ok (Some file)) e few = added most files file (file_at files file.path) (nat_lt (length files) most) refl e few
-
-pub none_of_both : {A : Type 0} (a b : Option A) → or_else a b ≡ None → (a ≡ None) × (b ≡ None)
-none_of_both None b e = (refl, e)
-none_of_both (Some x) b e = absurd (cc)
 
 pub no_fault : (n : ℕ) (code : Option TextCode) → option_map (λ c. (let f : TextFault = record { code = c; line = n } in f)) code ≡ None → code ≡ None
 no_fault n None e = refl

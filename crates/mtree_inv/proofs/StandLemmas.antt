@@ -11,11 +11,12 @@ use Rattle.mtree_inv.specs.declared.open_line.Ends.TheVariants.{Nothing, Joined,
 use Rattle.idtext.specs.Pieces.{pieces}
 use Rattle.mtree_inv.specs.Logical.{LogicalLine, logical_lines, whole_lines}
 use Rattle.mtree_inv.specs.Inventory.{kinds, files_of, named, first_appearances, inventory_of_lines, inventory}
-use Rattle.mtree_inv.specs.Machine.{Kept, step, Follows}
+use Rattle.mtree_inv.specs.Machine.{Kept, step}
 use Rattle.mtree_inv.specs.Reading.{Reading, clipped_kind, read_byte, read_bytes, at_end, unless_ended_at_end, finished, start}
 use Rattle.mtree_inv.specs.Standing.{ReaderValue, GrowAlike, files, files_before_fault, IsMidText, StandsAt, StandsFor}
 use Rattle.idtext.specs.Faults.{fault_told}
 use Rattle.mtree_inv.specs.Parts.{FailedTo}
+use Rattle.mtree_inv.proofs.StepLemmas.{Follows}
 use Rattle.mtree_inv.proofs.RunLemmas.{RunIs, run_is}
 use Rattle.mtree_inv.proofs.RestLemmas.{read_whole_lines, read_all_lines}
 use Rattle.mtree_inv.proofs.ReadLemmas.{Grows, grows-not, grows-twice, step-grows, after-grows, failed-more}

@@ -1,4 +1,5 @@
 -- What is known of the files of an inventory.
+-- Source: this project's profile over mtree(5); chown(2) for the greatest id.
 use Rattle.std.specs.Prelude.{◌≢◌, ℕ, ◌<◌, ◌≤◌, List, length, All, AllPairs}
 use Rattle.idtext.specs.Numbers.{greatest_id}
 use Rattle.idtext.specs.Words.{most_bytes}

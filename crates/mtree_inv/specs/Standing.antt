@@ -1,4 +1,5 @@
 -- What a reader stands for.
+-- Source: this project's own rule.
 use Rattle.std.specs.Prelude.{◌≡◌, ℕ, Bool, true, false, List, ◌++◌, Option, Some, None, Ok, Err}
 use Rattle.mtree_inv.specs.declared.entry.Entry.{Entry}
 use Rattle.idtext.specs.declared.faults.ReadError.{ReadError}
@@ -39,7 +40,8 @@ StandsAt None false reader text =
     IsMidText reader.most reader.reading text × (inventory_of_lines reader.most (whole_lines text) ≡ Ok (files reader))
 -- a finished reader has the inventory of the text
 StandsAt None true reader text = inventory reader.most text ≡ Ok (files reader)
--- a reader that met a fault has the files before it; `fed` is what had been fed when the fault came, and what was fed since no longer counts
+-- a reader that met a fault has the files before it; `fed` is what had been fed when the fault came, and what was fed since no
+-- longer counts
 StandsAt (Some (Fault fault)) finished reader text =
     (fed : List ℕ) × (rest : List ℕ) × (text ≡ fed ++ rest) × (inventory reader.most fed ≡ Err fault) × (files_before_fault reader.most fed ≡ files reader)
 -- where memory ran out it has the first of these

@@ -1,5 +1,5 @@
 //! The inventory of a text.
-ghost use Rattle.std.specs.Prelude.{◌≡◌, ◌≤◌, List, length, MatchResult, IfOk};
+ghost use Rattle.std.specs.Prelude.{◌≡◌, ◌≤◌, length, MatchResult, IfOk};
 ghost use Rattle.idtext.specs.declared.faults.ReadError.TheVariants.{Memory};
 ghost use Rattle.idtext.specs.First.{Gives};
 ghost use Rattle.mtree_inv.specs.Inventory.{inventory};
@@ -33,7 +33,8 @@ impl Inventory {
     ghost use Rattle.std.specs.Prelude.{◌≡◌};
     ghost use Rattle.mtree_inv.specs.Files.{AreFiles};
 
-    /// Its files. No two have one path; a path has 1 to 65,535 bytes without NUL, and a number is at most 4294967294. Takes no memory.
+    /// Its files. No two have one path; a path has 1 to 65,535 bytes without NUL, and a number is at most 4294967294. Takes no
+    /// memory.
     pub fn entries(&self) -> &[Entry]
         ensures files { result.now ≡ self.now }
         ensures lawful { AreFiles self.now }
@@ -56,14 +57,17 @@ fn all_entries(alloc: Global, reader: Reader) -> Result<Vec<Entry>, ReadError>
     Ok(entries)
 }
 
-/// Reads the inventory of a whole mtree text, of at most `most` files, by mtree(5) and the profile that this crate's page states.
+/// Reads the inventory of a whole mtree text, of at most `most` files, by mtree(5) and the profile that this crate's page
+/// states.
 ///
 /// The answer is `ReadError::Fault` exactly where the text has a fault, with the first: by line, and on one line `LineTooLong`,
-/// `CutContinuation`, `BadCommand`, `DotDotAbove`, `BadPath`, `BadNumber`, `NoUid`, `NoGid`, `OwnersDiffer`, `TooManyEntries`, in this
-/// order. The line is counted from 1, and of lines that are joined it is the first. `ReadError::Memory` says that memory was refused.
+/// `CutContinuation`, `BadCommand`, `DotDotAbove`, `BadPath`, `BadNumber`, `NoUid`, `NoGid`, `OwnersDiffer`, `TooManyEntries`,
+/// in this order. The line is counted from 1, and of lines that are joined it is the first. `ReadError::Memory` says that
+/// memory was refused.
 ///
-/// One pass over the text and over the whole path of each entry; one or two look-ups by hash an entry. Each path stands in memory
-/// twice until the call returns; until then it also keeps the current directory's path and a number for each open directory.
+/// One pass over the text and over the whole path of each entry; one or two look-ups by hash an entry. Each path stands in
+/// memory twice until the call returns; until then it also keeps the current directory's path and a number for each open
+/// directory.
 pub fn read_inventory(alloc: Global, text: &[u8], most: u32) -> Result<Inventory, ReadError>
     ensures exact { Gives (λ inventory. inventory) fault_told result (inventory most text.now) }
     ensures few { IfOk result (λ inventory. length inventory ≤ most) }

@@ -1,21 +1,22 @@
 //! Inventories of files and their owners, as mtree texts give them.
 //!
-//! From mtree(5) come the kinds of line, `/set` and `/unset`. Where implementations differ, this project has a profile of its own:
+//! From mtree(5) come the kinds of line, `/set` and `/unset`. Where implementations differ, this project has a profile of its
+//! own:
 //!
-//! - A line that ends in a backslash is joined with the next, before anything else is looked at. A joined line has at most 65,535 bytes.
-//!   A text that ends while a line waits to be joined is refused (`CutContinuation`).
-//! - Commands other than `/set` and `/unset` are refused. `/unset` looks at keys alone, with or without a value, and `/unset all`
-//!   takes away all defaults.
+//! - A line that ends in a backslash is joined with the next, before anything else is looked at. A joined line has at most
+//!   65,535 bytes. A text that ends while a line waits to be joined is refused (`CutContinuation`).
+//! - Commands other than `/set` and `/unset` are refused. `/unset` looks at keys alone, with or without a value, and
+//!   `/unset all` takes away all defaults.
 //! - Of several keywords with one key on a line the last counts. `uid`, `gid` and `type` matter, the others are read over. The
 //!   `uid` and the `gid` that count on an entry or a `/set` line must be ids, decimal numbers up to 4294967294; one that does
 //!   not count is not looked at.
 //! - An entry with a `/` is a path from the starting directory and never opens a directory. Another entry is a name in the
-//!   directory that was opened last and is still open, and opens one where its `type`, its own or by `/set`, is `dir`. A line `..`
-//!   closes that directory; its keywords are ignored.
-//! - A path is split at `/`, then unescaped; components that are empty or `.` vanish, and `..`, a `/` and a NUL byte are in none.
-//!   Where no component is left the path is `.`. It has at most 65,535 bytes.
-//! - Read as escapes are a backslash with three octal digits up to 255, and `\\`, `\s` (a space), `\#`, `\t`, `\n`, `\v`, `\f`, `\r`, `\a` and
-//!   `\b`; any other backslash stands for itself.
+//!   directory that was opened last and is still open, and opens one where its `type`, its own or by `/set`, is `dir`. A line
+//!   `..` closes that directory; its keywords are ignored.
+//! - A path is split at `/`, then unescaped; components that are empty or `.` vanish, and `..`, a `/` and a NUL byte are in
+//!   none. Where no component is left the path is `.`. It has at most 65,535 bytes.
+//! - Read as escapes are a backslash with three octal digits up to 255, and `\\`, `\s` (a space), `\#`, `\t`, `\n`, `\v`, `\f`,
+//!   `\r`, `\a` and `\b`; any other backslash stands for itself.
 //! - A path that comes twice with one owner is one file; with two owners it is a fault.
 #![tactic(auto)]
 

@@ -31,15 +31,14 @@ pub(crate) struct Parts {
 }
 
 impl Parts {
-    ghost use Rattle.std.specs.Prelude.{◌≡◌, [], ◌∷◌, ◌<◌, ◌≤◌, drop, length, OnErr, IfOk, MatchResult, MatchOption, slice_index, true, false};
+    ghost use Rattle.std.specs.Prelude.{◌≡◌, [], ◌∷◌, ◌<◌, ◌≤◌, drop, length, OnErr, IfOk, MatchResult, MatchOption};
     ghost use Rattle.idtext.specs.First.{Gives};
     ghost use Rattle.mtree_inv.specs.Machine.{step};
     ghost use Rattle.mtree_inv.specs.Reading.{clipped_kind, with_newline, read_bytes, finished, start};
     ghost use Rattle.mtree_inv.specs.Standing.{GrowAlike};
-    ghost use Rattle.mtree_inv.specs.Views.{listed};
-    ghost use Rattle.mtree_inv.specs.Walked.{kept_of, waiting_of};
+    ghost use Rattle.mtree_inv.specs.Walked.{kept_of};
     ghost use Rattle.idtext.specs.Faults.{fault_told};
-    ghost use Rattle.mtree_inv.specs.Parts.{is_plain, most_of, files_of_parts, waiting_in, reading_of, at_line, TakenTo, FailedTo};
+    ghost use Rattle.mtree_inv.specs.Parts.{most_of, files_of_parts, waiting_in, reading_of, at_line, TakenTo, FailedTo};
 
     pub(crate) fn new(alloc: Global, most: u32) -> Self
         ensures reading { reading_of result ≡ start }

@@ -1,5 +1,4 @@
 //! A reader of an mtree text in pieces.
-ghost use Rattle.std.specs.Prelude.{◌≡◌, List};
 
 use crate::entry::Entry;
 use crate::parts::Parts;
@@ -7,11 +6,11 @@ use idtext::ReadError;
 use std::alloc::Global;
 use std::marker::Model;
 
-/// Reads the inventory of an mtree text that comes in pieces, however it is cut, by mtree(5) and the profile that this crate's page
-/// states. Files can be taken while it reads.
+/// Reads the inventory of an mtree text that comes in pieces, however it is cut, by mtree(5) and the profile that this crate's
+/// page states. Files can be taken while it reads.
 ///
-/// It keeps each path once and the line in progress, of which it keeps 65,535 bytes at most, and not the text. A file that waits to be
-/// taken has a copy of its path. It also keeps the current directory's path and a number for each open directory.
+/// It keeps each path once and the line in progress, of which it keeps 65,535 bytes at most, and not the text. A file that
+/// waits to be taken has a copy of its path. It also keeps the current directory's path and a number for each open directory.
 #[derive(Drop)]
 pub struct Reader {
     parts: Parts,
@@ -30,14 +29,15 @@ impl Model for Reader {
 }
 
 impl Reader {
-    ghost use Rattle.std.specs.Prelude.{◌≡◌, ◌++◌, ◌∷◌, ℕ, List, [], true, false, None, Some, Err, IfSome, IfNone, IfErr, OnOk, MatchOption, MatchResult};
+    ghost use Rattle.std.specs.Prelude.{◌≡◌, ◌++◌, ◌∷◌, ℕ, List, [], true, false, None, Some, Err, IfSome, IfNone, IfErr, MatchOption, MatchResult};
     ghost use Rattle.idtext.specs.First.{Gives};
     ghost use Rattle.mtree_inv.specs.Logical.{whole_lines};
     ghost use Rattle.mtree_inv.specs.Inventory.{inventory_of_lines, inventory};
     ghost use Rattle.mtree_inv.specs.Standing.{StandsFor, GrowAlike, files};
     ghost use Rattle.idtext.specs.Faults.{fault_told};
 
-    /// A reader of a text with at most `most` files, of which nothing has come. Takes no memory yet: `alloc` is where it will grow.
+    /// A reader of a text with at most `most` files, of which nothing has come. Takes no memory yet: `alloc` is where it will
+    /// grow.
     pub fn new(alloc: Global, most: u32) -> Self
         ensures stands { StandsFor result [] }
         ensures most { result.most ≡ most }
@@ -53,9 +53,9 @@ impl Reader {
         }
     }
 
-    /// Takes the next piece of the text, which must not be finished. The answer is `ReadError::Fault` exactly where the whole logical
-    /// lines so far have a fault, with the first, and `ReadError::Memory` where memory was refused. After a fault, `Memory` too, it is
-    /// always that one and nothing changes; files read before it can still be taken.
+    /// Takes the next piece of the text, which must not be finished. The answer is `ReadError::Fault` exactly where the whole
+    /// logical lines so far have a fault, with the first, and `ReadError::Memory` where memory was refused. After a fault,
+    /// `Memory` too, it is always that one and nothing changes; files read before it can still be taken.
     ///
     /// One pass over the piece and over the whole path of each entry; one or two look-ups by hash an entry.
     pub fn feed(&mut self, piece: &[u8]) -> Result<(), ReadError>
@@ -81,8 +81,9 @@ impl Reader {
         }
     }
 
-    /// Takes the end of the text, which must not be finished. The answer is `ReadError::Fault` exactly where the whole text has a fault,
-    /// with the first, and `ReadError::Memory` where memory was refused. After a fault it is always that one and nothing changes.
+    /// Takes the end of the text, which must not be finished. The answer is `ReadError::Fault` exactly where the whole text has
+    /// a fault, with the first, and `ReadError::Memory` where memory was refused. After a fault it is always that one and
+    /// nothing changes.
     ///
     /// At most one line, the last, is still to be read here.
     pub fn finish(&mut self) -> Result<(), ReadError>
@@ -116,7 +117,8 @@ impl Reader {
         self.is_finished
     }
 
-    /// The next of the files so far, in order of first appearance, until all were handed out. Takes no memory, and constant time.
+    /// The next of the files so far, in order of first appearance, until all were handed out. Takes no memory, and constant
+    /// time.
     pub fn next_entry(&mut self) -> Option<Entry>
         ensures next { MatchOption result ((self.old.waiting ≡ []) × (self.new.waiting ≡ [])) (λ entry. self.old.waiting ≡ entry ∷ self.new.waiting) }
         ensures stays { self.new ≡ record self.old { waiting = self.new.waiting } }

@@ -1,5 +1,5 @@
--- The files that change are those with an owner less those that keep their number; the changed rows are all rows less those that
--- keep theirs.
+-- The files that change are those with an owner less those that keep their number; the changed rows are all rows less those
+-- that keep theirs.
 use Rattle.std.proofs.Common.{◌≡◌, ℕ, ◌+◌, ◌-◌, ◌<◌, ◌≤◌, ◌==◌, ◌&&◌, Bool, true, false, not, cond, List, [], ◌∷◌, length, Option, Some, None, refl, ap, ◌∙◌, arith, inl, inr}
 use Rattle.std.specs.Prelude.{is_some}
 use Rattle.std.specs.List.{All, count_by, sum_by}

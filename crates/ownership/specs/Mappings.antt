@@ -1,4 +1,5 @@
 -- Mappings: a number for each name of a kind, by the index of the name.
+-- Source: the assignment problem; which numbers a name may have is this project's own rule.
 use Rattle.std.specs.Prelude.{◌≡◌, ℕ, ◌<◌, true, List, length, slice_index_or, Option, Some, None}
 use Rattle.hosts_join.specs.Accounts.{Accounts}
 use Rattle.hosts_join.specs.Rules.{class_at, in_pool}

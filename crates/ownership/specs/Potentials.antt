@@ -1,4 +1,5 @@
--- Potentials, and what they certify (weak duality of the assignment problem; Kuhn 1955, Munkres 1957).
+-- Potentials, and what they certify.
+-- Source: weak duality of the assignment problem (Kuhn 1955, Munkres 1957).
 use Rattle.std.specs.Prelude.{◌≡◌, ◌≢◌, ℕ, ◌+◌, ◌<◌, ◌≤◌, ◌^◌, true, false, if◌then◌else◌, ◌==◌, List, [], ◌∷◌, length, slice_index_or, sum, sum_by}
 use Rattle.hosts_join.specs.Accounts.{Accounts}
 use Rattle.hosts_join.specs.Lawful.{AreLawfulAccounts}
@@ -31,8 +32,8 @@ pub record IsZ (e : ℕ × ℕ) : Type 0 where
 abbrev pub potential_sum : List ℕ → List (ℕ × ℕ) → ℕ
 potential_sum y z = sum y + sum_by (λ e. e.1) z
 
--- Certifying potentials for a mapping: they cover every name with every number of its pool, and all of them together are what the
--- numbers of the free names weigh.
+-- Certifying potentials for a mapping: they cover every name with every number of its pool, and all of them together are what
+-- the numbers of the free names weigh.
 pub record AreCertifying (a : Accounts) (files : List File) (m y : List ℕ) (z : List (ℕ × ℕ)) : Type 0 where
   pub len : length y ≡ length a.names
   pub cover : (i v : ℕ) → i < length a.names → in_pool a (class_at a i) v ≡ true → weight a files i v ≤ potential_at y i + value_at z v

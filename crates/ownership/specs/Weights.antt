@@ -36,8 +36,8 @@ pub record IsFresh (a : Accounts) (files : List File) (m : List ℕ) (i : ℕ) :
 abbrev pub Precedes : Accounts → ℕ → ℕ → Type 0
 Precedes a j i = slice_cmp nat_cmp (account a j).name (account a i).name ≡ Less
 
--- Some names wait for a number, and are served in byte order. The number is had before the name at i is served: by a name that does
--- not wait, or by one that is served before it.
+-- Some names wait for a number, and are served in byte order. The number is had before the name at i is served: by a name that
+-- does not wait, or by one that is served before it.
 pub record IsHad (a : Accounts) (Waits : ℕ → Type 0) (m : List ℕ) (i v : ℕ) : Type 0 where
   pub by : ℕ
   pub within : by < length a.names

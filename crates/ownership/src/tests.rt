@@ -45,7 +45,7 @@ fn site<'a>(alloc: Global, a: &'a [u8], b: &'a [u8]) -> Option<Site<'a>> {
 }
 
 // Adds a file, or tells why it is refused.
-fn refused(
+fn add_file(
     alloc: Global,
     counts: &mut Counts,
     site: &Site<'_>,
@@ -71,7 +71,7 @@ fn add_files(alloc: Global, counts: &mut Counts, site: &Site<'_>, host: u32, uid
     ensures { IsMadeFor site.now counts.new }
 {
     for _ in 0..files {
-        refused(alloc, counts, site, host, uid, 100);
+        add_file(alloc, counts, site, host, uid, 100);
     }
 }
 
@@ -116,7 +116,7 @@ fn one_file(
     gid: u32,
 ) -> Option<(Option<OwnerFault>, u64, u64)> {
     let mut counts = Counts::new(alloc, site).ok()?;
-    let fault = refused(alloc, &mut counts, site, host, uid, gid);
+    let fault = add_file(alloc, &mut counts, site, host, uid, gid);
     let (files, _kept) = user_counts(&counts, site, 0, 1001)?;
     Some((fault, counts.added(), files))
 }

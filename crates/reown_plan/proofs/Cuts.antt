@@ -1,20 +1,21 @@
 -- Numbers and the first space behind them.
-use Rattle.std.proofs.Common.{◌≡◌, ◌<◌, ◌+◌, ◌==◌, ◌^◌, ℕ, Bool, true, false, ◌||◌, ◌&&◌, List, [], ◌∷◌, ◌++◌, take, drop, get_or, length, refl, sym, ◌∙◌, ap, subst, arith, append_assoc}
+use Rattle.std.proofs.Common.{◌≡◌, ◌<◌, ◌+◌, ◌==◌, ◌^◌, ℕ, Bool, true, false, ◌||◌, ◌&&◌, List, [], ◌∷◌, ◌++◌, drop, length, length-append, refl, sym, ◌∙◌, ap, subst, arith, append_assoc, suc, inl, inr}
 use Rattle.std.specs.Prelude.{decimal}
+use Rattle.idtext.specs.Pieces.{pieces}
 use Rattle.reown_plan.specs.declared.plan.Owner.{Owner}
 use Rattle.reown_plan.specs.PlanData.{PlanRecord}
 use Rattle.reown_plan.specs.Spelling.{number, head, line, IsHostName, IsLawfulRecord}
 use Rattle.hosts_join.specs.Checks.{is_host_byte}
-use Rattle.std.specs.List.{list_any, list_all}
+use Rattle.std.specs.List.{list_any, list_all, filter, slice_split, join_with_byte}
 use Rattle.std.specs.Char.{digit_value}
 use Rattle.std.specs.Str.Parse.{AllDigits}
 use Rattle.std.proofs.lemmas.Bool.Decides.{nat_tests}
-use Rattle.std.proofs.lemmas.List.{take_more}
+use Rattle.std.proofs.lemmas.Bool.{cases_Bool, eq-eqb}
+use Rattle.std.proofs.lemmas.List.Elements.{filter-append}
+use Rattle.std.proofs.lemmas.List.Folds.{list_any-append}
+use Rattle.std.proofs.lemmas.List.Splits.{join_with_byte-slice_split, length-slice_split}
+use Rattle.std.proofs.lemmas.List.Sums.{length-filter}
 use Rattle.std.proofs.lemmas.Fmt.{decimal_injective, decimal_is_IsNumeral}
-
-or_assoc : (a b c : Bool) → (a || (b || c)) ≡ ((a || b) || c)
-or_assoc true b c = refl
-or_assoc false b c = refl
 
 or_right : (a b : Bool) → (a || b) ≡ false → b ≡ false
 or_right true b h = absurd cc
@@ -30,14 +31,39 @@ not_equal a b ne = grind (arith, nat_tests)
 is_no_space : (c : ℕ) → digit_value c < 10 → (c == 32) ≡ false
 is_no_space c h = not_equal c 32 (λ e. let big : digit_value 32 < 10 = subst (λ d. digit_value d < 10) e h in omega (arith, big))
 
-any-append : (q : ℕ → Bool) (xs ys : List ℕ) → list_any q (xs ++ ys) ≡ (list_any q xs || list_any q ys)
-any-append q [] ys = refl
-any-append q (x ∷ xs) ys = ap (λ b. q x || b) (any-append q xs ys) ∙ or_assoc (q x) (list_any q xs) (list_any q ys)
+-- where nothing is left of a text, it has no such byte
+none_filtered : (q : ℕ → Bool) (xs : List ℕ) → length (filter q xs) ≡ 0 → list_any q xs ≡ false
+none_filtered q [] e = refl
+none_filtered q (x ∷ xs) e = elim (cases_Bool (q x)) [
+  | inl t ↦ absurd (let some = rw t at e in omega arith)
+  | inr f ↦ let rest = rw f at e in rw f (none_filtered q xs rest)
+]
 
-pub none_more : (byte : ℕ) (text : List ℕ) (i : ℕ) → i < length text → list_any (λ b. b == byte) (take i text) ≡ false → (get_or text i 0 ≡ byte → ⊥) → list_any (λ b. b == byte) (take (i + 1) text) ≡ false
-none_more byte text i below none differ =
-    let other : (get_or text i 0 == byte) ≡ false = not_equal (get_or text i 0) byte differ in
-    ap (list_any (λ b. b == byte)) (take_more text i 0 below) ∙ any-append (λ b. b == byte) (take i text) (get_or text i 0 ∷ []) ∙ (λ j. none j || (other j || false))
+-- with no separator in it a text is one piece
+pub cut_none : (byte : ℕ) (text : List ℕ) → pieces byte text ≡ text ∷ [] → list_any (λ b. b == byte) text ≡ false
+unfolding pieces
+cut_none byte text e =
+    none_filtered (λ b. b == byte) text (omega (arith, length-filter (λ b. b == byte) text, length-slice_split (λ b. b == byte) text, ap length e))
+
+joined : (byte : ℕ) (front : List ℕ) (parts : List (List ℕ)) → 0 < length parts → join_with_byte byte (front ∷ parts) ≡ front ++ byte ∷ join_with_byte byte parts
+joined byte front [] h = absurd (omega arith)
+joined byte front (part ∷ parts) h = refl
+
+-- what stands before and behind the first separator
+pub cut_some : (byte : ℕ) (text front rest : List ℕ) → pieces byte text ≡ front ∷ pieces byte rest → (text ≡ front ++ byte ∷ rest) × (list_any (λ b. b == byte) front ≡ false)
+unfolding pieces
+cut_some byte text front rest e =
+    let q : ℕ → Bool = λ b. b == byte in
+    let some : 0 < length (slice_split q rest) = omega (arith, length-slice_split q rest) in
+    let whole : text ≡ front ++ byte ∷ rest = sym (join_with_byte-slice_split byte text) ∙ ap (join_with_byte byte) e ∙ joined byte front (slice_split q rest) some ∙ ap (λ t. front ++ byte ∷ t) (join_with_byte-slice_split byte rest) in
+    let here : length (filter q (byte ∷ rest)) ≡ suc (length (filter q rest)) = rw (eq-eqb byte byte refl) refl in
+    let counted : length (filter q text) ≡ length (filter q front) + length (filter q (byte ∷ rest)) = ap (λ t. length (filter q t)) whole ∙ ap length (filter-append q front (byte ∷ rest)) ∙ length-append (filter q front) (filter q (byte ∷ rest)) in
+    (whole, none_filtered q front (omega (arith, counted, here, ap length e, length-slice_split q text, length-slice_split q rest, length-filter q text, length-filter q rest)))
+
+has_byte : (byte : ℕ) (text front rest : List ℕ) → text ≡ front ++ byte ∷ rest → list_any (λ b. b == byte) text ≡ false → ⊥
+has_byte byte text front rest e none =
+    let all : (list_any (λ b. b == byte) front || list_any (λ b. b == byte) (byte ∷ rest)) ≡ false = sym (list_any-append (λ b. b == byte) front (byte ∷ rest)) ∙ ap (list_any (λ b. b == byte)) (sym e) ∙ none in
+    true_any (byte == byte) (list_any (λ b. b == byte) rest) (eq-eqb byte byte refl) (or_right (list_any (λ b. b == byte) front) (list_any (λ b. b == byte) (byte ∷ rest)) all)
 
 pub cut_unique : (byte : ℕ) (xs ys front after : List ℕ) → list_any (λ b. b == byte) xs ≡ false → list_any (λ b. b == byte) front ≡ false → xs ++ byte ∷ ys ≡ front ++ byte ∷ after → (xs ≡ front) × (ys ≡ after)
 cut_unique byte [] ys [] after a b e = (refl, cc)
@@ -104,3 +130,12 @@ pub head_unique : (text after h r host rest : List ℕ) → after ≡ drop 13 te
 head_unique text after h r host rest from cut first name e =
     let whole : drop 13 text ≡ host ++ 10 ∷ [] ++ rest = ap (λ t. drop 13 t) e in
     cut_unique 10 host rest h r (name_no_newline host name) first (sym (append_assoc host (10 ∷ []) rest) ∙ sym whole ∙ sym from ∙ cut)
+
+-- a text of one piece begins with no number, and with no header
+pub no_number_cut : (text rest : List ℕ) (n : ℕ) → pieces 32 text ≡ text ∷ [] → text ≡ number n ++ rest → ⊥
+no_number_cut text rest n one e = has_byte 32 text (decimal n) rest (e ∙ append_assoc (decimal n) (32 ∷ []) rest) (cut_none 32 text one)
+
+pub no_head_cut : (text after host rest : List ℕ) → after ≡ drop 13 text → pieces 10 after ≡ after ∷ [] → text ≡ head host ++ rest → ⊥
+no_head_cut text after host rest from one e =
+    let whole : drop 13 text ≡ host ++ 10 ∷ [] ++ rest = ap (λ t. drop 13 t) e in
+    has_byte 10 after host rest (from ∙ whole ∙ append_assoc host (10 ∷ []) rest) (cut_none 10 after one)

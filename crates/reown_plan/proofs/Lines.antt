@@ -1,12 +1,16 @@
 -- Records as they are read.
-use Rattle.std.proofs.Common.{◌≡◌, ◌≢◌, ◌<◌, ◌≤◌, ℕ, zero, suc, Bool, true, false, cond, not, ◌||◌, List, [], ◌∷◌, ◌++◌, All, map, length, take, drop, get_or, take-append-drop, refl, sym, ◌∙◌, ap, subst, arith, append_assoc, length-append}
+use Rattle.std.proofs.Common.{◌≡◌, ◌≢◌, ◌<◌, ◌≤◌, ℕ, zero, suc, Bool, true, false, cond, not, ◌||◌, List, [], ◌∷◌, ◌++◌, All, map, length, take, drop, get_or, take-append-drop, inl, inr, refl, sym, ◌∙◌, ap, subst, arith, append_assoc, length-append}
 use Rattle.std.specs.List.{list_any}
+use Rattle.std.specs.Borrow.{Bor}
+use Rattle.std.specs.HashSet.{HashSet, contains}
 use Rattle.std.specs.Prelude.{codes}
 use Rattle.std.specs.Str.{bytes_eq}
 use Rattle.std.specs.Cmp.Lexicographic.{bytes_decides}
 use Rattle.std.proofs.lemmas.List.{map-append, get_or-map, length-map, append-nil}
 use Rattle.std.proofs.lemmas.List.Elements.{All-push}
 use Rattle.std.proofs.lemmas.List.Quantifiers.{all_pairs_push}
+use Rattle.std.proofs.lemmas.Bool.{cases_Bool, false_from_ne_true}
+use Rattle.std.proofs.lemmas.List.Folds.{list_any-append}
 use Rattle.reown_plan.specs.declared.plan.Record.{Record}
 use Rattle.reown_plan.specs.PlanData.{PlanRecord, HaveDistinctPaths}
 use Rattle.reown_plan.specs.Records.{record_of}
@@ -22,7 +26,7 @@ lines-append : (records : List PlanRecord) (c : PlanRecord) → lines (records +
 lines-append [] c = append-nil (line c)
 lines-append (x ∷ xs) c = ap (λ l. line x ++ l) (lines-append xs c) ∙ sym (append_assoc (line x) (lines xs) (line c))
 
-line_some : (c : PlanRecord) → 1 ≤ length (line c)
+pub line_some : (c : PlanRecord) → 1 ≤ length (line c)
 line_some c = omega (arith, length-append (number c.before.uid ++ number c.before.gid ++ number c.after.uid ++ number c.after.gid ++ number (length c.path) ++ c.path) (10 ∷ []))
 
 rest_false : (a b : Bool) → (a || b) ≡ false → b ≡ false
@@ -51,23 +55,44 @@ pub spelled_head : (text after host rest : List ℕ) → bytes_eq (take 13 text)
 spelled_head text after host rest is from cut =
     sym (take-append-drop 13 text) ∙ (λ i. (bytes_decides (take 13 text) (codes "unify plan 1 ")).0 is i ++ (sym from ∙ cut) i) ∙ simp append_assoc
 
--- the paths of the records are those of the set
-module _ {K : Type 0} (f : K → List ℕ) (keys after : List K) (records : List Record) (r : Record) (v : K) (same : map f keys ≡ map (λ r. r.path.now) records) (at : f v ≡ r.path.now) where
-  fresh : list_any (λ y. bytes_eq (f v) (f y)) keys ≡ false → list_any (bytes_eq r.path.now) (map (λ r. r.path.now) records) ≡ false
-  fresh new = (λ i. list_any (bytes_eq (sym at i)) (sym same i)) ∙ sym (any-map (bytes_eq (f v)) f keys) ∙ new
+-- the set has the path
+abbrev pub has : {S : Type 0} → HashSet (Bor (List ℕ)) S → Bor (List ℕ) → Bool
+has paths k = contains (λ (x : Bor (List ℕ)) (y : Bor (List ℕ)). bytes_eq x.now y.now) paths k
 
-  pub paths_more : list_any (λ y. bytes_eq (f v) (f y)) keys ≡ false → after ≡ cond (list_any (λ y. bytes_eq (f v) (f y)) keys) keys (keys ++ v ∷ []) → map f after ≡ map (λ r. r.path.now) (records ++ r ∷ [])
-  paths_more new is =
-      ap (map f) (is ∙ ap (λ b. cond b keys (keys ++ v ∷ [])) new) ∙ map-append f keys (v ∷ []) ∙ (λ i. same i ++ at i ∷ []) ∙ sym (map-append (λ (r : Record). r.path.now) records (r ∷ []))
+-- the paths of records
+abbrev pub paths_of : List Record → List (List ℕ)
+paths_of records = map (λ r. r.path.now) records
 
-  pub distinct_more : list_any (λ y. bytes_eq (f v) (f y)) keys ≡ false → HaveDistinctPaths (map record_of records) → HaveDistinctPaths (map record_of (records ++ r ∷ []))
-  distinct_more new distinct =
-      subst HaveDistinctPaths (sym (map-append record_of records (r ∷ [])))
-      (all_pairs_push (λ (a : PlanRecord) (b : PlanRecord). a.path ≢ b.path) (map record_of records) (record_of r) distinct (λ k d below.
-      let within : k < length records = omega (arith, length-map records record_of) in
-      let here : (get_or (map record_of records) k d).path ≡ (get_or records k r).path.now = ap (λ (c : PlanRecord). c.path) (get_or-map record_of records k r d within) in
-      let there : get_or (map (λ r. r.path.now) records) k [] ≡ (get_or records k r).path.now = get_or-map (λ (r : Record). r.path.now) records k r [] within in
-      λ equal. none_there k (map (λ r. r.path.now) records) r.path.now (fresh new) (omega (arith, length-map records (λ (r : Record). r.path.now))) [] (there ∙ sym here ∙ equal)))
+-- where a path is put into a set, the set has one more
+more_or : (was a b : Bool) → a ≡ b → cond b true was ≡ (was || (a || false))
+more_or true true true e = refl
+more_or false true true e = refl
+more_or true false false e = refl
+more_or false false false e = refl
+more_or was true false e = absurd cc
+more_or was false true e = absurd cc
+
+turned : (x y : List ℕ) → bytes_eq x y ≡ bytes_eq y x
+turned x y = elim (cases_Bool (bytes_eq x y)) [
+  | inl t ↦ t ∙ sym ((bytes_decides y x).1 (sym ((bytes_decides x y).0 t)))
+  | inr f ↦ f ∙ sym (false_from_ne_true (bytes_eq y x) (λ t. (let yes : bytes_eq x y ≡ true = (bytes_decides x y).1 (sym ((bytes_decides y x).0 t)) in cc)))
+]
+
+pub paths_more : (records : List Record) (r : Record) (path : List ℕ) (was now : Bool) → was ≡ list_any (bytes_eq path) (paths_of records) → now ≡ cond (bytes_eq r.path.now path) true was → now ≡ list_any (bytes_eq path) (paths_of (records ++ r ∷ []))
+paths_more records r path was now before is =
+    is ∙ more_or was (bytes_eq path r.path.now) (bytes_eq r.path.now path) (turned path r.path.now)
+    ∙ ap (λ b. b || (bytes_eq path r.path.now || false)) before
+    ∙ sym (list_any-append (bytes_eq path) (paths_of records) (r.path.now ∷ []))
+    ∙ ap (list_any (bytes_eq path)) (sym (map-append (λ (r : Record). r.path.now) records (r ∷ [])))
+
+pub distinct_more : (records : List Record) (r : Record) → list_any (bytes_eq r.path.now) (paths_of records) ≡ false → HaveDistinctPaths (map record_of records) → HaveDistinctPaths (map record_of (records ++ r ∷ []))
+distinct_more records r new distinct =
+    subst HaveDistinctPaths (sym (map-append record_of records (r ∷ [])))
+    (all_pairs_push (λ (a : PlanRecord) (b : PlanRecord). a.path ≢ b.path) (map record_of records) (record_of r) distinct (λ k d below.
+    let within : k < length records = omega (arith, length-map records record_of) in
+    let here : (get_or (map record_of records) k d).path ≡ (get_or records k r).path.now = ap (λ (c : PlanRecord). c.path) (get_or-map record_of records k r d within) in
+    let there : get_or (paths_of records) k [] ≡ (get_or records k r).path.now = get_or-map (λ (r : Record). r.path.now) records k r [] within in
+    λ equal. none_there k (paths_of records) r.path.now new (omega (arith, length-map records (λ (r : Record). r.path.now))) [] (there ∙ sym here ∙ equal)))
 
 pub records_more : (records : List Record) (r : Record) (text host rest after : List ℕ) → text ≡ head host ++ lines (map record_of records) ++ rest → rest ≡ line (record_of r) ++ after → text ≡ head host ++ lines (map record_of (records ++ r ∷ [])) ++ after
 records_more records r text host rest after e f =

@@ -33,12 +33,6 @@ same_front (x ∷ xs) (y ∷ ys) a b h e =
 same_tail : (x : ℕ) (a b : List ℕ) → x ∷ a ≡ x ∷ b → a ≡ b
 same_tail x a b e = cc
 
-starts : (d : PlanRecord) (after rest : List ℕ) → IsLawfulRecord d → end ++ rest ≡ line d ++ after → ⊥
-starts d after rest lawful e = end_no_line_more d after rest lawful e
-
-starts_bare : (d : PlanRecord) (after : List ℕ) → IsLawfulRecord d → end ≡ line d ++ after → ⊥
-starts_bare d after lawful e = end_no_line d after lawful e
-
 pub line_unique : (c d : PlanRecord) (a b : List ℕ) → IsLawfulRecord c → IsLawfulRecord d → line c ++ a ≡ line d ++ b → (c ≡ d) × (a ≡ b)
 line_unique c d a b l m e =
     let u = owner_unique c.before d.before (after_old c a) (after_old d b) l.before m.before (sym (line_parts c a) ∙ e ∙ line_parts d b) in
@@ -50,8 +44,8 @@ line_unique c d a b l m e =
 
 lines_unique : (cs ds : List PlanRecord) (rest : List ℕ) → All IsLawfulRecord cs → All IsLawfulRecord ds → lines ds ++ end ≡ lines cs ++ (end ++ rest) → (cs ≡ ds) × (rest ≡ [])
 lines_unique [] [] rest l m e = (refl, sym (append_cancel_left end [] rest e))
-lines_unique [] (d ∷ ds) rest l m e = absurd (starts d (lines ds ++ end) rest (All-head IsLawfulRecord d ds m) (sym e ∙ append_assoc (line d) (lines ds) end))
-lines_unique (c ∷ cs) [] rest l m e = absurd (starts_bare c (lines cs ++ (end ++ rest)) (All-head IsLawfulRecord c cs l) (e ∙ append_assoc (line c) (lines cs) (end ++ rest)))
+lines_unique [] (d ∷ ds) rest l m e = absurd (end_no_line_more d (lines ds ++ end) rest (All-head IsLawfulRecord d ds m) (sym e ∙ append_assoc (line d) (lines ds) end))
+lines_unique (c ∷ cs) [] rest l m e = absurd (end_no_line c (lines cs ++ (end ++ rest)) (All-head IsLawfulRecord c cs l) (e ∙ append_assoc (line c) (lines cs) (end ++ rest)))
 lines_unique (c ∷ cs) (d ∷ ds) rest l m e =
     let u = line_unique d c (lines ds ++ end) (lines cs ++ (end ++ rest)) (All-head IsLawfulRecord d ds m) (All-head IsLawfulRecord c cs l) (sym (append_assoc (line d) (lines ds) end) ∙ e ∙ append_assoc (line c) (lines cs) (end ++ rest)) in
     let v = lines_unique cs ds rest (All-tail IsLawfulRecord c cs l) (All-tail IsLawfulRecord d ds m) u.1 in

@@ -1,5 +1,5 @@
 -- A text that spells a plan is read to its end.
-use Rattle.std.proofs.Common.{◌≡◌, ◌⊎◌, inl, inr, ◌||◌, ◌<◌, ◌≤◌, ℕ, suc, Bool, true, false, not, List, [], ◌∷◌, ◌++◌, map, length, get_or, refl, sym, ◌∙◌, ap, subst, arith, append_assoc, length-append}
+use Rattle.std.proofs.Common.{◌≡◌, ◌⊎◌, inl, inr, ◌||◌, ◌<◌, ℕ, suc, Bool, true, false, not, List, [], ◌∷◌, ◌++◌, map, length, get_or, refl, sym, ◌∙◌, ap, subst, arith, append_assoc, length-append}
 use Rattle.std.specs.Prelude.{decimal, codes}
 use Rattle.std.specs.List.{list_any}
 use Rattle.std.specs.Char.{digit_value}
@@ -11,7 +11,7 @@ use Rattle.std.proofs.lemmas.List.{append-nil, get_or_at, get_or_append_left}
 use Rattle.reown_plan.specs.declared.plan.Record.{Record}
 use Rattle.reown_plan.specs.PlanData.{PlanRecord, PlanData}
 use Rattle.reown_plan.specs.Records.{record_of}
-use Rattle.reown_plan.proofs.Lines.{any-map}
+use Rattle.reown_plan.proofs.Lines.{any-map, line_some, paths_of}
 use Rattle.reown_plan.specs.Spelling.{number, head, line, lines, end, spelling, IsLawfulRecord, IsLawful}
 
 -- what is left to read of a plan
@@ -23,9 +23,6 @@ pub record Left (plan : PlanData) (host : List ℕ) (read : List PlanRecord) (re
 
 pub spelling_parts : (plan : PlanData) → spelling plan ≡ head plan.host ++ (lines plan.records ++ end)
 spelling_parts plan = append_assoc (head plan.host) (lines plan.records) end
-
-line_some : (c : PlanRecord) → 1 ≤ length (line c)
-line_some c = omega (arith, length-append (number c.before.uid ++ number c.before.gid ++ number c.after.uid ++ number c.after.gid ++ number (length c.path) ++ c.path) (10 ∷ []))
 
 nothing_left : (left : List PlanRecord) → lines left ++ end ≡ end → left ≡ []
 nothing_left [] e = refl
@@ -114,9 +111,9 @@ pub left_all : (plan : PlanData) (host rest : List ℕ) → host ≡ plan.host �
 left_all plan host rest e r = record { left = plan.records; host_is = sym e; records = refl; rest_is = r }
 
 -- the paths that were read, by the set of them
-pub twice : {K : Type 0} (f : K → List ℕ) (keys : List K) (records : List Record) (path : List ℕ) → map f keys ≡ map (λ r. r.path.now) records → list_any (λ k. bytes_eq path (f k)) keys ≡ true → list_any (λ d. bytes_eq path d.path) (map record_of records) ≡ true
-twice f keys records path same h =
-    sym (any-map (λ (d : PlanRecord). bytes_eq path d.path) record_of records) ∙ any-map (bytes_eq path) (λ (r : Record). r.path.now) records ∙ ap (list_any (bytes_eq path)) (sym same) ∙ sym (any-map (bytes_eq path) f keys) ∙ h
+pub twice : (records : List Record) (path : List ℕ) (has : Bool) → has ≡ list_any (bytes_eq path) (paths_of records) → has ≡ true → list_any (λ d. bytes_eq path d.path) (map record_of records) ≡ true
+twice records path has same h =
+    sym (any-map (λ (d : PlanRecord). bytes_eq path d.path) record_of records) ∙ any-map (bytes_eq path) (λ (r : Record). r.path.now) records ∙ sym same ∙ h
 
 pub was_there : (b added : Bool) → added ≡ not b → added ≡ false → b ≡ true
 was_there true added h e = refl

@@ -1,4 +1,5 @@
 -- The owner of a file.
+-- Source: chown(2): an owner is a uid with a gid.
 use Rattle.std.specs.Prelude.{Bool, ◌&&◌, ◌==◌}
 use Rattle.mtree_inv.specs.declared.entry.Entry.{Entry}
 use Rattle.reown_plan.specs.declared.plan.Owner.{Owner}

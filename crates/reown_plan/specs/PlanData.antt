@@ -1,4 +1,5 @@
 -- What a plan says, without where its text lies in memory.
+-- Source: this project's own format.
 use Rattle.std.specs.Prelude.{◌≢◌, ℕ, List, AllPairs}
 use Rattle.reown_plan.specs.declared.plan.Owner.{Owner}
 

@@ -1,4 +1,5 @@
 -- What a text is read as.
+-- Source: this project's own format.
 use Rattle.std.specs.Prelude.{◌≡◌, ℕ, List, Result, Ok, Err}
 use Rattle.reown_plan.specs.PlanData.{PlanData}
 use Rattle.reown_plan.specs.Spelling.{spelling, IsLawful, IsFaultAt}

@@ -1,4 +1,5 @@
 -- The record of a plan as its values, with the path as bytes.
+-- Values that borrow from the input, without the borrow: words of the code and not of the subject.
 use Rattle.reown_plan.specs.declared.plan.Record.{Record}
 use Rattle.reown_plan.specs.PlanData.{PlanRecord}
 

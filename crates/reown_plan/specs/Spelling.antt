@@ -1,4 +1,5 @@
 -- How a plan is spelled.
+-- Source: this project's own format. That 4294967295 is no number of an owner is that of chown(2).
 use Rattle.std.specs.Prelude.{◌≡◌, ◌≢◌, ◌≤◌, ℕ, List, [], ◌∷◌, ◌++◌, All, true, length, flat_map, codes, decimal}
 use Rattle.hosts_join.specs.Checks.{is_host_name}
 use Rattle.mtree_inv.specs.Files.{IsLawfulPath}

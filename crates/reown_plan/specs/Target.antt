@@ -1,4 +1,5 @@
 -- The owners that the files of a host get.
+-- Source: this project's own rule.
 use Rattle.std.specs.Prelude.{◌≡◌, ℕ, not, List, [], map, filter, length, Option, Some, None, find, bytes_eq, slice_index_or}
 use Rattle.hosts_join.specs.Accounts.{Accounts, owner}
 use Rattle.hosts_join.specs.Site.{Joined}

@@ -27,7 +27,8 @@ pub fn plans_read_back()
     ensures { (hosts : List Host) (site : Joined) (users groups : List ℕ) (host : ℕ) (files : List Entry) → IsHostName (name_at hosts host) → IsMapping users → IsMapping groups → AreFiles files → ReadsAs (spelling (host_plan hosts site users groups host files)) (Ok (host_plan hosts site users groups host files)) }
 {}
 
-/// After a host's plan each file has its target, and so, under the mappings, the user name and the group name that it had.
+/// After a host's plan each file has its target, and so, under the mappings, the user name and the group name that it had,
+/// where its numbers had names on the host.
 pub fn plans_keep_names()
     ensures targets { (site : Joined) (users groups : List ℕ) (host : ℕ) (files : List Entry) → HaveDistinctFiles files → All (λ f. owner_after (plan_of site users groups host files) f ≡ target site users groups host f) files }
     ensures names { (site : Joined) (users groups : List ℕ) (host : ℕ) (files : List Entry) → HaveDistinctFiles files → All (λ f. KeepsNames site users groups host f (owner_after (plan_of site users groups host files) f)) files }

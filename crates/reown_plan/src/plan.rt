@@ -3,31 +3,36 @@ ghost use Rattle.std.specs.Prelude.{◌≡◌};
 ghost use Rattle.reown_plan.specs.declared.plan.PlanFault.TheVariants.{BadPlan, Memory};
 
 use crate::read::{read_head, read_record};
-use indexmap::IndexSet;
 use std::alloc::{AllocError, AllocFailed, Global};
+use std::collections::HashSet;
 use std::marker::Model;
 
 /// The numbers of a file's user and group (chown(2)).
 #[derive(Clone, Copy, Debug, PartialEq, Eq)]
 pub struct Owner {
+    /// The user's number, at most 4294967294 in a plan that was read.
     pub uid: u32,
+    /// The group's number, with the same limit.
     pub gid: u32,
 }
 
 /// A file that gets a new owner: what it has, what it gets, and its path, a slice of the plan.
 #[derive(Clone, Copy, Debug)]
 pub struct Record<'a> {
+    /// The owner that the file has before the plan is carried out.
     pub before: Owner,
+    /// The owner that it gets.
     pub after: Owner,
+    /// Its path in the inventory, as bytes.
     pub path: &'a [u8],
 }
 
 /// Why a text is no plan.
 #[derive(Clone, Copy, Debug, PartialEq, Eq)]
 pub enum PlanFault {
-    /// The first header, record or end that is not lawful begins at this byte.
+    /// 35: the first header, record or end that is not lawful begins at this byte; bytes count from 0.
     BadPlan(usize),
-    /// A growth was refused.
+    /// A growth was refused. It has no number.
     Memory,
 }
 
@@ -90,7 +95,7 @@ impl<'a> Plan<'a> {
             return Err(PlanFault::BadPlan(0));
         };
         let mut records = Vec::new(alloc);
-        let mut paths: IndexSet<&[u8]> = IndexSet::new(alloc);
+        let mut paths: HashSet<&[u8]> = HashSet::new(alloc);
         'records: while let Some((planned, after)) = read_record(rest) {
             if !paths.insert(planned.path)? {
                 return Err(PlanFault::BadPlan(text.len() - rest.len()));
@@ -109,14 +114,14 @@ impl<'a> Plan<'a> {
         Err(PlanFault::BadPlan(text.len() - rest.len() + behind))
     }
 
-    /// The name of its host.
+    /// The name of its host, a slice of the plan's text. Takes constant time and no memory.
     pub fn host(&self) -> &'a [u8]
         ensures { result.now ≡ self.now.host }
     {
         self.host
     }
 
-    /// Its records in order; their paths differ.
+    /// Its records in order; their paths differ. Takes constant time and no memory.
     pub fn records(&self) -> &[Record<'a>]
         ensures records { map record_of result.now ≡ self.now.records }
         ensures distinct { HaveDistinctPaths self.now.records }

@@ -1,6 +1,5 @@
 //! Readers of a plan's parts.
-ghost use Rattle.std.specs.Prelude.{◌≡◌, ◌≢◌, ◌++◌, ◌≤◌, ◌<◌, ◌^◌, ◌∷◌, ℕ, List, All, true, false, IsSomeAnd, decimal, length, ◌==◌, IfSome, IfNone};
-ghost use Rattle.std.specs.List.{list_any};
+ghost use Rattle.std.specs.Prelude.{◌≡◌, ◌≢◌, ◌++◌, ◌≤◌, ◌<◌, ◌^◌, ◌∷◌, ℕ, List, All, true, IsSomeAnd, decimal, length, IfSome, IfNone};
 ghost use Rattle.reown_plan.specs.declared.plan.Owner.{Owner};
 ghost use Rattle.reown_plan.specs.Spelling.{number, head, line, IsHostName, IsOwner, IsLawfulRecord};
 ghost use Rattle.mtree_inv.specs.Files.{IsLawfulPath};
@@ -9,7 +8,7 @@ ghost use Rattle.reown_plan.specs.PlanData.{PlanRecord};
 
 use crate::{Owner, Record};
 use hosts_join::is_host_name;
-use idtext::{LARGEST_ID, MOST_BYTES};
+use idtext::{LARGEST_ID, MOST_BYTES, cut};
 use itoa::Buffer;
 
 // The number that these bytes write, without leading zeros.
@@ -31,7 +30,7 @@ fn read_number(text: &[u8]) -> Option<(u32, &[u8])>
     ensures spelled { IfSome result (λ r. text.now ≡ number r.0 ++ r.1.now) }
     ensures complete { (n : ℕ) (rest : List ℕ) → n < 2 ^ 32 → text.now ≡ number n ++ rest → IsSomeAnd result (λ r. (r.0 ≡ n) × (r.1.now ≡ rest)) }
 {
-    let (digits, rest) = cut(text, b' ')?;
+    let (digits, rest) = cut(b' ', text)?;
     let value = written(digits)?;
     Some((value, rest))
 }
@@ -49,20 +48,6 @@ fn read_id(text: &[u8]) -> Option<(u32, &[u8])>
     Some((value, rest))
 }
 
-// What stands before the first such byte, and what follows it.
-fn cut(text: &[u8], byte: u8) -> Option<(&[u8], &[u8])>
-    ensures spelled { IfSome result (λ r. text.now ≡ r.0.now ++ byte ∷ r.1.now) }
-    ensures first { IfSome result (λ r. list_any (λ b. b == byte) r.0.now ≡ false) }
-    ensures none { IfNone result (list_any (λ b. b == byte) text.now ≡ false) }
-{
-    for (i, other) in text.iter().enumerate() {
-        if *other == byte {
-            return Some((&text[..i], &text[i + 1..]));
-        }
-    }
-    None
-}
-
 // The first line, and what follows.
 pub(crate) fn read_head(text: &[u8]) -> Option<(&[u8], &[u8])>
     ensures spelled { IfSome result (λ r. text.now ≡ head r.0.now ++ r.1.now) }
@@ -70,7 +55,7 @@ pub(crate) fn read_head(text: &[u8]) -> Option<(&[u8], &[u8])>
     ensures complete { (host rest : List ℕ) → IsHostName host → text.now ≡ head host ++ rest → IsSomeAnd result (λ r. (r.0.now ≡ host) × (r.1.now ≡ rest)) }
 {
     let after = text.strip_prefix(b"unify plan 1 ")?;
-    let (host, rest) = cut(after, b'\n')?;
+    let (host, rest) = cut(b'\n', after)?;
     if !is_host_name(host) {
         return None;
     }

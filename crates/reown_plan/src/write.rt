@@ -34,10 +34,11 @@ fn target_of(site: &Site<'_>, users: &Mapping, groups: &Mapping, host: u32, entr
 }
 
 /// Appends the record of a file of the host at an index where the mappings give the file another owner, and nothing for another
-/// file; true exactly where a record was appended. Asked is that the mappings have one number for each name of the site, and that
-/// the file's uid and gid have accounts on the host.
+/// file; true exactly where a record was appended. Asked is that the mappings have one number for each name of the site, and
+/// that the file's uid and gid have accounts on the host.
 ///
-/// Refused where memory is; the text is then as before. Two look-ups by hash, and one pass over the path where a record is appended.
+/// Refused where memory is; the text is then as before. Two look-ups by hash, and one pass over the path where a record is
+/// appended.
 pub fn push_plan_entry(
     text: &mut Vec<u8>,
     host: u32,
@@ -72,8 +73,8 @@ pub fn push_plan_entry(
 }
 
 /// The text of the plan of the host at an index: a record for each file of its inventory that gets another owner, in the order
-/// of the inventory. It is `push_plan_head`, `push_plan_entry` for each file, and `push_plan_end`. Asked is that the mappings have
-/// one number for each name of the site, and that each file's uid and gid have accounts on the host.
+/// of the inventory. It is `push_plan_head`, `push_plan_entry` for each file, and `push_plan_end`. Asked is that the mappings
+/// have one number for each name of the site, and that each file's uid and gid have accounts on the host.
 ///
 /// `AllocError` where memory is refused. Two look-ups by hash for each file, and memory in step with the text.
 pub fn plan_text(

@@ -1,5 +1,5 @@
 -- How a host goes, event after event.
-use Rattle.std.proofs.Common.{◌≡◌, ◌≢◌, inl, inr, ◌<◌, ◌≤◌, ◌+◌, ◌==◌, ℕ, true, cond, List, [], ◌∷◌, ◌++◌, Option, None, Some, Result, Ok, Err, IfSome, IfErr, MatchResult, length, All, take, set, get_or, slice_get, refl, sym, ◌∙◌, ap, subst, arith, length-append}
+use Rattle.std.proofs.Common.{◌≡◌, ◌≢◌, inl, inr, ◌<◌, ◌≤◌, ◌+◌, ◌==◌, ℕ, true, cond, List, [], ◌∷◌, ◌++◌, Option, None, Some, Result, Ok, Err, IfSome, IfErr, length, All, take, set, get_or, slice_get, refl, sym, ◌∙◌, ap, subst, arith, length-append}
 use Rattle.std.proofs.lemmas.Bool.Decides.{nat_tests}
 use Rattle.std.proofs.lemmas.List.Elements.{filter_map-append, All-more}
 use Rattle.std.proofs.lemmas.List.{take_more}
@@ -10,12 +10,12 @@ use Rattle.reown_runner.specs.declared.runner.Progress.{Progress}
 use Rattle.reown_runner.specs.declared.runner.RunFault.{RunFault}
 use Rattle.reown_runner.specs.declared.runner.RunFault.TheVariants.{Device, Missing, Foreign}
 use Rattle.reown_runner.specs.Tree.{TreeData, IsReadable, Stops, cells_of}
-use Rattle.reown_runner.specs.State.{State, StandsFor, cells_at, did, fresh}
+use Rattle.reown_runner.specs.State.{State, StandsFor, fresh}
 use Rattle.reown_runner.specs.Safe.{IsSafeInStep}
-use Rattle.reown_runner.specs.Step.{turn, IsAdvance, IsAsked, IsTold, moved}
+use Rattle.reown_runner.specs.Step.{turn, IsAsked, IsTold, moved}
 use Rattle.reown_runner.specs.RunnerData.{RunnerData}
 use Rattle.reown_runner.specs.World.{World, Hosted}
-use Rattle.reown_runner.specs.Run.{HostEvent, Advances, Stops as Halts, IsRun, refusal}
+use Rattle.reown_runner.specs.Run.{HostEvent, Advanced, Advances, Stops as Halts, IsRun, host_at, refusal}
 use Rattle.reown_runner.specs.Campaign.{Goes, EachGoes, IsToldBy, own, host_of, host_event}
 use Rattle.std.specs.List.{cons_option}
 use Rattle.reown_runner.proofs.Cellwise.{either}
@@ -59,8 +59,8 @@ module _ {T : Type 0} (known : T → TreeData) where
             let y = b.stands x.0 x.1 in (
               y.0,
               y.1,
-              run_then w0.records (record { place = w0.place; state = s }) first (record { place = w1.place; state = x.0 }) rest refused (record { place = w2.place; state = y.0 }) x.2
-                  (subst (λ cs. IsRun cs (record { place = w1.place; state = x.0 }) rest refused (record { place = w2.place; state = y.0 })) a.records y.2),
+              run_then w0.records (host_at w0.place (known t0) s) first (host_at w1.place (known t1) x.0) rest refused (host_at w2.place (known t2) y.0) x.2
+                  (subst (λ cs. IsRun cs (host_at w1.place (known t1) x.0) rest refused (host_at w2.place (known t2) y.0)) a.records y.2),
             );
         safe = λ inventory safe.
             subst (λ cs. IsSafeInStep inventory cs w2.place (cells_of (known t2))) a.records (b.safe inventory (subst (λ cs. IsSafeInStep inventory cs w1.place (cells_of (known t1))) (sym a.records) (a.safe inventory safe)));
@@ -86,17 +86,16 @@ module _ {T : Type 0} (known : T → TreeData) where
   -- by an advance
   pub goes_on_by : (w : RunnerData) (t : T) (w' : RunnerData) (t' : T) (result : Result Progress RunFault)
       → w'.records ≡ w.records
-      → ((s : State) → StandsFor (known t) s → (u : State) × StandsFor (known t') u × IsAdvance (turn w.records w.place (cells_at s).owner (cells_at s).mark) (λ operation. u ≡ did operation s) (moved w'.place result))
-      → MatchResult result (λ _. Unit {0}) (λ _. w'.place ≡ w.place)
+      → ((s : State) → StandsFor (known t) s → (u : State) × StandsFor (known t') u × Advanced w.records (host_at w.place (known t) s) (moved w'.place result) (host_at w'.place (known t') u))
       → ((inventory : List ℕ → Option Owner) → IsSafeInStep inventory w.records w.place (cells_of (known t)) → IsSafeInStep inventory w.records w'.place (cells_of (known t')))
       → ((inventory : List ℕ → Option Owner) → IsSafeInStep inventory w.records w.place (cells_of (known t)) → IfErr result (λ fault. fault ≡ Device))
       → IsTold (known t).faults (known t').faults result
       → IsAsked (turn w.records w.place (known t).owner (known t).mark) (known t).asked (known t').asked
       → Goes known (hosted w t) (Advances ∷ []) (refusal result) (hosted w' t')
-  goes_on_by w t w' t' result records stands stays safe device told asked =
+  goes_on_by w t w' t' result records stands safe device told asked =
       record {
         records = records;
-        stands = λ s h. (let x = stands s h in (x.0, x.1, run_one w.records w.place w'.place s x.0 result x.2 stays));
+        stands = λ s h. (let x = stands s h in (x.0, x.1, run_one w.records (host_at w.place (known t) s) (host_at w'.place (known t') x.0) result x.2));
         safe = safe;
         device = λ inventory s. refused_device result (device inventory s);
         told = told_by result (known t).faults (known t').faults told;
@@ -112,7 +111,7 @@ module _ {T : Type 0} (known : T → TreeData) where
         records = ap (λ (v : RunnerData). v.records) is;
         stands = λ s h.
             let x = stop_stands s (cells_of (known t)) (cells_of (known t')) h stops in
-            (fresh x.0, x.2, (x.0, x.1, (refl, ap (λ p. record { place = p; state = fresh x.0 }) place)));
+            (fresh x.0, x.2, (x.0, x.1, (refl, λ i. record { place = place i; state = fresh x.0; asked = asked i })));
         safe = λ inventory safe. subst (λ p. IsSafeInStep inventory w.records p (cells_of (known t'))) (sym place) (stop_sound inventory w.records w.place (cells_of (known t)) (cells_of (known t')) readable stops safe);
         device = λ inventory safe. tt;
         told = faults;

@@ -9,10 +9,10 @@ use Rattle.reown_runner.specs.declared.runner.Place.{Place}
 use Rattle.reown_runner.specs.declared.runner.Place.TheVariants.{Start, Record, SyncOwners, Mark, SyncMark, Done}
 use Rattle.reown_runner.specs.declared.runner.RunFault.{RunFault}
 use Rattle.reown_runner.specs.Tree.{TreeData, Cells, Image, IsImage, IsReadable, cells_of}
-use Rattle.reown_runner.specs.State.{State, fresh, did, cells_at}
+use Rattle.reown_runner.specs.State.{Keeps, fresh, cells_at}
 use Rattle.reown_runner.specs.Safe.{AllNew, IsSafe, IsSafeInStep}
-use Rattle.reown_runner.specs.Step.{turn, IsAdvance, IsPlaceOf, advances_left}
-use Rattle.reown_runner.specs.Run.{Host, Advances, IsRun}
+use Rattle.reown_runner.specs.Step.{IsPlaceOf, advances_left}
+use Rattle.reown_runner.specs.Run.{Host, Advanced, Advances, IsRun}
 use Rattle.reown_runner.specs.Finished.{IsFresh, AreOld, after_record, owner_after_plan, HasSafeLists}
 use Rattle.reown_runner.proofs.Cellwise.{either, safe_cells, safe_images}
 use Rattle.reown_runner.proofs.Histories.{fresh_settled}
@@ -32,6 +32,14 @@ module _ (inventory : List ℕ → Option Owner) where
 
   pub fresh_history : (image : Image) → ((path : List ℕ) → image.owner path ≡ inventory path) → image.mark ≡ false → IsFresh inventory (cells_at (fresh image))
   fresh_history image owner mark = record { owner = owner; mark = mark; settled = fresh_settled image }
+
+  -- a fresh tree stands for the history in which nothing has happened
+  pub fresh_stands : (cells : Cells) → IsFresh inventory cells → Keeps (cells_at (fresh (record { owner = inventory; mark = false }))) cells
+  fresh_stands cells f =
+      record {
+        owners = record { owner = f.owner; owner_left = λ path x left. ([], record { lost = []; whole = refl; no_sync = tt }, f.settled.owner path x left ∙ f.owner path) };
+        mark = record { mark = f.mark; mark_left = λ m left. ([], record { lost = []; whole = refl; no_sync = tt }, f.settled.mark m left ∙ f.mark) };
+      }
 
   -- the first record of a path says its owner
   first_says : (i : Image) (path : List ℕ) (records : List PlanRecord) → AllNew records i → (All (λ r. r.path ≢ path) records → i.owner path ≡ inventory path) → i.owner path ≡ owner_after_plan inventory records path
@@ -66,27 +74,26 @@ not_some x h = cc
 
 -- how many advances are left after some
 module _ (records : List PlanRecord) where
-  left_step : (place : Place) (state : State) (m : ℕ) (end : Host) (answer : Result Place RunFault) (after : State) → IsPlaceOf records place → (place ≡ Start → (cells_at state).mark ≡ false)
-      → ((next : Place) → IsPlaceOf records next → next ≢ Start → IsRun records (record { place = next; state = after }) (replicate m Advances) None end → advances_left records end.place ≡ advances_left records next - m)
-      → IsAdvance (turn records place (cells_at state).owner (cells_at state).mark) (λ operation. after ≡ did operation state) answer
-      → MatchResult answer (λ next. IsRun records (record { place = next; state = after }) (replicate m Advances) None end) (λ fault. (replicate m Advances ≡ []) × (None ≡ Some fault) × (end ≡ record { place = place; state = after }))
-      → advances_left records end.place ≡ advances_left records place - suc m
-  left_step place state m end (Ok next) after fits unset go a c =
-      let owner = (cells_at state).owner in
-      let mark = (cells_at state).mark in
-      let near = one_nearer records owner place mark a.0 fits unset a.1 in
-      let fits_next = subst (IsPlaceOf records) (sym a.2) (next_fits records owner place mark a.0 fits a.1) in
-      let gone : next ≢ Start = λ e. next_goes records owner place mark a.0 fits a.1 (sym a.2 ∙ e) in
-      let rest = go next fits_next gone c in
-      let same : advances_left records next ≡ advances_left records place - 1 = ap (advances_left records) a.2 ∙ near in
-      rest ∙ ap (λ n. n - m) same ∙ one_less (advances_left records place) m
-  left_step place state m end (Err fault) after fits unset go a c = absurd (let h = c.1 in not_some fault h)
+  left_step : (host next : Host) (m : ℕ) (end : Host) (answer : Result Place RunFault) → IsPlaceOf records host.place → (host.place ≡ Start → (cells_at host.state).mark ≡ false)
+      → (IsPlaceOf records next.place → next.place ≢ Start → IsRun records next (replicate m Advances) None end → advances_left records end.place ≡ advances_left records next.place - m)
+      → Advanced records host answer next
+      → MatchResult answer (λ _. IsRun records next (replicate m Advances) None end) (λ fault. (replicate m Advances ≡ []) × (None ≡ Some fault) × (end ≡ next))
+      → advances_left records end.place ≡ advances_left records host.place - suc m
+  left_step host next m end (Ok place) fits unset go a c =
+      let owner = (cells_at host.state).owner in
+      let mark = (cells_at host.state).mark in
+      let is : next.place ≡ a.step.0.next = a.place ∙ a.step.2 in
+      let near = one_nearer records owner host.place mark a.step.0 fits unset a.step.1 in
+      let fits_next = subst (IsPlaceOf records) (sym is) (next_fits records owner host.place mark a.step.0 fits a.step.1) in
+      let gone : next.place ≢ Start = λ e. next_goes records owner host.place mark a.step.0 fits a.step.1 (sym is ∙ e) in
+      let rest = go fits_next gone c in
+      let same : advances_left records next.place ≡ advances_left records host.place - 1 = ap (advances_left records) is ∙ near in
+      rest ∙ ap (λ n. n - m) same ∙ one_less (advances_left records host.place) m
+  left_step host next m end (Err fault) fits unset go a c = absurd (let h = c.1 in not_some fault h)
 
-  pub left_after : (n : ℕ) (place : Place) (state : State) (end : Host) → IsPlaceOf records place → (place ≡ Start → (cells_at state).mark ≡ false)
-      → IsRun records (record { place = place; state = state }) (replicate n Advances) None end → advances_left records end.place ≡ advances_left records place - n
-  left_after zero place state end fits unset run = ap (λ h. advances_left records h.place) run.1 ∙ omega arith
-  left_after (suc m) place state end fits unset run =
-      left_step place state m end run.0 run.1 fits unset (λ next fits_next gone rest. left_after m next run.1 end fits_next (λ e. absurd (gone e)) rest) run.2 run.3
+  pub left_after : (n : ℕ) (host end : Host) → IsPlaceOf records host.place → (host.place ≡ Start → (cells_at host.state).mark ≡ false) → IsRun records host (replicate n Advances) None end → advances_left records end.place ≡ advances_left records host.place - n
+  left_after zero host end fits unset run = ap (λ (h : Host). advances_left records h.place) run.1 ∙ omega arith
+  left_after (suc m) host end fits unset run = left_step host run.1 m end run.0 fits unset (λ fits_next gone rest. left_after m run.1 end fits_next (λ e. absurd (gone e)) rest) run.2 run.3
 
   nothing_left : (place : Place) → advances_left records place ≡ 0 → place ≡ Done
   nothing_left Start e = absurd (omega arith)
@@ -96,9 +103,10 @@ module _ (records : List PlanRecord) where
   nothing_left SyncMark e = absurd (omega arith)
   nothing_left Done e = refl
 
-  pub done_after : (n : ℕ) (state : State) (end : Host) → (cells_at state).mark ≡ false → IsRun records (record { place = Start; state = state }) (replicate n Advances) None end → (end.place ≡ Done) ↔ (length records + 4 ≤ n)
-  done_after n state end unset run =
-      let left : advances_left records end.place ≡ length records + 4 - n = left_after n Start state end tt (λ _. unset) run in (
+  pub done_after : (n : ℕ) (host end : Host) → host.place ≡ Start → (cells_at host.state).mark ≡ false → IsRun records host (replicate n Advances) None end → (end.place ≡ Done) ↔ (length records + 4 ≤ n)
+  done_after n host end starts unset run =
+      let fits : IsPlaceOf records host.place = subst (IsPlaceOf records) (sym starts) tt in
+      let left : advances_left records end.place ≡ length records + 4 - n = left_after n host end fits (λ _. unset) run ∙ ap (λ p. advances_left records p - n) starts in (
         λ is. (let none : advances_left records end.place ≡ 0 = ap (advances_left records) is in omega arith),
         λ enough. nothing_left end.place (left ∙ omega arith),
       )

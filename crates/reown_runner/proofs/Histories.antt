@@ -1,5 +1,5 @@
 -- Histories of operations, and the trees that stand for them.
-use Rattle.std.proofs.Common.{◌≡◌, ◌≢◌, ◌⊎◌, ◌↔◌, inl, inr, ℕ, true, false, cond, get_or, slice_get, ◌+◌, List, [], ◌∷◌, ◌++◌, Option, None, Some, Result, Ok, Err, refl, sym, ◌∙◌, ap, subst}
+use Rattle.std.proofs.Common.{◌≡◌, ◌≢◌, ◌⊎◌, ◌↔◌, inl, inr, ℕ, true, false, cond, get_or, slice_get, ◌+◌, List, [], ◌∷◌, ◌++◌, Option, None, Some, Result, Ok, Err, IsOk, refl, sym, ◌∙◌, ap, subst}
 use Rattle.std.specs.List.{AllByRecursion}
 use Rattle.std.specs.Str.{bytes_eq}
 use Rattle.std.specs.Cmp.Lexicographic.{bytes_decides}
@@ -11,10 +11,11 @@ use Rattle.reown_runner.specs.declared.runner.Place.{Place}
 use Rattle.reown_runner.specs.declared.runner.Place.TheVariants.{Start, Record, SyncOwners, Mark, SyncMark, Done}
 use Rattle.reown_runner.specs.declared.runner.RunFault.{RunFault}
 use Rattle.reown_runner.specs.declared.runner.RunFault.TheVariants.{Device, Missing, Foreign}
-use Rattle.reown_runner.specs.Tree.{Cells, Image, IsImage, IsReadable, IsSettled, SameMark, Does, Stops, Operation, Write, SetMark, Sync}
-use Rattle.reown_runner.specs.State.{State, Keeps, fresh, did, owner_then, mark_then, owner_after, mark_after, IsKept, cells_at}
+use Rattle.reown_runner.specs.Tree.{TreeData, Cells, cells_of, Image, IsImage, IsReadable, IsSettled, SameMark, Does, Stops, Operation, Write, SetMark, Sync}
+use Rattle.reown_runner.specs.State.{State, StandsFor, Keeps, fresh, did, owner_then, mark_then, owner_after, mark_after, IsKept, cells_at}
 use Rattle.reown_runner.specs.Safe.{IsSafeInStep}
-use Rattle.reown_runner.specs.Step.{Turn, turn, turn_at, record_turn, record_place, IsAdvance}
+use Rattle.reown_runner.specs.Run.{Advanced, host_at}
+use Rattle.reown_runner.specs.Step.{Turn, turn, turn_at, record_turn, record_place, place_after, IsAdvance, IsAsked}
 use Rattle.reown_runner.proofs.Turns.{keeps, kept, same_keeps}
 use Rattle.reown_runner.proofs.Cellwise.{either, safe_cells, safe_images}
 
@@ -225,6 +226,22 @@ advance_stands records place s old new (Err Device) k (inr a) =
     (did a.0.operation s, stands_after s old new a.0.operation k a.2, inr (a.0, sym (same_readings records place (cells_at s) old k) ∙ a.1, refl))
 advance_stands records place s old new (Err (Missing i)) k a = (s, keeps k (same_keeps a.1), (sym (same_readings records place (cells_at s) old k) ∙ a.0, refl))
 advance_stands records place s old new (Err (Foreign i)) k a = (s, keeps k (same_keeps a.1), (sym (same_readings records place (cells_at s) old k) ∙ a.0, refl))
+
+-- so it is an advance of each host whose tree it is
+pub host_advances : (records : List PlanRecord) (place end : Place) (old new : TreeData) (answer : Result Place RunFault) → end ≡ place_after place answer → IsAsked (turn records place old.owner old.mark) old.asked new.asked
+    → (place ≡ Done → IsOk answer × (new.asked ≡ old.asked)) → IsAdvance (turn records place old.owner old.mark) (λ operation. Does operation (cells_of old) (cells_of new)) answer
+    → (s : State) → StandsFor old s → (t : State) × StandsFor new t × Advanced records (host_at place old s) answer (host_at end new t)
+host_advances records place end old new answer goes asked rests step s stands =
+    let h = advance_stands records place s (cells_of old) (cells_of new) answer stands step in (
+      h.0,
+      h.1,
+      record {
+        step = h.2;
+        place = goes;
+        asked = subst (λ plan. IsAsked plan old.asked new.asked) (same_readings records place (cells_at s) (cells_of old) stands) asked;
+        rests = rests;
+      },
+    )
 
 -- an advance in a history
 pub as_done : (plan : Result Turn RunFault) (s t : State) (answer : Result Place RunFault) → IsAdvance plan (λ operation. t ≡ did operation s) answer → IsAdvance plan (λ operation. Does operation (cells_at s) (cells_at t)) answer

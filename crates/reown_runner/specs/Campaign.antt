@@ -1,4 +1,5 @@
 -- Several hosts, whose events come interleaved.
+-- Source: this project's own rule.
 use Rattle.std.specs.Prelude.{◌≡◌, ◌<◌, ◌≤◌, ◌+◌, ℕ, ◌==◌, Bool, List, Option, None, Some, Result, Ok, Err, IfSome, All, slice_get, take, length, filter_map, true, false, if◌then◌else◌}
 use Rattle.reown_plan.specs.declared.plan.Owner.{Owner}
 use Rattle.reown_runner.specs.declared.campaign.Event.{Event}
@@ -14,7 +15,7 @@ use Rattle.reown_runner.specs.Tree.{TreeData, cells_of}
 use Rattle.reown_runner.specs.State.{State, StandsFor}
 use Rattle.reown_runner.specs.Safe.{IsSafeInStep}
 use Rattle.reown_runner.specs.World.{World, Hosted, IsHostOf}
-use Rattle.reown_runner.specs.Run.{HostEvent, Advances, Stops, IsRun}
+use Rattle.reown_runner.specs.Run.{HostEvent, Advances, Stops, IsRun, host_at}
 
 -- the host that an event is for
 abbrev pub host_of : Event → ℕ
@@ -51,11 +52,11 @@ IsToldBy (Some Device) before after = after ≡ before + 1
 IsToldBy (Some (Missing i)) before after = after ≡ before
 IsToldBy (Some (Foreign i)) before after = after ≡ before
 
--- one host goes from there to there by its events
+-- one host goes from there to there by its events: its tree by a run of them, with just the writes and syncs of that run
 pub record Goes {T : Type 0} (known : T → TreeData) (before : Hosted T) (events : List HostEvent) (refused : Option RunFault) (after : Hosted T) : Type 0 where
   pub records : after.runner.records ≡ before.runner.records
   pub stands : (s : State) → StandsFor (known before.tree) s
-      → (t : State) × StandsFor (known after.tree) t × IsRun before.runner.records (record { place = before.runner.place; state = s }) events refused (record { place = after.runner.place; state = t })
+      → (t : State) × StandsFor (known after.tree) t × IsRun before.runner.records (host_at before.runner.place (known before.tree) s) events refused (host_at after.runner.place (known after.tree) t)
   pub safe : (inventory : List ℕ → Option Owner) → IsSafeInStep inventory before.runner.records before.runner.place (cells_of (known before.tree)) → IsSafeInStep inventory before.runner.records after.runner.place (cells_of (known after.tree))
   pub device : (inventory : List ℕ → Option Owner) → IsSafeInStep inventory before.runner.records before.runner.place (cells_of (known before.tree)) → IfSome refused (λ fault. fault ≡ Device)
   pub told : IsToldBy refused (known before.tree).faults (known after.tree).faults

@@ -1,4 +1,5 @@
 -- How a plan begins on a tree, and what it has done when it is finished.
+-- Source: this project's own rule.
 use Rattle.std.specs.Prelude.{◌≡◌, ◌⊎◌, ◌≢◌, ℕ, true, false, List, Option, None, Some, All, Contains, find}
 use Rattle.std.specs.Str.{bytes_eq}
 use Rattle.reown_plan.specs.declared.plan.Owner.{Owner}

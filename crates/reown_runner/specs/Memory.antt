@@ -1,4 +1,5 @@
 -- A tree in memory: for each cell the value at the last sync and the value now.
+-- Source: this project's own rule.
 use Rattle.std.specs.Prelude.{◌≡◌, ℕ, ◌%◌, ◌==◌, Bool, true, false, not, List, [], ◌∷◌, Option, None, Some, map, take, length, ◌<◌, slice_index_or, count_by, position, slice_get, slice_set, find, if◌then◌else◌}
 use Rattle.std.specs.Option.{option_map, option_and_then}
 use Rattle.std.specs.Str.{bytes_eq}

@@ -1,4 +1,5 @@
 -- What a runner is to its user.
+-- Source: this project's own rule.
 use Rattle.std.specs.Prelude.{List}
 use Rattle.reown_plan.specs.PlanData.{PlanRecord}
 use Rattle.reown_runner.specs.declared.runner.Place.{Place}

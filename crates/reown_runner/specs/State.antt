@@ -1,4 +1,5 @@
 -- A tree as its history: how it began, and the operations since.
+-- Source: the usual model of a device with a write cache; fsync(2).
 use Rattle.std.specs.Prelude.{◌≡◌, ◌≢◌, ℕ, Bool, true, List, [], ◌∷◌, ◌++◌, Option, None, Some, fold, if◌then◌else◌}
 use Rattle.std.specs.List.{AllByRecursion}
 use Rattle.std.specs.Str.{bytes_eq}

@@ -1,4 +1,5 @@
 -- What one advance does.
+-- Source: this project's own rule.
 use Rattle.std.specs.Prelude.{◌≡◌, ◌⊎◌, ◌<◌, ◌^◌, ◌-◌, ⊤, min, IsSome, ℕ, ◌+◌, Bool, List, Option, None, Some, Result, Ok, Err, length, slice_get, nat_lt, if◌then◌else◌}
 use Rattle.reown_plan.specs.declared.plan.Owner.{Owner}
 use Rattle.reown_plan.specs.Owners.{owner_eq}

@@ -1,5 +1,6 @@
--- A tree: a cell for each path, and one for the mark. What a read answers, and what a stop may leave: the usual model
--- of a device with a write cache, where only a sync, as fsync(2), says that what was written stays.
+-- A tree: a cell for each path, and one for the mark. What a read answers, and what a stop may leave: only a sync says that
+-- what was written stays.
+-- Source: the usual model of a device with a write cache; chown(2), fsync(2).
 use Rattle.std.specs.Prelude.{◌≡◌, ◌≢◌, ◌⊎◌, ◌↔◌, ℕ, ◌+◌, ◌<◌, ◌-◌, ◌^◌, Bool, true, List, Option, None, Some, Result, Ok, Err, min, Contains}
 use Rattle.reown_plan.specs.declared.plan.Owner.{Owner}
 

@@ -1,4 +1,5 @@
 -- A world of hosts.
+-- Source: this project's own rule.
 use Rattle.std.specs.Prelude.{◌≡◌, ℕ, List, Some, slice_get}
 use Rattle.reown_runner.specs.RunnerData.{RunnerData}
 

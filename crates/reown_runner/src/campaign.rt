@@ -7,7 +7,7 @@ use reown_plan::Plan;
 use std::alloc::{AllocError, Global};
 use std::marker::Model;
 
-/// What happens to a host.
+/// What happens to a host, which is told by its index: hosts count from 0, in order of the plans.
 #[derive(Clone, Copy, Debug, PartialEq, Eq)]
 pub enum Event {
     /// One step of the host's runner.
@@ -19,14 +19,18 @@ pub enum Event {
 /// Why an event was refused.
 #[derive(Clone, Copy, Debug, PartialEq, Eq)]
 pub enum EventFault {
+    /// 36, 37, 38: the host's runner was refused.
     Run(RunFault),
+    /// 39: there is no host of this index.
     NoSuchHost,
 }
 
 /// Which event was refused, and why.
 #[derive(Clone, Copy, Debug, PartialEq, Eq)]
 pub struct DriveFault {
+    /// The index of the event; events count from 0.
     pub event: u64,
+    /// Why it was refused.
     pub fault: EventFault,
 }
 
@@ -50,7 +54,6 @@ impl<'p, 'a, T> Model for Campaign<'p, 'a, T> {
 
 ghost use Rattle.reown_runner.specs.Campaign.{host_of, host_event, refused_of, happened, Goes, EachGoes, is_done, event_refusal, IsForHost, AreForHosts};
 ghost use Rattle.reown_runner.specs.Run.{refusal};
-ghost use Rattle.reown_runner.specs.declared.campaign.EventFault.TheVariants.{NoSuchHost, Run};
 ghost use Rattle.reown_runner.specs.RunnerData.{RunnerData};
 
 impl Event {
@@ -109,7 +112,7 @@ impl<'p, 'a, T> Campaign<'p, 'a, T> {
         Ok(Campaign { runners, trees })
     }
 
-    /// The tree of a host.
+    /// The tree of a host; hosts count from 0. Constant time.
     pub fn tree(&self, host: usize) -> &T
         requires { host < length self.now.trees }
         ensures { slice_get self.now.trees host ≡ Some result.now }
@@ -117,7 +120,7 @@ impl<'p, 'a, T> Campaign<'p, 'a, T> {
         &self.trees[host]
     }
 
-    /// Whether the host's plan is done.
+    /// Whether the plan of a host is done; hosts count from 0. Constant time.
     pub fn done(&self, host: usize) -> bool
         requires { host < length self.now.runners }
         ensures { (runner : RunnerData) × (slice_get self.now.runners host ≡ Some runner) × (result ≡ is_done runner.place) }
@@ -126,7 +129,7 @@ impl<'p, 'a, T> Campaign<'p, 'a, T> {
         runner.place() == Place::Done
     }
 
-    /// The trees in order of the hosts, as they are.
+    /// The trees in order of the hosts, as they are. The runners go; no tree is copied.
     pub fn into_trees(self) -> Vec<T>
         ensures { result.items ≡ self.entry.trees }
     {
@@ -154,10 +157,15 @@ impl<'p, 'a, T: Tree> Campaign<'p, 'a, T> {
     }
 
     /// Lets the events happen in order, up to the first that is refused: those before it have happened, those after it
-    /// have not. Answers whether every host is done. One advance or stop an event, and one pass over the hosts.
+    /// have not. Answers whether every host is done. One advance or stop an event, with just the writes and syncs of these
+    /// advances, and one pass over the hosts. It takes no memory.
     ///
-    /// Of the trees it says what the contract of `Tree` says, so that it holds for whatever image a stop leaves. Which one that
-    /// is, as by the choice of a `MemTree`, it does not say.
+    /// Of the trees it says what the contract of `Tree` says, so that it holds for whatever image a stop leaves. Which one
+    /// that is, as by the choice of a `MemTree`, it does not say.
+    ///
+    /// # Errors
+    ///
+    /// The first event that is refused: as `Runner::advance` refuses it, or for want of its host.
     pub fn drive(&mut self, events: &[Event]) -> Result<bool, DriveFault>
         ensures goes { EachGoes T.known self.old (happened events.now result) (λ host. refused_of host events.now result) self.new }
         ensures hosts { AreForHosts events.now (length self.old.trees) result }

@@ -1,5 +1,5 @@
 //! A tree whose calls fail by a script.
-ghost use Rattle.std.specs.Prelude.{◌≡◌, ◌≢◌, ◌+◌, ◌-◌, ◌^◌, ◌<◌, drop};
+ghost use Rattle.std.specs.Prelude.{◌≡◌, ◌≢◌, ◌+◌, ◌^◌, ◌<◌, drop};
 ghost use Rattle.reown_runner.specs.declared.failing.Item.TheVariants.{Pass};
 
 use crate::{DeviceFault, MemTree, Tree};
@@ -9,6 +9,7 @@ use std::marker::Model;
 /// What a call does.
 #[derive(Clone, Copy, Debug, PartialEq, Eq)]
 pub enum Item {
+    /// It is done.
     Pass,
     /// It fails, and nothing is done.
     FailBefore,
@@ -16,7 +17,7 @@ pub enum Item {
     FailAfter,
 }
 
-/// A tree in memory whose calls fail by a script.
+/// A tree in memory whose calls fail by a script. Its calls cost what those of the tree in memory do.
 #[derive(Drop)]
 pub struct FailTree {
     tree: MemTree,
@@ -37,13 +38,13 @@ impl Model for FailTree {
     ghost invariant = { λ f. f.next ≤ length f.script.items };
 }
 
-ghost use Rattle.reown_runner.specs.Failing.{Failing, known_failing, readable_failing, next_item, IsScripted};
+ghost use Rattle.reown_runner.specs.Failing.{known_failing, readable_failing, next_item, IsScripted};
 ghost use Rattle.reown_runner.specs.Memory.{known_mem, IsWritten, marked, settled, IsReopened};
 ghost use Rattle.reown_runner.specs.Tree.{cells_of, counted, Same, Writes, SetsMark, Syncs, Stops, MayDo, Write, SetMark, Sync, IsCounted};
 ghost use Rattle.std.specs.Prelude.{⊤, OnOk, OnErr, IfOk, IsSome};
 
 impl FailTree {
-    /// A tree whose calls fail by this script, and pass after its end.
+    /// A tree whose calls fail by this script, and pass after its end. Each read, write and sync takes one item. Constant time.
     pub fn new(tree: MemTree, script: Vec<Item>) -> Self
         ensures { result ≡ record { tree = tree; script = script.items; faults = 0; asked = 0 } }
     {

@@ -6,22 +6,27 @@ ghost use Rattle.reown_runner.specs.declared.runner.Place.{Place};
 ghost use Rattle.reown_runner.specs.declared.runner.Place.TheVariants.{Start, Done};
 ghost use Rattle.reown_runner.specs.declared.runner.RunFault.{RunFault};
 ghost use Rattle.reown_runner.specs.Tree.{TreeData, Image, IsImage, IsReadable, Stops, cells_of};
-ghost use Rattle.reown_runner.specs.State.{State, fresh, cells_at};
+ghost use Rattle.reown_runner.specs.State.{State, StandsFor, fresh, cells_at};
 ghost use Rattle.reown_runner.specs.Safe.{IsSafe, IsSafeInStep};
 ghost use Rattle.reown_runner.specs.Finished.{IsFresh, AreOld, owner_after_plan, HasSafeLists};
-ghost use Rattle.reown_runner.specs.Run.{Host, HostEvent, Advances, IsRun};
+ghost use Rattle.reown_runner.specs.Run.{Host, HostEvent, Advances, IsRun, AreRuns};
 
 /// A tree that is as its inventory is safe and in step at the start of a plan whose paths are there at their old owners;
-/// so is a world without a history.
+/// so is a world without a history. Such a tree stands for the history in which nothing has happened.
 pub fn fresh_is_safe()
     ensures trees { (inventory : List ℕ → Option Owner) (records : List PlanRecord) (tree : TreeData) → IsFresh inventory (cells_of tree) → AreOld inventory records → IsSafeInStep inventory records Start (cells_of tree) }
     ensures worlds { (inventory : List ℕ → Option Owner) (records : List PlanRecord) (image : Image) → ((path : List ℕ) → image.owner path ≡ inventory path) → image.mark ≡ false → AreOld inventory records → IsSafeInStep inventory records Start (cells_at (fresh image)) }
+    ensures stands { (inventory : List ℕ → Option Owner) (tree : TreeData) → IsFresh inventory (cells_of tree) → StandsFor tree (fresh (record { owner = inventory; mark = false })) }
 {}
 
-/// A host that is safe and in step stays so over any run of its events, also where one is refused.
+/// A host that is safe and in step stays so over any run of its events, also where one is refused, and over any such runs
+/// one after the other.
 pub fn stays_safe()
-    ensures { (inventory : List ℕ → Option Owner) (records : List PlanRecord) → HaveDistinctPaths records
+    ensures run { (inventory : List ℕ → Option Owner) (records : List PlanRecord) → HaveDistinctPaths records
         → (host : Host) (events : List HostEvent) (refused : Option RunFault) (end : Host) → IsRun records host events refused end
+        → IsSafeInStep inventory records host.place (cells_at host.state) → IsSafeInStep inventory records end.place (cells_at end.state) }
+    ensures runs { (inventory : List ℕ → Option Owner) (records : List PlanRecord) → HaveDistinctPaths records
+        → (host : Host) (runs : List (List HostEvent)) (end : Host) → AreRuns records host runs end
         → IsSafeInStep inventory records host.place (cells_at host.state) → IsSafeInStep inventory records end.place (cells_at end.state) }
 {}
 
@@ -48,6 +53,6 @@ pub fn done_means_done()
 /// From the start, with the mark not set, advances of which none is refused are done exactly after four more than there
 /// are records.
 pub fn advances_from_start()
-    ensures { (records : List PlanRecord) (n : ℕ) (s : State) (end : Host) → (cells_at s).mark ≡ false → IsRun records (record { place = Start; state = s }) (replicate n Advances) None end
+    ensures { (records : List PlanRecord) (n : ℕ) (host end : Host) → host.place ≡ Start → (cells_at host.state).mark ≡ false → IsRun records host (replicate n Advances) None end
         → (end.place ≡ Done) ↔ (length records + 4 ≤ n) }
 {}

@@ -1,8 +1,7 @@
 //! A tree in memory, which never fails.
-ghost use Rattle.std.specs.Prelude.{◌≡◌, ◌<◌, ℕ, map, take, length, position, slice_get, slice_set, slice_index_or, Option, Some, IfOk, IfSome, OnOk, OnErr, IsSome};
+ghost use Rattle.std.specs.Prelude.{◌≡◌, ◌<◌, ℕ, map, take, length, position, slice_get, slice_set, slice_index_or, Some, IfOk, IfSome, OnOk, OnErr, IsSome};
 ghost use Rattle.std.specs.Option.{option_map};
 ghost use Rattle.std.specs.Str.{bytes_eq};
-ghost use Rattle.reown_plan.specs.declared.plan.Owner.{Owner};
 
 use crate::{DeviceFault, Tree};
 use indexmap::IndexSet;
@@ -14,10 +13,13 @@ use std::marker::Model;
 /// Which of the values that are pending a stop keeps.
 #[derive(Clone, Copy, Debug, PartialEq, Eq)]
 pub enum Keep {
+    /// All of them.
     All,
+    /// None.
     Lost,
     /// Of the cells that are pending, in order and the mark last, every other, from the first on.
     Alternate,
+    /// The mark's alone.
     MarkOnly,
 }
 
@@ -28,7 +30,7 @@ pub struct FileCell {
     now: Owner,
 }
 
-/// A tree in memory.
+/// A tree in memory. A path is found by hash; a sync and a stop take one pass over the files. No call but `new` takes memory.
 #[derive(Drop)]
 pub struct MemTree {
     paths: IndexSet<Vec<u8>>,
@@ -50,7 +52,7 @@ impl Model for MemTree {
     ghost invariant = { λ m. length m.paths.keys ≡ length m.cells.items };
 }
 
-ghost use Rattle.reown_runner.specs.Memory.{Mem, known_mem, keeps_file, is_odd_one, settled_cell, left_cell, owner_in, new_mem, IsWritten, marked, settled, IsReopened};
+ghost use Rattle.reown_runner.specs.Memory.{known_mem, keeps_file, is_odd_one, settled_cell, left_cell, owner_in, new_mem, IsWritten, marked, settled, IsReopened};
 ghost use Rattle.reown_runner.specs.MemoryReads.{readable_mem};
 ghost use Rattle.reown_runner.specs.Tree.{cells_of, counted, Same, Writes, SetsMark, Syncs, Stops, MayDo, Write, SetMark, Sync, IsCounted};
 ghost use Rattle.reown_runner.specs.Finished.{IsFresh};
@@ -123,7 +125,7 @@ impl MemTree {
     }
 
     /// Chooses what a stop keeps. No call of `Tree` changes the choice. What is run over any tree (`Runner`, `Campaign`) says
-    /// nothing of it: that holds for whatever a stop leaves.
+    /// nothing of it: that holds for whatever a stop leaves. Constant time.
     pub fn on_reopen(&mut self, keep: Keep)
         ensures { self.new ≡ record self.old { keep = keep } }
     {

@@ -4,11 +4,9 @@ ghost use Rattle.reown_plan.specs.Records.{record_of};
 ghost use Rattle.reown_runner.specs.declared.runner.RunFault.TheVariants.{Device};
 ghost use Rattle.reown_runner.specs.Tree.{cells_of, Does};
 ghost use Rattle.reown_runner.specs.Step.{turn, record_turn, record_place, IsAdvance, IsTold, IsAsked, IsPlaceOf, progress_at, moved, advances_left, operations_left};
-ghost use Rattle.reown_runner.specs.Run.{IsRun, Advances, refusal};
-ghost use Rattle.reown_plan.specs.PlanData.{HaveDistinctPaths};
-ghost use Rattle.reown_runner.specs.declared.runner.RunFault.{RunFault};
+ghost use Rattle.reown_runner.specs.Run.{IsRun, Advanced, Advances, host_at, refusal};
 ghost use Rattle.reown_plan.specs.declared.plan.Owner.{Owner};
-ghost use Rattle.reown_runner.specs.State.{State, StandsFor, cells_at, did};
+ghost use Rattle.reown_runner.specs.State.{State, StandsFor};
 ghost use Rattle.reown_runner.specs.Safe.{IsSafeInStep};
 ghost use Rattle.reown_runner.specs.Finished.{IsFresh, AreOld, owner_after_plan};
 
@@ -16,35 +14,40 @@ use crate::{DeviceFault, Tree};
 use reown_plan::{Plan, Record};
 use std::marker::Model;
 
-/// Where a runner is in its plan.
+/// Where a runner is in its plan; records count from 0.
 #[derive(Clone, Copy, Debug, PartialEq, Eq)]
 pub enum Place {
     /// It reads the mark.
     Start,
     /// It moves the file of this record.
     Record(usize),
+    /// It syncs, so that a stop leaves the new owners.
     SyncOwners,
     /// It sets the mark.
     Mark,
+    /// It syncs, so that a stop leaves the mark set.
     SyncMark,
+    /// It has nothing left to do.
     Done,
 }
 
 /// Whether a plan is done.
 #[derive(Clone, Copy, Debug, PartialEq, Eq)]
 pub enum Progress {
+    /// The plan goes on.
     Working,
+    /// Nothing is left to do.
     Done,
 }
 
-/// Why a runner stays at its place.
+/// Why a runner stays at its place; records count from 0.
 #[derive(Clone, Copy, Debug, PartialEq, Eq)]
 pub enum RunFault {
-    /// A call of the device failed.
+    /// 36: a call of the device failed.
     Device,
-    /// The file of this record is not there.
+    /// 37: the file of this record is not there.
     Missing(usize),
-    /// The file of this record has neither its old nor its new owner.
+    /// 38: the file of this record has neither its old nor its new owner.
     Foreign(usize),
 }
 
@@ -161,7 +164,7 @@ fn next_place<T: Tree>(records: &[Record], place: Place, tree: &mut T) -> Result
 }
 
 impl<'p, 'a> Runner<'p, 'a> {
-    /// A runner at the start of a plan.
+    /// A runner at the start of a plan, whose records it borrows. Constant time.
     pub fn new(plan: &'p Plan<'a>) -> Self
         ensures records { result.records ≡ plan.now.records }
         ensures place { result.place ≡ Place.Start }
@@ -172,7 +175,7 @@ impl<'p, 'a> Runner<'p, 'a> {
         }
     }
 
-    /// Where it is.
+    /// Where it is. Constant time.
     pub fn place(&self) -> Place
         ensures { result ≡ self.now.place }
     {
@@ -186,8 +189,13 @@ impl<'p, 'a> Runner<'p, 'a> {
         self.place = Place::Start;
     }
 
-    /// Does what the place asks for, with at most one write or sync, and goes on to the next place. A refusal leaves the
-    /// place: the device failed, or the record's file is not there or has neither its old nor its new owner.
+    /// Does what the place asks for, with at most one write or sync, and goes on to the next place. At most two calls of
+    /// the tree, and no memory. At `Done` it touches nothing.
+    ///
+    /// # Errors
+    ///
+    /// A refusal leaves the place: the device failed, or the record's file is not there or has neither its old nor its new
+    /// owner.
     pub fn advance<T: Tree>(&mut self, tree: &mut T) -> Result<Progress, RunFault>
         ensures records { self.new.records ≡ self.old.records }
         ensures progress { IfOk result (λ progress. progress ≡ progress_at self.new.place) }
@@ -204,16 +212,17 @@ impl<'p, 'a> Runner<'p, 'a> {
         ensures spends { OnOk result ((T.known tree.new).asked + operations_left self.old.records self.new.place ≤ (T.known tree.old).asked + operations_left self.old.records self.old.place) }
         ensures spends_err { OnErr result ((T.known tree.new).asked ≤ (T.known tree.old).asked + operations_left self.old.records self.old.place) }
 
-        // Where whatever a stop leaves is safe, and the place goes with the tree, that stays so; and then only the device refuses.
+        // Where whatever a stop leaves is safe, and the place goes with the tree, that stays so; and then only the device
+        // refuses.
         ensures safe { (inventory : List ℕ → Option Owner) → IsSafeInStep inventory self.old.records self.old.place (cells_of (T.known tree.old))
             → IsSafeInStep inventory self.old.records self.new.place (cells_of (T.known tree.new)) }
         ensures device { (inventory : List ℕ → Option Owner) → IsSafeInStep inventory self.old.records self.old.place (cells_of (T.known tree.old))
             → IfErr result (λ fault. fault ≡ Device) }
 
-        // It is an advance in each history that the tree stands for.
+        // It is one advance in each history that the tree stands for.
         ensures stands { (s : State) → StandsFor (T.known tree.old) s
             → (t : State) × StandsFor (T.known tree.new) t
-            × IsAdvance (turn self.old.records self.old.place (cells_at s).owner (cells_at s).mark) (λ operation. t ≡ did operation s) (moved self.new.place result) }
+            × Advanced self.old.records (host_at self.old.place (T.known tree.old) s) (moved self.new.place result) (host_at self.new.place (T.known tree.new) t) }
     {
         match next_place(self.records, self.place, tree) {
             Ok(place) => {
@@ -224,8 +233,11 @@ impl<'p, 'a> Runner<'p, 'a> {
         }
     }
 
-    /// Advances until the plan is done. A refusal leaves the runner at the place where it came. For r records it makes at
-    /// most r + 4 advances, and r + 3 writes and syncs.
+    /// Advances until the plan is done. For r records it makes at most r + 4 advances, and r + 3 writes and syncs.
+    ///
+    /// # Errors
+    ///
+    /// Those of `advance`. A refusal leaves the runner at the place where it came, from which it may run on.
     pub fn run<T: Tree>(&mut self, tree: &mut T) -> Result<(), RunFault>
         ensures records { self.new.records ≡ self.old.records }
         ensures done { OnOk result (self.new.place ≡ Place.Done) }
@@ -244,10 +256,11 @@ impl<'p, 'a> Runner<'p, 'a> {
         ensures reads { (inventory : List ℕ → Option Owner) → IsFresh inventory (cells_of (T.known tree.old)) → AreOld inventory self.old.records → self.old.place ≡ Place.Start
             → OnOk result ((path : List ℕ) → (T.known tree.new).owner path ≡ owner_after_plan inventory self.old.records path) }
 
-        // It is a run of some advances, at most four more than there are records, in each history that the tree stands for.
+        // It is a run of some advances, at most four more than there are records, in each history that the tree stands for,
+        // with just the writes and syncs of that run.
         ensures stands { (s : State) → StandsFor (T.known tree.old) s
             → (n : ℕ) × (t : State) × StandsFor (T.known tree.new) t
-            × IsRun self.old.records (record { place = self.old.place; state = s }) (replicate n Advances) (refusal result) (record { place = self.new.place; state = t })
+            × IsRun self.old.records (host_at self.old.place (T.known tree.old) s) (replicate n Advances) (refusal result) (host_at self.new.place (T.known tree.new) t)
             × (n ≤ length self.old.records + 4) }
     {
         'steps: loop {

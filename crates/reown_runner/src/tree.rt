@@ -9,19 +9,20 @@ use reown_plan::Owner;
 pub struct DeviceFault;
 
 /// A tree of files with owners and a mark, on a device whose calls may fail and which a stop may cut off: until a sync, a
-/// stop leaves in each cell by itself what was written or what was there before (chown(2), fsync(2)).
+/// stop leaves in each cell by itself what was written or what was there before (chown(2), fsync(2)). What a call costs is
+/// for the tree to say.
 pub trait Tree {
     /// What is known of it.
     ghost known: { Self → TreeData };
 
-    /// The owner of a file, if the file is there.
+    /// The owner of a file, if the file is there. Where it fails, nothing has happened.
     fn owner(&mut self, path: &[u8]) -> Result<Option<Owner>, DeviceFault>
         ensures answer { IfOk result (λ owner. owner ≡ (known self.old).owner path.now) }
         ensures same { Same (cells_of (known self.old)) (cells_of (known self.new)) }
         ensures faults { IsCounted (known self.old).faults (known self.new).faults result }
         ensures asked { (known self.new).asked ≡ (known self.old).asked };
 
-    /// Gives a file an owner. Where it fails, that has happened or not.
+    /// Gives a file that is there an owner. Where it fails, that has happened or not.
     fn set_owner(&mut self, path: &[u8], owner: Owner) -> Result<(), DeviceFault>
         requires { IsSome ((known self.old).owner path.now) }
         ensures done { OnOk result (Writes path.now owner (cells_of (known self.old)) (cells_of (known self.new))) }
@@ -29,7 +30,7 @@ pub trait Tree {
         ensures faults { IsCounted (known self.old).faults (known self.new).faults result }
         ensures asked { (known self.new).asked ≡ counted (known self.old).asked };
 
-    /// Whether the mark is set.
+    /// Whether the mark is set. Where it fails, nothing has happened.
     fn mark(&mut self) -> Result<bool, DeviceFault>
         ensures answer { IfOk result (λ mark. mark ≡ (known self.old).mark) }
         ensures same { Same (cells_of (known self.old)) (cells_of (known self.new)) }

@@ -1,5 +1,5 @@
 -- What a merge may answer is what it is believed for.
-use Rattle.std.proofs.Common.{◌≡◌, ℕ, zero, suc, ◌+◌, ◌<◌, ◌↔◌, true, false, List, [], ◌∷◌, length, get_or, map, Option, Some, None, refl, sym, ap, subst, ◌∙◌, arith}
+use Rattle.std.proofs.Common.{◌≡◌, ℕ, zero, suc, ◌+◌, ◌<◌, ◌≤◌, ◌↔◌, true, false, List, [], ◌∷◌, length, get_or, map, Option, Some, None, refl, sym, ap, subst, ◌∙◌, arith}
 use Rattle.std.specs.List.{slice_get}
 use Rattle.std.specs.Option.{is_some, option_map}
 use Rattle.std.specs.Str.{bytes_eq}
@@ -26,15 +26,17 @@ use Rattle.reown_runner.specs.Safe.{IsSafeInStep}
 use Rattle.reown_runner.specs.State.{fresh, cells_at}
 use Rattle.reown_runner.specs.Tree.{Image}
 use Rattle.reown_runner.proofs.Finishing.{fresh_safe, fresh_history, done_image}
-use Rattle.reown_runner.proofs.Runs.{run_sound}
+use Rattle.reown_runner.proofs.Runs.{runs_sound}
 use Rattle.unify_texts.specs.WrittenMap.{SayMapping}
 use Rattle.unify_texts.specs.declared.map_text.MapText.{MapText}
 use Rattle.unify.specs.declared.outcome.Outcome.{Outcome}
 use Rattle.unify.specs.Believed.{OutcomesAreBelieved, NumbersTellNames}
-use Rattle.unify.specs.Headline.{HaveOneNumberEach, FinishedPlanKeepsNames, untouched}
+use Rattle.unify.specs.Cost.{cost_of}
+use Rattle.unify.specs.Headline.{HaveOneNumberEach, FinishedPlanKeepsNames, fields, untouched}
 use Rattle.unify.specs.Laws.{IsWhole}
-use Rattle.unify.specs.Outcomes.{IsOutcome, hosts_in, plan_texts_from}
+use Rattle.unify.specs.Outcomes.{IsOutcome, cost_in, hosts_in, plan_texts_from}
 use Rattle.unify.specs.Reading.{WholeSite}
+use Rattle.unify.proofs.Costs.{costs_agree}
 use Rattle.unify.proofs.Keeping.{is_mapping, map_says_mappings, plan_is_old, keeps_names}
 use Rattle.unify.proofs.SiteRuns.{some_same}
 
@@ -102,19 +104,28 @@ finished site outcome whole o printed users groups h host files here =
     let same : host_plan (hosts_in site) site.joined m.users m.groups h files ≡ made = ap (λ (n : List ℕ). record { host = n; records = records }) name in
     let ok = o.answered.least.admissible in
     let lawful = plan-lawful (hosts_in site) site.joined m.users m.groups h files (subst plan.IsHostName (sym name) is.named) (is_mapping site.joined.users m.users whole.lawful.users ok.users).numbers (is_mapping site.joined.groups m.groups whole.lawful.groups ok.groups).numbers is.files_are in
+    let old = plan_is_old site.joined m.users m.groups h files is.files_are.distinct in
     let at_first : Image = record { owner = owner_in files; mark = false } in
     record {
       plan = plan.spelling made;
       printed = ap (λ texts. slice_get texts h) o.printed.plans ∙ text_at (hosts_in site) site.joined m site.hosts 0 h host files here ∙ ap (λ i. Some (plan.spelling (host_plan (hosts_in site) site.joined m.users m.groups i files))) from_zero ∙ ap (λ p. Some (plan.spelling p)) same;
       records = records;
       read = (subst plan.IsLawful same lawful, refl);
-      kept = λ events refused end run done image is_image.
-          let old = plan_is_old site.joined m.users m.groups h files is.files_are.distinct in
+      begins = old;
+      kept = λ asked runs end are done image is_image.
           let start = fresh_safe (owner_in files) records (cells_at (fresh at_first)) (fresh_history (owner_in files) at_first (λ path. refl) refl) old in
-          let safe = run_sound (owner_in files) records lawful.distinct (untouched files) events refused end start run in
+          let safe = runs_sound (owner_in files) records lawful.distinct (untouched asked files) runs end start are in
           let at_done : IsSafeInStep (owner_in files) records Done (cells_at end.state) = subst (λ p. IsSafeInStep (owner_in files) records p (cells_at end.state)) done safe in
           keeps_names site.joined m printed users groups h host files is image.owner (done_image (owner_in files) records (cells_at end.state) at_done image is_image).1;
     }
+
+-- no other map changes fewer fields of files
+none_fewer : (site : WholeSite) (outcome : Outcome) → IsWhole site → (o : IsOutcome site outcome) (printed : MapText) → SayMapping site.joined.users o.mappings.users printed.users → SayMapping site.joined.groups o.mappings.groups printed.groups
+    → (other : MapText) (m : Mappings) → HaveOneNumberEach site.joined.users m.users other.users → HaveOneNumberEach site.joined.groups m.groups other.groups → fields (cost_of printed site.hosts) ≤ fields (cost_of other site.hosts)
+none_fewer site outcome whole o printed says_users says_groups other m users groups =
+    let least = o.answered.least.least m (record { users = users.admissible; groups = groups.admissible }) in
+    subst (λ c. fields c ≤ fields (cost_of other site.hosts)) (sym (costs_agree site o.mappings printed whole says_users says_groups))
+    (subst (λ c. fields (cost_in site o.mappings) ≤ fields c) (sym (costs_agree site m other whole users.say groups.say)) least)
 
 pub outcomes_are_believed : OutcomesAreBelieved
 outcomes_are_believed site outcome whole o =
@@ -131,7 +142,8 @@ outcomes_are_believed site outcome whole o =
       no_other_rewrites_fewer = o.answered.least;
       potentials_are_of_these = o.answered.certificate_has;
       potentials_prove_it = o.answered.certified;
-      cost_is_told = o.printed.cost;
+      cost_is_told = o.printed.cost ∙ sym (costs_agree site o.mappings back.pairs whole back.users back.groups);
+      no_other_map_rewrites_fewer = none_fewer site outcome whole o back.pairs back.users back.groups;
       a_finished_plan_keeps_names = finished site outcome whole o back.pairs back.users back.groups;
     }
 

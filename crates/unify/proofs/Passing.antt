@@ -1,6 +1,6 @@
 -- A first pass, call by call.
-use Rattle.std.proofs.Common.{◌≡◌, ℕ, ◌+◌, false, ◌<◌, ◌≤◌, List, [], ◌∷◌, ◌++◌, length, map, Option, Some, None, Result, Ok, Err, refl, sym, ap, subst, ◌∙◌, inl, arith, append-nil, length-append}
-use Rattle.std.specs.Prelude.{IfSome, IfErr, OnOk}
+use Rattle.std.proofs.Common.{◌≡◌, ℕ, ◌+◌, false, ◌<◌, List, [], ◌∷◌, ◌++◌, length, map, Option, Some, None, Result, Ok, Err, refl, sym, ap, subst, ◌∙◌, inl, arith, append-nil, length-append}
+use Rattle.std.specs.Prelude.{IfSome, IfNone, IfErr, OnOk}
 use Rattle.std.specs.List.{slice_get}
 use Rattle.std.proofs.lemmas.List.{length-map, map-append}
 use Rattle.idtext.specs.First.{◌>>=◌, each}
@@ -24,6 +24,7 @@ use Rattle.unify.specs.Reading.{added_on, added_from}
 use Rattle.unify.specs.RowFiles.{RowFiles, row_files, rows_among}
 use Rattle.unify.proofs.Adding.{added_from-push}
 use Rattle.unify.proofs.Sites.{site_given}
+use Rattle.unify.proofs.Turns.{again_if}
 
 -- ---- hosts with the texts that were ended
 
@@ -155,12 +156,6 @@ unmet : (P : Fault → Type 0) (o : Option Fault) → IfSome o (λ f. ⊥ × P f
 unmet P None h = refl
 unmet P (Some f) h = absurd h.0
 
--- where a turn met no fault, the files before it are few enough
-pub going_on : (c : CountingValue) (host : Host) → IsCounting c → ended_in c < length c.hosts → slice_get c.hosts (ended_in c) ≡ Some host → met_by host c.turn ≡ None → (earlier : List Added) × (text : List ℕ) × TurnsFor c.joined (ended_in c) earlier c.turn text × (length earlier ≤ 1073741824)
-going_on c host inv left here none =
-    let s = inv.standing (met_here c c.turn host here ∙ none) in
-    (added_from 0 s.2.read, s.1, s.2.turns, omega (arith, s.2.few, inv.whole.few, left))
-
 -- an answer of a turn, and what a first pass is behind it
 pub next_counting : (c : CountingValue) (host : Host) (turn : Turn) (bytes : List ℕ) (r : Result (Unit {0}) Fault) → IsCounting c → ended_in c < length c.hosts → slice_get c.hosts (ended_in c) ≡ Some host
     → OnOk r ((earlier : List Added) (text : List ℕ) → TurnsFor c.joined (ended_in c) earlier c.turn text → TurnsFor c.joined (ended_in c) earlier turn (text ++ bytes))
@@ -230,6 +225,23 @@ pub failed_if : (c : CountingValue) (turn : Turn) (host : Host) (r : Result (Uni
     → IfErr r (λ e. (f : Fault) × (met_on (slice_get c.hosts (ended_in c)) turn ≡ Some f) × IsToldAs f e)
 failed_if c turn host (Ok u) here failed = tt
 failed_if c turn host (Err e) here failed = (failed.0, met_here c turn host here ∙ failed.1, failed.2)
+
+-- a new fault is the one that is met
+pub met_new : (c : CountingValue) (turn : Turn) (host : Host) (r : Result (Unit {0}) Fault) → slice_get c.hosts (ended_in c) ≡ Some host → IfNone (met_by host c.turn) (IfErr r (λ e. met_by host turn ≡ Some e))
+    → IfNone (met_on (slice_get c.hosts (ended_in c)) c.turn) (IfErr r (λ e. met_on (slice_get c.hosts (ended_in c)) turn ≡ Some e))
+met_new c turn host r here met = subst (λ o. IfNone (met_on o c.turn) (IfErr r (λ e. met_on o turn ≡ Some e))) (sym here) met
+
+-- what a turn meets, a first pass meets
+pub met_as : (P : Fault → Type 0) (c : CountingValue) (turn : Turn) (host : Host) → slice_get c.hosts (ended_in c) ≡ Some host → IfSome (met_by host turn) P → IfSome (met_on (slice_get c.hosts (ended_in c)) turn) P
+met_as P c turn host here met = subst (λ o. IfSome (met_on o turn) P) (sym here) met
+
+-- want of memory that a turn met at its end
+pub met_memory : (P : Fault → Type 0) (c : CountingValue) (host : Host) → slice_get c.hosts (ended_in c) ≡ Some host → met_by host c.turn ≡ Some Memory → P Memory → IfSome (fault_met c) P
+met_memory P c host here met p = again_if P (fault_met c) Memory (met_here c c.turn host here ∙ met) p
+
+pub on_err : {A : Type 0} (P : Type 0) (r : Result A Fault) → P → IfErr r (λ e. P)
+on_err P (Ok x) p = tt
+on_err P (Err e) p = p
 
 -- want of memory behind the end of a host's turn
 pub failed_for_memory : (c : CountingValue) (host : Host) (r : Result (Unit {0}) Fault) → slice_get c.hosts (ended_in c) ≡ Some host → met_by host c.turn ≡ Some Memory → r ≡ Err Memory → IfErr r (λ e. (f : Fault) × (fault_met c ≡ Some f) × IsToldAs f e)

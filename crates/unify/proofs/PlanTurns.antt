@@ -19,6 +19,7 @@ use Rattle.mtree_inv.specs.Logical.{whole_lines}
 use Rattle.mtree_inv.specs.Standing as standing
 use Rattle.mtree_inv.specs.Standing.{ReaderValue}
 use Rattle.mtree_inv.proofs.LawfulLemmas.{reader-files}
+use Rattle.mtree_inv.proofs.ReadLemmas.{Grows, grows-twice}
 use Rattle.hosts_join.specs.Laws.{KnowsHost}
 use Rattle.hosts_join.specs.Site.{Joined}
 use Rattle.hosts_join.specs.declared.host.Host.{Host}
@@ -41,6 +42,7 @@ use Rattle.unify.specs.Passes.{IsFirstUnowned, StandBehind}
 use Rattle.unify.specs.Reading.{added_on}
 use Rattle.unify.specs.RowFiles.{rows_among}
 use Rattle.unify.specs.SecondPass.{CountHosts, IsUnfinished, TurnsFor, or_changed, owned_lines, plan_before_end, planned_so_far, second_files, stop_of}
+use Rattle.unify.proofs.FilesSoFar.{files_first, files_so_far}
 use Rattle.unify.proofs.Turns.{all_here, counted_owned, files_accepted, files_with, first_at, first_none, grown_files, inventory_is, none-owned}
 
 -- ---- plans of files behind files
@@ -113,19 +115,22 @@ files_front files more h = record {
       subst IsLawfulFile (get_or_append_left files more d k within) (h.lawful k d long);
 }
 
-unfinished_so_far : (host : Host) (joined : Joined) (merged : Merged) (index : ℕ) (begun : Bool) (files : List Entry) (planned : List ℕ) → AreFiles files → planned ≡ planned_so_far host joined merged index begun files → IsUnfinished host joined merged index planned
-unfinished_so_far host joined merged index true files planned are is = inr (files, are, is)
-unfinished_so_far host joined merged index false files planned are is = inl is
+unfinished_so_far : (host : Host) (joined : Joined) (merged : Merged) (index : ℕ) (begun : Bool) (files : List Entry) (text planned : List ℕ) → Grows files (standing.files_before_fault 16777216 text) → AreFiles files
+    → planned ≡ planned_so_far host joined merged index begun files → IsUnfinished host joined merged index text planned
+unfinished_so_far host joined merged index true files text planned first are is = inr (files, first.0, first.1, are, is)
+unfinished_so_far host joined merged index false files text planned first are is = inl is
 
 -- what a turn planned is not finished
-pub unfinished_turn : (host : Host) (joined : Joined) (merged : Merged) (index : ℕ) (turn : PlanTurn) (text planned : List ℕ) → TurnsFor host joined merged index turn text planned → IsUnfinished host joined merged index planned
-unfinished_turn host joined merged index turn text planned turns =
-    unfinished_so_far host joined merged index turn.is_begun turn.reader.files planned (reader-files turn.reader text turns.reading).0 turns.planned_is
+-- fed: what came by now
+pub unfinished_turn : (host : Host) (joined : Joined) (merged : Merged) (index : ℕ) (turn : PlanTurn) (text more fed planned : List ℕ) → text ++ more ≡ fed → TurnsFor host joined merged index turn text planned → IsUnfinished host joined merged index fed planned
+unfinished_turn host joined merged index turn text more fed planned is turns =
+    let first = subst (λ t. Grows turn.reader.files (standing.files_before_fault 16777216 t)) is (files_first turn.reader text more turns.most turns.sound turns.going turns.reading) in
+    unfinished_so_far host joined merged index turn.is_begun turn.reader.files fed planned first (reader-files turn.reader text turns.reading).0 turns.planned_is
 
 -- nothing was appended
-pub unfinished_still : (host : Host) (joined : Joined) (merged : Merged) (index : ℕ) (turn : PlanTurn) (text planned : List ℕ) → TurnsFor host joined merged index turn text planned → IsUnfinished host joined merged index (planned ++ [])
-unfinished_still host joined merged index turn text planned turns =
-    subst (IsUnfinished host joined merged index) (sym (append-nil planned)) (unfinished_turn host joined merged index turn text planned turns)
+pub unfinished_still : (host : Host) (joined : Joined) (merged : Merged) (index : ℕ) (turn : PlanTurn) (text more fed planned : List ℕ) → text ++ more ≡ fed → TurnsFor host joined merged index turn text planned → IsUnfinished host joined merged index fed (planned ++ [])
+unfinished_still host joined merged index turn text more fed planned is turns =
+    subst (IsUnfinished host joined merged index fed) (sym (append-nil planned)) (unfinished_turn host joined merged index turn text more fed planned is turns)
 
 -- ---- what the text says
 
@@ -239,7 +244,7 @@ more_after host joined merged index old turn after text fed planned turns is mos
 
 -- the turn goes on, or the plan stays without its end
 abbrev pub GoesOn : Host → Joined → Merged → ℕ → PlanTurn → List ℕ → Result (Unit {0}) Stop → List ℕ → Type 0
-GoesOn host joined merged index turn text r planned = MatchResult r (λ _. TurnsFor host joined merged index turn text planned) (λ _. IsUnfinished host joined merged index planned)
+GoesOn host joined merged index turn text r planned = MatchResult r (λ _. TurnsFor host joined merged index turn text planned) (λ _. IsUnfinished host joined merged index text planned)
 
 module _ (host : Host) (joined : Joined) (merged : Merged) (index : ℕ) (turn : PlanTurn) (after : ReaderValue) (text fed planned : List ℕ) (more : HasMore host joined merged index turn after text fed planned) where
   -- there is room for them
@@ -276,10 +281,11 @@ module _ (host : Host) (joined : Joined) (merged : Merged) (index : ℕ) (turn :
   planned_all = planned_more after.waiting ∙ ap (plan_before_end host joined merged index) (sym files_more)
 
   -- the plan for some of them is not finished
-  pub unfinished_more : (done left : List Entry) → after.waiting ≡ done ++ left → IsUnfinished host joined merged index (planned ++ lines (plan_of joined merged.users merged.groups index done))
-  unfinished_more done left split =
+  pub unfinished_more : (done left : List Entry) → after.waiting ≡ done ++ left → after.fault ≡ None → IsUnfinished host joined merged index fed (planned ++ lines (plan_of joined merged.users merged.groups index done))
+  unfinished_more done left split sound =
       let parts : after.files ≡ (turn.reader.files ++ done) ++ left = files_more ∙ ap (λ ws. turn.reader.files ++ ws) split ∙ sym (append_assoc turn.reader.files done left) in
-      inr (turn.reader.files ++ done, files_front (turn.reader.files ++ done) left (subst AreFiles parts (reader-files after fed more.stands).0), planned_more done)
+      let first = grows-twice (turn.reader.files ++ done) after.files (standing.files_before_fault 16777216 fed) (left, parts) (files_so_far after fed (more.most ∙ more.turns.most) sound more.stands) in
+      inr (turn.reader.files ++ done, first.0, first.1, files_front (turn.reader.files ++ done) left (subst AreFiles parts (reader-files after fed more.stands).0), planned_more done)
 
   -- all of them are owned
   pub owned_more : All (IsOwned joined index) after.waiting → All (IsOwned joined index) after.files
@@ -333,7 +339,7 @@ module _ (host : Host) (joined : Joined) (merged : Merged) (index : ℕ) (turn :
   stands_more (Ok u) new done left split none is going sound stands made counted =
       let whole : after.waiting ≡ done = split ∙ ap (λ ws. done ++ ws) none ∙ append-nil done in
       subst (λ ws. TurnsFor host joined merged index new fed (planned ++ lines (plan_of joined merged.users merged.groups index ws))) whole (turn_more new is going sound stands made counted)
-  stands_more (Err s) new done left split none is going sound stands made counted = unfinished_more done left split
+  stands_more (Err s) new done left split none is going sound stands made counted = unfinished_more done left split sound
 
   -- when the inventory ends with them, the files of one host more are counted
   pub counted_more : (c : Counted) → counts.IsMadeFor joined c → StandBehind joined index more.turns.earlier c (turn.reader.files ++ after.waiting) → CountHosts joined (index + 1) c

@@ -174,7 +174,7 @@ site_runs keep events site whole run merged trees are carried =
       a_tree_each = carried.a_tree_each ∙ ap length are ∙ length-map all (new_tree_of keep) ∙ length-map site.hosts (λ (h : Host × List Entry). h.1);
       went = went;
       done = carried.done_are;
-      names_kept = subst (λ told. DoneKeepsNames site believed.map told run.trees.items) (sym carried.done_are) (runs_keep_names keep events site run.outcome whole merged believed.map believed.map_read carried.runners run.trees.items went);
+      names_kept = subst (λ told. DoneKeepsNames site believed.map told run.trees.items) (sym carried.done_are) (runs_keep_names keep events site run.outcome whole merged believed.map believed.map_read (λ host. None) carried.runners run.trees.items went);
     }
 
 pub loaded_runs : (keep : Keep) (events : List Event) (site : WholeSite) → IsWhole site → (loaded : LoadedSite) → HoldsSite site loaded → (run : SiteRun) → IsOutcome site run.outcome → (mtrees : List (List ℕ)) → mtrees ≡ loaded.mtrees.items

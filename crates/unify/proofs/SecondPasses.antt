@@ -1,9 +1,10 @@
 -- A second pass, call by call.
-use Rattle.std.proofs.Common.{◌≡◌, ℕ, ◌+◌, ◌<◌, List, [], ◌++◌, length, Option, Some, None, Result, Ok, Err, refl, sym, ap, subst, ◌∙◌, arith, inr, append_assoc}
+use Rattle.std.proofs.Common.{◌≡◌, ℕ, ◌+◌, ◌<◌, List, [], ◌++◌, length, Option, Some, None, Result, Ok, Err, refl, sym, ap, subst, ◌∙◌, arith, inr, append-nil, append_assoc}
 use Rattle.std.specs.Prelude.{IfSome}
 use Rattle.std.specs.List.{slice_get}
 use Rattle.mtree_inv.specs.declared.entry.Entry.{Entry}
 use Rattle.mtree_inv.specs.Files.{AreFiles}
+use Rattle.mtree_inv.specs.Inventory.{inventory}
 use Rattle.mtree_inv.proofs.LawfulLemmas.{inventory-files}
 use Rattle.hosts_join.specs.Site.{Joined}
 use Rattle.hosts_join.specs.declared.host.Host.{Host}
@@ -22,6 +23,7 @@ use Rattle.unify.specs.Passes.{is_read}
 use Rattle.unify.specs.RowFiles.{rows_among}
 use Rattle.unify.specs.SecondPass.{CountHosts, IsAccepted, IsFreshTurn, IsSolving, IsUnfinished, SolvedValue, TurnsFor, fault_met, met_on, or_changed, second_files, stop_told, whole_plan}
 use Rattle.unify.proofs.BetweenPasses.{fresh_turn}
+use Rattle.unify.proofs.FilesSoFar.{files_all}
 use Rattle.unify.proofs.Owners.{files_read}
 
 -- one list has one thing at an index
@@ -52,15 +54,20 @@ second-ok : (host : Host) (r : Result (List Entry) Fault) (files : List Entry) �
 second-ok host (Ok fs) files h = h
 second-ok host (Err f) files h = absurd (cc)
 
--- the files of a second inventory are files
-second-files : (host : Host) (text : List ℕ) (files : List Entry) → second_files host text ≡ Ok files → AreFiles files
-second-files host text files h =
+-- the files of a second inventory are those of an inventory, and files
+second-inventory : (host : Host) (text : List ℕ) (files : List Entry) → second_files host text ≡ Ok files → inventory 16777216 text ≡ Ok files
+second-inventory host text files h =
     let l : Loaded = record { host = host; mtree = text } in
-    (inventory-files 16777216 text files (files_read l files (second-ok host _ files h)).0).0
+    (files_read l files (second-ok host _ files h)).0
+
+second-files : (host : Host) (text : List ℕ) (files : List Entry) → second_files host text ≡ Ok files → AreFiles files
+second-files host text files h = (inventory-files 16777216 text files (second-inventory host text files h)).0
 
 -- a plan that wants its `end` line alone is not finished
-pub accepted_unfinished : (host : Host) (joined : Joined) (merged : Merged) (index : ℕ) (text planned : List ℕ) → IsAccepted host joined merged index text planned → IsUnfinished host joined merged index planned
-accepted_unfinished host joined merged index text planned a = inr (a.files, second-files host text a.files a.are, a.planned_is)
+pub accepted_unfinished : (host : Host) (joined : Joined) (merged : Merged) (index : ℕ) (text planned : List ℕ) → IsAccepted host joined merged index text planned → IsUnfinished host joined merged index text planned
+accepted_unfinished host joined merged index text planned a =
+    let whole = files_all text a.files (second-inventory host text a.files a.are) in
+    inr (a.files, [], whole ∙ sym (append-nil a.files), second-files host text a.files a.are, a.planned_is)
 
 -- with that line it is whole
 pub accepted_whole : (host : Host) (joined : Joined) (merged : Merged) (index : ℕ) (text planned more : List ℕ) (a : IsAccepted host joined merged index text (planned ++ more)) → planned ++ (more ++ end) ≡ whole_plan host joined merged index a.files

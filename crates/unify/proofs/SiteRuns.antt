@@ -22,7 +22,7 @@ use Rattle.reown_runner.proofs.Finishing.{fresh_safe, done_image}
 use Rattle.reown_runner.proofs.Memories.{new_fresh}
 use Rattle.unify_texts.specs.WrittenMap.{SayMapping}
 use Rattle.unify_texts.specs.declared.map_text.MapText.{MapText}
-use Rattle.unify.specs.Believed.{RunsKeepNames}
+use Rattle.unify.specs.Believed.{DoneKeepsPrintedNames, RunsKeepNames}
 use Rattle.unify.specs.Reading.{WholeSite}
 use Rattle.unify.specs.SiteRuns.{runners_from, new_world}
 use Rattle.unify.proofs.Keeping.{map_says_mappings, plan_is_old, keeps_names}
@@ -54,8 +54,18 @@ is_at_done Done h = refl
 abbrev tree_of : Keep → Host × List Entry → Mem
 tree_of keep here = record (new_mem here.1) { keep = keep }
 
+pub done_keeps_printed_names : DoneKeepsPrintedNames
+done_keeps_printed_names site outcome whole merged printed read h host files here tree finished image is_image =
+    let m = merged.mappings in
+    let back = map_says_mappings site outcome whole merged in
+    let same_map : back.pairs ≡ printed = ok_same back.pairs printed (sym back.read ∙ read) in
+    let users = subst (λ (p : MapText). SayMapping site.joined.users m.users p.users) same_map back.users in
+    let groups = subst (λ (p : MapText). SayMapping site.joined.groups m.groups p.groups) same_map back.groups in
+    let after = (done_image (owner_in files) (plan_of site.joined m.users m.groups h files) (cells_of tree) finished image is_image).1 in
+    keeps_names site.joined m printed users groups h host files (whole.each_host h host files here) image.owner after
+
 pub runs_keep_names : RunsKeepNames
-runs_keep_names keep events site outcome whole merged printed read runners trees goes h host files tree here done at image is_image =
+runs_keep_names keep events site outcome whole merged printed read refused runners trees goes h host files tree here done at image is_image =
     let m = merged.mappings in
     let is = whole.each_host h host files here in
     let records = plan_of site.joined m.users m.groups h files in
@@ -75,8 +85,4 @@ runs_keep_names keep events site outcome whole merged printed read runners trees
     let finished : IsSafeInStep (owner_in files) records Done (cells_of (known_mem tree)) =
     subst (λ t. IsSafeInStep (owner_in files) records Done (cells_of (known_mem t))) same_tree (subst (λ p. IsSafeInStep (owner_in files) records p (cells_of (known_mem last.tree))) at_done safe)
     in
-    let back = map_says_mappings site outcome whole merged in
-    let same_map : back.pairs ≡ printed = ok_same back.pairs printed (sym back.read ∙ read) in
-    let users = subst (λ (p : MapText). SayMapping site.joined.users m.users p.users) same_map back.users in
-    let groups = subst (λ (p : MapText). SayMapping site.joined.groups m.groups p.groups) same_map back.groups in
-    keeps_names site.joined m printed users groups h host files is image.owner (done_image (owner_in files) records (cells_of (known_mem tree)) finished image is_image).1
+    done_keeps_printed_names site outcome whole merged printed read h host files here (known_mem tree) finished image is_image

@@ -15,9 +15,10 @@ use Rattle.reown_runner.specs.Memory.{owner_in}
 use Rattle.reown_runner.specs.RunnerData.{RunnerData}
 use Rattle.reown_runner.specs.Run.{Host, Advances, IsRun, refusal}
 use Rattle.reown_runner.specs.State.{State, Keeps, fresh, did, cells_at}
-use Rattle.reown_runner.specs.Step.{Turn, turn, turn_at, record_turn, record_place, IsAdvance, IsTold}
+use Rattle.reown_runner.specs.Step.{Turn, turn, turn_at, record_turn, record_place, place_after, IsAdvance, IsTold}
 use Rattle.reown_runner.specs.Tree.{Cells, Image, Operation, Write, SetMark, Sync}
 use Rattle.reown_runner.proofs.Cellwise.{either}
+use Rattle.reown_runner.proofs.Finishing as stands
 use Rattle.reown_runner.proofs.Histories.{did_does}
 use Rattle.reown_runner.proofs.Turns.{turn-at_old, turn-at_new}
 use Rattle.unify_texts.specs.declared.fault.Fault.{Fault}
@@ -28,28 +29,26 @@ use Rattle.unify.specs.RunFaults.{run_told}
 -- ---- one advance after another
 
 module _ (records : List PlanRecord) where
-  -- so many advances from a place
+  -- so many advances from a place, whatever was asked for before
   abbrev pub Goes : ℕ → Place → State → Option RunFault → Host → Type 0
-  Goes n place s refused end = IsRun records (record { place = place; state = s }) (replicate n Advances) refused end
+  Goes n place s refused end = (asked : ℕ) × IsRun records (record { place = place; state = s; asked = asked }) (replicate n Advances) refused end
 
-  module _ (place : Place) (s state : State) (n : ℕ) (refused : Option RunFault) (end : Host) (planned : Result Turn RunFault) (unfailing : refused ≢ Some Device) where
+  module _ (place : Place) (s : State) (next : Host) (n : ℕ) (refused : Option RunFault) (end : Host) (planned : Result Turn RunFault) (unfailing : refused ≢ Some Device) where
     abbrev GoesOn : Result Place RunFault → Type 0
-    GoesOn answer =
-        MatchResult answer (λ next. IsRun records (record { place = next; state = state }) (replicate n Advances) refused end)
-        (λ stop. (replicate n Advances ≡ []) × (refused ≡ Some stop) × (end ≡ record { place = place; state = state }))
+    GoesOn answer = MatchResult answer (λ _. IsRun records next (replicate n Advances) refused end) (λ stop. (replicate n Advances ≡ []) × (refused ≡ Some stop) × (end ≡ next))
 
-    after_ok : (t : Turn) (answer : Result Place RunFault) → planned ≡ Ok t → IsAdvance planned (λ operation. state ≡ did operation s) answer → GoesOn answer → Goes n t.next (did t.operation s) refused end
-    after_ok t (Ok next) is a rest =
+    after_ok : (t : Turn) (answer : Result Place RunFault) → planned ≡ Ok t → next.place ≡ place_after place answer → IsAdvance planned (λ operation. next.state ≡ did operation s) answer → GoesOn answer → Goes n t.next (did t.operation s) refused end
+    after_ok t (Ok to) is at a rest =
         let same : a.0 ≡ t = ok_same a.0 t (sym a.1 ∙ is) in
-        let to : next ≡ t.next = a.2 ∙ ap (λ (u : Turn). u.next) same in
-        let after : state ≡ did t.operation s = a.3 ∙ ap (λ (u : Turn). did u.operation s) same in
-        subst (λ p. Goes n p (did t.operation s) refused end) to (subst (λ u. Goes n next u refused end) after rest)
-    after_ok t (Err Device) is a rest = absurd (unfailing rest.1)
-    after_ok t (Err (Missing i)) is a rest = absurd (let h : ◌≡◌ {A = Result Turn RunFault} (Ok t) (Err (Missing i)) = sym is ∙ a.0 in cc)
-    after_ok t (Err (Foreign i)) is a rest = absurd (let h : ◌≡◌ {A = Result Turn RunFault} (Ok t) (Err (Foreign i)) = sym is ∙ a.0 in cc)
+        let goes : next.place ≡ t.next = at ∙ a.2 ∙ ap (λ (u : Turn). u.next) same in
+        let after : next.state ≡ did t.operation s = a.3 ∙ ap (λ (u : Turn). did u.operation s) same in
+        subst (λ p. Goes n p (did t.operation s) refused end) goes (subst (λ u. Goes n next.place u refused end) after (next.asked, rest))
+    after_ok t (Err Device) is at a rest = absurd (unfailing rest.1)
+    after_ok t (Err (Missing i)) is at a rest = absurd (let h : ◌≡◌ {A = Result Turn RunFault} (Ok t) (Err (Missing i)) = sym is ∙ a.0 in cc)
+    after_ok t (Err (Foreign i)) is at a rest = absurd (let h : ◌≡◌ {A = Result Turn RunFault} (Ok t) (Err (Foreign i)) = sym is ∙ a.0 in cc)
 
-    after_err : (f : RunFault) (answer : Result Place RunFault) → planned ≡ Err f → IsAdvance planned (λ operation. state ≡ did operation s) answer → GoesOn answer → refused ≡ Some f
-    after_err f (Ok next) is a rest = absurd (let h : ◌≡◌ {A = Result Turn RunFault} (Err f) (Ok a.0) = sym is ∙ a.1 in cc)
+    after_err : (f : RunFault) (answer : Result Place RunFault) → planned ≡ Err f → IsAdvance planned (λ operation. next.state ≡ did operation s) answer → GoesOn answer → refused ≡ Some f
+    after_err f (Ok to) is a rest = absurd (let h : ◌≡◌ {A = Result Turn RunFault} (Err f) (Ok a.0) = sym is ∙ a.1 in cc)
     after_err f (Err Device) is a rest = absurd (unfailing rest.1)
     after_err f (Err (Missing i)) is a rest =
         let h : ◌≡◌ {A = Result Turn RunFault} (Err (Missing i)) (Err f) = sym a.0 ∙ is in
@@ -62,10 +61,10 @@ module _ (records : List PlanRecord) where
 
   module _ (n : ℕ) (place : Place) (s : State) (refused : Option RunFault) (end : Host) (unfailing : refused ≢ Some Device) (run : Goes (suc n) place s refused end) where
     turn_ok : (t : Turn) → turn records place (cells_at s).owner (cells_at s).mark ≡ Ok t → Goes n t.next (did t.operation s) refused end
-    turn_ok t is = after_ok place s run.1 n refused end (turn records place (cells_at s).owner (cells_at s).mark) unfailing t run.0 is run.2 run.3
+    turn_ok t is = after_ok place s run.1.1 n refused end (turn records place (cells_at s).owner (cells_at s).mark) unfailing t run.1.0 is run.1.2.place run.1.2.step run.1.3
 
     turn_err : (f : RunFault) → turn records place (cells_at s).owner (cells_at s).mark ≡ Err f → refused ≡ Some f
-    turn_err f is = after_err place s run.1 n refused end (turn records place (cells_at s).owner (cells_at s).mark) unfailing f run.0 is run.2 run.3
+    turn_err f is = after_err place s run.1.1 n refused end (turn records place (cells_at s).owner (cells_at s).mark) unfailing f run.1.0 is run.1.2.step run.1.3
 
   -- behind the records nothing is refused
   abbrev IsBehind : Place → Type 0
@@ -77,7 +76,7 @@ module _ (records : List PlanRecord) where
   IsBehind Done = Unit {0}
 
   behind : (n : ℕ) (place : Place) (s : State) (refused : Option RunFault) (end : Host) → IsBehind place → refused ≢ Some Device → Goes n place s refused end → refused ≡ None
-  behind zero place s refused end is unfailing run = run.0
+  behind zero place s refused end is unfailing run = run.1.0
   behind (suc n) Start s refused end is unfailing run = absurd is
   behind (suc n) (Record i) s refused end is unfailing run = absurd is
   behind (suc n) SyncOwners s refused end is unfailing run = behind n Mark (did (Some Sync) s) refused end tt unfailing (turn_ok n SyncOwners s refused end unfailing run (record { operation = Some Sync; next = Mark }) refl)
@@ -185,7 +184,7 @@ module _ (files : List Entry) (records : List PlanRecord) where
   from_record (r ∷ rest) seen i zero s refused end from apart reads unfailing finished run =
       let at = at_drop records i r rest from in
       let is : record_place records i ≡ Record i = ap (λ b. cond b (Record i) SyncOwners) (lt-ltb i (length records) at.1) in
-      let stays : Done ≡ Record i = sym (finished run.0) ∙ ap (λ (h : Host). h.place) run.1 ∙ is in
+      let stays : Done ≡ Record i = sym (finished run.1.0) ∙ ap (λ (h : Host). h.place) run.1.1 ∙ is in
       absurd cc
   from_record (r ∷ rest) seen i (suc n) s refused end from apart reads unfailing finished run =
       let at = at_drop records i r rest from in
@@ -219,7 +218,7 @@ module _ (files : List Entry) (records : List PlanRecord) where
   from_start : (n : ℕ) (refused : Option RunFault) (end : Host) → HaveDistinctPaths records → refused ≢ Some Device → (refused ≡ None → end.place ≡ Done) → Goes records n Start (fresh image_of) refused end
       → Ends records (first_fault (record_fault files) [] records) refused
   from_start zero refused end apart unfailing finished run =
-      let stays : Done ≡ Start = sym (finished run.0) ∙ ap (λ (h : Host). h.place) run.1 in
+      let stays : Done ≡ Start = sym (finished run.1.0) ∙ ap (λ (h : Host). h.place) run.1.1 in
       absurd cc
   from_start (suc n) refused end apart unfailing finished run =
       from_record records [] 0 n (fresh image_of) refused end refl apart (λ k d l. refl) unfailing finished
@@ -236,19 +235,15 @@ module _ (files : List Entry) (records : List PlanRecord) where
   ended (Err f) end done none = absurd cc
 
   -- a run on a tree in memory ends with the first fault of the records
-  pub run_ends : (before : RunnerData) (n : ℕ) (result : Result (Unit {0}) RunFault) (after : Place) (state : State) → HaveDistinctPaths records → before.records ≡ records → before.place ≡ Start
+  pub run_ends : (first last : ℕ) (before : RunnerData) (n : ℕ) (result : Result (Unit {0}) RunFault) (after : Place) (state : State) → HaveDistinctPaths records → before.records ≡ records → before.place ≡ Start
       → IsTold 0 0 result → OnOk result (after ≡ Done)
-      → IsRun before.records (record { place = before.place; state = fresh image_of }) (replicate n Advances) (refusal result) (record { place = after; state = state })
+      → IsRun before.records (record { place = before.place; state = fresh image_of; asked = first }) (replicate n Advances) (refusal result) (record { place = after; state = state; asked = last })
       → Ends records (first_fault (record_fault files) [] records) (refusal result)
-  run_ends before n result after state apart same starts told done run =
-      let end : Host = record { place = after; state = state } in
-      let here = subst (λ rs. Goes rs n before.place (fresh image_of) (refusal result) end) same run in
+  run_ends first last before n result after state apart same starts told done run =
+      let end : Host = record { place = after; state = state; asked = last } in
+      let here = subst (λ rs. Goes rs n before.place (fresh image_of) (refusal result) end) same (first, run) in
       from_start n (refusal result) end apart (unfailed result told) (ended result end done) (subst (λ p. Goes records n p (fresh image_of) (refusal result) end) starts here)
 
   -- a fresh tree stands for its history
   pub fresh_stands : (cells : Cells) → IsFresh (owner_in files) cells → Keeps (cells_at (fresh image_of)) cells
-  fresh_stands cells f =
-      record {
-        owners = record { owner = f.owner; owner_left = λ path x left. ([], record { lost = []; whole = refl; no_sync = tt }, f.settled.owner path x left ∙ f.owner path) };
-        mark = record { mark = f.mark; mark_left = λ m left. ([], record { lost = []; whole = refl; no_sync = tt }, f.settled.mark m left ∙ f.mark) };
-      }
+  fresh_stands = stands.fresh_stands (owner_in files)

@@ -9,8 +9,7 @@ use Rattle.idtext.specs.Faults.{fault_told}
 use Rattle.idtext.specs.declared.faults.ReadError.{ReadError}
 use Rattle.idtext.specs.declared.faults.ReadError.TheVariants as read
 use Rattle.mtree_inv.specs.declared.entry.Entry.{Entry}
-use Rattle.mtree_inv.specs.Inventory.{inventory, inventory_of_lines}
-use Rattle.mtree_inv.specs.Logical.{whole_lines}
+use Rattle.mtree_inv.specs.Inventory.{inventory}
 use Rattle.mtree_inv.specs.Standing as standing
 use Rattle.mtree_inv.specs.Standing.{ReaderValue}
 use Rattle.mtree_inv.proofs.FewLemmas.{inventory-few}
@@ -26,14 +25,12 @@ use Rattle.ownership.specs.Files.{Added}
 use Rattle.ownership.specs.declared.OwnerFault.{OwnerFault}
 use Rattle.reown_plan.specs.Target.{IsOwned}
 use Rattle.unify_texts.specs.Told.{told}
-use Rattle.unify_texts.specs.declared.bundle_line.FileName.TheVariants as file
 use Rattle.unify_texts.specs.declared.fault.Fault.{Fault}
 use Rattle.unify.specs.declared.turn.Turn.{Turn}
-use Rattle.unify.specs.Told.{in_file}
 use Rattle.unify.specs.Hosts.{owner_fault, files_of}
-use Rattle.unify.specs.Passes.{is_read, lines_of, IsAccepted, IsFirstUnowned, AreCounted, StandBehind, TurnsFor, read_told, or_memory, owner_told, met_at, IsToldAs}
+use Rattle.unify.specs.Passes.{is_read, IsAccepted, IsFirstUnowned, AreCounted, StandBehind, TurnsFor, read_told, or_memory, owner_told, met_at, IsToldAs, IsFaultOf}
 use Rattle.unify.specs.Reading.{added_on}
-use Rattle.unify.proofs.Faults.{told_is}
+use Rattle.unify.proofs.Faults.{memory_or, told_is}
 use Rattle.unify.proofs.Owners.{owned-here, owned-there, owners-told}
 
 -- ---- files behind files
@@ -83,11 +80,6 @@ first_behind joined index earlier c files done after e fault stands owned is = r
   unowned_is = is;
 }
 
--- after the first file that is not owned nothing more is counted
-pub counted_still : (joined : Joined) (index : ℕ) (earlier : List Added) (c d : Counted) (found : Option Entry) (e : Entry) (files more : List Entry) → found ≡ Some e → AreCounted joined index earlier c found files → AreCounted joined index earlier d found (files ++ more)
-counted_still joined index earlier c d None e files more is counted = absurd (cc)
-counted_still joined index earlier c d (Some x) e files more is first = still_first joined index files more x first
-
 -- until then all files are
 pub counted_next : (joined : Joined) (index : ℕ) (earlier : List Added) (old new : Counted) (was found : Option Entry) (files more : List Entry) → was ≡ None → AreCounted joined index earlier old was files
     → ((e : List Added) (fs : List Entry) → StandBehind joined index e old fs → AreCounted joined index e new found (fs ++ more)) → AreCounted joined index earlier new found (files ++ more)
@@ -95,13 +87,6 @@ counted_next joined index earlier old new (Some x) found files more is counted g
 counted_next joined index earlier old new None found files more is counted goes = goes earlier files counted
 
 -- ---- what is told
-
-pub lines_fail : (host : Host) (most : ℕ) (text : List ℕ) (e : ReadError) → most ≡ 16777216 → IfSome (fault_told e) (λ f. inventory_of_lines most (whole_lines text) ≡ Err f) → IfSome (told (read_told host e)) (λ f. is_read (lines_of host text) ≡ Err f)
-lines_fail host most text read.Memory is h = tt
-lines_fail host most text (read.Fault f) is h = ap (λ n. is_read (in_file host.name file.Mtree (inventory_of_lines n (whole_lines text)))) (sym is) ∙ ap (λ r. is_read (in_file host.name file.Mtree r)) h
-
-pub lines_read : (host : Host) (most : ℕ) (text : List ℕ) (files : List Entry) → most ≡ 16777216 → inventory_of_lines most (whole_lines text) ≡ Ok files → is_read (lines_of host text) ≡ Ok tt
-lines_read host most text files is h = ap (λ n. is_read (in_file host.name file.Mtree (inventory_of_lines n (whole_lines text)))) (sym is) ∙ ap (λ r. is_read (in_file host.name file.Mtree r)) h
 
 pub first_at : {A F : Type 0} (judge : A → Option F) (seen before : List A) (e : A) (after : List A) (f : F) → All (λ x. judge x ≡ None) before → judge e ≡ Some f → first_fault (λ s x. judge x) seen (before ++ e ∷ after) ≡ Some f
 unfolding first_fault
@@ -181,32 +166,6 @@ again_if P (Some g) f h p =
     subst P same p
 again_if P None f h p = absurd (cc)
 
-pub again_none : (P : Fault → Type 0) (o : Option Fault) → o ≡ None → IfSome o P
-again_none P None h = tt
-again_none P (Some f) h = absurd (cc)
-
--- a fault of the reader is answered again
-pub again_read : (host : Host) (fin : Bool) (o : Option ReadError) (u : Option Entry) (e : ReadError) (P Q : Type 0) → (P → Q) → fin ≡ false → IfSome o (λ f. (◌≡◌ {A = Result (Unit {0}) ReadError} (Err e) (Err f)) × P)
-    → IfSome (met_at host fin o u) (λ f. IsToldAs f (read_told host e) × Q)
-again_read host true o u e P Q go h k = absurd (cc)
-again_read host false None u e P Q go h k = tt
-again_read host false (Some f) u e P Q go h k =
-    let is = k.0 in
-    let same : e ≡ f = (cc) in
-    (inl (ap (read_told host) same), go k.1)
-
--- the fault with which a reader answered is the one that it keeps
-pub kept_fault : (old new : ReaderValue) (o : Option ReadError) (e : ReadError) → old.fault ≡ o → IfSome o (λ f. (◌≡◌ {A = Result (Unit {0}) ReadError} (Err e) (Err f)) × (new ≡ old)) → IfNone o (new.fault ≡ Some e) → new.fault ≡ Some e
-kept_fault old new None e is again now = now
-kept_fault old new (Some f) e is again now =
-    let one = again.0 in
-    let same : e ≡ f = (cc) in
-    ap (λ (r : ReaderValue). r.fault) again.1 ∙ is ∙ ap (λ x. Some x) (sym same)
-
-pub kept_going : (old new : ReaderValue) (o : Option ReadError) (e : ReadError) → old.is_finished ≡ false → IfSome o (λ f. (◌≡◌ {A = Result (Unit {0}) ReadError} (Err e) (Err f)) × (new ≡ old)) → IfNone o (new.is_finished ≡ false) → new.is_finished ≡ false
-kept_going old new None e is again now = now
-kept_going old new (Some f) e is again now = ap (λ (r : ReaderValue). r.is_finished) again.1 ∙ is
-
 -- ---- a piece, or the end
 
 -- there is room for the files that came
@@ -260,3 +219,17 @@ accepted_at_end joined index host earlier turn text files knows none counted mad
       made = made;
       counted = stands;
     }
+
+-- ---- the fault that is met at the end
+
+-- that of the reader
+pub met_by_reader : (host : Host) (text : List ℕ) (after : ReaderValue) (found : Option Entry) (e : ReadError) → after.is_finished ≡ false → after.fault ≡ Some e
+    → IfSome (told (read_told host e)) (λ f. is_read (files_of (record { host = host; mtree = text })) ≡ Err f) → IfSome (met_at host after.is_finished after.fault found) (IsFaultOf host text)
+met_by_reader host text after found e going is h = again_if (IsFaultOf host text) (met_at host after.is_finished after.fault found) (read_told host e) (met_read host after.is_finished after.fault found e going is)
+    (memory_or (read_told host e) (is_read (files_of (record { host = host; mtree = text }))) h)
+
+-- that of the first file that is not owned
+pub met_by_owner : (host : Host) (text : List ℕ) (fin : Bool) (o : Option ReadError) (found : Option Entry) → fin ≡ true
+    → IfSome (told (owner_told host found)) (λ f. is_read (files_of (record { host = host; mtree = text })) ≡ Err f) → IfSome (met_at host fin o found) (IsFaultOf host text)
+met_by_owner host text fin o found finished h = again_if (IsFaultOf host text) (met_at host fin o found) (owner_told host found) (met_finished host fin o found finished)
+    (memory_or (owner_told host found) (is_read (files_of (record { host = host; mtree = text }))) h)

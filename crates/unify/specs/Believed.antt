@@ -1,14 +1,20 @@
 -- Laws of what a merge answers.
-use Rattle.std.specs.Prelude.{◌≡◌, ◌↔◌, ℕ, List, Option, None, Ok, map}
+-- Source: this project's own rule.
+use Rattle.std.specs.Prelude.{◌≡◌, ◌↔◌, ℕ, List, Option, Some, Ok, map, slice_get, All}
 use Rattle.mtree_inv.specs.declared.entry.Entry.{Entry}
 use Rattle.hosts_join.specs.Accounts.{Accounts}
 use Rattle.hosts_join.specs.declared.host.Host.{Host}
 use Rattle.reown_plan.specs.declared.plan.Owner.{Owner}
+use Rattle.reown_plan.specs.Target.{plan_of}
 use Rattle.reown_runner.specs.declared.campaign.Event.{Event}
 use Rattle.reown_runner.specs.declared.memory.Keep.{Keep}
+use Rattle.reown_runner.specs.declared.runner.Place.TheVariants.{Done}
+use Rattle.reown_runner.specs.declared.runner.RunFault.{RunFault}
 use Rattle.reown_runner.specs.Campaign.{EachGoes, is_done}
-use Rattle.reown_runner.specs.Memory.{Mem, known_mem}
+use Rattle.reown_runner.specs.Memory.{Mem, known_mem, owner_in}
 use Rattle.reown_runner.specs.RunnerData.{RunnerData}
+use Rattle.reown_runner.specs.Safe.{IsSafeInStep}
+use Rattle.reown_runner.specs.Tree.{TreeData, Image, IsImage, cells_of}
 use Rattle.unify_texts.specs.declared.map_text.MapText.{MapText}
 use Rattle.unify_texts.specs.Maps.{map_of}
 use Rattle.unify.specs.declared.outcome.Outcome.{Outcome}
@@ -22,13 +28,21 @@ use Rattle.unify.specs.SiteRuns.{new_world, DoneKeepsNames}
 abbrev pub OutcomesAreBelieved : Type 0
 OutcomesAreBelieved = (site : WholeSite) (outcome : Outcome) → IsWhole site → IsOutcome site outcome → Headline site outcome
 
--- Where the plans of a merge were carried out on trees in memory as far as any events lead, the files of a host that is done have
--- the names that they had, by the map that the merge printed.
+-- Where the plans of a merge were carried out on trees in memory as far as any events lead, refused or not, the files of a host
+-- that is done have the names that they had, by the map that the merge printed.
 abbrev pub RunsKeepNames : Type 0
 RunsKeepNames = (keep : Keep) (events : List Event) (site : WholeSite) (outcome : Outcome) → IsWhole site → (merged : IsOutcome site outcome)
-    → (printed : MapText) → map_of outcome.map ≡ Ok printed → (runners : List RunnerData) (trees : List Mem)
-    → EachGoes known_mem (new_world keep site merged.mappings) events (λ host. None) (record { runners = runners; trees = trees })
+    → (printed : MapText) → map_of outcome.map ≡ Ok printed → (refused : ℕ → Option RunFault) (runners : List RunnerData) (trees : List Mem)
+    → EachGoes known_mem (new_world keep site merged.mappings) events refused (record { runners = runners; trees = trees })
     → DoneKeepsNames site printed (map (λ runner. is_done runner.place) runners) trees
+
+-- Whatever tree carried out the printed plan of a host, with whatever stops and failed calls: where it is safe and in step at
+-- the end, as a runner's calls keep it, every file has the names that it had, whatever a further stop leaves.
+abbrev pub DoneKeepsPrintedNames : Type 0
+DoneKeepsPrintedNames = (site : WholeSite) (outcome : Outcome) → IsWhole site → (merged : IsOutcome site outcome) (printed : MapText) → map_of outcome.map ≡ Ok printed
+    → (h : ℕ) (host : Host) (files : List Entry) → slice_get site.hosts h ≡ Some (host, files)
+    → (tree : TreeData) → IsSafeInStep (owner_in files) (plan_of site.joined merged.mappings.users merged.mappings.groups h files) Done (cells_of tree)
+    → (image : Image) → IsImage (cells_of tree) image → All (KeepsItsNames printed host image.owner) files
 
 -- Two files, on any hosts, that keep their names under one map have one uid exactly where their users had one name, and one gid
 -- exactly where their groups had one.

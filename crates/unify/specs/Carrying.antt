@@ -1,4 +1,5 @@
 -- Plans that are carried out on trees in memory.
+-- Words of the code and not of the subject: only private contracts, views and invariants cite them.
 use Rattle.std.specs.Prelude.{◌≡◌, ℕ, Bool, List, map, length, Option, None, Some, Ok, slice_get, All}
 use Rattle.idtext.specs.First.{each}
 use Rattle.mtree_inv.specs.Inventory.{inventory}
@@ -34,14 +35,16 @@ pub record AreReady (plans : List PlanData) (trees : List Mem) : Type 0 where
   pub paired : length plans ≡ length trees
   pub ready : (h : ℕ) (plan : PlanData) (tree : Mem) → slice_get plans h ≡ Some plan → slice_get trees h ≡ Some tree → IsReady plan tree
 
--- The inventories read as these files; the texts spell these plans, which are lawful; and trees as the inventories are ready for them.
+-- The inventories read as these files; the texts spell these plans, which are lawful; and trees as the inventories are ready
+-- for them.
 pub record AreSpelledFor (keep : Keep) (mtrees texts : List (List ℕ)) (files : List (List Entry)) (plans : List PlanData) : Type 0 where
   pub read : each (inventory 16777216) mtrees ≡ Ok files
   pub lawful : All IsLawful plans
   pub spelled : texts ≡ map spelling plans
   pub ready : AreReady plans (map (new_tree_of keep) files)
 
--- The events led from the start of these plans on these trees to these trees, none of them refused; told is which plans are done.
+-- The events led from the start of these plans on these trees to these trees, none of them refused; done is which plans are
+-- done.
 pub record AreCarriedOut (plans : List PlanData) (trees : List Mem) (events : List Event) (done : List Bool) (ends : List Mem) : Type 0 where
   pub runners : List RunnerData
   pub a_runner_each : length runners ≡ length plans

@@ -1,4 +1,6 @@
--- What a check of a certificate answers: the cost, or the first fault: those of the site, then the certificate's text, then the check.
+-- What a check of a certificate answers: the cost, or the first fault: those of the site, then the certificate's text, then
+-- the check.
+-- Source: the assignment problem with its weak duality (Kuhn, Munkres); the order of faults is this project's own rule.
 use Rattle.std.specs.Prelude.{◌≡◌, ℕ, List, Result, Ok}
 use Rattle.idtext.specs.First.{◌>>=◌}
 use Rattle.hosts_join.specs.declared.texts.HostText.{HostText}
@@ -17,8 +19,8 @@ checked site certificate = certificate >>= λ c. in_check (answer site.joined (f
 unfoldable pub verified : List HostText → List ℕ → List ℕ → Result ℕ Fault
 verified texts pins_text text = site_read texts pins_text >>= λ site. checked site (in_certificate (certificate_in text))
 
--- What a yes means: the texts say a site and a certificate of exactly its names; its mappings are admissible, its potentials certify
--- them, no admissible mappings cost less, and this is their cost.
+-- What a yes means: the texts say a site and a certificate of exactly its names; its mappings are admissible, its potentials
+-- certify them, no admissible mappings cost less, and this is their cost.
 pub record IsVerified (texts : List HostText) (pins_text text : List ℕ) (cost : ℕ) : Type 0 where
   pub site : WholeSite
   pub read : site_read texts pins_text ≡ Ok site

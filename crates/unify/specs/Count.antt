@@ -1,4 +1,6 @@
--- The answer to count, or the first fault: the host list; host by host its files but the inventory; the map; host by host the inventory and its owners.
+-- The answer to count, or the first fault: the host list; host by host its files but the inventory; the map; host by host the
+-- inventory and its owners.
+-- Source: this project's own rule.
 use Rattle.std.specs.Prelude.{ℕ, Bool, List, Result, Ok, Err, is_some, find, bytes_eq, if◌then◌else◌, ◌&&◌}
 use Rattle.std.specs.List.{list_all, list_any}
 use Rattle.idtext.specs.First.{◌>>=◌, each}

@@ -1,5 +1,6 @@
 -- What a merge is believed for.
-use Rattle.std.specs.Prelude.{◌≡◌, ℕ, false, List, Option, Some, Ok, slice_get, All}
+-- Source: the assignment problem with its weak duality (Kuhn, Munkres); the sentence is this project's own.
+use Rattle.std.specs.Prelude.{◌≡◌, ◌≤◌, ◌+◌, ℕ, false, List, Option, Some, Ok, slice_get, All}
 use Rattle.mtree_inv.specs.declared.entry.Entry.{Entry}
 use Rattle.hosts_join.specs.Accounts.{Accounts, Pair}
 use Rattle.hosts_join.specs.Kinds.{user_at, group_at}
@@ -15,17 +16,18 @@ use Rattle.reown_plan.specs.declared.plan.Owner.{Owner}
 use Rattle.reown_plan.specs.PlanData.{PlanRecord}
 use Rattle.reown_plan.specs.Reading.{ReadsAs}
 use Rattle.reown_runner.specs.declared.runner.Place.TheVariants.{Start, Done}
-use Rattle.reown_runner.specs.declared.runner.RunFault.{RunFault}
+use Rattle.reown_runner.specs.Finished.{AreOld}
 use Rattle.reown_runner.specs.Memory.{owner_in}
-use Rattle.reown_runner.specs.Run.{HostEvent, IsRun}
+use Rattle.reown_runner.specs.Run.{HostEvent, AreRuns}
 use Rattle.reown_runner.specs.Run as run
 use Rattle.reown_runner.specs.State.{fresh, cells_at}
 use Rattle.reown_runner.specs.Tree.{Image, IsImage}
 use Rattle.unify_texts.specs.declared.map_text.MapText.{MapText}
 use Rattle.unify_texts.specs.Maps.{map_of}
 use Rattle.unify_texts.specs.WrittenMap.{SayMapping}
+use Rattle.unify.specs.declared.counting.Cost.{Cost}
 use Rattle.unify.specs.declared.outcome.Outcome.{Outcome}
-use Rattle.unify.specs.Outcomes.{cost_in}
+use Rattle.unify.specs.Cost.{cost_of}
 use Rattle.unify.specs.Reading.{WholeSite, files_of_site}
 
 -- The pairs give every name of the kind one number, its pin or one of its pool, and no two names one number.
@@ -46,11 +48,17 @@ pub record KeepsItsNames (map : MapText) (host : Host) (tree : List ℕ → Opti
   pub had_group : group_at host.groups file.gid ≡ Some group
   pub has_group : number_of map.groups group ≡ Some now.gid
 
--- a host as its inventory tells it: each file at its owner, the mark not set, nothing pending, its plan not begun
-abbrev pub untouched : List Entry → run.Host
-untouched files = record { place = Start; state = fresh (record { owner = owner_in files; mark = false }) }
+-- how many fields of files change: owner fields and group fields
+abbrev pub fields : Cost → ℕ
+fields cost = cost.users + cost.groups
 
--- The host's plan is read as some records. However they are carried out, with any stops and failed calls: once they are done,
+-- a host as its inventory tells it: each file at its owner, the mark not set, nothing pending, its plan not begun
+-- asked: how many writes and syncs its tree was asked for before
+abbrev pub untouched : ℕ → List Entry → run.Host
+untouched asked files = record { place = Start; state = fresh (record { owner = owner_in files; mark = false }); asked = asked }
+
+-- The host's plan is read as some records, whose files are there at their old owners, so that only its device can refuse a
+-- run of it. However they are carried out, in runs one after the other with any stops and failed calls: once they are done,
 -- whatever a further stop leaves, every file has the names that it had.
 -- h: the index of the host
 pub record FinishedPlanKeepsNames (map : MapText) (plans : List (List ℕ)) (h : ℕ) (host : Host) (files : List Entry) : Type 0 where
@@ -58,7 +66,8 @@ pub record FinishedPlanKeepsNames (map : MapText) (plans : List (List ℕ)) (h :
   pub printed : slice_get plans h ≡ Some plan
   pub records : List PlanRecord
   pub read : ReadsAs plan (Ok (record { host = host.name; records = records }))
-  pub kept : (events : List HostEvent) (refused : Option RunFault) (end : run.Host) → IsRun records (untouched files) events refused end → end.place ≡ Done
+  pub begins : AreOld (owner_in files) records
+  pub kept : (asked : ℕ) (runs : List (List HostEvent)) (end : run.Host) → AreRuns records (untouched asked files) runs end → end.place ≡ Done
       → (image : Image) → IsImage (cells_at end.state) image → All (KeepsItsNames map host image.owner) files
 
 -- The map gives every user and group name one distinct number, in its pool or at its pin; no other such mapping rewrites fewer
@@ -78,6 +87,9 @@ pub record Headline (site : WholeSite) (outcome : Outcome) : Type 0 where
   pub no_other_rewrites_fewer : AreLeast site.joined (files_of_site site) mappings
   pub potentials_are_of_these : mappings_of site.joined certificate ≡ mappings
   pub potentials_prove_it : AreCertified site.joined (files_of_site site) certificate
-  pub cost_is_told : outcome.cost ≡ cost_in site mappings
+  -- the same by the printed map and each host's own tables, as the cost is told
+  pub cost_is_told : outcome.cost ≡ cost_of map site.hosts
+  pub no_other_map_rewrites_fewer : (other : MapText) (m : Mappings) → HaveOneNumberEach site.joined.users m.users other.users → HaveOneNumberEach site.joined.groups m.groups other.groups
+      → fields (cost_of map site.hosts) ≤ fields (cost_of other site.hosts)
   -- names are kept
   pub a_finished_plan_keeps_names : (h : ℕ) (host : Host) (files : List Entry) → slice_get site.hosts h ≡ Some (host, files) → FinishedPlanKeepsNames map outcome.plans h host files

@@ -1,4 +1,5 @@
 -- What holds of every site that was read.
+-- Source: this project's own rule.
 use Rattle.std.specs.Prelude.{◌≡◌, ◌≤◌, ◌↔◌, ℕ, true, List, [], length, map, Some, None, Result, Ok, is_some, slice_get}
 use Rattle.std.specs.List.{All}
 use Rattle.idtext.specs.First.{◌>>=◌, each}
@@ -30,8 +31,8 @@ pub record HaveAccounts (host : Host) (uid gid : ℕ) : Type 0 where
   pub user : is_some (user_at host.users uid) ≡ true
   pub group : is_some (group_at host.groups gid) ≡ true
 
--- A host that was read, with its files: its name and its tables are lawful, no path stands twice, each file has a user and a group, and the
--- accounts over all hosts know its own.
+-- A host that was read, with its files: its name and its tables are lawful, no path stands twice, each file has a user and a
+-- group, and the accounts over all hosts know its own.
 -- h: its index
 pub record IsReadHost (joined : Joined) (h : ℕ) (host : Host) (files : List Entry) : Type 0 where
   pub named : is_host_name host.name ≡ true

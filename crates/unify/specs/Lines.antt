@@ -1,4 +1,5 @@
 -- The lines that tell what a command answered.
+-- Source: this product's own formats.
 use Rattle.std.specs.Prelude.{ℕ, List, [], ◌∷◌, ◌++◌, codes, decimal, flat_map}
 use Rattle.idtext.specs.Pieces.{lines}
 use Rattle.hosts_join.specs.declared.texts.HostText.{HostText}

@@ -1,4 +1,5 @@
 -- What is kept of a site that was read.
+-- Source: this project's own rule.
 use Rattle.std.specs.Prelude.{◌≡◌, ℕ, ◌≤◌, List, [], ◌∷◌, map, length, Ok}
 use Rattle.std.specs.List.{All}
 use Rattle.idtext.specs.First.{each}
@@ -18,7 +19,8 @@ loaded_from [] mtrees = []
 loaded_from (host ∷ hosts) [] = []
 loaded_from (host ∷ hosts) (mtree ∷ mtrees) = record { host = host; mtree = mtree } ∷ loaded_from hosts mtrees
 
--- The hosts with their tables and the texts of their inventories, which read as the files; the accounts; and of the files the counts.
+-- The hosts with their tables and the texts of their inventories, which read as the files; the accounts; and of the files the
+-- counts.
 pub record HoldsSite (site : WholeSite) (loaded : LoadedSite) : Type 0 where
   pub hosts : loaded.hosts.items ≡ map (λ h. h.0) site.hosts
   pub inventories : each (inventory 16777216) loaded.mtrees.items ≡ Ok (map (λ h. h.1) site.hosts)

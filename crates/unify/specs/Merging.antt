@@ -1,4 +1,5 @@
 -- What a merge gives before its plans are written.
+-- Source: this project's own rule.
 use Rattle.std.specs.Prelude.{◌≡◌, []}
 use Rattle.ownership.specs.Mappings.{Mappings}
 use Rattle.certcheck.specs.declared.certificate.Certificate.{Certificate}

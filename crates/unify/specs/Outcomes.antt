@@ -1,4 +1,5 @@
 -- What a merge may answer for a site. Several mappings may cost the least, so it is a relation.
+-- Source: the assignment problem (least cost); what is written is this project's own rule.
 use Rattle.std.specs.Prelude.{◌≡◌, ℕ, ◌+◌, List, [], ◌∷◌, map, All}
 use Rattle.mtree_inv.specs.declared.entry.Entry.{Entry}
 use Rattle.hosts_join.specs.Site.{Joined}
@@ -48,8 +49,8 @@ AreOwnedFrom site index (files ∷ more) = All (IsOwned site index) files × Are
 abbrev pub plan_texts : WholeSite → Mappings → List (List ℕ)
 plan_texts site m = plan_texts_from (hosts_in site) site.joined m 0 (map (λ h. h.1) site.hosts)
 
--- Mappings that cost the least, and among those change the fewest account rows; names whose numbers weigh nothing have, in byte order, the
--- smallest that are left; and the certificate certifies them.
+-- Mappings that cost the least, and among those change the fewest account rows; names whose numbers weigh nothing have, in
+-- byte order, the smallest that are left; and the certificate certifies them.
 pub record AreAnswered (site : WholeSite) (m : Mappings) (c : Certificate) : Type 0 where
   pub least : AreLeast site.joined (files_of_site site) m
   pub fewest_user_rows : ChangesFewestRows site.joined.users (user_files site) m.users

@@ -1,4 +1,5 @@
 -- Inventories that come in pieces, host by host, and of which no text is kept.
+-- Source: this project's own rule.
 use Rattle.std.specs.Prelude.{◌≡◌, ◌≤◌, ◌*◌, ◌⊎◌, ℕ, Bool, true, false, List, [], ◌∷◌, ◌++◌, map, length, All, Option, Some, None, Result, Ok, Err, slice_get}
 use Rattle.idtext.specs.First.{◌>>=◌, each}
 use Rattle.idtext.specs.declared.faults.ReadError.{ReadError}
@@ -144,10 +145,14 @@ abbrev pub TellsFault : {A : Type 0} → Fault → Result A Fault → Type 0
 TellsFault f (Ok x) = ⊥
 TellsFault f (Err e) = IsToldAs f e
 
+-- the first fault of a whole inventory, or want of memory
+abbrev pub IsFaultOf : Host → List ℕ → Fault → Type 0
+IsFaultOf host text f = (f ≡ Memory) ⊎ (is_read (files_of (record { host = host; mtree = text })) ≡ Err f)
+
 -- ---- the first pass
 
--- what contracts see of a first pass: the hosts, their accounts together, how many files each row owns of each host whose inventory was ended,
--- what was counted of the rows of the next host before its turn, and its turn
+-- what contracts see of a first pass: the hosts, their accounts together, how many files each row owns of each host whose
+-- inventory was ended, what was counted of the rows of the next host before its turn, and its turn
 pub record CountingValue : Type 0 where
   pub hosts : List Host
   pub joined : Joined
@@ -163,7 +168,8 @@ ended_in c = length c.passed
 abbrev pub ArePassed : List RowFiles → List (Host × List Entry) → Type 0
 ArePassed passed read = passed ≡ map (λ here. row_files here.0 here.1) read
 
--- the inventories of the first hosts were ended with these texts, each of which was accepted, and of the next host this text has come
+-- the inventories of the first hosts were ended with these texts, each of which was accepted, and of the next host this
+-- text has come
 pub record StandsFor (c : CountingValue) (ended : List (List ℕ)) (text : List ℕ) : Type 0 where
   pub read : List (Host × List Entry)
   pub accepted : each site_of (loaded_from c.hosts ended) ≡ Ok read

@@ -1,5 +1,6 @@
 -- What the texts of hosts and a pins text say of a site, or the first fault: the host list; host by host its files but the
 -- inventory; the pins text; the join, users and then groups; host by host the inventory and its owners.
+-- Source: this project's own rule.
 use Rattle.std.specs.Prelude.{ℕ, ◌+◌, List, [], ◌∷◌, ◌++◌, map, Result, Ok}
 use Rattle.idtext.specs.First.{◌>>=◌, each}
 use Rattle.mtree_inv.specs.declared.entry.Entry.{Entry}

@@ -1,4 +1,5 @@
 -- What a rehearsal of a plan answers: the plan is carried out on a tree in memory that is as the inventory tells.
+-- Source: this project's own rule.
 use Rattle.std.specs.Prelude.{◌≡◌, ℕ, ◌||◌, List, [], length, Option, Some, None, Result, Ok, Err, IfSome, if◌then◌else◌}
 use Rattle.idtext.specs.First.{◌>>=◌, first_fault, unless}
 use Rattle.mtree_inv.specs.declared.entry.Entry.{Entry}

@@ -1,4 +1,5 @@
 -- How many files each row of a host's tables owns.
+-- Source: this project's own rule.
 use Rattle.std.specs.Prelude.{ℕ, ◌-◌, ◌==◌, List, map, zip, count_by, Option, Some, None}
 use Rattle.mtree_inv.specs.declared.entry.Entry.{Entry}
 use Rattle.hosts_join.specs.Accounts.{Account, owner}

@@ -1,4 +1,5 @@
 -- How the fault of a run is told, with the path of its record.
+-- Words of the code and not of the subject: only private contracts, views and invariants cite them.
 use Rattle.std.specs.Prelude.{List, Option, Some, option_map, slice_get}
 use Rattle.reown_plan.specs.PlanData.{PlanRecord}
 use Rattle.reown_runner.specs.declared.runner.RunFault.{RunFault}

@@ -1,5 +1,6 @@
 -- Inventories that come a second time in pieces, host by host, while plans are appended.
-use Rattle.std.specs.Prelude.{◌≡◌, ◌≤◌, ◌*◌, ◌⊎◌, ℕ, Bool, true, false, List, [], ◌++◌, map, length, Option, Some, None, Result, Ok, Err, slice_get}
+-- Source: this project's own rule.
+use Rattle.std.specs.Prelude.{◌≡◌, ◌≤◌, ◌*◌, ◌⊎◌, ℕ, Bool, true, false, List, [], ◌++◌, length, Option, Some, None, Result, Ok, Err, slice_get}
 use Rattle.idtext.specs.First.{◌>>=◌, first_fault, unless}
 use Rattle.idtext.specs.declared.faults.ReadError.{ReadError}
 use Rattle.idtext.specs.declared.faults.ReadError.TheVariants as read
@@ -23,7 +24,6 @@ use Rattle.unify.specs.Hosts.{owner_fault, files_of}
 use Rattle.unify.specs.Merging.{IsMerged}
 use Rattle.unify.specs.Passes as first
 use Rattle.unify.specs.Passes.{AreTogether, CountingValue, StandBehind, lines_of}
-use Rattle.unify.specs.Reading.{added_on}
 use Rattle.unify.specs.RowFiles.{RowFiles, row_files, rows_among}
 
 -- ---- what the second text of an inventory says
@@ -62,9 +62,12 @@ abbrev pub planned_so_far : Host → Joined → Merged → ℕ → Bool → List
 planned_so_far host joined merged index false files = []
 planned_so_far host joined merged index true files = plan_before_end host joined merged index files
 
--- a prefix of a plan without its `end` line
-abbrev pub IsUnfinished : Host → Joined → Merged → ℕ → List ℕ → Type 0
-IsUnfinished host joined merged index planned = (planned ≡ []) ⊎ ((files : List Entry) × AreFiles files × (planned ≡ plan_before_end host joined merged index files))
+-- a prefix of a plan without its `end` line: nothing as yet, or the plan for the first of the files that the text has before
+-- its first fault
+abbrev pub IsUnfinished : Host → Joined → Merged → ℕ → List ℕ → List ℕ → Type 0
+IsUnfinished host joined merged index text planned =
+    (planned ≡ []) ⊎ ((files : List Entry) × (rest : List Entry) × (reader.files_before_fault 16777216 text ≡ files ++ rest) × AreFiles files
+    × (planned ≡ plan_before_end host joined merged index files))
 
 -- the whole plan of a host for these files
 abbrev pub whole_plan : Host → Joined → Merged → ℕ → List Entry → List ℕ
@@ -95,8 +98,8 @@ pub record CountHosts (joined : Joined) (index : ℕ) (counted : Counted) : Type
   pub few : length earlier ≤ 16777216 * index
   pub stands : counts.StandsFor joined counted earlier
 
--- of the second inventory of the host with the index this text has come, in which there is no fault so far and each file is owned; and for it this
--- much of a plan was appended
+-- of the second inventory of the host with the index this text has come, in which there is no fault so far and each file is
+-- owned; and for it this much of a plan was appended
 pub record TurnsFor (host : Host) (joined : Joined) (merged : Merged) (index : ℕ) (turn : PlanTurn) (text planned : List ℕ) : Type 0 where
   pub goes : turn.stop ≡ None
   pub reading : reader.StandsFor turn.reader text
@@ -125,8 +128,8 @@ abbrev pub stop_told : Host → Stop → Fault
 stop_told host stop.Changed = InventoryChanged host.name
 stop_told host stop.Memory = Memory
 
--- what contracts see of a second pass: the hosts, their accounts together, how many files each row of each host owned in the first pass, what was
--- merged, how many inventories were ended a second time, and the turn of the next host
+-- what contracts see of a second pass: the hosts, their accounts together, how many files each row of each host owned in the
+-- first pass, what was merged, how many inventories were ended a second time, and the turn of the next host
 pub record SolvedValue : Type 0 where
   pub hosts : List Host
   pub joined : Joined
@@ -156,7 +159,8 @@ pub record IsSolving (s : SolvedValue) : Type 0 where
   pub passed_are : length s.passed ≡ length s.hosts
   pub standing : (host : Host) → slice_get s.hosts s.ended ≡ Some host → s.turn.stop ≡ None → (text : List ℕ) × (planned : List ℕ) × StandsFor s host text planned
 
--- a second pass of which no inventory has come, behind a first pass of which each was ended: what was merged is right for the texts of that
+-- a second pass of which no inventory has come, behind a first pass of which each was ended: what was merged is right for the
+-- texts of that
 pub record IsSolvedFrom (c : CountingValue) (s : SolvedValue) : Type 0 where
   pub hosts : s.hosts ≡ c.hosts
   pub joined : s.joined ≡ c.joined

@@ -1,4 +1,5 @@
 -- What the solver gives for one kind, with its certificate.
+-- Words of the code and not of the subject: only private contracts, views and invariants cite them.
 use Rattle.std.specs.Prelude.{◌≡◌, ℕ, List}
 use Rattle.hosts_join.specs.Accounts.{Accounts}
 use Rattle.ownership.specs.Costs.{IsOptimal}

@@ -1,4 +1,5 @@
 -- What two passes over inventories in pieces are believed for.
+-- Source: this project's own rule.
 use Rattle.std.specs.Prelude.{◌≡◌, ℕ, List, length, Some, slice_get}
 use Rattle.mtree_inv.specs.declared.entry.Entry.{Entry}
 use Rattle.hosts_join.specs.declared.host.Host.{Host}

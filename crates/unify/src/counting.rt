@@ -1,13 +1,12 @@
 //! How many owner and group fields of files a map changes.
 
-ghost use Rattle.std.specs.Prelude.{◌≡◌, ◌≤◌, ◌*◌, ◌&&◌, List, length, true, is_some, map, option_map, sum_by, IfOk};
+ghost use Rattle.std.specs.Prelude.{◌≡◌, ◌≤◌, length, map, option_map, IfOk};
 ghost use Rattle.std.specs.List.{list_all, list_any};
 ghost use Rattle.idtext.specs.First.{Gives, each};
 ghost use Rattle.hosts_join.specs.Checks.{hosts_checked};
 ghost use Rattle.unify_texts.specs.Told.{told};
-ghost use Rattle.hosts_join.specs.Pairs.{number_of};
 ghost use Rattle.unify.specs.Told.{in_site};
-ghost use Rattle.unify.specs.Cost.{changed, users_changed, groups_changed, cost_of};
+ghost use Rattle.unify.specs.Cost.{changed, users_changed, groups_changed};
 ghost use Rattle.unify.specs.Count.{are_users_mapped as users_mapped, are_groups_mapped as groups_mapped, has_user as host_has_user, has_group as host_has_group, is_user_map, is_group_map, names_checked, site_of, total_of, count_of};
 
 use crate::host::{Loaded, group_named, load_files, load_hosts, site_fault, user_named};
@@ -36,31 +35,31 @@ pub fn check_list(hosts: &[HostText]) -> Result<(), Fault<'_>>
 }
 
 // Whether each user of these rows has a number.
-fn are_all_users_mapped(names: &PairTable<'_>, rows: &[PasswdRow<'_>]) -> bool
+fn row_users_have_numbers(names: &PairTable<'_>, rows: &[PasswdRow<'_>]) -> bool
     ensures { result ≡ users_mapped names.now rows.now }
 {
     rows.iter().all(|row| names.number(row.name).is_some())
 }
 
 // Whether each group of these rows has a number.
-fn are_all_groups_mapped(names: &PairTable<'_>, rows: &[GroupRow<'_>]) -> bool
+fn row_groups_have_numbers(names: &PairTable<'_>, rows: &[GroupRow<'_>]) -> bool
     ensures { result ≡ groups_mapped names.now rows.now }
 {
     rows.iter().all(|row| names.number(row.name).is_some())
 }
 
 // Whether each user of all hosts has a number.
-fn are_users_mapped(names: &PairTable<'_>, hosts: &[Loaded<'_>]) -> bool
+fn host_users_have_numbers(names: &PairTable<'_>, hosts: &[Loaded<'_>]) -> bool
     ensures { result ≡ list_all (λ loaded. users_mapped names.now loaded.host.users) hosts.now }
 {
-    hosts.iter().all(|loaded| are_all_users_mapped(names, loaded.host.users.rows()))
+    hosts.iter().all(|loaded| row_users_have_numbers(names, loaded.host.users.rows()))
 }
 
 // Whether each group of all hosts has a number.
-fn are_groups_mapped(names: &PairTable<'_>, hosts: &[Loaded<'_>]) -> bool
+fn host_groups_have_numbers(names: &PairTable<'_>, hosts: &[Loaded<'_>]) -> bool
     ensures { result ≡ list_all (λ loaded. groups_mapped names.now loaded.host.groups) hosts.now }
 {
-    hosts.iter().all(|loaded| are_all_groups_mapped(names, loaded.host.groups.rows()))
+    hosts.iter().all(|loaded| row_groups_have_numbers(names, loaded.host.groups.rows()))
 }
 
 // Whether a host has the user.
@@ -130,7 +129,7 @@ fn groups_cost(names: &MapText<'_>, host: &Host<'_>, files: &[Entry]) -> u64
 }
 
 // Whether each name of the map is a user of some host.
-fn are_all_users(names: &PairTable<'_>, hosts: &[Loaded<'_>]) -> bool
+fn pairs_are_users(names: &PairTable<'_>, hosts: &[Loaded<'_>]) -> bool
     ensures { result ≡ list_all (λ p. list_any (host_has_user p.name) hosts.now) names.now }
 {
     for index in 0..names.len() {
@@ -143,7 +142,7 @@ fn are_all_users(names: &PairTable<'_>, hosts: &[Loaded<'_>]) -> bool
 }
 
 // Whether each name of the map is a group of some host.
-fn are_all_groups(names: &PairTable<'_>, hosts: &[Loaded<'_>]) -> bool
+fn pairs_are_groups(names: &PairTable<'_>, hosts: &[Loaded<'_>]) -> bool
     ensures { result ≡ list_all (λ p. list_any (host_has_group p.name) hosts.now) names.now }
 {
     for index in 0..names.len() {
@@ -159,14 +158,14 @@ fn are_all_groups(names: &PairTable<'_>, hosts: &[Loaded<'_>]) -> bool
 fn is_map_of_users(names: &PairTable<'_>, hosts: &[Loaded<'_>]) -> bool
     ensures { result ≡ is_user_map names.now hosts.now }
 {
-    are_users_mapped(names, hosts) && are_all_users(names, hosts)
+    host_users_have_numbers(names, hosts) && pairs_are_users(names, hosts)
 }
 
 // Whether the map's groups are exactly those of the hosts.
 fn is_map_of_groups(names: &PairTable<'_>, hosts: &[Loaded<'_>]) -> bool
     ensures { result ≡ is_group_map names.now hosts.now }
 {
-    are_groups_mapped(names, hosts) && are_all_groups(names, hosts)
+    host_groups_have_numbers(names, hosts) && pairs_are_groups(names, hosts)
 }
 
 // Checks that the names of the map are exactly those of the hosts.

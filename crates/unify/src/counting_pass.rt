@@ -69,14 +69,14 @@ fn solve_counted(
 }
 
 impl<'a> Counting<'a> {
-    ghost use Rattle.std.specs.Prelude.{◌≡◌, ◌+◌, ◌-◌, ◌<◌, ◌≤◌, ◌++◌, ◌∷◌, [], ℕ, length, Some, IfSome, IfErr, OnOk, MatchResult, slice_get, IfOk};
+    ghost use Rattle.std.specs.Prelude.{◌≡◌, ◌+◌, ◌-◌, ◌<◌, ◌≤◌, ◌++◌, ◌∷◌, [], ℕ, length, Some, IfSome, IfNone, IfErr, OnOk, MatchResult, slice_get, IfOk};
     ghost use Rattle.idtext.specs.First.{Gives, Yields};
     ghost use Rattle.hosts_join.specs.declared.host.Host.{Host};
     ghost use Rattle.unify_texts.specs.declared.fault.Fault.{Fault};
     ghost use Rattle.unify_texts.specs.declared.fault.Fault.TheVariants.{Memory};
     ghost use Rattle.unify_texts.specs.Told.{told};
     ghost use Rattle.unify.specs.Hosts.{files_of};
-    ghost use Rattle.unify.specs.Passes.{site_begun, is_read, lines_of, StandsFor, IsAtStart, ended_in, fault_met, IsToldAs, TellsFault};
+    ghost use Rattle.unify.specs.Passes.{site_begun, is_read, lines_of, StandsFor, IsAtStart, ended_in, fault_met, IsToldAs, TellsFault, IsFaultOf};
     ghost use Rattle.unify.specs.SecondPass.{IsSolvedFrom};
 
     /// Reads what comes before the inventories; the texts of these are not looked at.
@@ -112,12 +112,15 @@ impl<'a> Counting<'a> {
     /// Takes the next bytes of the inventory of the present host. Asked is that a host is left.
     ///
     /// The answer is exactly the first reader fault of the whole logical lines so far, or want of memory; a file without
-    /// an account is told by `end_host`. After a fault of either call it is always that one, or want of memory to tell it,
-    /// and nothing changes. One pass over the bytes, and a few look-ups by hash for each file.
+    /// an account is told by `end_host`. A new fault that it answers is the one that is met. Once a fault is met, of either
+    /// call, the answer is always that one, or want of memory to tell it, and nothing changes.
+    ///
+    /// One pass over the bytes, and a few look-ups by hash for each file.
     pub fn piece(&mut self, bytes: &[u8]) -> Result<(), Fault<'a>>
         requires left { ended_in self.old < length self.old.hosts }
         ensures told { (ended : List (List ℕ)) (text : List ℕ) (host : Host) → StandsFor self.old ended text → slice_get self.old.hosts (ended_in self.old) ≡ Some host → Gives (λ _. tt) told result (is_read (lines_of host (text ++ bytes.now))) }
         ensures stands { OnOk result ((ended : List (List ℕ)) (text : List ℕ) → StandsFor self.old ended text → StandsFor self.new ended (text ++ bytes.now)) }
+        ensures met { IfNone (fault_met self.old) (IfErr result (λ e. fault_met self.new ≡ Some e)) }
         ensures failed { IfErr result (λ e. (f : Fault) × (fault_met self.new ≡ Some f) × IsToldAs f e) }
         ensures again { IfSome (fault_met self.old) (λ f. TellsFault f result × (self.new ≡ self.old)) }
         ensures site { self.new ≡ record self.old { turn = self.new.turn } }
@@ -137,12 +140,14 @@ impl<'a> Counting<'a> {
     /// Ends the inventory of the present host. Asked is that a host is left.
     ///
     /// The answer is exactly the first fault of the whole inventory, and else its first file without an account, uid
-    /// before gid; or want of memory. After a fault of either call it is always that one, or want of memory to tell it,
-    /// and nothing changes. At most one line is still to be read here.
+    /// before gid; or want of memory. What is met then is such a fault too, that of the file where memory was wanting only
+    /// to tell it. Once a fault is met, of either call, the answer is always that one, or want of memory to tell it, and
+    /// nothing changes. At most one line is still to be read here.
     pub fn end_host(&mut self) -> Result<(), Fault<'a>>
         requires left { ended_in self.old < length self.old.hosts }
         ensures told { (ended : List (List ℕ)) (text : List ℕ) (host : Host) → StandsFor self.old ended text → slice_get self.old.hosts (ended_in self.old) ≡ Some host → Gives (λ _. tt) told result (is_read (files_of (record { host = host; mtree = text }))) }
         ensures stands { OnOk result ((ended : List (List ℕ)) (text : List ℕ) → StandsFor self.old ended text → StandsFor self.new (ended ++ text ∷ []) []) }
+        ensures met { (ended : List (List ℕ)) (text : List ℕ) (host : Host) → StandsFor self.old ended text → slice_get self.old.hosts (ended_in self.old) ≡ Some host → IfErr result (λ _. IfSome (fault_met self.new) (IsFaultOf host text)) }
         ensures failed { IfErr result (λ e. (f : Fault) × (fault_met self.new ≡ Some f) × IsToldAs f e) }
         ensures again { IfSome (fault_met self.old) (λ f. TellsFault f result × (self.new ≡ self.old)) }
         ensures left { MatchResult result (λ _. ended_in self.new ≡ ended_in self.old + 1) (λ _. self.new.passed ≡ self.old.passed) }

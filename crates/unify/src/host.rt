@@ -171,7 +171,8 @@ pub fn load_host<'a>(alloc: Global, text: &'a HostText) -> Result<Loaded<'a>, Fa
     })
 }
 
-/// Reads the files of all hosts but their inventories, host by host, up to the first fault.
+/// Reads the files of all hosts but their inventories, host by host, up to the first fault. One pass over each text; the
+/// tables borrow them.
 pub fn load_hosts<'a>(alloc: Global, texts: &'a [HostText]) -> Result<Vec<Loaded<'a>>, Fault<'a>>
     ensures exact { Gives (λ hosts. hosts.items) told result (each host_of texts.now) }
     ensures len { IfOk result (λ hosts. length hosts.items ≡ length texts.now) }

@@ -1,11 +1,11 @@
 //! Laws of the definitions, each the contract of a call that does nothing.
 ghost use Rattle.unify.specs.Laws.{OwnersAgree, ReadSitesAreWhole, EmptyPinsAreNone, PassesReadTheSite, CostsAgree};
-ghost use Rattle.unify.specs.Believed.{OutcomesAreBelieved, RunsKeepNames, NumbersTellNames};
+ghost use Rattle.unify.specs.Believed.{OutcomesAreBelieved, DoneKeepsPrintedNames, RunsKeepNames, NumbersTellNames};
 ghost use Rattle.unify.specs.TwoPasses.{TwoPassesAreBelieved};
 
-/// Every site that was read is whole: it has at most 64 hosts, whose names and tables are lawful and whose inventories have no path
-/// twice, the accounts over all hosts are lawful, and each file has a user and a group, by its host's own tables and as
-/// well by the accounts over all hosts.
+/// Every site that was read is whole: it has at most 64 hosts, whose names and tables are lawful and whose inventories have
+/// no path twice, the accounts over all hosts are lawful, and each file has a user and a group, by its host's own tables
+/// and as well by the accounts over all hosts.
 pub fn a_read_site_is_whole()
     ensures { ReadSitesAreWhole }
 {}
@@ -22,10 +22,12 @@ pub fn outcomes_are_believed()
     ensures { OutcomesAreBelieved }
 {}
 
-/// Where the plans of a merge were carried out on trees in memory as far as any events lead, the files of a host that is
-/// done have the names that they had.
+/// Where the plans of a merge were carried out on trees in memory as far as any events lead, refused or not, the files of
+/// a host that is done have the names that they had. So have those of any tree that is safe and in step at the end of its
+/// printed plan.
 pub fn runs_keep_names()
-    ensures { RunsKeepNames }
+    ensures runs { RunsKeepNames }
+    ensures trees { DoneKeepsPrintedNames }
 {}
 
 /// Two files, on any hosts, that keep their names have one uid exactly where their users had one name, and one gid exactly

@@ -1,6 +1,6 @@
 //! The inventory of one host a second time, in pieces, and its plan.
 
-ghost use Rattle.std.specs.Prelude.{◌≡◌, ◌+◌, ◌<◌, ◌≤◌, ◌++◌, ◌∷◌, ℕ, List, [], length, All, true, false, if◌then◌else◌, is_ok, slice_get, Some, None, Ok, Err, IfSome, IfErr, OnOk, OnErr, MatchResult};
+ghost use Rattle.std.specs.Prelude.{◌≡◌, ◌+◌, ◌<◌, ◌≤◌, ◌++◌, ◌∷◌, ℕ, List, [], length, All, true, if◌then◌else◌, is_ok, slice_get, Some, None, Ok, Err, IfSome, IfErr, OnOk, OnErr, MatchResult};
 ghost use Rattle.mtree_inv.specs.Standing as standing;
 ghost use Rattle.mtree_inv.specs.declared.entry.Entry.{Entry};
 ghost use Rattle.hosts_join.specs.Laws.{HasLawfulAccounts, KnowsHost};
@@ -158,7 +158,7 @@ fn read_on(
     requires known { KnowsHost site.now index host.now }
     requires for_site { AreForSite site.now merged.now.users merged.now.groups }
     ensures told { (text planned : List ℕ) → TurnsFor host.now site.now merged.now index turn.old text planned → MatchResult result (λ _. (files : List Entry) × (owned_lines host.now (text ++ bytes.now) ≡ Ok files)) (λ s. s ≡ stop.Changed → (f : Fault) × (owned_lines host.now (text ++ bytes.now) ≡ Err f)) }
-    ensures stands { (text planned : List ℕ) → TurnsFor host.now site.now merged.now index turn.old text planned → (more : List ℕ) × (plan.new.items ≡ plan.old.items ++ more) × MatchResult result (λ _. TurnsFor host.now site.now merged.now index turn.new (text ++ bytes.now) (planned ++ more)) (λ _. IsUnfinished host.now site.now merged.now index (planned ++ more)) }
+    ensures stands { (text planned : List ℕ) → TurnsFor host.now site.now merged.now index turn.old text planned → (more : List ℕ) × (plan.new.items ≡ plan.old.items ++ more) × MatchResult result (λ _. TurnsFor host.now site.now merged.now index turn.new (text ++ bytes.now) (planned ++ more)) (λ _. IsUnfinished host.now site.now merged.now index (text ++ bytes.now) (planned ++ more)) }
     ensures begun { OnOk result (turn.new.is_begun ≡ true) }
 {
     begin_plan(turn, host, plan)?;
@@ -186,7 +186,7 @@ pub fn feed_plan(
     requires known { KnowsHost site.now index host.now }
     requires for_site { AreForSite site.now merged.now.users merged.now.groups }
     ensures told { (text planned : List ℕ) → TurnsFor host.now site.now merged.now index turn.old text planned → MatchResult result (λ _. (files : List Entry) × (owned_lines host.now (text ++ bytes.now) ≡ Ok files)) (λ s. s ≡ stop.Changed → (f : Fault) × (owned_lines host.now (text ++ bytes.now) ≡ Err f)) }
-    ensures stands { (text planned : List ℕ) → TurnsFor host.now site.now merged.now index turn.old text planned → (more : List ℕ) × (plan.new.items ≡ plan.old.items ++ more) × MatchResult result (λ _. TurnsFor host.now site.now merged.now index turn.new (text ++ bytes.now) (planned ++ more)) (λ _. IsUnfinished host.now site.now merged.now index (planned ++ more)) }
+    ensures stands { (text planned : List ℕ) → TurnsFor host.now site.now merged.now index turn.old text planned → (more : List ℕ) × (plan.new.items ≡ plan.old.items ++ more) × MatchResult result (λ _. TurnsFor host.now site.now merged.now index turn.new (text ++ bytes.now) (planned ++ more)) (λ _. IsUnfinished host.now site.now merged.now index (text ++ bytes.now) (planned ++ more)) }
     ensures begun { OnOk result (turn.new.is_begun ≡ true) }
     ensures stopped { IfErr result (λ s. turn.new.stop ≡ Some s) }
     ensures again { IfSome turn.old.stop (λ s. (result ≡ Err s) × (turn.new ≡ turn.old) × (plan.new ≡ plan.old)) }
@@ -217,7 +217,7 @@ fn read_end(
     requires for_site { AreForSite site.now merged.now.users merged.now.groups }
     requires lawful { HasLawfulAccounts site.now }
     ensures told { (text planned : List ℕ) (were : List Entry) → TurnsFor host.now site.now merged.now index turn.old text planned → first.now ≡ row_files host.now were → MatchResult result (λ _. (files : List Entry) × (second_files host.now text ≡ Ok files) × HaveSameCounts host.now were files) (λ s. s ≡ stop.Changed → (files : List Entry) → second_files host.now text ≡ Ok files → HaveSameCounts host.now were files → ⊥) }
-    ensures stands { (text planned : List ℕ) → TurnsFor host.now site.now merged.now index turn.old text planned → (more : List ℕ) × (plan.new.items ≡ plan.old.items ++ more) × MatchResult result (λ _. IsAccepted host.now site.now merged.now index text (planned ++ more)) (λ _. IsUnfinished host.now site.now merged.now index (planned ++ more)) }
+    ensures stands { (text planned : List ℕ) → TurnsFor host.now site.now merged.now index turn.old text planned → (more : List ℕ) × (plan.new.items ≡ plan.old.items ++ more) × MatchResult result (λ _. IsAccepted host.now site.now merged.now index text (planned ++ more)) (λ _. IsUnfinished host.now site.now merged.now index text (planned ++ more)) }
     ensures counted { OnOk result ((text planned : List ℕ) → TurnsFor host.now site.now merged.now index turn.old text planned → CountHosts site.now (index + 1) turn.new.counts) }
 {
     begin_plan(turn, host, plan)?;
@@ -251,7 +251,7 @@ pub fn finish_plan(
     requires for_site { AreForSite site.now merged.now.users merged.now.groups }
     requires lawful { HasLawfulAccounts site.now }
     ensures told { (text planned : List ℕ) (were : List Entry) → TurnsFor host.now site.now merged.now index turn.old text planned → first.now ≡ row_files host.now were → MatchResult result (λ _. (files : List Entry) × (second_files host.now text ≡ Ok files) × HaveSameCounts host.now were files) (λ s. s ≡ stop.Changed → (files : List Entry) → second_files host.now text ≡ Ok files → HaveSameCounts host.now were files → ⊥) }
-    ensures stands { (text planned : List ℕ) → TurnsFor host.now site.now merged.now index turn.old text planned → (more : List ℕ) × (plan.new.items ≡ plan.old.items ++ more) × MatchResult result (λ _. IsAccepted host.now site.now merged.now index text (planned ++ more)) (λ _. IsUnfinished host.now site.now merged.now index (planned ++ more)) }
+    ensures stands { (text planned : List ℕ) → TurnsFor host.now site.now merged.now index turn.old text planned → (more : List ℕ) × (plan.new.items ≡ plan.old.items ++ more) × MatchResult result (λ _. IsAccepted host.now site.now merged.now index text (planned ++ more)) (λ _. IsUnfinished host.now site.now merged.now index text (planned ++ more)) }
     ensures counted { OnOk result ((text planned : List ℕ) → TurnsFor host.now site.now merged.now index turn.old text planned → CountHosts site.now (index + 1) turn.new.counts) }
     ensures stopped { IfErr result (λ s. turn.new.stop ≡ Some s) }
     ensures again { IfSome turn.old.stop (λ s. (result ≡ Err s) × (turn.new ≡ turn.old) × (plan.new ≡ plan.old)) }

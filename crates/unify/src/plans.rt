@@ -1,6 +1,6 @@
 //! The plans of all hosts.
 
-ghost use Rattle.std.specs.Prelude.{◌≡◌, ◌≤◌, List, length, All, IfOk, Ok};
+ghost use Rattle.std.specs.Prelude.{◌≡◌, ◌≤◌, List, length, IfOk, Ok};
 ghost use Rattle.idtext.specs.First.{each};
 ghost use Rattle.mtree_inv.specs.Inventory.{inventory};
 ghost use Rattle.mtree_inv.specs.declared.entry.Entry.{Entry};

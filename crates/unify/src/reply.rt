@@ -75,7 +75,7 @@ pub fn cost_reply(alloc: Global, cost: Cost) -> Result<Reply, AllocError>
 }
 
 /// What goes out for a count of these hosts with this map: the two lines, or the fault line with its status. An error is
-/// a growth that was refused.
+/// a growth that was refused. It takes what `count` takes, and a line.
 pub fn count_reply(alloc: Global, hosts: &[HostText], map: &[u8]) -> Result<Reply, AllocError>
     ensures { IfOk result (λ reply. reply_of reply ≡ answered (counted hosts.now map.now)) }
 {
@@ -96,7 +96,7 @@ fn accepted_text(alloc: Global, cost: u64) -> Result<Vec<u8>, AllocError>
 }
 
 /// What goes out for a check of a certificate of these hosts with these pins: its line, or the fault line with its
-/// status. An error is a growth that was refused.
+/// status. An error is a growth that was refused. It takes what `verify` takes, and a line.
 pub fn check_reply(
     alloc: Global,
     hosts: &[HostText],

@@ -1,6 +1,6 @@
 //! Reading a whole site.
 
-ghost use Rattle.std.specs.Prelude.{◌≡◌, ℕ, ◌+◌, ◌<◌, ◌≤◌, ◌++◌, List, length, map, None, IfOk, OnOk};
+ghost use Rattle.std.specs.Prelude.{◌≡◌, ◌+◌, ◌≤◌, ◌++◌, List, length, map, None, IfOk, OnOk};
 ghost use Rattle.std.specs.List.{All};
 ghost use Rattle.idtext.specs.First.{Gives, Yields, each};
 ghost use Rattle.hosts_join.specs.Hosts.{IsLawfulHost};

@@ -14,8 +14,9 @@ use std::marker::Model;
 use unify_texts::Fault;
 
 /// A site that was merged, whose inventories come a second time in pieces, host by host, while plans are appended. It
-/// keeps the tables of the hosts, what was merged, how many files each of their rows owned in the first pass, and of the
-/// present inventory each path once; no text of an inventory and no plan is kept.
+/// keeps the tables of the hosts, what was merged, how many files each of their rows owned in the first pass, counters for
+/// all hosts, what these told of the rows of the present host before its turn, and of the present inventory each path
+/// once; no text of an inventory and no plan is kept.
 #[derive(Drop)]
 pub struct Solved<'a> {
     pub(crate) alloc: Global,
@@ -70,14 +71,14 @@ impl<'a> Solved<'a> {
     ///
     /// `Fault::InventoryChanged` is answered exactly where the whole logical lines so far have a fault, or a file without
     /// an account. After a fault of either call, want of memory too, it is always that one, and nothing changes. Behind a
-    /// fault all that the calls for this host have appended is a prefix of a plan without its `end` line. The first piece
-    /// appends the header, even if it is empty.
+    /// fault all that the calls for this host have appended is a prefix of a plan without its `end` line, for files that
+    /// the text has before its first fault. The first piece appends the header, even if it is empty.
     ///
     /// One pass over the bytes, and a few look-ups by hash for each file.
     pub fn piece(&mut self, bytes: &[u8], plan: &mut Vec<u8>) -> Result<(), Fault<'a>>
         requires left { self.old.ended < length self.old.hosts }
         ensures told { (host : Host) (text planned : List ℕ) → slice_get self.old.hosts self.old.ended ≡ Some host → StandsFor self.old host text planned → Gives (λ _. tt) told result (is_read (second_lines host (text ++ bytes.now))) }
-        ensures planned { (host : Host) (text planned : List ℕ) → slice_get self.old.hosts self.old.ended ≡ Some host → StandsFor self.old host text planned → (more : List ℕ) × (plan.new.items ≡ plan.old.items ++ more) × MatchResult result (λ _. StandsFor self.new host (text ++ bytes.now) (planned ++ more)) (λ _. IsUnfinished host self.old.joined self.old.merged self.old.ended (planned ++ more)) }
+        ensures planned { (host : Host) (text planned : List ℕ) → slice_get self.old.hosts self.old.ended ≡ Some host → StandsFor self.old host text planned → (more : List ℕ) × (plan.new.items ≡ plan.old.items ++ more) × MatchResult result (λ _. StandsFor self.new host (text ++ bytes.now) (planned ++ more)) (λ _. IsUnfinished host self.old.joined self.old.merged self.old.ended (text ++ bytes.now) (planned ++ more)) }
         ensures begun { OnOk result (self.new.turn.is_begun ≡ true) }
         ensures stopped { IfErr result (λ e. fault_met self.new ≡ Some e) }
         ensures again { IfSome (fault_met self.old) (λ f. (result ≡ Err f) × (self.new ≡ self.old) × (plan.new ≡ plan.old)) }
@@ -103,11 +104,12 @@ impl<'a> Solved<'a> {
     /// `Fault::InventoryChanged` is answered exactly where the whole inventory has a fault, or a file without an account,
     /// or where a user or a group of the host owns not as many of its files as in the first pass. After a fault of
     /// either call, want of memory too, it is always that one, and nothing changes. Behind a fault all that the calls for
-    /// this host have appended is a prefix of a plan without its `end` line.
+    /// this host have appended is a prefix of a plan without its `end` line, for files that the text has before its first
+    /// fault.
     pub fn end_host(&mut self, plan: &mut Vec<u8>) -> Result<(), Fault<'a>>
         requires left { self.old.ended < length self.old.hosts }
         ensures told { (host : Host) (first : RowFiles) (were : List Entry) (text planned : List ℕ) → slice_get self.old.hosts self.old.ended ≡ Some host → slice_get self.old.passed self.old.ended ≡ Some first → first ≡ row_files host were → StandsFor self.old host text planned → MatchResult result (λ _. (files : List Entry) × (second_files host text ≡ Ok files) × HaveSameCounts host were files) (λ e. IfSome (told e) (λ f. (f ≡ InventoryChanged host.name) × ((files : List Entry) → second_files host text ≡ Ok files → HaveSameCounts host were files → ⊥))) }
-        ensures planned { (host : Host) (text planned : List ℕ) → slice_get self.old.hosts self.old.ended ≡ Some host → StandsFor self.old host text planned → (more : List ℕ) × (plan.new.items ≡ plan.old.items ++ more) × MatchResult result (λ _. (files : List Entry) × (second_files host text ≡ Ok files) × (planned ++ more ≡ whole_plan host self.old.joined self.old.merged self.old.ended files)) (λ _. IsUnfinished host self.old.joined self.old.merged self.old.ended (planned ++ more)) }
+        ensures planned { (host : Host) (text planned : List ℕ) → slice_get self.old.hosts self.old.ended ≡ Some host → StandsFor self.old host text planned → (more : List ℕ) × (plan.new.items ≡ plan.old.items ++ more) × MatchResult result (λ _. (files : List Entry) × (second_files host text ≡ Ok files) × (planned ++ more ≡ whole_plan host self.old.joined self.old.merged self.old.ended files)) (λ _. IsUnfinished host self.old.joined self.old.merged self.old.ended text (planned ++ more)) }
         ensures next { OnOk result ((host : Host) → slice_get self.new.hosts self.new.ended ≡ Some host → StandsFor self.new host [] []) }
         ensures left { MatchResult result (λ _. self.new.ended ≡ self.old.ended + 1) (λ _. self.new.ended ≡ self.old.ended) }
         ensures stopped { IfErr result (λ e. fault_met self.new ≡ Some e) }

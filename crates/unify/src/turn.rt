@@ -1,6 +1,6 @@
 //! The inventory of one host, which comes in pieces and whose files are counted.
 
-ghost use Rattle.std.specs.Prelude.{◌≡◌, ◌+◌, ◌≤◌, ◌++◌, ◌∷◌, ◌⊎◌, ℕ, List, [], length, true, false, Some, None, IfSome, IfNone, IfErr, OnOk};
+ghost use Rattle.std.specs.Prelude.{◌≡◌, ◌+◌, ◌≤◌, ◌++◌, ℕ, List, [], length, Some, None, IfSome, IfNone, IfErr, OnOk};
 ghost use Rattle.idtext.specs.First.{Gives};
 ghost use Rattle.mtree_inv.specs.Standing as standing;
 ghost use Rattle.mtree_inv.specs.declared.entry.Entry.{Entry};
@@ -11,7 +11,7 @@ ghost use Rattle.unify_texts.specs.declared.fault.Fault.{Fault};
 ghost use Rattle.unify_texts.specs.declared.fault.Fault.TheVariants.{Memory};
 ghost use Rattle.unify_texts.specs.Told.{told};
 ghost use Rattle.unify.specs.Hosts.{files_of};
-ghost use Rattle.unify.specs.Passes.{is_read, lines_of, AreCounted, StandBehind, TurnsFor, IsAccepted, read_told, owner_told, met_by, IsToldAs, TellsFault};
+ghost use Rattle.unify.specs.Passes.{is_read, lines_of, AreCounted, StandBehind, TurnsFor, IsAccepted, read_told, owner_told, met_by, IsToldAs, TellsFault, IsFaultOf};
 
 use crate::host::{line_fault, ownership_fault};
 use hosts_join::{Host, Site};
@@ -102,7 +102,8 @@ fn count_new(turn: &mut Turn, site: &Site<'_>, index: u32)
 }
 
 /// Takes the next piece of the inventory of the host with the index. The answer is the first fault of the whole lines so
-/// far, and no file without an account is told. After a fault it is always that one, or want of memory to tell it.
+/// far, and no file without an account is told. A new fault is the one that is met. After a fault it is always that one, or
+/// want of memory to tell it.
 ///
 /// One pass over the piece, with a few look-ups by hash for each file.
 pub fn feed_turn<'a>(
@@ -116,6 +117,7 @@ pub fn feed_turn<'a>(
     requires going { met_by host.now turn.old ≡ None → (earlier : List Added) × (text : List ℕ) × TurnsFor site.now index earlier turn.old text × (length earlier ≤ 1073741824) }
     ensures told { (earlier : List Added) (text : List ℕ) → TurnsFor site.now index earlier turn.old text → Gives (λ _. tt) told result (is_read (lines_of host.now (text ++ bytes.now))) }
     ensures stands { OnOk result ((earlier : List Added) (text : List ℕ) → TurnsFor site.now index earlier turn.old text → TurnsFor site.now index earlier turn.new (text ++ bytes.now)) }
+    ensures met { IfNone (met_by host.now turn.old) (IfErr result (λ e. met_by host.now turn.new ≡ Some e)) }
     ensures failed { IfErr result (λ e. (f : Fault) × (met_by host.now turn.new ≡ Some f) × IsToldAs f e) }
     ensures again { IfSome (met_by host.now turn.old) (λ f. TellsFault f result × (turn.new ≡ turn.old)) }
 {
@@ -130,8 +132,8 @@ pub fn feed_turn<'a>(
 }
 
 /// Takes the end of the inventory of the host with the index. The answer is the first fault of the whole text, and else
-/// the first file without an account. After a fault it is always that one, or want of memory to tell it. After `Ok` the
-/// turn is over, and every further call would be answered with want of memory.
+/// the first file without an account; one of them, or want of memory, is what is met. After a fault it is always that one,
+/// or want of memory to tell it. After `Ok` the turn is over, and every further call would be answered with want of memory.
 pub fn end_turn<'a>(
     alloc: Global,
     turn: &mut Turn,
@@ -145,6 +147,7 @@ pub fn end_turn<'a>(
     ensures accepted { OnOk result ((earlier : List Added) (text : List ℕ) → TurnsFor site.now index earlier turn.old text → IsAccepted site.now index host.now earlier turn.new text) }
     ensures ended { OnOk result (met_by host.now turn.new ≡ Some Memory) }
     ensures none { OnOk result (turn.new.unowned ≡ None) }
+    ensures met { (earlier : List Added) (text : List ℕ) → TurnsFor site.now index earlier turn.old text → IfErr result (λ _. IfSome (met_by host.now turn.new) (IsFaultOf host.now text)) }
     ensures failed { IfErr result (λ e. (f : Fault) × (met_by host.now turn.new ≡ Some f) × IsToldAs f e) }
     ensures again { IfSome (met_by host.now turn.old) (λ f. TellsFault f result × (turn.new ≡ turn.old)) }
 {

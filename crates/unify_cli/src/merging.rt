@@ -149,6 +149,15 @@ fn plan_inventory<'a>(
     Err(MergeFault::File(inventory.too_long(rt)))
 }
 
+// Makes the plan of each host, empty, before any is written: so no plan of an earlier merge stays beside the map of this one,
+// wherever it ends.
+fn begin_plans(rt: &HostRuntime, directory: &str, words: &[&str]) -> Result<(), FileFault> {
+    for word in words {
+        drop(PlanFile::create(rt, directory, host_name(*word))?);
+    }
+    Ok(())
+}
+
 // Reads the inventory of the next host, which the word names, once more, and writes the host's plan.
 fn plan_host<'a>(
     rt: &HostRuntime,
@@ -217,13 +226,15 @@ fn write_merged<'a>(
     requires each_word { solved.old.ended + length words.now ≡ length solved.old.hosts }
 {
     write_texts(rt, directory, solved.outcome())?;
+    begin_plans(rt, directory, words)?;
     plan_hosts(rt, solved, directory, words)?;
     Ok(solved.outcome().cost)
 }
 
 /// Merges the hosts that words name, whose texts are given but for their inventories, into a directory, and hands out
-/// how many fields of files change. Each inventory is read twice, when its host's turn comes. The plans are written after
-/// the other files, while the inventories are read again. At the first fault it stops; what was written before stays.
+/// how many fields of files change. Each inventory is read twice, when its host's turn comes. The plans are made after the
+/// other files, empty, and written while the inventories are read again. At the first fault it stops; what was written
+/// before stays, and a plan that is not whole has no `end` line.
 pub fn merge_hosts<'a>(
     rt: &HostRuntime,
     directory: &str,

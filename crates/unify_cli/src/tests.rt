@@ -2,8 +2,10 @@
 //! this one is small. Those that are whole bundles are files of `examples/worked`.
 
 mod merge;
+mod pieces;
 mod runner;
 mod site;
 mod site_runs;
+mod swap;
 mod texts;
 mod whole_site;

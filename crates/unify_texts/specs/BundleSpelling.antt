@@ -1,4 +1,5 @@
--- How a bundle is spelled, apart from any reader. Source: this product's own formats.
+-- How a bundle is spelled, apart from any reader.
+-- Source: this product's own formats.
 use Rattle.std.specs.Prelude.{◌≡◌, ℕ, ◌+◌, ◌<◌, List, [], ◌∷◌, ◌++◌, map, take, IsTrue, codes, Ok, Err}
 use Rattle.std.specs.List.{flat_map, list_all, IsDistinct}
 use Rattle.idtext.specs.Faults.{line_number}

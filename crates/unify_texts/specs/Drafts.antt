@@ -1,4 +1,5 @@
--- What the reader of bundles keeps of the lines so far. No public contract speaks of it.
+-- What the reader of bundles keeps of the lines so far.
+-- Words of the code and not of the subject: only private contracts, views and invariants cite them.
 use Rattle.std.specs.Prelude.{ℕ, Bool, true, false, not, ◌&&◌, List, [], ◌∷◌, ◌++◌, Option, Some, None, is_some, if◌then◌else◌, option_to_list}
 use Rattle.std.specs.List.{list_any}
 use Rattle.unify_texts.specs.declared.bundle_line.Command.{Command}

@@ -1,4 +1,5 @@
--- The map text: the pairs of its lines, or its first fault. Source: this product's own formats.
+-- The map text: the pairs of its lines, or its first fault.
+-- Source: this product's own formats.
 use Rattle.std.specs.Prelude.{ℕ, Bool, true, false, not, List, [], length, Option, Some, None, is_some, Result, if◌then◌else◌, flat_map}
 use Rattle.idtext.specs.First.{first_fault, unless}
 use Rattle.idtext.specs.Faults.{line_number}

@@ -1,4 +1,5 @@
--- The map text as it is written, and how it reads back. Source: this product's own formats.
+-- The map text as it is written, and how it reads back.
+-- Source: this product's own formats.
 use Rattle.std.specs.Prelude.{◌≡◌, ℕ, ◌<◌, ◌++◌, List, [], ◌∷◌, length, map, flat_map, decimal, Some, Ok, is_some}
 use Rattle.hosts_join.specs.Accounts.{Accounts, Pair, place_of}
 use Rattle.hosts_join.specs.Lawful.{AreLawfulAccounts}

@@ -1,7 +1,7 @@
 //! What a mapping of one kind keeps and changes.
 
-ghost use Rattle.std.specs.Prelude.{◌≡◌, ◌+◌, List, length, is_some, All, true};
-ghost use Rattle.hosts_join.specs.Accounts.{owner, all_lines};
+ghost use Rattle.std.specs.Prelude.{◌≡◌, List, length, is_some, All, true};
+ghost use Rattle.hosts_join.specs.Accounts.{owner};
 ghost use Rattle.hosts_join.specs.Rules.{is_free_class};
 ghost use Rattle.ownership.specs.Counts.{AreMadeFor, AreWithin, CountFiles};
 ghost use Rattle.ownership.specs.Files.{File};
@@ -99,8 +99,9 @@ fn staying_rows(names: &Names<'_>, mapping: &Mapping) -> u64
     staying
 }
 
-/// The figures of a mapping of the names. Asked is that there is a number for each name, and that the counters were
-/// made for the names; where they count files, of which each has its owner, the figures are those of the files.
+/// The figures of a mapping of the names; `files` is how many files the counters count. Asked is that there is a number
+/// for each name, and that the counters were made for the names; where they count files, of which each has its owner,
+/// the figures are those of the files.
 ///
 /// One pass over the names, with two scans of a name's rows and one of its counters, each at most 64. It takes no memory.
 pub fn figures_under(

@@ -1,31 +1,15 @@
 //! A worked merge, by the call that gives all its texts.
 
+use crate::tests::swap::swap_hosts;
 use hosts_join::HostText;
-use idtext::ByteString;
 use std::alloc::{AllocError, Global};
+use std::process::Abort;
 use std::test::Fail;
 use unify::{Outcome, consolidate, verify};
 use unify_texts::Fault;
 
-// A host of these files, without a login.defs.
-fn host(
-    alloc: Global,
-    name: &[u8],
-    passwd: &[u8],
-    group: &[u8],
-    mtree: &[u8],
-) -> Result<HostText, AllocError> {
-    Ok(HostText {
-        name: ByteString::copy_of(alloc, name)?,
-        passwd: ByteString::copy_of(alloc, passwd)?,
-        group: ByteString::copy_of(alloc, group)?,
-        logindefs: ByteString::new(alloc),
-        mtree: ByteString::copy_of(alloc, mtree)?,
-    })
-}
-
-// The outcome of a merge that nothing refuses.
-fn merged(alloc: Global, hosts: &[HostText]) -> Result<Outcome, Fail> {
+/// The outcome of a merge that nothing refuses.
+pub fn merged(alloc: Global, hosts: &[HostText]) -> Result<Outcome, Fail> {
     match consolidate(alloc, hosts, b"") {
         Ok(outcome) => Ok(outcome),
         Err(Fault::Memory) => Err(AllocError.into()),
@@ -42,26 +26,8 @@ fn cost_checked(alloc: Global, hosts: &[HostText], outcome: &Outcome) -> Result<
     }
 }
 
-#[test]
-fn two_hosts_swap(rt: HostRuntime) -> Result<(), Fail> {
-    let mut hosts = Vec::new(rt.alloc());
-    hosts.push(host(
-        rt.alloc(),
-        b"a",
-        b"alice:x:1001:100::/home/alice:/bin/sh\nbob:x:1002:100::/home/bob:/bin/sh\n",
-        b"users:x:100:\n",
-        b"/set gid=100\n./alice1 uid=1001\n./alice2 uid=1001\n./alice3 uid=1001\n./alice4 uid=1001\n./alice5 uid=1001\n./bob1 uid=1002\n",
-    )?)?;
-    hosts.push(host(
-        rt.alloc(),
-        b"b",
-        b"bob:x:1001:100::/home/bob:/bin/sh\nalice:x:1002:100::/home/alice:/bin/sh\n",
-        b"users:x:100:\n",
-        b"/set gid=100\n./bob1 uid=1001\n./bob2 uid=1001\n./bob3 uid=1001\n./bob4 uid=1001\n./alice1 uid=1002\n./alice2 uid=1002\n./alice3 uid=1002\n",
-    )?)?;
-    let outcome = merged(rt.alloc(), &hosts)?;
-    assert_eq!(rt; outcome.cost.users, 6);
-    assert_eq!(rt; outcome.cost.groups, 0);
+// The map and the files that are the same for all hosts, and the report.
+fn check_texts(rt: &impl Abort, outcome: &Outcome) {
     assert_eq!(rt;
         outcome.map.bytes(),
         b"user alice 1002\nuser bob 1001\ngroup users 100\n".as_slice()
@@ -75,7 +41,9 @@ fn two_hosts_swap(rt: HostRuntime) -> Result<(), Fail> {
         outcome.report.bytes(),
         b"unify report 2\nhosts 2\nusers 2 pinned 0 kept 2 fresh 0\ngroups 1 pinned 1 kept 0 fresh 0\nuser-fields 6 of 13\ngroup-fields 0 of 13\nuser-lines 2 of 4\ngroup-lines 0 of 2\nend\n".as_slice()
     );
-    assert_eq!(rt; cost_checked(rt.alloc(), &hosts, &outcome)?, 6);
+}
+
+fn check_plans(rt: &impl Abort, outcome: &Outcome) {
     assert_eq!(rt; outcome.plans.texts().len(), 2);
     assert_eq!(rt;
         outcome.plans.texts()[0].bytes(),
@@ -85,5 +53,16 @@ fn two_hosts_swap(rt: HostRuntime) -> Result<(), Fail> {
         outcome.plans.texts()[1].bytes(),
         b"unify plan 1 b\nend\n".as_slice()
     );
+}
+
+#[test]
+fn two_hosts_swap(rt: HostRuntime) -> Result<(), Fail> {
+    let hosts = swap_hosts(rt.alloc())?;
+    let outcome = merged(rt.alloc(), &hosts)?;
+    assert_eq!(rt; outcome.cost.users, 6);
+    assert_eq!(rt; outcome.cost.groups, 0);
+    check_texts(&rt, &outcome);
+    assert_eq!(rt; cost_checked(rt.alloc(), &hosts, &outcome)?, 6);
+    check_plans(&rt, &outcome);
     Ok(())
 }

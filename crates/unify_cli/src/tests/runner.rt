@@ -5,7 +5,7 @@ use reown_runner::{
     Campaign, DriveFault, Event, EventFault, FailTree, Item, Keep, MemTree, Place, Progress,
     RunFault, Runner, Tree,
 };
-use std::alloc::Global;
+use std::alloc::{AllocError, Global};
 use std::process::Abort;
 use std::test::Fail;
 
@@ -18,7 +18,8 @@ const PLAN_OF_B: &[u8] = b"unify plan 1 b\nend\n";
 const TREE_OF_A: &[u8] =
     b"/set gid=100\n./alice1 uid=1001\n./alice2 uid=1001\n./alice3 uid=1001\n./alice4 uid=1001\n./alice5 uid=1001\n./bob1 uid=1002\n";
 
-const TREE_OF_B: &[u8] = b"/set gid=100\n./bob1 uid=1001\n./alice1 uid=1002\n";
+const TREE_OF_B: &[u8] =
+    b"/set gid=100\n./bob1 uid=1001\n./bob2 uid=1001\n./bob3 uid=1001\n./bob4 uid=1001\n./alice1 uid=1002\n./alice2 uid=1002\n./alice3 uid=1002\n";
 
 // The files of the plan, with their old and new users.
 const FILES: [(&[u8], u32, u32); 6] = [
@@ -28,6 +29,17 @@ const FILES: [(&[u8], u32, u32); 6] = [
     (b"alice4", 1001, 1002),
     (b"alice5", 1001, 1002),
     (b"bob1", 1002, 1001),
+];
+
+// The files of the other tree, with their users, which stay.
+const FILES_OF_B: [(&[u8], u32); 7] = [
+    (b"bob1", 1001),
+    (b"bob2", 1001),
+    (b"bob3", 1001),
+    (b"bob4", 1001),
+    (b"alice1", 1002),
+    (b"alice2", 1002),
+    (b"alice3", 1002),
 ];
 
 fn tree_of(alloc: Global, text: &[u8]) -> Result<MemTree, Fail> {
@@ -204,15 +216,20 @@ fn sync_fails_once(rt: HostRuntime) -> Result<(), Fail> {
     Ok(())
 }
 
+// Stops after each number of advances, with one choice of what is kept.
+fn stop_at_each(rt: &impl Abort, alloc: Global, plan: &Plan, keep: Keep) -> Result<(), Fail> {
+    for advances in 0..11 {
+        let mut tree = stopped(rt, alloc, plan, keep, advances)?;
+        finish(rt, plan, &mut tree);
+    }
+    Ok(())
+}
+
 #[test]
 fn stop_everywhere(rt: HostRuntime) -> Result<(), Fail> {
-    let alloc = rt.alloc();
-    let plan = Plan::read(alloc, PLAN_OF_A)?;
+    let plan = Plan::read(rt.alloc(), PLAN_OF_A)?;
     for keep in [Keep::All, Keep::Lost, Keep::Alternate, Keep::MarkOnly] {
-        for advances in 0..11 {
-            let mut tree = stopped(&rt, alloc, &plan, keep, advances)?;
-            finish(&rt, &plan, &mut tree);
-        }
+        stop_at_each(&rt, rt.alloc(), &plan, keep)?;
     }
     Ok(())
 }
@@ -248,21 +265,55 @@ fn both_trees(alloc: Global) -> Result<Vec<MemTree>, Fail> {
     Ok(trees)
 }
 
+// The files of the second tree are as they were, and its mark is set.
+fn check_second(rt: &impl Abort, tree: &mut MemTree) {
+    for (path, uid) in FILES_OF_B {
+        assert!(rt; tree.owner(path) == Ok(Some(Owner { uid, gid: 100 })));
+    }
+    assert!(rt; tree.mark() == Ok(true));
+}
+
+fn check_both(rt: &impl Abort, mut trees: Vec<MemTree>) {
+    assert!(rt; trees.len() == 2);
+    check(rt, &mut trees[0], [true; 6], true);
+    check_second(rt, &mut trees[1]);
+}
+
+// The fourteen advances of both hosts: a bit that is set is one of the second host.
+fn advances_of(alloc: Global, order: u32) -> Result<Vec<Event>, AllocError> {
+    let mut events = Vec::new(alloc);
+    for bit in 0..14u32 {
+        events.push(Event::Advance((order >> bit) & 1))?;
+    }
+    Ok(events)
+}
+
+fn interleave(rt: &impl Abort, alloc: Global, plans: &[Plan<'_>], order: u32) -> Result<(), Fail> {
+    let mut campaign = campaign_of(rt, alloc, plans, both_trees(alloc)?)?;
+    let events = advances_of(alloc, order)?;
+    assert!(rt; campaign.drive(&events) == Ok(true));
+    check_both(rt, campaign.into_trees());
+    Ok(())
+}
+
+// The orders in which four of fourteen advances are of the second host.
+fn orders(alloc: Global) -> Result<Vec<u32>, AllocError> {
+    let mut orders = Vec::new(alloc);
+    for order in 0..16384u32 {
+        if order.count_ones() == 4 {
+            orders.push(order)?;
+        }
+    }
+    Ok(orders)
+}
+
 #[test]
 fn swap_campaign(rt: HostRuntime) -> Result<(), Fail> {
-    let alloc = rt.alloc();
-    let plans = both_plans(alloc)?;
-    for first in 0..11 {
-        let mut campaign = campaign_of(&rt, alloc, &plans, both_trees(alloc)?)?;
-        let mut events = Vec::new(alloc);
-        for i in 0..14 {
-            let host = if i < first || first + 4 <= i { 0 } else { 1 };
-            events.push(Event::Advance(host))?;
-        }
-        assert!(rt; campaign.drive(&events) == Ok(true));
-        for mut tree in campaign.into_trees() {
-            assert!(rt; tree.mark() == Ok(true));
-        }
+    let plans = both_plans(rt.alloc())?;
+    let orders = orders(rt.alloc())?;
+    assert_eq!(rt; orders.len(), 1001);
+    for order in orders {
+        interleave(&rt, rt.alloc(), &plans, order)?;
     }
     Ok(())
 }

@@ -3,8 +3,8 @@ ghost use Rattle.std.specs.Prelude.{◌≡◌, ◌<◌, ◌≤◌, ◌↔◌, Is
 ghost use Rattle.std.specs.List.{All};
 ghost use Rattle.reown_runner.specs.Campaign.{host_of};
 
+use crate::tests::swap::swap_hosts;
 use hosts_join::HostText;
-use idtext::ByteString;
 use reown_plan::Owner;
 use reown_runner::{Event, Keep, MemTree, Tree};
 use std::alloc::{AllocError, Global};
@@ -33,35 +33,6 @@ const FILES_OF_B: [File; 7] = [
     (b"alice2", 1002),
     (b"alice3", 1002),
 ];
-
-// A host without a login.defs.
-fn host(alloc: Global, name: &[u8], passwd: &[u8], mtree: &[u8]) -> Result<HostText, AllocError> {
-    Ok(HostText {
-        name: ByteString::copy_of(alloc, name)?,
-        passwd: ByteString::copy_of(alloc, passwd)?,
-        group: ByteString::copy_of(alloc, b"users:x:100:\n")?,
-        logindefs: ByteString::new(alloc),
-        mtree: ByteString::copy_of(alloc, mtree)?,
-    })
-}
-
-// The hosts: only the files of the first get new owners.
-fn hosts(alloc: Global) -> Result<Vec<HostText>, AllocError> {
-    let mut hosts = Vec::new(alloc);
-    hosts.push(host(
-        alloc,
-        b"a",
-        b"alice:x:1001:100::/home/alice:/bin/sh\nbob:x:1002:100::/home/bob:/bin/sh\n",
-        b"/set gid=100\n./alice1 uid=1001\n./alice2 uid=1001\n./alice3 uid=1001\n./alice4 uid=1001\n./alice5 uid=1001\n./bob1 uid=1002\n",
-    )?)?;
-    hosts.push(host(
-        alloc,
-        b"b",
-        b"bob:x:1001:100::/home/bob:/bin/sh\nalice:x:1002:100::/home/alice:/bin/sh\n",
-        b"/set gid=100\n./bob1 uid=1001\n./bob2 uid=1001\n./bob3 uid=1001\n./bob4 uid=1001\n./alice1 uid=1002\n./alice2 uid=1002\n./alice3 uid=1002\n",
-    )?)?;
-    Ok(hosts)
-}
 
 fn index_of(event: Event) -> usize
     ensures { result ≡ host_of event }
@@ -95,13 +66,18 @@ fn rehearsed(
     }
 }
 
-// Both hosts are done, and each file is at its end.
+// Both hosts are done: each file is at its end, and each mark is set.
 fn check(rt: &impl Abort, run: SiteRun) {
     assert!(rt; run.done.as_slice() == [true, true].as_slice());
     let mut trees = run.trees;
     assert!(rt; trees.len() == 2);
-    check_tree(rt, &mut trees[0], FILES_OF_A.as_slice());
-    check_tree(rt, &mut trees[1], FILES_OF_B.as_slice());
+    check_done(rt, &mut trees[0], FILES_OF_A.as_slice());
+    check_done(rt, &mut trees[1], FILES_OF_B.as_slice());
+}
+
+fn check_done(rt: &impl Abort, tree: &mut MemTree, files: &[File]) {
+    check_tree(rt, tree, files);
+    assert!(rt; tree.mark() == Ok(true));
 }
 
 fn check_tree(rt: &impl Abort, tree: &mut MemTree, files: &[File]) {
@@ -125,7 +101,7 @@ fn push_advances(events: &mut Vec<Event>, host: u32, count: u32) -> Result<(), A
 #[test]
 fn site_rehearsed(rt: HostRuntime) -> Result<(), Fail> {
     let alloc = rt.alloc();
-    let hosts = hosts(alloc)?;
+    let hosts = swap_hosts(alloc)?;
     let mut events = Vec::new(alloc);
     push_advances(&mut events, 0, 10)?;
     push_advances(&mut events, 1, 4)?;
@@ -136,7 +112,7 @@ fn site_rehearsed(rt: HostRuntime) -> Result<(), Fail> {
 #[test]
 fn site_not_done(rt: HostRuntime) -> Result<(), Fail> {
     let alloc = rt.alloc();
-    let hosts = hosts(alloc)?;
+    let hosts = swap_hosts(alloc)?;
     let mut events = Vec::new(alloc);
     push_advances(&mut events, 0, 9)?;
     push_advances(&mut events, 1, 4)?;
@@ -157,7 +133,7 @@ fn check_first(rt: &impl Abort, run: SiteRun, uid: u32) {
 #[test]
 fn stop_keeps_the_choice(rt: HostRuntime) -> Result<(), Fail> {
     let alloc = rt.alloc();
-    let hosts = hosts(alloc)?;
+    let hosts = swap_hosts(alloc)?;
     let events = [Event::Advance(0), Event::Advance(0), Event::Stop(0)];
     for (keep, uid) in [(Keep::Lost, 1001), (Keep::All, 1002)] {
         check_first(&rt, rehearsed(alloc, &hosts, keep, events.as_slice())?, uid);
@@ -192,21 +168,37 @@ impl Draw {
     }
 }
 
+// So many drawn events, and then the advances that finish both plans.
+fn drawn_events(alloc: Global, draw: &mut Draw, count: u32) -> Result<Vec<Event>, AllocError> {
+    let mut events = Vec::new(alloc);
+    for _ in 0..count {
+        events.push(draw.event())?;
+    }
+    push_advances(&mut events, 1, 4)?;
+    push_advances(&mut events, 0, 10)?;
+    Ok(events)
+}
+
+fn check_stops(
+    rt: &impl Abort,
+    alloc: Global,
+    hosts: &[HostText],
+    keep: Keep,
+    draw: &mut Draw,
+) -> Result<(), Fail> {
+    for count in 0..40 {
+        let events = drawn_events(alloc, draw, count)?;
+        check(rt, rehearsed(alloc, hosts, keep, &events)?);
+    }
+    Ok(())
+}
+
 #[test]
 fn stops_do_no_harm(rt: HostRuntime) -> Result<(), Fail> {
-    let alloc = rt.alloc();
-    let hosts = hosts(alloc)?;
+    let hosts = swap_hosts(rt.alloc())?;
     let mut draw = Draw { state: 20261122 };
     for keep in [Keep::All, Keep::Lost, Keep::Alternate, Keep::MarkOnly] {
-        for count in 0..40 {
-            let mut events = Vec::new(alloc);
-            for _ in 0..count {
-                events.push(draw.event())?;
-            }
-            push_advances(&mut events, 1, 4)?;
-            push_advances(&mut events, 0, 10)?;
-            check(&rt, rehearsed(alloc, &hosts, keep, &events)?);
-        }
+        check_stops(&rt, rt.alloc(), &hosts, keep, &mut draw)?;
     }
     Ok(())
 }

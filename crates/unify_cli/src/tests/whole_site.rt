@@ -1,29 +1,13 @@
 //! A whole site, as it is read from its texts.
 
+use crate::tests::swap::host;
 use hosts_join::{Class, HostText, Names};
-use idtext::ByteString;
 use std::alloc::{AllocError, Global};
 use std::test::Fail;
 use unify::{LoadedSite, read_site};
 
 // How many hosts, inventories, files, users and groups a site has.
 type Sizes = (usize, usize, u64, u32, u32);
-
-// A host with one group, and no login.defs.
-fn host_text(
-    alloc: Global,
-    name: &[u8],
-    passwd: &[u8],
-    mtree: &[u8],
-) -> Result<HostText, AllocError> {
-    Ok(HostText {
-        name: ByteString::copy_of(alloc, name)?,
-        passwd: ByteString::copy_of(alloc, passwd)?,
-        group: ByteString::copy_of(alloc, b"users:x:100:\n")?,
-        logindefs: ByteString::new(alloc),
-        mtree: ByteString::copy_of(alloc, mtree)?,
-    })
-}
 
 // Alice with three files on the host a, and bob with two on the host b, both as 1001.
 fn two_hosts(alloc: Global) -> Result<Vec<HostText>, AllocError> {
@@ -33,8 +17,8 @@ fn two_hosts(alloc: Global) -> Result<Vec<HostText>, AllocError> {
     let bob = b"bob:x:1001:100::/home/bob:/bin/sh\n";
     let of_bob = b"./bob1 uid=1001 gid=100\n./bob2 uid=1001 gid=100\n";
     let mut hosts = Vec::new(alloc);
-    hosts.push(host_text(alloc, b"a", alice, of_alice)?)?;
-    hosts.push(host_text(alloc, b"b", bob, of_bob)?)?;
+    hosts.push(host(alloc, b"a", alice, of_alice)?)?;
+    hosts.push(host(alloc, b"b", bob, of_bob)?)?;
     Ok(hosts)
 }
 

@@ -1,4 +1,4 @@
-use Rattle.std.proofs.Common.{◌≡◌, ℕ, ◌<◌, ◌≤◌, ◌⊎◌, List, [], map, length, get_or, sym, ◌∙◌, ap, arith, refl, inl, inr, subst}
+use Rattle.std.proofs.Common.{◌≡◌, ℕ, ◌<◌, ◌≤◌, ◌⊎◌, List, [], length, get_or, sym, ◌∙◌, ap, arith, refl, inl, inr, subst}
 use Rattle.std.specs.Borrow.{Bor}
 use Rattle.std.proofs.lemmas.List.{length-map}
 use Rattle.hosts_join.specs.declared.Class.{Class}
@@ -6,13 +6,10 @@ use Rattle.hosts_join.specs.declared.Class.TheVariants.{Pinned, Regular, System}
 use Rattle.hosts_join.specs.Rules.{in_pool, same_class, class_at}
 use Rattle.candidates.specs.Fill.{gift}
 use Rattle.candidates.specs.Settled.{no_waiting, IsGiven}
-use Rattle.candidates.proofs.FillLemmas.{is-next, at-is, fill-step, fill-start, fill-end, cursor_of, some-none}
+use Rattle.candidates.proofs.FillLemmas.{entries, is-next, at-is, fill-step, fill-start, fill-end, cursor_of, some-none}
 use Rattle.candidates.proofs.Pigeons.{one-left}
 use Rattle.candidates.proofs.fill.fill.Goals as goal
 use Rattle.candidates.proofs.fill.fill.Goals.{in-System+in_ok-system-in-System, in-Regular+in_ok-regular-in-Regular}
-
-abbrev entries : List (Bor (List ℕ) × ℕ) → List (List ℕ × ℕ)
-entries ws = map (λ (w : Bor (List ℕ) × ℕ). (w.0.now, w.1)) ws
 
 abbrev d : Bor (List ℕ) × ℕ
 d = (record { ref_ptr = (0, 0); now = [] }, 0)

@@ -9,14 +9,14 @@ returns-in-Ok g c =
     let known = g.T.Tree.known in
     let a = c.in-Ok.ensures in
     subst (λ (e : Event). Goes known (hosted c.args.runner.now c.args.tree.now) (host_event e ∷ []) None (hosted c.advance.new.self c.advance.new.tree)) (sym c.in-Advance.is)
-    (goes_on_by known c.args.runner.now c.args.tree.now c.advance.new.self c.advance.new.tree (Ok c.in-Ok.field-0) a.records a.stands tt a.safe a.device a.faults a.asked)
+    (goes_on_by known c.args.runner.now c.args.tree.now c.advance.new.self c.advance.new.tree (Ok c.in-Ok.field-0) a.records a.stands a.safe a.device a.faults a.asked)
 
 pub returns-in-Err : goal.returns-in-Err
 returns-in-Err g c =
     let known = g.T.Tree.known in
     let a = c.in-Err.ensures in
     subst (λ (e : Event). Goes known (hosted c.args.runner.now c.args.tree.now) (host_event e ∷ []) (Some c.in-Err.fault) (hosted c.advance.new.self c.advance.new.tree)) (sym c.in-Advance.is)
-    (goes_on_by known c.args.runner.now c.args.tree.now c.advance.new.self c.advance.new.tree (Err c.in-Err.fault) a.records a.stands a.stays a.safe a.device a.faults a.asked)
+    (goes_on_by known c.args.runner.now c.args.tree.now c.advance.new.self c.advance.new.tree (Err c.in-Err.fault) a.records a.stands a.safe a.device a.faults a.asked)
 
 pub returns-in-Stop : goal.returns-in-Stop
 returns-in-Stop g c =

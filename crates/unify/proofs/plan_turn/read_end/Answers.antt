@@ -21,7 +21,7 @@ returns-in_err-begin_plan-clause-stands c = λ text planned turns.
     let p = err_from_is_err_and c.from_residual.result c.from_residual.ensures.1 in (
       [],
       c.in_err-begin_plan.ensures.plan ∙ sym (append-nil c.args.plan.now.items),
-      rw p.1 (unfinished_still c.args.host.now c.args.site.now c.args.merged.now c.args.index c.args.turn.now text planned turns),
+      rw p.1 (unfinished_still c.args.host.now c.args.site.now c.args.merged.now c.args.index c.args.turn.now text [] text planned (append-nil text) turns),
     )
 
 pub returns-in_err-finish-clause-told : goal.returns-in_err-finish-clause-told
@@ -40,7 +40,7 @@ returns-in_err-finish-clause-stands c = λ text planned turns.
     let begun = begun_turn host c.args.site.now c.args.merged.now c.args.index old c.begin_plan.new.turn text planned turns c.in_ok-begin_plan.ensures.turn in (
       head_left host old.is_begun,
       c.in_ok-begin_plan.ensures.plan ∙ head_more host old.is_begun c.args.plan.now.items,
-      rw p.1 (unfinished_turn host c.args.site.now c.args.merged.now c.args.index c.begin_plan.new.turn text (planned ++ head_left host old.is_begun) begun),
+      rw p.1 (unfinished_turn host c.args.site.now c.args.merged.now c.args.index c.begin_plan.new.turn text [] text (planned ++ head_left host old.is_begun) (append-nil text) begun),
     )
 
 pub plan_waiting-requires-clause-room : goal.plan_waiting-requires-clause-room
@@ -84,10 +84,11 @@ returns-in_err-plan_waiting-clause-stands c = λ text planned turns.
     let heading = head_left host old.is_begun in
     let more = more_after host site merged index old turn after text text planned turns c.in_ok-begin_plan.ensures.turn c.in_ok-finish.ensures.most c.in_ok-finish.ensures.grow (c.in_ok-finish.ensures.stands text) in
     let done = c.in_err-plan_waiting.ensures.planned in
+    let sound = at_none _ more.turns.sound c.in_ok-finish.ensures.fault in
     let added = lines (plan_of site merged.users merged.groups index done.0) in (
       heading ++ added,
       done.3 ∙ ap (λ t. t ++ added) (c.in_ok-begin_plan.ensures.plan ∙ head_more host old.is_begun start) ∙ append_assoc start heading added,
-      rw p.1 (subst (IsUnfinished host site merged index) (append_assoc planned heading added) (unfinished_more host site merged index turn after text text (planned ++ heading) more done.0 done.1 done.2)),
+      rw p.1 (subst (IsUnfinished host site merged index text) (append_assoc planned heading added) (unfinished_more host site merged index turn after text text (planned ++ heading) more done.0 done.1 done.2 sound.0)),
     )
 
 pub returns-in_err-rows-clause-told : goal.returns-in_err-rows-clause-told
@@ -109,10 +110,11 @@ returns-in_err-rows-clause-stands c = λ text planned turns.
     let heading = head_left host old.is_begun in
     let more = more_after host site merged index old turn after text text planned turns c.in_ok-begin_plan.ensures.turn c.in_ok-finish.ensures.most c.in_ok-finish.ensures.grow (c.in_ok-finish.ensures.stands text) in
     let done = c.in_ok-plan_waiting.ensures.planned in
+    let sound = at_none _ more.turns.sound c.in_ok-finish.ensures.fault in
     let added = lines (plan_of site merged.users merged.groups index done.0) in (
       heading ++ added,
       done.3 ∙ ap (λ t. t ++ added) (c.in_ok-begin_plan.ensures.plan ∙ head_more host old.is_begun start) ∙ append_assoc start heading added,
-      rw p.1 (subst (IsUnfinished host site merged index) (append_assoc planned heading added) (unfinished_more host site merged index turn after text text (planned ++ heading) more done.0 done.1 done.2)),
+      rw p.1 (subst (IsUnfinished host site merged index text) (append_assoc planned heading added) (unfinished_more host site merged index turn after text text (planned ++ heading) more done.0 done.1 done.2 sound.0)),
     )
 
 pub returns-then-are_same-clause-told : goal.returns-then-are_same-clause-told
@@ -149,6 +151,7 @@ returns-then-are_same-clause-stands c = λ text planned turns.
     let more = more_after host site merged index old turn after text text planned turns c.in_ok-begin_plan.ensures.turn c.in_ok-finish.ensures.most c.in_ok-finish.ensures.grow (c.in_ok-finish.ensures.stands text) in
     let told = at_none _ more.turns.sound (c.in_ok-finish.ensures.told text more.turns.reading) in
     let done = c.in_ok-plan_waiting.ensures.planned in
+    let sound = at_none _ more.turns.sound c.in_ok-finish.ensures.fault in
     let added = lines (plan_of site merged.users merged.groups index done.0) in (
       heading ++ added,
       done.3 ∙ ap (λ t. t ++ added) (c.in_ok-begin_plan.ensures.plan ∙ head_more host old.is_begun start) ∙ append_assoc start heading added,
@@ -190,10 +193,11 @@ returns-clause-stands c = λ text planned turns.
     let heading = head_left host old.is_begun in
     let more = more_after host site merged index old turn after text text planned turns c.in_ok-begin_plan.ensures.turn c.in_ok-finish.ensures.most c.in_ok-finish.ensures.grow (c.in_ok-finish.ensures.stands text) in
     let done = c.in_ok-plan_waiting.ensures.planned in
+    let sound = at_none _ more.turns.sound c.in_ok-finish.ensures.fault in
     let added = lines (plan_of site merged.users merged.groups index done.0) in (
       heading ++ added,
       done.3 ∙ ap (λ t. t ++ added) (c.in_ok-begin_plan.ensures.plan ∙ head_more host old.is_begun start) ∙ append_assoc start heading added,
-      subst (IsUnfinished host site merged index) (append_assoc planned heading added) (unfinished_more host site merged index turn after text text (planned ++ heading) more done.0 done.1 done.2),
+      subst (IsUnfinished host site merged index text) (append_assoc planned heading added) (unfinished_more host site merged index turn after text text (planned ++ heading) more done.0 done.1 done.2 sound.0),
     )
 
 pub returns-then-are_same-clause-counted : goal.returns-then-are_same-clause-counted

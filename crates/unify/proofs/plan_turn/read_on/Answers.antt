@@ -1,4 +1,4 @@
-use Rattle.std.proofs.Common.{[], ◌++◌, sym, ap, subst, ◌∙◌, append-nil, append_assoc}
+use Rattle.std.proofs.Common.{[], ◌++◌, refl, sym, ap, subst, ◌∙◌, append-nil, append_assoc}
 use Rattle.std.proofs.lemmas.Result.{err_from_is_err_and, on_ok_weaker}
 use Rattle.mtree_inv.proofs.StandLemmas.{at_none}
 use Rattle.reown_plan.specs.Spelling.{lines}
@@ -16,7 +16,7 @@ returns-in_err-begin_plan-clause-stands c = λ text planned turns.
     let p = err_from_is_err_and c.from_residual.result c.from_residual.ensures.1 in (
       [],
       c.in_err-begin_plan.ensures.plan ∙ sym (append-nil c.args.plan.now.items),
-      rw p.1 (unfinished_still c.args.host.now c.args.site.now c.args.merged.now c.args.index c.args.turn.now text planned turns),
+      rw p.1 (unfinished_still c.args.host.now c.args.site.now c.args.merged.now c.args.index c.args.turn.now text c.args.bytes.now (text ++ c.args.bytes.now) planned refl turns),
     )
 
 pub returns-in_err-feed-clause-told : goal.returns-in_err-feed-clause-told
@@ -33,7 +33,7 @@ returns-in_err-feed-clause-stands c = λ text planned turns.
     let begun = begun_turn host c.args.site.now c.args.merged.now c.args.index old c.begin_plan.new.turn text planned turns c.in_ok-begin_plan.ensures.turn in (
       head_left host old.is_begun,
       c.in_ok-begin_plan.ensures.plan ∙ head_more host old.is_begun c.args.plan.now.items,
-      rw p.1 (unfinished_turn host c.args.site.now c.args.merged.now c.args.index c.begin_plan.new.turn text (planned ++ head_left host old.is_begun) begun),
+      rw p.1 (unfinished_turn host c.args.site.now c.args.merged.now c.args.index c.begin_plan.new.turn text c.args.bytes.now (text ++ c.args.bytes.now) (planned ++ head_left host old.is_begun) refl begun),
     )
 
 pub plan_waiting-requires-clause-room : goal.plan_waiting-requires-clause-room

@@ -1,13 +1,20 @@
-use Rattle.std.proofs.Common.{◌≡◌, List, sym, ap, subst, ◌∙◌}
+use Rattle.std.proofs.Common.{◌≡◌, List, refl, sym, ap, subst, ◌∙◌, inl}
+use Rattle.mtree_inv.specs.Standing.{ReaderValue}
 use Rattle.mtree_inv.proofs.StandLemmas.{at_none}
 use Rattle.mtree_inv.specs.declared.entry.Entry.{Entry}
-use Rattle.unify.specs.Passes.{AreCounted, is_read}
-use Rattle.unify.proofs.Turns.{accepted_at_end, files_fail, grown_files, inventory_is, met_none, refused_at_end, room_after, sound_before}
+use Rattle.unify.specs.Passes.{AreCounted, is_read, owner_told}
+use Rattle.unify.proofs.Turns.{accepted_at_end, files_fail, grown_files, inventory_is, met_by_owner, met_by_reader, met_none, refused_at_end, room_after, sound_before}
 use Rattle.unify.proofs.turn.end_turn.Goals as goal
 
 pub returns-in-Err-clause-told : goal.returns-in-Err-clause-told
 returns-in-Err-clause-told c = λ earlier text turns.
     rw c.read_fault.ensures (files_fail c.args.host.now c.args.turn.now.reader.most text c.in-Err.fault turns.most (at_none _ turns.sound (c.in-Err.ensures.told text turns.reading)))
+
+pub returns-in-Err-clause-met : goal.returns-in-Err-clause-met
+returns-in-Err-clause-met c = λ earlier text turns.
+    let told = files_fail c.args.host.now c.args.turn.now.reader.most text c.in-Err.fault turns.most (at_none _ turns.sound (c.in-Err.ensures.told text turns.reading)) in
+    let kept = at_none _ turns.sound c.in-Err.ensures.fault in
+    met_by_reader c.args.host.now text c.finish.new.self c.args.turn.now.unowned c.in-Err.fault kept.1 kept.0 told
 
 pub count_new-requires-clause-room : goal.count_new-requires-clause-room
 count_new-requires-clause-room c =
@@ -24,6 +31,19 @@ returns-in-Some-clause-told c = λ earlier text turns.
     let files = grown_files turn.reader.files after.files turn.reader.waiting after.waiting c.in_default.ensures.grow turns.waiting in
     let counted = subst (λ (fs : List Entry). AreCounted c.args.site.now c.args.index earlier c.count_new.new.turn.counts c.count_new.new.turn.unowned fs) (sym files) (c.count_new.ensures.counted earlier turn.reader.files turns.counted) in
     refused_at_end c.args.site.now c.args.index c.args.host.now earlier c.count_new.new.turn.counts c.count_new.new.turn.unowned c.in-Some.field-0 text after.files c.tell_owner-in-Some.result c.requires.known c.in-Some.is counted read c.tell_owner-in-Some.ensures
+
+pub returns-in-Some-clause-met : goal.returns-in-Some-clause-met
+returns-in-Some-clause-met c = λ earlier text turns.
+    let turn = c.args.turn.now in
+    let after = c.finish.new.self in
+    let new = c.count_new.new.turn in
+    let found = at_none _ turns.sound c.in_default.ensures.fault in
+    let finished = ap (λ (r : ReaderValue). r.is_finished) c.count_new.ensures.stays ∙ found.1 in
+    let read = inventory_is text turn.reader.most after.files turns.most (at_none _ turns.sound (c.in_default.ensures.told text turns.reading)) in
+    let files = grown_files turn.reader.files after.files turn.reader.waiting after.waiting c.in_default.ensures.grow turns.waiting in
+    let counted = subst (λ (fs : List Entry). AreCounted c.args.site.now c.args.index earlier new.counts new.unowned fs) (sym files) (c.count_new.ensures.counted earlier turn.reader.files turns.counted) in
+    let told = refused_at_end c.args.site.now c.args.index c.args.host.now earlier new.counts new.unowned c.in-Some.field-0 text after.files (owner_told c.args.host.now new.unowned) c.requires.known c.in-Some.is counted read (inl refl) in
+    met_by_owner c.args.host.now text new.reader.is_finished new.reader.fault new.unowned finished told
 
 pub returns-clause-accepted : goal.returns-clause-accepted
 returns-clause-accepted c = λ earlier text turns.

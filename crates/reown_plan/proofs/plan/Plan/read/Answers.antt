@@ -1,5 +1,4 @@
-use Rattle.std.proofs.Common.{◌≡◌, ◌++◌, ◌∷◌, [], ℕ, List, Bor, map, All, refl, sym, ap, subst, arith, length, ◌-◌, ◌+◌, ◌∙◌, true, false}
-use Rattle.reown_plan.specs.declared.plan.Record.{Record}
+use Rattle.std.proofs.Common.{◌≡◌, ◌++◌, ◌∷◌, [], ℕ, List, Bor, map, All, sym, ap, subst, arith, length, ◌-◌, ◌+◌, ◌∙◌, true, false}
 use Rattle.reown_plan.specs.PlanData.{HaveDistinctPaths}
 use Rattle.reown_plan.specs.Records.{record_of}
 use Rattle.reown_plan.specs.Spelling.{head, lines, end, IsLawfulRecord}
@@ -7,9 +6,9 @@ use Rattle.reown_plan.proofs.Wholes.{Left, left_more, left_all, no_twice, at_end
 use Rattle.std.proofs.lemmas.List.{map-append, append-nil}
 use Rattle.std.specs.Str.{bytes_eq}
 use Rattle.std.specs.Cmp.Lexicographic.{bytes_decides}
-use Rattle.reown_plan.proofs.Lines.{records_more, lawful_more, distinct_more, paths_more, is_new}
+use Rattle.reown_plan.proofs.Lines.{records_more, lawful_more, distinct_more, paths_more, is_new, has, paths_of}
 use Rattle.reown_plan.specs.Spelling.{no_head, IsFaultAt}
-use Rattle.std.specs.List.{starts_with}
+use Rattle.std.specs.List.{list_any, starts_with}
 use Rattle.std.proofs.Math.Dec.{eqb}
 use Rattle.std.proofs.Common.{take}
 use Rattle.reown_plan.proofs.plan.Plan.read.Goals.{then-starts_with, else-starts_with}
@@ -22,14 +21,15 @@ records-preserved c =
     let old = c.records.records.items in
     let pushed = c.in_ok-push.ensures.items in
     let new = is_new _ _ c.in_ok-insert.ensures.added c.if-not-branch.false in
-    let f : Bor (List ℕ) → List ℕ = λ k. k.now in
     record {
       read =
           subst (λ rs. c.args.text.now ≡ head c.in-Some.host.now ++ lines (map record_of rs) ++ c.in-Some-read_record.after.now) (sym pushed)
           (records_more old planned c.args.text.now c.in-Some.host.now c.records.rest.now c.in-Some-read_record.after.now c.records.invariant.read c.in-Some-read_record.ensures.spelled);
       lawful = subst (λ rs. All IsLawfulRecord (map record_of rs)) (sym pushed) (lawful_more old planned c.records.invariant.lawful c.in-Some-read_record.ensures.lawful);
-      distinct = subst (λ rs. HaveDistinctPaths (map record_of rs)) (sym pushed) (distinct_more f c.records.paths.keys c.insert.new.self.keys old planned planned.path c.records.invariant.keys refl new c.records.invariant.distinct);
-      keys = subst (λ rs. map f c.insert.new.self.keys ≡ map (λ (r : Record). r.path.now) rs) (sym pushed) (paths_more f c.records.paths.keys c.insert.new.self.keys old planned planned.path c.records.invariant.keys refl new c.in_ok-insert.ensures.keys);
+      distinct = subst (λ rs. HaveDistinctPaths (map record_of rs)) (sym pushed) (distinct_more old planned (sym (c.records.invariant.keys planned.path) ∙ new) c.records.invariant.distinct);
+      keys = λ k.
+          subst (λ rs. has c.insert.new.self k ≡ list_any (bytes_eq k.now) (paths_of rs)) (sym pushed)
+          (paths_more old planned k.now (has c.records.paths k) (has c.insert.new.self k) (c.records.invariant.keys k) (c.in_ok-insert.ensures.updates.0 k));
       whole = λ plan lawful e.
           subst (λ cs. Left plan c.in-Some.host.now cs c.in-Some-read_record.after.now) (sym (map-append record_of old (planned ∷ [])) ∙ ap (map record_of) (sym pushed))
           (left_more plan lawful c.in-Some.host.now (map record_of old) c.records.rest.now (record_of planned) c.in-Some-read_record.after.now (c.records.invariant.whole plan lawful e) c.in-Some-read_record.ensures.lawful c.in-Some-read_record.ensures.spelled c.in-Some-read_record.ensures.complete);
@@ -45,7 +45,7 @@ records-init c =
       read = subst (λ rs. c.args.text.now ≡ head c.in-Some.host.now ++ lines (map record_of rs) ++ c.in-Some.rest.now) (sym none) (c.in-Some.ensures.spelled ∙ ap (λ l. l ++ c.in-Some.rest.now) (sym (append-nil (head c.in-Some.host.now))));
       lawful = subst (λ rs. All IsLawfulRecord (map record_of rs)) (sym none) (λ k d h. absurd (omega arith));
       distinct = subst (λ rs. HaveDistinctPaths (map record_of rs)) (sym none) (λ i j d h below. absurd (omega arith));
-      keys = ap (map (λ (k : Bor (List ℕ)). k.now)) c.new-paths.ensures.empty ∙ ap (map (λ (r : Record). r.path.now)) (sym none);
+      keys = λ k. ap (list_any (λ (y : Bor (List ℕ)). bytes_eq k.now y.now)) c.new-paths.ensures.empty ∙ ap (λ rs. list_any (bytes_eq k.now) (paths_of rs)) (sym none);
       whole = λ plan lawful e.
           (let u = c.in-Some.ensures.complete plan.host (lines plan.records ++ end) lawful.host (e ∙ spelling_parts plan) in
           subst (λ rs. Left plan c.in-Some.host.now (map record_of rs) c.in-Some.rest.now) (sym none) (left_all plan c.in-Some.host.now c.in-Some.rest.now u.0 u.1));
@@ -55,9 +55,8 @@ pub returns-then-not-branch-clause-complete : goal.returns-then-not-branch-claus
 returns-then-not-branch-clause-complete c = λ plan lawful e.
     let planned = c.in-Some-read_record.planned in
     let old = c.records.records.items in
-    let f : Bor (List ℕ) → List ℕ = λ k. k.now in
     absurd (no_twice plan lawful c.in-Some.host.now (map record_of old) c.records.rest.now (record_of planned) c.in-Some-read_record.after.now (c.records.invariant.whole plan lawful e) c.in-Some-read_record.ensures.lawful c.in-Some-read_record.ensures.spelled c.in-Some-read_record.ensures.complete
-    (twice f c.records.paths.keys old planned.path.now c.records.invariant.keys (was_there _ _ c.in_ok-insert.ensures.added c.if-not-branch.true)))
+    (twice old planned.path.now (has c.records.paths planned.path) (c.records.invariant.keys planned.path) (was_there _ _ c.in_ok-insert.ensures.added c.if-not-branch.true)))
 
 pub returns-then-eq-clause-complete : goal.returns-then-eq-clause-complete
 returns-then-eq-clause-complete c = λ plan lawful e.
@@ -81,10 +80,9 @@ pub returns-then-not-branch-clause-fault : goal.returns-then-not-branch-clause-f
 returns-then-not-branch-clause-fault c = λ offset e.
     let planned = c.in-Some-read_record.planned in
     let old = c.records.records.items in
-    let f : Bor (List ℕ) → List ℕ = λ k. k.now in
     told c.args.text.now (length c.args.text.now - length c.records.rest.now) offset e
     (dup_fault c.args.text.now c.in-Some.host.now (map record_of old) c.records.rest.now c.in-Some.ensures.lawful c.records.invariant.lawful c.records.invariant.distinct c.records.invariant.read (record_of planned) c.in-Some-read_record.after.now c.in-Some-read_record.ensures.lawful c.in-Some-read_record.ensures.spelled c.in-Some-read_record.ensures.complete
-    (twice f c.records.paths.keys old planned.path.now c.records.invariant.keys (was_there _ _ c.in_ok-insert.ensures.added c.if-not-branch.true)))
+    (twice old planned.path.now (has c.records.paths planned.path) (c.records.invariant.keys planned.path) (was_there _ _ c.in_ok-insert.ensures.added c.if-not-branch.true)))
 
 pub returns-clause-fault : goal.returns-clause-fault
 returns-clause-fault c = λ offset e.

@@ -1,10 +1,13 @@
-use Rattle.std.proofs.Common.{sym, ◌∙◌, ap, subst, Ok, Err, ◌≤◌, ◌-◌}
+use Rattle.std.proofs.Common.{◌≡◌, refl, sym, ◌∙◌, ap, subst, Result, Ok, Err, IsOk, ◌≤◌, ◌-◌}
 use Rattle.reown_plan.specs.PlanData.{HaveDistinctPaths}
+use Rattle.reown_runner.specs.declared.runner.Place.{Place}
+use Rattle.reown_runner.specs.declared.runner.Place.TheVariants.{Done}
+use Rattle.reown_runner.specs.declared.runner.RunFault.{RunFault}
 use Rattle.reown_runner.specs.Tree.{cells_of, Does}
 use Rattle.reown_runner.specs.RunnerData.{RunnerData}
 use Rattle.reown_runner.specs.Step.{turn, IsAdvance, IsPlaceOf, IsAsked, advances_left}
 use Rattle.reown_runner.proofs.Sound.{sound_after, only_device}
-use Rattle.reown_runner.proofs.Histories.{advance_stands}
+use Rattle.reown_runner.proofs.Histories.{host_advances}
 use Rattle.reown_runner.proofs.Count.{nearer, one_nearer, spends, spends_err}
 use Rattle.reown_runner.proofs.runner.Runner.advance.Goals as goal
 
@@ -51,14 +54,22 @@ returns-in-Ok-clause-stands g c = λ s stands.
     let old = g.T.Tree.known c.args.tree.now in
     let new = g.T.Tree.known c.next_place.new.tree in
     let step = subst (λ (w : RunnerData). IsAdvance (turn w.records w.place old.owner old.mark) (λ operation. Does operation (cells_of old) (cells_of new)) (Ok c.in-Ok.place)) c.self.view_is c.in-Ok.ensures.step in
-    advance_stands c.args.self.now.records c.args.self.now.place s (cells_of old) (cells_of new) (Ok c.in-Ok.place) stands step
+    let asked = subst (λ (w : RunnerData). IsAsked (turn w.records w.place old.owner old.mark) old.asked new.asked) c.self.view_is c.next_place.ensures.asked in
+    let answer : Result Place RunFault = Ok c.in-Ok.place in
+    let rests : c.args.self.now.place ≡ Done → IsOk answer × (new.asked ≡ old.asked) = λ done.
+    (let h = c.in-Ok.ensures.rests (ap (λ (w : RunnerData). w.place) c.self.view_is ∙ done) in (h.0, ap (λ t. (g.T.Tree.known t).asked) h.1)) in
+    host_advances c.args.self.now.records c.args.self.now.place c.in-Ok.place old new answer refl asked rests step s stands
 
 pub returns-in-Err-clause-stands : goal.returns-in-Err-clause-stands
 returns-in-Err-clause-stands g c = λ s stands.
     let old = g.T.Tree.known c.args.tree.now in
     let new = g.T.Tree.known c.next_place.new.tree in
     let step = subst (λ (w : RunnerData). IsAdvance (turn w.records w.place old.owner old.mark) (λ operation. Does operation (cells_of old) (cells_of new)) (Err c.in-Err.fault)) c.self.view_is c.in-Err.ensures.step in
-    advance_stands c.args.self.now.records c.args.self.now.place s (cells_of old) (cells_of new) (Err c.in-Err.fault) stands step
+    let asked = subst (λ (w : RunnerData). IsAsked (turn w.records w.place old.owner old.mark) old.asked new.asked) c.self.view_is c.next_place.ensures.asked in
+    let answer : Result Place RunFault = Err c.in-Err.fault in
+    let rests : c.args.self.now.place ≡ Done → IsOk answer × (new.asked ≡ old.asked) = λ done.
+    (let h = c.in-Err.ensures.rests (ap (λ (w : RunnerData). w.place) c.self.view_is ∙ done) in (h.0, ap (λ t. (g.T.Tree.known t).asked) h.1)) in
+    host_advances c.args.self.now.records c.args.self.now.place c.args.self.now.place old new answer refl asked rests step s stands
 
 pub returns-in-Ok-clause-spends : goal.returns-in-Ok-clause-spends
 returns-in-Ok-clause-spends g c =

@@ -2,6 +2,7 @@ use Rattle.std.proofs.Common.{◌+◌, ◌-◌, ◌≤◌, length, refl, sym, �
 use Rattle.reown_runner.specs.Tree.{cells_of}
 use Rattle.reown_runner.specs.Step.{advances_left, operations_left}
 use Rattle.reown_runner.specs.Safe.{IsSafeInStep}
+use Rattle.reown_runner.specs.Run.{host_at}
 use Rattle.reown_runner.proofs.Runs.{goes_on}
 use Rattle.reown_runner.proofs.Count.{one_end, one_more_is_left, works_on, done_at, most_left, not_counted}
 use Rattle.reown_runner.proofs.Finishing.{fresh_safe, done_reads}
@@ -28,13 +29,13 @@ pub returns-in-Ok-Done-clause-stands : goal.returns-in-Ok-Done-clause-stands
 returns-in-Ok-Done-clause-stands g c = λ s stands.
     let was = c.steps.invariant.run s stands in
     let more = c.in-Ok-Done.ensures.stands was.1 was.2 in
-    (was.0 + 1, more.0, more.1, goes_on c.args.self.now.records c.steps.self.records c.steps.invariant.same (record { place = c.args.self.now.place; state = s }) was.0 c.steps.self.place c.advance.new.self.place was.1 more.0 (Ok c.in-Ok-Done.field-0) was.3 more.2 tt, one_end was.0 (length c.args.self.now.records + 4) (advances_left c.args.self.now.records c.steps.self.place) was.4)
+    (was.0 + 1, more.0, more.1, goes_on c.args.self.now.records c.steps.self.records c.steps.invariant.same (host_at c.args.self.now.place (g.T.Tree.known c.args.tree.now) s) was.0 (host_at c.steps.self.place (g.T.Tree.known c.steps.tree) was.1) (host_at c.advance.new.self.place (g.T.Tree.known c.advance.new.tree) more.0) (Ok c.in-Ok-Done.field-0) was.3 more.2, one_end was.0 (length c.args.self.now.records + 4) (advances_left c.args.self.now.records c.steps.self.place) was.4)
 
 pub returns-in-Err-clause-stands : goal.returns-in-Err-clause-stands
 returns-in-Err-clause-stands g c = λ s stands.
     let was = c.steps.invariant.run s stands in
     let more = c.in-Err.ensures.stands was.1 was.2 in
-    (was.0 + 1, more.0, more.1, goes_on c.args.self.now.records c.steps.self.records c.steps.invariant.same (record { place = c.args.self.now.place; state = s }) was.0 c.steps.self.place c.advance.new.self.place was.1 more.0 (Err c.in-Err.fault) was.3 more.2 c.in-Err.ensures.stays, one_end was.0 (length c.args.self.now.records + 4) (advances_left c.args.self.now.records c.steps.self.place) was.4)
+    (was.0 + 1, more.0, more.1, goes_on c.args.self.now.records c.steps.self.records c.steps.invariant.same (host_at c.args.self.now.place (g.T.Tree.known c.args.tree.now) s) was.0 (host_at c.steps.self.place (g.T.Tree.known c.steps.tree) was.1) (host_at c.advance.new.self.place (g.T.Tree.known c.advance.new.tree) more.0) (Err c.in-Err.fault) was.3 more.2, one_end was.0 (length c.args.self.now.records + 4) (advances_left c.args.self.now.records c.steps.self.place) was.4)
 
 pub steps-preserved : goal.steps-preserved
 steps-preserved g c =
@@ -55,7 +56,7 @@ steps-preserved g c =
             was.0 + 1,
             more.0,
             more.1,
-            goes_on c.args.self.now.records c.steps.self.records same (record { place = c.args.self.now.place; state = s }) was.0 c.steps.self.place c.advance.new.self.place was.1 more.0 (Ok c.in-Ok-Working.field-0) was.3 more.2 tt,
+            goes_on c.args.self.now.records c.steps.self.records same (host_at c.args.self.now.place (g.T.Tree.known c.args.tree.now) s) was.0 (host_at c.steps.self.place (g.T.Tree.known old) was.1) (host_at c.advance.new.self.place (g.T.Tree.known c.advance.new.tree) more.0) (Ok c.in-Ok-Working.field-0) was.3 more.2,
             one_more_is_left was.0 (length c.args.self.now.records + 4) (advances_left c.args.self.now.records c.steps.self.place) (advances_left c.args.self.now.records c.advance.new.self.place) was.4
                 (works_on c.args.self.now.records c.advance.new.self.place (sym c.in-Ok-Working.field-0-is ∙ c.in-Ok-Working.ensures.progress))
                 (subst (λ rs. advances_left rs c.advance.new.self.place ≤ advances_left rs c.steps.self.place - 1) same c.in-Ok-Working.ensures.nearer),

@@ -2,7 +2,7 @@ use Rattle.std.proofs.Common.{◌≡◌, ◌+◌, ◌≤◌, max, length, replic
 use Rattle.reown_plan.specs.declared.plan.Owner.{Owner}
 use Rattle.reown_runner.specs.Tree.{cells_of}
 use Rattle.reown_runner.specs.Step.{advances_left, operations_left}
-use Rattle.reown_runner.specs.Run.{IsRun, Advances}
+use Rattle.reown_runner.specs.Run.{IsRun, Advances, host_at}
 use Rattle.reown_runner.specs.State.{State, StandsFor}
 use Rattle.reown_runner.specs.Safe.{IsSafeInStep}
 use Rattle.reown_runner.proofs.runner.Runner.run.Given as goal
@@ -18,7 +18,7 @@ invariant-steps g l =
       counted : now.faults ≡ old.faults;
       spent : now.asked + operations_left records l.self.place ≤ old.asked + operations_left records place;
       kept : (inventory : List ℕ → Option Owner) → IsSafeInStep inventory records place (cells_of old) → IsSafeInStep inventory records l.self.place (cells_of now);
-      run : (s : State) → StandsFor old s → (n : ℕ) × (t : State) × StandsFor now t × IsRun records (record { place = place; state = s }) (replicate n Advances) None (record { place = l.self.place; state = t }) × (n + max 1 (advances_left records l.self.place) ≤ length records + 4);
+      run : (s : State) → StandsFor old s → (n : ℕ) × (t : State) × StandsFor now t × IsRun records (host_at place old s) (replicate n Advances) None (host_at l.self.place now t) × (n + max 1 (advances_left records l.self.place) ≤ length records + 4);
     }
 
 abbrev pub decreases-steps : goal.decreases-steps

@@ -1,13 +1,14 @@
-use Rattle.std.proofs.Common.{rules, ◌≡◌, ◌<◌, List, [], ◌∷◌, ◌++◌, Some, Ok, Err, length, sym, ap, subst, ◌∙◌, arith}
+use Rattle.std.proofs.Common.{rules, ◌≡◌, ◌<◌, List, [], ◌∷◌, ◌++◌, Some, Ok, Err, refl, length, sym, ap, subst, ◌∙◌, inl, arith}
+use Rattle.std.specs.Prelude.{IfErr, IfSome}
 use Rattle.std.specs.List.{slice_get}
 use Rattle.std.proofs.lemmas.Option.{slice_get-get_or}
 use Rattle.hosts_join.specs.declared.host.Host.{Host}
 use Rattle.unify_texts.specs.declared.fault.Fault.TheVariants.{Memory}
 use Rattle.unify.specs.Hosts.{files_of}
-use Rattle.unify.specs.Passes.{CountingValue, IsCounting, StandsFor, is_read}
+use Rattle.unify.specs.Passes.{CountingValue, IsCounting, IsFaultOf, StandsFor, is_read, met_on}
 use Rattle.unify.specs.Reading.{added_from}
 use Rattle.unify.specs.RowFiles.{RowFiles}
-use Rattle.unify.proofs.Passing.{IsFreshReader, ended_counting, failed_for_memory, made_ended, refused_counting, same_host, stands_ended, turn_next}
+use Rattle.unify.proofs.Passing.{IsFreshReader, ended_counting, failed_for_memory, made_ended, met_as, met_memory, on_err, refused_counting, same_host, stands_ended, turn_next}
 use Rattle.unify.proofs.counting_pass.Counting.end_host.Goals as goal
 
 pub files_since-requires-clause-made : goal.files_since-requires-clause-made
@@ -80,6 +81,48 @@ returns-in_err-push-clause-failed c =
     let there : slice_get v.hosts (length c.push.new.self.items) ≡ Some host = subst (λ (ps : List RowFiles). slice_get v.hosts (length ps) ≡ Some host) (sym items) here in
     let memory : c.from_residual-in_err-push.result ≡ Err Memory = search rules in
     failed_for_memory (record { hosts = v.hosts; joined = v.joined; passed = c.push.new.self.items; before = v.before; turn = turn }) host c.from_residual-in_err-push.result there c.in_ok-end_turn.ensures.ended memory
+
+pub returns-in_err-end_turn-clause-met : goal.returns-in_err-end_turn-clause-met
+returns-in_err-end_turn-clause-met c =
+    let v : CountingValue = record { hosts = c.self.inside.hosts.items; joined = c.self.inside.site; passed = c.self.inside.passed.items; before = c.self.inside.before; turn = c.self.inside.turn } in
+    let index : c.len-index.result ≡ length v.passed = omega (arith, c.len-index.ensures, c.self.inside.passed.ok.0) in
+    let host = c.index-host.result.now in
+    let left : length v.passed < length v.hosts = rw (← c.self.view_is) at c.requires.left in
+    let here : slice_get v.hosts (length v.passed) ≡ Some host = slice_get-get_or v.hosts (length v.passed) host left ∙ ap (λ (h : Host). Some h) (sym (rw index at c.index-host.ensures)) in
+    let r = c.from_residual.result in
+    let turn = c.end_turn.new.turn in
+    rw (← c.self.view_is)
+    (λ ended text other s there. subst (λ (h : Host). IfErr r (λ e. IfSome (met_on (slice_get v.hosts (length v.passed)) turn) (IsFaultOf h text))) (same_host v.hosts (length v.passed) host other here there)
+    (on_err _ r (met_as (IsFaultOf host text) v turn host here ((rw index at c.in_err-end_turn.ensures.met) (added_from 0 s.read) text s.turns))))
+
+pub returns-in_err-rows-clause-met : goal.returns-in_err-rows-clause-met
+returns-in_err-rows-clause-met c =
+    let v : CountingValue = record { hosts = c.self.inside.hosts.items; joined = c.self.inside.site; passed = c.self.inside.passed.items; before = c.self.inside.before; turn = c.self.inside.turn } in
+    let index : c.len-index.result ≡ length v.passed = omega (arith, c.len-index.ensures, c.self.inside.passed.ok.0) in
+    let host = c.index-host.result.now in
+    let left : length v.passed < length v.hosts = rw (← c.self.view_is) at c.requires.left in
+    let here : slice_get v.hosts (length v.passed) ≡ Some host = slice_get-get_or v.hosts (length v.passed) host left ∙ ap (λ (h : Host). Some h) (sym (rw index at c.index-host.ensures)) in
+    λ ended text other s there. on_err _ c.from_residual-in_err-rows.result (met_memory (IsFaultOf other text) (record v { turn = c.end_turn.new.turn }) host here c.in_ok-end_turn.ensures.ended (inl refl))
+
+pub returns-in_err-before-clause-met : goal.returns-in_err-before-clause-met
+returns-in_err-before-clause-met c =
+    let v : CountingValue = record { hosts = c.self.inside.hosts.items; joined = c.self.inside.site; passed = c.self.inside.passed.items; before = c.self.inside.before; turn = c.self.inside.turn } in
+    let index : c.len-index.result ≡ length v.passed = omega (arith, c.len-index.ensures, c.self.inside.passed.ok.0) in
+    let host = c.index-host.result.now in
+    let left : length v.passed < length v.hosts = rw (← c.self.view_is) at c.requires.left in
+    let here : slice_get v.hosts (length v.passed) ≡ Some host = slice_get-get_or v.hosts (length v.passed) host left ∙ ap (λ (h : Host). Some h) (sym (rw index at c.index-host.ensures)) in
+    λ ended text other s there. on_err _ c.from_residual-in_err-before.result (met_memory (IsFaultOf other text) (record v { turn = c.end_turn.new.turn }) host here c.in_ok-end_turn.ensures.ended (inl refl))
+
+pub returns-in_err-push-clause-met : goal.returns-in_err-push-clause-met
+returns-in_err-push-clause-met c =
+    let v : CountingValue = record { hosts = c.self.inside.hosts.items; joined = c.self.inside.site; passed = c.self.inside.passed.items; before = c.self.inside.before; turn = c.self.inside.turn } in
+    let index : c.len-index.result ≡ length v.passed = omega (arith, c.len-index.ensures, c.self.inside.passed.ok.0) in
+    let host = c.index-host.result.now in
+    let left : length v.passed < length v.hosts = rw (← c.self.view_is) at c.requires.left in
+    let here : slice_get v.hosts (length v.passed) ≡ Some host = slice_get-get_or v.hosts (length v.passed) host left ∙ ap (λ (h : Host). Some h) (sym (rw index at c.index-host.ensures)) in
+    let items : c.push.new.self.items ≡ v.passed = c.in_err-push.ensures.items in
+    let there_too : slice_get v.hosts (length c.push.new.self.items) ≡ Some host = subst (λ (ps : List RowFiles). slice_get v.hosts (length ps) ≡ Some host) (sym items) here in
+    λ ended text other s there. on_err _ c.from_residual-in_err-push.result (met_memory (IsFaultOf other text) (record { hosts = v.hosts; joined = v.joined; passed = c.push.new.self.items; before = v.before; turn = c.end_turn.new.turn }) host there_too c.in_ok-end_turn.ensures.ended (inl refl))
 
 pub invariant_of-self-2 : goal.invariant_of-self-2
 invariant_of-self-2 c =

@@ -35,7 +35,7 @@ returns-in-Err-clause-planned c =
     let here : slice_get v.hosts v.ended ≡ Some host = slice_get-get_or v.hosts v.ended host left ∙ ap (λ (h : Host). Some h) (sym c.index-host.ensures) in
     rw (← c.self.view_is)
     (λ other text planned at turns.
-    subst (λ (h : Host). StandsFor v h text planned → (more : List ℕ) × (c.finish_plan.new.plan.items ≡ c.args.plan.now.items ++ more) × IsUnfinished h v.joined v.merged v.ended (planned ++ more)) (same_at v.hosts v.ended host other here at)
+    subst (λ (h : Host). StandsFor v h text planned → (more : List ℕ) × (c.finish_plan.new.plan.items ≡ c.args.plan.now.items ++ more) × IsUnfinished h v.joined v.merged v.ended text (planned ++ more)) (same_at v.hosts v.ended host other here at)
     (λ t. c.in-Err.ensures.stands text planned t) turns)
 
 pub returns-in-Err-clause-stopped : goal.returns-in-Err-clause-stopped
@@ -63,7 +63,7 @@ returns-in-Err-next_turn-clause-planned c =
     let here : slice_get v.hosts v.ended ≡ Some host = slice_get-get_or v.hosts v.ended host left ∙ ap (λ (h : Host). Some h) (sym c.index-host.ensures) in
     rw (← c.self.view_is)
     (λ other text planned at turns.
-    subst (λ (h : Host). StandsFor v h text planned → (more : List ℕ) × (c.next_turn.new.plan.items ≡ c.args.plan.now.items ++ more) × IsUnfinished h v.joined v.merged v.ended (planned ++ more)) (same_at v.hosts v.ended host other here at)
+    subst (λ (h : Host). StandsFor v h text planned → (more : List ℕ) × (c.next_turn.new.plan.items ≡ c.args.plan.now.items ++ more) × IsUnfinished h v.joined v.merged v.ended text (planned ++ more)) (same_at v.hosts v.ended host other here at)
     (λ t.
     let so_far = c.in_default.ensures.stands text planned t in
     (so_far.0, c.in-Err-next_turn.ensures.plan ∙ so_far.1, accepted_unfinished host v.joined v.merged v.ended text (planned ++ so_far.0) so_far.2)) turns)

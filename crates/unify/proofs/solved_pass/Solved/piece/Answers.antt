@@ -37,7 +37,7 @@ returns-in-Err-clause-planned c =
     let here : slice_get v.hosts v.ended ≡ Some host = slice_get-get_or v.hosts v.ended host left ∙ ap (λ (h : Host). Some h) (sym c.index-host.ensures) in
     rw (← c.self.view_is)
     (λ other text planned at turns.
-    subst (λ (h : Host). StandsFor v h text planned → (more : List ℕ) × (c.feed_plan.new.plan.items ≡ c.args.plan.now.items ++ more) × IsUnfinished h v.joined v.merged v.ended (planned ++ more)) (same_at v.hosts v.ended host other here at)
+    subst (λ (h : Host). StandsFor v h text planned → (more : List ℕ) × (c.feed_plan.new.plan.items ≡ c.args.plan.now.items ++ more) × IsUnfinished h v.joined v.merged v.ended (text ++ c.args.bytes.now) (planned ++ more)) (same_at v.hosts v.ended host other here at)
     (λ t. c.in-Err.ensures.stands text planned t) turns)
 
 pub returns-in-Err-clause-stopped : goal.returns-in-Err-clause-stopped

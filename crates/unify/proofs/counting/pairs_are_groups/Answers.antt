@@ -4,7 +4,7 @@ use Rattle.std.specs.List.{list_any}
 use Rattle.hosts_join.specs.Accounts.{Pair}
 use Rattle.unify.specs.Count.{has_group}
 use Rattle.unify.proofs.Names.{all_fail, all_more}
-use Rattle.unify.proofs.counting.are_all_groups.Goals as goal
+use Rattle.unify.proofs.counting.pairs_are_groups.Goals as goal
 
 pub returns-then-not-is_group : goal.returns-then-not-is_group
 returns-then-not-is_group c =
