@@ -25,6 +25,12 @@ type Told<'a> = (u32, &'a [u8], &'a [u8], u128, u128);
 
 const NONE: &[u8] = b"";
 
+const PASSWD_A: &[u8] = b"alice:x:1001:100:::\nbob:x:1002:100:::\n";
+
+const PASSWD_B: &[u8] = b"bob:x:1001:100:::\nalice:x:1002:100:::\n";
+
+const GROUP: &[u8] = b"users:x:100:\n";
+
 const SWAP: &[u8] =
     b"unify certificate 2\nuser alice 1002 16\nuser bob 1001 11\nzuser 1001 10\ngroup users 100 0\nend\n";
 
@@ -34,16 +40,22 @@ const ON_A: &[u8] =
 const ON_B: &[u8] =
     b"./bob1 uid=1001 gid=100\n./bob2 uid=1001 gid=100\n./bob3 uid=1001 gid=100\n./bob4 uid=1001 gid=100\n./alice1 uid=1002 gid=100\n./alice2 uid=1002 gid=100\n./alice3 uid=1002 gid=100\n";
 
-fn host<'a>(alloc: Global, name: &'a [u8], passwd: &'a [u8]) -> Result<Host<'a>, SiteFault<'a>>
+fn host<'a>(
+    alloc: Global,
+    name: &'a [u8],
+    ranges: &[u8],
+    passwd: &'a [u8],
+    group: &'a [u8],
+) -> Result<Host<'a>, SiteFault<'a>>
     ensures { IfOk result IsLawfulHost }
 {
-    let Ok(ranges) = read_ranges(b"") else {
+    let Ok(ranges) = read_ranges(ranges) else {
         return Err(SiteFault::Memory);
     };
     let Ok(users) = read_passwd(alloc, passwd) else {
         return Err(SiteFault::Memory);
     };
-    let Ok(groups) = read_group(alloc, b"users:x:100:\n") else {
+    let Ok(groups) = read_group(alloc, group) else {
         return Err(SiteFault::Memory);
     };
     Ok(Host {
@@ -58,8 +70,8 @@ fn two_hosts<'a>(alloc: Global) -> Result<Vec<Host<'a>>, SiteFault<'a>>
     ensures lawful { IfOk result (λ hosts. All IsLawfulHost hosts.items) }
     ensures few { IfOk result (λ hosts. length hosts.items ≤ 64) }
 {
-    let a = host(alloc, b"a", b"alice:x:1001:100:::\nbob:x:1002:100:::\n")?;
-    let b = host(alloc, b"b", b"bob:x:1001:100:::\nalice:x:1002:100:::\n")?;
+    let a = host(alloc, b"a", NONE, PASSWD_A, GROUP)?;
+    let b = host(alloc, b"b", NONE, PASSWD_B, GROUP)?;
     let mut hosts = Vec::new(alloc);
     hosts.push(a)?;
     hosts.push(b)?;
@@ -98,20 +110,33 @@ fn add_all(
     Ok(())
 }
 
+// Counts the files of a host's inventory.
+fn add_inventory(
+    alloc: Global,
+    counts: &mut Counts,
+    site: &Site<'_>,
+    host: u32,
+    text: &[u8],
+) -> Result<(), AllocError>
+    requires made { IsMadeFor site.now counts.old }
+    requires stands { (files : List Added) × StandsFor site.now counts.old files }
+    ensures made { OnOk result (IsMadeFor site.now counts.new) }
+    ensures stands { OnOk result ((files : List Added) × StandsFor site.now counts.new files) }
+{
+    let Ok(inventory) = read_inventory(alloc, text, 100) else {
+        return Err(AllocError);
+    };
+    add_all(counts, site, host, inventory.entries())
+}
+
 // The counters of the files of both hosts.
 fn counted(alloc: Global, site: &Site<'_>) -> Result<Counts, AllocError>
     ensures made { IfOk result (IsMadeFor site.now) }
     ensures stands { IfOk result (λ counts. (files : List Added) × StandsFor site.now counts files) }
 {
     let mut counts = Counts::new(alloc, site)?;
-    let Ok(on_a) = read_inventory(alloc, ON_A, 100) else {
-        return Err(AllocError);
-    };
-    add_all(&mut counts, site, 0, on_a.entries())?;
-    let Ok(on_b) = read_inventory(alloc, ON_B, 100) else {
-        return Err(AllocError);
-    };
-    add_all(&mut counts, site, 1, on_b.entries())?;
+    add_inventory(alloc, &mut counts, site, 0, ON_A)?;
+    add_inventory(alloc, &mut counts, site, 1, ON_B)?;
     Ok(counts)
 }
 
@@ -393,13 +418,18 @@ fn solver_certificate<'a>(alloc: Global, site: &Site<'a>) -> Result<Certificate<
     })
 }
 
+// What the check tells of what the solver gives for a site.
+fn solver_told<'a>(alloc: Global, site: &Site<'a>) -> Result<Told<'a>, AllocError> {
+    let certificate = solver_certificate(alloc, site)?;
+    Ok(checked(alloc, site, &certificate))
+}
+
 // What the check tells of what the solver gives for two-hosts-swap.
 fn solver_checked<'a>(alloc: Global) -> Result<Told<'a>, AllocError> {
     let Ok(site) = swapped(alloc, NONE) else {
         return Err(AllocError);
     };
-    let certificate = solver_certificate(alloc, &site)?;
-    Ok(checked(alloc, &site, &certificate))
+    solver_told(alloc, &site)
 }
 
 #[test]
