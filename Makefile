@@ -1,11 +1,16 @@
 # unify: one numbering for the accounts of many hosts.
-#   make demo              merges the two hosts of examples/office, and shows what was written
+#   make demo              merges the two hosts of examples/office, and shows what was written: one to two minutes, compiled
+#                          with run-time checks and not proved
+#   make try ARGS='merge OUT HOST..'   your own words in the same way
+#   make program           proves the program and links it, which takes a while; make demo-proved runs the demo with it
+#   make install PREFIX=.. puts the proved program into PREFIX/bin
+#   make quick             for daily work: lays out and proves the crates that changed, and runs the worked examples unproved
 #   make test              the gate: proves every crate, tries the must-fail edits, runs the tests and the program, and
 #                          compares what the program makes of examples/office and of examples/worked, and what it answers
 #                          to other words, with what is committed
+#   make wrong-bodies      the other half of the gate: tries all other wrong bodies; CRATE='idtext ..' those of some crates
 #   make refused           refuses one growth of memory after another, to the program, by bundle and with words, and to the
 #                          readers' tests
-#   make install PREFIX=.. puts the program into PREFIX/bin
 #   make clean             removes what was built
 
 PREFIX ?= /usr/local
@@ -18,17 +23,39 @@ STORED = examples/stored-count
 HOSTS = a=$(STORED)/a b=$(STORED)/b
 REFUSED = build/refused
 
-.PHONY: demo test compare refused program install clean
+# As many proofs side by side as there are processors, and as memory has room for at 3 GB each.
+LANES ?= $(shell awk -v most=$$(nproc) '/^MemAvailable/ { fit = int($$2 / 3000000); \
+	print fit < 1 ? 1 : fit < most ? fit : most }' /proc/meminfo)
+# What make quick calls changed: whatever differs from this commit.
+SINCE ?= HEAD
 
-demo: program
+.PHONY: demo try demo-proved test compare wrong-bodies quick refused program install clean
+
+demo:
+	@gate/unproved.py demo
+
+try:
+	@gate/unproved.py words $(ARGS)
+
+demo-proved: program
 	@rm -rf $(DEMO) && mkdir -p $(DEMO)
 	@./$(PROGRAM) merge $(DEMO) $(OFFICE)
 	@for file in passwd group map certificate report plan.amber plan.basalt; do \
 		echo; echo "$(DEMO)/$$file:"; cat $(DEMO)/$$file; done
 
 test:
-	rt ci
+	RT_JOBS=$(LANES) rt ci
 	@$(MAKE) --no-print-directory compare
+
+wrong-bodies:
+	@gate/test_wrong_bodies.py
+	@RT_JOBS=$(LANES) gate/wrong_bodies.py $(CRATE)
+
+quick:
+	@set -e; changed=$$({ git diff --name-only $(SINCE) -- crates; git ls-files -o --exclude-standard crates; } | cut -d/ -f2); \
+		for crate in $$(sed -n 's/^\([a-z_]*\):.*/\1/p' crates.txt); do \
+			case " $$(echo $$changed) " in *" $$crate "*) (cd crates/$$crate && rt fmt && rt check);; esac; done
+	@gate/unproved.py bundles
 
 # What the program that was built last makes of examples/office is what is committed there: the merge, its certificate
 # accepted with the same sum, the map counted, and each plan rehearsed. Then each bundle of examples/worked, and the command
@@ -61,7 +88,7 @@ refused: program
 	@bench/refused.py words check $(REFUSED)/certificate $(HOSTS)
 	@bench/refused.py words rehearse $(REFUSED)/plan.b $(STORED)/b/mtree
 	@bench/refused.py words --help
-	@bench/refused.py tests 1 4 idtext accounts logindefs mtree_inv
+	@bench/refused.py tests 1 4 layer_tests::tests::readers
 
 install: program
 	install -d $(DESTDIR)$(PREFIX)/bin

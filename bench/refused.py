@@ -3,7 +3,8 @@
 
     bench/refused.py tests [FIRST [LAST [CRATE..]]]   the tests of each crate, with the first growth of each test refused, then
                                                       the second, and so on; a test has to pass, or to end with the error
-                                                      that says that memory was refused
+                                                      that says that memory was refused. CRATE::tests::NAME is that module's
+                                                      tests alone
     bench/refused.py program BUNDLE..                 the program, on each bundle: `unify: memory` on standard output and the
                                                       status 3, or the answer that it gives with all growths, until there
                                                       is no growth left to be refused
@@ -29,15 +30,19 @@ def crates_with_tests():
             yield name
 
 
-def failed_tests(crate, number):
-    """How many tests were told that memory was refused, and what the others that do not pass printed."""
+def failed_tests(tests, number):
+    """How many tests of a crate, or of a module of it, were told that memory was refused, and what the others that do not pass
+    printed."""
+    crate, _, module = tests.partition("::")
     words = ["rt", "try", "--test", "--seconds", "600", "--fail-alloc", str(number)]
     ran = subprocess.run(words, cwd=f"{ROOT}/crates/{crate}", capture_output=True, text=True)
     printed = ran.stdout + ran.stderr
-    if "test result:" not in printed:
+    parts = re.split(r"(?m)^test (?=.* \.\.\. |result)", printed)[1:]
+    parts = [part for part in parts if part.startswith(f"{module}::" if module else "")]
+    if "test result:" not in printed or not parts:
         return 0, [printed]
     told, failed = 0, []
-    for part in re.split(r"(?m)^test (?=.* \.\.\. |result)", printed)[1:]:
+    for part in parts:
         lines = part.splitlines()
         if lines[0].endswith("FAILED") and len(lines) > 1 and lines[1].strip() in TOLD:
             told += 1

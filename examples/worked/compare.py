@@ -4,10 +4,11 @@
     examples/worked/compare.py PROGRAM
 
 README.md beside this file has the form of the examples. Also compared: examples that are too large to be kept as files,
-each prefix of merge/root-only.bundle, the whole one byte a read, inputs and outputs that fail, the command line, each merge
-by words with directories, inventories of many pieces and one that changes or goes while it is read twice, and the merges of
-300 small generated sites, whose cost has to be the least that trying every admissible mapping finds, and what the check of
-the printed certificate answers.
+each prefix of merge/root-only.bundle, the whole one byte a read, inputs and outputs that fail, the command line, certificates
+and plans that end too early, each merge by words with directories, inventories of many pieces and one that changes or goes
+while it is read twice, the texts and the inventories of texts.py, and the merges of 300 small generated sites and of all triples
+of users with few files, whose cost has to be the least that trying every admissible mapping finds, and what the check of the
+printed certificate answers.
 
 Prints the first difference and ends with status 1 there; else the last line tells how many examples there were.
 """
@@ -23,14 +24,16 @@ import termios
 import time
 
 from command_line import command_lines
-from sites import Site
+from cut_texts import cut_texts
+from sites import all_triples, some_site
+from texts import inventories, read_by_words, refused_texts, told_of, without_last_newlines
 from words import Bundle, merged_by_bundle, merged_by_words, merged_while_changing
 
 FOLDER = pathlib.Path(__file__).resolve().parent
 SITES = 300
 ENDINGS = {"bundle", "answer", "parts", "status", "accepted"}
 # So many there are at least: with fewer, some were lost.
-LEAST_FILES, LEAST_BY_WORDS, LEAST_BY_LINE = 110, 50, 75
+LEAST_FILES, LEAST_BY_WORDS, LEAST_BY_LINE, LEAST_CUT = 132, 85, 75, 280
 
 # The answers to the prefixes of merge/root-only.bundle: the first and the last length, the status, and the fault line or the
 # example that has the answer.
@@ -124,13 +127,18 @@ def large_examples():
     """The name, the bundle, the status and the answer of each example that is made here."""
     long_line = "host a\nfile passwd\n|" + 65536 * "#" + "\n"
     too_long = "unify: 8 LineTooLong host a passwd line 1\n"
-    many_lines = "host a\nfile passwd\n" + 65537 * "|#\n"
+    no_accounts = "user-fields 0\ngroup-fields 0\n"
+    limit_line = "host a\nfile passwd\n|" + 65535 * "#" + "\n"
+    most_lines = "host a\nfile passwd\n" + 65536 * "|#\n"
+    many_lines = most_lines + "|#\n"
     pins = "run merge\nfile pins\n" + 1048577 * "|\n" + "host a\n"
     merged = read(FOLDER / "merge/empty-merge.answer").replace("hosts 1", "hosts 64").partition("file plan")[0]
     plans = "".join(f"file plan.h{number}\n|unify plan 1 h{number}\n|end\n" for number in range(64))
     return [
         ("count/long-first-line", "run count\n" + long_line, 1, too_long),
         ("merge/long-first-line", "run merge\n" + long_line, 1, too_long),
+        ("count/comment-at-the-limit", "run count\n" + limit_line, 0, no_accounts),
+        ("count/most-lines", "run count\n" + most_lines, 0, no_accounts),
         ("merge/too-many-lines", "run merge\n" + many_lines, 1, "unify: 7 TooManyLines host a passwd line 65537\n"),
         ("merge/too-many-pins", pins, 1, "unify: 43 BadPins line 1048577\n"),
         ("merge/sixty-four-hosts", "run merge\n" + empty_hosts(64), 0, merged + plans),
@@ -210,6 +218,14 @@ def compare_command_line(program):
     return len(lines)
 
 
+def compare_cut_texts(program):
+    """Compares what is told of each text that is cut or has a line out of its place, and tells how many there were."""
+    texts = list(cut_texts(program))
+    for name, wanted, came in texts:
+        want(name, wanted, came)
+    return len(texts)
+
+
 def compare_words(program, bundles):
     """Merges by words what is in bundles, and tells how many were compared."""
     compared = 0
@@ -220,6 +236,15 @@ def compare_words(program, bundles):
             want(f"{name}, by words", merged_by_bundle(status, answer), merged_by_words(program, bundle))
             compared += 1
     return compared
+
+
+def compare_inventories(program):
+    """Inventories by words: those of texts.py, and one of a host whose texts all end without a newline."""
+    for name, inventory, told in inventories():
+        want(name, told_of(told), read_by_words(program, inventory))
+    nested = read(FOLDER / "merge/nested-inventory.bundle")
+    whole, cut = (merged_by_words(program, bundle) for bundle in (Bundle(nested), without_last_newlines(nested)))
+    want("lines-split", whole, cut)
 
 
 def compare_changing(program):
@@ -258,15 +283,17 @@ def compare_gone(program):
 
 
 def compare_merged(program, name, site):
-    """The merge of a site: admissible, of the least cost, which is told, and with a certificate that is accepted with it."""
+    """The merge of a site: admissible, filled, of the least cost, which is told, and with a certificate that is accepted with
+    it."""
     status, answer = answered(program, site.bundle())
     cost = 0
     for kind in site.kinds():
         fields, rows = kind.least()
         all_fields, all_rows = kind.totals()
         lines = f"|{kind.name}-fields {fields} of {all_fields}", f"|{kind.name}-lines {rows} of {all_rows}"
-        told = all(has_part(answer, line) for line in lines)
-        if status != 0 or not told or kind.cost(kind.mapping_in(answer)) != (fields, rows):
+        told = status == 0 and all(has_part(answer, line) for line in lines)
+        mapping = kind.mapping_in(answer) if told else None
+        if mapping is None or kind.cost(mapping) != (fields, rows) or not kind.is_filled(mapping):
             want(name, "\n".join([*lines, "and a map that changes so many, for", site.bundle()]), (status, answer))
         cost += fields
     compare_accepted(program, name, site.bundle(), answer, f"accepted {cost}\n")
@@ -277,13 +304,22 @@ def compare_sites(program):
     chance = random.Random(2026)
     merged = 0
     for number in range(SITES):
-        site = Site(chance)
+        site = some_site(chance)
         if refusal := site.refusal():
             want(f"site {number}", (1, refusal), answered(program, site.bundle()))
             want(f"site {number}, checked", (1, refusal), answered(program, check_of(site.bundle(), "file certificate\n")))
         else:
             compare_merged(program, f"site {number}", site)
             merged += 1
+    return merged
+
+
+def compare_small_sites(program):
+    """Merges all triples of users with few files, many in a site, and tells how many triples there were."""
+    merged = 0
+    for site in all_triples():
+        compare_merged(program, f"all-small-sites, behind {merged} triples", site)
+        merged += len(site.triples)
     return merged
 
 
@@ -295,26 +331,33 @@ def main(words):
     files = example_files()
     for path in files:
         compare_file(program, path)
-    large = large_examples()
-    for name, bundle, status, answer in large:
+    made = [*large_examples(), *refused_texts()]
+    for name, bundle, status, answer in made:
         want(name, (status, answer), answered(program, bundle))
     compare_prefixes(program)
     compare_one_byte_a_read(program)
     compare_failures(program)
     by_line = compare_command_line(program)
+    cut = compare_cut_texts(program)
     merges = [(f"merge/{path.stem}", read(path)) for path in files if path.parent.name == "merge"]
-    by_words = compare_words(program, [*merges, ("long inventories", long_inventories())])
+    merges += [(name, bundle) for name, bundle, *_ in refused_texts()]
+    by_words = compare_words(program, [*merges, ("long-inventories", long_inventories())])
+    compare_inventories(program)
     compare_changing(program)
     compare_gone(program)
     merged = compare_sites(program)
+    small = compare_small_sites(program)
     want_at_least(LEAST_FILES, len(files), "examples that are files")
     want_at_least(LEAST_BY_WORDS, by_words, "merges by words")
     want_at_least(LEAST_BY_LINE, by_line, "command lines")
+    want_at_least(LEAST_CUT, cut, "cut certificates and plans")
     want("generated sites, more than half merged, but not all", True, SITES // 2 < merged < SITES)
-    print(f"generated sites: {merged} merged at the least cost, {SITES - merged} refused for a small pool")
+    print(f"generated sites: {merged} merged at the least cost, {SITES - merged} refused for two pins or a small pool")
+    print(f"small sites: {small} triples of users merged at the least cost")
+    print(f"cut certificates and plans: {cut} as the definitions say")
     print(f"command lines: {by_line} as in the table")
     print(f"merges by words: {by_words} as by bundle")
-    print(f"worked examples: {len(files) + len(large)} as committed")
+    print(f"worked examples: {len(files) + len(made)} as committed")
     return 0
 
 

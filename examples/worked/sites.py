@@ -1,58 +1,82 @@
-"""Small sites that look random, and the least cost of each, found by trying every admissible mapping."""
+"""Sites with their least costs: small ones that look random, of which every admissible mapping is tried, and many triples of users
+side by side."""
 import itertools
 import re
 from collections import Counter
 
+# A number in no range: who has it on a host is pinned there.
+PIN = 7
+
 
 class Kind:
-    """The users or the groups of a site whose names are all free: what is admissible, and what it costs.
+    """The users or the groups of a site: what is admissible, and what it costs. A mapping has the number of each name.
 
-    pool are the numbers that the names may have; rows the (name, number) of the account files of all hosts, owners those of
+    pool are the numbers that free names may have; rows the (name, number) of the account files of all hosts, owners those of
     the files. The group users, which is pinned at its number on each of so many hosts, is in neither, and costs nothing."""
 
     def __init__(self, name, pool, rows, owners, files, pinned):
         self.name, self.pool, self.files, self.pinned = name, pool, files, pinned
-        self.names = sorted({name for name, _ in rows})
         self.rows, self.owners = Counter(rows), Counter(owners)
+        self.seen = list(dict.fromkeys(name for name, _ in rows))
+        self.pins = {name: number for name, number in rows if number == PIN}
+        self.free = sorted(set(self.seen) - set(self.pins))
+        # Names that need no numbers but these, and the numbers that no names but these need.
+        self.parts = [(self.free, pool)]
 
     def totals(self):
         return self.files, sum(self.rows.values()) + self.pinned
 
     def mapping_in(self, answer):
-        """The numbers that the map in a merge's answer gives the names, in their order; none if it is not admissible."""
+        """The mapping in a merge's answer; none if it is not admissible."""
         lines = re.findall(rf"^\|{self.name} (\S+) (\d+)$", answer.partition("file certificate\n")[0], re.M)
         mapping = {name: int(number) for name, number in lines if name != "users"}
-        numbers = [number for _, number in sorted(mapping.items())]
-        lawful = sorted(mapping) == self.names and len(set(numbers)) == len(numbers) and set(numbers) <= set(self.pool)
-        return numbers if lawful else None
-
-    def cost(self, numbers):
-        """How many fields of files, and how many rows, a mapping of the names to these numbers changes."""
-        if numbers is None:
+        if sorted(mapping) != sorted(self.seen) or len(set(mapping.values())) < len(mapping):
             return None
-        pairs = list(zip(self.names, numbers))
-        changed = (sum(counts.values()) - sum(counts[pair] for pair in pairs) for counts in (self.owners, self.rows))
-        return tuple(changed)
+        kept = all(mapping[name] == number for name, number in self.pins.items())
+        return mapping if kept and all(mapping[name] in self.pool for name in self.free) else None
+
+    def cost(self, mapping):
+        """How many fields of files, and how many rows, a mapping changes."""
+        of_all = (sum(counts.values()) for counts in (self.owners, self.rows))
+        return tuple(many - kept for many, kept in zip(of_all, self.kept(mapping)))
 
     def least(self):
-        """The least cost, of all admissible mappings."""
-        return min(map(self.cost, itertools.permutations(self.pool, len(self.names))))
+        """The least cost of all admissible mappings: each part has the numbers that keep the most."""
+        mapping = dict(self.pins)
+        for names, numbers in self.parts:
+            ways = (dict(zip(names, way)) for way in itertools.permutations(numbers, len(names)))
+            mapping |= max(ways, key=self.kept)
+        return self.cost(mapping)
+
+    def kept(self, mapping):
+        """How many fields of files, and how many rows, the names of a mapping keep."""
+        return tuple(sum(counts[pair] for pair in mapping.items()) for counts in (self.owners, self.rows))
+
+    def is_filled(self, mapping):
+        """Whether those who get a number that they have nowhere get, one after the other, the smallest that nobody has."""
+        waiting = [name for name in self.free if not self.rows[name, mapping[name]]]
+        left = sorted(set(self.pool) - {number for name, number in mapping.items() if name not in waiting})
+        return [mapping[name] for name in waiting] == left[: len(waiting)]
+
+    def refusal(self):
+        """The fault line where two names are pinned, or where more names are free than there are numbers; else nothing."""
+        if len(self.pins) > 1:
+            first, second, *_ = (name for name in self.seen if name in self.pins)
+            return f"unify: 23 PinClash {self.name} {PIN} {first} {second}\n"
+        if len(self.free) > len(self.pool):
+            return f"unify: 24 PoolTooSmall {self.name} regular {len(self.free)} {len(self.pool)}\n"
+        return None
 
 
 class Site:
-    """Two to four hosts with two to six users and three groups, and pools that have about as many numbers.
+    """Hosts with users and groups.
 
     users and groups have for each host the (name, number) of its rows, without the group users, which has 100; owners has
     for each host the user's and the group's row of each file."""
 
-    def __init__(self, chance):
-        names = chance.randint(2, 6)
-        hosts = range(chance.randint(2, 4))
-        self.user_pool = range(1001, 1001 + names + chance.randint(-1, 1))
-        self.group_pool = range(1001, 1004)
-        self.users = [some_rows(chance, "user", names, self.user_pool) for _ in hosts]
-        self.groups = [some_rows(chance, "group", 3, self.group_pool) for _ in hosts]
-        self.owners = [some_owners(chance, users, groups) for users, groups in zip(self.users, self.groups)]
+    def __init__(self, user_pool, group_pool, users, groups, owners):
+        self.user_pool, self.group_pool = user_pool, group_pool
+        self.users, self.groups, self.owners = users, groups, owners
 
     def bundle(self):
         """The bundle that has the site merged."""
@@ -73,18 +97,26 @@ class Site:
         yield Kind("group", self.group_pool, groups, of_groups, len(owners), len(self.groups))
 
     def refusal(self):
-        """The fault line of a site that has more users than numbers for them, else nothing."""
-        names = len({name for name, _ in sum(self.users, [])})
-        if names > len(self.user_pool):
-            return f"unify: 24 PoolTooSmall user regular {names} {len(self.user_pool)}\n"
-        return None
+        """The fault line of a site that is refused, else nothing."""
+        return next((line for kind in self.kinds() if (line := kind.refusal())), None)
+
+
+def some_site(chance):
+    """Two to four hosts with two to six users and three groups, and pools that have about as many numbers."""
+    names = chance.randint(2, 6)
+    hosts = range(chance.randint(2, 4))
+    pools = range(1001, 1001 + names + chance.randint(-1, 1)), range(1001, 1004)
+    users = [some_rows(chance, "user", names, pools[0]) for _ in hosts]
+    groups = [some_rows(chance, "group", 3, pools[1]) for _ in hosts]
+    owners = [some_owners(chance, *rows) for rows in zip(users, groups)]
+    return Site(*pools, users, groups, owners)
 
 
 def some_rows(chance, kind, names, pool):
-    """Some of so many names, with distinct numbers of the pool."""
+    """Some of so many names, with distinct numbers of the pool, or now and then the one that pins."""
     rows = {}
     for name in range(names):
-        number = chance.choice(pool)
+        number = PIN if chance.random() < 0.04 else chance.choice(pool)
         if chance.random() < 0.75:
             rows.setdefault(number, f"{kind}{name}")
     return [(name, number) for number, name in rows.items()]
@@ -97,3 +129,30 @@ def some_owners(chance, users, groups):
         group = chance.choice(groups + [("users", 100)])
         owners += chance.randint(0, 3) * [(user, group)]
     return owners
+
+
+class Triples(Site):
+    """Triples of users side by side, each with three numbers of its own. On each of three hosts the users of a triple have its
+    numbers, each user another one than on the other two hosts, and own so many files: there are nine counts for a triple."""
+
+    def __init__(self, counts):
+        self.triples = [[f"{name}{place}" for name in ("ann", "ben", "cat")] for place in range(len(counts))]
+        users = [[], [], []]
+        owners = [[], [], []]
+        for place, files in enumerate(counts):
+            for host, user in itertools.product(range(3), range(3)):
+                row = self.triples[place][user], 1001 + 3 * place + (user + host) % 3
+                users[host].append(row)
+                owners[host] += files[3 * host + user] * [(row, ("users", 100))]
+        super().__init__(range(1001, 1001 + 3 * len(counts)), range(1001, 1002), users, [[], [], []], owners)
+
+    def kinds(self):
+        users, groups = super().kinds()
+        users.parts = [(names, self.user_pool[3 * place : 3 * place + 3]) for place, names in enumerate(self.triples)]
+        return users, groups
+
+
+def all_triples():
+    """Every way in which the users of a triple may own 0, 1 or 2 files on each host, 729 of them in a site."""
+    for first in itertools.product(range(3), repeat=3):
+        yield Triples([first + rest for rest in itertools.product(range(3), repeat=6)])

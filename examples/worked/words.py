@@ -33,11 +33,12 @@ def bytes_of(text):
 
 
 class Bundle:
-    """The pins text of a bundle, if it has one, and its hosts with their files."""
+    """The texts of a bundle before its hosts, the pins text among them, if it has one, and its hosts with their files."""
 
     def __init__(self, text):
         head, hosts = sections(text.split("\n")[1:-1], "host")
-        self.pins = texts_of(head).get("pins")
+        self.texts = texts_of(head)
+        self.pins = self.texts.get("pins")
         self.hosts = [(name, texts_of(lines)) for name, lines in hosts]
 
     def is_for_words(self):

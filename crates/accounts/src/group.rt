@@ -13,7 +13,7 @@ ghost use Rattle.accounts.specs.Rows.{Group, group_from, group_line, members_of}
 
 use crate::index::Index;
 use crate::lines::keeps;
-use crate::table::{Row, read_rows};
+use crate::table::{Row, Rows, read_rows};
 use idtext::{Pieces, ReadError, TextCode, TextFault, decimal, fields, is_lawful_name};
 use std::alloc::Global;
 use std::marker::Model;
@@ -128,10 +128,18 @@ fn line_of(number: u64, line: &[u8]) -> Result<Option<GroupRow<'_>>, TextFault>
 
 /// The rows of group. Names are lawful and distinct; gids are distinct and at most 4294967294; there are at most 65,536
 /// rows. It keeps an entry in each of two hash sets for each row, and no text.
-#[derive(Drop)]
 pub struct GroupTable<'a> {
     rows: Vec<GroupRow<'a>>,
     index: Index<'a>,
+}
+
+// Written out, so that the proof of a function that lets a table go has one call there.
+impl Drop for GroupTable<'_> {
+    fn drop(self) {
+        let GroupTable { rows, index } = self;
+        drop(rows);
+        drop(index);
+    }
 }
 
 impl<'a> Model for GroupTable<'a> {
@@ -188,8 +196,9 @@ pub fn read_group(alloc: Global, text: &[u8]) -> Result<GroupTable<'_>, ReadErro
     ensures exact { Gives (λ table. table) fault_told result (group_table text.now) }
     ensures table { IfOk result (λ table. IsGroupTable table) }
 {
-    let (rows, index) = read_rows(alloc, text)?;
-    Ok(GroupTable { rows, index })
+    let rows = read_rows(alloc, text)?;
+    let Rows { list, index } = rows;
+    Ok(GroupTable { rows: list, index })
 }
 
 impl<'a> GroupRow<'a> {

@@ -12,7 +12,7 @@ ghost use Rattle.accounts.specs.Rows.{Passwd, passwd_from, passwd_line};
 
 use crate::index::Index;
 use crate::lines::keeps;
-use crate::table::{Row, read_rows};
+use crate::table::{Row, Rows, read_rows};
 use idtext::{ReadError, TextCode, TextFault, decimal, fields, is_lawful_name};
 use std::alloc::Global;
 use std::marker::Model;
@@ -148,10 +148,18 @@ fn line_of(number: u64, line: &[u8]) -> Result<Option<PasswdRow<'_>>, TextFault>
 
 /// The rows of passwd. Names are lawful and distinct; uids are distinct; uids and gids are at most 4294967294;
 /// there are at most 65,536 rows. It keeps an entry in each of two hash sets for each row, and no text.
-#[derive(Drop)]
 pub struct PasswdTable<'a> {
     rows: Vec<PasswdRow<'a>>,
     index: Index<'a>,
+}
+
+// Written out, so that the proof of a function that lets a table go has one call there.
+impl Drop for PasswdTable<'_> {
+    fn drop(self) {
+        let PasswdTable { rows, index } = self;
+        drop(rows);
+        drop(index);
+    }
 }
 
 impl<'a> Model for PasswdTable<'a> {
@@ -211,6 +219,7 @@ pub fn read_passwd(alloc: Global, text: &[u8]) -> Result<PasswdTable<'_>, ReadEr
     ensures table { IfOk result (λ table. IsPasswdTable table) }
     ensures primary_groups { IfOk result (λ table. HaveLawfulGids table) }
 {
-    let (rows, index) = read_rows(alloc, text)?;
-    Ok(PasswdTable { rows, index })
+    let rows = read_rows(alloc, text)?;
+    let Rows { list, index } = rows;
+    Ok(PasswdTable { rows: list, index })
 }

@@ -85,13 +85,13 @@ slack_upto s t now later exit edges q ex has l up all =
           (λ (ne : row_weight s.rows.now n v ≡ 0 → ⊥).
           ⊎_elim
           (λ (a : exit.level + row_weight s.rows.now n v ≤ level_of t i + y_in s.duals n + z_in s.duals v). omega (arith, a, dn, hv, q.passed i h, ex.least i h))
-          (λ (a : (e : Edge) × Contains edges e × (e.1 ≡ i) × (e.2 ≡ v)).
+          (λ (a : (e : Edge) × Contains edges e × (e.1.0 ≡ i) × (e.2 ≡ v)).
           let e = a.0 in
           let ok = All-contains (IsEdge s t now) edges e has.edge a.1 in
           let low = All-contains (λ (e : Edge). later ≤ e.0.0) edges e all a.1 in
           let lev : e.0.0 + row_weight s.rows.now n v ≡ level_of t i + y_in s.duals n + z_in s.duals v =
           subst (λ (j : ℕ). e.0.0 + row_weight s.rows.now (get_or t.names.items j 0) v ≡ level_of t j + y_in s.duals (get_or t.names.items j 0) + z_in s.duals v) a.2
-          (subst (λ (u : ℕ). e.0.0 + row_weight s.rows.now (get_or t.names.items e.1 0) u ≡ level_of t e.1 + y_in s.duals (get_or t.names.items e.1 0) + z_in s.duals u) a.3 ok.level) in
+          (subst (λ (u : ℕ). e.0.0 + row_weight s.rows.now (get_or t.names.items e.1.0 0) u ≡ level_of t e.1.0 + y_in s.duals (get_or t.names.items e.1.0 0) + z_in s.duals u) a.3 ok.level) in
           omega (arith, lev, low, dn, hv, q.passed i h, ex.least i h))
           (has.all i v h free (omega (arith, ne))))
           (cases_eq (row_weight s.rows.now n v) 0);

@@ -14,7 +14,7 @@ use Rattle.assignment.specs.declared.search.Nearest.{Nearest}
 use Rattle.assignment.specs.Order.{Edge}
 use Rattle.assignment.specs.Standing.{IsTightPair, IsFair, IsTree, IsSlack, IsMet, among, holds}
 use Rattle.assignment.specs.Solving.{standing, root_of}
-use Rattle.assignment.specs.Lazy.{y_in, z_in, level_of, depth_of, height_of, depth_in, lowered_to, IsSettled, IsLazy, IsExit, HasEdges, HasOtherEdges}
+use Rattle.assignment.specs.Lazy.{y_in, z_in, level_of, depth_of, height_of, depth_in, lowered_to, IsSettled, IsLazy, IsWayOut, IsExit, HasEdges, HasOtherEdges}
 use Rattle.assignment.proofs.Fair.{among_at, among_position, holds_given}
 use Rattle.assignment.proofs.Lazy.{same_fair, same_shape, later_lowered, later_lazy}
 use Rattle.assignment.proofs.Grow.{push_tree, same_tree, tree_short, tight_from, zero_from}
@@ -150,7 +150,19 @@ lazy_push s t t' now i v m q l own free tight g =
       last,
     )
 
--- the first to leave, with the name that came
+-- a way out stays one
+grown_way : (s : Solver) (t t' : Tree) (m i now level at : ℕ) (o : Option ℕ) → length t.levels.items ≡ length t.names.items → Grows t t' m i now → at < length t.names.items → IsWayOut s t level at o → IsWayOut s t' level at o
+grown_way s t t' m i now level at None long g l way = omega (arith, way, ap (y_in s.duals) (grown_name t t' m i now at g l), grown_level t t' m i now at g long l)
+grown_way s t t' m i now level at (Some v) long g l way =
+    let w = row_weight s.rows.now in
+    let en = grown_name t t' m i now at g l in
+    let el = grown_level t t' m i now at g long l in (
+      subst (λ (n : ℕ). 0 < w n v) (sym en) way.0,
+      way.1,
+      subst (λ (n : ℕ). level + w n v ≡ level_of t' at + y_in s.duals n + z_in s.duals v) (sym en) (omega (arith, way.2, el)),
+    )
+
+-- the exit, with the name that came
 pub exit_push : (s : Solver) (t t' : Tree) (now i m high : ℕ) (exit exit' : Nearest) → length t.levels.items ≡ length t.names.items → IsExit s t exit → Grows t t' m i now → high ≡ y_in s.duals m → (exit' ≡ exit) ⊎ (exit' ≡ record { level = now + high; at = length t.names.items; number = None }) → exit'.level ≤ exit.level → exit'.level ≤ now + high → IsExit s t' exit'
 exit_push s t t' now i m high exit exit' long ex g e one first second =
     let n = length t.names.items in
@@ -169,15 +181,11 @@ exit_push s t t' now i m high exit exit' long ex g e one first second =
     ⊎_elim
     (λ (a : exit' ≡ exit).
     let at : exit'.at ≡ exit.at = ap (λ (x : Nearest). x.at) a in
-    let sl : exit'.level ≡ exit.level = ap (λ (x : Nearest). x.level) a in
-    let in' : exit'.at < n = omega (arith, at, ex.within) in
-    let met : exit'.level ≡ level_of t exit'.at + y_in s.duals (get_or t.names.items exit'.at 0) = subst (λ (x : Nearest). x.level ≡ level_of t x.at + y_in s.duals (get_or t.names.items x.at 0)) (sym a) ex.met in
-    record { within = omega (arith, in', more); none = ap (λ (x : Nearest). x.number) a ∙ ex.none; least = least; met = omega (arith, met, old exit'.at in', grown_level t t' m i now exit'.at g long in') })
+    record { within = omega (arith, at, ex.within, more); least = least; way = subst (λ (x : Nearest). IsWayOut s t' x.level x.at x.number) (sym a) (grown_way s t t' m i now exit.level exit.at exit.number long g ex.within ex.way) })
     (λ (a : exit' ≡ record { level = now + high; at = n; number = None }).
     let at : exit'.at ≡ n = ap (λ (x : Nearest). x.at) a in
-    let sl : exit'.level ≡ now + high = ap (λ (x : Nearest). x.level) a in
-    let met : exit'.level ≡ level_of t' n + y_in s.duals (get_or t'.names.items n 0) = omega (arith, sl, eh, level) in
-    record { within = omega (arith, at, more); none = ap (λ (x : Nearest). x.number) a; least = least; met = subst (λ (k : ℕ). exit'.level ≡ level_of t' k + y_in s.duals (get_or t'.names.items k 0)) (sym at) met })
+    let way : now + high ≡ level_of t' n + y_in s.duals (get_or t'.names.items n 0) = omega (arith, eh, level) in
+    record { within = omega (arith, at, more); least = least; way = subst (λ (x : Nearest). IsWayOut s t' x.level x.at x.number) (sym a) way })
     one
 
 -- the queue, with the name that came: the tree holds its number now
@@ -204,12 +212,12 @@ edges_push s t t' now i v m leaves leaves' edges q q' il own g low has =
       edge = λ k d l.
           let e = has.edge k d l in
           let x = get_or edges k d in
-          let en = name x.1 e.within in
-          let el = level x.1 e.within in
+          let en = name x.1.0 e.within in
+          let el = level x.1.0 e.within in
           record {
             within = omega (arith, e.within, more);
             weighs = subst (λ (u : ℕ). 0 < w u x.2) (sym en) e.weighs;
-            level = subst (λ (u : ℕ). x.0.0 + w u x.2 ≡ level_of t' x.1 + y_in s.duals u + z_in s.duals x.2) (sym en) (omega (arith, e.level, el));
+            level = subst (λ (u : ℕ). x.0.0 + w u x.2 ≡ level_of t' x.1.0 + y_in s.duals u + z_in s.duals x.2) (sym en) (omega (arith, e.level, el));
             later = e.later;
           };
       all = λ j u l free pos.
@@ -221,7 +229,7 @@ edges_push s t t' now i v m leaves leaves' edges q q' il own g low has =
           ⊎_elim
           (λ (a : leaves + w (get_or t.names.items j 0) u ≤ level_of t j + y_in s.duals (get_or t.names.items j 0) + z_in s.duals u).
           inl (subst (λ (x : ℕ). leaves' + w x u ≤ level_of t' j + y_in s.duals x + z_in s.duals u) (sym (name j l)) (omega (arith, a, low, level j l))))
-          (λ (a : (e : Edge) × Contains edges e × (e.1 ≡ j) × (e.2 ≡ u)). inr a)
+          (λ (a : (e : Edge) × Contains edges e × (e.1.0 ≡ j) × (e.2 ≡ u)). inr a)
           old;
     }
 

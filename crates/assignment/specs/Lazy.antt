@@ -1,7 +1,8 @@
 -- A search that lowers nothing until it ends: its levels, and the pairs that wait in its queue.
 -- Words of the code and not of the subject: only private contracts, views and invariants cite them.
-use Rattle.std.specs.Prelude.{◌≡◌, ◌≢◌, ℕ, ◌+◌, ◌-◌, ◌<◌, ◌≤◌, ◌^◌, ◌⊎◌, false, cond, List, length, slice_index, slice_index_or, Option, Some, None, unwrap_or}
+use Rattle.std.specs.Prelude.{◌≡◌, ◌≢◌, ℕ, ◌+◌, ◌-◌, ◌<◌, ◌≤◌, ◌^◌, ◌⊎◌, false, true, cond, List, ◌∷◌, length, slice_index, slice_index_or, Option, Some, None, unwrap_or}
 use Rattle.std.specs.List.{All, Contains}
+use Rattle.std.specs.List.Sorted.{IsPermutation}
 use Rattle.std.specs.BTreeMap as btree
 use Rattle.std.specs.Ordering.{nat_cmp}
 use Rattle.candidates.specs.Rows.{AreRows}
@@ -75,24 +76,37 @@ pub record IsLazy (s : Solver) (t : Tree) (now : ℕ) : Type 0 where
   pub high : (n : ℕ) → y_in s.duals n < 2 ^ 63
   pub cover : (n v : ℕ) → row_weight s.rows.now n v ≤ y_in s.duals n + z_in s.duals v
 
--- the least level at which a name of the tree leaves, and a position where that is so
+-- at the level the name at the position leaves, or takes a number that nobody has
+abbrev pub IsWayOut : Solver → Tree → ℕ → ℕ → Option ℕ → Type 0
+IsWayOut s t level i None = level ≡ level_of t i + y_in s.duals (slice_index t.names.items i)
+IsWayOut s t level i (Some v) = (0 < row_weight s.rows.now (slice_index t.names.items i) v) × (btree.get nat_cmp s.pairs.owner v ≡ None) × (level + row_weight s.rows.now (slice_index t.names.items i) v ≡ level_of t i + y_in s.duals (slice_index t.names.items i) + z_in s.duals v)
+
+-- a way out of the search at a level at which no name of the tree has left yet
 pub record IsExit (s : Solver) (t : Tree) (exit : Nearest) : Type 0 where
   pub within : exit.at < length t.names.items
-  pub none : exit.number ≡ None
   pub least : (i : ℕ) → i < length t.names.items → exit.level ≤ level_of t i + y_in s.duals (slice_index t.names.items i)
-  pub met : exit.level ≡ level_of t exit.at + y_in s.duals (slice_index t.names.items exit.at)
+  pub way : IsWayOut s t exit.level exit.at exit.number
 
 -- the level of an edge is that at which its pair is tight, and not below the level now
 pub record IsEdge (s : Solver) (t : Tree) (now : ℕ) (e : Edge) : Type 0 where
-  pub within : e.1 < length t.names.items
-  pub weighs : 0 < row_weight s.rows.now (slice_index t.names.items e.1) e.2
-  pub level : e.0.0 + row_weight s.rows.now (slice_index t.names.items e.1) e.2 ≡ level_of t e.1 + y_in s.duals (slice_index t.names.items e.1) + z_in s.duals e.2
+  pub within : e.1.0 < length t.names.items
+  pub weighs : 0 < row_weight s.rows.now (slice_index t.names.items e.1.0) e.2
+  pub level : e.0.0 + row_weight s.rows.now (slice_index t.names.items e.1.0) e.2 ≡ level_of t e.1.0 + y_in s.duals (slice_index t.names.items e.1.0) + z_in s.duals e.2
   pub later : now ≤ e.0.0
 
--- the pair is in the queue, or tight only when a name has left
+-- the pair is in the queue, or not tight before the level of the exit
 abbrev pub IsQueued : Solver → Tree → ℕ → List Edge → ℕ → ℕ → Type 0
 IsQueued s t leaves edges i v =
-    (leaves + row_weight s.rows.now (slice_index t.names.items i) v ≤ level_of t i + y_in s.duals (slice_index t.names.items i) + z_in s.duals v) ⊎ ((e : Edge) × Contains edges e × (e.1 ≡ i) × (e.2 ≡ v))
+    (leaves + row_weight s.rows.now (slice_index t.names.items i) v ≤ level_of t i + y_in s.duals (slice_index t.names.items i) + z_in s.duals v) ⊎ ((e : Edge) × Contains edges e × (e.1.0 ≡ i) × (e.2 ≡ v))
+
+-- what following an edge leaves: the exit where it is no farther, or where the tree holds the number; a nearer exit at a number
+-- that nobody has; or the exit, with one edge more in the queue
+abbrev pub IsFollowed : Solver → Tree → List Edge → List Edge → Edge → Nearest → Nearest → Type 0
+IsFollowed s t old new e exit after =
+    ((exit.level ≤ e.0.0) × (after ≡ exit) × (new ≡ old))
+    ⊎ (((e.0.0 < exit.level) × (btree.get nat_cmp s.pairs.owner e.2 ≡ None) × (after ≡ record { level = e.0.0; at = e.1.0; number = Some e.2 }) × (new ≡ old))
+    ⊎ (((holds t.position.items t.names.items (length t.names.items) (btree.get nat_cmp s.pairs.owner e.2) ≡ true) × (after ≡ exit) × (new ≡ old))
+    ⊎ ((e.0.0 < exit.level) × (after ≡ exit) × IsPermutation (e ∷ old) new)))
 
 -- a queue with each pair of the tree's names below the position i and the numbers that the tree does not hold
 pub record HasEdges (s : Solver) (t : Tree) (now : ℕ) (leaves : ℕ) (edges : List Edge) (upto : ℕ) : Type 0 where

@@ -52,10 +52,12 @@ impl From<AllocError> for SolveFault {
 /// The mapping that leaves the most weight as it is, with potentials that certify it. Names that keep no candidate have, in
 /// byte order, the smallest numbers of their pools that no name had before. It fails for want of memory alone.
 ///
-/// Names are served one by one, each by a search for a shortest augmenting path. With E candidates in the rows of the names
-/// that a search reaches it takes E log E steps, for its heap and for look-ups by number; it reaches a further name only over a
-/// number that this name was given, and no table of the site's size is cleared or read for it. So the time is near linear
-/// where few names want one number, and at worst all names times all candidates times a logarithm. Of memory a name takes 24
+/// Names are served one by one, each by a search for a shortest augmenting path, which ends once nothing is nearer than the
+/// nearest way out that it saw: a number that nobody has, or a name that leaves. With E candidates in the rows of the names
+/// that a search reaches it takes E log E steps, for its heap and for look-ups by number, and looks up only those that can be
+/// nearer than that way out; it reaches a further name only over a number that this name was given, and no table of the site's
+/// size is cleared or read for it. So the time is near linear where few names want one number or where most names find one
+/// that is free, and at worst all names times all candidates times a logarithm. Of memory a name takes 24
 /// bytes and a number that was given some 40, beside one search's names and candidates and the memory of the fill.
 pub fn solve(alloc: Global, rows: &Rows<'_, '_>) -> Result<Solution, SolveFault>
     ensures admissible { IfOk result (λ s. IsAdmissible rows.now.accounts s.mapping) }
@@ -80,6 +82,3 @@ pub fn solve(alloc: Global, rows: &Rows<'_, '_>) -> Result<Solution, SolveFault>
 pub fn weak_duality()
     ensures { WeakDuality }
 {}
-
-#[cfg(test)]
-mod tests;

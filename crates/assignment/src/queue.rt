@@ -10,8 +10,9 @@ use std::alloc::{AllocError, Global};
 use std::cmp::Reverse;
 use std::collections::BinaryHeap;
 
-/// A level, a position of the tree and a number.
-pub type Edge = (Reverse<u64>, usize, u32);
+/// A level, a position of the tree and a number. Of the edges of one level those of the name that was reached first come first,
+/// so that a search goes no deeper into the tree than it has to.
+pub type Edge = (Reverse<u64>, Reverse<usize>, u32);
 
 #[derive(Drop)]
 pub struct Queue {
@@ -39,29 +40,6 @@ impl Queue {
     {
         self.heap.push(edge)?;
         Ok(())
-    }
-
-    /// Adds the edge at the level now + slack, if that is below the level at which a name leaves.
-    pub fn offer(
-        &mut self,
-        now: u64,
-        slack: u64,
-        at: usize,
-        number: u32,
-        leaves: u64,
-    ) -> Result<(), AllocError>
-        ensures { OnOk result (((leaves ≤ now + slack) × (heap_items self.new.heap ≡ heap_items self.old.heap)) ⊎ IsPermutation ((record { 0 = record { 0 = now + slack }; 1 = at; 2 = number }) ∷ heap_items self.old.heap) (heap_items self.new.heap)) }
-    {
-        match now.checked_add(slack) {
-            None => Ok(()),
-            Some(level) => {
-                if level < leaves {
-                    self.push((Reverse(level), at, number))
-                } else {
-                    Ok(())
-                }
-            }
-        }
     }
 
     /// Takes out an edge of the least level.

@@ -1,12 +1,14 @@
 //! One search: from a waiting name to a number that nobody has, or to a name that leaves.
-ghost use Rattle.std.specs.Prelude.{◌≡◌, ◌+◌, ◌-◌, ◌<◌, ◌≤◌, length, OnOk, IfSome, ◌⊎◌, slice_index};
+ghost use Rattle.std.specs.Prelude.{◌≡◌, ℕ, ◌+◌, ◌-◌, ◌<◌, ◌≤◌, length, IfOk, OnOk, IfSome, ◌⊎◌, slice_index, Some};
+ghost use Rattle.std.specs.BTreeMap as btree;
+ghost use Rattle.std.specs.Ordering.{nat_cmp};
 ghost use Rattle.std.specs.BinaryHeap.{heap_items};
 ghost use Rattle.assignment.specs.Solutions.{row_weight};
 ghost use Rattle.assignment.specs.Standing.{IsSlack, IsMet};
 ghost use Rattle.assignment.specs.Solving.{IsServing, IsSearching, IsFlipping, root_of};
-ghost use Rattle.assignment.specs.Lazy.{level_of, lowered_to, IsLazy, IsExit, HasEdges, HasOtherEdges};
+ghost use Rattle.assignment.specs.Lazy.{level_of, lowered_to, IsLazy, IsExit, IsFollowed, HasEdges, HasOtherEdges};
 
-use crate::queue::Queue;
+use crate::queue::{Edge, Queue};
 use crate::solver::Solver;
 use crate::tree::Tree;
 use std::alloc::AllocError;
@@ -36,32 +38,72 @@ impl Nearest {
 }
 
 impl Solver<'_, '_, '_> {
-    /// Adds the edges of the tree's name at a position to the queue, but for those that are tight only when a name has left.
+    /// Follows an edge, and tells the exit that is left: the edge's, if it is nearer and nobody has its number. If somebody
+    /// has it, who is not in the tree yet, the edge waits in the queue.
+    fn follow(
+        &self,
+        tree: &Tree,
+        queue: &mut Queue,
+        edge: Edge,
+        exit: Nearest,
+    ) -> Result<Nearest, AllocError>
+        requires { (n : ℕ) → btree.get nat_cmp self.now.pairs.owner edge.2 ≡ Some n → n < length tree.now.position.items }
+        ensures { IfOk result (λ after. IsFollowed self.now tree.now (heap_items queue.old.heap) (heap_items queue.new.heap) edge exit after) }
+    {
+        let (Reverse(level), Reverse(at), number) = edge;
+        if level >= exit.level {
+            return Ok(exit);
+        }
+        let Some(owner) = self.pairs.owner_of(number) else {
+            return Ok(Nearest {
+                level,
+                at,
+                number: Some(number),
+            });
+        };
+        if !tree.has(owner) {
+            queue.push(edge)?;
+        }
+        Ok(exit)
+    }
+
+    /// Follows the edges of the tree's name at a position, and tells the exit that is left.
     fn reach(
         &self,
         tree: &Tree,
         queue: &mut Queue,
         at: usize,
         now: u64,
-        leaves: u64,
-    ) -> Result<(), AllocError>
+        mut exit: Nearest,
+    ) -> Result<Nearest, AllocError>
         requires searching { IsLazy self.now tree.now now }
         requires at { at + 1 ≡ length tree.now.names.items }
         requires level { level_of tree.now at ≡ now }
-        requires edges { HasEdges self.now tree.now now leaves (heap_items queue.old.heap) at }
-        ensures { OnOk result (HasEdges self.now tree.now now leaves (heap_items queue.new.heap) (length tree.now.names.items)) }
+        requires exit { IsExit self.now tree.now exit }
+        requires later { now ≤ exit.level }
+        requires edges { HasEdges self.now tree.now now exit.level (heap_items queue.old.heap) at }
+        ensures exit { IfOk result (λ e. IsExit self.now tree.now e) }
+        ensures later { IfOk result (λ e. now ≤ e.level) }
+        ensures edges { IfOk result (λ e. HasEdges self.now tree.now now e.level (heap_items queue.new.heap) (length tree.now.names.items)) }
     {
         let name = tree.names[at];
         let high = self.duals.y[name as usize];
         let row = self.rows.row(name);
         for candidate in row {
+            // as no potential is below 0, the edge is no nearer than this
+            let least = now.saturating_add(high.saturating_sub(candidate.weight));
+            if least >= exit.level {
+                continue;
+            }
             let slack = high + self.duals.value(candidate.number) - candidate.weight;
-            queue.offer(now, slack, at, candidate.number, leaves)?;
+            let level = now.saturating_add(slack);
+            let edge = (Reverse(level), Reverse(at), candidate.number);
+            exit = self.follow(tree, queue, edge, exit)?;
         }
-        Ok(())
+        Ok(exit)
     }
 
-    /// The least level at which a pair of the tree is tight, or else at which a name leaves.
+    /// The nearest edge of the queue to a number that the tree does not hold, or the exit, if that is no farther.
     fn next(&self, tree: &Tree, queue: &mut Queue, now: u64, exit: Nearest) -> Nearest
         requires searching { IsLazy self.now tree.now now }
         requires exit { IsExit self.now tree.now exit }
@@ -72,9 +114,9 @@ impl Solver<'_, '_, '_> {
         ensures slack { IsSlack (row_weight self.now.rows.now) (lowered_to self.now.duals self.now.pairs tree.now now) tree.now.position.items tree.now.names.items (result.level - now) }
         ensures within { result.at < length tree.now.names.items }
         ensures met { IsMet (row_weight self.now.rows.now) (lowered_to self.now.duals self.now.pairs tree.now now) tree.now.position.items tree.now.names.items (result.level - now) result.at result.number }
-        ensures rest { IfSome result.number (λ v. HasOtherEdges self.now tree.now result.level exit.level (heap_items queue.new.heap) v) }
+        ensures rest { IfSome result.number (λ v. (n : ℕ) → btree.get nat_cmp self.now.pairs.owner v ≡ Some n → HasOtherEdges self.now tree.now result.level exit.level (heap_items queue.new.heap) v) }
     {
-        while let Some((Reverse(level), at, number)) = queue.pop() {
+        while let Some((Reverse(level), Reverse(at), number)) = queue.pop() {
             if exit.level <= level {
                 return exit;
             }
@@ -138,12 +180,12 @@ impl Solver<'_, '_, '_> {
         queue.clear();
         tree.start(root)?;
         let mut now = 0;
-        let mut exit = Nearest {
+        let leaves = Nearest {
             level: self.duals.y[root as usize],
             at: 0,
             number: None,
         };
-        self.reach(tree, queue, 0, now, exit.level)?;
+        let mut exit = self.reach(tree, queue, 0, now, leaves)?;
         'turns: loop {
             let best = self.next(tree, queue, now, exit);
             let Some(number) = best.number else {
@@ -157,12 +199,12 @@ impl Solver<'_, '_, '_> {
             let at = tree.names.len();
             tree.push(name, best.at, best.level)?;
             now = best.level;
-            exit = exit.or(Nearest {
+            let leaves = exit.or(Nearest {
                 level: now + self.duals.y[name as usize],
                 at,
                 number: None,
             });
-            self.reach(tree, queue, at, now, exit.level)?;
+            exit = self.reach(tree, queue, at, now, leaves)?;
         }
     }
 }

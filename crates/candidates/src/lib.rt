@@ -166,6 +166,3 @@ impl<'n, 'a> Rows<'n, 'a> {
         Ok(Mapping::new(filling.finish(alloc)?))
     }
 }
-
-#[cfg(test)]
-mod tests;

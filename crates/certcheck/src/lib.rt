@@ -30,6 +30,3 @@ pub use lines::read_certificate;
 pub use making::{certificate_of, side_of};
 pub use reading::CertificateFault;
 pub use writing::write_certificate;
-
-#[cfg(test)]
-mod tests;

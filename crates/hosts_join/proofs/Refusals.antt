@@ -1,7 +1,7 @@
 -- Which refusal comes first.
-use Rattle.std.proofs.Common.{◌≡◌, ℕ, ◌+◌, cond, ◌^◌, ◌<◌, ◌≤◌, Bool, List, map, None, Some, Ok, Err, refl, sym, ◌∙◌, ap}
+use Rattle.std.proofs.Common.{◌≡◌, ℕ, ◌+◌, cond, ◌^◌, ◌≤◌, Bool, true, false, List, map, Option, None, Some, IfSome, Ok, Err, refl, sym, ◌∙◌, ap}
 use Rattle.std.specs.List.{count_by}
-use Rattle.std.proofs.lemmas.Bool.{lt-ltb, le-ltb}
+use Rattle.std.proofs.lemmas.Bool.{ltb-false}
 use Rattle.logindefs.specs.declared.ranges.IdRange.{IdRange}
 use Rattle.std.proofs.lemmas.List.Folds.{fold-map}
 use Rattle.std.specs.Option.{option_map}
@@ -9,9 +9,15 @@ use Rattle.hosts_join.proofs.Counting.{count_below-same}
 use Rattle.hosts_join.specs.Count.{count_below}
 use Rattle.hosts_join.specs.Accounts.{Accounts, Pair}
 use Rattle.hosts_join.specs.declared.fault.PoolClass.TheVariants as pool
-use Rattle.hosts_join.specs.declared.fault.SiteFault.TheVariants.{PoolTooSmall, PinClash}
-use Rattle.hosts_join.specs.Pool.{in_runs}
-use Rattle.hosts_join.specs.Rules.{Clash, joined, first_some, disagrees, clash, clash_of, claims, too_small, names_in, pool_size, in_pool, same_class, class_of}
+use Rattle.hosts_join.specs.declared.fault.PoolClass.{PoolClass}
+use Rattle.hosts_join.specs.declared.fault.SiteFault.{SiteFault}
+use Rattle.hosts_join.specs.declared.fault.SiteFault.TheVariants.{BadHostName, HostTwice, HostCount, NoPrimaryGroup, PinDisagrees, PinClash, PoolTooSmall, Memory}
+use Rattle.hosts_join.specs.Told.{told}
+use Rattle.hosts_join.specs.declared.names.PoolPair.{PoolPair}
+use Rattle.hosts_join.specs.Settled.{ArePools, small_among}
+use Rattle.idtext.specs.First.{or_else}
+use Rattle.hosts_join.specs.Pool.{in_runs, run_size}
+use Rattle.hosts_join.specs.Rules.{Clash, joined, first_some, disagrees, clash, clash_of, claims, too_small, names_in, pool_size, in_pool, same_class, class_of, class_served}
 use Rattle.hosts_join.specs.declared.Class.{Class}
 use Rattle.hosts_join.specs.declared.Class.TheVariants.{Regular, System}
 use Rattle.hosts_join.specs.declared.Which.{Which}
@@ -28,20 +34,44 @@ pool-size a c runs n e h = sym (h ∙ count_below-same (in_runs runs) (in_pool a
 pub no-clash : (kind : Which) (given : List Pair) → clash_of given ≡ None → clash kind given ≡ None
 no-clash kind given e = ap (option_map (λ (d : Clash). PinClash kind d.number d.first d.second)) e
 
-module _ (kind : Which) (a : Accounts) (agreed : first_some (disagrees kind a.hosts a.pins) a.names ≡ None) (apart : clash kind (claims a) ≡ None) where
-  pub regular-too-small : (names numbers : ℕ) → names_in a Regular ≡ names → pool_size a Regular ≡ numbers → numbers < names → joined kind a ≡ Err (PoolTooSmall kind pool.Regular names numbers)
-  regular-too-small names numbers n m h =
-      let small : too_small kind a pool.Regular ≡ Some (PoolTooSmall kind pool.Regular names numbers) = rw (n, m, lt-ltb numbers names h) refl in
-      rw (agreed, apart, small) refl
+-- a fault, or want of memory, of which nothing is said
+of-told : (Is : SiteFault → Type 0) (fault : SiteFault) → Is fault → IfSome (told fault) Is
+of-told Is (BadHostName name) h = h
+of-told Is (HostTwice name) h = h
+of-told Is (HostCount count) h = h
+of-told Is (NoPrimaryGroup host user) h = h
+of-told Is (PinDisagrees kind name first second) h = h
+of-told Is (PinClash kind number first second) h = h
+of-told Is (PoolTooSmall kind class names numbers) h = h
+of-told Is Memory h = tt
 
-  pub system-refused : (names numbers : ℕ) → names_in a Regular ≤ pool_size a Regular → names_in a System ≡ names → pool_size a System ≡ numbers → numbers < names → joined kind a ≡ Err (PoolTooSmall kind pool.System names numbers)
-  system-refused names numbers r n m h =
-      let fits : too_small kind a pool.Regular ≡ None = rw (le-ltb (pool_size a Regular) (names_in a Regular) r) refl in
-      let small : too_small kind a pool.System ≡ Some (PoolTooSmall kind pool.System names numbers) = rw (n, m, lt-ltb numbers names h) refl in
-      rw (agreed, apart, fits, small) refl
+not-some : {X : Type 0} (b : Bool) (x : X) → cond b (Some x) None ≡ None → b ≡ false
+not-some true x e = cc
+not-some false x e = refl
 
-  pub accepted : names_in a Regular ≤ pool_size a Regular → names_in a System ≤ pool_size a System → joined kind a ≡ Ok a
-  accepted r s =
-      let fits : too_small kind a pool.Regular ≡ None = rw (le-ltb (pool_size a Regular) (names_in a Regular) r) refl in
-      let fits' : too_small kind a pool.System ≡ None = rw (le-ltb (pool_size a System) (names_in a System) s) refl in
-      rw (agreed, apart, fits, fits') refl
+-- a pool that is not too small
+pub is-enough : (kind : Which) (a : Accounts) (c : PoolClass) → too_small kind a c ≡ None → names_in a (class_served c) ≤ pool_size a (class_served c)
+is-enough kind a c e =
+    ltb-false (pool_size a (class_served c)) (names_in a (class_served c))
+    (not-some _ (PoolTooSmall kind c (names_in a (class_served c)) (pool_size a (class_served c))) e)
+
+-- the pool that is too small, by the classes and the pools that were made
+pub small-same : (kind : Which) (a : Accounts) (classes : List Class) (p : PoolPair) → classes ≡ map (class_of a.pins) a.names → ArePools a p → small_among kind classes p ≡ or_else (too_small kind a pool.Regular) (too_small kind a pool.System)
+small-same kind a classes p e pools =
+    let rn = names-size a Regular classes (count_by (same_class Regular) classes) e refl in
+    let sn = names-size a System classes (count_by (same_class System) classes) e refl in
+    let rm = pool-size a Regular p.regular (run_size p.regular) pools.regular refl in
+    let sm = pool-size a System p.system (run_size p.system) pools.system refl in
+    rw (rn, rm, sn, sm) refl
+
+module _ (kind : Which) (a : Accounts) (agreed : first_some (disagrees kind a.hosts a.pins) a.names ≡ None) where
+  pub joined-clash : (told : Option SiteFault) → IfSome told (λ f. clash kind (claims a) ≡ Some f) → IfSome told (λ f. joined kind a ≡ Err f)
+  joined-clash None h = tt
+  joined-clash (Some f) h = rw (agreed, h) refl
+
+  module _ (apart : clash_of (claims a) ≡ None) where
+    pub joined-small : (fault : SiteFault) → or_else (too_small kind a pool.Regular) (too_small kind a pool.System) ≡ Some fault → IfSome (told fault) (λ f. joined kind a ≡ Err f)
+    joined-small fault h = of-told (λ f. joined kind a ≡ Err f) fault (rw (agreed, no-clash kind (claims a) apart, h) refl)
+
+    pub accepted : or_else (too_small kind a pool.Regular) (too_small kind a pool.System) ≡ None → joined kind a ≡ Ok a
+    accepted h = rw (agreed, no-clash kind (claims a) apart, h) refl

@@ -14,6 +14,7 @@ pub mod PinsInside
 pub mod Clash
 pub mod PoolInside
 pub mod Lawful
+pub mod Settled
 pub mod NamesInside
 pub mod SiteInside
 pub mod Kinds

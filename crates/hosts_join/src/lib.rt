@@ -116,7 +116,7 @@ pub struct Spot {
 }
 
 /// A number on a host, by the host's index.
-#[derive(Clone, Copy, Debug, PartialEq, Eq, Hash)]
+#[derive(Clone, Copy, PartialEq, Eq, Hash)]
 pub(crate) struct Seat {
     /// The host's index, counted from 0.
     pub host: u32,
@@ -125,7 +125,7 @@ pub(crate) struct Seat {
 }
 
 /// A row of an account file, with its host's index.
-#[derive(Clone, Copy, Debug)]
+#[derive(Clone, Copy)]
 pub(crate) struct Row<'a> {
     /// The host's index, counted from 0.
     pub host: u32,
@@ -138,7 +138,7 @@ pub(crate) struct Row<'a> {
 }
 
 /// A host's name, and its ranges for one kind.
-#[derive(Clone, Copy, Debug)]
+#[derive(Clone, Copy)]
 pub(crate) struct HostEntry<'a> {
     /// The host's name.
     pub name: &'a [u8],
@@ -158,7 +158,7 @@ pub struct Pair<'a> {
 }
 
 /// What pins a name to a number: a host, or the pins text.
-#[derive(Clone, Copy, Debug, PartialEq, Eq)]
+#[derive(Clone, Copy)]
 pub(crate) struct Source {
     /// The host's index, counted from 0, or none for the pins text.
     pub host: Option<u32>,

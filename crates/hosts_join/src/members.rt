@@ -14,6 +14,12 @@ use idtext::{LARGEST_ID, Name};
 use logindefs::IdRange;
 use std::alloc::{AllocError, Global};
 
+// All numbers that an account may have.
+const ANY_ID: IdRange = IdRange {
+    low: 0,
+    high: LARGEST_ID,
+};
+
 /// The name of the host that pins, or `None` for the pins text.
 fn host_name<'a>(hosts: &[HostEntry<'a>], source: &Source) -> Option<Name<'a>>
     ensures { result ≡ rules.host_name (map entry_of hosts.now) source.now }
@@ -102,16 +108,24 @@ pub fn claims<'a>(
     Ok(claims)
 }
 
-/// The numbers that lie in each of the ranges.
-pub fn common(ranges: &[IdRange]) -> IdRange
-    ensures { (v : ℕ) → in_range result v ≡ (rules.is_id v && list_all (λ r. in_range r v) ranges.now) }
+/// The numbers that are regular on each of the hosts.
+pub fn common_regular(hosts: &[HostEntry<'_>]) -> IdRange
+    ensures { (v : ℕ) → in_range result v ≡ (rules.is_id v && list_all (λ h. in_range h.regular v) hosts.now) }
 {
-    let mut common = IdRange {
-        low: 0,
-        high: LARGEST_ID,
-    };
-    for range in ranges {
-        common = common.meet(range);
+    let mut common = ANY_ID;
+    for host in hosts {
+        common = common.meet(&host.regular);
+    }
+    common
+}
+
+/// The numbers that are system numbers on each of the hosts.
+pub fn common_system(hosts: &[HostEntry<'_>]) -> IdRange
+    ensures { (v : ℕ) → in_range result v ≡ (rules.is_id v && list_all (λ h. in_range h.system v) hosts.now) }
+{
+    let mut common = ANY_ID;
+    for host in hosts {
+        common = common.meet(&host.system);
     }
     common
 }

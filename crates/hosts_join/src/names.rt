@@ -1,11 +1,14 @@
 //! The names of one kind over all hosts.
-ghost use Rattle.std.specs.Prelude.{◌≡◌, ℕ, List, ◌<◌, ◌≤◌, ◌&&◌, ◌==◌, not, map, length, IfOk, IfSome, Some, count_by};
+ghost use Rattle.std.specs.Prelude.{◌≡◌, ℕ, List, ◌<◌, ◌≤◌, ◌&&◌, ◌==◌, not, map, length, OnOk, IfOk, IfErr, IfSome, Some, None, count_by};
 ghost use Rattle.std.specs.List.{All, list_all, list_any, find};
 ghost use Rattle.std.specs.Option.{option_map};
 ghost use Rattle.idtext.specs.First.{Gives};
 ghost use Rattle.idtext.specs.Names.{is_lawful_name};
 ghost use Rattle.hosts_join.specs.Pool.{AreAscending, in_runs, run_size};
-ghost use Rattle.hosts_join.specs.Rules.{is_taken, is_id, joined};
+ghost use Rattle.hosts_join.specs.Index.{accounts_in, ArePaired};
+ghost use Rattle.hosts_join.specs.Rules as rules;
+ghost use Rattle.hosts_join.specs.Rules.{clash_of, is_taken, is_id, joined};
+ghost use Rattle.hosts_join.specs.Settled.{ArePools, IsSettled, joined_from, lacking, small_among};
 ghost use Rattle.hosts_join.specs.Accounts.{AreNumberedApart, AreNamedApart, IsSpotAmong, grouped, spot_of, spots_of};
 ghost use Rattle.hosts_join.specs.PinPairs.{ArePins};
 ghost use Rattle.hosts_join.specs.Told.{told};
@@ -16,19 +19,17 @@ ghost use Rattle.logindefs.specs.Ranges.{in_range};
 
 use crate::clash::{Clash, find_clash};
 use crate::index::Index;
-use crate::members::{claims, classes, common, names_in};
+use crate::members::{claims, classes, common_regular, common_system, names_in};
 use crate::{
     Class, HostEntry, Pair, PairTable, Pool, PoolClass, Row, Seat, SiteFault, Spot, Which,
 };
 use idtext::Name;
-use logindefs::IdRange;
 use std::alloc::{AllocError, Global};
 use std::marker::Model;
 
 /// The names of one kind, by index in order of first appearance: hosts in order, and on a host its rows in order. A
 /// contract sees the accounts that they were joined from: for its sake alone the hosts and a copy of the pins of the kind
 /// are kept. No call takes memory.
-#[derive(Drop)]
 pub struct Names<'a> {
     hosts: Vec<HostEntry<'a>>,
     pins: Vec<Pair<'a>>,
@@ -38,6 +39,29 @@ pub struct Names<'a> {
     regular: Pool,
     system: Pool,
     none: Pool,
+}
+
+// Written out, so that the proof of a function that lets names go has one call there, and not the parts of all tables.
+impl Drop for Names<'_> {
+    fn drop(self) {
+        let Names {
+            hosts,
+            pins,
+            index,
+            all_lines: _,
+            classes,
+            regular,
+            system,
+            none,
+        } = self;
+        drop(hosts);
+        drop(pins);
+        drop(index);
+        drop(classes);
+        drop(regular);
+        drop(system);
+        drop(none);
+    }
 }
 
 impl<'a> Model for Names<'a> {
@@ -59,20 +83,6 @@ fn claimed(alloc: Global, claims: &[Pair<'_>]) -> Result<Vec<u32>, AllocError>
     claims.iter().map(|claim| claim.number).collect(alloc)
 }
 
-/// The regular ranges of the hosts.
-fn regular_ranges(alloc: Global, hosts: &[HostEntry<'_>]) -> Result<Vec<IdRange>, AllocError>
-    ensures { IfOk result (λ rs. rs.items ≡ map (λ h. h.regular) hosts.now) }
-{
-    hosts.iter().map(|host| host.regular).collect(alloc)
-}
-
-/// The system ranges of the hosts.
-fn system_ranges(alloc: Global, hosts: &[HostEntry<'_>]) -> Result<Vec<IdRange>, AllocError>
-    ensures { IfOk result (λ rs. rs.items ≡ map (λ h. h.system) hosts.now) }
-{
-    hosts.iter().map(|host| host.system).collect(alloc)
-}
-
 /// The numbers of claims, ascending.
 fn numbers(alloc: Global, claims: &[Pair<'_>]) -> Result<Vec<u32>, AllocError>
     ensures ascending { IfOk result (λ ns. AreAscending ns.items) }
@@ -84,20 +94,25 @@ fn numbers(alloc: Global, claims: &[Pair<'_>]) -> Result<Vec<u32>, AllocError>
 }
 
 /// The pools of regular and of system names.
+#[derive(Drop)]
+struct PoolPair {
+    regular: Pool,
+    system: Pool,
+}
+
+/// The pools of regular and of system names, where the claims are given away.
 fn pools(
     alloc: Global,
     hosts: &[HostEntry<'_>],
     claims: &[Pair<'_>],
-) -> Result<(Pool, Pool), AllocError>
-    ensures regular { IfOk result (λ p. (v : ℕ) → in_runs p.0 v ≡ ((is_id v && list_all (λ h. in_range h.regular v) (map entry_of hosts.now)) && not (is_taken (pairs_of claims.now) v))) }
-    ensures system { IfOk result (λ p. (v : ℕ) → in_runs p.1 v ≡ ((is_id v && list_all (λ h. in_range h.system v) (map entry_of hosts.now)) && not (is_taken (pairs_of claims.now) v))) }
+) -> Result<PoolPair, AllocError>
+    ensures regular { IfOk result (λ p. (v : ℕ) → in_runs p.regular v ≡ ((is_id v && list_all (λ h. in_range h.regular v) (map entry_of hosts.now)) && not (is_taken (pairs_of claims.now) v))) }
+    ensures system { IfOk result (λ p. (v : ℕ) → in_runs p.system v ≡ ((is_id v && list_all (λ h. in_range h.system v) (map entry_of hosts.now)) && not (is_taken (pairs_of claims.now) v))) }
 {
     let taken = numbers(alloc, claims)?;
-    let regular = regular_ranges(alloc, hosts)?;
-    let system = system_ranges(alloc, hosts)?;
-    let regular = Pool::of(alloc, common(regular.as_slice()), taken.as_slice())?;
-    let system = Pool::of(alloc, common(system.as_slice()), taken.as_slice())?;
-    Ok((regular, system))
+    let regular = Pool::of(alloc, common_regular(hosts), taken.as_slice())?;
+    let system = Pool::of(alloc, common_system(hosts), taken.as_slice())?;
+    Ok(PoolPair { regular, system })
 }
 
 /// A copy of the pins.
@@ -123,6 +138,93 @@ fn clash_fault<'a>(kind: Which, clash: Clash<'a>) -> SiteFault<'a>
     }
 }
 
+/// Sees that no number is given to two names.
+fn check_claims<'a>(alloc: Global, kind: Which, claims: &[Pair<'a>]) -> Result<(), SiteFault<'a>>
+    ensures apart { OnOk result (clash_of (pairs_of claims.now) ≡ None) }
+    ensures clash { IfErr result (λ e. IfSome (told e) (λ f. rules.clash kind (pairs_of claims.now) ≡ Some f)) }
+{
+    match find_clash(alloc, claims)? {
+        Some(clash) => Err(clash_fault(kind, clash)),
+        None => Ok(()),
+    }
+}
+
+/// The pools of names that have these classes, or the number that is given to two of them.
+fn pools_beside<'a>(
+    alloc: Global,
+    kind: Which,
+    hosts: &[HostEntry<'a>],
+    index: &Index<'a>,
+    classes: &[Class],
+    pins: &PairTable<'a>,
+) -> Result<PoolPair, SiteFault<'a>>
+    requires paired { ArePaired index.now }
+    requires classes { classes.now ≡ map (rules.class_of pins.now) (accounts_in index.now) }
+    ensures pools { IfOk result (ArePools (joined_from hosts.now index.now pins.now)) }
+    ensures apart { OnOk result (clash_of (rules.claims (joined_from hosts.now index.now pins.now)) ≡ None) }
+    ensures clash { IfErr result (λ e. IfSome (told e) (λ f. rules.clash kind (rules.claims (joined_from hosts.now index.now pins.now)) ≡ Some f)) }
+{
+    let claims = claims(alloc, index, classes, pins)?;
+    check_claims(alloc, kind, claims.as_slice())?;
+    Ok(pools(alloc, hosts, claims.as_slice())?)
+}
+
+/// What is wrong with a pool of so many numbers, whose class has so many names.
+fn pool_fault<'a>(kind: Which, class: PoolClass, names: u64, numbers: u64) -> Option<SiteFault<'a>>
+    ensures { result ≡ lacking kind class names numbers }
+{
+    if names <= numbers {
+        return None;
+    }
+    Some(SiteFault::PoolTooSmall {
+        kind,
+        class,
+        names,
+        numbers,
+    })
+}
+
+/// Which pool has fewer numbers than its class has names, regular before system.
+fn small_pool<'a>(kind: Which, classes: &[Class], pools: &PoolPair) -> Option<SiteFault<'a>>
+    ensures { result ≡ small_among kind classes.now pools.now }
+{
+    let names = names_in(classes, Class::Regular);
+    let numbers = pools.regular.len();
+    let regular = pool_fault(kind, PoolClass::Regular, names, numbers);
+    if regular.is_some() {
+        return regular;
+    }
+    let names = names_in(classes, Class::System);
+    pool_fault(kind, PoolClass::System, names, pools.system.len())
+}
+
+/// What is settled of names before they are joined: their classes, and the pools of those that are free.
+#[derive(Drop)]
+struct Settled {
+    classes: Vec<Class>,
+    pools: PoolPair,
+}
+
+/// The classes and the pools of the names, or the first reason why they cannot be joined.
+fn settle<'a>(
+    alloc: Global,
+    kind: Which,
+    hosts: &[HostEntry<'a>],
+    index: &Index<'a>,
+    pins: &PairTable<'a>,
+) -> Result<Settled, SiteFault<'a>>
+    requires { ArePaired index.now }
+    ensures exact { Gives (λ _. joined_from hosts.now index.now pins.now) told result (joined kind (joined_from hosts.now index.now pins.now)) }
+    ensures settled { IfOk result (IsSettled (joined_from hosts.now index.now pins.now)) }
+{
+    let classes = classes(alloc, kind, hosts, index, pins)?;
+    let pools = pools_beside(alloc, kind, hosts, index, classes.as_slice(), pins)?;
+    if let Some(fault) = small_pool(kind, classes.as_slice(), &pools) {
+        return Err(fault);
+    }
+    Ok(Settled { classes, pools })
+}
+
 /// The names of the rows, or the first reason why they cannot be joined.
 pub fn join_rows<'a>(
     alloc: Global,
@@ -142,37 +244,13 @@ pub fn join_rows<'a>(
     ensures { Gives (λ names. names) told result (joined kind (record { hosts = map entry_of hosts.entry.items; names = grouped (rows_of rows.now); pins = pins.now })) }
 {
     let index = Index::of(alloc, rows)?;
-    let classes = classes(alloc, kind, hosts.as_slice(), &index, pins)?;
-    let claims = claims(alloc, &index, classes.as_slice(), pins)?;
-    match find_clash(alloc, claims.as_slice())? {
-        Some(clash) => return Err(clash_fault(kind, clash)),
-        None => {}
-    }
-    let (regular, system) = pools(alloc, hosts.as_slice(), claims.as_slice())?;
-    let regular_names = names_in(classes.as_slice(), Class::Regular);
-    let regular_numbers = regular.len();
-    if regular_numbers < regular_names {
-        return Err(SiteFault::PoolTooSmall {
-            kind,
-            class: PoolClass::Regular,
-            names: regular_names,
-            numbers: regular_numbers,
-        });
-    }
-    let system_names = names_in(classes.as_slice(), Class::System);
-    let system_numbers = system.len();
-    if system_numbers < system_names {
-        return Err(SiteFault::PoolTooSmall {
-            kind,
-            class: PoolClass::System,
-            names: system_names,
-            numbers: system_numbers,
-        });
-    }
-    let pins = copy_pins(alloc, pins)?;
+    let pin_list = copy_pins(alloc, pins)?;
+    let settled = settle(alloc, kind, hosts.as_slice(), &index, pins)?;
+    let Settled { classes, pools } = settled;
+    let PoolPair { regular, system } = pools;
     Ok(Names {
         hosts,
-        pins,
+        pins: pin_list,
         index,
         all_lines: rows.len() as u64,
         classes,
@@ -184,7 +262,6 @@ pub fn join_rows<'a>(
 
 impl<'a> Names<'a> {
     ghost use Rattle.hosts_join.specs.Accounts.{place_of, owner, number_on, lines, all_lines};
-    ghost use Rattle.hosts_join.specs.Rules as rules;
     ghost use Rattle.hosts_join.specs.Rules.{account};
     ghost use Rattle.hosts_join.specs.Lawful.{AreLawfulAccounts};
 

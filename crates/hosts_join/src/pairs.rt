@@ -7,9 +7,16 @@ use std::alloc::{AllocError, Global};
 use std::marker::Model;
 
 /// Names of one kind, each once, with their numbers, in the order of their lines.
-#[derive(Drop)]
 pub struct PairTable<'a> {
     pairs: IndexMap<&'a [u8], u32>,
+}
+
+// Written out, so that the proof of a function that lets a table go has one call there.
+impl Drop for PairTable<'_> {
+    fn drop(self) {
+        let PairTable { pairs } = self;
+        drop(pairs);
+    }
 }
 
 impl<'a> Model for PairTable<'a> {

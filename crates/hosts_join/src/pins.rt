@@ -37,10 +37,18 @@ impl<'a> Model for Pins<'a> {
 }
 
 // The pins of one kind so far, and the set of their numbers.
-#[derive(Drop)]
 struct PinTable<'a> {
     pairs: PairTable<'a>,
     numbers: IndexSet<u32>,
+}
+
+// Written out, so that the proof of a function that lets a table go has one call there.
+impl Drop for PinTable<'_> {
+    fn drop(self) {
+        let PinTable { pairs, numbers } = self;
+        drop(pairs);
+        drop(numbers);
+    }
 }
 
 impl<'a> PinTable<'a> {
@@ -67,6 +75,15 @@ impl<'a> PinTable<'a> {
             return Ok(false);
         }
         self.pairs.add(name, number)
+    }
+
+    // The pins, without the set.
+    fn into_pairs(self) -> PairTable<'a>
+        ensures { result ≡ self.entry.pairs }
+    {
+        let PinTable { pairs, numbers } = self;
+        drop(numbers);
+        pairs
     }
 }
 
@@ -141,8 +158,8 @@ impl<'a> Pins<'a> {
         take_lines(&mut draft, text)?;
         let Draft { users, groups } = draft;
         Ok(Pins {
-            users: users.pairs,
-            groups: groups.pairs,
+            users: users.into_pairs(),
+            groups: groups.into_pairs(),
         })
     }
 

@@ -23,6 +23,3 @@ pub use names::{is_lawful_name, is_skipped};
 pub use numbers::{LARGEST_ID, c_number, decimal, push_number};
 pub use pieces::{Lines, Pieces, cut, fields, split_at_last_space};
 pub use words::{MOST_BYTES, Words, first_word};
-
-#[cfg(test)]
-mod tests;

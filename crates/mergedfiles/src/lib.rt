@@ -47,6 +47,3 @@ pub struct Difference<'a> {
     /// The name of the later host.
     pub host: Name<'a>,
 }
-
-#[cfg(test)]
-mod tests;

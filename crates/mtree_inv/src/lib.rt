@@ -36,6 +36,3 @@ pub use entry::Entry;
 pub use inventory::{Inventory, read_inventory};
 pub use laws::{default_in_force, files_are_lawful, open_directories};
 pub use reader::Reader;
-
-#[cfg(test)]
-mod tests;

@@ -12,6 +12,3 @@ pub use laws::{one_reading, one_spelling, plans_keep_names, plans_read_back};
 pub use plan::{Owner, Plan, PlanFault, Record};
 pub use spell::{push_plan_end, push_plan_head, push_record};
 pub use write::{plan_text, push_plan_entry};
-
-#[cfg(test)]
-mod tests;

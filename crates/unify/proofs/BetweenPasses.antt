@@ -22,7 +22,7 @@ use Rattle.unify.specs.RowFiles.{rows_among}
 use Rattle.unify.specs.SecondPass as second
 use Rattle.unify.specs.SecondPass.{CountHosts, IsFreshTurn, IsSolvedFrom, IsSolving, SolvedValue}
 use Rattle.unify.proofs.Reading.{all-at, all-owned, read-host-of}
-use Rattle.unify.proofs.Whole.{hosts_read}
+use Rattle.unify.proofs.Whole.{hosts_held}
 
 -- ---- hosts whose inventories were ended
 
@@ -32,11 +32,6 @@ loaded_host [] ended k l at = absurd (cc)
 loaded_host (host ∷ hosts) [] k l at = absurd (cc)
 loaded_host (host ∷ hosts) (text ∷ ended) zero l at = ap (option_map (λ (x : Loaded). x.host)) at
 loaded_host (host ∷ hosts) (text ∷ ended) (suc k) l at = loaded_host hosts ended k l at
-
-loaded_hosts : (hosts : List Host) (ended : List (List ℕ)) → length ended ≡ length hosts → map (λ l. l.host) (loaded_from hosts ended) ≡ hosts
-loaded_hosts [] ended same = refl
-loaded_hosts (host ∷ hosts) [] same = absurd (omega (arith, same))
-loaded_hosts (host ∷ hosts) (text ∷ ended) same = ap (λ t. host ∷ t) (loaded_hosts hosts ended (omega (arith, same)))
 
 -- ---- the end of a first pass
 
@@ -72,17 +67,15 @@ over_counted joined index earlier turn fresh counted =
     subst (counts.StandsFor joined turn.counts) (append-nil earlier) none
 
 over_holds : (c : CountingValue) (ended : List (List ℕ)) (text : List ℕ) → IsCounting c → IsOver c → (were : StandsFor c ended text) → HoldsCounted (record { hosts = were.read; joined = c.joined }) c.hosts c.joined c.turn.counts
-over_holds c ended text counting over were =
-    let loaded = loaded_from c.hosts ended in
-    record {
-      hosts_are = sym (loaded_hosts c.hosts ended (were.ended_are ∙ over)) ∙ sym (hosts_read loaded were.read were.accepted).0;
-      joined_is = refl;
-      together = counting.whole.together;
-      made = were.turns.made;
-      counted_are = over_counted c.joined (ended_in c) (added_from 0 were.read) c.turn (counting.fresh over) were.turns.counted;
-      few = counting.whole.few;
-      lawful = counting.whole.lawful;
-    }
+over_holds c ended text counting over were = record {
+  hosts_are = (hosts_held c.hosts ended were.read (were.ended_are ∙ over) were.accepted).0;
+  joined_is = refl;
+  together = counting.whole.together;
+  made = were.turns.made;
+  counted_are = over_counted c.joined (ended_in c) (added_from 0 were.read) c.turn (counting.fresh over) were.turns.counted;
+  few = counting.whole.few;
+  lawful = counting.whole.lawful;
+}
 
 -- the site of which the first pass stands for the texts
 pub whole_of : (c : CountingValue) → IsCounting c → IsOver c → (whole : WholeSite) × IsWhole whole × HoldsCounted whole c.hosts c.joined c.turn.counts

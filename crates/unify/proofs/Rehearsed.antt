@@ -16,30 +16,33 @@ use Rattle.unify.specs.Replies.{reply_of}
 use Rattle.unify.specs.Rehearsing.{IsRehearsed, Rehearses, record_fault, rehearsed}
 use Rattle.unify.specs.Told.{in_file}
 
+module _ (mtree : List ℕ) (plan : PlanData) (host : List ℕ) (same : host ≡ plan.host) where
+  abbrev carried : List Entry → Result ℕ Fault
+  carried files = unless (first_fault (record_fault files) [] plan.records) (length plan.records)
+
+  as_read : (read : Result (List Entry) Fault) → in_file host file.Mtree (inventory 16777216 mtree) ≡ read → rehearsed (Ok plan) mtree ≡ (read >>= carried)
+  as_read read e = ap (λ h. in_file h file.Mtree (inventory 16777216 mtree) >>= carried) (sym same) ∙ ap (λ r. r >>= carried) e
+
+  pub files_refused : (o : Option Fault) → IfSome o (λ f. in_file host file.Mtree (inventory 16777216 mtree) ≡ Err f) → IfSome o (λ f. rehearsed (Ok plan) mtree ≡ Err f)
+  files_refused None h = tt
+  files_refused (Some f) h = as_read (Err f) h
+
+  pub carried_out : (files : List Entry) → in_file host file.Mtree (inventory 16777216 mtree) ≡ Ok files → (result : Result ℕ Fault) → Gives (λ n. n) told result (carried files) → Gives (λ n. n) told result (rehearsed (Ok plan) mtree)
+  carried_out files read result h = subst (Gives (λ n. n) told result) (sym (as_read (Ok files) read)) h
+
 module _ (text mtree : List ℕ) where
   pub plan_refused : (o : Option Fault) → IfSome o (λ f. (offset : ℕ) × (f ≡ BadPlan offset) × ReadsAs text (Err offset)) → IfSome o (λ f. IsRehearsed text mtree (Err f))
   plan_refused None h = tt
   plan_refused (Some f) h = record { plan = Err h.0; reads = h.2; answered = ap (λ g. Err g) (sym h.1) }
 
-  module _ (plan : PlanData) (reads : ReadsAs text (Ok plan)) (host : List ℕ) (same : host ≡ plan.host) where
-    abbrev carried : List Entry → Result ℕ Fault
-    carried files = unless (first_fault (record_fault files) [] plan.records) (length plan.records)
-
-    as_read : (read : Result (List Entry) Fault) → in_file host file.Mtree (inventory 16777216 mtree) ≡ read → rehearsed (Ok plan) mtree ≡ (read >>= carried)
-    as_read read e = ap (λ h. in_file h file.Mtree (inventory 16777216 mtree) >>= carried) (sym same) ∙ ap (λ r. r >>= carried) e
-
-    pub files_refused : (o : Option Fault) → IfSome o (λ f. in_file host file.Mtree (inventory 16777216 mtree) ≡ Err f) → IfSome o (λ f. IsRehearsed text mtree (Err f))
-    files_refused None h = tt
-    files_refused (Some f) h = record { plan = Ok plan; reads = reads; answered = as_read (Err f) h }
-
-    module _ (files : List Entry) (read : in_file host file.Mtree (inventory 16777216 mtree) ≡ Ok files) where
-      run_refused : (o : Option Fault) → IfSome o (λ f. carried files ≡ Err f) → IfSome o (λ f. IsRehearsed text mtree (Err f))
-      run_refused None h = tt
-      run_refused (Some f) h = record { plan = Ok plan; reads = reads; answered = as_read (Ok files) read ∙ h }
-
-      pub carried_out : (result : Result ℕ Fault) → Gives (λ n. n) told result (carried files) → Rehearses told text mtree result
-      carried_out (Ok n) h = record { plan = Ok plan; reads = reads; answered = as_read (Ok files) read ∙ h }
-      carried_out (Err e) h = run_refused (told e) h
+  -- what a plan that the text spells gives
+  pub plan_answers : (plan : PlanData) → ReadsAs text (Ok plan) → (result : Result ℕ Fault) → Gives (λ n. n) told result (rehearsed (Ok plan) mtree) → Rehearses told text mtree result
+  plan_answers plan reads (Ok n) h = record { plan = Ok plan; reads = reads; answered = h }
+  plan_answers plan reads (Err e) h = refused (told e) h
+    where
+      refused : (o : Option Fault) → IfSome o (λ f. rehearsed (Ok plan) mtree ≡ Err f) → IfSome o (λ f. IsRehearsed text mtree (Err f))
+      refused None h = tt
+      refused (Some f) h = record { plan = Ok plan; reads = reads; answered = h }
 
   -- ---- the reply
 

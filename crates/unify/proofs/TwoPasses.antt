@@ -1,9 +1,10 @@
 -- The tables of a site and then its inventories are the site.
-use Rattle.std.proofs.Common.{◌≡◌, List, [], ◌∷◌, map, Result, Ok, Err, refl, sym, ap, ◌∙◌}
+use Rattle.std.proofs.Common.{◌≡◌, ℕ, List, [], ◌∷◌, map, Result, Ok, Err, refl, sym, ap, ◌∙◌}
 use Rattle.idtext.specs.First.{◌>>=◌, each}
 use Rattle.idtext.proofs.OkLemmas.{bind_ok, ok_same}
 use Rattle.accounts.specs.Tables.{passwd_table, group_table}
 use Rattle.logindefs.specs.Ranges.{ranges_of}
+use Rattle.mtree_inv.specs.declared.entry.Entry.{Entry}
 use Rattle.hosts_join.specs.Checks.{hosts_checked, primary_checked}
 use Rattle.hosts_join.specs.PinsText.{pins_of}
 use Rattle.hosts_join.specs.Site.{Joined, joined_site}
@@ -22,7 +23,7 @@ use Rattle.unify.specs.Told.{in_file, in_site, in_pins}
 use Rattle.unify.proofs.Adding.{loaded_from-parts}
 
 -- a step before two steps, and before what goes on behind the one of them
-first-step : {A B C F : Type 0} (r : Result A F) (whole : A → Result C F) (begun : A → Result B F) (rest : B → Result C F) → ((x : A) → r ≡ Ok x → whole x ≡ (begun x >>= rest)) → (r >>= whole) ≡ ((r >>= begun) >>= rest)
+pub first-step : {A B C F : Type 0} (r : Result A F) (whole : A → Result C F) (begun : A → Result B F) (rest : B → Result C F) → ((x : A) → r ≡ Ok x → whole x ≡ (begun x >>= rest)) → (r >>= whole) ≡ ((r >>= begun) >>= rest)
 first-step (Ok x) whole begun rest h = h x refl
 first-step (Err e) whole begun rest h = refl
 
@@ -67,3 +68,15 @@ passes_read_the_site texts pins_text =
     (λ loaded hosts_are. first-step (in_pins (pins_of pins_text)) _ _ (inventories texts)
     (λ pins p. first-step (in_site (joined_site (map (λ (l : Loaded). l.host) loaded) pins)) _ _ (inventories texts)
     (λ joined j. ap (site_with joined) (sym (loaded-again texts loaded hosts_are))))))
+
+-- ---- what a site reads as, from what comes before the inventories
+
+pub begun_refused : (texts : List HostText) (pins_text : List ℕ) (f : Fault) → site_begun texts pins_text ≡ Err f → site_read texts pins_text ≡ Err f
+begun_refused texts pins_text f h = passes_read_the_site texts pins_text ∙ ap (λ r. r >>= inventories texts) h
+
+pub inventories_refused : (texts : List HostText) (pins_text : List ℕ) (begun : BegunSite) (f : Fault) → site_begun texts pins_text ≡ Ok begun → each site_of (loaded_from begun.hosts (map (λ t. t.mtree) texts)) ≡ Err f → site_read texts pins_text ≡ Err f
+inventories_refused texts pins_text begun f h e = passes_read_the_site texts pins_text ∙ ap (λ r. r >>= inventories texts) h ∙ rw e refl
+
+pub site_is : (texts : List HostText) (pins_text : List ℕ) (begun : BegunSite) (read : List (Host × List Entry)) → site_begun texts pins_text ≡ Ok begun → each site_of (loaded_from begun.hosts (map (λ t. t.mtree) texts)) ≡ Ok read
+    → site_read texts pins_text ≡ Ok (record { hosts = read; joined = begun.joined })
+site_is texts pins_text begun read h e = passes_read_the_site texts pins_text ∙ ap (λ r. r >>= inventories texts) h ∙ rw e refl

@@ -40,6 +40,10 @@ pub record BegunSite : Type 0 where
   pub hosts : List Host
   pub joined : Joined
 
+-- the accounts over all hosts, by the pins of a text: the pins text; the join, users and then groups
+abbrev pub pinned_site : List Host → List ℕ → Result Joined Fault
+pinned_site hosts pins_text = in_pins (pins_of pins_text) >>= λ pins. in_site (joined_site hosts pins)
+
 -- the host list; host by host its files but the inventory; the pins text; the join, users and then groups
 unfoldable pub site_begun : List HostText → List ℕ → Result BegunSite Fault
 site_begun texts pins_text = do

@@ -1,14 +1,18 @@
 //! The first pass over inventories that come in pieces: their files are counted.
 
-ghost use Rattle.std.specs.Prelude.{◌≡◌, [], List, slice_get, Some, IfOk};
+ghost use Rattle.std.specs.Prelude.{◌≡◌, ◌+◌, ◌<◌, ◌≤◌, ◌++◌, ◌∷◌, [], List, length, slice_get, Some, IfOk, IfErr, OnOk};
+ghost use Rattle.mtree_inv.specs.declared.entry.Entry.{Entry};
+ghost use Rattle.hosts_join.specs.Laws.{HasLawfulAccounts};
 ghost use Rattle.hosts_join.specs.declared.host.Host.{Host};
 ghost use Rattle.ownership.specs.Counts as counters;
 ghost use Rattle.ownership.specs.Counts.{IsMadeFor};
+ghost use Rattle.ownership.specs.Files.{Added};
 ghost use Rattle.unify.specs.Laws.{IsWhole};
 ghost use Rattle.unify.specs.Loading.{HoldsCounted};
 ghost use Rattle.unify.specs.Merging.{IsMerged};
+ghost use Rattle.unify.specs.Passes.{StandBehind};
 ghost use Rattle.unify.specs.Reading.{WholeSite};
-ghost use Rattle.unify.specs.RowFiles.{rows_among};
+ghost use Rattle.unify.specs.RowFiles.{RowFiles, row_files, rows_among};
 ghost use Rattle.unify.specs.SecondPass.{IsFreshTurn};
 
 use crate::host::MOST_FILES;
@@ -46,6 +50,57 @@ impl<'a> Model for Counting<'a> {
     ghost view = { λ c. record { hosts = c.hosts.items; joined = c.site; passed = c.passed.items; before = c.before; turn = c.turn } };
 
     ghost invariant = { λ c. IsCounting (record { hosts = c.hosts.items; joined = c.site; passed = c.passed.items; before = c.before; turn = c.turn }) };
+}
+
+// Counters of no file, and what they tell of the rows of the first host.
+#[derive(Drop)]
+struct NothingCounted {
+    counts: Counts,
+    before: RowFiles,
+}
+
+// Counters of no file.
+fn nothing_counted(
+    alloc: Global,
+    hosts: &[Host<'_>],
+    site: &Site<'_>,
+) -> Result<NothingCounted, AllocError>
+    requires lawful { HasLawfulAccounts site.now }
+    requires few { length hosts.now ≤ 64 }
+    ensures made { IfOk result (λ start. IsMadeFor site.now start.counts) }
+    ensures none { IfOk result (λ start. counters.StandsFor site.now start.counts []) }
+    ensures before { IfOk result (λ start. (host : Host) → slice_get hosts.now 0 ≡ Some host → start.before ≡ rows_among site.now 0 host []) }
+{
+    let counts = Counts::new(alloc, site)?;
+    let before = files_before(alloc, site, hosts, 0, &counts)?;
+    Ok(NothingCounted { counts, before })
+}
+
+// Notes how many files each row of the next host owns, whose files are counted, and what the counters tell of the rows of
+// the host behind it.
+fn pass_host(
+    alloc: Global,
+    hosts: &[Host<'_>],
+    site: &Site<'_>,
+    counts: &Counts,
+    passed: &mut Vec<RowFiles>,
+    before: &mut RowFiles,
+) -> Result<(), AllocError>
+    requires lawful { HasLawfulAccounts site.now }
+    requires made { IsMadeFor site.now counts.now }
+    requires few { length hosts.now ≤ 64 }
+    requires left { length passed.old.items < length hosts.now }
+    ensures refused { IfErr result (λ _. (passed.new.items ≡ passed.old.items) × (before.new ≡ before.old)) }
+    ensures rows { OnOk result ((rows : RowFiles) × (passed.new.items ≡ passed.old.items ++ rows ∷ []) × ((host : Host) (earlier : List Added) (files : List Entry) → slice_get hosts.now (length passed.old.items) ≡ Some host → before.old ≡ rows_among site.now (length passed.old.items) host earlier → StandBehind site.now (length passed.old.items) earlier counts.now files → rows ≡ row_files host files)) }
+    ensures before { OnOk result ((host : Host) (files : List Added) → slice_get hosts.now (length passed.old.items + 1) ≡ Some host → counters.StandsFor site.now counts.now files → before.new ≡ rows_among site.now (length passed.old.items + 1) host files) }
+{
+    let index = passed.len();
+    let host = &hosts[index];
+    let rows = files_since(alloc, site, index as u32, host, counts, before)?;
+    let next = files_before(alloc, site, hosts, index + 1, counts)?;
+    passed.push(rows)?;
+    *before = next;
+    Ok(())
 }
 
 // What is merged from the counters, and the turn of the first host in the second pass.
@@ -93,17 +148,16 @@ impl<'a> Counting<'a> {
         ensures hosts { IfOk result (λ c. length c.hosts ≡ length hosts.now) }
     {
         let begun = begin_site(alloc, hosts, pins)?;
-        let counts = Counts::new(alloc, &begun.site)?;
-        let before = files_before(alloc, &begun.site, begun.hosts.as_slice(), 0, &counts)?;
+        let start = nothing_counted(alloc, &begun.hosts, &begun.site)?;
         Ok(Counting {
             alloc,
             hosts: begun.hosts,
             site: begun.site,
             passed: Vec::new(alloc),
-            before,
+            before: start.before,
             turn: Turn {
                 reader: Reader::new(alloc, MOST_FILES),
-                counts,
+                counts: start.counts,
                 unowned: None,
             },
         })
@@ -156,19 +210,14 @@ impl<'a> Counting<'a> {
         let index = self.passed.len();
         let host = &self.hosts[index];
         end_turn(self.alloc, &mut self.turn, &self.site, index as u32, host)?;
-        let counts = &self.turn.counts;
-        let rows = files_since(
+        pass_host(
             self.alloc,
+            &self.hosts,
             &self.site,
-            index as u32,
-            host,
-            counts,
-            &self.before,
+            &self.turn.counts,
+            &mut self.passed,
+            &mut self.before,
         )?;
-        let hosts = self.hosts.as_slice();
-        let before = files_before(self.alloc, &self.site, hosts, index + 1, counts)?;
-        self.passed.push(rows)?;
-        self.before = before;
         self.turn.reader = Reader::new(self.alloc, MOST_FILES);
         Ok(())
     }

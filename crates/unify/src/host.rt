@@ -1,6 +1,6 @@
 //! What the texts of a host say.
 
-ghost use Rattle.std.specs.Prelude.{◌≡◌, ◌≤◌, [], length, IfOk, All, option_map};
+ghost use Rattle.std.specs.Prelude.{◌≡◌, ◌≤◌, [], length, Ok, Err, IfOk, IfErr, IfSome, All, option_map};
 ghost use Rattle.idtext.specs.First.{Gives, each, first_fault, unless};
 ghost use Rattle.accounts.specs.Laws.{IsPasswdTable, IsGroupTable};
 ghost use Rattle.accounts.specs.Tables.{passwd_table, group_table};
@@ -9,6 +9,7 @@ ghost use Rattle.mtree_inv.specs.Inventory.{inventory};
 ghost use Rattle.hosts_join.specs.Checks.{primary_checked};
 ghost use Rattle.hosts_join.specs.Hosts.{IsLawfulHost};
 ghost use Rattle.hosts_join.specs.Kinds.{user_at, group_at};
+ghost use Rattle.unify_texts.specs.declared.fault.Fault.{Fault};
 ghost use Rattle.unify_texts.specs.declared.fault.Fault.TheVariants.{Line};
 ghost use Rattle.unify_texts.specs.Told.{told};
 ghost use Rattle.unify.specs.Told.{in_file, site_told, in_site};
@@ -147,23 +148,33 @@ fn primary_at<'a>(host: &Host<'a>) -> Result<(), Fault<'a>>
     }
 }
 
-/// Reads a host's files but its inventory: login.defs, passwd, group, and then whether each user's group is there. It
-/// refuses with the first fault in this order. One pass over each text; the tables borrow them.
+// The tables of a host: login.defs, passwd and group. What is left to ask is whether each user's group is there.
 #[tactic(auto, unfolding(crate::specs::Hosts::host_of))]
-pub fn load_host<'a>(alloc: Global, text: &'a HostText) -> Result<Loaded<'a>, Fault<'a>>
-    ensures exact { Gives (λ x. x) told result (host_of text.now) }
-    ensures lawful { IfOk result (λ loaded. IsLawfulHost loaded.host) }
+fn tables_at<'a>(alloc: Global, text: &'a HostText) -> Result<Host<'a>, Fault<'a>>
+    ensures refused { IfErr result (λ e. IfSome (told e) (λ f. host_of text.now ≡ Err f)) }
+    ensures accepted { IfOk result (λ host. (u : Unit {0}) → in_site (primary_checked host) ≡ Ok u → host_of text.now ≡ Ok (record { host = host; mtree = text.now.mtree })) }
+    ensures unchecked { IfOk result (λ host. (f : Fault) → in_site (primary_checked host) ≡ Err f → host_of text.now ≡ Err f) }
+    ensures lawful { IfOk result (λ host. IsLawfulHost host) }
 {
     let name = text.name.bytes();
     let ranges = ranges_at(name, text.logindefs.bytes())?;
     let users = users_at(alloc, name, text.passwd.bytes())?;
     let groups = groups_at(alloc, name, text.group.bytes())?;
-    let host = Host {
+    Ok(Host {
         name: Name::new(name),
         ranges,
         users,
         groups,
-    };
+    })
+}
+
+/// Reads a host's files but its inventory: login.defs, passwd, group, and then whether each user's group is there. It
+/// refuses with the first fault in this order. One pass over each text; the tables borrow them.
+pub fn load_host<'a>(alloc: Global, text: &'a HostText) -> Result<Loaded<'a>, Fault<'a>>
+    ensures exact { Gives (λ x. x) told result (host_of text.now) }
+    ensures lawful { IfOk result (λ loaded. IsLawfulHost loaded.host) }
+{
+    let host = tables_at(alloc, text)?;
     primary_at(&host)?;
     Ok(Loaded {
         host,

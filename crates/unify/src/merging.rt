@@ -1,24 +1,29 @@
 //! From the texts of hosts to one passwd and group, a map, a certificate, a report and plans.
 
-ghost use Rattle.std.specs.Prelude.{◌≡◌, List, length, IfOk};
+ghost use Rattle.std.specs.Prelude.{◌≡◌, [], List, length, All, IfOk, OnOk, Ok};
 ghost use Rattle.idtext.specs.First.{Yields};
+ghost use Rattle.hosts_join.specs.Hosts.{IsLawfulHost};
 ghost use Rattle.ownership.specs.Costs.{cost_of};
 ghost use Rattle.ownership.specs.Counts.{IsMadeFor, StandsFor};
 ghost use Rattle.ownership.specs.Files.{Added, by_user, by_group};
+ghost use Rattle.certcheck.specs.Spelling.{spelling};
+ghost use Rattle.mergedfiles.specs.Texts.{merged_users, merged_groups};
+ghost use Rattle.mergedfiles.specs.Together.{AreJoined};
+ghost use Rattle.unify_texts.specs.Report.{report_of};
 ghost use Rattle.unify_texts.specs.Told.{told};
 ghost use Rattle.unify_texts.specs.WrittenMap.{map_text};
 ghost use Rattle.unify.specs.Loading.{HoldsCounted, HoldsSite};
 ghost use Rattle.unify.specs.Headline.{Headline};
 ghost use Rattle.unify.specs.Laws.{IsWhole};
-ghost use Rattle.unify.specs.Merging.{IsMerged, IsPrintedButPlans, mappings_in};
-ghost use Rattle.unify.specs.Outcomes.{IsOutcome};
-ghost use Rattle.unify.specs.Reading.{WholeSite, site_read};
+ghost use Rattle.unify.specs.Merging.{IsMerged, IsPrintedButPlans};
+ghost use Rattle.unify.specs.Outcomes.{AreAnswered, IsOutcome};
+ghost use Rattle.unify.specs.Reading.{WholeSite, files_of_site, site_read};
 
 use crate::counting::Cost;
 use crate::outcome::{Outcome, TextList};
 use crate::plans::plan_texts;
 use crate::site::{LoadedSite, read_site};
-use crate::solving::{CertifiedMapping, solve_names};
+use crate::solving::solve_names;
 use candidates::Mapping;
 use certcheck::{Certificate, write_certificate};
 use hosts_join::{Host, HostText, Site};
@@ -35,6 +40,14 @@ pub struct Merged {
     pub outcome: Outcome,
     pub users: Mapping,
     pub groups: Mapping,
+}
+
+// Mappings of the names of both kinds, and the certificate of both.
+#[derive(Drop)]
+struct CertifiedMappings<'a> {
+    users: Mapping,
+    groups: Mapping,
+    certificate: Certificate<'a>,
 }
 
 // How many owner and group fields mappings change.
@@ -69,44 +82,136 @@ fn map_of(
     Ok(ByteString::from_vec(text))
 }
 
+// The mappings of a site whose files were counted, and their certificate.
+fn solve_site<'a>(
+    alloc: Global,
+    site: &Site<'a>,
+    counts: &Counts,
+) -> Result<CertifiedMappings<'a>, AllocError>
+    requires { IsMadeFor site.now counts.now }
+    ensures users { IfOk result (λ found. length found.users ≡ length site.now.users.names) }
+    ensures groups { IfOk result (λ found. length found.groups ≡ length site.now.groups.names) }
+    ensures answered { IfOk result (λ found. (whole : WholeSite) → site.now ≡ whole.joined → StandsFor whole.joined counts.now (files_of_site whole) → AreAnswered whole (record { users = found.users; groups = found.groups }) found.certificate) }
+{
+    let Ok(users) = solve_names(alloc, site.users(), counts.users()) else {
+        return Err(AllocError);
+    };
+    let Ok(groups) = solve_names(alloc, site.groups(), counts.groups()) else {
+        return Err(AllocError);
+    };
+    Ok(CertifiedMappings {
+        users: users.mapping,
+        groups: groups.mapping,
+        certificate: Certificate {
+            users: users.side,
+            groups: groups.side,
+        },
+    })
+}
+
+// What a merge writes, with nothing written as yet.
+fn nothing_written(alloc: Global) -> Outcome
+    ensures { result.plans ≡ [] }
+{
+    Outcome {
+        passwd: ByteString::new(alloc),
+        group: ByteString::new(alloc),
+        map: ByteString::new(alloc),
+        certificate: ByteString::new(alloc),
+        report: ByteString::new(alloc),
+        plans: TextList::new(alloc),
+        cost: Cost {
+            users: 0,
+            groups: 0,
+        },
+    }
+}
+
+// Writes passwd and group by mappings.
+fn write_accounts(
+    alloc: Global,
+    hosts: &[Host<'_>],
+    site: &Site<'_>,
+    certified: &CertifiedMappings<'_>,
+    outcome: &mut Outcome,
+) -> Result<(), AllocError>
+    requires joined { AreJoined hosts.now site.now }
+    requires lawful { All IsLawfulHost hosts.now }
+    requires users { length certified.now.users ≡ length site.now.users.names }
+    requires groups { length certified.now.groups ≡ length site.now.groups.names }
+    ensures { OnOk result (outcome.new ≡ record outcome.old { passwd = merged_users hosts.now site.now certified.now.users certified.now.groups; group = merged_groups hosts.now site.now certified.now.groups }) }
+{
+    let passwd = passwd_text(alloc, hosts, site, &certified.users, &certified.groups)?;
+    outcome.passwd = ByteString::from_vec(passwd);
+    let group = group_text(alloc, hosts, site, &certified.users, &certified.groups)?;
+    outcome.group = ByteString::from_vec(group);
+    Ok(())
+}
+
+// Writes mappings as a map, and their certificate.
+fn write_numbers(
+    alloc: Global,
+    site: &Site<'_>,
+    certified: &CertifiedMappings<'_>,
+    outcome: &mut Outcome,
+) -> Result<(), AllocError>
+    requires users { length certified.now.users ≡ length site.now.users.names }
+    requires groups { length certified.now.groups ≡ length site.now.groups.names }
+    ensures { OnOk result (outcome.new ≡ record outcome.old { map = map_text site.now (record { users = certified.now.users; groups = certified.now.groups }); certificate = spelling certified.now.certificate }) }
+{
+    outcome.map = map_of(alloc, site, &certified.users, &certified.groups)?;
+    let certificate = write_certificate(alloc, &certified.certificate)?;
+    outcome.certificate = ByteString::from_vec(certificate);
+    Ok(())
+}
+
+// Writes what mappings change: the report, and the cost.
+fn write_changes(
+    alloc: Global,
+    hosts: &[Host<'_>],
+    site: &Site<'_>,
+    counts: &Counts,
+    certified: &CertifiedMappings<'_>,
+    outcome: &mut Outcome,
+) -> Result<(), AllocError>
+    requires joined { AreJoined hosts.now site.now }
+    requires lawful { All IsLawfulHost hosts.now }
+    requires made { IsMadeFor site.now counts.now }
+    requires users { length certified.now.users ≡ length site.now.users.names }
+    requires groups { length certified.now.groups ≡ length site.now.groups.names }
+    ensures { OnOk result ((files : List Added) → StandsFor site.now counts.now files → outcome.new ≡ record outcome.old { report = report_of hosts.now site.now files (record { users = certified.now.users; groups = certified.now.groups }); cost = record { users = cost_of site.now.users (by_user files) certified.now.users; groups = cost_of site.now.groups (by_group files) certified.now.groups } }) }
+{
+    let report = report_text(
+        alloc,
+        hosts,
+        site,
+        counts,
+        &certified.users,
+        &certified.groups,
+    )?;
+    outcome.report = ByteString::from_vec(report);
+    outcome.cost = cost_under(site, counts, &certified.users, &certified.groups);
+    Ok(())
+}
+
 // What a merge of a site that was counted writes, by its mappings and their certificate, but for the plans.
 fn texts_of(
     alloc: Global,
     hosts: &[Host<'_>],
     site: &Site<'_>,
     counts: &Counts,
-    users: CertifiedMapping<'_>,
-    groups: CertifiedMapping<'_>,
-) -> Result<Merged, AllocError>
-    requires holds { (whole : WholeSite) × IsWhole whole × HoldsCounted whole hosts.now site.now counts.now }
-    requires users { length users.mapping ≡ length site.now.users.names }
-    requires groups { length groups.mapping ≡ length site.now.groups.names }
-    ensures mappings { IfOk result (λ merged. (merged.users ≡ users.entry.mapping) × (merged.groups ≡ groups.entry.mapping)) }
-    ensures printed { IfOk result (λ merged. (whole : WholeSite) → HoldsCounted whole hosts.now site.now counts.now → IsPrintedButPlans whole (mappings_in merged) (record { users = users.entry.side; groups = groups.entry.side }) merged.outcome) }
+    certified: &CertifiedMappings<'_>,
+) -> Result<Outcome, AllocError>
+    requires holds { (whole : WholeSite) × HoldsCounted whole hosts.now site.now counts.now }
+    requires users { length certified.now.users ≡ length site.now.users.names }
+    requires groups { length certified.now.groups ≡ length site.now.groups.names }
+    ensures { IfOk result (λ outcome. (whole : WholeSite) → HoldsCounted whole hosts.now site.now counts.now → IsPrintedButPlans whole (record { users = certified.now.users; groups = certified.now.groups }) certified.now.certificate outcome) }
 {
-    let passwd = passwd_text(alloc, hosts, site, &users.mapping, &groups.mapping)?;
-    let group = group_text(alloc, hosts, site, &users.mapping, &groups.mapping)?;
-    let map = map_of(alloc, site, &users.mapping, &groups.mapping)?;
-    let report = report_text(alloc, hosts, site, counts, &users.mapping, &groups.mapping)?;
-    let cost = cost_under(site, counts, &users.mapping, &groups.mapping);
-    let certificate = Certificate {
-        users: users.side,
-        groups: groups.side,
-    };
-    let outcome = Outcome {
-        passwd: ByteString::from_vec(passwd),
-        group: ByteString::from_vec(group),
-        map,
-        certificate: ByteString::from_vec(write_certificate(alloc, &certificate)?),
-        report: ByteString::from_vec(report),
-        plans: TextList::new(alloc),
-        cost,
-    };
-    Ok(Merged {
-        outcome,
-        users: users.mapping,
-        groups: groups.mapping,
-    })
+    let mut outcome = nothing_written(alloc);
+    write_accounts(alloc, hosts, site, certified, &mut outcome)?;
+    write_numbers(alloc, site, certified, &mut outcome)?;
+    write_changes(alloc, hosts, site, counts, certified, &mut outcome)?;
+    Ok(outcome)
 }
 
 /// What a merge of a site that was counted gives but for its plans. Asked is that the site is whole. It fails for want of
@@ -120,13 +225,13 @@ pub fn merge_counted(
     requires { (whole : WholeSite) × IsWhole whole × HoldsCounted whole hosts.now site.now counts.now }
     ensures { IfOk result (λ merged. (whole : WholeSite) → HoldsCounted whole hosts.now site.now counts.now → IsMerged whole merged) }
 {
-    let Ok(users) = solve_names(alloc, site.users(), counts.users()) else {
-        return Err(AllocError);
-    };
-    let Ok(groups) = solve_names(alloc, site.groups(), counts.groups()) else {
-        return Err(AllocError);
-    };
-    texts_of(alloc, hosts, site, counts, users, groups)
+    let certified = solve_site(alloc, site, counts)?;
+    let outcome = texts_of(alloc, hosts, site, counts, &certified)?;
+    Ok(Merged {
+        outcome,
+        users: certified.users,
+        groups: certified.groups,
+    })
 }
 
 /// What a merge of a site that was read writes. Asked is that the site is whole. It fails for want of memory alone; it
@@ -145,6 +250,18 @@ pub fn merge_loaded(alloc: Global, loaded: &LoadedSite<'_>) -> Result<Outcome, A
     Ok(outcome)
 }
 
+// What a merge of a site that was read writes, or want of memory as a fault.
+fn outcome_of<'a>(alloc: Global, loaded: &LoadedSite<'_>) -> Result<Outcome, Fault<'a>>
+    requires { (site : WholeSite) × IsWhole site × HoldsSite site loaded.now }
+    ensures answers { (site : WholeSite) → HoldsSite site loaded.now → Yields IsOutcome told result (Ok site) }
+    ensures believed { (site : WholeSite) → IsWhole site → HoldsSite site loaded.now → Yields Headline told result (Ok site) }
+{
+    match merge_loaded(alloc, loaded) {
+        Ok(outcome) => Ok(outcome),
+        Err(_) => Err(Fault::Memory),
+    }
+}
+
 /// One passwd and one group for all hosts, the map of every name to its number, its certificate, a report and a plan for
 /// each host, where the map changes as few owner and group fields of files as possible.
 ///
@@ -161,6 +278,8 @@ pub fn consolidate<'a>(
     ensures answers { Yields IsOutcome told result (site_read hosts.now pins.now) }
     ensures believed { Yields Headline told result (site_read hosts.now pins.now) }
 {
-    let loaded = read_site(alloc, hosts, pins)?;
-    Ok(merge_loaded(alloc, &loaded)?)
+    match read_site(alloc, hosts, pins) {
+        Ok(loaded) => outcome_of(alloc, &loaded),
+        Err(fault) => Err(fault),
+    }
 }

@@ -6,7 +6,7 @@ ghost use Rattle.reown_plan.specs.Reading.{ReadsAs};
 ghost use Rattle.reown_plan.specs.Records.{record_of};
 ghost use Rattle.unify_texts.specs.Told.{told};
 ghost use Rattle.unify_texts.specs.declared.fault.Fault.TheVariants.{BadPlan};
-ghost use Rattle.unify.specs.Rehearsing.{Rehearses, record_fault};
+ghost use Rattle.unify.specs.Rehearsing.{Rehearses, record_fault, rehearsed};
 ghost use Rattle.unify.specs.RunFaults.{run_told};
 
 use crate::host::inventory_at;
@@ -58,6 +58,16 @@ fn carry_out<'a>(alloc: Global, plan: &Plan<'a>, files: &Inventory) -> Result<u3
     }
 }
 
+// The same on a tree that is as the text of an inventory tells.
+fn rehearse_plan<'a>(alloc: Global, plan: &Plan<'a>, mtree: &'a [u8]) -> Result<u32, Fault<'a>>
+    ensures { Gives (λ n. n) told result (rehearsed (Ok plan.now) mtree.now) }
+{
+    match inventory_at(alloc, plan.host(), mtree) {
+        Ok(files) => carry_out(alloc, plan, &files),
+        Err(fault) => Err(fault),
+    }
+}
+
 /// Carries a plan out on a tree in memory that is as an inventory tells, and answers how many records the plan has.
 ///
 /// It refuses with the first fault in this order: the plan's text, by byte; the inventory's, by line, told with the host
@@ -68,7 +78,8 @@ fn carry_out<'a>(alloc: Global, plan: &Plan<'a>, files: &Inventory) -> Result<u3
 pub fn rehearse<'a>(alloc: Global, plan: &'a [u8], mtree: &'a [u8]) -> Result<u32, Fault<'a>>
     ensures { Rehearses told plan.now mtree.now result }
 {
-    let plan = plan_at(alloc, plan)?;
-    let files = inventory_at(alloc, plan.host(), mtree)?;
-    carry_out(alloc, &plan, &files)
+    match plan_at(alloc, plan) {
+        Ok(plan) => rehearse_plan(alloc, &plan, mtree),
+        Err(fault) => Err(fault),
+    }
 }

@@ -36,6 +36,13 @@ pub struct SiteRun {
     pub trees: Vec<MemTree>,
 }
 
+// How far plans were carried out: whether each is done, and the trees.
+#[derive(Drop)]
+struct CarriedOut {
+    done: Vec<bool>,
+    trees: Vec<MemTree>,
+}
+
 // A tree as an inventory that was read before.
 fn new_tree(alloc: Global, mtree: &[u8], keep: Keep) -> Result<MemTree, AllocError>
     requires { (files : List Entry) × (inventory 16777216 mtree.now ≡ Ok files) }
@@ -100,16 +107,16 @@ fn done_of(
     Ok(done)
 }
 
-// Carries plans out on trees as far as events lead: whether each plan is done, and the trees. No event is refused.
+// Carries plans out on trees as far as events lead. No event is refused.
 fn carry_out(
     alloc: Global,
     plans: &[Plan<'_>],
     trees: Vec<MemTree>,
     events: &[Event],
-) -> Result<(Vec<bool>, Vec<MemTree>), AllocError>
+) -> Result<CarriedOut, AllocError>
     requires ready { AreReady plans.now trees.items }
     requires hosts { All (λ event. host_of event < length trees.items) events.now }
-    ensures { IfOk result (λ end. AreCarriedOut plans.now trees.items events.now end.0.items end.1.items) }
+    ensures { IfOk result (λ end. AreCarriedOut plans.now trees.items events.now end.done.items end.trees.items) }
 {
     let Ok(mut campaign) = Campaign::new(alloc, plans, trees) else {
         return Err(AllocError);
@@ -119,7 +126,10 @@ fn carry_out(
         Err(_) => unreachable!(),
     }
     let done = done_of(alloc, &campaign, plans.len())?;
-    Ok((done, campaign.into_trees()))
+    Ok(CarriedOut {
+        done,
+        trees: campaign.into_trees(),
+    })
 }
 
 // Carries the plans that texts spell out on trees as inventories that were read before. No event is refused.
@@ -129,10 +139,10 @@ fn carry_out_texts(
     texts: &TextList,
     keep: Keep,
     events: &[Event],
-) -> Result<(Vec<bool>, Vec<MemTree>), AllocError>
+) -> Result<CarriedOut, AllocError>
     requires plans { (files : List (List Entry)) × (plans : List PlanData) × AreSpelledFor keep mtrees.now texts.now files plans }
     requires hosts { All (λ event. host_of event < length mtrees.now) events.now }
-    ensures { IfOk result (λ end. (files : List (List Entry)) (plans : List PlanData) → AreSpelledFor keep mtrees.now texts.now files plans → AreCarriedOut plans (map (new_tree_of keep) files) events.now end.0.items end.1.items) }
+    ensures { IfOk result (λ end. (files : List (List Entry)) (plans : List PlanData) → AreSpelledFor keep mtrees.now texts.now files plans → AreCarriedOut plans (map (new_tree_of keep) files) events.now end.done.items end.trees.items) }
 {
     let trees = new_trees(alloc, mtrees, keep)?;
     let plans = read_plans(alloc, texts)?;
@@ -151,12 +161,29 @@ fn rehearse_loaded(
     ensures { IfOk result (λ run. (site : WholeSite) → IsWhole site → HoldsSite site loaded.now → IsSiteRun keep events.now site run) }
 {
     let outcome = merge_loaded(alloc, loaded)?;
-    let (done, trees) = carry_out_texts(alloc, &loaded.mtrees, &outcome.plans, keep, events)?;
+    let carried = carry_out_texts(alloc, &loaded.mtrees, &outcome.plans, keep, events)?;
     Ok(SiteRun {
         outcome,
-        done,
-        trees,
+        done: carried.done,
+        trees: carried.trees,
     })
+}
+
+// Merges a site that was read, and carries its plans out. Want of memory is told as a fault.
+fn run_of<'a>(
+    alloc: Global,
+    loaded: &LoadedSite<'_>,
+    keep: Keep,
+    events: &[Event],
+) -> Result<SiteRun, Fault<'a>>
+    requires holds { (site : WholeSite) × IsWhole site × HoldsSite site loaded.now }
+    requires hosts { All (λ event. host_of event < length loaded.now.mtrees.items) events.now }
+    ensures { (site : WholeSite) → IsWhole site → HoldsSite site loaded.now → Yields (IsSiteRun keep events.now) told result (Ok site) }
+{
+    match rehearse_loaded(alloc, loaded, keep, events) {
+        Ok(run) => Ok(run),
+        Err(_) => Err(Fault::Memory),
+    }
 }
 
 /// Merges a site, and carries its plans out on trees in memory that are as the inventories tell, as far as the events lead:
@@ -177,6 +204,8 @@ pub fn rehearse_site<'a>(
     requires { All (λ event. host_of event < length hosts.now) events.now }
     ensures { Yields (IsSiteRun keep events.now) told result (site_read hosts.now pins.now) }
 {
-    let loaded = read_site(alloc, hosts, pins)?;
-    Ok(rehearse_loaded(alloc, &loaded, keep, events)?)
+    match read_site(alloc, hosts, pins) {
+        Ok(loaded) => run_of(alloc, &loaded, keep, events),
+        Err(fault) => Err(fault),
+    }
 }

@@ -13,13 +13,13 @@ ghost use Rattle.ownership.specs.Files.{Added};
 ghost use Rattle.unify_texts.specs.Told.{told};
 ghost use Rattle.unify.specs.Told.{in_site, in_pins};
 ghost use Rattle.unify.specs.Count.{site_of};
-ghost use Rattle.unify.specs.Hosts.{files_of};
+ghost use Rattle.unify.specs.Hosts.{host_of, files_of};
 ghost use Rattle.unify.specs.Reading.{added_on, added_from, site_read};
 ghost use Rattle.unify.specs.Loading.{loaded_from, HoldsSite};
-ghost use Rattle.unify.specs.Passes.{site_begun, HoldsBegun};
+ghost use Rattle.unify.specs.Passes.{pinned_site, site_begun, HoldsBegun};
 
 use crate::counting::check_list;
-use crate::host::{Loaded, load_files, load_hosts, site_fault};
+use crate::host::{load_files, load_hosts, site_fault};
 use hosts_join::{Host, HostText, Pins, PinsFault, Site, join};
 use idtext::Name;
 use mtree_inv::Entry;
@@ -67,21 +67,34 @@ fn join_hosts<'a>(alloc: Global, hosts: &[Host<'a>], pins: &Pins<'a>) -> Result<
     }
 }
 
-// The hosts, and the texts of their inventories.
-fn hosts_and_mtrees<'a>(
-    alloc: Global,
-    loaded: Vec<Loaded<'a>>,
-) -> Result<(Vec<Host<'a>>, Vec<Name<'a>>), AllocError>
-    ensures hosts { IfOk result (λ parts. parts.0.items ≡ map (λ l. l.host) loaded.entry.items) }
-    ensures mtrees { IfOk result (λ parts. parts.1.items ≡ map (λ l. l.mtree) loaded.entry.items) }
+// The accounts over all hosts, by the pins of a text.
+fn join_pinned<'a>(alloc: Global, hosts: &[Host<'a>], pins: &'a [u8]) -> Result<Site<'a>, Fault<'a>>
+    requires few { length hosts.now ≤ 64 }
+    requires lawful { All IsLawfulHost hosts.now }
+    ensures { Gives (λ site. site) told result (pinned_site hosts.now pins.now) }
 {
-    let mut hosts = Vec::new(alloc);
-    let mut mtrees = Vec::new(alloc);
-    for Loaded { host, mtree } in loaded {
-        hosts.push(host)?;
-        mtrees.push(mtree)?;
-    }
-    Ok((hosts, mtrees))
+    let pins = load_pins(alloc, pins)?;
+    join_hosts(alloc, hosts, &pins)
+}
+
+// The hosts with their tables.
+fn load_tables<'a>(alloc: Global, texts: &'a [HostText]) -> Result<Vec<Host<'a>>, Fault<'a>>
+    ensures read { Yields (λ loaded hosts. hosts.items ≡ map (λ l. l.host) loaded) told result (each host_of texts.now) }
+    ensures len { IfOk result (λ hosts. length hosts.items ≡ length texts.now) }
+    ensures lawful { IfOk result (λ hosts. All IsLawfulHost hosts.items) }
+{
+    let all = load_hosts(alloc, texts)?;
+    Ok(all.into_iter().map(|loaded| loaded.host).collect(alloc)?)
+}
+
+// The texts of the inventories.
+fn mtrees_of<'a>(alloc: Global, texts: &'a [HostText]) -> Result<Vec<Name<'a>>, AllocError>
+    ensures { IfOk result (λ mtrees. mtrees.items ≡ map (λ t. t.mtree) texts.now) }
+{
+    texts
+        .iter()
+        .map(|text| Name::new(text.mtree.bytes()))
+        .collect(alloc)
 }
 
 // Counts the files of the host at an index. Each of them has its owners.
@@ -156,7 +169,6 @@ fn count_site<'a>(
 ///
 /// It reads each text once, and each owner by hash, so it takes time linear in the texts. One inventory at a time is in
 /// memory.
-#[tactic(auto, unfolding(crate::specs::Reading::site_read))]
 pub fn read_site<'a>(
     alloc: Global,
     texts: &'a [HostText],
@@ -164,16 +176,13 @@ pub fn read_site<'a>(
 ) -> Result<LoadedSite<'a>, Fault<'a>>
     ensures { Yields HoldsSite told result (site_read texts.now pins.now) }
 {
-    check_list(texts)?;
-    let loaded = load_hosts(alloc, texts)?;
-    let (hosts, mtrees) = hosts_and_mtrees(alloc, loaded)?;
-    let pins = load_pins(alloc, pins)?;
-    let site = join_hosts(alloc, &hosts, &pins)?;
-    let counts = count_site(alloc, &site, &hosts, &mtrees)?;
+    let mtrees = mtrees_of(alloc, texts)?;
+    let begun = begin_site(alloc, texts, pins)?;
+    let counts = count_site(alloc, &begun.site, &begun.hosts, &mtrees)?;
     Ok(LoadedSite {
-        hosts,
+        hosts: begun.hosts,
         mtrees,
-        site,
+        site: begun.site,
         counts,
     })
 }
@@ -183,7 +192,6 @@ pub fn read_site<'a>(
 /// It refuses with the first fault in this order: the host list; host by host login.defs, passwd, group and the primary
 /// groups; the pins text, by line; the join, users before groups. `Fault::Memory` is a growth that was refused. One pass
 /// over each text; the inventories are not read.
-#[tactic(auto, unfolding(crate::specs::Passes::site_begun))]
 pub fn begin_site<'a>(
     alloc: Global,
     host_texts: &'a [HostText],
@@ -193,9 +201,7 @@ pub fn begin_site<'a>(
     ensures hosts { IfOk result (λ begun. length begun.hosts.items ≡ length host_texts.now) }
 {
     check_list(host_texts)?;
-    let loaded = load_hosts(alloc, host_texts)?;
-    let (hosts, _mtrees) = hosts_and_mtrees(alloc, loaded)?;
-    let pins = load_pins(alloc, pins)?;
-    let site = join_hosts(alloc, &hosts, &pins)?;
+    let hosts = load_tables(alloc, host_texts)?;
+    let site = join_pinned(alloc, &hosts, pins)?;
     Ok(JoinedHosts { hosts, site })
 }

@@ -8,7 +8,9 @@ ghost use Rattle.certcheck.specs.Check.{answer as check_answer};
 ghost use Rattle.certcheck.specs.Reading.{certificate_in};
 ghost use Rattle.unify_texts.specs.Told.{told};
 ghost use Rattle.unify.specs.Told.{check_told, in_certificate, in_check};
-ghost use Rattle.unify.specs.Checking.{IsVerified, verified};
+ghost use Rattle.unify.specs.Checking.{IsVerified, checked, verified};
+ghost use Rattle.unify.specs.Loading.{HoldsSite};
+ghost use Rattle.unify.specs.Reading.{WholeSite};
 
 use crate::site::{LoadedSite, read_site};
 use certcheck::{Certificate, CertificateFault, CheckFault, check, read_certificate};
@@ -58,6 +60,21 @@ fn check_site<'a>(
     }
 }
 
+// What a certificate's text says of a site that was read.
+fn verify_loaded<'a>(
+    alloc: Global,
+    loaded: &LoadedSite<'a>,
+    certificate: &'a [u8],
+) -> Result<u64, Fault<'a>>
+    requires { (site : WholeSite) × HoldsSite site loaded.now }
+    ensures { (site : WholeSite) → HoldsSite site loaded.now → Gives (λ cost. cost) told result (checked site (in_certificate (certificate_in certificate.now))) }
+{
+    match certificate_at(alloc, certificate) {
+        Ok(certificate) => check_site(alloc, loaded, &certificate),
+        Err(fault) => Err(fault),
+    }
+}
+
 /// How many owner and group fields the mappings of a certificate change, where the certificate proves that no admissible
 /// mappings change fewer; it may be written by anybody.
 ///
@@ -75,7 +92,8 @@ pub fn verify<'a>(
     ensures exact { Gives (λ cost. cost) told result (verified hosts.now pins.now certificate.now) }
     ensures proved { IfOk result (IsVerified hosts.now pins.now certificate.now) }
 {
-    let loaded = read_site(alloc, hosts, pins)?;
-    let certificate = certificate_at(alloc, certificate)?;
-    check_site(alloc, &loaded, &certificate)
+    match read_site(alloc, hosts, pins) {
+        Ok(loaded) => verify_loaded(alloc, &loaded, certificate),
+        Err(fault) => Err(fault),
+    }
 }

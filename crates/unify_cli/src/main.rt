@@ -17,9 +17,6 @@ use std::{env, io};
 use unify::{Watched, run_bundle};
 use words::run_words;
 
-#[cfg(test)]
-mod tests;
-
 /// How many bytes of standard input and output are read and written at once.
 const BUFFER_BYTES: usize = 65536;
 

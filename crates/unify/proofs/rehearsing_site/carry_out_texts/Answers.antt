@@ -24,5 +24,5 @@ pub returns : goal.returns
 returns c =
     IfOk-weaker c.carry_out.result _ _
     (λ end carried files plans are.
-    told_carried c.deref.result.now plans (c.deref.ensures.value ∙ c.in_ok-plans.ensures plans are.lawful are.spelled) c.in_ok-trees.trees.items (map (new_tree_of c.args.keep) files) (c.in_ok-trees.ensures files are.read) c.args.events.now end.0.items end.1.items carried)
+    told_carried c.deref.result.now plans (c.deref.ensures.value ∙ c.in_ok-plans.ensures plans are.lawful are.spelled) c.in_ok-trees.trees.items (map (new_tree_of c.args.keep) files) (c.in_ok-trees.ensures files are.read) c.args.events.now end.done.items end.trees.items carried)
     c.carry_out.ensures

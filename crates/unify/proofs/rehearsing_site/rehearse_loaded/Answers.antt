@@ -18,4 +18,4 @@ carry_out_texts-requires c =
 
 pub returns : goal.returns
 returns c = λ site whole holds.
-    loaded_runs c.args.keep c.args.events.now site whole c.args.loaded.now holds (record { outcome = c.in_ok-outcome.outcome; done = c.in_ok-done.done; trees = c.in_ok-done.trees }) (c.in_ok-outcome.ensures site holds) c.deref.result.now c.deref.ensures.value c.in_ok-done.ensures
+    loaded_runs c.args.keep c.args.events.now site whole c.args.loaded.now holds (record { outcome = c.in_ok-outcome.outcome; done = c.in_ok-carried.carried.done; trees = c.in_ok-carried.carried.trees }) (c.in_ok-outcome.ensures site holds) c.deref.result.now c.deref.ensures.value c.in_ok-carried.ensures

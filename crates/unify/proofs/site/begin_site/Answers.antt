@@ -1,55 +1,76 @@
-use Rattle.std.proofs.Common.{◌≡◌, ◌≤◌, List, Ok, refl, sym, ap, ◌∙◌, arith, length, map}
-use Rattle.std.proofs.lemmas.List.{length-map}
+use Rattle.std.proofs.Common.{◌≡◌, ◌≤◌, Ok, refl, sym, ap, ◌∙◌, arith, length, map}
+use Rattle.std.proofs.lemmas.Result.{err_from_is_err_and}
+use Rattle.idtext.specs.First.{each}
+use Rattle.idtext.proofs.OkLemmas.{bind_ok}
 use Rattle.hosts_join.proofs.Knowing.{sites_know}
 use Rattle.hosts_join.proofs.SiteLemmas.{sites_are_lawful, pins_are_pins}
 use Rattle.hosts_join.specs.Checks.{hosts_checked}
+use Rattle.hosts_join.specs.PinPairs.{PinPairs}
 use Rattle.hosts_join.specs.PinsText.{pins_of}
 use Rattle.hosts_join.specs.Site.{joined_site}
-use Rattle.hosts_join.specs.declared.host.Host.{Host}
+use Rattle.unify_texts.specs.Told.{told}
 use Rattle.unify.specs.declared.host.Loaded.{Loaded}
-use Rattle.unify.specs.Told.{in_site}
+use Rattle.unify.specs.Hosts.{host_of}
+use Rattle.unify.specs.Passes.{pinned_site, site_begun}
+use Rattle.unify.specs.Told.{in_pins, in_site}
+use Rattle.unify.proofs.Faults.{passed_on}
 use Rattle.unify.proofs.Reading.{loaded-named, pins-ok, texts-named}
-use Rattle.unify.proofs.Whole.{together, IsJoined, site_ok, begun_is, all_lawful}
+use Rattle.unify.proofs.Whole.{begun_is, join_refused, list_refused, site_ok, tables_refused, together}
 use Rattle.unify.proofs.site.begin_site.Goals as goal
 
-pub join_hosts-requires-clause-lawful : goal.join_hosts-requires-clause-lawful
-join_hosts-requires-clause-lawful c = all_lawful c.in_ok-loaded.loaded.items c.deref.result.now (c.deref.ensures.value ∙ c.in_ok-hosts.ensures.hosts) c.in_ok-loaded.ensures.lawful
+pub join_pinned-requires-clause-few : goal.join_pinned-requires-clause-few
+join_pinned-requires-clause-few c = rw c.deref.ensures.value (omega (arith, c.in_ok-hosts.ensures.len, c.in_ok-check_list.ensures.few))
+
+pub join_pinned-requires-clause-lawful : goal.join_pinned-requires-clause-lawful
+join_pinned-requires-clause-lawful c = rw c.deref.ensures.value c.in_ok-hosts.ensures.lawful
+
+pub returns-in_err-check_list-clause-begun : goal.returns-in_err-check_list-clause-begun
+returns-in_err-check_list-clause-begun c =
+    let p = err_from_is_err_and c.from_residual.result c.from_residual.ensures.1 in
+    rw (p.1, p.2)
+    (passed_on (told c.in_err-check_list.field-0.0) (in_site (hosts_checked c.args.host_texts.now)) (site_begun c.args.host_texts.now c.args.pins.now) (list_refused c.args.host_texts.now c.args.pins.now) c.in_err-check_list.ensures.exact)
+
+pub returns-in_err-hosts-clause-begun : goal.returns-in_err-hosts-clause-begun
+returns-in_err-hosts-clause-begun c =
+    let p = err_from_is_err_and c.from_residual-in_err-hosts.result c.from_residual-in_err-hosts.ensures.1 in
+    rw (p.1, p.2)
+    (passed_on (told c.in_err-hosts.field-0.0) (each host_of c.args.host_texts.now) (site_begun c.args.host_texts.now c.args.pins.now)
+    (λ f h. tables_refused c.args.host_texts.now c.args.pins.now c.in_ok-check_list.field-0 f c.in_ok-check_list.ensures.exact h) c.in_err-hosts.ensures.read)
+
+pub returns-in_err-site-clause-begun : goal.returns-in_err-site-clause-begun
+returns-in_err-site-clause-begun c =
+    let p = err_from_is_err_and c.from_residual-in_err-site.result c.from_residual-in_err-site.ensures.1 in
+    let read = c.in_ok-hosts.ensures.read in
+    let same : map (λ (l : Loaded). l.host) read.0 ≡ c.deref.result.now = sym (c.deref.ensures.value ∙ read.2) in
+    rw (p.1, p.2)
+    (passed_on (told c.in_err-site.field-0.0) (pinned_site c.deref.result.now c.args.pins.now) (site_begun c.args.host_texts.now c.args.pins.now)
+    (λ f h. join_refused c.args.host_texts.now c.args.pins.now c.in_ok-check_list.field-0 read.0 f c.in_ok-check_list.ensures.exact read.1 (ap (λ hs. pinned_site hs c.args.pins.now) same ∙ h)) c.in_err-site.ensures)
 
 pub returns-clause-begun : goal.returns-clause-begun
 returns-clause-begun c =
-    let loaded = c.in_ok-loaded.loaded.items in
-    let read = c.in_ok-hosts.hosts.items in
-    let pins = c.in_ok-pins.pins in
+    let texts = c.args.host_texts.now in
+    let hosts = c.in_ok-hosts.hosts.items in
     let site = c.in_ok-site.site in
-    let hosts = c.deref.ensures.value ∙ c.in_ok-hosts.ensures.hosts in
-    let so_far : IsJoined c.args.host_texts.now c.args.pins.now loaded site = record {
-      listed = c.in_ok-check_list.field-0;
-      pins = pins;
-      list_is = c.in_ok-check_list.ensures.exact;
-      hosts_are = c.in_ok-loaded.ensures.exact;
-      pins_are = c.in_ok-pins.ensures;
-      joined_is = ap (λ (hs : List Host). in_site (joined_site hs pins)) (sym hosts) ∙ c.in_ok-site.ensures;
-    } in
-    let lawful = all_lawful loaded read c.in_ok-hosts.ensures.hosts c.in_ok-loaded.ensures.lawful in
-    let joined : joined_site read pins ≡ Ok site = site_ok (joined_site read pins) site (ap (λ (hs : List Host). in_site (joined_site hs pins)) (sym c.deref.ensures.value) ∙ c.in_ok-site.ensures) in
-    let few : length read ≤ 64 = omega (arith, ap length c.in_ok-hosts.ensures.hosts, length-map loaded (λ (l : Loaded). l.host), c.in_ok-loaded.ensures.len, c.in_ok-check_list.ensures.few) in
-    let listed = texts-named c.args.host_texts.now c.in_ok-check_list.field-0 (site_ok (hosts_checked c.args.host_texts.now) c.in_ok-check_list.field-0 c.in_ok-check_list.ensures.exact) in (
-      record { hosts = map (λ (l : Loaded). l.host) loaded; joined = site },
-      begun_is c.args.host_texts.now c.args.pins.now loaded site so_far,
+    let listed = c.in_ok-check_list in
+    let read = c.in_ok-hosts.ensures.read in
+    let pinned : pinned_site hosts c.args.pins.now ≡ Ok site = rw (← c.deref.ensures.value) c.in_ok-site.ensures in
+    let pins = bind_ok (in_pins (pins_of c.args.pins.now)) (λ (ps : PinPairs). in_site (joined_site hosts ps)) site pinned in
+    let joined : joined_site hosts pins.0 ≡ Ok site = site_ok (joined_site hosts pins.0) site pins.2 in
+    let few : length hosts ≤ 64 = omega (arith, c.in_ok-hosts.ensures.len, listed.ensures.few) in
+    let lawful = c.in_ok-hosts.ensures.lawful in
+    let named = texts-named texts listed.field-0 (site_ok (hosts_checked texts) listed.field-0 listed.ensures.exact) in (
+      record { hosts = map (λ (l : Loaded). l.host) read.0; joined = site },
+      begun_is texts c.args.pins.now listed.field-0 read.0 site listed.ensures.exact read.1 (ap (λ hs. pinned_site hs c.args.pins.now) (sym read.2) ∙ pinned),
       record {
-        hosts = c.in_ok-hosts.ensures.hosts;
+        hosts = read.2;
         joined = refl;
         whole = record {
           few = few;
           lawful = lawful;
-          together = together read pins site joined;
-          known = sites_know read pins site lawful joined;
-          accounts = sites_are_lawful read pins site few lawful (pins_are_pins c.args.pins.now pins (pins-ok (pins_of c.args.pins.now) pins c.in_ok-pins.ensures)) joined;
-          named = rw c.in_ok-hosts.ensures.hosts (loaded-named c.args.host_texts.now loaded c.in_ok-loaded.ensures.exact listed);
+          together = together hosts pins.0 site joined;
+          known = sites_know hosts pins.0 site lawful joined;
+          accounts = sites_are_lawful hosts pins.0 site few lawful (pins_are_pins c.args.pins.now pins.0 (pins-ok (pins_of c.args.pins.now) pins.0 pins.1)) joined;
+          named = rw read.2 (loaded-named texts read.0 read.1 named);
         };
       },
     )
-
-pub returns-clause-hosts : goal.returns-clause-hosts
-returns-clause-hosts c =
-    omega (arith, ap length c.in_ok-hosts.ensures.hosts, length-map c.in_ok-loaded.loaded.items (λ (l : Loaded). l.host), c.in_ok-loaded.ensures.len)

@@ -1,5 +1,7 @@
-use Rattle.std.proofs.Common.{◌≡◌, ℕ, ◌+◌, ◌-◌, ◌<◌, ◌≤◌, length, get_or, Option, None, IfSome, sym, ap, ◌∙◌, subst, ◌⊎◌, ⊎_elim, arith}
+use Rattle.std.proofs.Common.{◌≡◌, ℕ, ◌+◌, ◌-◌, ◌<◌, length, get_or, Option, Some, None, IfSome, sym, ap, ◌∙◌, subst, ◌⊎◌, ⊎_elim, arith}
+use Rattle.std.specs.BTreeMap as btree
 use Rattle.std.specs.BinaryHeap.{heap_items}
+use Rattle.std.specs.Ordering.{nat_cmp}
 use Rattle.std.proofs.lemmas.List.{get_or_read}
 use Rattle.assignment.specs.declared.search.Nearest.{Nearest}
 use Rattle.assignment.specs.Solving.{IsSearching, root_of}
@@ -106,9 +108,10 @@ reach-requires-in-turns-clause-edges c =
     let g : Grows t t' name b.at b.level = record { position = f.position; names = f.names; parents = f.parents; levels = f.levels } in
     let more = lazy_push s t t' b.level b.at v name lazy m.within own tight.1 tight.0 g in
     let edges = heap_items c.next-best.new.queue.heap in
-    let rest : HasOtherEdges s t b.level c.turns.exit.level edges v = subst (λ (o : Option ℕ). IfSome o (λ u. HasOtherEdges s t b.level c.turns.exit.level edges u)) c.in-Some.is m.rest in
+    let rest' : (n : ℕ) → btree.get nat_cmp s.pairs.owner v ≡ Some n → HasOtherEdges s t b.level c.turns.exit.level edges v = subst (λ (o : Option ℕ). IfSome o (λ u. (n : ℕ) → btree.get nat_cmp s.pairs.owner u ≡ Some n → HasOtherEdges s t b.level c.turns.exit.level edges u)) c.in-Some.is m.rest in
+    let rest = rest' name own in
     let el : c.len-at.result ≡ length t.names.items = omega (arith, c.len-at.ensures, t.names.ok.0) in
-    rw el (edges_push s t t' b.level b.at v name c.turns.exit.level c.or-exit.result.level edges lazy more.0 m.within own g c.or-exit.ensures.first rest)
+    rw el (edges_push s t t' b.level b.at v name c.turns.exit.level c.or-leaves.result.level edges lazy more.0 m.within own g c.or-leaves.ensures.first rest)
 
 pub turns-smaller : goal.turns-smaller
 turns-smaller c =
@@ -129,6 +132,37 @@ turns-smaller c =
     let k : length s.rows.now.rows - length t'.names.items < length s.rows.now.rows - length t.names.items = omega (arith, more.2, more.3) in
     k
 
+-- what the name that joined makes of the exit
+pub reach-requires-in-turns-clause-exit : goal.reach-requires-in-turns-clause-exit
+reach-requires-in-turns-clause-exit c =
+    let s = c.turns.self in
+    let t = c.turns.tree in
+    let b = c.next-best.result in
+    let q = c.turns.invariant.searching in
+    let f = c.in_ok-push.ensures in
+    let v = c.in-Some.number in
+    let name = c.in-Some-owner_of.name in
+    let own = sym c.owner_of.ensures ∙ c.in-Some-owner_of.is in
+    let g : Grows t c.push.new.self name b.at b.level = record { position = f.position; names = f.names; parents = f.parents; levels = f.levels } in
+    let had = q.fair.has name v own in
+    let short : name < length s.duals.y.items = omega (arith, given_within s.pairs.given.items name v had, q.fits.given_long, q.fits.y_long) in
+    let high = c.index-in-turns.result.now in
+    let eh : high ≡ y_in s.duals name = get_or_read s.duals.y.items name high short c.index-in-turns.ensures 0 in
+    let el : c.len-at.result ≡ length t.names.items = omega (arith, c.len-at.ensures, t.names.ok.0) in
+    let x = c.or-leaves.result in
+    let o = c.or-leaves.ensures in
+    let one : (x ≡ c.turns.exit) ⊎ (x ≡ record { level = b.level + high; at = length t.names.items; number = None }) = subst (λ (k : ℕ). (x ≡ c.turns.exit) ⊎ (x ≡ record { level = b.level + high; at = k; number = None })) el o.one in
+    exit_push s t c.push.new.self b.level b.at name high c.turns.exit x q.levels_long c.turns.invariant.exit g eh one o.first o.second
+
+pub reach-requires-in-turns-clause-later : goal.reach-requires-in-turns-clause-later
+reach-requires-in-turns-clause-later c =
+    let b = c.next-best.result in
+    let x = c.or-leaves.result in
+    ⊎_elim
+    (λ (a : x ≡ c.turns.exit). omega (arith, ap (λ (y : Nearest). y.level) a, c.next-best.ensures.below))
+    (λ (a : x ≡ record { level = b.level + c.index-in-turns.result.now; at = c.len-at.result; number = None }). let k : x.level ≡ b.level + c.index-in-turns.result.now = ap (λ (y : Nearest). y.level) a in omega (arith, k))
+    c.or-leaves.ensures.one
+
 pub turns-preserved : goal.turns-preserved
 turns-preserved c =
     let s = c.turns.self in
@@ -138,33 +172,20 @@ turns-preserved c =
     let m = c.next-best.ensures in
     let inv = c.turns.invariant in
     let f = c.in_ok-push.ensures in
+    let e = c.in_ok-exit-2.ensures in
     let v = c.in-Some.number in
-    let q = inv.searching in
     let name = c.in-Some-owner_of.name in
     let lazy = next_lazy s t c.turns.now b inv.searching m.later m.slack in
     let tight = next_tight s t c.turns.now b v inv.searching m.later m.slack m.within m.met c.in-Some.is in
     let own = sym c.owner_of.ensures ∙ c.in-Some-owner_of.is in
     let g : Grows t t' name b.at b.level = record { position = f.position; names = f.names; parents = f.parents; levels = f.levels } in
     let more = lazy_push s t t' b.level b.at v name lazy m.within own tight.1 tight.0 g in
-    let had = q.fair.has name v own in
-    let short : name < length s.duals.y.items = omega (arith, given_within s.pairs.given.items name v had, q.fits.given_long, q.fits.y_long) in
-    let high = c.index-in-turns.result.now in
-    let eh : high ≡ y_in s.duals name = get_or_read s.duals.y.items name high short c.index-in-turns.ensures 0 in
-    let el : c.len-at.result ≡ length t.names.items = omega (arith, c.len-at.ensures, t.names.ok.0) in
-    let x = c.or-exit.result in
-    let o = c.or-exit.ensures in
-    let one : (x ≡ c.turns.exit) ⊎ (x ≡ record { level = b.level + high; at = length t.names.items; number = None }) = subst (λ (k : ℕ). (x ≡ c.turns.exit) ⊎ (x ≡ record { level = b.level + high; at = k; number = None })) el o.one in
-    let later : b.level ≤ x.level =
-    ⊎_elim
-    (λ (a : x ≡ c.turns.exit). omega (arith, ap (λ (y : Nearest). y.level) a, m.below))
-    (λ (a : x ≡ record { level = b.level + high; at = length t.names.items; number = None }). let k : x.level ≡ b.level + high = ap (λ (y : Nearest). y.level) a in omega (arith, k))
-    one in
     record {
       rows = inv.rows;
       root = more.1 ∙ inv.root;
       position = f.long ∙ inv.position;
       searching = more.0;
-      exit = exit_push s t t' b.level b.at name high c.turns.exit x q.levels_long inv.exit g eh one o.first o.second;
-      later = later;
-      edges = c.in_ok-reach-2.ensures;
+      exit = e.exit;
+      later = e.later;
+      edges = e.edges;
     }

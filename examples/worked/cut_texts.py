@@ -1,0 +1,77 @@
+"""Certificates and plans that end too early, or have a line out of its place: where the fault is told.
+
+A text that ends within a line stands in no bundle, so these texts are files, which words name."""
+import pathlib
+import tempfile
+
+from command_line import ran
+from words import Bundle
+
+FOLDER = pathlib.Path(__file__).resolve().parent
+
+
+def bad_certificate(line):
+    return 1, "", f"unify: 28 BadCertificate line {line}\n"
+
+
+# What stands behind the first line of a certificate for a host without accounts, and what is told of it.
+LINES = [
+    ("end\n", (0, "accepted 0\n", "")),
+    ("user a b 0 18446744073709551615\nend\n", (4, "", "unify: 29 NameMissing user a\\040b\n")),
+    ("end\nend\n", bad_certificate(3)),
+    ("user b 1 0\nuser a 2 0\nend\n", bad_certificate(3)),
+    ("user a 01 0\nend\n", bad_certificate(2)),
+    ("user a 4294967295 0\nend\n", bad_certificate(2)),
+    ("user a 1 18446744073709551616\nend\n", bad_certificate(2)),
+    ("user a:b 1 0\nend\n", bad_certificate(2)),
+    ("zuser 1 0\nend\n", bad_certificate(2)),
+    ("zuser 2 1\nzuser 2 1\nend\n", bad_certificate(3)),
+    ("group a 1 0\nuser a 1 0\nend\n", bad_certificate(3)),
+]
+
+
+def bundle_of(name):
+    return Bundle((FOLDER / f"{name}.bundle").read_text())
+
+
+def checked(program, room, hosts, certificate):
+    """What the check of a certificate for hosts that lie in a room tells."""
+    (room / "certificate").write_text(certificate)
+    return ran(program, ["check", "certificate", *hosts], room)
+
+
+def cut_certificates(program, room):
+    """Each prefix of the swap's certificate: its fault is in the line that is cut, or that is missing."""
+    bundle = bundle_of("check/swap-checked")
+    _, *hosts = bundle.lay_out(room)
+    certificate = bundle.texts["certificate"]
+    for length in range(len(certificate)):
+        prefix = certificate[:length]
+        name = f"every-certificate-prefix, {length} bytes"
+        yield name, bad_certificate(prefix.count("\n") + 1), checked(program, room, hosts, prefix)
+    yield "swap-checked, by words", (0, "accepted 6\n", ""), checked(program, room, hosts, certificate)
+
+
+def certificates_out_of_place(program, room):
+    _, *hosts = Bundle("run check\nhost a\n").lay_out(room)
+    for text, wanted in LINES:
+        yield f"lines-out-of-place, {text!r}", wanted, checked(program, room, hosts, "unify certificate 2\n" + text)
+
+
+def cut_plans(program, room):
+    """Each prefix of the swap's plan of a: its fault is where the line that is cut begins, or where the text ends."""
+    texts = bundle_of("rehearse/swap-rehearsed").texts
+    (room / "mtree").write_text(texts["mtree"])
+    for length in range(len(texts["plan"]) + 1):
+        prefix = texts["plan"][:length]
+        (room / "plan").write_text(prefix)
+        told = 1, "", "unify: 35 BadPlan byte {}\n".format(prefix.rfind("\n") + 1)
+        wanted = (0, "records 6\ndone\n", "") if prefix == texts["plan"] else told
+        yield f"every-plan-prefix, {length} bytes", wanted, ran(program, ["rehearse", "plan", "mtree"], room)
+
+
+def cut_texts(program):
+    """For each text: a name, what is wanted, and what came."""
+    for texts in (cut_certificates, certificates_out_of_place, cut_plans):
+        with tempfile.TemporaryDirectory() as name:
+            yield from texts(program, pathlib.Path(name))

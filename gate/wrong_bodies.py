@@ -1,0 +1,272 @@
+#!/usr/bin/env python3
+"""Tries the wrong bodies of crates/NAME/wrong-bodies: the prover must refuse each one, in the function that it is in.
+
+    gate/wrong_bodies.py [NAME..]
+
+An edit is a file as rt's must-fail edits are: lines `file: PATH` below the crate, `old: TEXT`, which stands there once, and
+`new: TEXT`. The edits of a crate are tried in rounds. A round takes edits that touch different functions, makes them all in
+one copy of the crate, and checks that copy once. An edit is refused where that check leaves a goal open in a function that
+the edit touches: a caller that fails with it counts for nothing. What is not refused in a round is tried alone before it is
+told as let through. So is an edit outside of functions, which is refused where any goal is left open.
+
+Crates are tried side by side, RT_JOBS at a time. The last line is `N refused, M let through`; the status is 1 if M is not 0.
+"""
+import importlib.machinery
+import importlib.util
+import os
+import pathlib
+import re
+import shutil
+import subprocess
+import sys
+import tempfile
+from typing import NamedTuple
+
+FOLDER = "wrong-bodies"
+# A goal that a check left open, told at the source that it comes from, or at the answer that does not prove it. An answer that
+# only names what an edit took away shows nothing.
+OPEN = re.compile(r"^note: (?:\./)?(src/\S+?):(\d+):\d+: .*\bnot proved\b[^`\n]*(?:`([^`]+)`)?", re.M)
+ANSWER = re.compile(r"^(?:\./)?(proofs/\S+?):(\d+):\d+: error: (?:`([^`]+)`)?(?!.*(?:is not in scope|was not (?:admitted|checked)|has no (?:field|`)))", re.M)
+# Goals that say nothing of a clause: that a number fits, that an index is within.
+RANGES = "overflow", "bounds", "slice_bounds", "offset_bounds", "nonzero"
+# What keeps a check from any verdict: a text that does not compile.
+ERROR = re.compile(r"^(?:\./)?(src/\S+?):(\d+):\d+: error(?:[^`\n]*`([^`]+)`)?", re.M)
+FUNCTION = re.compile(r"(\s*)(?:pub(?:\([^)]*\))?\s+)?(?:final\s+)?(?:const\s+)?(?:unsafe\s+)?fn (\w+)")
+IMPL = re.compile(r"impl(?:<[^{]*?>)?\s+(?:(?:\w+::)*(\w+)(<[^{]*?>)?\s+for\s+)?&?(?:\w+::)*(\w+)")
+TRAIT = re.compile(r"(?:pub(?:\([^)]*\))?\s+)?trait (\w+)")
+
+
+def toolchain():
+    """rt as a module: its own check of an edited copy and its own way to run tasks side by side are used here."""
+    command = shutil.which("rt") or sys.exit("rt, the command of the Rattle toolchain, is not on the PATH")
+    loader = importlib.machinery.SourceFileLoader("rt", os.path.realpath(command))
+    module = importlib.util.module_from_spec(importlib.util.spec_from_loader("rt", loader))
+    loader.exec_module(module)
+    return module
+
+
+class Place(NamedTuple):
+    """A line of a file, and the goal that is told there."""
+
+    path: str
+    line: int
+    goal: str
+
+
+class Function(NamedTuple):
+    """A function of a source file, by its first and its last line and the folder of its answers."""
+
+    path: str
+    first: int
+    last: int
+    answers: str
+
+    def has(self, place):
+        return place.path.rpartition("/")[0] == self.answers or place.path == self.path and self.first <= place.line <= self.last
+
+
+class Edit(NamedTuple):
+    """A wrong body: its changes, each a path, an old text and a new one, and the functions that they touch."""
+
+    name: str
+    changes: list
+    functions: set
+
+    def found_in(self, places):
+        """A place that lies in a function that the edit touches, or in any, where it touches none; at best one of a clause."""
+        found = [it for it in places if not self.functions or any(f.has(it) for f in self.functions)]
+        return min(found, key=lambda it: it.goal.startswith(RANGES), default=None)
+
+
+class Unreadable(Exception):
+    """An edit that cannot be made."""
+
+
+def owner_of(lines, first):
+    """What the folders of answers call the impl or the trait around a function, with a slash; nothing for a free function."""
+    for line in reversed(lines[:first]):
+        if found := IMPL.match(line):
+            trait, arguments, name = found.groups()
+            return f"{name}{trait or ''}{re.sub(r'[^A-Za-z0-9]', '', arguments or '')}/"
+        if found := TRAIT.match(line):
+            return f"{found[1]}/"
+        if line.startswith("}"):
+            break
+    return ""
+
+
+def function_at(path, text, offset):
+    """The function around an offset of a text that is laid out by rt fmt, or None."""
+    lines, at = text.split("\n"), text.count("\n", 0, offset)
+    indent = len(lines[at]) - len(lines[at].lstrip())
+    for first in range(at, -1, -1):
+        head = FUNCTION.match(lines[first])
+        if head and (first == at or len(head[1]) < indent):
+            last = next((it for it in range(first, len(lines)) if lines[it] == head[1] + "}"), -1)
+            module = path.removeprefix("src/").removesuffix(".rt") + "/"
+            module = "" if module in ("lib/", "main/") else module
+            answers = f"proofs/{module}{owner_of(lines, first) if head[1] else ''}{head[2]}"
+            # What is said of a whole function is told at the first of its attributes.
+            while first > 0 and lines[first - 1].startswith(f"{head[1]}#["):
+                first -= 1
+            return Function(path, first + 1, last + 1, answers) if last >= at else None
+    return None
+
+
+def changes_of(text):
+    """The changes that the text of an edit has."""
+    path, old, changes = "", "", []
+    for line in text.splitlines():
+        word, _, rest = line.partition(":")
+        rest = rest.removeprefix(" ")
+        if word == "file":
+            path = rest.strip()
+        elif word == "old":
+            old = rest
+        elif word == "new":
+            changes.append((path, old, rest))
+    return changes
+
+
+def made(changes, texts, text_of):
+    """The texts with the changes made too, by path; texts has those that were changed before."""
+    texts = dict(texts)
+    for path, old, new in changes:
+        text = texts.get(path) or text_of(path)
+        if text.count(old) != 1:
+            raise Unreadable(f"an old text is in {path} {text.count(old)} times, and not once")
+        texts[path] = text.replace(old, new)
+    return texts
+
+
+class Crate:
+    """A crate with its wrong bodies."""
+
+    def __init__(self, rt, crate):
+        self.rt, self.crate, self.name = rt, crate, crate.name
+        self.folder = pathlib.Path(crate.folder)
+        self.edits, self.told = [], []
+        for path in sorted((self.folder / FOLDER).glob("*.edit")):
+            try:
+                self.edits.append(self.read(path))
+            except (OSError, Unreadable) as error:
+                self.told.append((path.stem, f"CANNOT BE MADE: {error}"))
+
+    def text_of(self, path):
+        return (self.folder / path).read_text(encoding="utf-8")
+
+    def read(self, path):
+        changes = changes_of(path.read_text(encoding="utf-8"))
+        functions, texts = set(), {}
+        for change in changes:
+            text = texts.get(change[0]) or self.text_of(change[0])
+            functions.add(function_at(change[0], text, text.find(change[1])))
+            texts = made([change], texts, self.text_of)
+        if not changes:
+            raise Unreadable("it has no change")
+        return Edit(path.stem, changes, set() if None in functions else functions)
+
+    def round_of(self, edits):
+        """The first edits that can be made at once, since they touch different functions, and the texts that they make."""
+        chosen, taken, texts = [], set(), {}
+        for edit in edits:
+            if edit.functions and not edit.functions & taken:
+                try:
+                    texts = made(edit.changes, texts, self.text_of)
+                except Unreadable:
+                    continue
+                chosen.append(edit)
+                taken |= edit.functions
+        return (chosen, texts) if chosen else (edits[:1], made(edits[0].changes, {}, self.text_of))
+
+    def places(self, texts, kept):
+        """What a check of the crate with these texts tells: the goals left open, the errors, and whether it is proved."""
+        ran = self.rt.checked(self.crate, texts, ["--jobs", "1"], kept)
+        goals, answers, errors = ([Place(path, int(line), goal) for path, line, goal in it.findall(ran.stdout)] for it in (OPEN, ANSWER, ERROR))
+        return goals + answers, errors, ran.returncode == 0
+
+    def tried_together(self, kept):
+        """Tries the edits in rounds, and returns those that were not refused."""
+        left, doubtful = self.edits, []
+        while left:
+            chosen, texts = self.round_of(left)
+            if len(chosen) < 2:
+                return doubtful + left
+            goals, errors, _ = self.places(texts, kept)
+            # With an error nothing was judged: what does not compile is told alone, and the others are tried once more.
+            tried = [it for it in chosen if it.found_in(errors)] or chosen
+            doubtful += [it for it in tried if errors or not self.is_refused(it, goals)]
+            left = [it for it in left if it not in tried]
+        return doubtful
+
+    def tried_alone(self, edit, kept):
+        goals, errors, is_proved = self.places(made(edit.changes, {}, self.text_of), kept)
+        if errors:
+            self.told.append((edit.name, f"DOES NOT COMPILE: {errors[0].path}:{errors[0].line}"))
+        elif not self.is_refused(edit, goals):
+            why = "the crate is proved with it" if is_proved else "its own function leaves no goal open"
+            self.told.append((edit.name, f"LET THROUGH: {why}"))
+
+    def is_refused(self, edit, goals):
+        """Whether a goal is open where the edit is, which is told then."""
+        if place := edit.found_in(goals):
+            self.told.append((edit.name, f"refused, {place.path}:{place.line} {place.goal}".rstrip()))
+        return place is not None
+
+    def prove(self, given, jobs):
+        """Proves the crate as it stands, over what earlier checks kept, and keeps that for the rounds and the crates above."""
+        if not all(given[it.name, "proof"] for it in self.crate.below()):
+            return False
+        with tempfile.TemporaryFile("w+", errors="replace") as self.crate.out:
+            is_proved = self.crate.build_rlib(["--jobs", str(jobs)], anew=False) == 0
+            if not is_proved:
+                self.crate.out.seek(0)
+                print(f"{self.name} is not proved as it stands:\n{self.crate.out.read()}", end="", flush=True)
+        return is_proved
+
+    def try_edits(self, given, _jobs):
+        """Tries all edits of the crate over a copy of what its proof kept."""
+        if not given[self.name, "proof"]:
+            return
+        with tempfile.TemporaryDirectory(prefix="wrong-bodies-") as kept:
+            shutil.copytree(self.folder / "out/incremental", kept, dirs_exist_ok=True)
+            for edit in self.tried_together(kept):
+                self.tried_alone(edit, kept)
+        print("".join(f"{self.name}/{name}: {what}\n" for name, what in sorted(self.told)), end="", flush=True)
+
+
+def tasks_of(crates, names):
+    """What there is to do, as rt's in_lanes takes it: each proof waits for the proofs below it, and the edits for their crate's."""
+    tasks = {}
+    wanted = {it.name for crate in crates if crate.name in names for it in [*crate.crate.below(), crate]}
+    for it in crates:
+        if it.name in wanted:
+            lines, memory = it.crate.count(rb"\n"), it.rt.need(it.crate)
+            waits = [(below.name, "proof") for below in it.crate.below()]
+            tasks[it.name, "proof"] = waits, lines, memory, it.prove
+            if it.name in names:
+                tasks[it.name, "edits"] = [(it.name, "proof")], lines, memory, it.try_edits
+    return tasks
+
+
+def main(names):
+    rt = toolchain()
+    crates = [Crate(rt, it) for it in rt.rtlib.crates_below(os.getcwd())]
+    have = [it.name for it in crates if it.edits or it.told]
+    if unknown := set(names) - set(have):
+        sys.exit(f"no wrong bodies: {' '.join(sorted(unknown))}")
+    names = names or have
+    rt.rtlib.guarded()
+    held = rt.rtlib.lock([it.crate for it in crates])
+    given = rt.in_lanes(tasks_of(crates, names))
+    for file in held:
+        os.close(file)
+    told = [what.startswith("refused") for it in crates if it.name in names for _, what in it.told]
+    refused = sum(told)
+    print(f"{refused} refused, {len(told) - refused} let through")
+    is_whole = all(given[name, "proof"] for name in names)
+    return 0 if is_whole and refused == len(told) else 1
+
+
+if __name__ == "__main__":
+    sys.exit(main(sys.argv[1:]))
