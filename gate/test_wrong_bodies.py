@@ -9,6 +9,13 @@ SOURCE = """#![tactic(auto)]
 
 ghost use Rattle.std.specs.Prelude.{◌≡◌, ◌+◌};
 
+mod apart;
+
+pub struct Pair {
+    pub first: u8,
+    pub second: u8,
+}
+
 fn next(number: u8) -> u16
     ensures { result ≡ number + 1 }
 {
@@ -22,14 +29,28 @@ pub fn second(number: u8) -> u16
     next(number) + 1
 }
 """
-# The name, the old text and the new one of each edit, and how what is told of it begins. The caller of a function that is not
-# proved is not proved either: beside the first, the fourth must not be told as refused.
+# A function of a type that is declared elsewhere.
+APART = """ghost use Rattle.std.specs.Prelude.{◌≡◌, ◌+◌};
+
+use crate::Pair;
+
+impl Pair {
+    pub fn sum(&self) -> u16
+        ensures { result ≡ self.now.first + self.now.second }
+    {
+        self.first as u16 + self.second as u16
+    }
+}
+"""
+# The name, the file, the old text and the new one of each edit, and how what is told of it begins. The caller of a function that
+# is not proved is not proved either: beside the first, the fourth must not be told as refused.
 EDITS = [
-    ("next_is_the_same", "number as u16 + 1", "number as u16", "refused, "),
-    ("next_is_too_far", "number as u16 + 1", "number as u16 + 2", "refused, "),
-    ("no_such_name", "next(number) + 1", "next(number) + one", "DOES NOT COMPILE"),
-    ("sum_turned_round", "next(number) + 1", "1 + next(number)", "LET THROUGH"),
-    ("no_such_text", "next(number) + 3", "next(number)", "CANNOT BE MADE"),
+    ("next_is_the_same", "lib", "number as u16 + 1", "number as u16", "refused, "),
+    ("next_is_too_far", "lib", "number as u16 + 1", "number as u16 + 2", "refused, "),
+    ("no_such_name", "lib", "next(number) + 1", "next(number) + one", "DOES NOT COMPILE"),
+    ("sum_turned_round", "lib", "next(number) + 1", "1 + next(number)", "LET THROUGH"),
+    ("no_such_text", "lib", "next(number) + 3", "next(number)", "CANNOT BE MADE"),
+    ("first_is_doubled", "apart", "self.second as u16", "self.first as u16", "refused, "),
 ]
 
 
@@ -40,14 +61,15 @@ def main():
             (crate / folder).mkdir(parents=True)
         pathlib.Path(top, "crates.txt").write_text("small:\n")
         (crate / "src/lib.rt").write_text(SOURCE)
-        for name, old, new, _ in EDITS:
-            (crate / f"wrong-bodies/{name}.edit").write_text(f"file: src/lib.rt\nold: {old}\nnew: {new}\n")
+        (crate / "src/apart.rt").write_text(APART)
+        for name, file, old, new, _ in EDITS:
+            (crate / f"wrong-bodies/{name}.edit").write_text(f"file: src/{file}.rt\nold: {old}\nnew: {new}\n")
         script = pathlib.Path(__file__).resolve().with_name("wrong_bodies.py")
         ran = subprocess.run([script], cwd=top, stdin=subprocess.DEVNULL, capture_output=True, text=True)
     told = ran.stdout.splitlines()
-    wanted = sorted(f"small/{name}: {what}" for name, _, _, what in EDITS)
+    wanted = sorted(f"small/{name}: {what}" for name, *_, what in EDITS)
     is_told = len(told) == len(EDITS) + 1 and all(line.startswith(it) for line, it in zip(sorted(told[:-1]), wanted))
-    if not is_told or told[-1] != "2 refused, 3 let through" or ran.returncode != 1:
+    if not is_told or told[-1] != "3 refused, 3 let through" or ran.returncode != 1:
         sys.exit(f"wrong_bodies.py, tried on a small crate, ended with {ran.returncode}:\n{ran.stdout}{ran.stderr}")
     print("wrong_bodies.py tells a wrong body that is let through")
 

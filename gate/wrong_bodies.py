@@ -5,11 +5,13 @@
 
 An edit is a file as rt's must-fail edits are: lines `file: PATH` below the crate, `old: TEXT`, which stands there once, and
 `new: TEXT`. The edits of a crate are tried in rounds. A round takes edits that touch different functions, makes them all in
-one copy of the crate, and checks that copy once. An edit is refused where that check leaves a goal open in a function that
-the edit touches: a caller that fails with it counts for nothing. What is not refused in a round is tried alone before it is
-told as let through. So is an edit outside of functions, which is refused where any goal is left open.
+one copy of the crate, and has these functions checked, with what they call. An edit is refused where that check leaves a goal
+open in a function that the edit touches. What is not refused in a round is tried alone before it is told as let through. So
+is an edit outside of functions: all of the crate is checked with it, and it is refused where any goal is left open.
 
-Crates are tried side by side, RT_JOBS at a time. The last line is `N refused, M let through`; the status is 1 if M is not 0.
+All is done in a copy of the repository's crates. A crate that `rt ci` has passed on this machine is taken as proved; any other
+is proved first. Crates are tried side by side, RT_JOBS at a time. The last line is `N refused, M let through`; the status is 1
+if M is not 0.
 """
 import importlib.machinery
 import importlib.util
@@ -17,7 +19,6 @@ import os
 import pathlib
 import re
 import shutil
-import subprocess
 import sys
 import tempfile
 from typing import NamedTuple
@@ -26,12 +27,20 @@ FOLDER = "wrong-bodies"
 # A goal that a check left open, told at the source that it comes from, or at the answer that does not prove it. An answer that
 # only names what an edit took away shows nothing.
 OPEN = re.compile(r"^note: (?:\./)?(src/\S+?):(\d+):\d+: .*\bnot proved\b[^`\n]*(?:`([^`]+)`)?", re.M)
-ANSWER = re.compile(r"^(?:\./)?(proofs/\S+?):(\d+):\d+: error: (?:`([^`]+)`)?(?!.*(?:is not in scope|was not (?:admitted|checked)|has no (?:field|`)))", re.M)
+ANSWER = re.compile(
+    r"^(?:\./)?(proofs/\S+?):(\d+):\d+: error: (?:`([^`]+)`)?"
+    r"(?!.*(?:is not in scope|was not (?:admitted|checked)|has no (?:field|`)))",
+    re.M,
+)
 # Goals that say nothing of a clause: that a number fits, that an index is within.
 RANGES = "overflow", "bounds", "slice_bounds", "offset_bounds", "nonzero"
 # What keeps a check from any verdict: a text that does not compile.
 ERROR = re.compile(r"^(?:\./)?(src/\S+?):(\d+):\d+: error(?:[^`\n]*`([^`]+)`)?", re.M)
-FUNCTION = re.compile(r"(\s*)(?:pub(?:\([^)]*\))?\s+)?(?:final\s+)?(?:const\s+)?(?:unsafe\s+)?fn (\w+)")
+# The last line of a check that came to an end.
+ENDED = re.compile(r"^(?:only=\d+ proved=|logic=)", re.M)
+FUNCTION = re.compile(
+    r"(\s*)(?:pub(?:\([^)]*\))?\s+)?(?:final\s+)?(?:const\s+)?(?:unsafe\s+)?fn (\w+)"
+)
 IMPL = re.compile(r"impl(?:<[^{]*?>)?\s+(?:(?:\w+::)*(\w+)(<[^{]*?>)?\s+for\s+)?&?(?:\w+::)*(\w+)")
 TRAIT = re.compile(r"(?:pub(?:\([^)]*\))?\s+)?trait (\w+)")
 
@@ -61,8 +70,14 @@ class Function(NamedTuple):
     last: int
     answers: str
 
+    @property
+    def name(self):
+        """The function as a check names it."""
+        return self.answers.removeprefix("proofs/").replace("/", "::")
+
     def has(self, place):
-        return place.path.rpartition("/")[0] == self.answers or place.path == self.path and self.first <= place.line <= self.last
+        is_answer = place.path.rpartition("/")[0] == self.answers
+        return is_answer or place.path == self.path and self.first <= place.line <= self.last
 
 
 class Edit(NamedTuple):
@@ -78,24 +93,41 @@ class Edit(NamedTuple):
         return min(found, key=lambda it: it.goal.startswith(RANGES), default=None)
 
 
+class Told(NamedTuple):
+    """What a check tells: the goals that it left open, the errors, whether it came to an end, and its last line."""
+
+    goals: list
+    errors: list
+    has_ended: bool
+    last: str
+
+
 class Unreadable(Exception):
     """An edit that cannot be made."""
 
 
 def owner_of(lines, first):
-    """What the folders of answers call the impl or the trait around a function, with a slash; nothing for a free function."""
+    """What the folders of answers call the impl or the trait around a function, and the type whose own impl it is, if any."""
     for line in reversed(lines[:first]):
         if found := IMPL.match(line):
             trait, arguments, name = found.groups()
-            return f"{name}{trait or ''}{re.sub(r'[^A-Za-z0-9]', '', arguments or '')}/"
+            return f"{name}{trait or ''}{re.sub(r'[^A-Za-z0-9]', '', arguments or '')}", "" if trait else name
         if found := TRAIT.match(line):
-            return f"{found[1]}/"
+            return found[1], ""
         if line.startswith("}"):
             break
-    return ""
+    return "", ""
 
 
-def function_at(path, text, offset):
+def answers_of(path, lines, first, home_of):
+    """The folder of the answers of the function that begins at a line. A type's own function is where the type is declared."""
+    head = FUNCTION.match(lines[first])
+    owner, own_type = owner_of(lines, first) if head[1] else ("", "")
+    module = (home_of(own_type, path) if own_type else path).removeprefix("src/").removesuffix(".rt")
+    return "/".join(it for it in ("proofs", module if module not in ("lib", "main") else "", owner, head[2]) if it)
+
+
+def function_at(path, text, offset, home_of):
     """The function around an offset of a text that is laid out by rt fmt, or None."""
     lines, at = text.split("\n"), text.count("\n", 0, offset)
     indent = len(lines[at]) - len(lines[at].lstrip())
@@ -103,9 +135,7 @@ def function_at(path, text, offset):
         head = FUNCTION.match(lines[first])
         if head and (first == at or len(head[1]) < indent):
             last = next((it for it in range(first, len(lines)) if lines[it] == head[1] + "}"), -1)
-            module = path.removeprefix("src/").removesuffix(".rt") + "/"
-            module = "" if module in ("lib/", "main/") else module
-            answers = f"proofs/{module}{owner_of(lines, first) if head[1] else ''}{head[2]}"
+            answers = answers_of(path, lines, first, home_of)
             # What is said of a whole function is told at the first of its attributes.
             while first > 0 and lines[first - 1].startswith(f"{head[1]}#["):
                 first -= 1
@@ -142,8 +172,8 @@ def made(changes, texts, text_of):
 class Crate:
     """A crate with its wrong bodies."""
 
-    def __init__(self, rt, crate):
-        self.rt, self.crate, self.name = rt, crate, crate.name
+    def __init__(self, rt, crate, passed):
+        self.rt, self.crate, self.name, self.passed = rt, crate, crate.name, passed
         self.folder = pathlib.Path(crate.folder)
         self.edits, self.told = [], []
         for path in sorted((self.folder / FOLDER).glob("*.edit")):
@@ -155,12 +185,18 @@ class Crate:
     def text_of(self, path):
         return (self.folder / path).read_text(encoding="utf-8")
 
+    def home_of(self, name, path):
+        """The source that declares a type, this one before others: a part of its functions may stand in another."""
+        declared = re.compile(rf"^\s*(?:pub(?:\([^)]*\))?\s+)?(?:struct|enum) {name}\b", re.M)
+        sources = sorted(str(it.relative_to(self.folder)) for it in self.folder.glob("src/**/*.rt"))
+        return next((it for it in [path, *sources] if declared.search(self.text_of(it))), path)
+
     def read(self, path):
         changes = changes_of(path.read_text(encoding="utf-8"))
         functions, texts = set(), {}
         for change in changes:
             text = texts.get(change[0]) or self.text_of(change[0])
-            functions.add(function_at(change[0], text, text.find(change[1])))
+            functions.add(function_at(change[0], text, text.find(change[1]), self.home_of))
             texts = made([change], texts, self.text_of)
         if not changes:
             raise Unreadable("it has no change")
@@ -179,11 +215,17 @@ class Crate:
                 taken |= edit.functions
         return (chosen, texts) if chosen else (edits[:1], made(edits[0].changes, {}, self.text_of))
 
-    def places(self, texts, kept):
-        """What a check of the crate with these texts tells: the goals left open, the errors, and whether it is proved."""
-        ran = self.rt.checked(self.crate, texts, ["--jobs", "1"], kept)
-        goals, answers, errors = ([Place(path, int(line), goal) for path, line, goal in it.findall(ran.stdout)] for it in (OPEN, ANSWER, ERROR))
-        return goals + answers, errors, ran.returncode == 0
+    def check(self, edits, texts, kept):
+        """Checks the functions that the edits touch, with the texts that they make, over what earlier checks of them kept."""
+        only = [f"--only={it.name}" for edit in edits for it in sorted(edit.functions)]
+        if not all(it.functions for it in edits):
+            only = []
+        said = self.rt.checked(self.crate, texts, ["--jobs", "1", *only], kept).stdout
+        goals, answers, errors = (
+            [Place(path, int(line), goal) for path, line, goal in it.findall(said)] for it in (OPEN, ANSWER, ERROR)
+        )
+        last = said.rstrip("\n").rpartition("\n")[2]
+        return Told(goals + answers, errors, ENDED.match(last) is not None, last)
 
     def tried_together(self, kept):
         """Tries the edits in rounds, and returns those that were not refused."""
@@ -192,20 +234,22 @@ class Crate:
             chosen, texts = self.round_of(left)
             if len(chosen) < 2:
                 return doubtful + left
-            goals, errors, _ = self.places(texts, kept)
+            told = self.check(chosen, texts, kept)
             # With an error nothing was judged: what does not compile is told alone, and the others are tried once more.
-            tried = [it for it in chosen if it.found_in(errors)] or chosen
-            doubtful += [it for it in tried if errors or not self.is_refused(it, goals)]
+            tried = [it for it in chosen if it.found_in(told.errors)] or chosen
+            is_judged = told.has_ended and not told.errors
+            doubtful += [it for it in tried if not is_judged or not self.is_refused(it, told.goals)]
             left = [it for it in left if it not in tried]
         return doubtful
 
     def tried_alone(self, edit, kept):
-        goals, errors, is_proved = self.places(made(edit.changes, {}, self.text_of), kept)
-        if errors:
-            self.told.append((edit.name, f"DOES NOT COMPILE: {errors[0].path}:{errors[0].line}"))
-        elif not self.is_refused(edit, goals):
-            why = "the crate is proved with it" if is_proved else "its own function leaves no goal open"
-            self.told.append((edit.name, f"LET THROUGH: {why}"))
+        told = self.check([edit], made(edit.changes, {}, self.text_of), kept)
+        if told.errors:
+            self.told.append((edit.name, f"DOES NOT COMPILE: {told.errors[0].path}:{told.errors[0].line}"))
+        elif not told.has_ended:
+            self.told.append((edit.name, f"NOT JUDGED: {told.last}"))
+        elif not self.is_refused(edit, told.goals):
+            self.told.append((edit.name, f"LET THROUGH: {told.last}"))
 
     def is_refused(self, edit, goals):
         """Whether a goal is open where the edit is, which is told then."""
@@ -214,29 +258,32 @@ class Crate:
         return place is not None
 
     def prove(self, given, jobs):
-        """Proves the crate as it stands, over what earlier checks kept, and keeps that for the rounds and the crates above."""
+        """Takes the library that rt ci proved of the crate on this machine, or else proves it, from nothing as rt ci does."""
         if not all(given[it.name, "proof"] for it in self.crate.below()):
             return False
+        pathlib.Path(self.folder, "out").mkdir(exist_ok=True)
         with tempfile.TemporaryFile("w+", errors="replace") as self.crate.out:
-            is_proved = self.crate.build_rlib(["--jobs", str(jobs)], anew=False) == 0
-            if not is_proved:
+            is_proved = self.passed.give(self.crate, False, self.passed.key(self.crate))
+            is_proved = is_proved or self.crate.ci(["--jobs", str(jobs)], False) == 0
+            if is_proved:
+                self.passed.is_built(self.crate)
+            else:
                 self.crate.out.seek(0)
                 print(f"{self.name} is not proved as it stands:\n{self.crate.out.read()}", end="", flush=True)
         return is_proved
 
     def try_edits(self, given, _jobs):
-        """Tries all edits of the crate over a copy of what its proof kept."""
+        """Tries all edits of the crate."""
         if not given[self.name, "proof"]:
             return
         with tempfile.TemporaryDirectory(prefix="wrong-bodies-") as kept:
-            shutil.copytree(self.folder / "out/incremental", kept, dirs_exist_ok=True)
             for edit in self.tried_together(kept):
                 self.tried_alone(edit, kept)
         print("".join(f"{self.name}/{name}: {what}\n" for name, what in sorted(self.told)), end="", flush=True)
 
 
 def tasks_of(crates, names):
-    """What there is to do, as rt's in_lanes takes it: each proof waits for the proofs below it, and the edits for their crate's."""
+    """What there is to do, as rt's in_lanes takes it: each proof waits for those below it, and the edits for their crate's."""
     tasks = {}
     wanted = {it.name for crate in crates if crate.name in names for it in [*crate.crate.below(), crate]}
     for it in crates:
@@ -249,23 +296,38 @@ def tasks_of(crates, names):
     return tasks
 
 
-def main(names):
-    rt = toolchain()
-    crates = [Crate(rt, it) for it in rt.rtlib.crates_below(os.getcwd())]
+def tried(rt, names):
+    """Tries the edits of the crates of these names, or of all, and returns the status."""
+    # As under rt ci: the crates above a library load its statements.
+    rt.Crate.cuts_libraries = True
+    rt.Crate.allowed = rt.handles_of(os.getcwd())
+    every = rt.crates_of(os.getcwd())
+    rt.rtlib.guarded()
+    passed = rt.Kept(every)
+    crates = [Crate(rt, it, passed) for it in every]
     have = [it.name for it in crates if it.edits or it.told]
     if unknown := set(names) - set(have):
         sys.exit(f"no wrong bodies: {' '.join(sorted(unknown))}")
     names = names or have
-    rt.rtlib.guarded()
-    held = rt.rtlib.lock([it.crate for it in crates])
     given = rt.in_lanes(tasks_of(crates, names))
-    for file in held:
-        os.close(file)
     told = [what.startswith("refused") for it in crates if it.name in names for _, what in it.told]
     refused = sum(told)
     print(f"{refused} refused, {len(told) - refused} let through")
     is_whole = all(given[name, "proof"] for name in names)
     return 0 if is_whole and refused == len(told) else 1
+
+
+def main(names):
+    rt, here = toolchain(), os.getcwd()
+    with tempfile.TemporaryDirectory(prefix="wrong-bodies-") as room:
+        rt.copy_crates(here, f"{room}/repository")
+        # rt looks for the top of a repository.
+        os.mkdir(f"{room}/repository/.git")
+        os.chdir(f"{room}/repository")
+        try:
+            return tried(rt, names)
+        finally:
+            os.chdir(here)
 
 
 if __name__ == "__main__":
