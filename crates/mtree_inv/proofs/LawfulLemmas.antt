@@ -20,7 +20,7 @@ use Rattle.idtext.specs.declared.faults.ReadError.{ReadError}
 use Rattle.idtext.specs.declared.faults.ReadError.TheVariants.{Memory, Fault}
 use Rattle.mtree_inv.specs.declared.entry.Entry.{Entry}
 use Rattle.mtree_inv.specs.Files.{IsLawfulPath, IsLawfulFile, AreFiles}
-use Rattle.mtree_inv.specs.Laws.{SeparatorsAreRefused, InventoriesAreFiles, ReadersHaveFiles}
+use Rattle.mtree_inv.specs.Laws.{BadEscapesAreRefused, SeparatorsAreRefused, InventoriesAreFiles, ReadersHaveFiles}
 use Rattle.mtree_inv.specs.Logical.{LogicalLine, logical_lines}
 use Rattle.mtree_inv.specs.Kinds.{Kind, TooLong, Cut, Ignored, Sets, Unsets, Unknown, Up, Names, kind_of}
 use Rattle.mtree_inv.specs.Keywords.{has_lawful_numbers, number_in_force, in_force, is_directory}

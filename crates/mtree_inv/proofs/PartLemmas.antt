@@ -88,9 +88,9 @@ read-escape path part rest after new b bad whole e n h =
     }
 
 pub read-plain : (path part rest after new : List ℕ) (b : ℕ) (bad : Bool) (whole : List ℕ) → characters rest ≡ Plain b ∷ characters after → (b == 47) ≡ false → new ≡ part ++ b ∷ [] → ReadTo path part rest bad whole → ReadTo path new after bad whole
-read-plain path part rest after new b bad whole e no n h =
+read-plain path part rest after new b bad whole e other n h =
     let at = at_first path part rest after (Plain b) bad whole e h in
-    let more = ap (λ (p : List ℕ). onto_part p (parts_of (characters after))) n ∙ sym (plain-more part b (characters after) no) in
+    let more = ap (λ (p : List ℕ). onto_part p (parts_of (characters after))) n ∙ sym (plain-more part b (characters after) other) in
     record {
       bad_is = ap (λ (ps : List (List ℕ)). list_any is_bad (characters after) || list_any is_bad_component ps) more ∙ at.0;
       path_is = ap (λ (ps : List (List ℕ)). joined_onto path (filter is_kept ps)) more ∙ at.1;
@@ -113,9 +113,9 @@ abbrev pub with_part : List ℕ → List ℕ → List ℕ
 with_part path part = cond (is_kept part) (onto path part) path
 
 pub read-slash : (path part rest after new : List ℕ) (b : ℕ) (bad : Bool) (whole : List ℕ) → characters rest ≡ Plain b ∷ characters after → (b == 47) ≡ true → is_bad_component part ≡ false → new ≡ with_part path part → ReadTo path part rest bad whole → ReadTo new [] after bad whole
-read-slash path part rest after new b bad whole e yes good n h =
+read-slash path part rest after new b bad whole e slash good n h =
     let at = at_first path part rest after (Plain b) bad whole e h in
-    let more = slash-more part b (characters after) yes in
+    let more = slash-more part b (characters after) slash in
     let parts = onto_part [] (parts_of (characters after)) in
     record {
       bad_is =
@@ -132,11 +132,11 @@ pub read-bad_escape : (path part rest after : List ℕ) (bad : Bool) (whole : Li
 read-bad_escape path part rest after bad whole e h = sym (at_first path part rest after Bad bad whole e h).0
 
 pub read-bad_part : (path part rest after : List ℕ) (b : ℕ) (bad : Bool) (whole : List ℕ) → characters rest ≡ Plain b ∷ characters after → (b == 47) ≡ true → is_bad_component part ≡ true → ReadTo path part rest bad whole → bad ≡ true
-read-bad_part path part rest after b bad whole e yes no h =
+read-bad_part path part rest after b bad whole e slash is h =
     let parts = onto_part [] (parts_of (characters after)) in
     sym (at_first path part rest after (Plain b) bad whole e h).0
-    ∙ ap (λ (ps : List (List ℕ)). list_any is_bad (characters after) || list_any is_bad_component ps) (slash-more part b (characters after) yes)
-    ∙ bad-any (list_any is_bad (characters after)) (is_bad_component part) (list_any is_bad_component parts) no
+    ∙ ap (λ (ps : List (List ℕ)). list_any is_bad (characters after) || list_any is_bad_component ps) (slash-more part b (characters after) slash)
+    ∙ bad-any (list_any is_bad (characters after)) (is_bad_component part) (list_any is_bad_component parts) is
 
 -- ---- the last part
 
