@@ -35,108 +35,20 @@ onto_none (c ∷ rest) = by (is_slash c) (slice_split is_slash rest)
     by false [] = refl
     by false (x ∷ more) = refl
 
--- ---- one byte more
-
-byte-more : (c : Character) (b : ℕ) (part : List ℕ) (more : List (List Character)) → ((cs : List Character) → bytes_of (c ∷ cs) ≡ b ∷ bytes_of cs)
-    → onto_part part (map bytes_of (onto_first c more)) ≡ onto_part (part ++ b ∷ []) (map bytes_of more)
-byte-more c b part [] bytes = ap (λ (bs : List ℕ). (part ++ bs) ∷ []) (bytes [])
-byte-more c b part (x ∷ more) bytes =
-    ap (λ (bs : List ℕ). (part ++ bs) ∷ map bytes_of more) (bytes x)
-    ∙ ap (λ (bs : List ℕ). bs ∷ map bytes_of more) (sym (append_assoc part (b ∷ []) (bytes_of x)))
-
-pub escape-more : (part : List ℕ) (b : ℕ) (cs : List Character) → onto_part part (parts_of (Escape b ∷ cs)) ≡ onto_part (part ++ b ∷ []) (parts_of cs)
-escape-more part b cs = byte-more (Escape b) b part (slice_split is_slash cs) (λ xs. refl)
-
-pub plain-more : (part : List ℕ) (b : ℕ) (cs : List Character) → (b == 47) ≡ false → onto_part part (parts_of (Plain b ∷ cs)) ≡ onto_part (part ++ b ∷ []) (parts_of cs)
-plain-more part b cs e =
-    ap (λ (t : Bool). onto_part part (map bytes_of (cond t ([] ∷ slice_split is_slash cs) (onto_first (Plain b) (slice_split is_slash cs))))) e
-    ∙ byte-more (Plain b) b part (slice_split is_slash cs) (λ xs. refl)
-
--- ---- one slash more
-
-pub slash-more : (part : List ℕ) (b : ℕ) (cs : List Character) → (b == 47) ≡ true → onto_part part (parts_of (Plain b ∷ cs)) ≡ part ∷ onto_part [] (parts_of cs)
-slash-more part b cs e =
-    ap (λ (t : Bool). onto_part part (map bytes_of (cond t ([] ∷ slice_split is_slash cs) (onto_first (Plain b) (slice_split is_slash cs))))) e
-    ∙ ap (λ (p : List ℕ). p ∷ parts_of cs) (append-nil part)
-    ∙ ap (λ (ps : List (List ℕ)). part ∷ ps) (sym (onto_none cs))
-
 -- ---- a word that is read so far: a part in progress and the rest, where `bad` and `path` are those of the whole word
 
 pub record ReadTo (path part rest : List ℕ) (bad : Bool) (whole : List ℕ) : Type 0 where
   pub bad_is : has_bad_after part (characters rest) ≡ bad
   pub path_is : joined_onto path (components_after part (characters rest)) ≡ whole
 
-pub read-start : (path word : List ℕ) → ReadTo path [] word (has_bad_component word) (joined_onto path (components word))
-read-start path word = record {
-  bad_is = ap (λ (ps : List (List ℕ)). has_bad_escape word || list_any is_bad_component ps) (onto_none (characters word));
-  path_is = ap (λ (ps : List (List ℕ)). joined_onto path (filter is_kept ps)) (onto_none (characters word));
-}
-
--- with this character in front of the rest
-at_first : (path part rest after : List ℕ) (c : Character) (bad : Bool) (whole : List ℕ) → characters rest ≡ c ∷ characters after → ReadTo path part rest bad whole
-    → (has_bad_after part (c ∷ characters after) ≡ bad) × (joined_onto path (components_after part (c ∷ characters after)) ≡ whole)
-at_first path part rest after c bad whole e h =
-    ( sym (ap (has_bad_after part) e) ∙ h.bad_is , sym (ap (λ (cs : List Character). joined_onto path (components_after part cs)) e) ∙ h.path_is )
-
-pub read-escape : (path part rest after new : List ℕ) (b : ℕ) (bad : Bool) (whole : List ℕ) → characters rest ≡ Escape b ∷ characters after → new ≡ part ++ b ∷ [] → ReadTo path part rest bad whole → ReadTo path new after bad whole
-read-escape path part rest after new b bad whole e n h =
-    let at = at_first path part rest after (Escape b) bad whole e h in
-    let more = ap (λ (p : List ℕ). onto_part p (parts_of (characters after))) n ∙ sym (escape-more part b (characters after)) in
-    record {
-      bad_is = ap (λ (ps : List (List ℕ)). list_any is_bad (characters after) || list_any is_bad_component ps) more ∙ at.0;
-      path_is = ap (λ (ps : List (List ℕ)). joined_onto path (filter is_kept ps)) more ∙ at.1;
-    }
-
-pub read-plain : (path part rest after new : List ℕ) (b : ℕ) (bad : Bool) (whole : List ℕ) → characters rest ≡ Plain b ∷ characters after → (b == 47) ≡ false → new ≡ part ++ b ∷ [] → ReadTo path part rest bad whole → ReadTo path new after bad whole
-read-plain path part rest after new b bad whole e other n h =
-    let at = at_first path part rest after (Plain b) bad whole e h in
-    let more = ap (λ (p : List ℕ). onto_part p (parts_of (characters after))) n ∙ sym (plain-more part b (characters after) other) in
-    record {
-      bad_is = ap (λ (ps : List (List ℕ)). list_any is_bad (characters after) || list_any is_bad_component ps) more ∙ at.0;
-      path_is = ap (λ (ps : List (List ℕ)). joined_onto path (filter is_kept ps)) more ∙ at.1;
-    }
-
 -- a part that is kept or not, in front of the components to come
 kept-joined : (path part : List ℕ) (parts : List (List ℕ)) (kept : Bool) → joined_onto path (cond kept (part ∷ parts) parts) ≡ joined_onto (cond kept (onto path part) path) parts
 kept-joined path part parts true = refl
 kept-joined path part parts false = refl
 
-bad-part : (a b c : Bool) → b ≡ false → (a || (b || c)) ≡ (a || c)
-bad-part a b c e = ap (λ (x : Bool). a || (x || c)) e
-
-bad-any : (a b c : Bool) → b ≡ true → (a || (b || c)) ≡ true
-bad-any true b c e = refl
-bad-any false b c e = ap (λ (x : Bool). x || c) e
-
 -- what the path is once the part is written
 abbrev pub with_part : List ℕ → List ℕ → List ℕ
 with_part path part = cond (is_kept part) (onto path part) path
-
-pub read-slash : (path part rest after new : List ℕ) (b : ℕ) (bad : Bool) (whole : List ℕ) → characters rest ≡ Plain b ∷ characters after → (b == 47) ≡ true → is_bad_component part ≡ false → new ≡ with_part path part → ReadTo path part rest bad whole → ReadTo new [] after bad whole
-read-slash path part rest after new b bad whole e slash good n h =
-    let at = at_first path part rest after (Plain b) bad whole e h in
-    let more = slash-more part b (characters after) slash in
-    let parts = onto_part [] (parts_of (characters after)) in
-    record {
-      bad_is =
-          sym (bad-part (list_any is_bad (characters after)) (is_bad_component part) (list_any is_bad_component parts) good)
-          ∙ sym (ap (λ (ps : List (List ℕ)). list_any is_bad (characters after) || list_any is_bad_component ps) more) ∙ at.0;
-      path_is =
-          ap (λ (p : List ℕ). joined_onto p (filter is_kept parts)) n
-          ∙ sym (kept-joined path part (filter is_kept parts) (is_kept part))
-          ∙ sym (ap (λ (ps : List (List ℕ)). joined_onto path (filter is_kept ps)) more) ∙ at.1;
-    }
-
--- a bad escape, and a part that is in no path
-pub read-bad_escape : (path part rest after : List ℕ) (bad : Bool) (whole : List ℕ) → characters rest ≡ Bad ∷ characters after → ReadTo path part rest bad whole → bad ≡ true
-read-bad_escape path part rest after bad whole e h = sym (at_first path part rest after Bad bad whole e h).0
-
-pub read-bad_part : (path part rest after : List ℕ) (b : ℕ) (bad : Bool) (whole : List ℕ) → characters rest ≡ Plain b ∷ characters after → (b == 47) ≡ true → is_bad_component part ≡ true → ReadTo path part rest bad whole → bad ≡ true
-read-bad_part path part rest after b bad whole e slash is h =
-    let parts = onto_part [] (parts_of (characters after)) in
-    sym (at_first path part rest after (Plain b) bad whole e h).0
-    ∙ ap (λ (ps : List (List ℕ)). list_any is_bad (characters after) || list_any is_bad_component ps) (slash-more part b (characters after) slash)
-    ∙ bad-any (list_any is_bad (characters after)) (is_bad_component part) (list_any is_bad_component parts) is
 
 -- ---- the last part
 
