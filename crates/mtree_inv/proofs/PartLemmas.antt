@@ -1,12 +1,11 @@
 -- The parts of a word, read from the left with the bytes of the part in progress in front.
-use Rattle.std.proofs.Common.{◌≡◌, ℕ, Bool, true, false, cond, not, ◌||◌, ◌==◌, List, [], ◌∷◌, ◌++◌, refl, sym, ap, ◌∙◌, append_assoc, append-nil}
+use Rattle.std.proofs.Common.{◌≡◌, ℕ, Bool, true, false, cond, ◌||◌, List, [], ◌∷◌, ◌++◌, refl, sym, ap, ◌∙◌, append-nil}
 use Rattle.std.specs.Prelude.{filter, map}
 use Rattle.std.specs.List.{list_any, slice_split, onto_first}
-use Rattle.idtext.specs.Escapes.{characters, bytes_of, has_bad_escape, is_bad}
+use Rattle.idtext.specs.Escapes.{characters, bytes_of, is_bad}
 use Rattle.idtext.specs.declared.escapes.Character.{Character}
-use Rattle.idtext.specs.declared.escapes.Character.TheVariants.{Plain, Escape, Bad}
 use Rattle.idtext.proofs.EscapeLemmas.{characters-empty}
-use Rattle.mtree_inv.specs.Paths.{is_kept, is_bad_component, is_slash, components, has_bad_component}
+use Rattle.mtree_inv.specs.Paths.{is_kept, is_bad_component, is_slash}
 use Rattle.mtree_inv.specs.Machine.{onto, joined_onto}
 
 -- the bytes of the parts, the first of them behind those of the part in progress
