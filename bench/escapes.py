@@ -1,11 +1,14 @@
 #!/usr/bin/env python3
-"""Which names come back from the inventories that mtree and bsdtar write: every byte that a name may have, in five places.
+"""Which names come back from the inventories that mtree and bsdtar write: every byte that a name may have, in five places, and at
+the end of a folder's name.
 
     bench/escapes.py [PROGRAM]
 
 PROGRAM is what `make program` built, if none is named. It wants NetBSD's `mtree` and `bsdtar`. A name is right if the plan of
 a merge has it; refused if its line is told as a bad path, which is then taken out and the rest read again; lost if the tool
 wrote another name, as this script reads it; and wrong if it is none of these, or if the plan has a name that nobody wrote.
+Of folders it tells how many names the plan has that are no file's; `mtree -C` is not asked for them, since a folder whose name
+it cuts gives those behind it other paths.
 """
 import os
 import pathlib
@@ -108,24 +111,49 @@ def read_back(program, room, text):
         refused += 1
 
 
+def fresh(folder):
+    """A folder for a host and one for files, both empty."""
+    shutil.rmtree(folder, ignore_errors=True)
+    room, tree = folder / "a", folder / "tree"
+    room.mkdir(parents=True)
+    tree.mkdir()
+    return room, tree
+
+
+def tell_files(program, work, tool, place):
+    """Files of one folder, whose names have each byte in this place."""
+    room, tree = fresh(work)
+    names = {PLACES[place](byte) for byte in BYTES} - {b"."}
+    for name in names:
+        open(os.fsencode(tree) + b"/" + name, "w").close()
+    text = TOOLS[tool](tree)
+    written = names_written(text)
+    came, refused = read_back(program, room, text)
+    right, lost = len(names & came), len(names - written)
+    wrong = len(came - written) + len(names) - right - refused - lost
+    print(f"{tool}, {place}: {right} right, {refused} refused, {lost} lost by the tool, {wrong} wrong")
+
+
+def tell_folders(program, work, tool):
+    """Folders whose names end in each byte, with a file in each."""
+    room, tree = fresh(work)
+    folders = [b"x" + byte for byte in BYTES]
+    for folder in folders:
+        os.mkdir(os.fsencode(tree) + b"/" + folder)
+        open(os.fsencode(tree) + b"/" + folder + b"/f", "w").close()
+    names = {*folders, *(folder + b"/f" for folder in folders)}
+    came, refused = read_back(program, room, TOOLS[tool](tree))
+    print(f"{tool}, folders: {len(names & came)} of {len(names)} right, {refused} refused, {len(came - names)} other names")
+
+
 def main():
     program = pathlib.Path(*sys.argv[1:2] or [UNIFY]).resolve()
     work = pathlib.Path(HERE, "work", "escapes")
-    for tool, written_by in TOOLS.items():
-        for place, name_of in PLACES.items():
-            shutil.rmtree(work, ignore_errors=True)
-            room, tree = work / "a", work / "tree"
-            room.mkdir(parents=True)
-            tree.mkdir()
-            names = {name_of(byte) for byte in BYTES} - {b"."}
-            for name in names:
-                open(os.fsencode(tree) + b"/" + name, "w").close()
-            text = written_by(tree)
-            written = names_written(text)
-            came, refused = read_back(program, room, text)
-            right, lost = len(names & came), len(names - written)
-            wrong = len(came - written) + len(names) - right - refused - lost
-            print(f"{tool}, {place}: {right} right, {refused} refused, {lost} lost by the tool, {wrong} wrong")
+    for tool in TOOLS:
+        for place in PLACES:
+            tell_files(program, work, tool, place)
+        if tool != "mtree -C":
+            tell_folders(program, work, tool)
 
 
 if __name__ == "__main__":
