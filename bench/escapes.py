@@ -135,13 +135,15 @@ def tell_files(program, work, tool, place):
 
 
 def tell_folders(program, work, tool):
-    """Folders whose names end in each byte, with a file in each."""
+    """Folders whose names end in each byte, with a file in each whose long name ends in it too."""
     room, tree = fresh(work)
-    folders = [b"x" + byte for byte in BYTES]
-    for folder in folders:
+    names = set()
+    for byte in BYTES:
+        folder = PLACES["at the end"](byte)
+        file = folder + b"/" + PLACES["at a long end"](byte)
         os.mkdir(os.fsencode(tree) + b"/" + folder)
-        open(os.fsencode(tree) + b"/" + folder + b"/f", "w").close()
-    names = {*folders, *(folder + b"/f" for folder in folders)}
+        open(os.fsencode(tree) + b"/" + file, "w").close()
+        names |= {folder, file}
     came, refused = read_back(program, room, TOOLS[tool](tree))
     print(f"{tool}, folders: {len(names & came)} of {len(names)} right, {refused} refused, {len(came - names)} other names")
 

@@ -1,7 +1,7 @@
 -- The parts of a word, read from the left with the bytes of the part in progress in front.
 use Rattle.std.proofs.Common.{◌≡◌, ℕ, Bool, true, false, cond, ◌||◌, List, [], ◌∷◌, ◌++◌, refl, sym, ap, ◌∙◌, append-nil}
 use Rattle.std.specs.Prelude.{filter, map}
-use Rattle.std.specs.List.{list_any, slice_split, onto_first}
+use Rattle.std.specs.List.{list_any, slice_split}
 use Rattle.idtext.specs.Escapes.{characters, bytes_of, is_bad}
 use Rattle.idtext.specs.declared.escapes.Character.{Character}
 use Rattle.idtext.proofs.EscapeLemmas.{characters-empty}
@@ -22,17 +22,6 @@ has_bad_after part rest = list_any is_bad rest || list_any is_bad_component (ont
 
 abbrev pub components_after : List ℕ → List Character → List (List ℕ)
 components_after part rest = filter is_kept (onto_part part (parts_of rest))
-
--- there is a part
-onto_none : (rest : List Character) → onto_part [] (parts_of rest) ≡ parts_of rest
-onto_none [] = refl
-onto_none (c ∷ rest) = by (is_slash c) (slice_split is_slash rest)
-  where
-    by : (slash : Bool) (more : List (List Character))
-        → onto_part [] (map bytes_of (cond slash ([] ∷ more) (onto_first c more))) ≡ map bytes_of (cond slash ([] ∷ more) (onto_first c more))
-    by true more = refl
-    by false [] = refl
-    by false (x ∷ more) = refl
 
 -- ---- a word that is read so far: a part in progress and the rest, where `bad` and `path` are those of the whole word
 
