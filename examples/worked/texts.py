@@ -19,6 +19,12 @@ REFUSED = [
     ("every-value-is-a-number", "login.defs", "\nUID_MIN 08\nUID_MIN 8\n", "3 BadNumber host a login.defs line 2"),
     ("greatest-gid-too-great", "login.defs", "GID_MAX 4294967295\n", "3 BadNumber host a login.defs line 1"),
     ("first-equals-sign", "mtree", "./f uid=1=2 gid=100\n", "3 BadNumber host a mtree line 1"),
+    ("bad-escape-at-the-end", "mtree", "./a\\M- uid=1001 gid=100\n", "14 BadPath host a mtree line 1"),
+    ("bad-escape-control", "mtree", "./a\\M^a uid=1001 gid=100\n", "14 BadPath host a mtree line 1"),
+    ("bad-escape-meta", "mtree", "./a\\Mb uid=1001 gid=100\n", "14 BadPath host a mtree line 1"),
+    ("bad-escape-of-a-slash", "mtree", "./a\\^/b uid=1001 gid=100\n", "14 BadPath host a mtree line 1"),
+    ("lone-backslash", "mtree", "./a\\ uid=1001 gid=100\n", "14 BadPath host a mtree line 1"),
+    ("meta-before-a-joined-line", "mtree", "./f uid=1001 gid=100\n    name\\M-\\\n    next\n", "14 BadPath host a mtree line 2"),
     ("pushed-escapes", "mtree", "./\\\\ uid=1005 gid=100\n", "25 UnownedUid host a uid 1005 \\134"),
     ("white-before-a-comment", "passwd", " # a\n", "1 BadFields host a passwd line 1"),
     ("name-with-nul", "passwd", "a\0:x:1001:100:::\n", "2 BadName host a passwd line 1"),
@@ -131,6 +137,7 @@ def inventories():
     for name, text, read in [
         ("nested-inventory", NESTED, PREFIXES[-1][2]),
         ("escape-across-pieces", "./a\\040b uid=1001 gid=100\n", [("a b", 1001, 100)]),
+        ("meta-across-pieces", "na\\M-C\\M-/ve uid=1001 gid=100\n", [("na\xc3\xafve", 1001, 100)]),
     ]:
         for at, pieces in in_two_pieces(text):
             yield f"{name}, parted at {at}", pieces, read

@@ -4,7 +4,7 @@
 ghost use Rattle.idtext.specs.Laws.{CNumbersAreIds, DecimalsAreIds, EscapedIsReadBack, FrontIsReadFirst, NothingStandsForNothing, WrittenIdIsReadBack};
 
 /// Escapes are read from the left, one after the other, and none reaches into the next; and what `push_escaped` writes is
-/// what `push_unescaped` reads back.
+/// what `first_character` reads back, one after the other.
 pub fn escapes_are_read_from_the_left()
     ensures front { FrontIsReadFirst }
     ensures empty { NothingStandsForNothing }

@@ -4,6 +4,7 @@ use Rattle.std.proofs.lemmas.Bool.{false≢true, and_parts, or_parts, or_right, 
 use Rattle.std.proofs.lemmas.List.Elements.{All-nil, All-cons, All-head, All-tail, All-append, All-filter, All-weaker, filter_passes}
 use Rattle.std.specs.List.{list_any, join_with_byte}
 use Rattle.std.specs.Str.{bytes_eq}
+use Rattle.idtext.specs.Escapes.{has_bad_escape}
 use Rattle.idtext.specs.Words.{is_filled}
 use Rattle.mtree_inv.specs.Inventory.{flattened, path_of}
 use Rattle.mtree_inv.specs.Kinds.{Kind}
@@ -41,7 +42,7 @@ kept_filled component e = filled_long component (and_parts (is_filled component)
 pub components_clean : (word : List ℕ) → has_bad_component word ≡ false → All IsClean (components word)
 components_clean word e = λ k d within.
     let kept : All (λ c. is_kept c ≡ true) (components word) = filter_passes is_kept (parts word) in
-    let bare : All (λ c. is_bad_component c ≡ false) (components word) = All-filter is_kept (λ c. is_bad_component c ≡ false) (parts word) (none_passes is_bad_component (parts word) e) in
+    let bare : All (λ c. is_bad_component c ≡ false) (components word) = All-filter is_kept (λ c. is_bad_component c ≡ false) (parts word) (none_passes is_bad_component (parts word) (or_parts (has_bad_escape word) (list_any is_bad_component (parts word)) e).1) in
     record { filled = kept_filled (get_or (components word) k d) (kept k d within); no_nul = not_bad (get_or (components word) k d) (bare k d within) }
 
 joined_clean : (c : List ℕ) (cs : List (List ℕ)) → All IsClean (c ∷ cs) → IsClean (join_with_byte 47 (c ∷ cs))

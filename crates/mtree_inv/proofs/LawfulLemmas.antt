@@ -20,11 +20,12 @@ use Rattle.idtext.specs.declared.faults.ReadError.{ReadError}
 use Rattle.idtext.specs.declared.faults.ReadError.TheVariants.{Memory, Fault}
 use Rattle.mtree_inv.specs.declared.entry.Entry.{Entry}
 use Rattle.mtree_inv.specs.Files.{IsLawfulPath, IsLawfulFile, AreFiles}
-use Rattle.mtree_inv.specs.Laws.{SeparatorsAreRefused, InventoriesAreFiles, ReadersHaveFiles}
+use Rattle.mtree_inv.specs.Laws.{BadEscapesAreRefused, SeparatorsAreRefused, InventoriesAreFiles, ReadersHaveFiles}
 use Rattle.mtree_inv.specs.Logical.{LogicalLine, logical_lines}
 use Rattle.mtree_inv.specs.Kinds.{Kind, TooLong, Cut, Ignored, Sets, Unsets, Unknown, Up, Names, kind_of}
 use Rattle.mtree_inv.specs.Keywords.{has_lawful_numbers, number_in_force, in_force, is_directory}
 use Rattle.mtree_inv.specs.Open.{Mark, Opens, Stays, is_full, mark_of, marks, open_names}
+use Rattle.idtext.specs.Escapes.{has_bad_escape}
 use Rattle.mtree_inv.specs.Paths.{parts, components, is_bad_component, has_bad_component}
 use Rattle.mtree_inv.specs.Inventory.{kinds, files_of, named, first_appearances, fault_of, fault_said, file_said, file_at, said_alone, owned_file, named_file, is_bad_path, path_of, numbered_fault, inventory_of_lines, inventory, accepted, accepted_from}
 use Rattle.mtree_inv.specs.Machine.{with_new_file}
@@ -232,13 +233,22 @@ separator : (b : ℕ) → (b ≡ 47) ⊎ (b ≡ 0) → ((b == 47) || (b == 0)) �
 separator b (inl e) = or_left (b == 47) (b == 0) (eq-eqb b 47 e)
 separator b (inr e) = or_right (b == 47) (b == 0) (eq-eqb b 0 e)
 
+bad_refused : (most : ℕ) (before : List Kind) (word : List ℕ) (keywords : List (List ℕ)) → has_bad_component word ≡ true → fault_of most before (Names word keywords) ≡ Some BadPath
+unfolding fault_of
+bad_refused most before word keywords bad =
+    ap (λ (o : Bool). fault_said most (files_of before) (cond o (Err BadPath) (cond (not (has_lawful_numbers keywords)) (Err BadNumber) (owned_file (path_of before word) (number_in_force (codes "uid") before keywords) (number_in_force (codes "gid") before keywords)))))
+    (or_left (has_bad_component word) (nat_lt 65535 (length (path_of before word))) bad)
+
 -- a component with a separator is in no path
 pub separator_refused : SeparatorsAreRefused
-unfolding fault_of
 separator_refused most before word keywords component b there has is =
     let slash_or_nul : ℕ → Bool = λ c. (c == 47) || (c == 0) in
     let any = list_any_at slash_or_nul component has.0 b has.1 (ap slash_or_nul has.2 ∙ separator b is) in
     let bad = or_right (bytes_eq component (codes "..")) (list_any slash_or_nul component) any in
     let bad_word = list_any_at is_bad_component (parts word) there.0 component there.1 (ap is_bad_component there.2 ∙ bad) in
-    ap (λ (o : Bool). fault_said most (files_of before) (cond o (Err BadPath) (cond (not (has_lawful_numbers keywords)) (Err BadNumber) (owned_file (path_of before word) (number_in_force (codes "uid") before keywords) (number_in_force (codes "gid") before keywords)))))
-    (or_left (has_bad_component word) (nat_lt 65535 (length (path_of before word))) bad_word)
+    bad_refused most before word keywords (or_right (has_bad_escape word) (list_any is_bad_component (parts word)) bad_word)
+
+-- and a word with a bad escape names no file
+pub bad_escape_refused : BadEscapesAreRefused
+bad_escape_refused most before word keywords e =
+    bad_refused most before word keywords (or_left (has_bad_escape word) (list_any is_bad_component (parts word)) e)

@@ -1,9 +1,7 @@
 //! Of idtext, logindefs and mtree_inv: what no command shows. Their other examples are bundles and texts of
 //! `examples/worked`.
 
-use idtext::{
-    ByteString, ReadError, TextCode, TextFault, push_escaped, push_number, push_unescaped,
-};
+use idtext::{ByteString, ReadError, TextCode, TextFault, push_escaped, push_number};
 use logindefs::IdRange;
 use mtree_inv::{Reader, read_inventory};
 use std::alloc::{AllocError, Global};
@@ -99,14 +97,6 @@ fn each_growth_refused_escapes(rt: HostRuntime) -> Result<(), Fail> {
     let mut text = Vec::from_slice(rt.alloc(), b"a")?;
     let pushed = push_escaped(&mut text, &[b' '; 100]);
     assert!(rt; is_all_or_nothing(pushed, &text, 401));
-    Ok(())
-}
-
-#[test]
-fn each_growth_refused_unescapes(rt: HostRuntime) -> Result<(), Fail> {
-    let mut text = Vec::from_slice(rt.alloc(), b"a")?;
-    let pushed = push_unescaped(&mut text, &[b' '; 100]);
-    assert!(rt; is_all_or_nothing(pushed, &text, 101));
     Ok(())
 }
 
