@@ -80,16 +80,18 @@ host-lawful text loaded h =
       groups = group-law text.group groups.0 (file_ok text.name file.Group (group_table text.group) groups.0 groups.1);
     })
 
-host-named : (text : HostText) (loaded : Loaded) → host_of text ≡ Ok loaded → text.name ≡ loaded.host.name
+-- a host that was loaded has the name and the inventory of its texts
+pub as_loaded : (text : HostText) (loaded : Loaded) → host_of text ≡ Ok loaded → (text.name ≡ loaded.host.name) × (text.mtree ≡ loaded.mtree)
 unfolding host_of
-host-named text loaded h =
+as_loaded text loaded h =
     let ranges = bind_ok (in_file text.name file.LoginDefs (ranges_of text.logindefs)) _ loaded h in
     let users = bind_ok (in_file text.name file.Passwd (passwd_table text.passwd)) _ loaded ranges.2 in
     let groups = bind_ok (in_file text.name file.Group (group_table text.group)) _ loaded users.2 in
     let made : Host = record { name = text.name; ranges = ranges.0; users = users.0; groups = groups.0 } in
     let primary = bind_ok (in_site (primary_checked made)) _ loaded groups.2 in
     let all : Loaded = record { host = made; mtree = text.mtree } in
-    ap (λ (l : Loaded). l.host.name) (ok_same all loaded primary.2)
+    let same : all ≡ loaded = ok_same all loaded primary.2 in
+    (ap (λ (l : Loaded). l.host.name) same, ap (λ (l : Loaded). l.mtree) same)
 
 passed : {F : Type 0} (b : Bool) (e : F) (rest : Option F) → cond (not b) (Some e) rest ≡ None → b ≡ true
 passed true e rest h = refl
@@ -177,7 +179,7 @@ loaded-named texts loaded h named =
     All-map (λ (x : Host). is_host_name x.name ≡ true) (λ (l : Loaded). l.host) loaded
     (λ k d l.
     let from = each-ok host_of texts loaded h k (get_or loaded k d) (slice_get-get_or loaded k d l) in
-    subst (λ n. is_host_name n ≡ true) (host-named from.0 (get_or loaded k d) from.2) (all-at (λ (t : HostText). is_host_name t.name ≡ true) texts k from.0 named from.1))
+    subst (λ n. is_host_name n ≡ true) (as_loaded from.0 (get_or loaded k d) from.2).0 (all-at (λ (t : HostText). is_host_name t.name ≡ true) texts k from.0 named from.1))
 
 -- what is known of a host before its inventory is read
 abbrev pub IsKnownHost : Joined → ℕ → Host → Type 0

@@ -2,6 +2,7 @@
 ghost use Rattle.unify.specs.Laws.{OwnersAgree, ReadSitesAreWhole, EmptyPinsAreNone, PassesReadTheSite, CostsAgree};
 ghost use Rattle.unify.specs.Believed.{OutcomesAreBelieved, DoneKeepsPrintedNames, RunsKeepNames, NumbersTellNames};
 ghost use Rattle.unify.specs.TwoPasses.{TwoPassesAreBelieved};
+ghost use Rattle.unify.specs.Agreeing.{PrintedCertificatesAreAccepted, PrintedMapsAreCounted, NoMapRewritesFewer, PrintedPlansAreRehearsed};
 
 /// Every site that was read is whole: it has at most 64 hosts, whose names and tables are lawful and whose inventories have
 /// no path twice, the accounts over all hosts are lawful, and each file has a user and a group, by its host's own tables
@@ -57,4 +58,25 @@ pub fn two_passes_are_believed()
 /// accounts over all hosts, which a merge and a check of a certificate answer.
 pub fn costs_agree()
     ensures { CostsAgree }
+{}
+
+/// A check of the same texts accepts the certificate that a merge prints, and answers the cost that the merge tells.
+pub fn printed_certificates_are_accepted()
+    ensures { PrintedCertificatesAreAccepted }
+{}
+
+/// A count of the map that a merge prints, over the same texts, answers the cost that the merge tells.
+pub fn printed_maps_are_counted()
+    ensures { PrintedMapsAreCounted }
+{}
+
+/// No map of the hosts' names to distinct numbers, in their pools or at their pins, rewrites fewer fields than the cost that a
+/// check of a certificate answers.
+pub fn no_map_rewrites_fewer()
+    ensures { NoMapRewritesFewer }
+{}
+
+/// A rehearsal of the plan that a merge prints for a host, over that host's inventory, answers how many records it has.
+pub fn printed_plans_are_rehearsed()
+    ensures { PrintedPlansAreRehearsed }
 {}
