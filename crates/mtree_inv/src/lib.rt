@@ -10,9 +10,9 @@
 //! - Of several keywords with one key on a line the last counts. `uid`, `gid` and `type` matter, the others are read over. The
 //!   `uid` and the `gid` that count on an entry or a `/set` line must be ids, decimal numbers up to 4294967294; one that does
 //!   not count is not looked at.
-//! - An entry with a `/` that belongs to no escape is a path from the starting directory and never opens a directory. Another entry is a name in the
-//!   directory that was opened last and is still open, and opens one where its `type`, its own or by `/set`, is `dir`. A line
-//!   `..` closes that directory; its keywords are ignored.
+//! - An entry with a `/` that belongs to no escape is a path from the starting directory and never opens a directory. Another
+//!   entry is a name in the directory that was opened last and is still open, and opens one where its `type`, its own or by
+//!   `/set`, is `dir`. A line `..` closes that directory; its keywords are ignored.
 //! - A path is split at each `/` that belongs to no escape; components that are empty or `.` vanish, and `..`, a `/` and a NUL
 //!   byte are in none. Where no component is left the path is `.`. It has at most 65,535 bytes.
 //! - Escapes are those of [`idtext::first_character`], those of vis(3) among them; a word with a bad one names no file.
