@@ -1,78 +1,111 @@
 #!/usr/bin/env python3
-"""Times solving where every number is wanted by many names, beside scipy's sparse matching, at growing sizes.
+"""Times solving beside scipy's sparse matching: where every number is wanted by many names, and where few are.
 
     bench/contested.py [FAMILY..]
 
-A family is a kind of site: how many hosts have every name, each with numbers of its own order, and up to how many files a
-row owns. On a site of H hosts a name has H candidates, and each number is wanted by H names. `tight` has a fifth more names
-than numbers. Solving is what `unify merge` takes less what `unify count` takes, which reads and counts: so it has the join,
-the merged files, the certificate and the plans in it too. The weights that both find have to be equal. The growth is the
-exponent that fits the family's times best. It wants a Python that has scipy, and `make program` before it. Sites are made
-below bench/work, which git does not see.
+A family is a kind of site, at four sizes. On a contested one all hosts have all names, each host with numbers of its own
+order: a name of a site of H hosts has H candidates, and each number is wanted by H names. A row owns no file (`equal`: all
+candidates weigh the same), up to 2 or 3 (`few-files`) or up to 20 (`random`); `tight` has a fifth more names than numbers.
+`sparse` is the site of solve.py: two candidates a name, 62 names a number.
+
+Solving is what `unify merge` takes less what `unify count` takes, which reads and counts: so it has the join, the merged
+files, the certificate and the plans in it too. Of scipy it is the call alone. The weights that both find have to be equal.
+All are processor seconds, since other work on the machine changes these least. The growth is the exponent that fits the
+family's times best. Where scipy would take too long it is left out. It wants a Python that has scipy, and `make program`
+before it. Sites are made below bench/work, which git does not see, and removed after.
 """
+import collections
 import math
 import os
 import random
+import shutil
 import sys
 
+import solve
 from measure import HERE, UNIFY, timed
 from solve import FIRST, scipy_answer, weight_of_map, weights_of, write_hosts
 
 # The hosts, the files that a row owns at most, how many names there are for each number, and the names at each size.
+Contested = collections.namedtuple("Contested", "hosts files crowding sizes")
+SIZES = [8000, 16000, 32000, 65000]
 FAMILIES = {
-    "equal-8": (8, 0, 1, [2500, 5000, 10000, 20000]),
-    "few-files-8": (8, 2, 1, [2500, 5000, 10000, 20000]),
-    "more-files-8": (8, 20, 1, [1250, 2500, 5000, 10000]),
-    "equal-64": (64, 0, 1, [1250, 2500, 5000, 10000]),
-    "few-files-64": (64, 3, 1, [1250, 2500, 5000, 10000]),
-    "tight": (8, 2, 1.2, [2500, 5000, 10000, 20000]),
+    "equal-8": Contested(8, 0, 1, SIZES),
+    "few-files-8": Contested(8, 2, 1, SIZES),
+    "random-8": Contested(8, 20, 1, SIZES),
+    "tight-8": Contested(8, 2, 1.2, SIZES),
+    "equal-64": Contested(64, 0, 1, SIZES),
+    "few-files-64": Contested(64, 3, 1, SIZES),
+    "random-64": Contested(64, 20, 1, [1000, 2000, 4000, 8000]),
+    # names, rows and numbers of solve.py
+    "sparse": [(100_000, 160_000, 8_000), (250_000, 500_000, 8_000), (800_000, 1_600_000, 25_500), (2_600_000, 4_190_000, 65_500)],
 }
+# Above so many names of a sparse site scipy would take hours.
+MOST_FOR_SCIPY = 250_000
 
 
-def make_rows(names, hosts, most_files, crowding):
+def contested_rows(family, names):
     """The rows (host, name, number, files): each host has as many of the names as there are numbers, in an order of its own."""
     rng = random.Random(names)
-    numbers = int(names / crowding)
+    numbers = int(names / family.crowding)
     made = []
-    for host in range(hosts):
+    for host in range(family.hosts):
         here = rng.sample(range(names), numbers)
         order = rng.sample(range(numbers), numbers)
-        made += [(host, name, FIRST + number, rng.randint(0, most_files)) for name, number in zip(here, order)]
-    return made
+        made += [(host, name, FIRST + number, rng.randint(0, family.files)) for name, number in zip(here, order)]
+    return family.hosts, made
 
 
-def solving(family, names):
-    """The seconds that solving takes at a size, and those of scipy; both find the same weight."""
-    hosts, most_files, crowding, _ = FAMILIES[family]
-    rows = make_rows(names, hosts, most_files, crowding)
-    folder = os.path.join(HERE, "work", f"contested-{family}-{names}")
+def sites(name):
+    """For each size of a family its names, a function that makes its hosts and rows, and whether scipy is run."""
+    family = FAMILIES[name]
+    if isinstance(family, Contested):
+        return [(names, lambda names=names: contested_rows(family, names), True) for names in family.sizes]
+    return [(size[0], lambda size=size: solve.make_rows(*size, 1), size[0] <= MOST_FOR_SCIPY) for size in family]
+
+
+def spent(words):
+    """The processor seconds that a program takes."""
+    before = os.times()
+    timed(words)
+    after = os.times()
+    return after.children_user + after.children_system - before.children_user - before.children_system
+
+
+def solving(name, names, make, with_scipy):
+    """How many candidates there are, the seconds that solving takes, and those of scipy or none; both find the same weight."""
+    hosts, rows = make()
+    folder = os.path.join(HERE, "work", f"contested-{name}-{names}")
     words = write_hosts(folder, hosts, names, rows)
     out = f"{folder}/out"
     os.mkdir(out)
-    merged, _, _ = timed([UNIFY, "merge", out, *words])
-    counted, _, _ = timed([UNIFY, "count", f"{out}/map", *words])
     weights = weights_of(rows)
-    seconds, best = scipy_answer(weights)
-    if (weight := weight_of_map(f"{out}/map", weights)) != best:
-        sys.exit(f"{family}, {names} names: weights differ, {weight} and {best}")
-    return merged - counted, seconds
+    seconds = spent([UNIFY, "merge", out, *words]) - spent([UNIFY, "count", f"{out}/map", *words])
+    weight = weight_of_map(f"{out}/map", weights)
+    shutil.rmtree(folder)
+    if not with_scipy:
+        return len(weights), seconds, None
+    scipys, best = scipy_answer(weights)
+    if weight != best:
+        sys.exit(f"{name}, {names} names: weights differ, {weight} and {best}")
+    return len(weights), seconds, scipys
 
 
-def growth(sizes, seconds):
-    """The exponent of the power of the size that fits the seconds best."""
-    points = [(math.log(size), math.log(max(took, 0.001))) for size, took in zip(sizes, seconds)]
-    mean_x, mean_y = (sum(it) / len(points) for it in zip(*points))
-    return sum((x - mean_x) * (y - mean_y) for x, y in points) / sum((x - mean_x) ** 2 for x, _ in points)
+def growth(points):
+    """The exponent of the power of the candidates that fits the seconds best."""
+    logs = [(math.log(size), math.log(max(seconds, 0.001))) for size, seconds in points]
+    mean_x, mean_y = (sum(it) / len(logs) for it in zip(*logs))
+    return sum((x - mean_x) * (y - mean_y) for x, y in logs) / sum((x - mean_x) ** 2 for x, _ in logs)
 
 
 def main():
-    for family in sys.argv[1:] or FAMILIES:
-        sizes, taken = FAMILIES[family][-1], []
-        for names in sizes:
-            ours, scipys = solving(family, names)
-            taken.append(ours)
-            print(f"{family}: {names:,} names: {ours:.2f} s, scipy {scipys:.2f} s, ratio {ours / scipys:.2f}", flush=True)
-        print(f"{family}: growth {growth(sizes, taken):.2f}", flush=True)
+    for name in sys.argv[1:] or FAMILIES:
+        points = []
+        for names, make, with_scipy in sites(name):
+            candidates, ours, scipys = solving(name, names, make, with_scipy)
+            points.append((candidates, ours))
+            beside = f"scipy {scipys:.2f} s, ratio {ours / scipys:.3f}" if scipys else "scipy not run"
+            print(f"{name}: {names:,} names, {candidates:,} candidates: {ours:.2f} s, {beside}", flush=True)
+        print(f"{name}: growth {growth(points):.2f}", flush=True)
 
 
 if __name__ == "__main__":

@@ -70,7 +70,7 @@ def weights_of(rows):
 
 
 def scipy_answer(weights):
-    """The seconds that scipy takes, and the greatest weight."""
+    """The processor seconds that scipy takes, and the greatest weight."""
     import numpy
     from scipy.sparse import csr_matrix
     from scipy.sparse.csgraph import min_weight_full_bipartite_matching
@@ -82,9 +82,9 @@ def scipy_answer(weights):
     values = numpy.concatenate([numpy.fromiter(weights.values(), dtype=numpy.int64), numpy.zeros(len(names), dtype=numpy.int64)]) + 1
     places = (numpy.concatenate([name_index, own]), numpy.concatenate([number_index, len(numbers) + own]))
     matrix = csr_matrix((values, places), shape=(len(names), len(numbers) + len(names)))
-    begun = time.monotonic()
+    begun = time.process_time()
     chosen = min_weight_full_bipartite_matching(matrix, maximize=True)
-    seconds = time.monotonic() - begun
+    seconds = time.process_time() - begun
     return seconds, int(matrix[chosen[0], chosen[1]].sum()) - len(names)
 
 
@@ -114,7 +114,7 @@ def measure(names, rows, numbers, seed):
     if names > MOST_FOR_SCIPY:
         return
     seconds, best = scipy_answer(weights)
-    print(f"scipy:       {seconds:.2f} s; weights {'are the same' if best == weight else f'DIFFER: {weight} and {best}'}")
+    print(f"scipy:       {seconds:.2f} s of a processor; weights {'are the same' if best == weight else f'DIFFER: {weight} and {best}'}")
     if best != weight:
         sys.exit(1)
 

@@ -6,9 +6,9 @@
 README.md beside this file has the form of the examples. Also compared: examples that are too large to be kept as files,
 each prefix of merge/root-only.bundle, the whole one byte a read, inputs and outputs that fail, the command line, certificates
 and plans that end too early, each merge by words with directories, inventories of many pieces and one that changes or goes
-while it is read twice, the texts and the inventories of texts.py, and the merges of 300 small generated sites and of all triples
-of users with few files, whose cost has to be the least that trying every admissible mapping finds, and what the check of the
-printed certificate answers.
+while it is read twice, the texts and the inventories of texts.py, and the merges of 300 small generated sites, of 40 contested
+ones and of all triples of users with few files, whose cost has to be the least of all admissible mappings, and what the check of
+the printed certificate answers.
 
 Prints the first difference and ends with status 1 there; else the last line tells how many examples there were.
 """
@@ -25,7 +25,7 @@ import time
 
 from command_line import command_lines
 from cut_texts import cut_texts
-from sites import all_triples, some_site
+from sites import all_triples, contested_sites, some_site
 from texts import inventories, read_by_words, refused_texts, told_of, without_last_newlines
 from words import Bundle, merged_by_bundle, merged_by_words, merged_while_changing
 
@@ -314,6 +314,14 @@ def compare_sites(program):
     return merged
 
 
+def compare_contested_sites(program):
+    """Merges sites where every user wants the number of others on each host, and tells how many there were."""
+    sites = list(contested_sites(random.Random(2026)))
+    for number, site in enumerate(sites):
+        compare_merged(program, f"contested site {number}", site)
+    return len(sites)
+
+
 def compare_small_sites(program):
     """Merges all triples of users with few files, many in a site, and tells how many triples there were."""
     merged = 0
@@ -346,6 +354,7 @@ def main(words):
     compare_changing(program)
     compare_gone(program)
     merged = compare_sites(program)
+    contested = compare_contested_sites(program)
     small = compare_small_sites(program)
     want_at_least(LEAST_FILES, len(files), "examples that are files")
     want_at_least(LEAST_BY_WORDS, by_words, "merges by words")
@@ -353,6 +362,7 @@ def main(words):
     want_at_least(LEAST_CUT, cut, "cut certificates and plans")
     want("generated sites, more than half merged, but not all", True, SITES // 2 < merged < SITES)
     print(f"generated sites: {merged} merged at the least cost, {SITES - merged} refused for two pins or a small pool")
+    print(f"contested sites: {contested} merged at the least cost")
     print(f"small sites: {small} triples of users merged at the least cost")
     print(f"cut certificates and plans: {cut} as the definitions say")
     print(f"command lines: {by_line} as in the table")

@@ -1,5 +1,4 @@
-"""Sites with their least costs: small ones that look random, of which every admissible mapping is tried, and many triples of users
-side by side."""
+"""Sites with their least costs: small ones that look random, contested ones, and many triples of users side by side."""
 import itertools
 import re
 from collections import Counter
@@ -42,11 +41,23 @@ class Kind:
 
     def least(self):
         """The least cost of all admissible mappings: each part has the numbers that keep the most."""
-        mapping = dict(self.pins)
-        for names, numbers in self.parts:
-            ways = (dict(zip(names, way)) for way in itertools.permutations(numbers, len(names)))
-            mapping |= max(ways, key=self.kept)
-        return self.cost(mapping)
+        kept = [self.most_kept(*part) for part in self.parts] + [self.kept(self.pins)]
+        of_all = (sum(counts.values()) for counts in (self.owners, self.rows))
+        return tuple(many - sum(some) for many, some in zip(of_all, zip(*kept)))
+
+    def most_kept(self, names, numbers):
+        """The most that names keep with distinct numbers: name by name, for each set of numbers that those so far may have."""
+        best = {0: (0, 0)}
+        for name in names:
+            after = {}
+            for taken, (files, rows) in best.items():
+                for place, number in enumerate(numbers):
+                    if not taken >> place & 1:
+                        with_it = taken | 1 << place
+                        kept = files + self.owners[name, number], rows + self.rows[name, number]
+                        after[with_it] = max(kept, after.get(with_it, kept))
+            best = after
+        return max(best.values())
 
     def kept(self, mapping):
         """How many fields of files, and how many rows, the names of a mapping keep."""
@@ -129,6 +140,16 @@ def some_owners(chance, users, groups):
         group = chance.choice(groups + [("users", 100)])
         owners += chance.randint(0, 3) * [(user, group)]
     return owners
+
+
+def contested_sites(chance):
+    """Eight hosts with ten users each, or eight of the ten, that all have the same numbers, each host in an order of its own. A row
+    owns no file, up to two or up to nine, ten sites of each; where numbers are for eight, up to two."""
+    for wanted, most_files in 10 * [(10, 0), (10, 2), (10, 9), (8, 2)]:
+        pool = range(1001, 1011)
+        users = [list(zip((f"user{name}" for name in chance.sample(range(10), wanted)), pool)) for _ in range(8)]
+        owners = [[(row, ("users", 100)) for row in rows for _ in range(chance.randint(0, most_files))] for rows in users]
+        yield Site(pool, range(1001, 1002), users, 8 * [[]], owners)
 
 
 class Triples(Site):
