@@ -26,14 +26,18 @@ pub fn write_failed(rt: &HostRuntime) -> u8 {
     3
 }
 
-// Appends what the system said, without the number that it gives it.
+// What the system said, without the number that it gives it.
+fn reason_in(told: &str) -> &str {
+    match told.split_once(" (os error ") {
+        Some((reason, _)) => reason,
+        None => told,
+    }
+}
+
+// Appends what the system said.
 fn push_reason(rt: &HostRuntime, line: &mut Vec<u8>, error: &io::Error) -> Result<(), AllocError> {
     let told = error.to_string(rt.alloc())?;
-    let reason = match told.as_str().split_once(" (os error ") {
-        Some((reason, _)) => reason,
-        None => told.as_str(),
-    };
-    line.extend_from_slice(reason.as_bytes())
+    line.extend_from_slice(reason_in(told.as_str()).as_bytes())
 }
 
 // Appends a path or a name as they are told in fault lines.
