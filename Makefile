@@ -58,8 +58,9 @@ quick:
 	@gate/unproved.py bundles
 
 # What the program that was built last makes of examples/office is what is committed there: the merge, its certificate
-# accepted with the same sum, the map counted, and each plan rehearsed. Then each bundle of examples/worked, and the command
-# line. What the program tells goes to a file, since a shell keeps no exit status of a program before a pipe.
+# accepted with the same sum, the map counted, and each plan rehearsed. Then each bundle of examples/worked, the command
+# line, and what a merge does to the directory that it writes into. What the program tells goes to a file, since a shell keeps
+# no exit status of a program before a pipe.
 compare:
 	@rm -rf $(DEMO) && mkdir -p $(DEMO)
 	@./$(PROGRAM) merge $(DEMO) $(OFFICE) >$(TOLD) && diff $(TOLD) examples/office/expected-merge
@@ -72,6 +73,7 @@ compare:
 		diff $(TOLD) examples/office/expected-rehearse
 	@echo 'examples/office: as committed'
 	@examples/worked/compare.py $(PROGRAM)
+	@examples/worked/outputs.py $(PROGRAM)
 
 # Proves the program and the crates below it, and links it. What has not changed since is not proved again.
 program:

@@ -23,7 +23,7 @@ DEMO = TOP / "build/office"
 TOLD = "expected-merge", "expected-merge", "expected-check", "expected-rehearse"
 # rt try interprets a program first, but none that reads its words: one step of that is enough.
 TRY = ["rt", "try", "--steps", "1"]
-# How many words name files before those that name hosts.
+# How many words name files before those that name hosts. Those behind --pins and -o name files too, and -o stands for the first.
 FILES_FIRST = {"merge": 1, "check": 1, "count": 1, "rehearse": 2}
 
 
@@ -93,21 +93,36 @@ def bundles():
     print(f"worked examples: {len(cases)} as committed, by a program that is not proved")
 
 
+def host_whole(word, here):
+    """A word that names a host, with a whole path. The name is the last part of the path, if none stands before it."""
+    name, equals, path = word.partition("=")
+    return f"{name}={here / path}" if equals else f"{pathlib.PurePath(word).name or word}={here / word}"
+
+
+def file_whole(word, here):
+    """A word that names a file, with a whole path; an empty one is kept."""
+    return f"{here / word}" if word else word
+
+
 def named_whole(words):
     """The words with whole paths, since rt try runs the program in a folder of its own."""
     here = pathlib.Path.cwd()
     command, *rest = words
-    files_left, whole, rest = FILES_FIRST.get(command, 0), [command], iter(rest)
+    has_output = any(word.startswith(("-o", "--output")) for word in rest)
+    files_left, whole, rest = 0 if has_output else FILES_FIRST.get(command, 0), [command], iter(rest)
     for word in rest:
-        name, equals, path = word.partition("=")
-        if word.startswith("-"):
-            whole.append(f"{name}={here / path}" if equals else word)
-            whole += [f"{here / file}" for file in itertools.islice(rest, word == "--pins")]
+        flag, equals, path = word.partition("=")
+        if word in ("--pins", "--output", "-o"):
+            whole += [word, *(file_whole(file, here) for file in itertools.islice(rest, 1))]
+        elif word.startswith("-o"):
+            whole += ["-o", file_whole(word[2:].removeprefix("="), here)]
+        elif word.startswith("-"):
+            whole.append(f"{flag}={file_whole(path, here)}" if equals else word)
         elif files_left:
             files_left -= 1
-            whole.append(f"{here / word}")
+            whole.append(file_whole(word, here))
         else:
-            whole.append(f"{name}={here / (path if equals else name)}")
+            whole.append(host_whole(word, here))
     return whole
 
 

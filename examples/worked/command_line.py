@@ -2,6 +2,7 @@
 
 The words name files of a room, a folder that is made for them: the hosts a and b of examples/stored-count and a map of theirs,
 and the texts and hosts below."""
+import os
 import pathlib
 import shutil
 import subprocess
@@ -16,7 +17,14 @@ TEXTS = {
     "plan": "unify plan 1 b\n1001 100 1000 100 4 bob1\n1001 100 1000 100 4 bob2\nend\n",
     "pins": "user bob 1005\n",
     "bad": "no line of any text\n",
+    "cut-pins": "user bob 1005",
+    "cut-map": (STORED / "map").read_text().rstrip("\n"),
+    "other-pins": "group wheel 7\n\nuser bob 1005\nuser carol\tx 1006\n",
 }
+NOTHING_COUNTED = "user-fields 0\ngroup-fields 0\n"
+BARE = "".join(f"unify: warning: host b has no {what}\n" for what in ("users", "groups", "files"))
+RETURNS = "".join(f"unify: warning: host a has lines in {file} that end in a carriage return\n" for file in ("passwd", "group"))
+CUT = "unify: warning: file cut-pins has no newline at its end\n"
 # Hosts that are a without a file, and one whose passwd is refused and that has no inventory.
 LACKING = {"lacks-passwd": "passwd", "lacks-group": "group", "lacks-mtree": "mtree", "refused": "mtree"}
 
@@ -26,7 +34,7 @@ TABLE = [
     # Help and version.
     ("--help", 0, ("unify", "count", "merge", "check", "rehearse", "--help", "--version"), ""),
     ("count --help", 0, ("MAP", "HOST"), ""),
-    ("merge --help", 0, ("--pins", "OUT", "HOST"), ""),
+    ("merge --help", 0, ("--pins", "--output", "--quiet", "OUT", "HOST"), ""),
     ("check --help", 0, ("--pins", "CERTIFICATE", "HOST"), ""),
     ("rehearse --help", 0, ("PLAN", "MTREE"), ""),
     ("--version", 0, "unify 0.1.0\n", ""),
@@ -39,12 +47,15 @@ TABLE = [
     ("merge", 2, "", ("OUT", "HOST")),
     ("merge out", 2, "", ("HOST",)),
     ("merge out a b --pins", 2, "", ("--pins",)),
+    ("merge -o", 2, "", ("--output",)),
+    ("merge -o out", 2, "", "unify: no HOST\n"),
     ("check", 2, "", ("CERTIFICATE", "HOST")),
     ("check good", 2, "", ("HOST",)),
     ("rehearse", 2, "", ("PLAN", "MTREE")),
     ("rehearse plan", 2, "", ("MTREE",)),
     ("rehearse plan b/mtree more", 2, "", ("more",)),
     (b"count map \xff", 2, "", ""),
+    (["\x1b]0;r\x07 \x7f\u009b\xfc\n"], 2, "", ("\\033]0;r\\007 \\177\\302\\233\xc3\xbc\n",)),
     # What the commands answer. No host has a login.defs.
     ("count map a b", 0, COUNTED, ""),
     ("count map a=a b=b", 0, COUNTED, ""),
@@ -52,8 +63,36 @@ TABLE = [
     ("count map a= b", 0, COUNTED, ""),
     ("merge out a b", 0, COUNTED, ""),
     ("merge --pins pins out a b", 0, COUNTED, ""),
+    ("merge -o out a b", 0, COUNTED, ""),
+    ("merge a b --output=out", 0, COUNTED, ""),
+    # The name of a host is the last part of a path.
+    ("count map ./a/ ./b/.", 0, COUNTED, ""),
+    ("count map odd=name/../a b", 3, "", "unify: file name/../a/passwd: No such file or directory\n"),
+    ("merge out ./a a/", 1, "", "unify: 19 HostTwice a\n"),
+    ("count map a/.. b", 1, "", "unify: 18 BadHostName a/..\n"),
     ("check good a b", 0, "accepted 2\n", ""),
     ("rehearse plan b/mtree", 0, "records 2\ndone\n", ""),
+    # Warnings, which change nothing else.
+    ("count map a=returns b", 0, COUNTED, RETURNS),
+    ("count -q map a=returns b", 0, COUNTED, ""),
+    ("count cut-map a b", 0, COUNTED, "unify: warning: file cut-map has no newline at its end\n"),
+    ("count map a b=bare", 1, "", BARE + "unify: 40 BadMap line 0\n"),
+    ("count --quiet map a b=bare", 1, "", "unify: 40 BadMap line 0\n"),
+    ("merge out a=returns b", 0, COUNTED, RETURNS),
+    ("merge out a b=bare", 0, NOTHING_COUNTED, BARE),
+    ("merge -q out a b=bare", 0, NOTHING_COUNTED, ""),
+    ("merge --pins cut-pins out a b", 0, COUNTED, CUT),
+    ("merge --pins cut-pins --quiet out a b", 0, COUNTED, ""),
+    (
+        "merge --pins other-pins out a b",
+        0,
+        COUNTED,
+        "unify: warning: pin of group wheel is for a name that no host has\n"
+        "unify: warning: pin of user carol\\011x is for a name that no host has\n",
+    ),
+    ("merge -q --pins other-pins out a b", 0, COUNTED, ""),
+    ("check --pins cut-pins good a=returns b", 4, "", CUT + RETURNS + "unify: 32 PinBroken user bob\n"),
+    ("check -q --pins cut-pins good a=returns b", 4, "", "unify: 32 PinBroken user bob\n"),
     # Refused texts, and certificates that are rejected.
     ("count bad a b", 1, "", "unify: 40 BadMap line 1\n"),
     ("count map a", 1, "", "unify: 40 BadMap line 0\n"),
@@ -67,39 +106,45 @@ TABLE = [
     ("rehearse bad b/mtree", 1, "", "unify: 35 BadPlan byte 0\n"),
     ("rehearse plan a/mtree", 1, "", "unify: 37 Missing bob1\n"),
     # Files that are not there, or cannot be read or written.
-    ("count none a b", 3, "", "unify: file none\n"),
-    (["count", "", "a"], 3, "", "unify: file -\n"),
-    (["count", "no map", "a"], 3, "", "unify: file no\\040map\n"),
-    ("count map lacks-passwd", 3, "", "unify: file lacks-passwd/passwd\n"),
-    ("count map lacks-group", 3, "", "unify: file lacks-group/group\n"),
-    ("count map lacks-mtree", 3, "", "unify: file lacks-mtree/mtree\n"),
-    ("count map a=odd-defaults b", 3, "", "unify: file odd-defaults/login.defs\n"),
-    ("check none a b", 3, "", "unify: file none\n"),
-    ("check --pins none good a b", 3, "", "unify: file none\n"),
-    ("merge --pins none out a b", 3, "", "unify: file none\n"),
-    ("merge out lacks-mtree", 3, "", "unify: file lacks-mtree/mtree\n"),
-    ("merge none a b", 3, "", "unify: file none/passwd\n"),
-    ("merge map a b", 3, "", "unify: file map/passwd\n"),
-    ("rehearse none b/mtree", 3, "", "unify: file none\n"),
-    ("rehearse plan none", 3, "", "unify: file none\n"),
+    ("count none a b", 3, "", "unify: file none: No such file or directory\n"),
+    (["count", "", "a"], 3, "", "unify: file -: No such file or directory\n"),
+    (["count", "no map", "a"], 3, "", "unify: file no\\040map: No such file or directory\n"),
+    ("count map lacks-passwd", 3, "", "unify: file lacks-passwd/passwd: No such file or directory\n"),
+    ("count map lacks-group", 3, "", "unify: file lacks-group/group: No such file or directory\n"),
+    ("count map lacks-mtree", 3, "", "unify: file lacks-mtree/mtree: No such file or directory\n"),
+    ("count map a=odd-defaults b", 3, "", "unify: file odd-defaults/login.defs: Is a directory\n"),
+    ("check none a b", 3, "", "unify: file none: No such file or directory\n"),
+    ("check --pins none good a b", 3, "", "unify: file none: No such file or directory\n"),
+    ("merge --pins none out a b", 3, "", "unify: file none: No such file or directory\n"),
+    ("merge out lacks-mtree", 3, "", "unify: file lacks-mtree/mtree: No such file or directory\n"),
+    ("count map a=dangling b", 3, "", "unify: file dangling/login.defs: No such file or directory\n"),
+    ("count a a b", 3, "", "unify: file a: Is a directory\n"),
+    ("rehearse none b/mtree", 3, "", "unify: file none: No such file or directory\n"),
+    ("rehearse plan none", 3, "", "unify: file none: No such file or directory\n"),
     # The order in which files are read: all of them before anything is judged.
-    ("count none x y", 3, "", "unify: file none\n"),
-    ("count bad x y", 3, "", "unify: file x/passwd\n"),
-    ("count bad a y", 3, "", "unify: file y/passwd\n"),
-    ("count map lacks-group lacks-passwd", 3, "", "unify: file lacks-group/group\n"),
-    ("count map a=a a=lacks-mtree", 3, "", "unify: file lacks-mtree/mtree\n"),
-    ("count map lacks-mtree lacks-passwd", 3, "", "unify: file lacks-mtree/mtree\n"),
-    ("check none --pins later x", 3, "", "unify: file none\n"),
-    ("check --pins later none x", 3, "", "unify: file none\n"),
-    ("check bad x --pins none", 3, "", "unify: file none\n"),
-    ("check --pins bad bad x", 3, "", "unify: file x/passwd\n"),
-    ("merge x y --pins none", 3, "", "unify: file none\n"),
-    ("merge x a y", 3, "", "unify: file y/passwd\n"),
-    ("merge none lacks-mtree lacks-passwd", 3, "", "unify: file lacks-passwd/passwd\n"),
-    ("merge none .a=lacks-mtree", 1, "", "unify: 18 BadHostName .a\n"),
-    ("merge none lacks-mtree", 3, "", "unify: file lacks-mtree/mtree\n"),
-    ("rehearse none later", 3, "", "unify: file none\n"),
-    ("rehearse bad none", 3, "", "unify: file none\n"),
+    ("count none x y", 3, "", "unify: file none: No such file or directory\n"),
+    ("count bad x y", 3, "", "unify: file x/passwd: No such file or directory\n"),
+    ("count bad a y", 3, "", "unify: file y/passwd: No such file or directory\n"),
+    ("count map lacks-group lacks-passwd", 3, "", "unify: file lacks-group/group: No such file or directory\n"),
+    ("count map a=a a=lacks-mtree", 3, "", "unify: file lacks-mtree/mtree: No such file or directory\n"),
+    ("count map lacks-mtree lacks-passwd", 3, "", "unify: file lacks-mtree/mtree: No such file or directory\n"),
+    ("check none --pins later x", 3, "", "unify: file none: No such file or directory\n"),
+    ("check --pins later none x", 3, "", "unify: file none: No such file or directory\n"),
+    ("check bad x --pins none", 3, "", "unify: file none: No such file or directory\n"),
+    ("check --pins bad bad x", 3, "", "unify: file x/passwd: No such file or directory\n"),
+    ("merge out y --pins none", 3, "", "unify: file none: No such file or directory\n"),
+    ("merge out a y", 3, "", "unify: file y/passwd: No such file or directory\n"),
+    ("merge out lacks-mtree lacks-passwd", 3, "", "unify: file lacks-passwd/passwd: No such file or directory\n"),
+    ("merge out .a=lacks-mtree", 1, "", "unify: 18 BadHostName .a\n"),
+    # The directory to write into, which is looked at before anything is read; outputs.py has more of it.
+    ("merge none x --pins none", 2, "", "unify: output none: No such file or directory\n"),
+    ("merge map x", 2, "", "unify: output map: Not a directory\n"),
+    (["merge", "", "x"], 2, "", "unify: output -: an empty word\n"),
+    (["merge", "no\nout", "x"], 2, "", "unify: output no\\012out: No such file or directory\n"),
+    ("merge a b", 2, "", "unify: output a: holds mtree, as the directory of a host does\n"),
+    ("merge b a b", 2, "", "unify: output b: the directory of host b\n"),
+    ("rehearse none later", 3, "", "unify: file none: No such file or directory\n"),
+    ("rehearse bad none", 3, "", "unify: file none: No such file or directory\n"),
 ]
 # Words that have an answer for standard output, which is full.
 UNWRITTEN = ["count map a b", "merge out a b", "check good a b", "rehearse plan b/mtree", "--help", "--version"]
@@ -110,12 +155,19 @@ def lay_out(room):
     """Makes the files of the room."""
     shutil.copytree(STORED, room, dirs_exist_ok=True)
     shutil.copytree(STORED / "a", room, dirs_exist_ok=True)
-    for host in ("odd=name", "odd-defaults", *LACKING):
+    for host in ("odd=name", "odd-defaults", "dangling", "returns", *LACKING):
         shutil.copytree(STORED / "a", room / host)
     for host, file in LACKING.items():
         (room / host / file).unlink()
     (room / "refused/passwd").write_text(TEXTS["bad"])
     (room / "odd-defaults/login.defs").mkdir()
+    (room / "dangling/login.defs").symlink_to("nowhere")
+    for file in ("passwd", "group"):
+        text = (room / "returns" / file).read_bytes()
+        (room / "returns" / file).write_bytes(text + b"# a line that is skipped\r\n")
+    (room / "bare").mkdir()
+    for file in ("passwd", "group", "mtree"):
+        (room / "bare" / file).write_text("#\n")
     for name, text in TEXTS.items():
         (room / name).write_text(text)
 
@@ -141,10 +193,22 @@ def in_new_room(program, words, out=subprocess.PIPE):
         return *ran(program, words, room, out), {path.name for path in (room / "out").iterdir()}
 
 
+def on_terminal(program):
+    """The status and what is told where standard input is a terminal and there are no words."""
+    ours, theirs = os.openpty()
+    try:
+        came = subprocess.run([program], stdin=theirs, capture_output=True, timeout=120)
+    finally:
+        os.close(ours)
+        os.close(theirs)
+    return came.returncode, came.stdout.decode(), came.stderr.decode()
+
+
 def command_lines(program):
     """For each line of words: a name, what is wanted, and what came."""
     stored = (STORED.parents[1] / "crates/unify_cli/stdout").read_text()
     yield "count map a b, in examples/stored-count", (0, stored, ""), ran(program, "count map a b", STORED)
+    yield "unify alone on a terminal", ran(program, "--help", STORED), on_terminal(program)
     for words, status, out, err in TABLE:
         came, came_out, came_err, written = in_new_room(program, words)
         merged = status == 0 and isinstance(words, str) and words.startswith("merge") and "--help" not in words

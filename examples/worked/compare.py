@@ -33,7 +33,7 @@ FOLDER = pathlib.Path(__file__).resolve().parent
 SITES = 300
 ENDINGS = {"bundle", "answer", "parts", "status", "accepted"}
 # So many there are at least: with fewer, some were lost.
-LEAST_FILES, LEAST_BY_WORDS, LEAST_BY_LINE, LEAST_CUT = 132, 85, 75, 280
+LEAST_FILES, LEAST_BY_WORDS, LEAST_BY_LINE, LEAST_CUT = 132, 85, 105, 280
 
 # The answers to the prefixes of merge/root-only.bundle: the first and the last length, the status, and the fault line or the
 # example that has the answer.
@@ -247,6 +247,12 @@ def compare_inventories(program):
     want("lines-split", whole, cut)
 
 
+def left_by_stop(files, hosts):
+    """What a merge leaves that stops where it writes the plan of the first of these hosts, the others being the later ones."""
+    lost = {"report", *(f"plan.{name}" for name, _ in hosts)}
+    return {name: text for name, text in files.items() if name not in lost} | {".unify-merge": ""}
+
+
 def compare_changing(program):
     """Inventories that are other texts when they are read for the second time: a file less, another order, a new file. Behind two
     of the merges stands a host c without accounts, whose inventory is the pipe."""
@@ -254,32 +260,30 @@ def compare_changing(program):
     names = read(FOLDER / "merge/two-names-one-number.bundle") + "host c\n"
     first, second = "|./bob1 uid=1001 gid=100\n", "|./bob2 uid=1001 gid=100\n"
     records = "1001 100 1000 100 4 bob1\n", "1001 100 1000 100 4 bob2\n"
-    for name, text, host, old, new, told, plan in [
-        ("swap-short-second-pass", swap, 0, "|./bob1 uid=1002 gid=100\n", "", "unify: 41 InventoryChanged host a\n", "1002 100 1001"),
-        ("second-pass-reordered", names, 1, first + second, second + first, None, records),
-        ("second-pass-new-file", names, 1, second, second + "|./bob3 uid=1005 gid=100\n", "unify: 41 InventoryChanged host b\n", ""),
+    for name, text, host, old, new, told in [
+        ("swap-short-second-pass", swap, 0, "|./bob1 uid=1002 gid=100\n", "", "unify: 41 InventoryChanged host a\n"),
+        ("second-pass-reordered", names, 1, first + second, second + first, None),
+        ("second-pass-new-file", names, 1, second, second + "|./bob3 uid=1005 gid=100\n", "unify: 41 InventoryChanged host b\n"),
     ]:
         status, kept, refused, files = merged_by_words(program, Bundle(text))
-        changed = "plan.a", "plan.b"
         if told is None:
-            files["plan.b"] = files["plan.b"].replace("".join(plan), "".join(reversed(plan)))
+            files["plan.b"] = files["plan.b"].replace("".join(records), "".join(reversed(records)))
         else:
-            status, kept, refused = 1, "", told
-            for later in [f"plan.{host_name}" for host_name, _ in Bundle(text).hosts[host + 1 :]]:
-                files[later] = ""
-            files[changed[host]] = files[changed[host]].partition(plan)[0] if plan else ""
+            status, kept, refused, files = 1, "", told, left_by_stop(files, Bundle(text).hosts[host:])
         again = Bundle(text.replace(old, new, 1)).hosts[host][1]["mtree"]
         want(name, (status, kept, refused, files), merged_while_changing(program, Bundle(text), host, again))
 
 
 def compare_gone(program):
-    """An inventory that is gone when it is to be read for the second time, where an earlier merge wrote plans: none is left."""
+    """An inventory that is gone when it is to be read for the second time, where an earlier merge was written: of its plans none
+    is left."""
     bundle = Bundle(read(FOLDER / "merge/two-names-one-number.bundle") + "host c\n")
-    older = {f"plan.{name}": f"unify plan 1 {name}\n1 1 2 2 5 older\nend\n" for name, _ in bundle.hosts}
+    older = {f"plan.{name}": f"unify plan 1 {name}\n1 1 2 2 5 older\nend\n" for name, _ in [*bundle.hosts, ("d", {})]}
+    older["report"] = "unify report 2\n"
     *_, files = merged_by_words(program, bundle)
-    files |= {"plan.b": "", "plan.c": ""}
     came = merged_while_changing(program, bundle, 1, None, older)
-    want("second-pass-gone", (3, "", "unify: file host1/mtree\n", files), came)
+    told = "unify: file host1/mtree: No such file or directory\n"
+    want("second-pass-gone", (3, "", told, left_by_stop(files, bundle.hosts[1:])), came)
 
 
 def compare_merged(program, name, site):

@@ -37,7 +37,7 @@ def bundle_of(name):
 def checked(program, room, hosts, certificate):
     """What the check of a certificate for hosts that lie in a room tells."""
     (room / "certificate").write_text(certificate)
-    return ran(program, ["check", "certificate", *hosts], room)
+    return ran(program, ["check", "-q", "certificate", *hosts], room)
 
 
 def cut_certificates(program, room):

@@ -67,7 +67,7 @@ def written(folder):
 
 
 def merged(program, room, words):
-    ran = subprocess.run([program, "merge", *words], cwd=room, stdout=subprocess.PIPE, stderr=subprocess.PIPE, timeout=120)
+    ran = subprocess.run([program, "merge", "-q", *words], cwd=room, stdout=subprocess.PIPE, stderr=subprocess.PIPE, timeout=120)
     return ran.returncode, ran.stdout.decode("latin-1"), ran.stderr.decode("latin-1"), written(room / "out")
 
 

@@ -6,9 +6,9 @@ use hosts_join::HostText;
 use idtext::ByteString;
 use std::alloc::{AllocError, AllocFailed};
 use std::fs::File;
-use std::io;
 use std::io::Read;
 use std::path::Path;
+use std::{fs, io};
 
 /// The most bytes that an input file may have.
 const MOST_BYTES: u64 = 4294967295;
@@ -17,8 +17,26 @@ const MOST_BYTES: u64 = 4294967295;
 #[derive(Drop)]
 pub enum FileFault {
     Memory,
-    /// The path of the first file that cannot be read or written.
-    File(String),
+    /// The path of the first file that cannot be read or written, and what the system said.
+    File(String, io::Error),
+    /// The word for the directory that was to be written into, and why it is not.
+    Output(String, OutputFault),
+    /// No word names a host.
+    NoHost,
+}
+
+/// Why nothing is written into a directory.
+#[derive(Drop)]
+pub enum OutputFault {
+    EmptyWord,
+    /// It is not there, or no directory.
+    System(io::Error),
+    /// It is the directory of the host of that name.
+    HostDirectory(String),
+    /// It holds a file of that name, as the directory of a host does.
+    HostFile(String),
+    /// It holds something of that name that no merge wrote.
+    Foreign(String),
 }
 
 impl From<AllocError> for FileFault {
@@ -41,13 +59,18 @@ fn read_bytes(rt: &HostRuntime, path: &str) -> io::Result<Vec<u8>> {
     Ok(bytes)
 }
 
+/// What is said of a file that has too many bytes.
+pub fn too_large() -> io::Error {
+    io::Error::from(io::ErrorKind::FileTooLarge)
+}
+
 /// Why a file was not read or written: for want of memory, or because of the file.
 pub fn fault_of(rt: &HostRuntime, path: &str, error: &io::Error) -> FileFault {
     if error.kind() == io::ErrorKind::OutOfMemory {
         return FileFault::Memory;
     }
     match String::from_str(rt.alloc(), path) {
-        Ok(path) => FileFault::File(path),
+        Ok(path) => FileFault::File(path, *error),
         Err(_) => FileFault::Memory,
     }
 }
@@ -57,7 +80,7 @@ pub fn read_file(rt: &HostRuntime, path: &str) -> Result<ByteString, FileFault> 
     match read_bytes(rt, path) {
         Ok(bytes) => {
             if bytes.len() as u64 > MOST_BYTES {
-                return Err(FileFault::File(String::from_str(rt.alloc(), path)?));
+                return Err(fault_of(rt, path, &too_large()));
             }
             Ok(ByteString::from_vec(bytes))
         }
@@ -71,19 +94,32 @@ fn read_host_file(rt: &HostRuntime, directory: &str, file: &str) -> Result<ByteS
     read_file(rt, path.as_str())
 }
 
-// The text of a host's login.defs, which may be absent.
-fn read_logindefs(rt: &HostRuntime, directory: &str) -> Result<ByteString, FileFault> {
-    let path = Path::new(directory).join(rt.alloc(), "login.defs")?;
-    match File::open(rt, path.as_str()) {
-        Err(e) if e.kind() == io::ErrorKind::NotFound => Ok(ByteString::new(rt.alloc())),
-        _ => read_file(rt, path.as_str()),
+/// Whether a path leads to anything, be it a link that leads nowhere.
+pub fn is_there(rt: &HostRuntime, path: &str) -> Result<bool, FileFault> {
+    match fs::symlink_metadata(rt, path) {
+        Ok(_) => Ok(true),
+        Err(error) if error.kind() == io::ErrorKind::NotFound => Ok(false),
+        Err(error) => Err(fault_of(rt, path, &error)),
     }
 }
 
-// The name and the directory of the host that a word names: NAME=DIR, split at the first `=`, or NAME alone for the
-// directory of that name.
+// The text of a host's login.defs, which may be absent.
+fn read_logindefs(rt: &HostRuntime, directory: &str) -> Result<ByteString, FileFault> {
+    let path = Path::new(directory).join(rt.alloc(), "login.defs")?;
+    if is_there(rt, path.as_str())? {
+        read_file(rt, path.as_str())
+    } else {
+        Ok(ByteString::new(rt.alloc()))
+    }
+}
+
+// The name and the directory of the host that a word names: NAME=DIR, split at the first `=`, or the directory alone,
+// whose last component is the name then.
 fn host_parts(word: &str) -> (&str, &str) {
-    word.split_once('=').unwrap_or((word, word))
+    match word.split_once('=') {
+        Some((name, directory)) => (name, directory),
+        None => (Path::new(word).file_name().unwrap_or(word), word),
+    }
 }
 
 /// The name of the host that a word names.

@@ -1,6 +1,7 @@
 //! Inventories that are read in pieces.
 
-use crate::files::{FileFault, fault_of, host_directory};
+use crate::files::{FileFault, fault_of, host_directory, too_large};
+use crate::warnings::has_file;
 use std::fs::File;
 use std::io::Read;
 use std::path::{Path, PathBuf};
@@ -17,6 +18,7 @@ pub struct InventoryFile {
     path: PathBuf,
     file: File,
     bytes: Vec<u8>,
+    has_file: bool,
 }
 
 impl InventoryFile {
@@ -28,6 +30,7 @@ impl InventoryFile {
                 path,
                 file,
                 bytes: Vec::new(rt.alloc()),
+                has_file: false,
             }),
             Err(error) => Err(fault_of(rt, path.as_str(), &error)),
         }
@@ -38,16 +41,21 @@ impl InventoryFile {
         self.bytes.clear();
         let mut piece = self.file.by_ref().take(PIECE_BYTES as u64);
         match piece.read_to_end(&mut self.bytes) {
-            Ok(_) => Ok(self.bytes.as_slice()),
+            Ok(_) => {
+                self.has_file = self.has_file || has_file(&self.bytes);
+                Ok(self.bytes.as_slice())
+            }
             Err(error) => Err(fault_of(rt, self.path.as_str(), &error)),
         }
     }
 
+    /// Whether a piece that was read has a file in it.
+    pub fn has_file(&self) -> bool {
+        self.has_file
+    }
+
     /// The inventory has too many bytes.
     pub fn too_long(&self, rt: &HostRuntime) -> FileFault {
-        match String::from_str(rt.alloc(), self.path.as_str()) {
-            Ok(path) => FileFault::File(path),
-            Err(_) => FileFault::Memory,
-        }
+        fault_of(rt, self.path.as_str(), &too_large())
     }
 }

@@ -1,21 +1,24 @@
-//! The program `unify`. Without words it answers the bundle on standard input; with words it reads files.
+//! The program `unify`. Without words it answers the bundle on standard input, or tells its help where that is a terminal;
+//! with words it reads files.
 #![tactic(auto)]
 
 mod command_line;
 mod files;
 mod inventory;
 mod merging;
+mod output;
 mod report;
+mod warnings;
 mod words;
 mod writing;
 
 use report::{bundle_memory_refused, memory_refused};
 use std::env::{Env, FillError};
-use std::io::{BufReader, BufWriter};
+use std::io::{BufReader, BufWriter, IsTerminal};
 use std::process::ExitCode;
 use std::{env, io};
 use unify::{Watched, run_bundle};
-use words::run_words;
+use words::{run_words, tell_help};
 
 /// How many bytes of standard input and output are read and written at once.
 const BUFFER_BYTES: usize = 65536;
@@ -70,6 +73,8 @@ fn has_words(rt: &HostRuntime) -> bool {
 fn main(rt: HostRuntime) -> ExitCode {
     let status = if has_words(&rt) {
         run_args(&rt)
+    } else if rt.stdin().is_terminal() {
+        tell_help(&rt)
     } else {
         run_stdin(&rt)
     };

@@ -5,7 +5,8 @@ ghost use Rattle.unify.specs.Passes.{ended_in};
 
 use crate::files::{FileFault, host_name};
 use crate::inventory::{InventoryFile, MOST_PIECES, PIECE_BYTES};
-use crate::writing::{PlanFile, write_texts};
+use crate::warnings::{warn_of_no_files, warn_of_pins};
+use crate::writing::{PlanFile, begin, finish, write_texts};
 use hosts_join::HostText;
 use std::alloc::AllocError;
 use unify::{Cost, Counting, Solved};
@@ -74,13 +75,18 @@ fn count_host<'a>(
     rt: &HostRuntime,
     counting: &mut Counting<'a>,
     word: &str,
+    quiet: bool,
 ) -> Result<(), MergeFault<'a>>
     requires left { ended_in counting.old < length counting.old.hosts }
     ensures ended { OnOk result (ended_in counting.new ≡ ended_in counting.old + 1) }
     ensures hosts { OnOk result (counting.new.hosts ≡ counting.old.hosts) }
 {
     let mut inventory = InventoryFile::open(rt, word)?;
-    count_inventory(rt, counting, &mut inventory)
+    count_inventory(rt, counting, &mut inventory)?;
+    if !quiet && !inventory.has_file() {
+        warn_of_no_files(rt, host_name(word).as_bytes())?;
+    }
+    Ok(())
 }
 
 // Reads the inventories of all hosts, and counts their files.
@@ -88,13 +94,14 @@ fn count_hosts<'a>(
     rt: &HostRuntime,
     counting: &mut Counting<'a>,
     words: &[&str],
+    quiet: bool,
 ) -> Result<(), MergeFault<'a>>
     requires each_word { ended_in counting.old + length words.now ≡ length counting.old.hosts }
     ensures ended { OnOk result (ended_in counting.new ≡ length counting.new.hosts) }
     ensures hosts { OnOk result (counting.new.hosts ≡ counting.old.hosts) }
 {
     for word in words {
-        count_host(rt, counting, *word)?;
+        count_host(rt, counting, *word, quiet)?;
     }
     Ok(())
 }
@@ -149,16 +156,22 @@ fn plan_inventory<'a>(
     Err(MergeFault::File(inventory.too_long(rt)))
 }
 
-// Makes the plan of each host, empty, before any is written: so no plan of an earlier merge stays beside the map of this one,
-// wherever it ends.
-fn begin_plans(rt: &HostRuntime, directory: &str, words: &[&str]) -> Result<(), FileFault> {
-    for word in words {
-        drop(PlanFile::create(rt, directory, host_name(*word))?);
-    }
-    Ok(())
+// Reads the inventory of the next host, which the word names, once more, and writes the host's plan.
+fn plan_host_into<'a>(
+    rt: &HostRuntime,
+    solved: &mut Solved<'a>,
+    word: &str,
+    plan: &mut PlanFile,
+) -> Result<(), MergeFault<'a>>
+    requires left { solved.old.ended < length solved.old.hosts }
+    ensures ended { OnOk result (solved.new.ended ≡ solved.old.ended + 1) }
+    ensures hosts { OnOk result (solved.new.hosts ≡ solved.old.hosts) }
+{
+    let mut inventory = InventoryFile::open(rt, word)?;
+    plan_inventory(rt, solved, &mut inventory, plan)
 }
 
-// Reads the inventory of the next host, which the word names, once more, and writes the host's plan.
+// Writes the plan of the next host, which the word names, and keeps it where it is whole.
 fn plan_host<'a>(
     rt: &HostRuntime,
     solved: &mut Solved<'a>,
@@ -169,9 +182,14 @@ fn plan_host<'a>(
     ensures ended { OnOk result (solved.new.ended ≡ solved.old.ended + 1) }
     ensures hosts { OnOk result (solved.new.hosts ≡ solved.old.hosts) }
 {
-    let mut inventory = InventoryFile::open(rt, word)?;
     let mut plan = PlanFile::create(rt, directory, host_name(word))?;
-    plan_inventory(rt, solved, &mut inventory, &mut plan)
+    match plan_host_into(rt, solved, word, &mut plan) {
+        Ok(()) => Ok(plan.keep(rt)?),
+        Err(fault) => {
+            plan.discard(rt);
+            Err(fault)
+        }
+    }
 }
 
 // Writes the plan of each host, as plan.NAME.
@@ -207,16 +225,17 @@ fn solve_hosts<'a>(
     words: &[&str],
     hosts: &'a [HostText],
     pins: &'a [u8],
+    quiet: bool,
 ) -> Result<Solved<'a>, MergeFault<'a>>
     requires each_word { length words.now ≡ length hosts.now }
     ensures each_word { IfOk result (λ solved. solved.ended + length words.now ≡ length solved.hosts) }
 {
     let mut counting = Counting::start(rt.alloc(), hosts, pins)?;
-    count_hosts(rt, &mut counting, words)?;
+    count_hosts(rt, &mut counting, words, quiet)?;
     solve(counting)
 }
 
-// Writes what was merged, and then the plans, and hands out how many fields of files change.
+// Writes what was merged, then the plans, and the report last, and hands out how many fields of files change.
 fn write_merged<'a>(
     rt: &HostRuntime,
     solved: &mut Solved<'a>,
@@ -225,25 +244,31 @@ fn write_merged<'a>(
 ) -> Result<Cost, MergeFault<'a>>
     requires each_word { solved.old.ended + length words.now ≡ length solved.old.hosts }
 {
+    begin(rt, directory, words)?;
     write_texts(rt, directory, solved.outcome())?;
-    begin_plans(rt, directory, words)?;
     plan_hosts(rt, solved, directory, words)?;
+    finish(rt, directory, &solved.outcome().report)?;
     Ok(solved.outcome().cost)
 }
 
 /// Merges the hosts that words name, whose texts are given but for their inventories, into a directory, and hands out
-/// how many fields of files change. Each inventory is read twice, when its host's turn comes. The plans are made after the
-/// other files, empty, and written while the inventories are read again. At the first fault it stops; what was written
-/// before stays, and a plan that is not whole has no `end` line.
+/// how many fields of files change. Each inventory is read twice, when its host's turn comes. Nothing is written before the
+/// hosts are merged; then the report and the plans of an earlier merge are removed, and the files are written whole, one
+/// after the other, the report last. At the first fault it stops, and there is no report then. Unless it is to be quiet it
+/// warns of hosts without files and of pins that are for nobody.
 pub fn merge_hosts<'a>(
     rt: &HostRuntime,
     directory: &str,
     words: &[&str],
     hosts: &'a [HostText],
     pins: &'a [u8],
+    quiet: bool,
 ) -> Result<Cost, MergeFault<'a>>
     requires each_word { length words.now ≡ length hosts.now }
 {
-    let mut solved = solve_hosts(rt, words, hosts, pins)?;
+    let mut solved = solve_hosts(rt, words, hosts, pins, quiet)?;
+    if !quiet {
+        warn_of_pins(rt, solved.outcome().map.bytes(), pins)?;
+    }
     write_merged(rt, &mut solved, directory, words)
 }

@@ -1,68 +1,224 @@
-//! The files that a merge writes.
+//! The files that a merge writes. Each is written under a name of its own, synced and renamed, so that none is ever cut; and
+//! a report stands only where all others are those of its merge.
 
-use crate::files::{FileFault, fault_of};
+use crate::files::{FileFault, fault_of, host_name};
+use crate::output::{MARK, PLAN, TEMPORARY, is_file_with, names_with};
 use idtext::ByteString;
-use std::fs;
+use std::alloc::AllocError;
 use std::fs::File;
 use std::io::Write;
 use std::path::{Path, PathBuf};
+use std::{fs, io};
 use unify::Outcome;
 
-// Writes a text as a file of a directory. A file of that name is cut short first.
+// A file that is written under a temporary name, and renamed when it is whole.
+#[derive(Drop)]
+struct NewFile {
+    path: PathBuf,
+    temporary: PathBuf,
+    file: File,
+}
+
+impl NewFile {
+    // Begins a file of a directory. What stands at its name stays until it is kept.
+    fn create(rt: &HostRuntime, directory: &str, name: &str) -> Result<NewFile, FileFault> {
+        let mut hidden = String::from_str(rt.alloc(), TEMPORARY)?;
+        hidden.push_str(name)?;
+        let temporary = Path::new(directory).join(rt.alloc(), hidden.as_str())?;
+        let path = Path::new(directory).join(rt.alloc(), name)?;
+        match File::create_new(rt, temporary.as_str()) {
+            Ok(file) => Ok(NewFile {
+                path,
+                temporary,
+                file,
+            }),
+            Err(error) => Err(fault_of(rt, temporary.as_str(), &error)),
+        }
+    }
+
+    // Syncs the file and gives it its name.
+    fn take_place(&self, rt: &HostRuntime) -> io::Result<()> {
+        self.file.sync_all()?;
+        fs::rename(rt, self.temporary.as_str(), self.path.as_str())
+    }
+
+    // Why the file could not be written or kept. What there is of it is removed.
+    fn given_up(&self, rt: &HostRuntime, error: &io::Error) -> FileFault {
+        self.discard(rt);
+        fault_of(rt, self.path.as_str(), error)
+    }
+
+    // Removes what there is of the file, as far as that can be done.
+    fn discard(&self, rt: &HostRuntime) {
+        let _ = fs::remove_file(rt, self.temporary.as_str());
+    }
+
+    fn write(&mut self, rt: &HostRuntime, bytes: &[u8]) -> Result<(), FileFault> {
+        match self.file.write_all(bytes) {
+            Ok(()) => Ok(()),
+            Err(error) => Err(self.given_up(rt, &error)),
+        }
+    }
+
+    // Syncs the file and gives it its name.
+    fn keep(&self, rt: &HostRuntime) -> Result<(), FileFault> {
+        match self.take_place(rt) {
+            Ok(()) => Ok(()),
+            Err(error) => Err(self.given_up(rt, &error)),
+        }
+    }
+}
+
+// Writes a text as a file of a directory.
 fn write_file(
     rt: &HostRuntime,
     directory: &str,
     name: &str,
     text: &ByteString,
 ) -> Result<(), FileFault> {
-    let path = Path::new(directory).join(rt.alloc(), name)?;
-    match fs::write(rt, path.as_str(), text.bytes()) {
-        Ok(()) => Ok(()),
-        Err(error) => Err(fault_of(rt, path.as_str(), &error)),
+    let mut file = NewFile::create(rt, directory, name)?;
+    file.write(rt, text.bytes())?;
+    file.keep(rt)
+}
+
+// Syncs a directory. A file system that has no sync of directories needs none.
+fn sync_directory(rt: &HostRuntime, directory: &str) -> Result<(), FileFault> {
+    let synced = match File::open(rt, directory) {
+        Ok(opened) => opened.sync_all(),
+        Err(error) => Err(error),
+    };
+    match synced {
+        Err(error) if error.kind() != io::ErrorKind::InvalidInput => {
+            Err(fault_of(rt, directory, &error))
+        }
+        _ => Ok(()),
     }
 }
 
-/// Writes what a merge gave into a directory but for the plans: passwd, group, map, certificate and report. At the first
-/// file that cannot be written it stops; what was written before stays.
+// Removes a name from a directory, if it is there.
+fn remove(rt: &HostRuntime, directory: &str, name: &str) -> Result<(), FileFault> {
+    let path = Path::new(directory).join(rt.alloc(), name)?;
+    match fs::remove_file(rt, path.as_str()) {
+        Err(error) if error.kind() != io::ErrorKind::NotFound => {
+            Err(fault_of(rt, path.as_str(), &error))
+        }
+        _ => Ok(()),
+    }
+}
+
+// Marks a directory as one that a merge has begun to write into.
+fn mark(rt: &HostRuntime, directory: &str) -> Result<(), FileFault> {
+    let path = Path::new(directory).join(rt.alloc(), MARK)?;
+    match File::create_new(rt, path.as_str()) {
+        Err(error) if error.kind() != io::ErrorKind::AlreadyExists => {
+            Err(fault_of(rt, path.as_str(), &error))
+        }
+        _ => sync_directory(rt, directory),
+    }
+}
+
+// Whether the plan of that name is one of the hosts that words name.
+fn is_planned(name: &str, words: &[&str]) -> bool {
+    let host = name.strip_prefix(PLAN);
+    words.iter().any(|word| host == Some(host_name(*word)))
+}
+
+// Removes what has the name of a plan, if it is a plan or one will stand there.
+fn remove_plan(
+    rt: &HostRuntime,
+    directory: &str,
+    name: &str,
+    words: &[&str],
+) -> Result<(), FileFault> {
+    let path = Path::new(directory).join(rt.alloc(), name)?;
+    if is_planned(name, words) || is_file_with(rt, path.as_str(), b"unify plan ")? {
+        remove(rt, directory, name)?;
+    }
+    Ok(())
+}
+
+// Removes the plans of an earlier merge, also those of hosts that are no more.
+fn remove_plans(rt: &HostRuntime, directory: &str, words: &[&str]) -> Result<(), FileFault> {
+    for name in &names_with(rt, directory, PLAN)? {
+        remove_plan(rt, directory, name.as_str(), words)?;
+    }
+    Ok(())
+}
+
+// Removes what a merge that was cut off left under temporary names.
+fn remove_temporary(rt: &HostRuntime, directory: &str) -> Result<(), FileFault> {
+    for name in &names_with(rt, directory, TEMPORARY)? {
+        remove(rt, directory, name.as_str())?;
+    }
+    Ok(())
+}
+
+/// Begins to write a merge of the hosts that words name into a directory: the report and the plans of an earlier merge go
+/// before any of its other files does, and the directory has a mark until the new report stands.
+pub fn begin(rt: &HostRuntime, directory: &str, words: &[&str]) -> Result<(), FileFault> {
+    mark(rt, directory)?;
+    remove(rt, directory, "report")?;
+    remove_plans(rt, directory, words)?;
+    remove_temporary(rt, directory)?;
+    sync_directory(rt, directory)
+}
+
+/// Writes what a merge gave into a directory but for the plans and the report: passwd, group, map and certificate. At the
+/// first file that cannot be written it stops.
 pub fn write_texts(rt: &HostRuntime, directory: &str, outcome: &Outcome) -> Result<(), FileFault> {
     write_file(rt, directory, "passwd", &outcome.passwd)?;
     write_file(rt, directory, "group", &outcome.group)?;
     write_file(rt, directory, "map", &outcome.map)?;
-    write_file(rt, directory, "certificate", &outcome.certificate)?;
-    write_file(rt, directory, "report", &outcome.report)
+    write_file(rt, directory, "certificate", &outcome.certificate)
+}
+
+/// Ends a merge whose other files are all written, by its report.
+pub fn finish(rt: &HostRuntime, directory: &str, report: &ByteString) -> Result<(), FileFault> {
+    sync_directory(rt, directory)?;
+    write_file(rt, directory, "report", report)?;
+    sync_directory(rt, directory)?;
+    remove(rt, directory, MARK)
+}
+
+// The name of a host's plan.
+fn plan_name(rt: &HostRuntime, host: &str) -> Result<String, AllocError> {
+    let mut name = String::from_str(rt.alloc(), PLAN)?;
+    name.push_str(host)?;
+    Ok(name)
 }
 
 /// The plan of a host, which is written in pieces.
 #[derive(Drop)]
 pub struct PlanFile {
-    path: PathBuf,
-    file: File,
+    file: NewFile,
     /// What is still to be written.
     pub text: Vec<u8>,
 }
 
 impl PlanFile {
-    /// Makes plan.NAME in a directory. A file of that name is cut short.
+    /// Begins plan.NAME in a directory.
     pub fn create(rt: &HostRuntime, directory: &str, host: &str) -> Result<PlanFile, FileFault> {
-        let mut name = String::from_str(rt.alloc(), "plan.")?;
-        name.push_str(host)?;
-        let path = Path::new(directory).join(rt.alloc(), name.as_str())?;
-        match File::create(rt, path.as_str()) {
-            Ok(file) => Ok(PlanFile {
-                path,
-                file,
-                text: Vec::new(rt.alloc()),
-            }),
-            Err(error) => Err(fault_of(rt, path.as_str(), &error)),
-        }
+        let name = plan_name(rt, host)?;
+        Ok(PlanFile {
+            file: NewFile::create(rt, directory, name.as_str())?,
+            text: Vec::new(rt.alloc()),
+        })
     }
 
     /// Writes what is still to be written.
     pub fn write(&mut self, rt: &HostRuntime) -> Result<(), FileFault> {
-        if let Err(error) = self.file.write_all(&self.text) {
-            return Err(fault_of(rt, self.path.as_str(), &error));
-        }
+        self.file.write(rt, &self.text)?;
         self.text.clear();
         Ok(())
+    }
+
+    /// Gives the whole plan its name.
+    pub fn keep(&self, rt: &HostRuntime) -> Result<(), FileFault> {
+        self.file.keep(rt)
+    }
+
+    /// Removes what there is of a plan that did not become whole.
+    pub fn discard(&self, rt: &HostRuntime) {
+        self.file.discard(rt);
     }
 }
