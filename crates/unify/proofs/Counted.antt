@@ -44,7 +44,7 @@ all_pass : {X : Type 0} (p : X → Bool) (xs : List X) → All (λ x. p x ≡ tr
 all_pass p [] all = refl
 all_pass p (x ∷ xs) all = rw (All-head (λ y. p y ≡ true) x xs all) (all_pass p xs (All-tail (λ y. p y ≡ true) x xs all))
 
-mapped_some : {X Y : Type 0} (f : X → Y) (o : Option X) → is_some (option_map f o) ≡ is_some o
+pub mapped_some : {X Y : Type 0} (f : X → Y) (o : Option X) → is_some (option_map f o) ≡ is_some o
 mapped_some f None = refl
 mapped_some f (Some x) = refl
 

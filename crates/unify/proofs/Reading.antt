@@ -185,6 +185,23 @@ loaded-named texts loaded h named =
 abbrev pub IsKnownHost : Joined → ℕ → Host → Type 0
 IsKnownHost joined h host = (is_host_name host.name ≡ true) × IsLawfulHost host × KnowsHost joined h host
 
+-- a host of whom that is known, with the files of its inventory
+pub read-host : (joined : Joined) (h : ℕ) (l : Loaded) (files : List Entry) → files_of l ≡ Ok files → IsKnownHost joined h l.host → IsReadHost joined h l.host files
+read-host joined h l files are knows =
+    let text = files_read l files are in
+    let found = inventory-files 16777216 l.mtree files text.0 in
+    record {
+      named = knows.0;
+      lawful = knows.1;
+      files_are = found.0;
+      few = found.1;
+      owned = λ k d m.
+          let f = get_or files k d in
+          let told = owners-told (is_some (user_at l.host.users f.uid)) (is_some (group_at l.host.groups f.gid)) _ _ (text.1 k d m) in
+          record { user = told.0; group = told.1 };
+      known = knows.2;
+    }
+
 -- hosts of whom that is known, with the files of their inventories
 pub read-host-of : (joined : Joined) (loaded : List Loaded) (read : List (Host × List Entry)) → each site_of loaded ≡ Ok read → ((h : ℕ) (l : Loaded) → slice_get loaded h ≡ Some l → IsKnownHost joined h l.host)
     → (h : ℕ) (host : Host) (files : List Entry) → slice_get read h ≡ Some (host, files) → IsReadHost joined h host files
@@ -193,21 +210,7 @@ read-host-of joined loaded read are known h host files here =
     let l = from.0 in
     let filed = bind_ok (files_of l) (λ fs. Ok (l.host, fs)) (host, files) from.2 in
     let pair : (l.host, filed.0) ≡ (host, files) = ok_same (l.host, filed.0) (host, files) filed.2 in
-    let text = files_read l filed.0 filed.1 in
-    let found = inventory-files 16777216 l.mtree filed.0 text.0 in
-    let knows = known h l from.1 in
-    subst (λ (p : Host × List Entry). IsReadHost joined h p.0 p.1) pair
-    (record {
-      named = knows.0;
-      lawful = knows.1;
-      files_are = found.0;
-      few = found.1;
-      owned = λ k d m.
-          let f = get_or filed.0 k d in
-          let told = owners-told (is_some (user_at l.host.users f.uid)) (is_some (group_at l.host.groups f.gid)) _ _ (text.1 k d m) in
-          record { user = told.0; group = told.1 };
-      known = knows.2;
-    })
+    subst (λ (p : Host × List Entry). IsReadHost joined h p.0 p.1) pair (read-host joined h l filed.0 filed.1 (known h l from.1))
 
 known-host : (texts : List HostText) (pins_text : List ℕ) (site : WholeSite) → (s : Steps texts pins_text site) → (h : ℕ) (l : Loaded) → slice_get s.loaded h ≡ Some l → IsKnownHost site.joined h l.host
 known-host texts pins_text site s h l here =

@@ -1,7 +1,7 @@
 //! Laws of the definitions, each the contract of a call that does nothing.
 ghost use Rattle.unify.specs.Laws.{OwnersAgree, ReadSitesAreWhole, EmptyPinsAreNone, PassesReadTheSite, CostsAgree};
 ghost use Rattle.unify.specs.Believed.{OutcomesAreBelieved, DoneKeepsPrintedNames, RunsKeepNames, NumbersTellNames};
-ghost use Rattle.unify.specs.TwoPasses.{TwoPassesAreBelieved};
+ghost use Rattle.unify.specs.TwoPasses.{TwoPassesAreBelieved, SecondReadingIsBelieved};
 ghost use Rattle.unify.specs.Agreeing.{PrintedCertificatesAreAccepted, PrintedMapsAreCounted, NoMapRewritesFewer, PrintedPlansAreRehearsed};
 
 /// Every site that was read is whole: it has at most 64 hosts, whose names and tables are lawful and whose inventories have
@@ -52,6 +52,12 @@ pub fn passes_read_the_site()
 /// are those that a second pass over the same inventories appends, one for each host.
 pub fn two_passes_are_believed()
     ensures { TwoPassesAreBelieved }
+{}
+
+/// What was merged behind a first pass, with the plans that a second pass appends, is believed of the files that came the second
+/// time: these need not be those of the first pass, where each user and each group of each host owns as many.
+pub fn second_reading_is_believed()
+    ensures { SecondReadingIsBelieved }
 {}
 
 /// The cost of a map by its pairs and each host's own tables, which `count` answers, is that of its mappings by the

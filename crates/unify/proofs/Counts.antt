@@ -1,0 +1,144 @@
+-- Two lists of files of which each row of a host's tables owns as many: whatever is asked of a file's number, as many pass.
+use Rattle.std.proofs.Common.{◌≡◌, ℕ, suc, ◌+◌, ◌<◌, Bool, true, false, cond, List, [], ◌∷◌, length, map, get_or, Some, refl, sym, ap, subst, ◌∙◌, arith, inl, inr, ◌==◌}
+use Rattle.std.specs.List.{All, count_by, find, slice_get, sum_by}
+use Rattle.std.specs.Option.{is_some}
+use Rattle.std.proofs.lemmas.Bool.{cases_Bool, eqb-true, false_from_ne_true}
+use Rattle.std.proofs.lemmas.List.{get_or-map, length-map}
+use Rattle.std.proofs.lemmas.List.Elements.{All-head, All-tail}
+use Rattle.std.proofs.lemmas.List.Sums.{sum_by-append, sum_by-cons}
+use Rattle.accounts.specs.Laws.{AreDistinct}
+use Rattle.hosts_join.specs.declared.host.Host.{Host}
+use Rattle.hosts_join.proofs.Refusals.{count_by-of-map}
+use Rattle.mtree_inv.specs.declared.entry.Entry.{Entry}
+use Rattle.ownership.specs.Files.{Added}
+use Rattle.unify.specs.Reading.{added_on, added_from}
+use Rattle.unify.proofs.SiteRuns.{some_same}
+
+no_more : (b : Bool) → cond {A = ℕ} b 0 0 ≡ 0
+no_more true = refl
+no_more false = refl
+
+both : (b : Bool) (x y : ℕ) → cond {A = ℕ} b (x + y) 0 ≡ cond {A = ℕ} b x 0 + cond {A = ℕ} b y 0
+both true x y = refl
+both false x y = refl
+
+module _ {R : Type 0} (number : R → ℕ) where
+  -- no later row has the number of an earlier one
+  abbrev AreApart : List R → Type 0
+  AreApart [] = Unit {0}
+  AreApart (r ∷ rows) = All (λ q. (number r == number q) ≡ false) rows × AreApart rows
+
+  numbered : (rows : List R) (k : ℕ) (d : R) (n : ℕ) → k < length rows → get_or (map number rows) k n ≡ number (get_or rows k d)
+  numbered rows k d n within = get_or-map number rows k d n within
+
+  pub apart : (rows : List R) → AreDistinct (map number rows) → AreApart rows
+  apart [] distinct = tt
+  apart (r ∷ rows) distinct = (
+    (λ k d within. false_from_ne_true (number r == number (get_or rows k d)) (λ t.
+        let within' : suc k < length (map number (r ∷ rows)) = omega (arith, within, length-map rows number) in
+        let first : 0 < length (map number (r ∷ rows)) = omega arith in
+        let same : number r ≡ get_or (map number rows) k 0 = eqb-true (number r) (number (get_or rows k d)) t ∙ sym (numbered rows k d 0 within) in
+        let none : 0 ≡ suc k = distinct 0 (suc k) 0 first within' same in
+        absurd (omega (arith, none)))),
+    apart rows (λ i j d one two e.
+        let next : suc i ≡ suc j = distinct (suc i) (suc j) d (omega (arith, one)) (omega (arith, two)) e in
+        omega (arith, next)),
+  )
+
+  module _ (P : ℕ → Bool) where
+    -- what a row tells of a number: one, if the row has it and it passes
+    abbrev told : ℕ → R → ℕ
+    told n r = cond {A = ℕ} (P (number r)) (cond {A = ℕ} (n == number r) 1 0) 0
+
+    missed : (n : ℕ) (rows : List R) → All (λ q. (n == number q) ≡ false) rows → sum_by (told n) rows ≡ 0
+    missed n [] none = refl
+    missed n (r ∷ rows) none =
+        let is = λ (q : R). (n == number q) ≡ false in
+        let here : told n r ≡ 0 = ap (λ (b : Bool). cond {A = ℕ} (P (number r)) (cond {A = ℕ} b 1 0) 0) (All-head is r rows none) ∙ no_more (P (number r)) in
+        omega (arith, sum_by-cons (told n) r rows, here, missed n rows (All-tail is r rows none))
+
+    -- of rows that are numbered apart, one of which has the number, one tells of it
+    hit : (n : ℕ) (rows : List R) → AreApart rows → is_some (find (λ r. n == number r) rows) ≡ true → sum_by (told n) rows ≡ cond {A = ℕ} (P n) 1 0
+    hit n [] are there = absurd (cc)
+    hit n (r ∷ rows) are there = elim (cases_Bool (n == number r)) [
+      | inl t ↦
+          let same : n ≡ number r = eqb-true n (number r) t in
+          let others = subst (λ m. All (λ q. (m == number q) ≡ false) rows) (sym same) are.0 in
+          let here : told n r ≡ cond {A = ℕ} (P n) 1 0 = ap (λ (b : Bool). cond {A = ℕ} (P (number r)) (cond {A = ℕ} b 1 0) 0) t ∙ ap (λ m. cond {A = ℕ} (P m) 1 0) (sym same) in
+          omega (arith, sum_by-cons (told n) r rows, here, missed n rows others)
+      | inr f ↦
+          let here : told n r ≡ 0 = ap (λ (b : Bool). cond {A = ℕ} (P (number r)) (cond {A = ℕ} b 1 0) 0) f ∙ no_more (P (number r)) in
+          let later : is_some (find (λ q. n == number q) rows) ≡ true = rw f at there in
+          omega (arith, sum_by-cons (told n) r rows, here, hit n rows are.1 later)
+    ]
+
+    module _ {E : Type 0} (of : E → ℕ) where
+      abbrev owned : List E → R → ℕ
+      owned files r = count_by (λ e. of e == number r) files
+
+      abbrev passing : List E → R → ℕ
+      passing files r = cond {A = ℕ} (P (number r)) (owned files r) 0
+
+      nothing : (rows : List R) → sum_by (passing []) rows ≡ 0
+      nothing [] = refl
+      nothing (r ∷ rows) = omega (arith, sum_by-cons (passing []) r rows, no_more (P (number r)), nothing rows)
+
+      one_more : (e : E) (files : List E) (rows : List R) → sum_by (passing (e ∷ files)) rows ≡ sum_by (told (of e)) rows + sum_by (passing files) rows
+      one_more e files [] = refl
+      one_more e files (r ∷ rows) =
+          let counted : owned (e ∷ files) r ≡ cond {A = ℕ} (of e == number r) 1 0 + owned files r = sum_by-cons (λ (x : E). cond {A = ℕ} (of x == number r) 1 0) e files in
+          let here : passing (e ∷ files) r ≡ told (of e) r + passing files r = ap (λ n. cond {A = ℕ} (P (number r)) n 0) counted ∙ both (P (number r)) (cond {A = ℕ} (of e == number r) 1 0) (owned files r) in
+          omega (arith, sum_by-cons (passing (e ∷ files)) r rows, sum_by-cons (told (of e)) r rows, sum_by-cons (passing files) r rows, here, one_more e files rows)
+
+      -- the files that pass, counted row by row
+      by_rows : (rows : List R) → AreApart rows → (files : List E) → All (λ e. is_some (find (λ r. of e == number r) rows) ≡ true) files → count_by (λ e. P (of e)) files ≡ sum_by (passing files) rows
+      by_rows rows are [] there = sym (nothing rows)
+      by_rows rows are (e ∷ files) there =
+          let is = λ (x : E). is_some (find (λ r. of x == number r) rows) ≡ true in
+          omega (arith, sum_by-cons (λ (x : E). cond {A = ℕ} (P (of x)) 1 0) e files, one_more e files rows, hit (of e) rows are (All-head is e files there), by_rows rows are files (All-tail is e files there))
+
+      rows_same : (files others : List E) (rows : List R) → map (owned files) rows ≡ map (owned others) rows → sum_by (passing files) rows ≡ sum_by (passing others) rows
+      rows_same files others [] same = refl
+      rows_same files others (r ∷ rows) same =
+          let head : owned files r ≡ owned others r = ap (λ ns. get_or ns 0 0) same in
+          let tail : map (owned files) rows ≡ map (owned others) rows = cc in
+          let here : passing files r ≡ passing others r = ap (λ n. cond {A = ℕ} (P (number r)) n 0) head in
+          omega (arith, sum_by-cons (passing files) r rows, sum_by-cons (passing others) r rows, here, rows_same files others rows tail)
+
+      pub as_many : (rows : List R) → AreApart rows → (files others : List E) → All (λ e. is_some (find (λ r. of e == number r) rows) ≡ true) files → All (λ e. is_some (find (λ r. of e == number r) rows) ≡ true) others
+          → map (owned files) rows ≡ map (owned others) rows → count_by (λ e. P (of e)) files ≡ count_by (λ e. P (of e)) others
+      as_many rows are files others there also same = by_rows rows are files there ∙ rows_same files others rows same ∙ sym (by_rows rows are others also)
+
+-- ---- the files of all hosts
+
+module _ (G : Added → Bool) where
+  abbrev on : ℕ → List Entry → ℕ
+  on h files = count_by (λ e. G (added_on h e)) files
+
+  -- where as many pass on each host, as many pass on all
+  pub on_all : (start : ℕ) (one two : List (Host × List Entry)) → length two ≡ length one
+      → ((k : ℕ) (host : Host) (were : List Entry) → slice_get one k ≡ Some (host, were) → (files : List Entry) × (slice_get two k ≡ Some (host, files)) × (on (start + k) were ≡ on (start + k) files))
+      → count_by G (added_from start one) ≡ count_by G (added_from start two)
+  on_all start [] [] same each = refl
+  on_all start [] (y ∷ ys) same each = absurd (omega (arith, same))
+  on_all start (x ∷ xs) [] same each = absurd (omega (arith, same))
+  on_all start (x ∷ xs) (y ∷ ys) same each =
+      let first = each 0 x.0 x.1 refl in
+      let is : y ≡ (x.0, first.0) = some_same y (x.0, first.0) first.1 in
+      let start_is : start + 0 ≡ start = omega arith in
+      let here : on start x.1 ≡ on start y.1 = subst (λ i. on i x.1 ≡ on i first.0) start_is first.2 ∙ ap (λ (p : Host × List Entry). on start p.1) (sym is) in
+      let later : count_by G (added_from (start + 1) xs) ≡ count_by G (added_from (start + 1) ys) =
+      on_all (start + 1) xs ys (omega (arith, same)) (λ k host were at.
+      let next = each (suc k) host were at in
+      let behind : start + suc k ≡ (start + 1) + k = omega arith in
+      (next.0, next.1, subst (λ i. on i were ≡ on i next.0) behind next.2)) in
+      let tells = λ (f : Added). cond {A = ℕ} (G f) 1 0 in
+      omega (
+        arith,
+        sum_by-append tells (map (added_on start) x.1) (added_from (start + 1) xs),
+        sum_by-append tells (map (added_on start) y.1) (added_from (start + 1) ys),
+        count_by-of-map G (added_on start) x.1,
+        count_by-of-map G (added_on start) y.1,
+        here,
+        later,
+      )
