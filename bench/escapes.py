@@ -98,12 +98,14 @@ def read_back(program, room, text):
         ("pins", f"user me {uid + 5000}\n"),
     ]:
         (room / name).write_text(has)
+    out = room.with_name("out")
+    out.mkdir()
     lines, refused = text.split(b"\n"), 0
     while True:
         (room / "mtree").write_bytes(b"\n".join(lines))
-        ran = subprocess.run([program, "merge", "--pins", room / "pins", room, f"a={room}"], capture_output=True, text=True)
+        ran = subprocess.run([program, "merge", "--pins", room / "pins", out, f"a={room}"], capture_output=True, text=True)
         if ran.returncode == 0:
-            return paths_of((room / "plan.a").read_bytes()) - {b"."}, refused
+            return paths_of((out / "plan.a").read_bytes()) - {b"."}, refused
         told = REFUSED.fullmatch(ran.stderr)
         if told is None:
             sys.exit(ran.stderr)
