@@ -79,7 +79,7 @@ def solving(name, names, make, with_scipy):
     out = f"{folder}/out"
     os.mkdir(out)
     weights = weights_of(rows)
-    seconds = spent([UNIFY, "merge", out, *words]) - spent([UNIFY, "count", f"{out}/map", *words])
+    seconds = spent([UNIFY, "merge", "--quiet", out, *words]) - spent([UNIFY, "count", "--quiet", f"{out}/map", *words])
     weight = weight_of_map(f"{out}/map", weights)
     shutil.rmtree(folder)
     if not with_scipy:

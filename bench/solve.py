@@ -106,8 +106,8 @@ def measure(names, rows, numbers, seed):
     weights = weights_of(made)
     out = f"{folder}/out"
     os.mkdir(out)
-    merged, peak, _ = timed([UNIFY, "merge", out, *words])
-    counted, _, _ = timed([UNIFY, "count", f"{out}/map", *words])
+    merged, peak, _ = timed([UNIFY, "merge", "--quiet", out, *words])
+    counted, _, _ = timed([UNIFY, "count", "--quiet", f"{out}/map", *words])
     weight = weight_of_map(f"{out}/map", weights)
     print(f"{hosts} hosts, {len({name for _, name, _, _ in made}):,} names, {len(weights):,} candidates, {numbers:,} numbers", flush=True)
     print(f"unify merge: {merged:.2f} s, peak {peak:,.0f} MiB; without join, solving and writing: {counted:.2f} s", flush=True)
