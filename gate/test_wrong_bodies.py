@@ -7,13 +7,33 @@ import tempfile
 
 SOURCE = """#![tactic(auto)]
 
-ghost use Rattle.std.specs.Prelude.{◌≡◌, ◌+◌};
+ghost use Rattle.std.specs.Prelude.{◌≡◌, ◌+◌, ℕ};
 
 mod apart;
 
 pub struct Pair {
     pub first: u8,
     pub second: u8,
+}
+
+pub struct Held<T> {
+    pub value: T,
+}
+
+/// What has a first number.
+pub trait First {
+    ghost first: { Self → ℕ };
+
+    fn first(&self) -> u8
+        ensures { result ≡ first self.now };
+}
+
+impl First for Held<Pair> {
+    ghost first = { λ held. held.value.first };
+
+    fn first(&self) -> u8 {
+        self.value.first
+    }
 }
 
 fn next(number: u8) -> u16
@@ -51,6 +71,7 @@ EDITS = [
     ("sum_turned_round", "lib", "next(number) + 1", "1 + next(number)", "LET THROUGH"),
     ("no_such_text", "lib", "next(number) + 3", "next(number)", "CANNOT BE MADE"),
     ("first_is_doubled", "apart", "self.second as u16", "self.first as u16", "refused, "),
+    ("second_is_first", "lib", "self.value.first", "self.value.second", "refused, "),
 ]
 
 
@@ -69,7 +90,7 @@ def main():
     told = ran.stdout.splitlines()
     wanted = sorted(f"small/{name}: {what}" for name, *_, what in EDITS)
     is_told = len(told) == len(EDITS) + 1 and all(line.startswith(it) for line, it in zip(sorted(told[:-1]), wanted))
-    if not is_told or told[-1] != "3 refused, 3 let through" or ran.returncode != 1:
+    if not is_told or told[-1] != "4 refused, 3 let through" or ran.returncode != 1:
         sys.exit(f"wrong_bodies.py, tried on a small crate, ended with {ran.returncode}:\n{ran.stdout}{ran.stderr}")
     print("wrong_bodies.py tells a wrong body that is let through")
 

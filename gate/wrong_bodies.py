@@ -41,7 +41,10 @@ ENDED = re.compile(r"^(?:only=\d+ proved=|logic=)", re.M)
 FUNCTION = re.compile(
     r"(\s*)(?:pub(?:\([^)]*\))?\s+)?(?:final\s+)?(?:const\s+)?(?:unsafe\s+)?fn (\w+)"
 )
-IMPL = re.compile(r"impl(?:<[^{]*?>)?\s+(?:(?:\w+::)*(\w+)(<[^{]*?>)?\s+for\s+)?&?(?:\w+::)*(\w+)")
+IMPL = re.compile(
+    r"impl(?:<(?P<parameters>[^{]*?)>)?\s+(?:(?:\w+::)*(?P<trait>\w+)(?P<of_trait><[^{]*?>)?\s+for\s+)?"
+    r"&?(?:\w+::)*(?P<type>\w+)(?P<of_type><[^{]*>)?"
+)
 TRAIT = re.compile(r"(?:pub(?:\([^)]*\))?\s+)?trait (\w+)")
 
 
@@ -110,8 +113,11 @@ def owner_of(lines, first):
     """What the folders of answers call the impl or the trait around a function, and the type whose own impl it is, if any."""
     for line in reversed(lines[:first]):
         if found := IMPL.match(line):
-            trait, arguments, name = found.groups()
-            return f"{name}{trait or ''}{re.sub(r'[^A-Za-z0-9]', '', arguments or '')}", "" if trait else name
+            # The arguments of a type are named there but for those that are the impl's own; those of a trait are all named.
+            own = re.findall(r"(?:^|,)\s*(\w+)", found["parameters"] or "")
+            name = found["type"] + "".join(it for it in re.findall(r"(?<!')\b\w+", found["of_type"] or "") if it not in own)
+            trait = (found["trait"] or "") + re.sub(r"[^A-Za-z0-9]", "", found["of_trait"] or "")
+            return name + trait, "" if trait else found["type"]
         if found := TRAIT.match(line):
             return found[1], ""
         if line.startswith("}"):

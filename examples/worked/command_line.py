@@ -19,12 +19,32 @@ TEXTS = {
     "bad": "no line of any text\n",
     "cut-pins": "user bob 1005",
     "cut-map": (STORED / "map").read_text().rstrip("\n"),
+    "near-pins": "user alcie 1006\nuser bobby 1007\ngroup user 7\ngroup usres 8\n",
     "other-pins": "group wheel 7\n\nuser bob 1005\nuser carol\tx 1006\n",
 }
 NOTHING_COUNTED = "user-fields 0\ngroup-fields 0\n"
 BARE = "".join(f"unify: warning: host b has no {what}\n" for what in ("users", "groups", "files"))
 RETURNS = "".join(f"unify: warning: host a has lines in {file} that end in a carriage return\n" for file in ("passwd", "group"))
 CUT = "unify: warning: file cut-pins has no newline at its end\n"
+TAKEN = "unify: warning: numbers of users that were another user's on some host: 1\n"
+NOBODY = "unify: warning: pin of {} is for a name that no host has{}\n".format
+ALICE = "alice:x:1001:100:{}:/home/alice:/bin/sh\n".format
+MANY = range(10, 22)
+# Hosts whose users and groups may be two under one name. Each has alice.
+DOUBTED = {
+    "web": (ALICE("A. Adams"), "users:x:100:\nsudo:x:27:alice\n"),
+    "db": (ALICE("Alice"), "users:x:100:\nsudo:x:27:bob,carol\n"),
+    "crowd": (ALICE(""), "users:x:100:\n" + "".join(f"g{number}:x:{number}:alice\n" for number in range(200, 216))),
+    "many": (ALICE("") + "".join(f"u{number}:x:{number}:100:one:/:/\n" for number in MANY), "users:x:100:\n"),
+    "more": (ALICE("") + "".join(f"u{number}:x:{number}:100:two:/:/\n" for number in MANY), "users:x:100:\n"),
+    "lists": (ALICE(""), "users:x:100:\n" + "".join(f"g{number}:x:{number}:\n" for number in MANY)),
+    "listed": (ALICE(""), "users:x:100:\n" + "".join(f"g{number}:x:{number}:alice\n" for number in MANY)),
+    "long": (ALICE(""), "users:x:100:" + ",".join(f"u{number}" for number in MANY) + "\n"),
+}
+GETS = "unify: warning: group {} on host {} has {} and gets {}\n".format
+COMMENTS = "unify: warning: user {} has another comment on host {} than on {}\n".format
+# An inventory with three files, of which one stands on three lines; the second of these lines is joined of two.
+AGAIN = "# of alice\n./file uid=1001 gid=100\n/set uid=1001 gid=100\n\n  ./file \\\n  type=file\n. type=dir\nfile\n..\nother\n"
 # Hosts that are a without a file, and one whose passwd is refused and that has no inventory.
 LACKING = {"lacks-passwd": "passwd", "lacks-group": "group", "lacks-mtree": "mtree", "refused": "mtree"}
 
@@ -61,10 +81,10 @@ TABLE = [
     ("count map a=a b=b", 0, COUNTED, ""),
     ("count map a=odd=name b", 0, COUNTED, ""),
     ("count map a= b", 0, COUNTED, ""),
-    ("merge out a b", 0, COUNTED, ""),
-    ("merge --pins pins out a b", 0, COUNTED, ""),
-    ("merge -o out a b", 0, COUNTED, ""),
-    ("merge a b --output=out", 0, COUNTED, ""),
+    ("merge out a b", 0, COUNTED, TAKEN),
+    ("merge --pins pins out a b", 0, COUNTED, TAKEN),
+    ("merge -o out a b", 0, COUNTED, TAKEN),
+    ("merge a b --output=out", 0, COUNTED, TAKEN),
     # The name of a host is the last part of a path.
     ("count map ./a/ ./b/.", 0, COUNTED, ""),
     ("count map odd=name/../a b", 3, "", "unify: file name/../a/passwd: No such file or directory\n"),
@@ -78,19 +98,57 @@ TABLE = [
     ("count cut-map a b", 0, COUNTED, "unify: warning: file cut-map has no newline at its end\n"),
     ("count map a b=bare", 1, "", BARE + "unify: 40 BadMap line 0\n"),
     ("count --quiet map a b=bare", 1, "", "unify: 40 BadMap line 0\n"),
-    ("merge out a=returns b", 0, COUNTED, RETURNS),
+    ("merge out a=returns b", 0, COUNTED, RETURNS + TAKEN),
     ("merge out a b=bare", 0, NOTHING_COUNTED, BARE),
     ("merge -q out a b=bare", 0, NOTHING_COUNTED, ""),
-    ("merge --pins cut-pins out a b", 0, COUNTED, CUT),
+    ("merge --pins cut-pins out a b", 0, COUNTED, CUT + TAKEN),
     ("merge --pins cut-pins --quiet out a b", 0, COUNTED, ""),
     (
         "merge --pins other-pins out a b",
         0,
         COUNTED,
-        "unify: warning: pin of group wheel is for a name that no host has\n"
-        "unify: warning: pin of user carol\\011x is for a name that no host has\n",
+        NOBODY("group wheel", "") + NOBODY("user carol\\011x", "") + TAKEN,
     ),
     ("merge -q --pins other-pins out a b", 0, COUNTED, ""),
+    (
+        "merge --pins near-pins out a b=a",
+        0,
+        NOTHING_COUNTED,
+        NOBODY("user alcie", "; there is alice")
+        + NOBODY("user bobby", "")
+        + NOBODY("group user", "; there is users")
+        + NOBODY("group usres", "; there is users"),
+    ),
+    (
+        "merge out a=web b=db",
+        0,
+        NOTHING_COUNTED,
+        COMMENTS("alice", "b", "a") + GETS("sudo", "a", "alice", "bob, carol") + GETS("sudo", "b", "bob, carol", "alice"),
+    ),
+    ("merge -q out a=web b=db", 0, NOTHING_COUNTED, ""),
+    ("merge out a=crowd b=crowd", 0, NOTHING_COUNTED, "unify: warning: user alice is in 17 groups, and an NFS request carries 16\n"),
+    (
+        "merge out a=many b=more",
+        0,
+        NOTHING_COUNTED,
+        "".join(COMMENTS(f"u{number}", "b", "a") for number in MANY[:10])
+        + "unify: warning: more users with two comments: 2\n",
+    ),
+    (
+        "merge out a=lists b=listed",
+        0,
+        NOTHING_COUNTED,
+        "".join(GETS(f"g{number}", "a", "no member", "alice") for number in MANY[:10])
+        + "unify: warning: more groups that get members on a host: 2\n",
+    ),
+    (
+        "merge out a b=long",
+        0,
+        NOTHING_COUNTED,
+        GETS("users", "a", "no member", ", ".join(f"u{number}" for number in MANY[:8]) + " and others"),
+    ),
+    ("merge out a=again b=again", 0, NOTHING_COUNTED, "unify: warning: lines of inventories whose path stood there before: 4\n"),
+    ("merge -q out a=again b=again", 0, NOTHING_COUNTED, ""),
     ("check --pins cut-pins good a=returns b", 4, "", CUT + RETURNS + "unify: 32 PinBroken user bob\n"),
     ("check -q --pins cut-pins good a=returns b", 4, "", "unify: 32 PinBroken user bob\n"),
     # Refused texts, and certificates that are rejected.
@@ -147,7 +205,7 @@ TABLE = [
     ("rehearse bad none", 3, "", "unify: file none: No such file or directory\n"),
 ]
 # Words that have an answer for standard output, which is full.
-UNWRITTEN = ["count map a b", "merge out a b", "check good a b", "rehearse plan b/mtree", "--help", "--version"]
+UNWRITTEN = ["count map a b", "merge -q out a b", "check good a b", "rehearse plan b/mtree", "--help", "--version"]
 MERGED = {"passwd", "group", "map", "certificate", "report", "plan.a", "plan.b"}
 
 
@@ -165,6 +223,12 @@ def lay_out(room):
     for file in ("passwd", "group"):
         text = (room / "returns" / file).read_bytes()
         (room / "returns" / file).write_bytes(text + b"# a line that is skipped\r\n")
+    for host, tables in DOUBTED.items():
+        (room / host).mkdir()
+        for file, text in zip(("passwd", "group", "mtree"), (*tables, "./file uid=1001 gid=100\n")):
+            (room / host / file).write_text(text)
+    shutil.copytree(room / "web", room / "again")
+    (room / "again/mtree").write_text(AGAIN)
     (room / "bare").mkdir()
     for file in ("passwd", "group", "mtree"):
         (room / "bare" / file).write_text("#\n")

@@ -65,7 +65,7 @@ class Room:
         return ran.returncode, ran.stdout.decode("latin-1"), ran.stderr.decode("latin-1")
 
     def merge(self, *words):
-        status, out, err = self.run("merge", *words)
+        status, out, err = self.run("merge", "-q", *words)
         want(f"merge {' '.join(words)}", (0, ""), (status, err))
         return contents(self.out)
 
@@ -132,6 +132,38 @@ def replaced(room):
     for name in ("notes", "plan.md"):
         del later[name]
     want("a second merge, by the same pins", contents(fresh), later)
+
+
+def opened_for_reading(fifo, seconds=60):
+    """A FIFO opened for writing, once somebody has it open for reading."""
+    until = time.monotonic() + seconds
+    while time.monotonic() < until:
+        try:
+            return os.open(fifo, os.O_WRONLY | os.O_NONBLOCK)
+        except OSError:
+            time.sleep(0.01)
+    fail(str(fifo), "nobody reads it")
+
+
+def held(room):
+    """While a merge has OUT another one is refused and leaves it as it was, by whatever path; a kill lets go of it."""
+    earlier = room.merge("out", "a", "b")
+    (room.path / "link").symlink_to("out")
+    (room.path / "c/mtree").unlink()
+    os.mkfifo(room.path / "c/mtree")
+    first = subprocess.Popen([room.program, "merge", "out", "a", "c"], cwd=room.path, stdin=subprocess.DEVNULL)
+    try:
+        writer = opened_for_reading(room.path / "c/mtree")
+        for out in ("out", "link"):
+            told = f"unify: output {out}: another merge is writing there\n"
+            want(f"two merges into {out}", (2, "", told), room.run("merge", out, "a", "b"))
+        want("two merges: the files", earlier, contents(room.out))
+        want("two merges: the first", None, first.poll())
+    finally:
+        first.kill()
+        first.wait()
+    os.close(writer)
+    want("a merge behind one that was killed", earlier, room.merge("out", "a", "b"))
 
 
 def refused_later(room):
@@ -282,7 +314,7 @@ def main(words):
     for row in REFUSED:
         in_room(program, lambda room: refused(room, *row))
     print(f"directories that are refused: {len(REFUSED)}, each left as it was")
-    for test in (replaced, refused_later, inventory_linked):
+    for test in (replaced, held, refused_later, inventory_linked):
         in_room(program, test)
     links(program)
     full_disk(program)

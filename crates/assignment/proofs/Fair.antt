@@ -117,7 +117,6 @@ lowered_fair w s position names next d y z fair slack low =
           (λ (e : among position names t n ≡ true). omega (arith, low.y_in n e, fair.zero_left n l h))
           (λ (e : among position names t n ≡ false). omega (arith, low.y_out n e, fair.zero_left n l h))
           (cases_Bool (among position names t n));
-      waits = fair.waits;
     }
 
 pub lowered_tree : (w : ℕ → ℕ → ℕ) (s : Standing) (size root next d : ℕ) (position names parents : List ℕ) (y z : ℕ → ℕ) → IsFair w s next → IsTree w s size root position names parents → IsSlack w s position names d → IsLowered s y z position names (length names) d → IsTree w (with_duals s y z) size root position names parents
@@ -207,11 +206,7 @@ step_loose w s size next position names parents i v u given owner h pos had g =
           (λ (e : n ≡ name). absurd (none-some v (sym q ∙ ap given e ∙ g.there)))
           (λ (ne : n ≡ name → ⊥). h.zero_left n l (sym (g.others n ne) ∙ q))
           (cases_eq n name);
-      waits = λ n l.
-          ⊎_elim
-          (λ (e : n ≡ name). absurd (none-some u (sym (h.waits n l) ∙ ap s.given e ∙ had)))
-          (λ (ne : n ≡ name → ⊥). g.others n ne ∙ h.waits n l)
-          (cases_eq n name);
+      bare = g.others next (λ e. none-some u (sym h.bare ∙ ap s.given e ∙ had)) ∙ h.bare;
       link = let k = up.tight in subst (λ x. IsTightPair w (with_pairs s given owner) (get_or names (get_or parents i 0) 0) x) same (record { weighs = k.weighs; equal = k.equal });
       position_in = omega (arith, up.earlier, h.position_in);
       paired = h.paired;
@@ -249,7 +244,7 @@ last_fair w s size next position names parents v given owner h g =
           (λ (e : x ≡ v). let m : name ≡ n = same_Some _ _ (sym g.owns ∙ ap owner (sym e) ∙ q) in ap given (sym m) ∙ g.there ∙ ap Some (sym e))
           (λ (ne : x ≡ v → ⊥).
           let old : s.given n ≡ Some x = h.has n x ne (sym (g.other_owners x ne) ∙ q) in
-          let apart : n ≢ name = λ e. none-some x (sym (h.waits next (omega arith)) ∙ ap s.given (sym root ∙ sym e) ∙ old) in
+          let apart : n ≢ name = λ e. none-some x (sym h.bare ∙ ap s.given (sym root ∙ sym e) ∙ old) in
           g.others n apart ∙ old)
           (cases_eq x v);
       zero_free = λ x q.
@@ -262,9 +257,6 @@ last_fair w s size next position names parents v given owner h g =
           (λ (e : n ≡ name). absurd (none-some v (sym q ∙ ap given e ∙ g.there)))
           (λ (ne : n ≡ name → ⊥). h.zero_left n (omega (arith, root, ne)) (sym (g.others n ne) ∙ q))
           (cases_eq n name);
-      waits = λ n l.
-          let ne : n ≢ name = λ e. absurd (omega (arith, root, e)) in
-          g.others n ne ∙ h.waits n (omega arith);
     }
 
 -- whether a number is a name's

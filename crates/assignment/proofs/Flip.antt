@@ -36,7 +36,7 @@ not_first s t i v u f had =
     ⊎_elim
     (λ (e : i ≡ 0).
     let first : given_of s.pairs (root_of t) ≡ Some u = ap (λ k. given_of s.pairs (get_or t.names.items k 0)) (sym e) ∙ had in
-    absurd (none-some u (sym (f.loose.waits (root_of t) (omega arith)) ∙ first)))
+    absurd (none-some u (sym f.loose.bare ∙ first)))
     (λ (ne : i ≡ 0 → ⊥). omega (arith, ne))
     (cases_eq i 0)
 
@@ -89,7 +89,7 @@ flip_start s t i v q l free tight =
         has = λ n u _ h. fair.has n u h;
         zero_free = λ u _ h. fair.zero_free u h;
         zero_left = fair.zero_left;
-        waits = fair.waits;
+        bare = tree.bare;
         link = tight;
         position_in = l;
         paired = tree.paired;
@@ -155,10 +155,7 @@ leave_start s b t i u q l none had g =
             (λ (e : n ≡ name). ap (λ k. get_or s.duals.y.items k 0) e ∙ none)
             (λ (ne : n ≡ name → ⊥). fair.zero_left n a (sym (g.others n ne) ∙ h))
             (cases_eq n name);
-        waits = λ n a.
-            let old : given_of s.pairs n ≡ None = fair.waits n a in
-            let apart : n ≢ name = λ e. none-some u (sym old ∙ ap (given_of s.pairs) e ∙ had) in
-            g.others n apart ∙ old;
+        bare = g.others (root_of t) (λ e. none-some u (sym tree.bare ∙ ap (given_of s.pairs) e ∙ had)) ∙ tree.bare;
         link = let k = up.tight in subst (λ (x : ℕ). IsTightPair w after (get_or t.names.items (get_or t.parents.items i 0) 0) x) same (record { weighs = k.weighs; equal = k.equal });
         position_in = omega (arith, up.earlier);
         paired = tree.paired;
@@ -207,6 +204,5 @@ leave_end s b t i q l none had g =
             (λ (e : n ≡ name). ap (λ k. get_or s.duals.y.items k 0) e ∙ none)
             (λ (ne : n ≡ name → ⊥). fair.zero_left n (omega (arith, ne, root)) (sym (eg n) ∙ h))
             (cases_eq n name);
-        waits = λ n a. eg n ∙ fair.waits n (omega arith);
       };
     }

@@ -14,7 +14,8 @@ pub record IsTightPair (w : ℕ → ℕ → ℕ) (s : Standing) (n : ℕ) (v : �
   pub weighs : 0 < w n v
   pub equal : w n v ≡ s.y n + s.z v
 
--- The names below next were served: each has a number by a tight pair, or left with y zero. The others have none.
+-- The names below next were served: each has a number by a tight pair, or left with y zero. The others have one
+-- too, or wait.
 pub record IsFair (w : ℕ → ℕ → ℕ) (s : Standing) (next : ℕ) : Type 0 where
   pub cover : (n v : ℕ) → w n v ≤ s.y n + s.z v
   pub small : (n : ℕ) → s.y n < 2 ^ 63
@@ -23,7 +24,6 @@ pub record IsFair (w : ℕ → ℕ → ℕ) (s : Standing) (next : ℕ) : Type 0
   pub has : (n v : ℕ) → s.owner v ≡ Some n → s.given n ≡ Some v
   pub zero_free : (v : ℕ) → s.owner v ≡ None → s.z v ≡ 0
   pub zero_left : (n : ℕ) → n < next → s.given n ≡ None → s.y n ≡ 0
-  pub waits : (n : ℕ) → next ≤ n → s.given n ≡ None
 
 -- n is among the first t names of a tree, where position tells the position of each of its names
 abbrev pub among : List ℕ → List ℕ → ℕ → ℕ → Bool
@@ -71,7 +71,7 @@ pub record IsLoose (w : ℕ → ℕ → ℕ) (s : Standing) (size : ℕ) (next :
   pub has : (n u : ℕ) → u ≢ v → s.owner u ≡ Some n → s.given n ≡ Some u
   pub zero_free : (u : ℕ) → u ≢ v → s.owner u ≡ None → s.z u ≡ 0
   pub zero_left : (n : ℕ) → n < next → s.given n ≡ None → (s.y n ≡ 0)
-  pub waits : (n : ℕ) → next ≤ n → s.given n ≡ None
+  pub bare : s.given next ≡ None
   pub link : IsTightPair w s (slice_index names i) v
   pub position_in : i < length names
   pub paired : length parents ≡ length names

@@ -21,30 +21,44 @@ pub struct Duals {
     pub z: BTreeMap<u32, u64>,
 }
 
-/// The greatest weight of a row.
-fn heaviest(row: &[Candidate]) -> u64
-    requires { All IsWeighed row.now }
-    ensures covers { (v : ℕ) → weight_in row.now v ≤ result }
-    ensures small { result < 2 ^ 63 }
+/// The potential of a number: 0, if none is there.
+fn value_in(z: &BTreeMap<u32, u64>, number: u32) -> u64
+    ensures { result ≡ unwrap_or (btree.get nat_cmp z.now number) 0 }
 {
-    let mut most = 0;
-    for candidate in row {
-        if most < candidate.weight {
-            most = candidate.weight;
-        }
-    }
-    most
+    z.get(&number).copied().unwrap_or(0)
 }
 
-/// Each name's y at first: the greatest weight of its row.
-pub fn first_y(alloc: Global, rows: &Rows<'_, '_>) -> Result<Vec<u64>, AllocError>
+/// The least y with which a row is covered.
+fn least_y(row: &[Candidate], z: &BTreeMap<u32, u64>) -> u64
+    requires { All IsWeighed row.now }
+    ensures covers { (v : ℕ) → weight_in row.now v ≤ result + unwrap_or (btree.get nat_cmp z.now v) 0 }
+    ensures small { result < 2 ^ 63 }
+{
+    let mut least = 0;
+    for candidate in row {
+        let high = candidate
+            .weight
+            .saturating_sub(value_in(z, candidate.number));
+        if least < high {
+            least = high;
+        }
+    }
+    least
+}
+
+/// Each name's y at first: the least with which its row is covered.
+pub fn first_y(
+    alloc: Global,
+    rows: &Rows<'_, '_>,
+    z: &BTreeMap<u32, u64>,
+) -> Result<Vec<u64>, AllocError>
     ensures long { IfOk result (λ y. length y.items ≡ length rows.now.rows) }
-    ensures covers { IfOk result (λ y. (n v : ℕ) → row_weight rows.now n v ≤ slice_index y.items n) }
+    ensures covers { IfOk result (λ y. (n v : ℕ) → row_weight rows.now n v ≤ slice_index y.items n + unwrap_or (btree.get nat_cmp z.now v) 0) }
     ensures small { IfOk result (λ y. (n : ℕ) → slice_index y.items n < 2 ^ 63) }
 {
     let mut y = Vec::new(alloc);
     for name in 0..rows.len() {
-        y.push(heaviest(rows.row(name)))?;
+        y.push(least_y(rows.row(name), z))?;
     }
     Ok(y)
 }
@@ -65,7 +79,7 @@ impl Duals {
     pub fn value(&self, number: u32) -> u64
         ensures { result ≡ unwrap_or (btree.get nat_cmp self.now.z number) 0 }
     {
-        self.z.get(&number).copied().unwrap_or(0)
+        value_in(&self.z, number)
     }
 
     /// Lowers a name, and raises its number if it has one.

@@ -1,6 +1,8 @@
-//! The least re-owning as an assignment problem: which number each name keeps so that the weights add up to the most, with
-//! potentials that certify it. Successive shortest augmenting paths with dual potentials (Kuhn 1955, Munkres 1957; the search
-//! with reduced weights is that of Edmonds and Karp 1972 and of Tomizawa 1971) over sparse rows.
+//! The least re-owning as an assignment problem: which number each name keeps so that the weights add up to the
+//! most, with potentials that certify it. Successive shortest augmenting paths with dual potentials (Kuhn 1955,
+//! Munkres 1957; the search with reduced weights is that of Edmonds and Karp 1972 and of Tomizawa 1971) over sparse
+//! rows. They begin with a guess, which is checked (certifying algorithms: McConnell, Mehlhorn, Naeher and
+//! Schweitzer 2011).
 #![tactic(auto)]
 
 ghost use Rattle.std.specs.Prelude.{IfOk, List};
@@ -13,15 +15,19 @@ ghost use Rattle.candidates.specs.Rows.{AreRowsOf};
 ghost use Rattle.assignment.specs.Solutions.{Proves, IsFreshIn, WeakDuality};
 
 mod duals;
+mod graph;
+mod guess;
 mod pairs;
 mod queue;
 mod search;
 mod solver;
+mod start;
 mod tree;
 
 use crate::duals::listed;
 use crate::solver::Solver;
-use candidates::{Mapping, Rows};
+use candidates::Rows;
+use ownership::Mapping;
 use std::alloc::{AllocError, Global};
 use thiserror::Error;
 
@@ -52,13 +58,16 @@ impl From<AllocError> for SolveFault {
 /// The mapping that leaves the most weight as it is, with potentials that certify it. Names that keep no candidate have, in
 /// byte order, the smallest numbers of their pools that no name had before. It fails for want of memory alone.
 ///
-/// Names are served one by one, each by a search for a shortest augmenting path, which ends once nothing is nearer than the
-/// nearest way out that it saw: a number that nobody has, or a name that leaves. With E candidates in the rows of the names
-/// that a search reaches it takes E log E steps, for its heap and for look-ups by number, and looks up only those that can be
-/// nearer than that way out; it reaches a further name only over a number that this name was given, and no table of the site's
-/// size is cleared or read for it. So the time is near linear where few names want one number or where most names find one
-/// that is free, and at worst all names times all candidates times a logarithm. Of memory a name takes 24
-/// bytes and a number that was given some 40, beside one search's names and candidates and the memory of the fill.
+/// It begins with a guess, made in flat lists: names are served many in one turn, or alone where that is cheaper.
+/// What of the guess is seen to be right is kept, and names that are left are served one by one, each by a search
+/// for a shortest augmenting path, which ends once nothing is nearer than the nearest way out that it saw: a number
+/// that nobody has, or a name that leaves. A turn or a search that reaches names with E candidates takes E log E
+/// steps. A turn of all names serves at least one of them and mostly many; a search reaches a further name only
+/// over a number that this name was given, and no table of the site's size is cleared or read for it. So the time
+/// is near linear where few names want one number, where most names find one that is free, and where many weights
+/// are equal; at worst it is all names times all candidates times a logarithm. Of memory the guess takes at most 40
+/// bytes a candidate, some 100 a name and 40 a number, beside what its lists have to spare; then a name takes 24
+/// bytes and a number that was given some 80, beside one search's names and candidates and the memory of the fill.
 pub fn solve(alloc: Global, rows: &Rows<'_, '_>) -> Result<Solution, SolveFault>
     ensures admissible { IfOk result (λ s. IsAdmissible rows.now.accounts s.mapping) }
     ensures proves { IfOk result (λ s. Proves rows.now s.mapping s.y.items s.z.items) }

@@ -29,6 +29,14 @@ impl Pairs {
         self.owner.get(&number).copied()
     }
 
+    /// The number of a name.
+    pub fn number_of(&self, name: u32) -> Option<u32>
+        requires { name < length self.now.given.items }
+        ensures { result ≡ slice_index_or self.now.given.items name None }
+    {
+        self.given[name as usize]
+    }
+
     /// Whether the number's owner is in the tree.
     pub fn holds(&self, tree: &Tree, number: u32) -> bool
         requires { (n : ℕ) → btree.get nat_cmp self.now.owner number ≡ Some n → n < length tree.now.position.items }

@@ -1,5 +1,5 @@
 //! One search: from a waiting name to a number that nobody has, or to a name that leaves.
-ghost use Rattle.std.specs.Prelude.{◌≡◌, ℕ, ◌+◌, ◌-◌, ◌<◌, ◌≤◌, length, IfOk, OnOk, IfSome, ◌⊎◌, slice_index, Some};
+ghost use Rattle.std.specs.Prelude.{◌≡◌, ℕ, ◌+◌, ◌-◌, ◌<◌, ◌≤◌, length, IfOk, OnOk, IfSome, ◌⊎◌, slice_index, slice_index_or, Some, None};
 ghost use Rattle.std.specs.BTreeMap as btree;
 ghost use Rattle.std.specs.Ordering.{nat_cmp};
 ghost use Rattle.std.specs.BinaryHeap.{heap_items};
@@ -172,6 +172,7 @@ impl Solver<'_, '_, '_> {
     ) -> Result<(), AllocError>
         requires serving { IsServing self.old root }
         requires root { root < length self.old.rows.now.rows }
+        requires bare { slice_index_or self.old.pairs.given.items root None ≡ None }
         requires position { length tree.old.position.items ≡ length self.old.rows.now.rows }
         ensures rows { self.new.rows.now ≡ self.old.rows.now }
         ensures position { length tree.new.position.items ≡ length tree.old.position.items }

@@ -2,13 +2,12 @@
 ghost use Rattle.std.specs.Prelude.{◌≡◌, ◌+◌, ◌<◌, length, IfOk, OnOk};
 ghost use Rattle.assignment.specs.Solving.{IsServing};
 
-use crate::duals::{Duals, first_y};
+use crate::duals::Duals;
 use crate::pairs::Pairs;
 use crate::queue::Queue;
 use crate::tree::Tree;
 use candidates::Rows;
 use std::alloc::{AllocError, Global};
-use std::collections::BTreeMap;
 
 /// What was given so far, with the potentials.
 #[derive(Drop)]
@@ -19,25 +18,7 @@ pub struct Solver<'r, 'n, 'a> {
 }
 
 impl<'r, 'n, 'a> Solver<'r, 'n, 'a> {
-    /// Nobody was served yet.
-    fn new(alloc: Global, rows: &'r Rows<'n, 'a>) -> Result<Self, AllocError>
-        ensures rows { IfOk result (λ s. s.rows.now ≡ rows.now) }
-        ensures served { IfOk result (λ s. IsServing s 0) }
-    {
-        Ok(Solver {
-            rows,
-            duals: Duals {
-                y: first_y(alloc, rows)?,
-                z: BTreeMap::new(alloc),
-            },
-            pairs: Pairs {
-                given: vec![in alloc; None; rows.len() as usize]?,
-                owner: BTreeMap::new(alloc),
-            },
-        })
-    }
-
-    /// Serves the next name, by a search where its y is not 0.
+    /// Serves the next name, by a search where it has no number and its y is not 0.
     fn serve(&mut self, tree: &mut Tree, queue: &mut Queue, root: u32) -> Result<(), AllocError>
         requires serving { IsServing self.old root }
         requires root { root < length self.old.rows.now.rows }
@@ -46,6 +27,9 @@ impl<'r, 'n, 'a> Solver<'r, 'n, 'a> {
         ensures position { length tree.new.position.items ≡ length tree.old.position.items }
         ensures served { OnOk result (IsServing self.new (root + 1)) }
     {
+        if self.pairs.number_of(root).is_some() {
+            return Ok(());
+        }
         if self.duals.y[root as usize] == 0 {
             return Ok(());
         }
@@ -57,7 +41,7 @@ impl<'r, 'n, 'a> Solver<'r, 'n, 'a> {
         ensures rows { IfOk result (λ s. s.rows.now ≡ rows.now) }
         ensures served { IfOk result (λ s. IsServing s (length rows.now.rows)) }
     {
-        let mut solver = Solver::new(alloc, rows)?;
+        let mut solver = Solver::begun(alloc, rows)?;
         let mut tree = Tree::new(alloc, rows.len() as usize)?;
         let mut queue = Queue::new(alloc);
         for root in 0..rows.len() {

@@ -7,10 +7,9 @@ use Rattle.hosts_join.specs.Rules.{in_pool, is_free_class, class_at}
 use Rattle.hosts_join.specs.declared.Class.{Class}
 use Rattle.hosts_join.specs.declared.Class.TheVariants.{Pinned, Regular, System}
 use Rattle.candidates.specs.declared.Candidate.{Candidate}
-use Rattle.candidates.specs.Mapping.{IsMapping}
 use Rattle.candidates.specs.Rows.{Choices, AreRows, row_at, weight_in}
 use Rattle.candidates.specs.Fill.{gift, IsPartial, Waits}
-use Rattle.ownership.specs.Mappings.{number_at, AreDistinct, IsAdmissible, MayHave}
+use Rattle.ownership.specs.Mappings.{IsMapping, number_at, AreDistinct, IsAdmissible, MayHave}
 use Rattle.ownership.specs.Weights.{IsFilled}
 use Rattle.candidates.specs.Settled.{settled, settled_by, IsStart, IsDone}
 use Rattle.candidates.proofs.FillLemmas.{some-none, some-same, none-past}

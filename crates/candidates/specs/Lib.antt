@@ -1,6 +1,5 @@
 pub mod Rows
 pub mod Fill
-pub mod Mapping
 pub mod Told
 pub mod RowsInside
 pub mod Settled

@@ -16,13 +16,11 @@ ghost use Rattle.candidates.specs.Told.{IsToldRow};
 
 mod fill;
 mod filling;
-mod mapping;
 
 use crate::fill::{fill, settle, waiting};
 use crate::filling::Filling;
 use hosts_join::{Names, Pool, Spot};
-pub use mapping::Mapping;
-use ownership::KindCounts;
+use ownership::{KindCounts, Mapping};
 use smallvec::SmallVec;
 use std::alloc::{AllocError, Global};
 use std::marker::Model;

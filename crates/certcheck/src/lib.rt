@@ -27,6 +27,6 @@ pub use checking::check;
 pub use fault::CheckFault;
 pub use laws::certificates_are_spelled;
 pub use lines::read_certificate;
-pub use making::{certificate_of, side_of};
+pub use making::side_of;
 pub use reading::CertificateFault;
 pub use writing::write_certificate;

@@ -9,7 +9,6 @@ ghost use Rattle.certcheck.specs.Made.{AreRowsOf, IsSolutionFor, IsSideOf};
 ghost use Rattle.certcheck.specs.Views.{rows_of};
 
 use crate::{CertRow, Side};
-use assignment::Solution;
 use hosts_join::Names;
 use std::alloc::{AllocError, Global};
 
@@ -63,25 +62,4 @@ pub fn side_of<'a>(
     sort_rows(&mut rows);
     let z = Vec::from_slice(alloc, z)?;
     Ok(Side::new(rows, z))
-}
-
-/// The side that tells a solution for these names: each with its number and its potential, and the potentials of numbers. Asked
-/// is a number that an account may have and a y for each name, and z of at least 1 at ascending numbers that an account may
-/// have, as the solution that `solve` gives for the rows of these names has them. Its cost and memory are those of `side_of`.
-pub fn certificate_of<'a>(
-    alloc: Global,
-    names: &Names<'a>,
-    solution: &Solution,
-) -> Result<Side<'a>, AllocError>
-    requires { IsSolutionFor names.now solution.now.mapping solution.now.y.items solution.now.z.items }
-    ensures side { IfOk result (IsSideOf names.now solution.now.mapping solution.now.y.items solution.now.z.items) }
-    ensures ordered { IfOk result IsSide }
-{
-    side_of(
-        alloc,
-        names,
-        solution.mapping.numbers(),
-        &solution.y,
-        &solution.z,
-    )
 }

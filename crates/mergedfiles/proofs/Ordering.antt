@@ -13,16 +13,16 @@ use Rattle.std.proofs.lemmas.Map.Keys.{IsDistinct-head, IsDistinct-tail, IsDisti
 use Rattle.mergedfiles.specs.Order.{put, in_order}
 
 -- the item is one of the list
-abbrev In : {X : Type 0} → X → List X → Type 0
+abbrev pub In : {X : Type 0} → X → List X → Type 0
 In x [] = ⊥
 In x (y ∷ ys) = (x ≡ y) ⊎ In x ys
 
-in-at : {X : Type 0} (x d : X) (xs : List X) (k : ℕ) → k < length xs → get_or xs k d ≡ x → In x xs
+pub in-at : {X : Type 0} (x d : X) (xs : List X) (k : ℕ) → k < length xs → get_or xs k d ≡ x → In x xs
 in-at x d [] k h e = absurd (omega arith)
 in-at x d (y ∷ xs) zero h e = inl (sym e)
 in-at x d (y ∷ xs) (suc k) h e = inr (in-at x d xs k (omega arith) e)
 
-at-in : {X : Type 0} (x : X) (xs : List X) → In x xs → Contains xs x
+pub at-in : {X : Type 0} (x : X) (xs : List X) → In x xs → Contains xs x
 at-in x [] i = absurd i
 at-in x (y ∷ xs) (inl e) = (0, omega arith, sym e)
 at-in x (y ∷ xs) (inr i) = let c = at-in x xs i in (suc c.0, omega (arith, c.1), c.2)
@@ -69,13 +69,13 @@ module _ {K : Type 0} {R : K → K → Ordering} (o : IsTotalOrder R) {X : Type 
   turned x y (inl t) f = absurd (both_ways (before x y) f t)
   turned x y (inr t) f = t
 
-  abbrev Ahead : X → List X → Type 0
+  abbrev pub Ahead : X → List X → Type 0
   Ahead x ys = (y : X) → In y ys → before x y ≡ true
 
   abbrev AllApart : X → List X → Type 0
   AllApart x ys = (y : X) → In y ys → Apart x y
 
-  abbrev Ascends : List X → Type 0
+  abbrev pub Ascends : List X → Type 0
   Ascends [] = Unit {0}
   Ascends (x ∷ xs) = Ahead x xs × Ascends xs
 
@@ -115,12 +115,12 @@ module _ {K : Type 0} {R : K → K → Ordering} (o : IsTotalOrder R) {X : Type 
   among z x xs ys rest (inl e) = inl e
   among z x xs ys rest (inr i) = inr (rest i)
 
-  ordered-in : (z : X) (xs : List X) → In z (in_order before xs) → In z xs
+  pub ordered-in : (z : X) (xs : List X) → In z (in_order before xs) → In z xs
   unfolding in_order
   ordered-in z [] i = i
   ordered-in z (x ∷ xs) i = among z x xs (in_order before xs) (ordered-in z xs) (put-in z x (in_order before xs) i)
 
-  in-ordered : (z : X) (xs : List X) → In z xs → In z (in_order before xs)
+  pub in-ordered : (z : X) (xs : List X) → In z xs → In z (in_order before xs)
   unfolding in_order
   in-ordered z [] i = i
   in-ordered z (x ∷ xs) (inl e) = in-put z x (in_order before xs) (inl e)
@@ -142,7 +142,7 @@ module _ {K : Type 0} {R : K → K → Ordering} (o : IsTotalOrder R) {X : Type 
     | inr f ↦ rw f ((λ z i. ahead-put x y ys (turned x y (differ y (inl refl)) f) a.0 z (put-in z x ys i)), ascends-put x ys (λ z i. differ z (inr i)) a.1)
   ]
 
-  ascends-in_order : (xs : List X) → Differ xs → Ascends (in_order before xs)
+  pub ascends-in_order : (xs : List X) → Differ xs → Ascends (in_order before xs)
   unfolding in_order
   ascends-in_order [] d = tt
   ascends-in_order (x ∷ xs) d = ascends-put x (in_order before xs) (λ z i. d.0 z (ordered-in z xs i)) (ascends-in_order xs d.1)
@@ -152,7 +152,7 @@ module _ {K : Type 0} {R : K → K → Ordering} (o : IsTotalOrder R) {X : Type 
   all-apart x (z ∷ xs) a y (inl e) = rw e (apart x z a.0)
   all-apart x (z ∷ xs) a y (inr i) = all-apart x xs a.1 y i
 
-  differ : (xs : List X) → IsDistinct tied xs → Differ xs
+  pub differ : (xs : List X) → IsDistinct tied xs → Differ xs
   differ [] d = tt
   differ (x ∷ xs) d = (all-apart x xs (IsDistinct-head tied x xs d), differ xs (IsDistinct-tail tied x xs d))
 

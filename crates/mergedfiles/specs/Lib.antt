@@ -1,7 +1,11 @@
 pub mod Rows
 pub mod Order
 pub mod Texts
+pub mod HostFiles
+pub mod HostExample
 pub mod Differences
 pub mod Together
+pub mod ReadBack
+pub mod HostReadBack
 pub mod Spots
 pub mod Seen

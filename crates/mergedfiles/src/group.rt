@@ -12,10 +12,10 @@ ghost use Rattle.mergedfiles.specs.Together.{AreJoined};
 
 use crate::order::by_number;
 use crate::rows::{GroupOn, groups_at};
-use candidates::Mapping;
 use hosts_join::{Host, Site, Spot};
 use idtext::push_number;
 use indexmap::IndexSet;
+use ownership::Mapping;
 use std::alloc::{AllocError, Global};
 
 /// Appends a field, and the colon behind it.

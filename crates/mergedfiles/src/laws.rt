@@ -1,9 +1,13 @@
-//! What a join answers is what the texts ask for.
+//! Laws of joined sites and of the merged texts, each the contract of a call that does nothing.
 ghost use Rattle.std.specs.Prelude.{◌≡◌, ◌≢◌, ◌<◌, ℕ, List, [], length, Ok};
 ghost use Rattle.hosts_join.specs.PinPairs.{PinPairs};
 ghost use Rattle.hosts_join.specs.Rules.{account};
 ghost use Rattle.hosts_join.specs.Site.{Joined, joined_site};
 ghost use Rattle.hosts_join.specs.declared.host.Host.{Host};
+ghost use Rattle.mergedfiles.specs.HostExample.{ExampleOfGroup, ExampleOfPasswd};
+ghost use Rattle.mergedfiles.specs.HostReadBack.{HostGroupReadsBack, HostNamesAreKept};
+ghost use Rattle.mergedfiles.specs.HostReadBack.{HostPasswdReadsBack};
+ghost use Rattle.mergedfiles.specs.ReadBack.{MergedPasswdReadsBack, MergedGroupReadsBack};
 ghost use Rattle.mergedfiles.specs.Rows.{users_named, groups_named};
 ghost use Rattle.mergedfiles.specs.Together.{AreJoined};
 
@@ -16,4 +20,56 @@ pub fn joined_together()
 pub fn names_have_rows()
     ensures users { (hosts : List Host) (site : Joined) (i : ℕ) → AreJoined hosts site → i < length site.users.names → users_named (account site.users i).name hosts ≢ [] }
     ensures groups { (hosts : List Host) (site : Joined) (i : ℕ) → AreJoined hosts site → i < length site.groups.names → groups_named (account site.groups i).name hosts ≢ [] }
+{}
+
+/// The merged passwd reads back: each of its lines is the row of a user, with the new number of the user, the new
+/// number of the primary group that the first host with this user gives it, and that host's other fields. There is
+/// exactly one for each user name, and they ascend by number. Where the text keeps the limits of a passwd file,
+/// these rows are its table.
+pub fn merged_passwd_reads_back()
+    ensures { MergedPasswdReadsBack }
+{}
+
+/// The merged group reads back: each of its lines is the row of a group, with its new number, the password of the
+/// first host with this group, and its users on all hosts. There is exactly one for each group name, and they
+/// ascend by number. Where the text keeps the limits of a group file, these rows are its table.
+pub fn merged_group_reads_back()
+    ensures { MergedGroupReadsBack }
+{}
+
+/// A host's own passwd reads back with its new numbers. Each line stands at the place that it
+/// had: one that the reader skips is the same, byte by byte, and any other is read as the row
+/// that it was, with the new number of its name as uid and, as gid, the new number of the group
+/// that has the old gid on the host. If the text has a table, it is that of the host, row by row
+/// so renumbered; it has one where it keeps the limits of a passwd file. It names the new number
+/// of a user as the user that the old one was.
+///
+/// Source: passwd(5).
+pub fn host_passwd_reads_back()
+    ensures { HostPasswdReadsBack }
+{}
+
+/// A host's own group reads back with its new numbers. Each line stands at the place that it had:
+/// one that the reader skips is the same, byte by byte, and any other is read as the row that it
+/// was, with the new number of its name as gid and the same user list. If the text has a table,
+/// it is that of the host, row by row so renumbered; it has one where it keeps the limits of a
+/// group file. It names the new number of a group as the group that the old one was.
+///
+/// Source: group(5).
+pub fn host_group_reads_back()
+    ensures { HostGroupReadsBack }
+{}
+
+/// By the tables of a host's own passwd and group with their new numbers, the number that a plan
+/// gives in place of an old one is the number of the same user, and of the same group, as the old
+/// one is by the host's tables.
+pub fn host_names_are_kept()
+    ensures { HostNamesAreKept }
+{}
+
+/// An example of a host's own passwd and group: two users exchange their numbers, and two groups;
+/// comments, empty lines and the end of the text stay as they are, and leading zeros go.
+pub fn host_files_by_example()
+    ensures passwd { ExampleOfPasswd }
+    ensures group { ExampleOfGroup }
 {}

@@ -7,6 +7,7 @@
 
 mod differing;
 mod group;
+mod host_files;
 mod laws;
 mod order;
 mod passwd;
@@ -14,9 +15,13 @@ mod rows;
 
 pub use differing::differences;
 pub use group::group_text;
+pub use host_files::{host_group_text, host_passwd_text};
 use hosts_join::Which;
 use idtext::Name;
-pub use laws::{joined_together, names_have_rows};
+pub use laws::{
+    host_files_by_example, host_group_reads_back, host_names_are_kept, host_passwd_reads_back,
+    joined_together, merged_group_reads_back, merged_passwd_reads_back, names_have_rows,
+};
 pub use order::by_name;
 pub use passwd::passwd_text;
 

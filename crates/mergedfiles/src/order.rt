@@ -5,8 +5,8 @@ ghost use Rattle.hosts_join.specs.Rules.{account};
 ghost use Rattle.mergedfiles.specs.Order as order;
 ghost use Rattle.mergedfiles.specs.Seen.{name_of};
 
-use candidates::Mapping;
 use hosts_join::Names;
+use ownership::Mapping;
 use std::alloc::{AllocError, Global};
 
 /// The indices of names, each with its number, ascending by number.

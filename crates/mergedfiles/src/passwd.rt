@@ -12,8 +12,8 @@ ghost use Rattle.mergedfiles.specs.Together.{AreJoined};
 use crate::group::{push_field, push_number_field};
 use crate::order::by_number;
 use crate::rows::{UserOn, user_at};
-use candidates::Mapping;
 use hosts_join::{Host, Names, Site, Spot};
+use ownership::Mapping;
 use std::alloc::{AllocError, Global};
 
 /// The first row of a user on the hosts of spots.

@@ -30,7 +30,7 @@ pub record ReadTo (path part rest : List ℕ) (bad : Bool) (whole : List ℕ) : 
   pub path_is : joined_onto path (components_after part (characters rest)) ≡ whole
 
 -- a part that is kept or not, in front of the components to come
-kept-joined : (path part : List ℕ) (parts : List (List ℕ)) (kept : Bool) → joined_onto path (cond kept (part ∷ parts) parts) ≡ joined_onto (cond kept (onto path part) path) parts
+pub kept-joined : (path part : List ℕ) (parts : List (List ℕ)) (kept : Bool) → joined_onto path (cond kept (part ∷ parts) parts) ≡ joined_onto (cond kept (onto path part) path) parts
 kept-joined path part parts true = refl
 kept-joined path part parts false = refl
 

@@ -1,8 +1,9 @@
 -- A reader stands for the text so far.
 use Rattle.std.proofs.Common.{◌≡◌, ℕ, Bool, true, false, List, [], ◌∷◌, ◌++◌, refl, sym, ap, ◌∙◌, append-nil, append_assoc, subst}
-use Rattle.std.specs.Prelude.{Option, Some, None, Ok, Err, IfSome, IfNone}
+use Rattle.std.specs.Prelude.{Option, Some, None, Result, Ok, Err, IfSome, IfNone}
 use Rattle.idtext.specs.First.{first_fault, unless}
 use Rattle.idtext.specs.declared.faults.TextFault.{TextFault}
+use Rattle.idtext.proofs.OkLemmas.{unless_ok}
 use Rattle.idtext.specs.declared.faults.ReadError.{ReadError}
 use Rattle.idtext.specs.declared.faults.ReadError.TheVariants.{Memory, Fault}
 use Rattle.mtree_inv.specs.declared.entry.Entry.{Entry}
@@ -205,3 +206,32 @@ pub whole_refused : (o : Option ReadError) (most : ℕ) (text : List ℕ) (fault
 whole_refused (Some x) most text fault e h = absurd (cc)
 whole_refused None most text Memory e h = tt
 whole_refused None most text (Fault f) e h = ap (inventory most) (sym (append-nil text)) ∙ h []
+
+-- ---- the whole lines of a text, beside all of it
+
+-- a fault of the whole lines is that of the text
+pub whole_lines_refused : (most : ℕ) (text : List ℕ) (f : TextFault) → inventory_of_lines most (whole_lines text) ≡ Err f → inventory most text ≡ Err f
+whole_lines_refused most text f h = by (read_bytes most start text).fault refl
+  where
+    by : (o : Option TextFault) → (read_bytes most start text).fault ≡ o → inventory most text ≡ Err f
+    by None e =
+        let files = (read_bytes most start text).kept.files in
+        absurd (let no : ◌≡◌ {A = Result (List Entry) TextFault} (Ok files) (Err f) = ap (λ (o : Option TextFault). unless o files) (sym e) ∙ sym (whole_inventory most text) ∙ h in cc)
+    by (Some g) e =
+        all_inventory most text
+        ∙ ap (λ (m : Reading). unless m.fault m.kept.files) (failed_finish most text g e)
+        ∙ sym (whole_inventory most text) ∙ h
+
+-- the whole lines of a text that is accepted have the first of its files
+pub whole_lines_accepted : (most : ℕ) (text : List ℕ) (files : List Entry) → inventory most text ≡ Ok files → (front : List Entry) × (inventory_of_lines most (whole_lines text) ≡ Ok front) × Grows front files
+whole_lines_accepted most text files h = by (read_bytes most start text).fault refl
+  where
+    by : (o : Option TextFault) → (read_bytes most start text).fault ≡ o → (front : List Entry) × (inventory_of_lines most (whole_lines text) ≡ Ok front) × Grows front files
+    by None e =
+        let m = read_bytes most start text in
+        let last = finished most m in
+        let is = unless_ok last.fault last.kept.files files (sym (all_inventory most text) ∙ h) in
+        (m.kept.files, whole_inventory most text ∙ ap (λ (o : Option TextFault). unless o m.kept.files) e, subst (Grows m.kept.files) is.1 (finished-grows most m))
+    by (Some g) e =
+        let m = read_bytes most start text in
+        absurd (let no : ◌≡◌ {A = Result (List Entry) TextFault} (Err g) (Ok files) = ap (λ (o : Option TextFault). unless o m.kept.files) (sym e) ∙ ap (λ (r : Reading). unless r.fault r.kept.files) (sym (failed_finish most text g e)) ∙ sym (all_inventory most text) ∙ h in cc)

@@ -65,9 +65,8 @@ fn all_entries(alloc: Global, reader: Reader) -> Result<Vec<Entry>, ReadError>
 /// in this order. The line is counted from 1, and of lines that are joined it is the first. `ReadError::Memory` says that
 /// memory was refused.
 ///
-/// One pass over the text and over the whole path of each entry; one or two look-ups by hash an entry. Each path stands in
-/// memory twice until the call returns; until then it also keeps the current directory's path and a number for each open
-/// directory.
+/// It takes the time of one `Reader::feed`. Each path stands in memory whole, and there may be far more of them than of the
+/// text, where directories stand in directories; until the call returns, there is also what a `Reader` keeps.
 pub fn read_inventory(alloc: Global, text: &[u8], most: u32) -> Result<Inventory, ReadError>
     ensures exact { Gives (λ inventory. inventory) fault_told result (inventory most text.now) }
     ensures few { IfOk result (λ inventory. length inventory ≤ most) }

@@ -23,6 +23,7 @@ mod defaults;
 mod entry;
 mod fault;
 mod files;
+mod fronts;
 mod inventory;
 mod laws;
 mod open_line;

@@ -9,8 +9,10 @@ use std::marker::Model;
 /// Reads the inventory of an mtree text that comes in pieces, however it is cut, by mtree(5) and the profile that this crate's
 /// page states. Files can be taken while it reads.
 ///
-/// It keeps each path once and the line in progress, of which it keeps 65,535 bytes at most, and not the text. A file that
-/// waits to be taken has a copy of its path. It also keeps the current directory's path and a number for each open directory.
+/// It keeps the files, the line in progress, of which it keeps 65,535 bytes at most, the current directory's path and a number
+/// for each open directory, and not the text. Of the paths it keeps what many begin with once, and at most 256 bytes more of
+/// each, so its memory is in step with the text that came, whoever named the files. Only a file that waits to be taken has
+/// its whole path.
 #[derive(Drop)]
 pub struct Reader {
     parts: Parts,
@@ -57,7 +59,9 @@ impl Reader {
     /// logical lines so far have a fault, with the first, and `ReadError::Memory` where memory was refused. After a fault,
     /// `Memory` too, it is always that one and nothing changes; files read before it can still be taken.
     ///
-    /// One pass over the piece and over the whole path of each entry; one or two look-ups by hash an entry.
+    /// One pass over the piece and over the whole path of each entry. For each 256 bytes of a path there are one or two
+    /// look-ups in a search tree, each with a few comparisons of at most as many bytes, whatever the paths are: about one for
+    /// each binary digit of the number of files.
     pub fn feed(&mut self, piece: &[u8]) -> Result<(), ReadError>
         requires { self.old.is_finished ≡ false }
         ensures stands { (text : List ℕ) → StandsFor self.old text → StandsFor self.new (text ++ piece.now) }

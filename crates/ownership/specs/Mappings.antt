@@ -1,6 +1,6 @@
 -- Mappings: a number for each name of a kind, by the index of the name.
 -- Source: the assignment problem; which numbers a name may have is this project's own rule.
-use Rattle.std.specs.Prelude.{◌≡◌, ℕ, ◌<◌, true, List, length, slice_index_or, Option, Some, None}
+use Rattle.std.specs.Prelude.{◌≡◌, ℕ, ◌<◌, ◌≤◌, true, List, All, length, slice_index_or, Option, Some, None}
 use Rattle.hosts_join.specs.Accounts.{Accounts}
 use Rattle.hosts_join.specs.Rules.{class_at, in_pool}
 use Rattle.hosts_join.specs.Site.{Joined}
@@ -25,6 +25,11 @@ MayHave a System v = in_pool a System v ≡ true
 -- no two names have one number
 abbrev pub AreDistinct : List ℕ → Type 0
 AreDistinct m = (i j : ℕ) → i < length m → j < length m → number_at m i ≡ number_at m j → i ≡ j
+
+-- What a mapping is: numbers that an account may have, no two of them the same.
+pub record IsMapping (m : List ℕ) : Type 0 where
+  pub distinct : AreDistinct m
+  pub ids : All (λ v. v ≤ 4294967294) m
 
 -- An admissible mapping (of the assignment problem): each name has a number, one that it may have, and no two names share one.
 pub record IsAdmissible (a : Accounts) (m : List ℕ) : Type 0 where

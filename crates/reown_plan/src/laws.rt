@@ -1,6 +1,6 @@
 //! What holds of plans and their texts.
 ghost use Rattle.std.specs.Prelude.{◌≡◌, ◌++◌, ℕ, List, [], All, Result, Ok};
-ghost use Rattle.candidates.specs.Mapping.{IsMapping};
+ghost use Rattle.ownership.specs.Mappings.{IsMapping};
 ghost use Rattle.hosts_join.specs.Site.{Joined};
 ghost use Rattle.hosts_join.specs.declared.host.Host.{Host};
 ghost use Rattle.mtree_inv.specs.Files.{AreFiles, HaveDistinctFiles};

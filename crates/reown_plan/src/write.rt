@@ -6,9 +6,9 @@ ghost use Rattle.reown_plan.specs.Target.{renumbered, target, record_to, host_pl
 ghost use Rattle.reown_plan.specs.Spelling.{line, spelling};
 
 use crate::{Owner, Record, push_plan_end, push_plan_head, push_record};
-use candidates::Mapping;
 use hosts_join::{Host, Names, Site};
 use mtree_inv::{Entry, Inventory};
+use ownership::Mapping;
 use std::alloc::{AllocError, Global};
 
 // The new number of the name that has the number on the host.

@@ -3,6 +3,7 @@ use Rattle.std.proofs.Common.{◌≡◌, ℕ, zero, suc, ◌+◌, ◌<◌, ◌�
 use Rattle.std.specs.List.{slice_get}
 use Rattle.std.specs.Option.{is_some, option_map}
 use Rattle.std.specs.Str.{bytes_eq}
+use Rattle.std.proofs.lemmas.List.Elements.{All-weaker}
 use Rattle.std.proofs.lemmas.Option.{slice_get-map}
 use Rattle.hosts_join.specs.Accounts.{Account, Accounts, Pair, nobody, place_of}
 use Rattle.hosts_join.specs.Pairs.{number_of}
@@ -32,11 +33,13 @@ use Rattle.unify_texts.specs.declared.map_text.MapText.{MapText}
 use Rattle.unify.specs.declared.outcome.Outcome.{Outcome}
 use Rattle.unify.specs.Believed.{OutcomesAreBelieved, NumbersTellNames}
 use Rattle.unify.specs.Cost.{cost_of}
-use Rattle.unify.specs.Headline.{HaveOneNumberEach, FinishedPlanKeepsNames, fields, untouched}
+use Rattle.unify.specs.Headline.{HaveOneNumberEach, FinishedPlanKeepsNames, IsNamedAsBefore, KeepsItsNames, fields, untouched}
+use Rattle.unify.specs.Installed.{AreInstalled}
 use Rattle.unify.specs.Laws.{IsWhole}
 use Rattle.unify.specs.Outcomes.{IsOutcome, cost_in, hosts_in, plan_texts_from}
 use Rattle.unify.specs.Reading.{WholeSite}
 use Rattle.unify.proofs.Costs.{costs_agree}
+use Rattle.unify.proofs.Installed.{are_installed, named_as_before}
 use Rattle.unify.proofs.Keeping.{is_mapping, map_says_mappings, plan_is_old, keeps_names}
 use Rattle.unify.proofs.SiteRuns.{some_same}
 
@@ -93,8 +96,8 @@ name_is site h host files here =
     read_at (map (λ (x : Host). x.name) (hosts_in site)) h [] host.name (slice_get-map (λ (x : Host). x.name) (hosts_in site) h ∙ ap (option_map (λ (x : Host). x.name)) there)
 
 finished : (site : WholeSite) (outcome : Outcome) → IsWhole site → (o : IsOutcome site outcome) (printed : MapText) → SayMapping site.joined.users o.mappings.users printed.users → SayMapping site.joined.groups o.mappings.groups printed.groups
-    → (h : ℕ) (host : Host) (files : List Entry) → slice_get site.hosts h ≡ Some (host, files) → FinishedPlanKeepsNames printed outcome.plans h host files
-finished site outcome whole o printed users groups h host files here =
+    → (installed : AreInstalled site outcome o.mappings printed) → (h : ℕ) (host : Host) (files : List Entry) → slice_get site.hosts h ≡ Some (host, files) → FinishedPlanKeepsNames printed installed.passwd.rows installed.group.rows outcome.plans h host files
+finished site outcome whole o printed users groups installed h host files here =
     let m = o.mappings in
     let is = whole.each_host h host files here in
     let records = plan_of site.joined m.users m.groups h files in
@@ -116,7 +119,8 @@ finished site outcome whole o printed users groups h host files here =
           let start = fresh_safe (owner_in files) records (cells_at (fresh at_first)) (fresh_history (owner_in files) at_first (λ path. refl) refl) old in
           let safe = runs_sound (owner_in files) records lawful.distinct (untouched asked files) runs end start are in
           let at_done : IsSafeInStep (owner_in files) records Done (cells_at end.state) = subst (λ p. IsSafeInStep (owner_in files) records p (cells_at end.state)) done safe in
-          keeps_names site.joined m printed users groups h host files is image.owner (done_image (owner_in files) records (cells_at end.state) at_done image is_image).1;
+          All-weaker (KeepsItsNames printed host image.owner) (IsNamedAsBefore printed installed.passwd.rows installed.group.rows host image.owner) (named_as_before site outcome m printed installed host image.owner) files
+          (keeps_names site.joined m printed users groups h host files is image.owner (done_image (owner_in files) records (cells_at end.state) at_done image is_image).1);
     }
 
 -- no other map changes fewer fields of files
@@ -131,6 +135,7 @@ pub outcomes_are_believed : OutcomesAreBelieved
 outcomes_are_believed site outcome whole o =
     let back = map_says_mappings site outcome whole o in
     let ok = o.answered.least.admissible in
+    let installed = are_installed site outcome whole o back.pairs back.users back.groups in
     record {
       map = back.pairs;
       map_read = back.read;
@@ -139,12 +144,13 @@ outcomes_are_believed site outcome whole o =
       mappings = o.mappings;
       users_have_one_number_each = one_number_each site.joined.users o.mappings.users back.pairs.users ok.users back.users;
       groups_have_one_number_each = one_number_each site.joined.groups o.mappings.groups back.pairs.groups ok.groups back.groups;
+      installed = installed;
       no_other_rewrites_fewer = o.answered.least;
       potentials_are_of_these = o.answered.certificate_has;
       potentials_prove_it = o.answered.certified;
       cost_is_told = o.printed.cost ∙ sym (costs_agree site o.mappings back.pairs whole back.users back.groups);
       no_other_map_rewrites_fewer = none_fewer site outcome whole o back.pairs back.users back.groups;
-      a_finished_plan_keeps_names = finished site outcome whole o back.pairs back.users back.groups;
+      a_finished_plan_keeps_names = finished site outcome whole o back.pairs back.users back.groups installed;
     }
 
 -- ---- numbers and names

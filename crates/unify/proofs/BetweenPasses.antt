@@ -7,6 +7,8 @@ use Rattle.hosts_join.specs.Checks.{is_host_name}
 use Rattle.hosts_join.specs.Hosts.{IsLawfulHost}
 use Rattle.hosts_join.specs.Site.{Joined}
 use Rattle.hosts_join.specs.declared.host.Host.{Host}
+use Rattle.mergedfiles.specs.ReadBack.{WasRead}
+use Rattle.mergedfiles.specs.Together.{AreJoined}
 use Rattle.ownership.specs.Counts as counts
 use Rattle.ownership.specs.Files.{Added}
 use Rattle.unify.specs.declared.host.Loaded.{Loaded}
@@ -17,7 +19,7 @@ use Rattle.unify.specs.Laws.{IsWhole}
 use Rattle.unify.specs.Loading.{HoldsCounted, loaded_from}
 use Rattle.unify.specs.Merging.{IsMerged}
 use Rattle.unify.specs.Passes.{AreCounted, CountingValue, IsCounting, StandBehind, StandsFor, ended_in, fault_met, met_on}
-use Rattle.unify.specs.Reading.{WholeSite, added_from, added_on}
+use Rattle.unify.specs.Reading.{WholeSite, added_from, added_on, files_of_site}
 use Rattle.unify.specs.RowFiles.{rows_among}
 use Rattle.unify.specs.SecondPass as second
 use Rattle.unify.specs.SecondPass.{CountHosts, IsFreshTurn, IsSolvedFrom, IsSolving, SolvedValue}
@@ -43,18 +45,21 @@ IsOver c = ended_in c ≡ length c.hosts
 over_unmet : (c : CountingValue) → IsOver c → fault_met c ≡ None
 over_unmet c over = ap (λ o. met_on o c.turn) (slice_get_past c.hosts (ended_in c) (omega (arith, over)))
 
-over_whole : (c : CountingValue) (ended : List (List ℕ)) (text : List ℕ) → IsCounting c → (were : StandsFor c ended text) → IsWhole (record { hosts = were.read; joined = c.joined })
-over_whole c ended text counting were =
+-- then the site that was read is whole
+pub over_whole : (c : CountingValue) (ended : List (List ℕ)) (text : List ℕ) → IsCounting c → IsOver c → (were : StandsFor c ended text) → IsWhole (record { hosts = were.read; joined = c.joined })
+over_whole c ended text counting over were =
     let loaded = loaded_from c.hosts ended in
     let each_host = read-host-of c.joined loaded were.read were.accepted
     (λ k l at.
     let here = loaded_host c.hosts ended k l at in (
       all-at (λ (h : Host). is_host_name h.name ≡ true) c.hosts k l.host counting.whole.named here,
+      all-at WasRead c.hosts k l.host counting.whole.read here,
       all-at IsLawfulHost c.hosts k l.host counting.whole.lawful here,
       counting.whole.known k l.host here,
     )) in
     record {
       few_hosts = omega (arith, counting.whole.few, counting.within, were.read_are);
+      together = subst (λ hs. AreJoined hs c.joined) (hosts_held c.hosts ended were.read (were.ended_are ∙ over) were.accepted).0 counting.whole.together;
       lawful = counting.whole.accounts;
       each_host = each_host;
       owned = all-owned c.joined were.read each_host;
@@ -66,7 +71,7 @@ over_counted joined index earlier turn fresh counted =
     let none : StandBehind joined index earlier turn.counts [] = rw (fresh.0, fresh.1) at counted in
     subst (counts.StandsFor joined turn.counts) (append-nil earlier) none
 
-over_holds : (c : CountingValue) (ended : List (List ℕ)) (text : List ℕ) → IsCounting c → IsOver c → (were : StandsFor c ended text) → HoldsCounted (record { hosts = were.read; joined = c.joined }) c.hosts c.joined c.turn.counts
+pub over_holds : (c : CountingValue) (ended : List (List ℕ)) (text : List ℕ) → IsCounting c → IsOver c → (were : StandsFor c ended text) → HoldsCounted (record { hosts = were.read; joined = c.joined }) c.hosts c.joined c.turn.counts
 over_holds c ended text counting over were = record {
   hosts_are = (hosts_held c.hosts ended were.read (were.ended_are ∙ over) were.accepted).0;
   joined_is = refl;
@@ -81,7 +86,14 @@ over_holds c ended text counting over were = record {
 pub whole_of : (c : CountingValue) → IsCounting c → IsOver c → (whole : WholeSite) × IsWhole whole × HoldsCounted whole c.hosts c.joined c.turn.counts
 whole_of c counting over =
     let s = counting.standing (over_unmet c over) in
-    (record { hosts = s.2.read; joined = c.joined }, over_whole c s.0 s.1 counting s.2, over_holds c s.0 s.1 counting over s.2)
+    (record { hosts = s.2.read; joined = c.joined }, over_whole c s.0 s.1 counting over s.2, over_holds c s.0 s.1 counting over s.2)
+
+-- the counters are those of its files
+pub over_counts : (c : CountingValue) → IsCounting c → IsOver c → counts.IsMadeFor c.joined c.turn.counts × ((files : List Added) × counts.StandsFor c.joined c.turn.counts files)
+over_counts c counting over =
+    let s = counting.standing (over_unmet c over) in
+    let holds = over_holds c s.0 s.1 counting over s.2 in
+    (holds.made, (files_of_site (record { hosts = s.2.read; joined = c.joined }), holds.counted_are))
 
 -- ---- the second pass
 

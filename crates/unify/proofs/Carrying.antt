@@ -1,12 +1,12 @@
 -- Plans that are read and carried out, one by one.
-use Rattle.std.proofs.Common.{◌≡◌, ℕ, ◌+◌, ◌<◌, Bool, List, [], ◌∷◌, ◌++◌, length, get_or, take, map, Option, Some, None, Ok, Err, sym, ap, subst, ◌∙◌, arith, append-nil}
+use Rattle.std.proofs.Common.{◌≡◌, ℕ, zero, suc, ◌+◌, ◌<◌, Bool, List, [], ◌∷◌, ◌++◌, length, get_or, take, map, Option, Some, None, Result, Ok, Err, sym, ap, subst, ◌∙◌, arith, append-nil}
 use Rattle.std.specs.List.{All, slice_get}
 use Rattle.std.specs.Option.{option_map}
 use Rattle.std.specs.Prelude.{IfSome}
 use Rattle.std.proofs.lemmas.List.{length-map, map-append, take_more, get_or-map}
 use Rattle.std.proofs.lemmas.Option.{slice_get-map, slice_get-get_or, slice_get_within, get_or_from_slice_get}
-use Rattle.idtext.specs.First.{each}
-use Rattle.idtext.proofs.OkLemmas.{ok_same, length-each}
+use Rattle.idtext.specs.First.{◌>>=◌, each}
+use Rattle.idtext.proofs.OkLemmas.{bind_ok, ok_same, length-each}
 use Rattle.mtree_inv.specs.Inventory.{inventory}
 use Rattle.mtree_inv.specs.declared.entry.Entry.{Entry}
 use Rattle.reown_plan.specs.PlanData.{PlanData}
@@ -29,7 +29,19 @@ use Rattle.reown_runner.specs.World.{World, Hosted, IsHostOf}
 use Rattle.reown_runner.proofs.Campaigns.{refused_here}
 use Rattle.reown_runner.proofs.Finishing.{fresh_safe}
 use Rattle.unify.specs.Carrying.{AreReady, AreCarriedOut, AreSpelledFor, at_start, new_tree_of}
-use Rattle.unify.proofs.PlanTexts.{each_at}
+
+-- what a step gave for the item at an index
+pub each_at : {A B F : Type 0} (f : A → Result B F) (xs : List A) (ys : List B) → each f xs ≡ Ok ys → (k : ℕ) (d : A) (e : B) → k < length xs → f (get_or xs k d) ≡ Ok (get_or ys k e)
+unfolding each
+each_at f [] ys h k d e l = absurd (omega (arith, l))
+each_at f (x ∷ xs) ys h zero d e l =
+    let first = bind_ok (f x) (λ z. each f xs >>= λ zs. Ok (z ∷ zs)) ys h in
+    let rest = bind_ok (each f xs) (λ zs. Ok (first.0 ∷ zs)) ys first.2 in
+    first.1 ∙ ap (λ zs. Ok (get_or zs 0 e)) (ok_same (first.0 ∷ rest.0) ys rest.2)
+each_at f (x ∷ xs) ys h (suc k) d e l =
+    let first = bind_ok (f x) (λ z. each f xs >>= λ zs. Ok (z ∷ zs)) ys h in
+    let rest = bind_ok (each f xs) (λ zs. Ok (first.0 ∷ zs)) ys first.2 in
+    each_at f xs rest.0 rest.1 k d e (omega (arith, l)) ∙ ap (λ zs. Ok (get_or zs (suc k) e)) (ok_same (first.0 ∷ rest.0) ys rest.2)
 
 -- one tree more
 pub trees_more : (keep : Keep) (mtrees : List (List ℕ)) (files : List (List Entry)) → each (inventory 16777216) mtrees ≡ Ok files → (i : ℕ) (text : List ℕ) → i < length mtrees → text ≡ get_or mtrees i text

@@ -9,11 +9,9 @@ use Rattle.ownership.specs.Weights.{IsFilled, IsFresh}
 use Rattle.certcheck.specs.Certificate.{Side, IsSide}
 use Rattle.certcheck.specs.Check.{mapping_of, potentials_of}
 use Rattle.certcheck.specs.Made.{IsSideOf}
-use Rattle.unify.specs.Loading.{HoldsCounted, HoldsSite}
 use Rattle.unify.specs.Solving.{IsSolved}
 use Rattle.unify.specs.Outcomes.{AreAnswered, user_files, group_files}
 use Rattle.unify.specs.Reading.{WholeSite}
-use Rattle.unify.specs.declared.site.LoadedSite.{LoadedSite}
 
 abbrev mappings_with : List ℕ → List ℕ → Mappings
 mappings_with users groups = record { users = users; groups = groups }
@@ -55,16 +53,4 @@ both_answered site users groups user_side group_side u g = record {
   certificate_has = ap (λ (x : List ℕ). mappings_with x (mapping_of site.joined.groups group_side.rows)) u.given ∙ ap (mappings_with users) g.given;
   user_side = u.ordered;
   group_side = g.ordered;
-}
-
--- a site that was read was counted
-pub still_counted : (site : WholeSite) (loaded : LoadedSite) → HoldsSite site loaded → HoldsCounted site loaded.hosts.items loaded.site loaded.counts
-still_counted site loaded holds = record {
-  hosts_are = holds.hosts;
-  joined_is = holds.joined;
-  together = holds.together;
-  made = holds.made;
-  counted_are = holds.counted;
-  few = holds.few;
-  lawful = holds.lawful;
 }

@@ -38,7 +38,7 @@ plans_are site merged plans are = texts_are (hosts_in site) site.joined (mapping
     ∙ ap (λ (name : List ℕ). Some (plan.spelling (record { host = name; records = plan_of site.joined merged.users merged.groups k files }))) (sym (name_is site k host files here))
     ∙ ap (λ i. Some (plan.spelling (host_plan (hosts_in site) site.joined merged.users merged.groups i files))) from_zero)
 
-with_plans : (site : WholeSite) (merged : Merged) (plans : List (List ℕ)) → IsMerged site merged → AreWholePlans site merged plans → IsOutcome site (record merged.outcome { plans = plans })
+pub with_plans : (site : WholeSite) (merged : Merged) (plans : List (List ℕ)) → IsMerged site merged → AreWholePlans site merged plans → IsOutcome site (record merged.outcome { plans = plans })
 with_plans site merged plans is are = record {
   mappings = mappings_in merged;
   certificate = is.certificate;

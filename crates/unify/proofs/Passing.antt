@@ -32,7 +32,7 @@ loaded_none : (hosts : List Host) → loaded_from hosts [] ≡ []
 loaded_none [] = refl
 loaded_none (h ∷ hosts) = refl
 
-loaded_push : (hosts : List Host) (ended : List (List ℕ)) (host : Host) (text : List ℕ) → slice_get hosts (length ended) ≡ Some host → loaded_from hosts (ended ++ text ∷ []) ≡ loaded_from hosts ended ++ record { host = host; mtree = text } ∷ []
+pub loaded_push : (hosts : List Host) (ended : List (List ℕ)) (host : Host) (text : List ℕ) → slice_get hosts (length ended) ≡ Some host → loaded_from hosts (ended ++ text ∷ []) ≡ loaded_from hosts ended ++ record { host = host; mtree = text } ∷ []
 loaded_push [] ended host text here = absurd (cc)
 loaded_push (h ∷ hosts) [] host text here =
     let same : h ≡ host = (cc) in
@@ -43,7 +43,7 @@ loaded_push (h ∷ hosts) (e ∷ ended) host text here =
     let one : List Loaded → List Loaded = λ t. record { host = h; mtree = e } ∷ t in
     ap one (loaded_push hosts ended host text here)
 
-each_push : {A B F : Type 0} (f : A → Result B F) (xs : List A) (x : A) (ys : List B) (y : B) → each f xs ≡ Ok ys → f x ≡ Ok y → each f (xs ++ x ∷ []) ≡ Ok (ys ++ y ∷ [])
+pub each_push : {A B F : Type 0} (f : A → Result B F) (xs : List A) (x : A) (ys : List B) (y : B) → each f xs ≡ Ok ys → f x ≡ Ok y → each f (xs ++ x ∷ []) ≡ Ok (ys ++ y ∷ [])
 unfolding each
 each_push f [] x ys y h is = rw is (ap (λ zs. Ok (zs ++ y ∷ [])) (ok_same [] ys h))
 each_push f (a ∷ xs) x ys y h is =

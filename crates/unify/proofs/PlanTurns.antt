@@ -140,7 +140,7 @@ lines_faulty host most text t is h =
     let here : inventory_of_lines 16777216 (whole_lines text) ≡ Err t = ap (λ n. inventory_of_lines n (whole_lines text)) (sym is) ∙ h in
     (Line host.name file.Mtree t.code t.line, rw here refl)
 
-lines_with : (host : Host) (text : List ℕ) (files : List Entry) (o : Option Fault) → inventory_of_lines 16777216 (whole_lines text) ≡ Ok files → first_fault (owner_fault host) [] files ≡ o → owned_lines host text ≡ (unless o (tt {0}) >>= λ u. Ok files)
+pub lines_with : (host : Host) (text : List ℕ) (files : List Entry) (o : Option Fault) → inventory_of_lines 16777216 (whole_lines text) ≡ Ok files → first_fault (owner_fault host) [] files ≡ o → owned_lines host text ≡ (unless o (tt {0}) >>= λ u. Ok files)
 unfolding owned_lines
 lines_with host text files o h is = rw (h, is) refl
 

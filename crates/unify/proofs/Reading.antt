@@ -1,5 +1,5 @@
 -- What was read is whole.
-use Rattle.std.proofs.Common.{◌≡◌, ℕ, zero, suc, ◌+◌, ◌≤◌, Bool, true, false, not, cond, List, [], ◌∷◌, ◌++◌, length, map, get_or, Option, Some, None, Result, Ok, Err, refl, ap, subst, ◌∙◌, arith, inl, inr, ◌==◌, nat_lt}
+use Rattle.std.proofs.Common.{◌≡◌, ℕ, zero, suc, ◌+◌, ◌≤◌, Bool, true, false, not, cond, List, [], ◌∷◌, ◌++◌, length, map, get_or, Option, Some, None, Result, Ok, Err, refl, sym, ap, subst, ◌∙◌, arith, inl, inr, ◌==◌, nat_lt}
 use Rattle.std.specs.List.{All, slice_get}
 use Rattle.std.specs.Option.{is_some, option_map}
 use Rattle.std.proofs.lemmas.Bool.{cases_Bool, both_ways, and_from, false_from_ne_true, ltb-false}
@@ -27,6 +27,8 @@ use Rattle.hosts_join.specs.declared.host.Host.{Host}
 use Rattle.hosts_join.specs.declared.texts.HostText.{HostText}
 use Rattle.hosts_join.proofs.Knowing.{sites_know}
 use Rattle.hosts_join.proofs.SiteLemmas.{sites_are_lawful, pins_are_pins}
+use Rattle.mergedfiles.specs.ReadBack.{WasRead}
+use Rattle.mergedfiles.specs.Together.{AreJoined}
 use Rattle.ownership.specs.Faults.{unowned}
 use Rattle.ownership.specs.Files.{Added}
 use Rattle.unify_texts.specs.declared.bundle_line.FileName.TheVariants as file
@@ -37,7 +39,7 @@ use Rattle.unify.specs.Laws.{IsReadHost, ReadSitesAreWhole, OwnersAgree}
 use Rattle.unify.specs.Reading.{WholeSite, added_on, added_from, site_read}
 use Rattle.unify.specs.Told.{in_file, in_site, in_pins}
 use Rattle.unify.proofs.Owners.{file_ok, files_read, none_both, owned-there, owned-here, owners-told}
-use Rattle.unify.proofs.Whole.{site_ok}
+use Rattle.unify.proofs.Whole.{hosts-read, site_ok, together}
 
 pub owners_agree : OwnersAgree
 owners_agree joined h host uid gid knows = (
@@ -78,6 +80,25 @@ host-lawful text loaded h =
       ranges = ranges-law text.logindefs ranges.0 (file_ok text.name file.LoginDefs (ranges_of text.logindefs) ranges.0 ranges.1);
       users = passwd-law text.passwd users.0 (file_ok text.name file.Passwd (passwd_table text.passwd) users.0 users.1);
       groups = group-law text.group groups.0 (file_ok text.name file.Group (group_table text.group) groups.0 groups.1);
+    })
+
+-- a host that was loaded was read
+host-read : (text : HostText) (loaded : Loaded) → host_of text ≡ Ok loaded → WasRead loaded.host
+unfolding host_of
+host-read text loaded h =
+    let ranges = bind_ok (in_file text.name file.LoginDefs (ranges_of text.logindefs)) _ loaded h in
+    let users = bind_ok (in_file text.name file.Passwd (passwd_table text.passwd)) _ loaded ranges.2 in
+    let groups = bind_ok (in_file text.name file.Group (group_table text.group)) _ loaded users.2 in
+    let made : Host = record { name = text.name; ranges = ranges.0; users = users.0; groups = groups.0 } in
+    let primary = bind_ok (in_site (primary_checked made)) _ loaded groups.2 in
+    let all : Loaded = record { host = made; mtree = text.mtree } in
+    subst (λ (l : Loaded). WasRead l.host) (ok_same all loaded primary.2)
+    (record {
+      passwd = text.passwd;
+      users = file_ok text.name file.Passwd (passwd_table text.passwd) users.0 users.1;
+      group = text.group;
+      groups = file_ok text.name file.Group (group_table text.group) groups.0 groups.1;
+      primary = site_ok (primary_checked made) primary.0 primary.1;
     })
 
 -- a host that was loaded has the name and the inventory of its texts
@@ -173,6 +194,13 @@ loaded-lawful texts loaded h =
     let from = each-ok host_of texts loaded h k (get_or loaded k d) (slice_get-get_or loaded k d l) in
     host-lawful from.0 (get_or loaded k d) from.2)
 
+pub loaded-read : (texts : List HostText) (loaded : List Loaded) → each host_of texts ≡ Ok loaded → All WasRead (map (λ l. l.host) loaded)
+loaded-read texts loaded h =
+    All-map WasRead (λ (l : Loaded). l.host) loaded
+    (λ k d l.
+    let from = each-ok host_of texts loaded h k (get_or loaded k d) (slice_get-get_or loaded k d l) in
+    host-read from.0 (get_or loaded k d) from.2)
+
 -- the hosts that were loaded have the names that the list gives them
 pub loaded-named : (texts : List HostText) (loaded : List Loaded) → each host_of texts ≡ Ok loaded → All (λ t. is_host_name t.name ≡ true) texts → All (λ h. is_host_name h.name ≡ true) (map (λ l. l.host) loaded)
 loaded-named texts loaded h named =
@@ -183,7 +211,7 @@ loaded-named texts loaded h named =
 
 -- what is known of a host before its inventory is read
 abbrev pub IsKnownHost : Joined → ℕ → Host → Type 0
-IsKnownHost joined h host = (is_host_name host.name ≡ true) × IsLawfulHost host × KnowsHost joined h host
+IsKnownHost joined h host = (is_host_name host.name ≡ true) × WasRead host × IsLawfulHost host × KnowsHost joined h host
 
 -- a host of whom that is known, with the files of its inventory
 pub read-host : (joined : Joined) (h : ℕ) (l : Loaded) (files : List Entry) → files_of l ≡ Ok files → IsKnownHost joined h l.host → IsReadHost joined h l.host files
@@ -192,14 +220,15 @@ read-host joined h l files are knows =
     let found = inventory-files 16777216 l.mtree files text.0 in
     record {
       named = knows.0;
-      lawful = knows.1;
+      read = knows.1;
+      lawful = knows.2;
       files_are = found.0;
       few = found.1;
       owned = λ k d m.
           let f = get_or files k d in
           let told = owners-told (is_some (user_at l.host.users f.uid)) (is_some (group_at l.host.groups f.gid)) _ _ (text.1 k d m) in
           record { user = told.0; group = told.1 };
-      known = knows.2;
+      known = knows.3;
     }
 
 -- hosts of whom that is known, with the files of their inventories
@@ -218,6 +247,7 @@ known-host texts pins_text site s h l here =
     let lawful = loaded-lawful texts s.loaded s.hosts_are in
     let there : slice_get hosts h ≡ Some l.host = slice_get-map (λ (l : Loaded). l.host) s.loaded h ∙ ap (option_map (λ (l : Loaded). l.host)) here in (
       all-at (λ (x : Host). is_host_name x.name ≡ true) hosts h l.host (loaded-named texts s.loaded s.hosts_are s.named) there,
+      all-at WasRead hosts h l.host (loaded-read texts s.loaded s.hosts_are) there,
       all-at IsLawfulHost hosts h l.host lawful there,
       sites_know hosts s.pins site.joined lawful s.joined_is h l.host there,
     )
@@ -240,9 +270,11 @@ read_sites_are_whole texts pins_text site h =
     let s = steps texts pins_text site h in
     let each_host = read-host-of site.joined s.loaded site.hosts s.files_are (known-host texts pins_text site s) in
     let loaded = length-each host_of texts s.loaded s.hosts_are in
+    let hosts = map (λ (l : Loaded). l.host) s.loaded in
     record {
       few_hosts = omega (arith, s.few, loaded, length-each site_of s.loaded site.hosts s.files_are);
-      lawful = sites_are_lawful (map (λ (l : Loaded). l.host) s.loaded) s.pins site.joined (omega (arith, s.few, loaded, length-map s.loaded (λ (l : Loaded). l.host))) (loaded-lawful texts s.loaded s.hosts_are) (pins_are_pins pins_text s.pins s.pins_are) s.joined_is;
+      together = subst (λ hs. AreJoined hs site.joined) (sym (hosts-read s.loaded site.hosts s.files_are).0) (together hosts s.pins site.joined s.joined_is);
+      lawful = sites_are_lawful hosts s.pins site.joined (omega (arith, s.few, loaded, length-map s.loaded (λ (l : Loaded). l.host))) (loaded-lawful texts s.loaded s.hosts_are) (pins_are_pins pins_text s.pins s.pins_are) s.joined_is;
       each_host = each_host;
       owned = all-owned site.joined site.hosts each_host;
     }

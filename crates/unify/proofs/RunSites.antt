@@ -3,7 +3,6 @@ use Rattle.std.proofs.Common.{◌≡◌, ℕ, zero, suc, ◌+◌, ◌<◌, List,
 use Rattle.std.specs.List.{All, slice_get}
 use Rattle.std.proofs.lemmas.List.{length-map}
 use Rattle.std.proofs.lemmas.List.Elements.{All-nil, All-cons}
-use Rattle.candidates.specs.Mapping.{IsMapping}
 use Rattle.idtext.specs.First.{each}
 use Rattle.idtext.proofs.OkLemmas.{length-each}
 use Rattle.mtree_inv.specs.Inventory.{inventory}
@@ -12,7 +11,7 @@ use Rattle.mtree_inv.specs.declared.entry.Entry.{Entry}
 use Rattle.hosts_join.specs.Site.{Joined}
 use Rattle.hosts_join.specs.declared.host.Host.{Host}
 use Rattle.hosts_join.specs.declared.texts.HostText.{HostText}
-use Rattle.ownership.specs.Mappings.{Mappings}
+use Rattle.ownership.specs.Mappings.{IsMapping, Mappings}
 use Rattle.reown_plan.specs.PlanData.{PlanData}
 use Rattle.reown_plan.specs.Spelling.{spelling, IsHostName, IsLawful}
 use Rattle.reown_plan.specs.Target.{host_plan, name_at}
@@ -28,20 +27,23 @@ use Rattle.reown_runner.specs.World.{World}
 use Rattle.reown_runner.proofs.Memories.{new_fresh}
 use Rattle.unify.specs.declared.outcome.Outcome.{Outcome}
 use Rattle.unify.specs.declared.rehearsing_site.SiteRun.{SiteRun}
-use Rattle.unify.specs.declared.site.LoadedSite.{LoadedSite}
-use Rattle.unify.specs.Carrying.{AreReady, AreCarriedOut, AreSpelledFor, IsReady, at_start, new_tree_of}
+use Rattle.unify.specs.declared.host.Loaded.{Loaded}
+use Rattle.unify.specs.Carrying.{AreInventoriesOf, AreReady, AreCarriedOut, AreSpelledFor, IsReady, at_start, new_tree_of}
 use Rattle.unify.specs.Count.{site_of}
 use Rattle.unify.specs.Headline.{Headline}
 use Rattle.unify.specs.Hosts.{host_of}
 use Rattle.unify.specs.Laws.{IsWhole}
-use Rattle.unify.specs.Loading.{HoldsSite}
+use Rattle.unify.specs.Loading.{loaded_from}
 use Rattle.unify.specs.Outcomes.{IsOutcome, hosts_in, plan_texts_from}
 use Rattle.unify.specs.Reading.{WholeSite, site_read}
 use Rattle.unify.specs.SiteRuns.{IsSiteRun, DoneKeepsNames, new_trees, new_world, runners_from}
+use Rattle.unify.proofs.Adding.{loaded_from-parts}
 use Rattle.unify.proofs.Believed.{name_is, outcomes_are_believed}
 use Rattle.unify.proofs.Keeping.{is_mapping, plan_is_old}
 use Rattle.unify.proofs.Reading.{steps}
-use Rattle.unify.proofs.SiteRuns.{some_same, runs_keep_names}
+use Rattle.unify.proofs.SiteRuns.{some_same, runs_keep}
+use Rattle.unify.proofs.TwoPasses.{mtrees-kept}
+use Rattle.unify.proofs.Whole.{hosts_held}
 
 from_zero : (k : ℕ) → k ≡ 0 + k
 from_zero k = omega arith
@@ -134,21 +136,23 @@ module _ (site : WholeSite) (whole : IsWhole site) where
           ready = plans_ready (hosts_in site) site.joined m keep 0 site.hosts (λ k host files at. (whole.each_host k host files at).files_are.distinct);
         })
 
--- a site that is held has as many inventories as there were texts
-pub loaded_there : (texts : List HostText) (pins_text : List ℕ) (site : WholeSite) → site_read texts pins_text ≡ Ok site → (loaded : LoadedSite) → HoldsSite site loaded
-    → (events : List Event) → All (λ event. events_of event < length texts) events → All (λ event. events_of event < length loaded.mtrees.items) events
-loaded_there texts pins_text site read loaded holds events there =
-    let all = map (λ (h : Host × List Entry). h.1) site.hosts in
-    let as_many : length texts ≡ length loaded.mtrees.items = sym (as_many_hosts texts pins_text site read) ∙ sym (length-map site.hosts (λ (h : Host × List Entry). h.1)) ∙ length-each (inventory 16777216) loaded.mtrees.items all holds.inventories in
-    subst (λ (n : ℕ). All (λ event. events_of event < n) events) as_many there
+-- the inventories of a site that was read
+pub inventories_there : (texts : List HostText) (pins_text : List ℕ) (site : WholeSite) → site_read texts pins_text ≡ Ok site → AreInventoriesOf texts site
+inventories_there texts pins_text site read =
+    let s = steps texts pins_text site read in
+    let hosts = map (λ (l : Loaded). l.host) s.loaded in
+    let mtrees = map (λ (l : Loaded). l.mtree) s.loaded in
+    let paired : length mtrees ≡ length hosts = length-map s.loaded (λ (l : Loaded). l.mtree) ∙ sym (length-map s.loaded (λ (l : Loaded). l.host)) in
+    let accepted : each site_of (loaded_from hosts mtrees) ≡ Ok site.hosts = ap (each site_of) (loaded_from-parts s.loaded) ∙ s.files_are in
+    ap (each (inventory 16777216)) (mtrees-kept texts s.loaded s.hosts_are) ∙ (hosts_held hosts mtrees site.hosts paired accepted).1
 
--- the texts of a site that is held and of a right outcome for it
-pub spelled_for : (site : WholeSite) → IsWhole site → (loaded : LoadedSite) → HoldsSite site loaded → (outcome : Outcome) → (merged : IsOutcome site outcome) → (mtrees : List (List ℕ)) → mtrees ≡ loaded.mtrees.items
+-- the texts of the inventories of a site and of a right outcome for it
+pub spelled_for : (site : WholeSite) → IsWhole site → (texts : List HostText) → AreInventoriesOf texts site → (outcome : Outcome) → (merged : IsOutcome site outcome) → (mtrees : List (List ℕ)) → mtrees ≡ map (λ t. t.mtree) texts
     → (keep : Keep) → AreSpelledFor keep mtrees outcome.plans (map (λ h. h.1) site.hosts) (plans_in site merged.mappings)
-spelled_for site whole loaded holds outcome merged mtrees same keep =
+spelled_for site whole texts there outcome merged mtrees same keep =
     let all = map (λ (h : Host × List Entry). h.1) site.hosts in
     record {
-      read = subst (λ (ts : List (List ℕ)). each (inventory 16777216) ts ≡ Ok all) (sym same) holds.inventories;
+      read = subst (λ (ts : List (List ℕ)). each (inventory 16777216) ts ≡ Ok all) (sym same) there;
       lawful = lawful_plans site whole outcome merged;
       spelled = printed_plans site merged.mappings outcome.plans merged.printed.plans;
       ready = ready_plans site whole outcome merged keep (map (new_tree_of keep) all) refl;
@@ -174,12 +178,13 @@ site_runs keep events site whole run merged trees are carried =
       a_tree_each = carried.a_tree_each ∙ ap length are ∙ length-map all (new_tree_of keep) ∙ length-map site.hosts (λ (h : Host × List Entry). h.1);
       went = went;
       done = carried.done_are;
-      names_kept = subst (λ told. DoneKeepsNames site believed.map told run.trees.items) (sym carried.done_are) (runs_keep_names keep events site run.outcome whole merged believed.map believed.map_read (λ host. None) carried.runners run.trees.items went);
+      names_kept = subst (λ told. DoneKeepsNames site believed.map believed.installed.passwd.rows believed.installed.group.rows told run.trees.items) (sym carried.done_are)
+          (runs_keep site run.outcome whole merged believed.map believed.map_read believed.mappings believed.installed keep events (λ host. None) carried.runners run.trees.items went);
     }
 
-pub loaded_runs : (keep : Keep) (events : List Event) (site : WholeSite) → IsWhole site → (loaded : LoadedSite) → HoldsSite site loaded → (run : SiteRun) → IsOutcome site run.outcome → (mtrees : List (List ℕ)) → mtrees ≡ loaded.mtrees.items
+pub texts_run : (keep : Keep) (events : List Event) (site : WholeSite) → IsWhole site → (texts : List HostText) → AreInventoriesOf texts site → (run : SiteRun) → IsOutcome site run.outcome → (mtrees : List (List ℕ)) → mtrees ≡ map (λ t. t.mtree) texts
     → ((files : List (List Entry)) (plans : List PlanData) → AreSpelledFor keep mtrees run.outcome.plans files plans → AreCarriedOut plans (map (new_tree_of keep) files) events run.done.items run.trees.items) → IsSiteRun keep events site run
-loaded_runs keep events site whole loaded holds run merged mtrees same carried =
+texts_run keep events site whole texts there run merged mtrees same carried =
     let all = map (λ (h : Host × List Entry). h.1) site.hosts in
     site_runs keep events site whole run merged (map (new_tree_of keep) all) refl
-    (carried all (plans_in site merged.mappings) (spelled_for site whole loaded holds run.outcome merged mtrees same keep))
+    (carried all (plans_in site merged.mappings) (spelled_for site whole texts there run.outcome merged mtrees same keep))

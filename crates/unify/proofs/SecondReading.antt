@@ -24,6 +24,7 @@ use Rattle.certcheck.specs.Certified.{IsCertified}
 use Rattle.certcheck.specs.Check.{mapping_of, potentials_of}
 use Rattle.mergedfiles.specs.Differences.{site_differences}
 use Rattle.mergedfiles.specs.Texts.{merged_users, merged_groups}
+use Rattle.mergedfiles.specs.Together.{AreJoined}
 use Rattle.unify_texts.specs.Figures.{figures_of}
 use Rattle.unify_texts.specs.Report.{report_lines, report_of}
 use Rattle.unify_texts.specs.declared.fault.Fault.{Fault}
@@ -35,11 +36,11 @@ use Rattle.unify.specs.Outcomes.{cost_in, group_files, hosts_in, user_files}
 use Rattle.unify.specs.Reading.{WholeSite, files_of_site}
 use Rattle.unify.specs.RowFiles.{RowFiles}
 use Rattle.unify.specs.SecondPass.{HaveSameCounts, or_changed, second_files}
-use Rattle.unify.specs.TwoPasses.{AreReadAgain, SecondReadingIsBelieved, read_last}
+use Rattle.unify.specs.TwoPasses.{AreReadAgain, SecondReadingIsBelieved, SecondReadingIsRight, read_last}
 use Rattle.unify.proofs.Agreeing.{item_at}
 use Rattle.unify.proofs.Counted.{mapped_some}
 use Rattle.unify.proofs.Counts.{apart, as_many, on_all}
-use Rattle.unify.proofs.PassesBelieved.{two_passes_are_believed}
+use Rattle.unify.proofs.PassesBelieved.{two_passes_are_believed, with_plans}
 use Rattle.unify.proofs.Reading.{all-owned, read-host}
 use Rattle.unify.proofs.SiteRuns.{some_same}
 
@@ -110,6 +111,19 @@ module _ (first : WholeSite) (whole : IsWhole first) (hosts : List (Host × List
   abbrev last : WholeSite
   last = read_last first hosts
 
+  same_hosts : hosts_in first ≡ hosts_in last
+  same_hosts = hosts_are first.hosts hosts again.one_each (λ k host were at. let now = again.each_host k host were at in (now.1, now.4))
+    where
+      hosts_are : (one two : List (Host × List Entry)) → length two ≡ length one → ((k : ℕ) (host : Host) (were : List Entry) → slice_get one k ≡ Some (host, were) → (files : List Entry) × (slice_get two k ≡ Some (host, files))) → map (λ h. h.0) one ≡ map (λ h. h.0) two
+      hosts_are [] [] same each = refl
+      hosts_are [] (y ∷ ys) same each = absurd (omega (arith, same))
+      hosts_are (x ∷ xs) [] same each = absurd (omega (arith, same))
+      hosts_are (x ∷ xs) (y ∷ ys) same each =
+          let here = each 0 x.0 x.1 refl in
+          let is : y ≡ (x.0, here.0) = some_same y (x.0, here.0) here.1 in
+          let rest = hosts_are xs ys (omega (arith, same)) (λ k host were at. each (suc k) host were at) in
+          ap (λ (h : Host). h ∷ map (λ h. h.0) xs) (ap (λ (p : Host × List Entry). p.0) (sym is)) ∙ ap (λ hs. y.0 ∷ hs) rest
+
   read_host : (h : ℕ) (host : Host) (files : List Entry) → slice_get hosts h ≡ Some (host, files) → IsReadHost first.joined h host files
   read_host h host files here =
       let at = item_at first.hosts h (omega (arith, slice_get_within hosts h (host, files) here, again.one_each)) in
@@ -117,12 +131,13 @@ module _ (first : WholeSite) (whole : IsWhole first) (hosts : List (Host × List
       let now = again.each_host h at.0.0 at.0.1 at.1 in
       let pair : (at.0.0, now.1) ≡ (host, files) = some_same (at.0.0, now.1) (host, files) (sym now.4 ∙ here) in
       subst (λ (p : Host × List Entry). IsReadHost first.joined h p.0 p.1) pair
-      (read-host first.joined h (record { host = at.0.0; mtree = now.0 }) now.1 (filed at.0.0 now.0 now.1 now.2) (was.named, was.lawful, was.known))
+      (read-host first.joined h (record { host = at.0.0; mtree = now.0 }) now.1 (filed at.0.0 now.0 now.1 now.2) (was.named, was.read, was.lawful, was.known))
 
   still_whole : IsWhole last
   still_whole = record {
     few_hosts = subst (λ n. n ≤ 64) (sym again.one_each) whole.few_hosts;
     each_host = read_host;
+    together = subst (λ hs. AreJoined hs first.joined) same_hosts whole.together;
     lawful = whole.lawful;
     owned = all-owned first.joined hosts read_host;
   }
@@ -164,19 +179,6 @@ module _ (first : WholeSite) (whole : IsWhole first) (hosts : List (Host × List
       ∙ sym (count_by-of-map Q _ (files_of_site last))
 
   -- ---- what was merged
-
-  same_hosts : hosts_in first ≡ hosts_in last
-  same_hosts = hosts_are first.hosts hosts again.one_each (λ k host were at. let now = again.each_host k host were at in (now.1, now.4))
-    where
-      hosts_are : (one two : List (Host × List Entry)) → length two ≡ length one → ((k : ℕ) (host : Host) (were : List Entry) → slice_get one k ≡ Some (host, were) → (files : List Entry) × (slice_get two k ≡ Some (host, files))) → map (λ h. h.0) one ≡ map (λ h. h.0) two
-      hosts_are [] [] same each = refl
-      hosts_are [] (y ∷ ys) same each = absurd (omega (arith, same))
-      hosts_are (x ∷ xs) [] same each = absurd (omega (arith, same))
-      hosts_are (x ∷ xs) (y ∷ ys) same each =
-          let here = each 0 x.0 x.1 refl in
-          let is : y ≡ (x.0, here.0) = some_same y (x.0, here.0) here.1 in
-          let rest = hosts_are xs ys (omega (arith, same)) (λ k host were at. each (suc k) host were at) in
-          ap (λ (h : Host). h ∷ map (λ h. h.0) xs) (ap (λ (p : Host × List Entry). p.0) (sym is)) ∙ ap (λ hs. y.0 ∷ hs) rest
 
   still_least : (m : Mappings) → AreLeast first.joined (files_of_site first) m → AreLeast first.joined (files_of_site last) m
   still_least m least = record {
@@ -235,6 +237,10 @@ module _ (first : WholeSite) (whole : IsWhole first) (hosts : List (Host × List
           };
         };
       }
+
+pub second_reading_is_right : SecondReadingIsRight
+second_reading_is_right first merged hosts plans whole is again are =
+    with_plans (read_last first hosts) merged plans (still_merged first whole hosts again merged is) are
 
 pub second_reading_is_believed : SecondReadingIsBelieved
 second_reading_is_believed first merged hosts plans whole is again are =

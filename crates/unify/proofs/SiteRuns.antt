@@ -1,30 +1,40 @@
 -- A host that is done in a rehearsal keeps its names.
-use Rattle.std.proofs.Common.{◌≡◌, ℕ, zero, suc, ◌+◌, true, List, [], ◌∷◌, Some, refl, sym, ap, subst, ◌∙◌, arith}
-use Rattle.std.specs.List.{slice_get}
+use Rattle.std.proofs.Common.{◌≡◌, ℕ, zero, suc, ◌+◌, true, List, [], ◌∷◌, map, Option, Some, Ok, refl, sym, ap, subst, ◌∙◌, arith}
+use Rattle.std.specs.List.{All, slice_get}
 use Rattle.std.specs.Option.{option_map}
 use Rattle.std.proofs.lemmas.Bool.{false≢true}
+use Rattle.std.proofs.lemmas.List.Elements.{All-weaker}
 use Rattle.std.proofs.lemmas.Option.{slice_get-map}
 use Rattle.idtext.proofs.OkLemmas.{ok_same}
 use Rattle.mtree_inv.specs.declared.entry.Entry.{Entry}
 use Rattle.hosts_join.specs.declared.host.Host.{Host}
 use Rattle.ownership.specs.Mappings.{Mappings}
 use Rattle.reown_plan.specs.Target.{plan_of}
+use Rattle.reown_runner.specs.declared.campaign.Event.{Event}
 use Rattle.reown_runner.specs.declared.runner.Place.{Place}
 use Rattle.reown_runner.specs.declared.runner.Place.TheVariants.{Start, Record, SyncOwners, Mark, SyncMark, Done}
+use Rattle.reown_runner.specs.declared.runner.RunFault.{RunFault}
 use Rattle.reown_runner.specs.declared.memory.Keep.{Keep}
-use Rattle.reown_runner.specs.Campaign.{is_done}
+use Rattle.reown_runner.specs.Campaign.{EachGoes, is_done}
 use Rattle.reown_runner.specs.Memory.{Mem, known_mem, new_mem, owner_in}
 use Rattle.reown_runner.specs.RunnerData.{RunnerData}
 use Rattle.reown_runner.specs.Safe.{IsSafeInStep}
-use Rattle.reown_runner.specs.Tree.{cells_of}
+use Rattle.reown_runner.specs.Tree.{Image, IsImage, TreeData, cells_of}
 use Rattle.reown_runner.specs.World.{Hosted, IsHostOf}
 use Rattle.reown_runner.proofs.Finishing.{fresh_safe, done_image}
 use Rattle.reown_runner.proofs.Memories.{new_fresh}
 use Rattle.unify_texts.specs.WrittenMap.{SayMapping}
 use Rattle.unify_texts.specs.declared.map_text.MapText.{MapText}
+use Rattle.unify_texts.specs.Maps.{map_of}
+use Rattle.unify.specs.declared.outcome.Outcome.{Outcome}
 use Rattle.unify.specs.Believed.{DoneKeepsPrintedNames, RunsKeepNames}
+use Rattle.unify.specs.Headline.{IsNamedAsBefore, KeepsItsNames}
+use Rattle.unify.specs.Installed.{AreInstalled}
+use Rattle.unify.specs.Laws.{IsWhole}
+use Rattle.unify.specs.Outcomes.{IsOutcome}
 use Rattle.unify.specs.Reading.{WholeSite}
-use Rattle.unify.specs.SiteRuns.{runners_from, new_world}
+use Rattle.unify.specs.SiteRuns.{DoneKeepsNames, runners_from, new_world}
+use Rattle.unify.proofs.Installed.{are_installed, named_as_before}
 use Rattle.unify.proofs.Keeping.{map_says_mappings, plan_is_old, keeps_names}
 
 pub some_same : {X : Type 0} (x y : X) → Some x ≡ Some y → x ≡ y
@@ -54,35 +64,58 @@ is_at_done Done h = refl
 abbrev tree_of : Keep → Host × List Entry → Mem
 tree_of keep here = record (new_mem here.1) { keep = keep }
 
-pub done_keeps_printed_names : DoneKeepsPrintedNames
-done_keeps_printed_names site outcome whole merged printed read h host files here tree finished image is_image =
+-- a map that is read from the printed one says the mappings
+says : (site : WholeSite) (outcome : Outcome) → IsWhole site → (merged : IsOutcome site outcome) (printed : MapText) → map_of outcome.map ≡ Ok printed
+    → SayMapping site.joined.users merged.mappings.users printed.users × SayMapping site.joined.groups merged.mappings.groups printed.groups
+says site outcome whole merged printed read =
     let m = merged.mappings in
     let back = map_says_mappings site outcome whole merged in
     let same_map : back.pairs ≡ printed = ok_same back.pairs printed (sym back.read ∙ read) in
-    let users = subst (λ (p : MapText). SayMapping site.joined.users m.users p.users) same_map back.users in
-    let groups = subst (λ (p : MapText). SayMapping site.joined.groups m.groups p.groups) same_map back.groups in
-    let after = (done_image (owner_in files) (plan_of site.joined m.users m.groups h files) (cells_of tree) finished image is_image).1 in
-    keeps_names site.joined m printed users groups h host files (whole.each_host h host files here) image.owner after
+    (subst (λ (p : MapText). SayMapping site.joined.users m.users p.users) same_map back.users, subst (λ (p : MapText). SayMapping site.joined.groups m.groups p.groups) same_map back.groups)
+
+installed_by : (site : WholeSite) (outcome : Outcome) → IsWhole site → (merged : IsOutcome site outcome) (printed : MapText) → map_of outcome.map ≡ Ok printed → AreInstalled site outcome merged.mappings printed
+installed_by site outcome whole merged printed read = let say = says site outcome whole merged printed read in are_installed site outcome whole merged printed say.0 say.1
+
+module _ (site : WholeSite) (outcome : Outcome) (whole : IsWhole site) (merged : IsOutcome site outcome) (printed : MapText) (read : map_of outcome.map ≡ Ok printed) (mappings : Mappings) (installed : AreInstalled site outcome mappings printed) where
+  done_keeps : (h : ℕ) (host : Host) (files : List Entry) → slice_get site.hosts h ≡ Some (host, files)
+      → (tree : TreeData) → IsSafeInStep (owner_in files) (plan_of site.joined merged.mappings.users merged.mappings.groups h files) Done (cells_of tree)
+      → (image : Image) → IsImage (cells_of tree) image → All (IsNamedAsBefore printed installed.passwd.rows installed.group.rows host image.owner) files
+  done_keeps h host files here tree finished image is_image =
+      let say = says site outcome whole merged printed read in
+      let after = (done_image (owner_in files) (plan_of site.joined merged.mappings.users merged.mappings.groups h files) (cells_of tree) finished image is_image).1 in
+      All-weaker (KeepsItsNames printed host image.owner) (IsNamedAsBefore printed installed.passwd.rows installed.group.rows host image.owner) (named_as_before site outcome mappings printed installed host image.owner) files
+      (keeps_names site.joined merged.mappings printed say.0 say.1 h host files (whole.each_host h host files here) image.owner after)
+
+  pub runs_keep : (keep : Keep) (events : List Event) (refused : ℕ → Option RunFault) (runners : List RunnerData) (trees : List Mem) → EachGoes known_mem (new_world keep site merged.mappings) events refused (record { runners = runners; trees = trees })
+      → DoneKeepsNames site printed installed.passwd.rows installed.group.rows (map (λ runner. is_done runner.place) runners) trees
+  runs_keep keep events refused runners trees goes h host files tree here done at image is_image =
+      let m = merged.mappings in
+      let is = whole.each_host h host files here in
+      let records = plan_of site.joined m.users m.groups h files in
+      let from_zero : 0 + h ≡ h = omega arith in
+      let first : Hosted Mem = record { runner = start_of site m h files; tree = tree_of keep (host, files) } in
+      let first_is : IsHostOf (new_world keep site m) h first = record {
+        runner = runner_at site m site.hosts 0 h host files here ∙ ap (λ i. Some (start_of site m i files)) from_zero;
+        tree = slice_get-map (tree_of keep) site.hosts h ∙ ap (option_map (tree_of keep)) here;
+      } in
+      let went = goes h first first_is in
+      let last = went.0 in
+      let start = fresh_safe (owner_in files) records (cells_of (known_mem (tree_of keep (host, files)))) (new_fresh files) (plan_is_old site.joined m.users m.groups h files is.files_are.distinct) in
+      let safe = went.2.safe (owner_in files) start in
+      let told : Some (is_done last.runner.place) ≡ Some true = sym (slice_get-map (λ (r : RunnerData). is_done r.place) runners h ∙ ap (option_map (λ (r : RunnerData). is_done r.place)) went.1.runner) ∙ done in
+      let at_done : last.runner.place ≡ Done = is_at_done last.runner.place (some_same (is_done last.runner.place) true told) in
+      let same_tree : last.tree ≡ tree = some_same last.tree tree (sym went.1.tree ∙ at) in
+      let finished : IsSafeInStep (owner_in files) records Done (cells_of (known_mem tree)) =
+      subst (λ t. IsSafeInStep (owner_in files) records Done (cells_of (known_mem t))) same_tree (subst (λ p. IsSafeInStep (owner_in files) records p (cells_of (known_mem last.tree))) at_done safe)
+      in
+      done_keeps h host files here (known_mem tree) finished image is_image
+
+pub done_keeps_printed_names : DoneKeepsPrintedNames
+done_keeps_printed_names site outcome whole merged printed read h host files here tree finished image is_image =
+    let installed = installed_by site outcome whole merged printed read in
+    (installed, done_keeps site outcome whole merged printed read merged.mappings installed h host files here tree finished image is_image)
 
 pub runs_keep_names : RunsKeepNames
-runs_keep_names keep events site outcome whole merged printed read refused runners trees goes h host files tree here done at image is_image =
-    let m = merged.mappings in
-    let is = whole.each_host h host files here in
-    let records = plan_of site.joined m.users m.groups h files in
-    let from_zero : 0 + h ≡ h = omega arith in
-    let first : Hosted Mem = record { runner = start_of site m h files; tree = tree_of keep (host, files) } in
-    let first_is : IsHostOf (new_world keep site m) h first = record {
-      runner = runner_at site m site.hosts 0 h host files here ∙ ap (λ i. Some (start_of site m i files)) from_zero;
-      tree = slice_get-map (tree_of keep) site.hosts h ∙ ap (option_map (tree_of keep)) here;
-    } in
-    let went = goes h first first_is in
-    let last = went.0 in
-    let start = fresh_safe (owner_in files) records (cells_of (known_mem (tree_of keep (host, files)))) (new_fresh files) (plan_is_old site.joined m.users m.groups h files is.files_are.distinct) in
-    let safe = went.2.safe (owner_in files) start in
-    let told : Some (is_done last.runner.place) ≡ Some true = sym (slice_get-map (λ (r : RunnerData). is_done r.place) runners h ∙ ap (option_map (λ (r : RunnerData). is_done r.place)) went.1.runner) ∙ done in
-    let at_done : last.runner.place ≡ Done = is_at_done last.runner.place (some_same (is_done last.runner.place) true told) in
-    let same_tree : last.tree ≡ tree = some_same last.tree tree (sym went.1.tree ∙ at) in
-    let finished : IsSafeInStep (owner_in files) records Done (cells_of (known_mem tree)) =
-    subst (λ t. IsSafeInStep (owner_in files) records Done (cells_of (known_mem t))) same_tree (subst (λ p. IsSafeInStep (owner_in files) records p (cells_of (known_mem last.tree))) at_done safe)
-    in
-    done_keeps_printed_names site outcome whole merged printed read h host files here (known_mem tree) finished image is_image
+runs_keep_names keep events site outcome whole merged printed read refused runners trees goes =
+    let installed = installed_by site outcome whole merged printed read in
+    (installed, runs_keep site outcome whole merged printed read merged.mappings installed keep events refused runners trees goes)

@@ -39,7 +39,7 @@ mtree-kept text loaded h =
     let all : Loaded = record { host = made; mtree = text.mtree } in
     ap (λ (l : Loaded). l.mtree) (ok_same all loaded primary.2)
 
-mtrees-kept : (texts : List HostText) (loaded : List Loaded) → each host_of texts ≡ Ok loaded → map (λ t. t.mtree) texts ≡ map (λ l. l.mtree) loaded
+pub mtrees-kept : (texts : List HostText) (loaded : List Loaded) → each host_of texts ≡ Ok loaded → map (λ t. t.mtree) texts ≡ map (λ l. l.mtree) loaded
 unfolding each
 mtrees-kept [] loaded h = ap (λ ls. map (λ (l : Loaded). l.mtree) ls) (ok_same [] loaded h)
 mtrees-kept (t ∷ texts) loaded h =

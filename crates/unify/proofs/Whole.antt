@@ -65,10 +65,10 @@ pub begun_is : (texts : List HostText) (pins_text : List ℕ) (listed : Unit {0}
 begun_is texts pins_text listed loaded joined l h j = begun-steps texts pins_text listed l ∙ ap (begun_from pins_text) h ∙ ap (begun_with (map (λ l. l.host) loaded)) j
 
 -- hosts with their files are the hosts that were loaded, with what the inventories say
-abbrev AreRead : List Loaded → List (Host × List Entry) → Type 0
+abbrev pub AreRead : List Loaded → List (Host × List Entry) → Type 0
 AreRead loaded hosts = (map (λ h. h.0) hosts ≡ map (λ l. l.host) loaded) × (each (inventory 16777216) (map (λ l. l.mtree) loaded) ≡ Ok (map (λ h. h.1) hosts))
 
-hosts-read : (loaded : List Loaded) (hosts : List (Host × List Entry)) → each site_of loaded ≡ Ok hosts → AreRead loaded hosts
+pub hosts-read : (loaded : List Loaded) (hosts : List (Host × List Entry)) → each site_of loaded ≡ Ok hosts → AreRead loaded hosts
 unfolding each
 hosts-read [] hosts h = subst (AreRead []) (ok_same [] hosts h) (refl, refl)
 hosts-read (l ∷ loaded) hosts h =

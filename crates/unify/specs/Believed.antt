@@ -18,7 +18,8 @@ use Rattle.reown_runner.specs.Tree.{TreeData, Image, IsImage, cells_of}
 use Rattle.unify_texts.specs.declared.map_text.MapText.{MapText}
 use Rattle.unify_texts.specs.Maps.{map_of}
 use Rattle.unify.specs.declared.outcome.Outcome.{Outcome}
-use Rattle.unify.specs.Headline.{Headline, HaveOneNumberEach, KeepsItsNames}
+use Rattle.unify.specs.Headline.{Headline, HaveOneNumberEach, IsNamedAsBefore, KeepsItsNames}
+use Rattle.unify.specs.Installed.{AreInstalled}
 use Rattle.unify.specs.Laws.{IsWhole}
 use Rattle.unify.specs.Outcomes.{IsOutcome}
 use Rattle.unify.specs.Reading.{WholeSite}
@@ -29,12 +30,12 @@ abbrev pub OutcomesAreBelieved : Type 0
 OutcomesAreBelieved = (site : WholeSite) (outcome : Outcome) → IsWhole site → IsOutcome site outcome → Headline site outcome
 
 -- Where the plans of a merge were carried out on trees in memory as far as any events lead, refused or not, the files of a host
--- that is done have the names that they had, by the map that the merge printed.
+-- that is done have the names that they had, by the map that the merge printed, and by the passwd and group.
 abbrev pub RunsKeepNames : Type 0
 RunsKeepNames = (keep : Keep) (events : List Event) (site : WholeSite) (outcome : Outcome) → IsWhole site → (merged : IsOutcome site outcome)
     → (printed : MapText) → map_of outcome.map ≡ Ok printed → (refused : ℕ → Option RunFault) (runners : List RunnerData) (trees : List Mem)
     → EachGoes known_mem (new_world keep site merged.mappings) events refused (record { runners = runners; trees = trees })
-    → DoneKeepsNames site printed (map (λ runner. is_done runner.place) runners) trees
+    → (installed : AreInstalled site outcome merged.mappings printed) × DoneKeepsNames site printed installed.passwd.rows installed.group.rows (map (λ runner. is_done runner.place) runners) trees
 
 -- Whatever tree carried out the printed plan of a host, with whatever stops and failed calls: where it is safe and in step at
 -- the end, as a runner's calls keep it, every file has the names that it had, whatever a further stop leaves.
@@ -42,7 +43,7 @@ abbrev pub DoneKeepsPrintedNames : Type 0
 DoneKeepsPrintedNames = (site : WholeSite) (outcome : Outcome) → IsWhole site → (merged : IsOutcome site outcome) (printed : MapText) → map_of outcome.map ≡ Ok printed
     → (h : ℕ) (host : Host) (files : List Entry) → slice_get site.hosts h ≡ Some (host, files)
     → (tree : TreeData) → IsSafeInStep (owner_in files) (plan_of site.joined merged.mappings.users merged.mappings.groups h files) Done (cells_of tree)
-    → (image : Image) → IsImage (cells_of tree) image → All (KeepsItsNames printed host image.owner) files
+    → (image : Image) → IsImage (cells_of tree) image → (installed : AreInstalled site outcome merged.mappings printed) × All (IsNamedAsBefore printed installed.passwd.rows installed.group.rows host image.owner) files
 
 -- Two files, on any hosts, that keep their names under one map have one uid exactly where their users had one name, and one gid
 -- exactly where their groups had one.

@@ -4,6 +4,7 @@ use Rattle.std.specs.Prelude.{◌≡◌, ℕ, Bool, List, map, length, Option, N
 use Rattle.idtext.specs.First.{each}
 use Rattle.mtree_inv.specs.Inventory.{inventory}
 use Rattle.mtree_inv.specs.declared.entry.Entry.{Entry}
+use Rattle.hosts_join.specs.declared.texts.HostText.{HostText}
 use Rattle.reown_plan.specs.declared.plan.Owner.{Owner}
 use Rattle.reown_plan.specs.PlanData.{PlanData}
 use Rattle.reown_plan.specs.Spelling.{spelling, IsLawful}
@@ -15,6 +16,7 @@ use Rattle.reown_runner.specs.Finished.{IsFresh, AreOld}
 use Rattle.reown_runner.specs.Memory.{Mem, known_mem, new_mem}
 use Rattle.reown_runner.specs.RunnerData.{RunnerData}
 use Rattle.reown_runner.specs.Tree.{cells_of}
+use Rattle.unify.specs.Reading.{WholeSite}
 
 -- a tree as its inventory, where a stop keeps what is chosen
 abbrev pub new_tree_of : Keep → List Entry → Mem
@@ -51,3 +53,7 @@ pub record AreCarriedOut (plans : List PlanData) (trees : List Mem) (events : Li
   pub a_tree_each : length ends ≡ length trees
   pub went : EachGoes known_mem (record { runners = at_start plans; trees = trees }) events (λ host. None) (record { runners = runners; trees = ends })
   pub done_are : done ≡ map (λ runner. is_done runner.place) runners
+
+-- the texts of the inventories of hosts, which read as the files of the site
+abbrev pub AreInventoriesOf : List HostText → WholeSite → Type 0
+AreInventoriesOf texts site = each (inventory 16777216) (map (λ t. t.mtree) texts) ≡ Ok (map (λ h. h.1) site.hosts)

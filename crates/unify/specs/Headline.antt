@@ -1,6 +1,7 @@
 -- What a merge is believed for.
 -- Source: the assignment problem with its weak duality (Kuhn, Munkres); the sentence is this project's own.
 use Rattle.std.specs.Prelude.{◌≡◌, ◌≤◌, ◌+◌, ℕ, false, List, Option, Some, Ok, slice_get, All}
+use Rattle.accounts.specs.Rows.{Passwd, Group}
 use Rattle.mtree_inv.specs.declared.entry.Entry.{Entry}
 use Rattle.hosts_join.specs.Accounts.{Accounts, Pair}
 use Rattle.hosts_join.specs.Kinds.{user_at, group_at}
@@ -28,6 +29,7 @@ use Rattle.unify_texts.specs.WrittenMap.{SayMapping}
 use Rattle.unify.specs.declared.counting.Cost.{Cost}
 use Rattle.unify.specs.declared.outcome.Outcome.{Outcome}
 use Rattle.unify.specs.Cost.{cost_of}
+use Rattle.unify.specs.Installed.{AreInstalled}
 use Rattle.unify.specs.Reading.{WholeSite, files_of_site}
 
 -- The pairs give every name of the kind one number, its pin or one of its pool, and no two names one number.
@@ -48,6 +50,13 @@ pub record KeepsItsNames (map : MapText) (host : Host) (tree : List ℕ → Opti
   pub had_group : group_at host.groups file.gid ≡ Some group
   pub has_group : number_of map.groups group ≡ Some now.gid
 
+-- It keeps them by the merged passwd and group as well, which name its uid and gid as this user and this group.
+-- users, groups: the rows of the two files
+pub record IsNamedAsBefore (map : MapText) (users : List Passwd) (groups : List Group) (host : Host) (tree : List ℕ → Option Owner) (file : Entry) : Type 0 where
+  pub by_map : KeepsItsNames map host tree file
+  pub user_is : user_at users by_map.now.uid ≡ Some by_map.user
+  pub group_is : group_at groups by_map.now.gid ≡ Some by_map.group
+
 -- how many fields of files change: owner fields and group fields
 abbrev pub fields : Cost → ℕ
 fields cost = cost.users + cost.groups
@@ -60,19 +69,21 @@ untouched asked files = record { place = Start; state = fresh (record { owner = 
 -- The host's plan is read as some records, whose files are there at their old owners, so that only its device can refuse a
 -- run of it. However they are carried out, in runs one after the other with any stops and failed calls: once they are done,
 -- whatever a further stop leaves, every file has the names that it had.
+-- users, groups: the rows of the merged passwd and group
 -- h: the index of the host
-pub record FinishedPlanKeepsNames (map : MapText) (plans : List (List ℕ)) (h : ℕ) (host : Host) (files : List Entry) : Type 0 where
+pub record FinishedPlanKeepsNames (map : MapText) (users : List Passwd) (groups : List Group) (plans : List (List ℕ)) (h : ℕ) (host : Host) (files : List Entry) : Type 0 where
   pub plan : List ℕ
   pub printed : slice_get plans h ≡ Some plan
   pub records : List PlanRecord
   pub read : ReadsAs plan (Ok (record { host = host.name; records = records }))
   pub begins : AreOld (owner_in files) records
   pub kept : (asked : ℕ) (runs : List (List HostEvent)) (end : run.Host) → AreRuns records (untouched asked files) runs end → end.place ≡ Done
-      → (image : Image) → IsImage (cells_at end.state) image → All (KeepsItsNames map host image.owner) files
+      → (image : Image) → IsImage (cells_at end.state) image → All (IsNamedAsBefore map users groups host image.owner) files
 
--- The map gives every user and group name one distinct number, in its pool or at its pin; no other such mapping rewrites fewer
--- owner and group fields over all inventories, as the printed potentials prove; and once its plan has finished, however often
--- stopped, every file of a host has the user and group names it had.
+-- The map gives every user and group name one distinct number, in its pool or at its pin, and the merged passwd and group have
+-- exactly one row for each name, with its number; no other such mapping rewrites fewer owner and group fields over all
+-- inventories, as the printed potentials prove; and once its plan has finished, however often stopped, every file of a host has
+-- by the map, and by the merged passwd and group, the user and group names it had.
 pub record Headline (site : WholeSite) (outcome : Outcome) : Type 0 where
   -- what is printed
   pub map : MapText
@@ -83,6 +94,8 @@ pub record Headline (site : WholeSite) (outcome : Outcome) : Type 0 where
   pub mappings : Mappings
   pub users_have_one_number_each : HaveOneNumberEach site.joined.users mappings.users map.users
   pub groups_have_one_number_each : HaveOneNumberEach site.joined.groups mappings.groups map.groups
+  -- one row for each name, with its number
+  pub installed : AreInstalled site outcome mappings map
   -- none rewrites fewer, as the potentials prove
   pub no_other_rewrites_fewer : AreLeast site.joined (files_of_site site) mappings
   pub potentials_are_of_these : mappings_of site.joined certificate ≡ mappings
@@ -92,4 +105,4 @@ pub record Headline (site : WholeSite) (outcome : Outcome) : Type 0 where
   pub no_other_map_rewrites_fewer : (other : MapText) (m : Mappings) → HaveOneNumberEach site.joined.users m.users other.users → HaveOneNumberEach site.joined.groups m.groups other.groups
       → fields (cost_of map site.hosts) ≤ fields (cost_of other site.hosts)
   -- names are kept
-  pub a_finished_plan_keeps_names : (h : ℕ) (host : Host) (files : List Entry) → slice_get site.hosts h ≡ Some (host, files) → FinishedPlanKeepsNames map outcome.plans h host files
+  pub a_finished_plan_keeps_names : (h : ℕ) (host : Host) (files : List Entry) → slice_get site.hosts h ≡ Some (host, files) → FinishedPlanKeepsNames map installed.passwd.rows installed.group.rows outcome.plans h host files

@@ -12,6 +12,8 @@ use Rattle.hosts_join.specs.Laws.{HasLawfulAccounts, KnowsHost}
 use Rattle.hosts_join.specs.Site.{Joined, joined_site}
 use Rattle.hosts_join.specs.declared.host.Host.{Host}
 use Rattle.hosts_join.specs.declared.texts.HostText.{HostText}
+use Rattle.mergedfiles.specs.ReadBack.{WasRead}
+use Rattle.mergedfiles.specs.Together.{AreJoined}
 use Rattle.ownership.specs.Faults.{unowned}
 use Rattle.ownership.specs.Mappings.{Mappings}
 use Rattle.unify_texts.specs.declared.fault.Fault.{Fault}
@@ -21,7 +23,7 @@ use Rattle.unify.specs.Cost.{cost_of}
 use Rattle.unify.specs.Count.{site_of}
 use Rattle.unify.specs.Hosts.{host_of}
 use Rattle.unify.specs.Loading.{loaded_from}
-use Rattle.unify.specs.Outcomes.{cost_in}
+use Rattle.unify.specs.Outcomes.{cost_in, hosts_in}
 use Rattle.unify.specs.Passes.{site_begun}
 use Rattle.unify.specs.Told.{in_site}
 use Rattle.unify.specs.Reading.{WholeSite, files_of_site, site_read}
@@ -31,11 +33,12 @@ pub record HaveAccounts (host : Host) (uid gid : ℕ) : Type 0 where
   pub user : is_some (user_at host.users uid) ≡ true
   pub group : is_some (group_at host.groups gid) ≡ true
 
--- A host that was read, with its files: its name and its tables are lawful, no path stands twice, each file has a user and a
--- group, and the accounts over all hosts know its own.
+-- A host that was read, with its files: its tables are those of a passwd and a group, and lawful, as its name is; no path
+-- stands twice, each file has a user and a group, and the accounts over all hosts know its own.
 -- h: its index
 pub record IsReadHost (joined : Joined) (h : ℕ) (host : Host) (files : List Entry) : Type 0 where
   pub named : is_host_name host.name ≡ true
+  pub read : WasRead host
   pub lawful : IsLawfulHost host
   pub files_are : AreFiles files
   pub few : length files ≤ 16777216
@@ -45,6 +48,8 @@ pub record IsReadHost (joined : Joined) (h : ℕ) (host : Host) (files : List En
 pub record IsWhole (site : WholeSite) : Type 0 where
   pub few_hosts : length site.hosts ≤ 64
   pub each_host : (h : ℕ) (host : Host) (files : List Entry) → slice_get site.hosts h ≡ Some (host, files) → IsReadHost site.joined h host files
+  -- the accounts over all hosts were joined from these, with some pins
+  pub together : AreJoined (hosts_in site) site.joined
   pub lawful : HasLawfulAccounts site.joined
   -- each file has its owners among the accounts over all hosts
   pub owned : All (λ f. unowned site.joined f.host f.uid f.gid ≡ None) (files_of_site site)

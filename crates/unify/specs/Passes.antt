@@ -15,6 +15,7 @@ use Rattle.hosts_join.specs.PinsText.{pins_of}
 use Rattle.hosts_join.specs.Site.{Joined, joined_site}
 use Rattle.hosts_join.specs.declared.host.Host.{Host}
 use Rattle.hosts_join.specs.declared.texts.HostText.{HostText}
+use Rattle.mergedfiles.specs.ReadBack.{WasRead}
 use Rattle.mergedfiles.specs.Together.{AreJoined}
 use Rattle.ownership.specs.Counts as counts
 use Rattle.ownership.specs.Counts.{Counted}
@@ -56,6 +57,7 @@ site_begun texts pins_text = do
 -- hosts that were read, and what was joined from them
 pub record AreTogether (hosts : List Host) (joined : Joined) : Type 0 where
   pub few : length hosts ≤ 64
+  pub read : All WasRead hosts
   pub lawful : All IsLawfulHost hosts
   pub together : AreJoined hosts joined
   pub known : KnowsItsHosts hosts joined

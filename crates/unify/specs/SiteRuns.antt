@@ -1,6 +1,7 @@
 -- What a rehearsal of a whole site answers.
 -- Source: this project's own rule.
 use Rattle.std.specs.Prelude.{◌≡◌, ℕ, ◌+◌, Bool, true, List, [], ◌∷◌, map, length, Some, None, slice_get, All}
+use Rattle.accounts.specs.Rows.{Passwd, Group}
 use Rattle.mtree_inv.specs.declared.entry.Entry.{Entry}
 use Rattle.hosts_join.specs.declared.host.Host.{Host}
 use Rattle.ownership.specs.Mappings.{Mappings}
@@ -15,7 +16,7 @@ use Rattle.reown_runner.specs.Tree.{Image, IsImage, cells_of}
 use Rattle.reown_runner.specs.World.{World}
 use Rattle.unify_texts.specs.declared.map_text.MapText.{MapText}
 use Rattle.unify.specs.declared.rehearsing_site.SiteRun.{SiteRun}
-use Rattle.unify.specs.Headline.{Headline, KeepsItsNames}
+use Rattle.unify.specs.Headline.{Headline, IsNamedAsBefore}
 use Rattle.unify.specs.Outcomes.{IsOutcome}
 use Rattle.unify.specs.Reading.{WholeSite}
 
@@ -32,9 +33,10 @@ abbrev pub new_world : Keep → WholeSite → Mappings → World Mem
 new_world keep site m = record { runners = runners_from site m 0 site.hosts; trees = new_trees keep site }
 
 -- on a host that is done every file has the names that it had, whatever a further stop leaves
-abbrev pub DoneKeepsNames : WholeSite → MapText → List Bool → List Mem → Type 0
-DoneKeepsNames site map done trees = (h : ℕ) (host : Host) (files : List Entry) (tree : Mem) → slice_get site.hosts h ≡ Some (host, files) → slice_get done h ≡ Some true → slice_get trees h ≡ Some tree
-    → (image : Image) → IsImage (cells_of (known_mem tree)) image → All (KeepsItsNames map host image.owner) files
+-- users, groups: the rows of the merged passwd and group
+abbrev pub DoneKeepsNames : WholeSite → MapText → List Passwd → List Group → List Bool → List Mem → Type 0
+DoneKeepsNames site map users groups done trees = (h : ℕ) (host : Host) (files : List Entry) (tree : Mem) → slice_get site.hosts h ≡ Some (host, files) → slice_get done h ≡ Some true → slice_get trees h ≡ Some tree
+    → (image : Image) → IsImage (cells_of (known_mem tree)) image → All (IsNamedAsBefore map users groups host image.owner) files
 
 -- A site that was merged, and whose plans went on as far as these events lead, each host by its own, none of them refused.
 pub record IsSiteRun (keep : Keep) (events : List Event) (site : WholeSite) (run : SiteRun) : Type 0 where
@@ -45,4 +47,4 @@ pub record IsSiteRun (keep : Keep) (events : List Event) (site : WholeSite) (run
   pub a_tree_each : length run.trees.items ≡ length site.hosts
   pub went : EachGoes known_mem (new_world keep site merged.mappings) events (λ host. None) (record { runners = runners; trees = run.trees.items })
   pub done : run.done.items ≡ map (λ runner. is_done runner.place) runners
-  pub names_kept : DoneKeepsNames site believed.map run.done.items run.trees.items
+  pub names_kept : DoneKeepsNames site believed.map believed.installed.passwd.rows believed.installed.group.rows run.done.items run.trees.items

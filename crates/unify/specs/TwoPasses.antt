@@ -7,6 +7,7 @@ use Rattle.unify.specs.declared.merging.Merged.{Merged}
 use Rattle.unify.specs.Headline.{Headline}
 use Rattle.unify.specs.Laws.{IsWhole}
 use Rattle.unify.specs.Merging.{IsMerged}
+use Rattle.unify.specs.Outcomes.{IsOutcome}
 use Rattle.unify.specs.Reading.{WholeSite}
 use Rattle.unify.specs.SecondPass.{HaveSameCounts, second_files, whole_plan}
 
@@ -30,8 +31,13 @@ pub record AreReadAgain (first : WholeSite) (hosts : List (Host × List Entry)) 
 abbrev pub read_last : WholeSite → List (Host × List Entry) → WholeSite
 read_last first hosts = record { hosts = hosts; joined = first.joined }
 
--- What was merged behind a first pass, with the plans that a second pass appends, is believed of the files that came the second
--- time, whether or not they are those of the first.
+-- What was merged behind a first pass, with the plans that a second pass appends, is what a merge may answer for
+-- the files that came the second time, whether or not they are those of the first.
+abbrev pub SecondReadingIsRight : Type 0
+SecondReadingIsRight = (first : WholeSite) (merged : Merged) (hosts : List (Host × List Entry)) (plans : List (List ℕ)) → IsWhole first → IsMerged first merged → AreReadAgain first hosts
+    → AreWholePlans (read_last first hosts) merged plans → IsOutcome (read_last first hosts) (record merged.outcome { plans = plans })
+
+-- So it is believed of these.
 abbrev pub SecondReadingIsBelieved : Type 0
 SecondReadingIsBelieved = (first : WholeSite) (merged : Merged) (hosts : List (Host × List Entry)) (plans : List (List ℕ)) → IsWhole first → IsMerged first merged → AreReadAgain first hosts
     → AreWholePlans (read_last first hosts) merged plans → Headline (read_last first hosts) (record merged.outcome { plans = plans })

@@ -22,6 +22,7 @@ use crate::row_files::{RowFiles, files_before, files_since};
 use crate::site::begin_site;
 use crate::solved_pass::Solved;
 use crate::turn::{Turn, end_turn, feed_turn};
+use crate::verifying::verify_counted;
 use hosts_join::{Host, HostText, Site};
 use mtree_inv::Reader;
 use ownership::Counts;
@@ -130,6 +131,9 @@ impl<'a> Counting<'a> {
     ghost use Rattle.unify_texts.specs.declared.fault.Fault.{Fault};
     ghost use Rattle.unify_texts.specs.declared.fault.Fault.TheVariants.{Memory};
     ghost use Rattle.unify_texts.specs.Told.{told};
+    ghost use Rattle.certcheck.specs.Reading.{certificate_in};
+    ghost use Rattle.unify.specs.Checking.{checked};
+    ghost use Rattle.unify.specs.Told.{in_certificate};
     ghost use Rattle.unify.specs.Hosts.{files_of};
     ghost use Rattle.unify.specs.Passes.{site_begun, is_read, lines_of, StandsFor, IsAtStart, ended_in, fault_met, IsToldAs, TellsFault, IsFaultOf};
     ghost use Rattle.unify.specs.SecondPass.{IsSolvedFrom};
@@ -258,6 +262,19 @@ impl<'a> Counting<'a> {
             ended: 0,
             turn: first,
         })
+    }
+
+    /// What a certificate's text says of the site whose inventories were ended: how many owner and group fields its
+    /// mappings change, where it proves that no admissible mappings change fewer. Asked is that no host is left.
+    ///
+    /// It refuses with the first fault in this order: the certificate's text, by line; the check, users before groups.
+    /// `Fault::Memory` is a growth that was refused. Near linear in the account rows, the rows' counters and the
+    /// certificate's lines.
+    pub fn verify(&self, certificate: &'a [u8]) -> Result<u64, Fault<'a>>
+        requires none_left { ended_in self.now ≡ length self.now.hosts }
+        ensures { (ended : List (List ℕ)) (were : StandsFor self.now ended []) → Gives (λ cost. cost) told result (checked (record { hosts = were.read; joined = self.now.joined }) (in_certificate (certificate_in certificate.now))) }
+    {
+        verify_counted(self.alloc, &self.site, &self.turn.counts, certificate)
     }
 
     /// How many hosts' inventories have not been ended. No cost.

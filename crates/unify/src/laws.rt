@@ -1,12 +1,13 @@
 //! Laws of the definitions, each the contract of a call that does nothing.
 ghost use Rattle.unify.specs.Laws.{OwnersAgree, ReadSitesAreWhole, EmptyPinsAreNone, PassesReadTheSite, CostsAgree};
 ghost use Rattle.unify.specs.Believed.{OutcomesAreBelieved, DoneKeepsPrintedNames, RunsKeepNames, NumbersTellNames};
-ghost use Rattle.unify.specs.TwoPasses.{TwoPassesAreBelieved, SecondReadingIsBelieved};
+ghost use Rattle.unify.specs.TwoPasses.{TwoPassesAreBelieved, SecondReadingIsBelieved, SecondReadingIsRight};
 ghost use Rattle.unify.specs.Agreeing.{PrintedCertificatesAreAccepted, PrintedMapsAreCounted, NoMapRewritesFewer, PrintedPlansAreRehearsed};
 
-/// Every site that was read is whole: it has at most 64 hosts, whose names and tables are lawful and whose inventories have
-/// no path twice, the accounts over all hosts are lawful, and each file has a user and a group, by its host's own tables
-/// and as well by the accounts over all hosts.
+/// Every site that was read is whole: it has at most 64 hosts, whose names are lawful, whose tables are those of a passwd
+/// and a group and lawful, and whose inventories have no path twice; the accounts over all hosts were joined from theirs
+/// with some pins, and are lawful; and each file has a user and a group, by its host's own tables and as well by the
+/// accounts over all hosts.
 pub fn a_read_site_is_whole()
     ensures { ReadSitesAreWhole }
 {}
@@ -17,15 +18,17 @@ pub fn owners_agree()
 {}
 
 /// What a merge may answer for a site that was read is believed: the map that is printed gives every name one distinct
-/// number, in its pool or at its pin; no other such mappings rewrite fewer owner and group fields, as the printed
-/// potentials prove; and once its plan has finished, however often stopped, every file of a host has the names it had.
+/// number, in its pool or at its pin, and the passwd and group that are printed have exactly one row for each name, with
+/// its number; no other such mappings rewrite fewer owner and group fields, as the printed potentials prove; and once its
+/// plan has finished, however often stopped, every file of a host has by the map, and by that passwd and group, the names
+/// it had.
 pub fn outcomes_are_believed()
     ensures { OutcomesAreBelieved }
 {}
 
 /// Where the plans of a merge were carried out on trees in memory as far as any events lead, refused or not, the files of
-/// a host that is done have the names that they had. So have those of any tree that is safe and in step at the end of its
-/// printed plan.
+/// a host that is done have the names that they had, by the printed map and by the printed passwd and group. So have those
+/// of any tree that is safe and in step at the end of its printed plan.
 pub fn runs_keep_names()
     ensures runs { RunsKeepNames }
     ensures trees { DoneKeepsPrintedNames }
@@ -54,10 +57,12 @@ pub fn two_passes_are_believed()
     ensures { TwoPassesAreBelieved }
 {}
 
-/// What was merged behind a first pass, with the plans that a second pass appends, is believed of the files that came the second
-/// time: these need not be those of the first pass, where each user and each group of each host owns as many.
+/// What was merged behind a first pass, with the plans that a second pass appends, is what a merge may answer for
+/// the files that came the second time, and believed of these: they need not be those of the first pass, where each
+/// user and each group of each host owns as many.
 pub fn second_reading_is_believed()
-    ensures { SecondReadingIsBelieved }
+    ensures right { SecondReadingIsRight }
+    ensures believed { SecondReadingIsBelieved }
 {}
 
 /// The cost of a map by its pairs and each host's own tables, which `count` answers, is that of its mappings by the

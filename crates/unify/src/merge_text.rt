@@ -6,9 +6,9 @@ ghost use Rattle.unify.specs.Lines.{barred, file_lines, merge_lines, plan_lines}
 ghost use Rattle.unify.specs.Output.{Answers, IsMergeTold};
 ghost use Rattle.unify.specs.Replies.{reply_of};
 
-use crate::merging::consolidate;
 use crate::outcome::Outcome;
 use crate::reply::{Reply, refused};
+use crate::texts::consolidate;
 use hosts_join::HostText;
 use idtext::{ByteString, Lines};
 use std::alloc::{AllocError, Global};

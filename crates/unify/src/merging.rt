@@ -1,7 +1,6 @@
-//! From the texts of hosts to one passwd and group, a map, a certificate, a report and plans.
+//! From a site whose files were counted to one passwd and group, a map, a certificate and a report.
 
-ghost use Rattle.std.specs.Prelude.{◌≡◌, [], List, length, All, IfOk, OnOk, Ok};
-ghost use Rattle.idtext.specs.First.{Yields};
+ghost use Rattle.std.specs.Prelude.{◌≡◌, [], List, length, All, IfOk, OnOk};
 ghost use Rattle.hosts_join.specs.Hosts.{IsLawfulHost};
 ghost use Rattle.ownership.specs.Costs.{cost_of};
 ghost use Rattle.ownership.specs.Counts.{IsMadeFor, StandsFor};
@@ -10,28 +9,23 @@ ghost use Rattle.certcheck.specs.Spelling.{spelling};
 ghost use Rattle.mergedfiles.specs.Texts.{merged_users, merged_groups};
 ghost use Rattle.mergedfiles.specs.Together.{AreJoined};
 ghost use Rattle.unify_texts.specs.Report.{report_of};
-ghost use Rattle.unify_texts.specs.Told.{told};
 ghost use Rattle.unify_texts.specs.WrittenMap.{map_text};
-ghost use Rattle.unify.specs.Loading.{HoldsCounted, HoldsSite};
-ghost use Rattle.unify.specs.Headline.{Headline};
+ghost use Rattle.unify.specs.Loading.{HoldsCounted};
 ghost use Rattle.unify.specs.Laws.{IsWhole};
 ghost use Rattle.unify.specs.Merging.{IsMerged, IsPrintedButPlans};
-ghost use Rattle.unify.specs.Outcomes.{AreAnswered, IsOutcome};
-ghost use Rattle.unify.specs.Reading.{WholeSite, files_of_site, site_read};
+ghost use Rattle.unify.specs.Outcomes.{AreAnswered};
+ghost use Rattle.unify.specs.Reading.{WholeSite, files_of_site};
 
 use crate::counting::Cost;
 use crate::outcome::{Outcome, TextList};
-use crate::plans::plan_texts;
-use crate::site::{LoadedSite, read_site};
 use crate::solving::solve_names;
-use candidates::Mapping;
 use certcheck::{Certificate, write_certificate};
-use hosts_join::{Host, HostText, Site};
+use hosts_join::{Host, Site};
 use idtext::ByteString;
 use mergedfiles::{group_text, passwd_text};
-use ownership::Counts;
+use ownership::{Counts, Mapping};
 use std::alloc::{AllocError, Global};
-use unify_texts::{Fault, figures_under, push_map, report_text};
+use unify_texts::{figures_under, push_map, report_text};
 
 /// What a merge gives for a site but for its plans, and the mappings that these go by.
 #[derive(Drop)]
@@ -232,54 +226,4 @@ pub fn merge_counted(
         users: certified.users,
         groups: certified.groups,
     })
-}
-
-/// What a merge of a site that was read writes. Asked is that the site is whole. It fails for want of memory alone; it
-/// reads each inventory once more, one at a time.
-pub fn merge_loaded(alloc: Global, loaded: &LoadedSite<'_>) -> Result<Outcome, AllocError>
-    requires { (site : WholeSite) × IsWhole site × HoldsSite site loaded.now }
-    ensures { IfOk result (λ outcome. (site : WholeSite) → HoldsSite site loaded.now → IsOutcome site outcome) }
-{
-    let hosts = loaded.hosts.as_slice();
-    let Merged {
-        mut outcome,
-        users,
-        groups,
-    } = merge_counted(alloc, hosts, &loaded.site, &loaded.counts)?;
-    outcome.plans = plan_texts(alloc, hosts, &loaded.mtrees, &loaded.site, &users, &groups)?;
-    Ok(outcome)
-}
-
-// What a merge of a site that was read writes, or want of memory as a fault.
-fn outcome_of<'a>(alloc: Global, loaded: &LoadedSite<'_>) -> Result<Outcome, Fault<'a>>
-    requires { (site : WholeSite) × IsWhole site × HoldsSite site loaded.now }
-    ensures answers { (site : WholeSite) → HoldsSite site loaded.now → Yields IsOutcome told result (Ok site) }
-    ensures believed { (site : WholeSite) → IsWhole site → HoldsSite site loaded.now → Yields Headline told result (Ok site) }
-{
-    match merge_loaded(alloc, loaded) {
-        Ok(outcome) => Ok(outcome),
-        Err(_) => Err(Fault::Memory),
-    }
-}
-
-/// One passwd and one group for all hosts, the map of every name to its number, its certificate, a report and a plan for
-/// each host, where the map changes as few owner and group fields of files as possible.
-///
-/// It refuses with the first fault of `read_site`, and else for want of memory alone. Several maps may cost the least;
-/// which of them is given is not said.
-///
-/// It reads each inventory twice, one at a time, and else each text once. Its time is near linear in the texts but for
-/// the solver, which is near linear where few numbers are contested.
-pub fn consolidate<'a>(
-    alloc: Global,
-    hosts: &'a [HostText],
-    pins: &'a [u8],
-) -> Result<Outcome, Fault<'a>>
-    ensures answers { Yields IsOutcome told result (site_read hosts.now pins.now) }
-    ensures believed { Yields Headline told result (site_read hosts.now pins.now) }
-{
-    match read_site(alloc, hosts, pins) {
-        Ok(loaded) => outcome_of(alloc, &loaded),
-        Err(fault) => Err(fault),
-    }
 }

@@ -1,6 +1,6 @@
 //! The rehearsal of a whole site.
 
-ghost use Rattle.std.specs.Prelude.{◌≡◌, ◌<◌, List, length, map, All, IfOk, Ok};
+ghost use Rattle.std.specs.Prelude.{◌≡◌, ◌<◌, List, length, map, None, All, IfOk, MatchResult, Ok};
 ghost use Rattle.idtext.specs.First.{Yields, each};
 ghost use Rattle.mtree_inv.specs.Inventory.{inventory};
 ghost use Rattle.mtree_inv.specs.declared.entry.Entry.{Entry};
@@ -8,18 +8,18 @@ ghost use Rattle.reown_plan.specs.PlanData.{PlanData};
 ghost use Rattle.reown_plan.specs.Spelling.{spelling, IsLawful};
 ghost use Rattle.reown_runner.specs.Campaign.{host_of, is_done};
 ghost use Rattle.unify_texts.specs.Told.{told};
-ghost use Rattle.unify.specs.Carrying.{AreReady, AreCarriedOut, AreSpelledFor, new_tree_of};
+ghost use Rattle.unify.specs.Carrying.{AreInventoriesOf, AreReady, AreCarriedOut, AreSpelledFor, new_tree_of};
 ghost use Rattle.unify.specs.Laws.{IsWhole};
-ghost use Rattle.unify.specs.Loading.{HoldsSite};
+ghost use Rattle.unify.specs.Outcomes.{IsOutcome};
 ghost use Rattle.unify.specs.Reading.{WholeSite, site_read};
 ghost use Rattle.unify.specs.SiteRuns.{IsSiteRun};
 
-use crate::merging::merge_loaded;
+use crate::host::MOST_FILES;
 use crate::outcome::{Outcome, TextList};
-use crate::plans::read_again;
-use crate::site::{LoadedSite, read_site};
+use crate::texts::consolidate;
 use hosts_join::HostText;
 use idtext::Name;
+use mtree_inv::{Inventory, read_inventory};
 use reown_plan::{Plan, PlanFault};
 use reown_runner::{Campaign, Event, Keep, MemTree};
 use std::alloc::{AllocError, Global};
@@ -41,6 +41,27 @@ pub struct SiteRun {
 struct CarriedOut {
     done: Vec<bool>,
     trees: Vec<MemTree>,
+}
+
+// The files of an inventory that was read before. It fails for want of memory alone.
+fn read_again(alloc: Global, mtree: &[u8]) -> Result<Inventory, AllocError>
+    requires { (files : List Entry) × (inventory 16777216 mtree.now ≡ Ok files) }
+    ensures { IfOk result (λ read. inventory 16777216 mtree.now ≡ Ok read) }
+{
+    match read_inventory(alloc, mtree, MOST_FILES) {
+        Ok(files) => Ok(files),
+        Err(_) => Err(AllocError),
+    }
+}
+
+// The texts of the inventories.
+fn mtrees_of<'a>(alloc: Global, texts: &'a [HostText]) -> Result<Vec<Name<'a>>, AllocError>
+    ensures { IfOk result (λ mtrees. mtrees.items ≡ map (λ t. t.mtree) texts.now) }
+{
+    texts
+        .iter()
+        .map(|text| Name::new(text.mtree.bytes()))
+        .collect(alloc)
 }
 
 // A tree as an inventory that was read before.
@@ -149,41 +170,25 @@ fn carry_out_texts(
     carry_out(alloc, &plans, trees, events)
 }
 
-// Merges a site that was read, and carries its plans out as far as events lead. It fails for want of memory alone.
-fn rehearse_loaded(
+// Carries the plans of what was merged out. It fails for want of memory alone.
+fn run_of<'a>(
     alloc: Global,
-    loaded: &LoadedSite<'_>,
+    texts: &[HostText],
+    outcome: Outcome,
     keep: Keep,
     events: &[Event],
-) -> Result<SiteRun, AllocError>
-    requires holds { (site : WholeSite) × IsWhole site × HoldsSite site loaded.now }
-    requires hosts { All (λ event. host_of event < length loaded.now.mtrees.items) events.now }
-    ensures { IfOk result (λ run. (site : WholeSite) → IsWhole site → HoldsSite site loaded.now → IsSiteRun keep events.now site run) }
+) -> Result<SiteRun, Fault<'a>>
+    requires merged { (site : WholeSite) × IsWhole site × AreInventoriesOf texts.now site × IsOutcome site outcome }
+    requires hosts { All (λ event. host_of event < length texts.now) events.now }
+    ensures { (site : WholeSite) → IsWhole site → AreInventoriesOf texts.now site → IsOutcome site outcome → MatchResult result (IsSiteRun keep events.now site) (λ e. told e ≡ None) }
 {
-    let outcome = merge_loaded(alloc, loaded)?;
-    let carried = carry_out_texts(alloc, &loaded.mtrees, &outcome.plans, keep, events)?;
+    let mtrees = mtrees_of(alloc, texts)?;
+    let carried = carry_out_texts(alloc, &mtrees, &outcome.plans, keep, events)?;
     Ok(SiteRun {
         outcome,
         done: carried.done,
         trees: carried.trees,
     })
-}
-
-// Merges a site that was read, and carries its plans out. Want of memory is told as a fault.
-fn run_of<'a>(
-    alloc: Global,
-    loaded: &LoadedSite<'_>,
-    keep: Keep,
-    events: &[Event],
-) -> Result<SiteRun, Fault<'a>>
-    requires holds { (site : WholeSite) × IsWhole site × HoldsSite site loaded.now }
-    requires hosts { All (λ event. host_of event < length loaded.now.mtrees.items) events.now }
-    ensures { (site : WholeSite) → IsWhole site → HoldsSite site loaded.now → Yields (IsSiteRun keep events.now) told result (Ok site) }
-{
-    match rehearse_loaded(alloc, loaded, keep, events) {
-        Ok(run) => Ok(run),
-        Err(_) => Err(Fault::Memory),
-    }
 }
 
 /// Merges a site, and carries its plans out on trees in memory that are as the inventories tell, as far as the events lead:
@@ -204,8 +209,8 @@ pub fn rehearse_site<'a>(
     requires { All (λ event. host_of event < length hosts.now) events.now }
     ensures { Yields (IsSiteRun keep events.now) told result (site_read hosts.now pins.now) }
 {
-    match read_site(alloc, hosts, pins) {
-        Ok(loaded) => run_of(alloc, &loaded, keep, events),
+    match consolidate(alloc, hosts, pins) {
+        Ok(outcome) => run_of(alloc, hosts, outcome, keep, events),
         Err(fault) => Err(fault),
     }
 }

@@ -95,6 +95,16 @@ fn accepted_text(alloc: Global, cost: u64) -> Result<Vec<u8>, AllocError>
     Ok(text)
 }
 
+/// What goes out for an accepted certificate: its line. An error is a growth that was refused.
+pub fn accepted_reply(alloc: Global, cost: u64) -> Result<Reply, AllocError>
+    ensures { IfOk result (λ reply. reply_of reply ≡ answered (Ok (accepted_line cost))) }
+{
+    Ok(Reply {
+        text: accepted_text(alloc, cost)?,
+        status: 0,
+    })
+}
+
 /// What goes out for a check of a certificate of these hosts with these pins: its line, or the fault line with its
 /// status. An error is a growth that was refused. It takes what `verify` takes, and a line.
 pub fn check_reply(
@@ -106,10 +116,7 @@ pub fn check_reply(
     ensures { IfOk result (λ reply. reply_of reply ≡ answered (checked hosts.now pins.now certificate.now)) }
 {
     match verify(alloc, hosts, pins, certificate) {
-        Ok(cost) => Ok(Reply {
-            text: accepted_text(alloc, cost)?,
-            status: 0,
-        }),
+        Ok(cost) => accepted_reply(alloc, cost),
         Err(fault) => refused(alloc, &fault),
     }
 }

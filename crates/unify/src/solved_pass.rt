@@ -66,6 +66,14 @@ impl<'a> Solved<'a> {
         &self.merged.outcome
     }
 
+    /// What was merged; its list of plans is empty. No cost.
+    pub fn into_outcome(self) -> Outcome
+        ensures { result ≡ self.entry.merged.outcome }
+    {
+        let Solved { merged, .. } = self;
+        merged.outcome
+    }
+
     /// Takes the next bytes of the second inventory of the present host, and appends to the plan of the host. Asked is that
     /// a host is left.
     ///

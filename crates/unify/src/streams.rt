@@ -1,9 +1,10 @@
 //! Where a bundle comes from, and where its answer goes: each notes whether a call on it has failed.
 
 ghost use Rattle.std.specs.Prelude.{◌≡◌, true, OnOk, OnErr};
+ghost use Rattle.std.specs.Io.Buffered.{writer_buffer, writer_contents};
 
 use std::io;
-use std::io::{Read, Write};
+use std::io::{BufWriter, Read, Write};
 
 /// A source of bytes that notes whether a read has failed.
 pub trait Source {
@@ -27,11 +28,14 @@ pub trait Source {
 
 /// A sink of bytes that notes whether a write has failed.
 pub trait Sink {
-    ghost use Rattle.std.specs.Prelude.{◌≡◌, ℕ, List, Option, Bool, true, OnOk, OnErr};
+    ghost use Rattle.std.specs.Prelude.{◌≡◌, ℕ, List, [], Option, Bool, true, OnOk, OnErr};
     ghost use Rattle.std.specs.Io.KnownBytes.{Appends};
 
-    // The bytes that it holds, where they are known.
+    // The bytes that it was given, where they are known.
     ghost contents: { Self → Option (List ℕ) };
+
+    // Those of them that it has not handed on.
+    ghost waiting: { Self → List ℕ };
 
     // Whether a write has failed.
     ghost has_failed: { Self → Bool };
@@ -39,11 +43,12 @@ pub trait Sink {
     /// Writes all the bytes, and hands on what it buffered. After an error nothing is said of how many went out.
     fn write_all(&mut self, bytes: &[u8]) -> io::Result<()>
         ensures bytes { OnOk result (Appends (contents self.old) (contents self.new) bytes.now) }
+        ensures handed_on { OnOk result (waiting self.new ≡ []) }
         ensures ok { OnOk result (has_failed self.new ≡ has_failed self.old) }
         ensures err { OnErr result (has_failed self.new ≡ true) };
 }
 
-/// A reader or a writer of the standard library, with a note of whether a call on it has failed.
+/// A reader or a buffered writer of the standard library, with a note of whether a call on it has failed.
 #[derive(Drop)]
 pub struct Watched<T> {
     pub inner: T,
@@ -79,8 +84,10 @@ impl<R: Read> Source for Watched<R> {
     }
 }
 
-impl<W: Write> Sink for Watched<W> {
-    ghost contents = { λ watched. W.contents watched.inner };
+impl<W: Write + Drop> Sink for Watched<BufWriter<W>> {
+    ghost contents = { λ watched. writer_contents W.contents watched.inner };
+
+    ghost waiting = { λ watched. writer_buffer watched.inner };
 
     ghost has_failed = { λ watched. watched.has_failed };
 

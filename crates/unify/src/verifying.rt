@@ -9,12 +9,12 @@ ghost use Rattle.certcheck.specs.Reading.{certificate_in};
 ghost use Rattle.unify_texts.specs.Told.{told};
 ghost use Rattle.unify.specs.Told.{check_told, in_certificate, in_check};
 ghost use Rattle.unify.specs.Checking.{IsVerified, checked, verified};
-ghost use Rattle.unify.specs.Loading.{HoldsSite};
-ghost use Rattle.unify.specs.Reading.{WholeSite};
+ghost use Rattle.unify.specs.Reading.{WholeSite, files_of_site};
 
-use crate::site::{LoadedSite, read_site};
+use crate::texts::read_site;
 use certcheck::{Certificate, CertificateFault, CheckFault, check, read_certificate};
-use hosts_join::HostText;
+use hosts_join::{HostText, Site};
+use ownership::Counts;
 use std::alloc::Global;
 use unify_texts::Fault;
 
@@ -44,33 +44,40 @@ fn certificate_at<'a>(alloc: Global, text: &'a [u8]) -> Result<Certificate<'a>, 
     }
 }
 
-// The check of a certificate of a site that was read.
+// The check of a certificate of a site whose files were counted.
 fn check_site<'a>(
     alloc: Global,
-    loaded: &LoadedSite<'a>,
+    site: &Site<'a>,
+    counts: &Counts,
     certificate: &Certificate<'a>,
 ) -> Result<u64, Fault<'a>>
-    requires made { IsMadeFor loaded.now.site loaded.now.counts }
-    requires stands { (files : List Added) × StandsFor loaded.now.site loaded.now.counts files }
-    ensures { (files : List Added) → StandsFor loaded.now.site loaded.now.counts files → Gives (λ cost. cost) told result (in_check (check_answer loaded.now.site files certificate.now)) }
+    requires made { IsMadeFor site.now counts.now }
+    requires stands { (files : List Added) × StandsFor site.now counts.now files }
+    ensures { (files : List Added) → StandsFor site.now counts.now files → Gives (λ cost. cost) told result (in_check (check_answer site.now files certificate.now)) }
 {
-    match check(alloc, &loaded.site, &loaded.counts, certificate) {
+    match check(alloc, site, counts, certificate) {
         Ok(cost) => Ok(cost),
         Err(fault) => Err(check_fault(fault)),
     }
 }
 
-// What a certificate's text says of a site that was read.
-fn verify_loaded<'a>(
+/// What a certificate's text says of a site whose files were counted. Asked is that the counters are of its files.
+///
+/// It refuses with the first fault in this order: the certificate's text, by line; the check, users before groups.
+/// `Fault::Memory` is a growth that was refused. Near linear in the account rows, the counters and the certificate's
+/// lines.
+pub fn verify_counted<'a>(
     alloc: Global,
-    loaded: &LoadedSite<'a>,
+    site: &Site<'a>,
+    counts: &Counts,
     certificate: &'a [u8],
 ) -> Result<u64, Fault<'a>>
-    requires { (site : WholeSite) × HoldsSite site loaded.now }
-    ensures { (site : WholeSite) → HoldsSite site loaded.now → Gives (λ cost. cost) told result (checked site (in_certificate (certificate_in certificate.now))) }
+    requires made { IsMadeFor site.now counts.now }
+    requires stands { (files : List Added) × StandsFor site.now counts.now files }
+    ensures { (whole : WholeSite) → site.now ≡ whole.joined → StandsFor site.now counts.now (files_of_site whole) → Gives (λ cost. cost) told result (checked whole (in_certificate (certificate_in certificate.now))) }
 {
     match certificate_at(alloc, certificate) {
-        Ok(certificate) => check_site(alloc, loaded, &certificate),
+        Ok(certificate) => check_site(alloc, site, counts, &certificate),
         Err(fault) => Err(fault),
     }
 }
@@ -93,7 +100,7 @@ pub fn verify<'a>(
     ensures proved { IfOk result (IsVerified hosts.now pins.now certificate.now) }
 {
     match read_site(alloc, hosts, pins) {
-        Ok(loaded) => verify_loaded(alloc, &loaded, certificate),
+        Ok(counting) => counting.verify(certificate),
         Err(fault) => Err(fault),
     }
 }

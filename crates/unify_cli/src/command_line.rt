@@ -6,78 +6,102 @@ use std::alloc::{AllocError, Global};
 /// What `--version` tells.
 const VERSION: &str = "0.1.0";
 
+// A word that has to stand there.
+fn word<'a>(alloc: Global, name: &'a str, help: &'a str) -> Arg<'a> {
+    Arg::new(alloc, name).help(help).required(true)
+}
+
+// --NAME VALUE
+fn option<'a>(alloc: Global, name: &'a str, value: &'a str, help: &'a str) -> Arg<'a> {
+    Arg::new(alloc, name)
+        .long(name)
+        .value_name(value)
+        .help(help)
+}
+
 // HOST..., one or more.
 fn hosts<'a>(alloc: Global) -> Arg<'a> {
-    Arg::new(alloc, "HOST")
-        .help(
-            "NAME=DIR, or DIR, whose last part is the name; it holds passwd, group, mtree and maybe login.defs",
-        )
-        .required(true)
-        .num_args(1..)
-        .action(ArgAction::Append)
+    word(
+        alloc,
+        "HOST",
+        "NAME=DIR, or DIR, whose last part is the name; it holds passwd, group, mtree and maybe login.defs",
+    )
+    .num_args(1..)
 }
 
-// count [--quiet] MAP HOST...
-fn count<'a>(alloc: Global) -> Result<Command<'a>, AllocError> {
-    let map = Arg::new(alloc, "MAP")
-        .help("the map: lines `user NAME NUMBER` and `group NAME NUMBER`")
-        .required(true)
-        .action(ArgAction::Set);
-    Command::new(alloc, "count")
-        .about("Counts the owner and group fields of files that a map would change")
-        .arg(quiet(alloc))?
-        .arg(map)?
-        .arg(hosts(alloc))
+// An argument that a letter behind one dash names too.
+fn with_letter<'a>(arg: Arg<'a>, letter: char) -> Arg<'a> {
+    arg.short(letter)
 }
 
-// --quiet
+// -q, --quiet
 fn quiet<'a>(alloc: Global) -> Arg<'a> {
-    Arg::new(alloc, "quiet")
-        .short('q')
+    let flag = Arg::new(alloc, "quiet")
         .long("quiet")
         .help("no warnings")
-        .action(ArgAction::SetTrue)
+        .action(ArgAction::SetTrue);
+    with_letter(flag, 'q')
 }
 
 // --pins FILE
 fn pins<'a>(alloc: Global) -> Arg<'a> {
-    Arg::new(alloc, "pins")
-        .long("pins")
-        .value_name("FILE")
-        .help("numbers that names must keep: lines as in a map")
-        .action(ArgAction::Set)
+    option(
+        alloc,
+        "pins",
+        "FILE",
+        "numbers that names must keep: lines as in a map",
+    )
 }
 
-// OUT, unless -o names it: then the first word names a host too.
+// A word that has to stand there unless -o names OUT: then it is a HOST too, or none.
+fn unless_output<'a>(word: Arg<'a>) -> Result<Arg<'a>, AllocError> {
+    word.required(false).required_unless_present("output")
+}
+
+// OUT
 fn out<'a>(alloc: Global) -> Result<Arg<'a>, AllocError> {
-    Arg::new(alloc, "OUT")
-        .help(
-            "the existing directory to write passwd, group, map, certificate, report and plan.NAME into",
-        )
-        .action(ArgAction::Set)
-        .required_unless_present("output")
+    unless_output(word(
+        alloc,
+        "OUT",
+        "the existing directory to write passwd, group, map, certificate, report and plan.NAME into",
+    ))
 }
 
-// HOST..., one or more, unless the first of them was taken for OUT.
-fn merged_hosts<'a>(alloc: Global) -> Result<Arg<'a>, AllocError> {
-    hosts(alloc)
-        .required(false)
-        .required_unless_present("output")
-}
-
-// -o DIR
+// -o DIR, --output DIR
 fn output<'a>(alloc: Global) -> Arg<'a> {
-    Arg::new(alloc, "output")
-        .short('o')
-        .long("output")
-        .value_name("DIR")
-        .help("the directory OUT; each other word names a host then")
-        .action(ArgAction::Set)
+    let named = option(
+        alloc,
+        "output",
+        "DIR",
+        "the directory OUT; each other word names a host then",
+    );
+    with_letter(named, 'o')
+}
+
+// A command with one argument more.
+fn with_arg<'a>(
+    command: Command<'a>,
+    arg: Result<Arg<'a>, AllocError>,
+) -> Result<Command<'a>, AllocError> {
+    command.arg(arg?)
+}
+
+// count [--quiet] MAP HOST...
+fn count<'a>(alloc: Global) -> Result<Command<'a>, AllocError> {
+    Command::new(alloc, "count")
+        .about("Counts the owner and group fields of files that a map would change")
+        .arg(quiet(alloc))?
+        .arg(word(
+            alloc,
+            "MAP",
+            "the map: a line for each user and each group, as merge writes it",
+        ))?
+        .arg(hosts(alloc))
 }
 
 // merge [--quiet] [--pins FILE] OUT HOST..., or the same with -o OUT HOST...
 fn merge<'a>(alloc: Global) -> Result<Command<'a>, AllocError> {
-    Command::new(alloc, "merge")
+    let flags = Command::new(alloc, "merge")
         .about(
             "Merges the accounts of hosts so that as few owner and group fields as possible change",
         )
@@ -86,52 +110,47 @@ fn merge<'a>(alloc: Global) -> Result<Command<'a>, AllocError> {
         )
         .arg(quiet(alloc))?
         .arg(pins(alloc))?
-        .arg(output(alloc))?
-        .arg(out(alloc)?)?
-        .arg(merged_hosts(alloc)?)
+        .arg(output(alloc))?;
+    with_arg(with_arg(flags, out(alloc))?, unless_output(hosts(alloc)))
 }
 
 // check [--quiet] [--pins FILE] CERTIFICATE HOST...
 fn check<'a>(alloc: Global) -> Result<Command<'a>, AllocError> {
-    let certificate = Arg::new(alloc, "CERTIFICATE")
-        .help("the certificate of a map")
-        .required(true)
-        .action(ArgAction::Set);
     Command::new(alloc, "check")
         .about("Checks that no map changes fewer owner and group fields than that of a certificate")
         .arg(quiet(alloc))?
         .arg(pins(alloc))?
-        .arg(certificate)?
+        .arg(word(alloc, "CERTIFICATE", "the certificate of a map"))?
         .arg(hosts(alloc))
 }
 
 // rehearse PLAN MTREE
 fn rehearse<'a>(alloc: Global) -> Result<Command<'a>, AllocError> {
-    let plan = Arg::new(alloc, "PLAN")
-        .help("the plan of a host")
-        .required(true)
-        .action(ArgAction::Set);
-    let mtree = Arg::new(alloc, "MTREE")
-        .help("the host's inventory")
-        .required(true)
-        .action(ArgAction::Set);
     Command::new(alloc, "rehearse")
         .about("Carries a plan out on a tree in memory that is as an inventory tells")
-        .arg(plan)?
-        .arg(mtree)
+        .arg(word(alloc, "PLAN", "the plan of a host"))?
+        .arg(word(alloc, "MTREE", "the host's inventory"))
+}
+
+// A command with one subcommand more.
+fn with_subcommand<'a>(
+    command: Command<'a>,
+    subcommand: Result<Command<'a>, AllocError>,
+) -> Result<Command<'a>, AllocError> {
+    command.subcommand(subcommand?)
 }
 
 /// The command line with words.
 pub fn command_line<'a>(alloc: Global) -> Result<Command<'a>, AllocError> {
-    Command::new(alloc, "unify")
+    let bare = Command::new(alloc, "unify")
         .version(VERSION)
         .about("One numbering for the accounts of many hosts")
         .after_help(
             "Without words a bundle, one command and its files in one text, is read from standard input.",
         )
-        .subcommand_required(true)
-        .subcommand(count(alloc)?)?
-        .subcommand(merge(alloc)?)?
-        .subcommand(check(alloc)?)?
-        .subcommand(rehearse(alloc)?)
+        .subcommand_required(true);
+    let counting = with_subcommand(bare, count(alloc))?;
+    let merging = with_subcommand(counting, merge(alloc))?;
+    let checking = with_subcommand(merging, check(alloc))?;
+    with_subcommand(checking, rehearse(alloc))
 }

@@ -2,6 +2,8 @@
 
 ghost use Rattle.std.specs.Prelude.{◌≡◌, length, IfOk};
 
+use crate::inventory::look_through;
+use crate::report::file_failed;
 use hosts_join::HostText;
 use idtext::ByteString;
 use std::alloc::{AllocError, AllocFailed};
@@ -11,32 +13,15 @@ use std::path::Path;
 use std::{fs, io};
 
 /// The most bytes that an input file may have.
-const MOST_BYTES: u64 = 4294967295;
+pub const MOST_BYTES: u64 = 4294967295;
 
-/// Why the files were not read or written.
-#[derive(Drop)]
+/// Why a command with words has no answer. It owns nothing, so that a function that can fail lets nothing go with it.
+#[derive(Clone, Copy)]
 pub enum FileFault {
+    /// A growth was refused, which is still to be told.
     Memory,
-    /// The path of the first file that cannot be read or written, and what the system said.
-    File(String, io::Error),
-    /// The word for the directory that was to be written into, and why it is not.
-    Output(String, OutputFault),
-    /// No word names a host.
-    NoHost,
-}
-
-/// Why nothing is written into a directory.
-#[derive(Drop)]
-pub enum OutputFault {
-    EmptyWord,
-    /// It is not there, or no directory.
-    System(io::Error),
-    /// It is the directory of the host of that name.
-    HostDirectory(String),
-    /// It holds a file of that name, as the directory of a host does.
-    HostFile(String),
-    /// It holds something of that name that no merge wrote.
-    Foreign(String),
+    /// It was told on standard error where it was found; the exit status.
+    Told(u8),
 }
 
 impl From<AllocError> for FileFault {
@@ -64,27 +49,16 @@ pub fn too_large() -> io::Error {
     io::Error::from(io::ErrorKind::FileTooLarge)
 }
 
-/// Why a file was not read or written: for want of memory, or because of the file.
-pub fn fault_of(rt: &HostRuntime, path: &str, error: &io::Error) -> FileFault {
-    if error.kind() == io::ErrorKind::OutOfMemory {
-        return FileFault::Memory;
-    }
-    match String::from_str(rt.alloc(), path) {
-        Ok(path) => FileFault::File(path, *error),
-        Err(_) => FileFault::Memory,
-    }
-}
-
 /// The text of the file at a path.
 pub fn read_file(rt: &HostRuntime, path: &str) -> Result<ByteString, FileFault> {
     match read_bytes(rt, path) {
         Ok(bytes) => {
             if bytes.len() as u64 > MOST_BYTES {
-                return Err(fault_of(rt, path, &too_large()));
+                return Err(file_failed(rt, path, &too_large()));
             }
             Ok(ByteString::from_vec(bytes))
         }
-        Err(error) => Err(fault_of(rt, path, &error)),
+        Err(error) => Err(file_failed(rt, path, &error)),
     }
 }
 
@@ -99,7 +73,7 @@ pub fn is_there(rt: &HostRuntime, path: &str) -> Result<bool, FileFault> {
     match fs::symlink_metadata(rt, path) {
         Ok(_) => Ok(true),
         Err(error) if error.kind() == io::ErrorKind::NotFound => Ok(false),
-        Err(error) => Err(fault_of(rt, path, &error)),
+        Err(error) => Err(file_failed(rt, path, &error)),
     }
 }
 
@@ -169,4 +143,23 @@ pub fn read_hosts(rt: &HostRuntime, words: &[&str]) -> Result<Vec<HostText>, Fil
         hosts.push(host)?;
     }
     Ok(hosts)
+}
+
+/// Hosts with the texts of all their files but their inventories, and of each whether its inventory has a file in it.
+#[derive(Drop)]
+pub struct SeenHosts {
+    pub hosts: Vec<HostText>,
+    pub have_files: Vec<bool>,
+}
+
+/// The texts of the hosts that words name, in order, but their inventories: each of these is only read through behind the
+/// other files of its host, and none is kept.
+pub fn see_hosts(rt: &HostRuntime, words: &[&str]) -> Result<SeenHosts, FileFault> {
+    let mut hosts = Vec::new(rt.alloc());
+    let mut have_files = Vec::new(rt.alloc());
+    for word in words {
+        hosts.push(read_tables(rt, *word)?)?;
+        have_files.push(look_through(rt, *word)?)?;
+    }
+    Ok(SeenHosts { hosts, have_files })
 }

@@ -1,61 +1,129 @@
 //! Inventories that are read in pieces.
 
-use crate::files::{FileFault, fault_of, host_directory, too_large};
-use crate::warnings::has_file;
+use crate::files::{FileFault, MOST_BYTES, host_directory, too_large};
+use crate::report::file_failed;
+use crate::warnings::is_of_file;
+use idtext::first_word;
 use std::fs::File;
-use std::io::Read;
+use std::io::{self, BufRead, BufReader, Read};
 use std::path::{Path, PathBuf};
 
-/// How many bytes of an inventory are read at once.
-pub const PIECE_BYTES: usize = 65536;
+// How many bytes of an inventory are asked of the system at once.
+const BUFFER_BYTES: usize = 65536;
 
-/// How many whole pieces are too many: they have one byte more than an input file may have.
-pub const MOST_PIECES: usize = 65536;
+// How many bytes of a line, and about how many of a piece, are handed out at once. The files of a piece wait with their
+// whole paths, and a path may be that of 30,000 directories: so they are few.
+const PIECE_BYTES: usize = 1024;
+
+/// How many lines of an inventory are of files, as far as it was read.
+#[derive(Drop)]
+struct FileLines {
+    count: u64,
+    // Whether a part of the line was counted, or is of no file.
+    is_decided: bool,
+}
+
+impl FileLines {
+    // Takes a part of a line, of which the last has the newline. A line that ends in a backslash goes on in the next.
+    fn take(&mut self, part: &[u8]) {
+        let line = part.strip_suffix(b"\n").unwrap_or(part);
+        if !self.is_decided && first_word(line).is_some() {
+            self.is_decided = true;
+            if is_of_file(line) {
+                self.count = self.count.saturating_add(1);
+            }
+        }
+        if line.len() < part.len() && !line.ends_with(b"\\") {
+            self.is_decided = false;
+        }
+    }
+}
 
 /// The inventory of a host, open to be read once.
 #[derive(Drop)]
 pub struct InventoryFile {
     path: PathBuf,
-    file: File,
-    bytes: Vec<u8>,
-    has_file: bool,
+    reader: BufReader<File>,
+    lines: FileLines,
+}
+
+// Opens a file to be read in parts.
+fn open_buffered(rt: &HostRuntime, path: &str) -> io::Result<BufReader<File>> {
+    BufReader::with_capacity(rt.alloc(), BUFFER_BYTES, File::open(rt, path)?)
 }
 
 impl InventoryFile {
     /// Opens the inventory of the host that a word names.
     pub fn open(rt: &HostRuntime, word: &str) -> Result<InventoryFile, FileFault> {
         let path = Path::new(host_directory(word)).join(rt.alloc(), "mtree")?;
-        match File::open(rt, path.as_str()) {
-            Ok(file) => Ok(InventoryFile {
+        match open_buffered(rt, path.as_str()) {
+            Ok(reader) => Ok(InventoryFile {
                 path,
-                file,
-                bytes: Vec::new(rt.alloc()),
-                has_file: false,
+                reader,
+                lines: FileLines {
+                    count: 0,
+                    is_decided: false,
+                },
             }),
-            Err(error) => Err(fault_of(rt, path.as_str(), &error)),
+            Err(error) => Err(file_failed(rt, path.as_str(), &error)),
         }
     }
 
-    /// The next `PIECE_BYTES` bytes, and fewer only at its end.
-    pub fn next_piece(&mut self, rt: &HostRuntime) -> Result<&[u8], FileFault> {
-        self.bytes.clear();
-        let mut piece = self.file.by_ref().take(PIECE_BYTES as u64);
-        match piece.read_to_end(&mut self.bytes) {
-            Ok(_) => {
-                self.has_file = self.has_file || has_file(&self.bytes);
-                Ok(self.bytes.as_slice())
+    // Appends the next line, or a part of it, and hands out how many bytes it has: none only at the end.
+    fn append_line(&mut self, bytes: &mut Vec<u8>) -> io::Result<usize> {
+        let from = bytes.len();
+        let mut part = self.reader.by_ref().take(PIECE_BYTES as u64);
+        let count = part.read_until(b'\n', bytes)?;
+        self.lines.take(&bytes[from..]);
+        Ok(count)
+    }
+
+    // Appends lines until there are enough bytes for a piece. Each has at least one byte.
+    fn append_lines(&mut self, bytes: &mut Vec<u8>) -> io::Result<()> {
+        for _ in 0..PIECE_BYTES {
+            if bytes.len() >= PIECE_BYTES || self.append_line(bytes)? == 0 {
+                break;
             }
-            Err(error) => Err(fault_of(rt, self.path.as_str(), &error)),
+        }
+        Ok(())
+    }
+
+    /// Replaces the bytes by the next ones: none only at its end.
+    pub fn next_piece(&mut self, rt: &HostRuntime, bytes: &mut Vec<u8>) -> Result<(), FileFault> {
+        bytes.clear();
+        match self.append_lines(bytes) {
+            Ok(()) => Ok(()),
+            Err(error) => Err(file_failed(rt, self.path.as_str(), &error)),
         }
     }
 
-    /// Whether a piece that was read has a file in it.
-    pub fn has_file(&self) -> bool {
-        self.has_file
+    /// How many lines that were read are of files.
+    pub fn file_lines(&self) -> u64 {
+        self.lines.count
     }
 
-    /// The inventory has too many bytes.
-    pub fn too_long(&self, rt: &HostRuntime) -> FileFault {
-        fault_of(rt, self.path.as_str(), &too_large())
+    /// Tells that it has too many bytes.
+    pub fn too_large(&self, rt: &HostRuntime) -> FileFault {
+        file_failed(rt, self.path.as_str(), &too_large())
     }
+}
+
+/// Reads the inventory of the host that a word names from its start to its end, and hands out whether it has a file in
+/// it. It is refused where it cannot be read or has too many bytes.
+pub fn look_through(rt: &HostRuntime, word: &str) -> Result<bool, FileFault> {
+    let mut inventory = InventoryFile::open(rt, word)?;
+    let mut bytes = Vec::new(rt.alloc());
+    let mut left = MOST_BYTES;
+    for _ in 0..u64::MAX {
+        inventory.next_piece(rt, &mut bytes)?;
+        let count = bytes.len() as u64;
+        if count > left {
+            return Err(inventory.too_large(rt));
+        }
+        if count == 0 {
+            break;
+        }
+        left -= count;
+    }
+    Ok(inventory.file_lines() > 0)
 }

@@ -4,10 +4,12 @@
 
 mod command_line;
 mod files;
+mod inventories;
 mod inventory;
-mod merging;
+mod merge_warnings;
 mod output;
 mod report;
+mod site_files;
 mod warnings;
 mod words;
 mod writing;

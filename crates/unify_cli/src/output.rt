@@ -1,7 +1,8 @@
 //! The directory that a merge writes into, as it is found before anything is read.
 
-use crate::files::{FileFault, OutputFault, fault_of, host_directory, host_name, is_there};
-use std::fs::{File, Metadata};
+use crate::files::{FileFault, host_directory, host_name, is_there};
+use crate::report::{file_failed, output_refused};
+use std::fs::{DirEntry, File, Metadata, TryLockError};
 use std::io::Read;
 use std::os::unix::fs::MetadataExt;
 use std::path::Path;
@@ -15,6 +16,32 @@ pub const TEMPORARY: &str = ".unify-new.";
 
 /// How the names of plans begin.
 pub const PLAN: &str = "plan.";
+
+/// Why nothing is written into a directory.
+#[derive(Clone, Copy)]
+pub enum OutputFault<'a> {
+    EmptyWord,
+    /// It is not there, no directory, or cannot be read or locked.
+    System(io::Error),
+    /// It is the directory of the host of that name.
+    HostDirectory(&'a str),
+    /// Another merge has it.
+    Busy,
+    /// It holds a file of that name, as the directory of a host does.
+    HostFile(&'a str),
+    /// It holds something of that name that no merge wrote.
+    Foreign(&'a str),
+}
+
+impl OutputFault<'_> {
+    /// Whether it is want of memory.
+    pub fn is_memory(&self) -> bool {
+        match self {
+            OutputFault::System(error) => error.kind() == io::ErrorKind::OutOfMemory,
+            _ => false,
+        }
+    }
+}
 
 // Files that directories of hosts hold, and no merge writes.
 const HOST_FILES: [&str; 3] = ["mtree", "login.defs", "shadow"];
@@ -56,29 +83,44 @@ fn first_held<'n>(
     Ok(None)
 }
 
+// Notes the name of an entry of a directory, if it begins so. One that is no text begins otherwise.
+fn note_name(
+    rt: &HostRuntime,
+    names: &mut Vec<String>,
+    entry: io::Result<DirEntry>,
+    start: &str,
+) -> io::Result<()> {
+    match entry {
+        Ok(entry) => {
+            if entry.file_name().starts_with(start) {
+                names.push(String::from_str(rt.alloc(), entry.file_name())?)?;
+            }
+            Ok(())
+        }
+        Err(error) if error.kind() == io::ErrorKind::InvalidFilename => Ok(()),
+        Err(error) => Err(error),
+    }
+}
+
+// The names in a directory that begin so.
+fn read_names(rt: &HostRuntime, directory: &str, start: &str) -> io::Result<Vec<String>> {
+    let mut names = Vec::new(rt.alloc());
+    for entry in fs::read_dir(rt, directory)? {
+        note_name(rt, &mut names, entry, start)?;
+    }
+    Ok(names)
+}
+
 /// The names in a directory that begin so. One that is no text begins otherwise.
 pub fn names_with(
     rt: &HostRuntime,
     directory: &str,
     start: &str,
 ) -> Result<Vec<String>, FileFault> {
-    let entries = match fs::read_dir(rt, directory) {
-        Ok(entries) => entries,
-        Err(error) => return Err(fault_of(rt, directory, &error)),
-    };
-    let mut names = Vec::new(rt.alloc());
-    for entry in entries {
-        match entry {
-            Ok(entry) => {
-                if entry.file_name().starts_with(start) {
-                    names.push(String::from_str(rt.alloc(), entry.file_name())?)?;
-                }
-            }
-            Err(error) if error.kind() == io::ErrorKind::InvalidFilename => {}
-            Err(error) => return Err(fault_of(rt, directory, &error)),
-        }
+    match read_names(rt, directory, start) {
+        Ok(names) => Ok(names),
+        Err(error) => Err(file_failed(rt, directory, &error)),
     }
-    Ok(names)
 }
 
 // Whether a file begins with these bytes.
@@ -100,7 +142,7 @@ pub fn is_file_with(rt: &HostRuntime, path: &str, start: &[u8]) -> Result<bool, 
     }
     match starts_with(rt, path, start) {
         Ok(answer) => Ok(answer),
-        Err(error) => Err(fault_of(rt, path, &error)),
+        Err(error) => Err(file_failed(rt, path, &error)),
     }
 }
 
@@ -113,51 +155,81 @@ fn was_merged_into(rt: &HostRuntime, directory: &str) -> Result<bool, FileFault>
     is_file_with(rt, report.as_str(), b"unify report ")
 }
 
-// Something in a directory that stands in the way of a first merge.
-fn foreign(rt: &HostRuntime, directory: &str) -> Result<Option<OutputFault>, FileFault> {
+// Refuses a directory that holds something that stands in the way of a first merge.
+fn refuse_foreign(rt: &HostRuntime, directory: &str) -> Result<(), FileFault> {
     if let Some(name) = first_held(rt, directory, &MERGED_FILES)? {
-        return Ok(Some(OutputFault::Foreign(String::from_str(rt.alloc(), name)?)));
+        return Err(output_refused(rt, directory, OutputFault::Foreign(name)));
     }
-    let mut plans = names_with(rt, directory, PLAN)?;
-    Ok(plans.pop().map(OutputFault::Foreign))
+    match names_with(rt, directory, PLAN)?.last() {
+        None => Ok(()),
+        Some(name) => Err(output_refused(rt, directory, OutputFault::Foreign(name.as_str()))),
+    }
 }
 
-// What a directory holds that no merge may change.
-fn held_fault(rt: &HostRuntime, directory: &str) -> Result<Option<OutputFault>, FileFault> {
+// Refuses a directory that holds what no merge may change.
+fn refuse_held(rt: &HostRuntime, directory: &str) -> Result<(), FileFault> {
     if let Some(name) = first_held(rt, directory, &HOST_FILES)? {
-        return Ok(Some(OutputFault::HostFile(String::from_str(rt.alloc(), name)?)));
+        return Err(output_refused(rt, directory, OutputFault::HostFile(name)));
     }
     if was_merged_into(rt, directory)? {
-        return Ok(None);
+        Ok(())
+    } else {
+        refuse_foreign(rt, directory)
     }
-    foreign(rt, directory)
 }
 
-// Why nothing may be written into a directory.
-fn output_fault(
-    rt: &HostRuntime,
-    directory: &str,
-    words: &[&str],
-) -> Result<Option<OutputFault>, FileFault> {
-    if directory.is_empty() {
-        return Ok(Some(OutputFault::EmptyWord));
-    }
+// Opens a directory. What is no directory is not opened.
+fn open_directory(rt: &HostRuntime, directory: &str) -> io::Result<File> {
     let inside = Path::new(directory).join(rt.alloc(), ".")?;
-    let found = match fs::metadata(rt, inside.as_str()) {
+    File::open(rt, inside.as_str())
+}
+
+// Why a directory that was opened may not be written into, whatever it holds. If it may, it is locked.
+fn fault_of_lock<'w>(
+    rt: &HostRuntime,
+    opened: &File,
+    words: &[&'w str],
+) -> Option<OutputFault<'w>> {
+    let found = match opened.metadata() {
         Ok(found) => found,
-        Err(error) => return Ok(Some(OutputFault::System(error))),
+        Err(error) => return Some(OutputFault::System(error)),
     };
     if let Some(host) = host_of(rt, &found, words) {
-        return Ok(Some(OutputFault::HostDirectory(String::from_str(rt.alloc(), host)?)));
+        return Some(OutputFault::HostDirectory(host));
     }
-    held_fault(rt, directory)
+    match opened.try_lock() {
+        Ok(()) => None,
+        Err(TryLockError::WouldBlock) => Some(OutputFault::Busy),
+        Err(TryLockError::Error(error)) => Some(OutputFault::System(error)),
+    }
 }
 
-/// Looks at the directory that the hosts which words name are to be merged into. It is refused where it is not there, where
-/// it is or looks like the directory of a host, and where it holds what a merge would write and no merge wrote.
-pub fn look_at_output(rt: &HostRuntime, directory: &str, words: &[&str]) -> Result<(), FileFault> {
-    match output_fault(rt, directory, words)? {
-        None => Ok(()),
-        Some(fault) => Err(FileFault::Output(String::from_str(rt.alloc(), directory)?, fault)),
+// Locks a directory that was opened, and looks at what it holds.
+fn lock_output(
+    rt: &HostRuntime,
+    opened: &File,
+    directory: &str,
+    words: &[&str],
+) -> Result<(), FileFault> {
+    match fault_of_lock(rt, opened, words) {
+        None => refuse_held(rt, directory),
+        Some(fault) => Err(output_refused(rt, directory, fault)),
+    }
+}
+
+/// Opens the directory that the hosts which words name are to be merged into. It is locked: no other merge is made
+/// into it until it is closed, which the end of the process does too. It is refused where it is not there, where it
+/// is or looks like the directory of a host, where another merge has it, and where it holds what a merge would
+/// write and no merge wrote.
+pub fn open_output(rt: &HostRuntime, directory: &str, words: &[&str]) -> Result<File, FileFault> {
+    if directory.is_empty() {
+        return Err(output_refused(rt, directory, OutputFault::EmptyWord));
+    }
+    match open_directory(rt, directory) {
+        Ok(opened) => {
+            lock_output(rt, &opened, directory, words)?;
+            Ok(opened)
+        }
+        Err(error) => Err(output_refused(rt, directory, OutputFault::System(error))),
     }
 }

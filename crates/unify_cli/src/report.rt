@@ -1,6 +1,7 @@
 //! What the program tells when it cannot answer, and the answers to words, each with its exit status.
 
-use crate::files::{FileFault, OutputFault};
+use crate::files::FileFault;
+use crate::output::OutputFault;
 use clap::Error;
 use idtext::push_escaped;
 use std::alloc::AllocError;
@@ -46,71 +47,101 @@ fn push_shown(line: &mut Vec<u8>, word: &str) -> Result<(), AllocError> {
     push_escaped(line, shown.as_bytes())
 }
 
+// Tells a line that is all that a command answers.
+fn tell(rt: &HostRuntime, line: &[u8], status: u8) -> FileFault {
+    let _ = rt.stderr().write_all(line);
+    FileFault::Told(status)
+}
+
+// Appends the line for a file that was not read or written.
+fn push_file_line(
+    rt: &HostRuntime,
+    line: &mut Vec<u8>,
+    path: &str,
+    error: &io::Error,
+) -> Result<(), AllocError> {
+    line.extend_from_slice(b"unify: file ")?;
+    push_shown(line, path)?;
+    line.extend_from_slice(b": ")?;
+    push_reason(rt, line, error)?;
+    line.extend_from_slice(b"\n")
+}
+
+/// Tells why a file was not read or written, unless it was for want of memory, which is told later.
+pub fn file_failed(rt: &HostRuntime, path: &str, error: &io::Error) -> FileFault {
+    if error.kind() == io::ErrorKind::OutOfMemory {
+        return FileFault::Memory;
+    }
+    let mut line = Vec::new(rt.alloc());
+    match push_file_line(rt, &mut line, path, error) {
+        Ok(()) => tell(rt, &line, 3),
+        Err(_) => FileFault::Memory,
+    }
+}
+
 // Appends why nothing is written into a directory.
 fn push_output_fault(
     rt: &HostRuntime,
     line: &mut Vec<u8>,
-    fault: &OutputFault,
+    fault: OutputFault<'_>,
 ) -> Result<(), AllocError> {
     match fault {
         OutputFault::EmptyWord => line.extend_from_slice(b"an empty word"),
-        OutputFault::System(error) => push_reason(rt, line, error),
+        OutputFault::System(error) => push_reason(rt, line, &error),
         OutputFault::HostDirectory(host) => {
             line.extend_from_slice(b"the directory of host ")?;
-            push_shown(line, host.as_str())
+            push_shown(line, host)
         }
+        OutputFault::Busy => line.extend_from_slice(b"another merge is writing there"),
         OutputFault::HostFile(name) => {
             line.extend_from_slice(b"holds ")?;
-            push_shown(line, name.as_str())?;
+            push_shown(line, name)?;
             line.extend_from_slice(b", as the directory of a host does")
         }
         OutputFault::Foreign(name) => {
             line.extend_from_slice(b"holds ")?;
-            push_shown(line, name.as_str())?;
+            push_shown(line, name)?;
             line.extend_from_slice(b", and no report of an earlier merge")
         }
     }
 }
 
-// The line for a fault, but for want of memory.
-fn file_fault_line(rt: &HostRuntime, fault: &FileFault) -> Result<Vec<u8>, AllocError> {
+// Appends the line for a directory that nothing is written into.
+fn push_output_line(
+    rt: &HostRuntime,
+    line: &mut Vec<u8>,
+    directory: &str,
+    fault: OutputFault<'_>,
+) -> Result<(), AllocError> {
+    line.extend_from_slice(b"unify: output ")?;
+    push_shown(line, directory)?;
+    line.extend_from_slice(b": ")?;
+    push_output_fault(rt, line, fault)?;
+    line.extend_from_slice(b"\n")
+}
+
+/// Tells why nothing is written into a directory, unless it is for want of memory, which is told later.
+pub fn output_refused(rt: &HostRuntime, directory: &str, fault: OutputFault<'_>) -> FileFault {
+    if fault.is_memory() {
+        return FileFault::Memory;
+    }
     let mut line = Vec::new(rt.alloc());
-    match fault {
-        FileFault::Memory => line.extend_from_slice(b"unify: memory")?,
-        FileFault::NoHost => line.extend_from_slice(b"unify: no HOST")?,
-        FileFault::File(path, error) => {
-            line.extend_from_slice(b"unify: file ")?;
-            push_shown(&mut line, path.as_str())?;
-            line.extend_from_slice(b": ")?;
-            push_reason(rt, &mut line, error)?;
-        }
-        FileFault::Output(word, fault) => {
-            line.extend_from_slice(b"unify: output ")?;
-            push_shown(&mut line, word.as_str())?;
-            line.extend_from_slice(b": ")?;
-            push_output_fault(rt, &mut line, fault)?;
-        }
-    }
-    line.push(b'\n')?;
-    Ok(line)
-}
-
-// The status for a fault of files, or of the words that name them.
-fn file_fault_status(fault: &FileFault) -> u8 {
-    match fault {
-        FileFault::Memory | FileFault::File(_, _) => 3,
-        FileFault::Output(_, _) | FileFault::NoHost => 2,
+    match push_output_line(rt, &mut line, directory, fault) {
+        Ok(()) => tell(rt, &line, 2),
+        Err(_) => FileFault::Memory,
     }
 }
 
-/// Tells why files were not read or written, and hands out the status.
-pub fn file_fault_told(rt: &HostRuntime, fault: &FileFault) -> u8 {
-    match file_fault_line(rt, fault) {
-        Ok(line) => {
-            let _ = rt.stderr().write_all(&line);
-            file_fault_status(fault)
-        }
-        Err(_) => memory_refused(rt),
+/// No word names a host.
+pub fn no_host(rt: &HostRuntime) -> FileFault {
+    tell(rt, b"unify: no HOST\n", 2)
+}
+
+/// Tells a fault that is still to be told, and hands out the status.
+pub fn file_fault_told(rt: &HostRuntime, fault: FileFault) -> u8 {
+    match fault {
+        FileFault::Memory => memory_refused(rt),
+        FileFault::Told(status) => status,
     }
 }
 

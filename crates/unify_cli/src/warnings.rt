@@ -1,23 +1,96 @@
 //! Warnings: of what is accepted and is seldom meant so. Each is a line on standard error.
 
-use hosts_join::{HostText, PairLine, Which, pair_line};
-use idtext::{ByteString, Lines, first_word, is_skipped, push_escaped};
+use crate::files::SeenHosts;
+use hosts_join::{HostText, PairLine, PairTable, Which, pair_line};
+use idtext::{ByteString, Lines, first_word, is_skipped, push_escaped, push_number};
 use std::alloc::AllocError;
 use std::io::Write;
+use strsim::generic_levenshtein;
 use unify_texts::{MapText, read_map};
 
-// Warns of something that has a name.
-fn warn(rt: &HostRuntime, what: &str, name: &[u8], why: &str) -> Result<(), AllocError> {
+/// How many lines there are of one kind of warning that many names may have; the rest is counted.
+pub const MOST_LINES: usize = 10;
+
+/// How many names are told in one line.
+pub const MOST_NAMES: usize = 8;
+
+/// How many edits a name may be away from the name that is told for it.
+const MOST_EDITS: usize = 2;
+
+/// A part of a warning. Between two parts there is a space.
+#[derive(Clone, Copy)]
+pub enum Part<'a> {
+    Text(&'a str),
+    /// A name or a path, which is escaped.
+    Name(&'a [u8]),
+    /// A name as a report has it, which is escaped already.
+    Shown(&'a [u8]),
+    /// Names, the first few of them.
+    Names(&'a [&'a [u8]]),
+    Count(usize),
+}
+
+// Appends the first few of some names.
+fn push_names(line: &mut Vec<u8>, names: &[&[u8]]) -> Result<(), AllocError> {
+    let mut separator: &[u8] = b"";
+    for name in names.iter().take(MOST_NAMES) {
+        line.extend_from_slice(separator)?;
+        push_escaped(line, *name)?;
+        separator = b", ";
+    }
+    if names.len() > MOST_NAMES {
+        line.extend_from_slice(b" and others")?;
+    }
+    Ok(())
+}
+
+// Appends a part of a warning.
+fn push_part(line: &mut Vec<u8>, part: Part<'_>) -> Result<(), AllocError> {
+    match part {
+        Part::Text(text) => line.extend_from_slice(text.as_bytes()),
+        Part::Name(name) => push_escaped(line, name),
+        Part::Shown(name) => line.extend_from_slice(name),
+        Part::Names(names) => push_names(line, names),
+        Part::Count(count) => push_number(line, count as u128),
+    }
+}
+
+// Appends a warning.
+fn push_warning(line: &mut Vec<u8>, parts: &[Part<'_>]) -> Result<(), AllocError> {
+    line.extend_from_slice(b"unify: warning:")?;
+    for part in parts {
+        line.extend_from_slice(b" ")?;
+        push_part(line, *part)?;
+    }
+    line.extend_from_slice(b"\n")
+}
+
+/// Warns.
+pub fn warn(rt: &HostRuntime, parts: &[Part<'_>]) -> Result<(), AllocError> {
     let mut line = Vec::new(rt.alloc());
-    line.extend_from_slice(b"unify: warning: ")?;
-    line.extend_from_slice(what.as_bytes())?;
-    line.push(b' ')?;
-    push_escaped(&mut line, name)?;
-    line.push(b' ')?;
-    line.extend_from_slice(why.as_bytes())?;
-    line.push(b'\n')?;
+    push_warning(&mut line, parts)?;
     let _ = rt.stderr().write_all(&line);
     Ok(())
+}
+
+/// Warns of how many there are beyond those that a line was told of.
+pub fn warn_of_more(rt: &HostRuntime, what: &str, count: usize) -> Result<(), AllocError> {
+    if count <= MOST_LINES {
+        return Ok(());
+    }
+    warn(
+        rt,
+        &[
+            Part::Text("more"),
+            Part::Text(what),
+            Part::Count(count - MOST_LINES),
+        ],
+    )
+}
+
+// Warns of a host.
+fn warn_of_host<'a>(rt: &HostRuntime, name: &'a [u8], why: &'a str) -> Result<(), AllocError> {
+    warn(rt, &[Part::Text("host"), Part::Name(name), Part::Text(why)])
 }
 
 // Whether a line of a text ends in a carriage return.
@@ -30,8 +103,8 @@ fn is_all_skipped(text: &[u8]) -> bool {
     Lines::new(text).all(|line| is_skipped(line))
 }
 
-// Whether a line of an inventory is of a file.
-fn is_of_file(line: &[u8]) -> bool {
+/// Whether a line of an inventory is of a file.
+pub fn is_of_file(line: &[u8]) -> bool {
     match first_word(line) {
         Some((word, _)) => !word.starts_with(b"#")
             && !word.starts_with(b"/")
@@ -40,40 +113,34 @@ fn is_of_file(line: &[u8]) -> bool {
     }
 }
 
-/// Whether a part of an inventory has a file in it.
-pub fn has_file(text: &[u8]) -> bool {
+// Whether an inventory has a file in it.
+fn has_file(text: &[u8]) -> bool {
     Lines::new(text).any(|line| is_of_file(line))
 }
 
 /// Warns of a host without files.
 pub fn warn_of_no_files(rt: &HostRuntime, name: &[u8]) -> Result<(), AllocError> {
-    warn(rt, "host", name, "has no files")
+    warn_of_host(rt, name, "has no files")
 }
 
 // Warns of what the account files of a host have.
 fn warn_of_tables(rt: &HostRuntime, host: &HostText) -> Result<(), AllocError> {
     let name = host.name.bytes();
     if has_carriage_return(host.passwd.bytes()) {
-        warn(
+        warn_of_host(
             rt,
-            "host",
             name,
             "has lines in passwd that end in a carriage return",
         )?;
     }
     if has_carriage_return(host.group.bytes()) {
-        warn(
-            rt,
-            "host",
-            name,
-            "has lines in group that end in a carriage return",
-        )?;
+        warn_of_host(rt, name, "has lines in group that end in a carriage return")?;
     }
     if is_all_skipped(host.passwd.bytes()) {
-        warn(rt, "host", name, "has no users")?;
+        warn_of_host(rt, name, "has no users")?;
     }
     if is_all_skipped(host.group.bytes()) {
-        warn(rt, "host", name, "has no groups")?;
+        warn_of_host(rt, name, "has no groups")?;
     }
     Ok(())
 }
@@ -97,27 +164,140 @@ pub fn warn_of_hosts(rt: &HostRuntime, hosts: &[HostText]) -> Result<(), AllocEr
     Ok(())
 }
 
+/// Warns of what the account files of hosts have, and of those without files.
+pub fn warn_of_seen(rt: &HostRuntime, seen: &SeenHosts) -> Result<(), AllocError> {
+    warn_of_hosts_tables(rt, &seen.hosts)?;
+    for (host, has_files) in seen.hosts.iter().zip(&seen.have_files) {
+        if !*has_files {
+            warn_of_no_files(rt, host.name.bytes())?;
+        }
+    }
+    Ok(())
+}
+
 /// Warns of a map or a pins text that may have been cut.
 pub fn warn_of_end(rt: &HostRuntime, path: &str, text: &ByteString) -> Result<(), AllocError> {
     if text.bytes().is_empty() || text.bytes().ends_with(b"\n") {
         return Ok(());
     }
-    warn(rt, "file", path.as_bytes(), "has no newline at its end")
+    warn(
+        rt,
+        &[
+            Part::Text("file"),
+            Part::Name(path.as_bytes()),
+            Part::Text("has no newline at its end"),
+        ],
+    )
 }
 
-// Warns of a pin whose name is not in a map.
-fn warn_of_pin(rt: &HostRuntime, map: &MapText<'_>, line: &[u8]) -> Result<(), AllocError> {
-    let PairLine::Given { which, name, .. } = pair_line(line) else {
-        return Ok(());
-    };
-    let (what, number) = match which {
-        Which::User => ("pin of user", map.users.number(name.bytes())),
-        Which::Group => ("pin of group", map.groups.number(name.bytes())),
-    };
-    match number {
-        Some(_) => Ok(()),
-        None => warn(rt, what, name.bytes(), "is for a name that no host has"),
+// The first name of a table that is at most so many edits away from a name.
+fn name_within<'a>(
+    rt: &HostRuntime,
+    table: &PairTable<'a>,
+    name: &[u8],
+    edits: usize,
+) -> Result<Option<&'a [u8]>, AllocError> {
+    for index in 0..table.len() {
+        let other = table.at(index).name;
+        if other.len().abs_diff(name.len()) <= edits
+            && generic_levenshtein(rt.alloc(), other, name)? <= edits
+        {
+            return Ok(Some(other));
+        }
     }
+    Ok(None)
+}
+
+// The name of a table that is the nearest to a name, and no further away than `MOST_EDITS`.
+fn nearest<'a>(
+    rt: &HostRuntime,
+    table: &PairTable<'a>,
+    name: &[u8],
+) -> Result<Option<&'a [u8]>, AllocError> {
+    for edits in 1..=MOST_EDITS {
+        if let Some(other) = name_within(rt, table, name, edits)? {
+            return Ok(Some(other));
+        }
+    }
+    Ok(None)
+}
+
+// Warns of a pin for nobody, and tells a name that may be meant.
+fn warn_of_nobody<'a>(
+    rt: &HostRuntime,
+    what: &'a str,
+    name: &'a [u8],
+    near: Option<&'a [u8]>,
+) -> Result<(), AllocError> {
+    let (what, name) = (Part::Text(what), Part::Name(name));
+    match near {
+        None => warn(
+            rt,
+            &[what, name, Part::Text("is for a name that no host has")],
+        ),
+        Some(near) => warn(
+            rt,
+            &[
+                what,
+                name,
+                Part::Text("is for a name that no host has; there is"),
+                Part::Name(near),
+            ],
+        ),
+    }
+}
+
+// Warns of a pin whose name is not in a table of all names, and hands out whether it is not.
+fn warn_of_name(
+    rt: &HostRuntime,
+    what: &str,
+    table: &PairTable<'_>,
+    name: &[u8],
+    told: usize,
+) -> Result<bool, AllocError> {
+    if table.number(name).is_some() {
+        return Ok(false);
+    }
+    let near = if told < MOST_LINES {
+        nearest(rt, table, name)?
+    } else {
+        None
+    };
+    warn_of_nobody(rt, what, name, near)?;
+    Ok(true)
+}
+
+// Warns of a pin whose name is not in a map, and hands out whether it is not.
+fn warn_of_pin(
+    rt: &HostRuntime,
+    map: &MapText<'_>,
+    line: &[u8],
+    told: usize,
+) -> Result<bool, AllocError> {
+    match pair_line(line) {
+        PairLine::Given {
+            which: Which::User,
+            name,
+            ..
+        } => { warn_of_name(rt, "pin of user", &map.users, name.bytes(), told) }
+        PairLine::Given {
+            which: Which::Group,
+            name,
+            ..
+        } => { warn_of_name(rt, "pin of group", &map.groups, name.bytes(), told) }
+        _ => Ok(false),
+    }
+}
+
+// Warns of each pin whose name is not in a map. For the first few the nearest name is told.
+fn warn_of_each_pin(rt: &HostRuntime, map: &MapText<'_>, pins: &[u8]) -> Result<(), AllocError> {
+    let mut told: usize = 0;
+    for line in Lines::new(pins) {
+        if warn_of_pin(rt, map, line, told)? {
+            told = told.saturating_add(1);
+        }
+    }
+    Ok(())
 }
 
 /// Warns of pins whose names are not in the map that was made with them.
@@ -125,11 +305,8 @@ pub fn warn_of_pins(rt: &HostRuntime, map: &[u8], pins: &[u8]) -> Result<(), All
     if pins.is_empty() {
         return Ok(());
     }
-    let Ok(map) = read_map(rt.alloc(), map) else {
-        return Err(AllocError);
-    };
-    for line in Lines::new(pins) {
-        warn_of_pin(rt, &map, line)?;
+    match read_map(rt.alloc(), map) {
+        Ok(map) => warn_of_each_pin(rt, &map, pins),
+        Err(_) => Err(AllocError),
     }
-    Ok(())
 }

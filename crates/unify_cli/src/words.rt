@@ -1,27 +1,44 @@
 //! Commands given in words.
 
 use crate::command_line::command_line;
-use crate::files::{FileFault, read_file, read_hosts, read_hosts_tables};
-use crate::merging::{MergeFault, merge_hosts};
-use crate::output::look_at_output;
-use crate::report::{file_fault_told, memory_refused, print_reply, write_failed, wrong_words};
-use crate::warnings::{warn_of_end, warn_of_hosts, warn_of_hosts_tables};
+use crate::files::{FileFault, read_file, read_hosts, read_hosts_tables, see_hosts};
+use crate::inventories::HostFiles;
+use crate::merge_warnings::warn_of_merge;
+use crate::output::open_output;
+use crate::report::{
+    file_fault_told, memory_refused, no_host, print_reply, write_failed, wrong_words,
+};
+use crate::site_files::SiteFiles;
+use crate::warnings::{warn_of_end, warn_of_hosts, warn_of_hosts_tables, warn_of_seen};
 use clap::error::ErrorKind;
 use clap::{ArgMatches, Error};
+use hosts_join::HostText;
 use idtext::ByteString;
 use std::alloc::AllocError;
-use unify::{Reply, check_reply, cost_reply, count_reply, refused, rehearse_reply};
+use unify::{accepted_reply, cost_reply, count_reply, refused, rehearse_reply};
+use unify_merge::{MergeFault, check_files, merge_files};
+
+// Prints what a map costs on hosts.
+fn count_hosts(
+    rt: &HostRuntime,
+    matches: &ArgMatches<'_>,
+    path: &str,
+    map: &ByteString,
+    hosts: &[HostText],
+) -> Result<u8, FileFault> {
+    if !matches.get_flag("quiet") {
+        warn_of_end(rt, path, map)?;
+        warn_of_hosts(rt, hosts)?;
+    }
+    Ok(print_reply(rt, &count_reply(rt.alloc(), hosts, map.bytes())?))
+}
 
 // count [--quiet] MAP HOST...
-fn run_count(rt: &HostRuntime, matches: &ArgMatches<'_>) -> Result<Reply, FileFault> {
+fn run_count(rt: &HostRuntime, matches: &ArgMatches<'_>) -> Result<u8, FileFault> {
     let path = matches.get_str("MAP").unwrap_or("");
     let map = read_file(rt, path)?;
     let hosts = read_hosts(rt, matches.get_strs("HOST").unwrap_or(&[]))?;
-    if !matches.get_flag("quiet") {
-        warn_of_end(rt, path, &map)?;
-        warn_of_hosts(rt, &hosts)?;
-    }
-    Ok(count_reply(rt.alloc(), &hosts, map.bytes())?)
+    count_hosts(rt, matches, path, &map, &hosts)
 }
 
 // The pins text, empty where none is named.
@@ -41,23 +58,59 @@ fn warn_of_pins_end(
     warn_of_end(rt, matches.get_str("pins").unwrap_or(""), pins)
 }
 
+// Why the inventories of hosts were not all read, or what was read is refused: it is printed, unless it was told.
+fn reading_refused(
+    rt: &HostRuntime,
+    files: &HostFiles<'_>,
+    fault: &MergeFault<'_>,
+) -> Result<u8, FileFault> {
+    match fault {
+        MergeFault::Refused(fault) => Ok(print_reply(rt, &refused(rt.alloc(), fault)?)),
+        MergeFault::TooLarge => Err(files.too_large()),
+        MergeFault::Failed => Err(files.fault()),
+    }
+}
+
+// Prints what a check of a certificate of the hosts that words name gives.
+fn check_hosts(
+    rt: &HostRuntime,
+    words: &[&str],
+    certificate: &ByteString,
+    pins: &ByteString,
+    hosts: &[HostText],
+) -> Result<u8, FileFault> {
+    let mut files = HostFiles::new(rt, words);
+    match check_files(
+        rt.alloc(),
+        &mut files,
+        hosts,
+        pins.bytes(),
+        certificate.bytes(),
+    ) {
+        Ok(cost) => Ok(print_reply(rt, &accepted_reply(rt.alloc(), cost)?)),
+        Err(fault) => reading_refused(rt, &files, &fault),
+    }
+}
+
 // check [--quiet] [--pins FILE] CERTIFICATE HOST...
-fn run_check(rt: &HostRuntime, matches: &ArgMatches<'_>) -> Result<Reply, FileFault> {
+fn run_check(rt: &HostRuntime, matches: &ArgMatches<'_>) -> Result<u8, FileFault> {
     let certificate = read_file(rt, matches.get_str("CERTIFICATE").unwrap_or(""))?;
     let pins = read_pins(rt, matches)?;
-    let hosts = read_hosts(rt, matches.get_strs("HOST").unwrap_or(&[]))?;
+    let words = matches.get_strs("HOST").unwrap_or(&[]);
+    let seen = see_hosts(rt, words)?;
     if !matches.get_flag("quiet") {
         warn_of_pins_end(rt, matches, &pins)?;
-        warn_of_hosts(rt, &hosts)?;
+        warn_of_seen(rt, &seen)?;
     }
-    Ok(check_reply(rt.alloc(), &hosts, pins.bytes(), certificate.bytes())?)
+    check_hosts(rt, words, &certificate, &pins, &seen.hosts)
 }
 
 // rehearse PLAN MTREE
-fn run_rehearse(rt: &HostRuntime, matches: &ArgMatches<'_>) -> Result<Reply, FileFault> {
+fn run_rehearse(rt: &HostRuntime, matches: &ArgMatches<'_>) -> Result<u8, FileFault> {
     let plan = read_file(rt, matches.get_str("PLAN").unwrap_or(""))?;
     let mtree = read_file(rt, matches.get_str("MTREE").unwrap_or(""))?;
-    Ok(rehearse_reply(rt.alloc(), plan.bytes(), mtree.bytes())?)
+    let reply = rehearse_reply(rt.alloc(), plan.bytes(), mtree.bytes())?;
+    Ok(print_reply(rt, &reply))
 }
 
 // The words of a merge that are no flags: OUT, unless -o names it, and the hosts.
@@ -73,39 +126,81 @@ fn merge_words<'a>(rt: &HostRuntime, matches: &ArgMatches<'a>) -> Result<Vec<&'a
 }
 
 // merge [--quiet] [--pins FILE] OUT HOST..., or the same with -o OUT HOST...
-fn run_merge(rt: &HostRuntime, matches: &ArgMatches<'_>) -> Result<Reply, FileFault> {
+fn run_merge(rt: &HostRuntime, matches: &ArgMatches<'_>) -> Result<u8, FileFault> {
     let words = merge_words(rt, matches)?;
     match (matches.get_str("output"), words.split_first()) {
-        (_, None) => Err(FileFault::NoHost),
+        (_, None) => Err(no_host(rt)),
         (Some(directory), _) => merge_into(rt, matches, directory, &words),
         (None, Some((directory, hosts))) => merge_into(rt, matches, *directory, hosts),
     }
 }
 
-// Merges the hosts that words name into a directory, which is looked at first.
+// Merges the hosts that words name into a directory, which is looked at first, and is locked until all is written.
 fn merge_into(
     rt: &HostRuntime,
     matches: &ArgMatches<'_>,
     directory: &str,
     words: &[&str],
-) -> Result<Reply, FileFault> {
-    look_at_output(rt, directory, words)?;
+) -> Result<u8, FileFault> {
+    let locked = open_output(rt, directory, words)?;
+    let merged = merge_words_into(rt, matches, directory, words);
+    drop(locked);
+    merged
+}
+
+// Merges the hosts that words name into a directory.
+fn merge_words_into(
+    rt: &HostRuntime,
+    matches: &ArgMatches<'_>,
+    directory: &str,
+    words: &[&str],
+) -> Result<u8, FileFault> {
     let pins = read_pins(rt, matches)?;
     let hosts = read_hosts_tables(rt, words)?;
-    let quiet = matches.get_flag("quiet");
-    if !quiet {
-        warn_of_pins_end(rt, matches, &pins)?;
-        warn_of_hosts_tables(rt, &hosts)?;
-    }
-    match merge_hosts(rt, directory, words, &hosts, pins.bytes(), quiet) {
-        Ok(cost) => Ok(cost_reply(rt.alloc(), cost)?),
-        Err(MergeFault::Refused(fault)) => Ok(refused(rt.alloc(), &fault)?),
-        Err(MergeFault::File(fault)) => Err(fault),
+    merge_texts(rt, matches, directory, words, &hosts, &pins)
+}
+
+// Prints why a merge ended early.
+fn merge_refused(
+    rt: &HostRuntime,
+    files: &SiteFiles<'_>,
+    fault: &MergeFault<'_>,
+) -> Result<u8, FileFault> {
+    files.discard();
+    match fault {
+        MergeFault::Refused(fault) => Ok(print_reply(rt, &refused(rt.alloc(), fault)?)),
+        MergeFault::TooLarge => Err(files.too_large()),
+        MergeFault::Failed => Err(files.fault()),
     }
 }
 
-// What the command that the words name answers, where there is such a command.
-fn reply_of(rt: &HostRuntime, matches: &ArgMatches<'_>) -> Option<Result<Reply, FileFault>> {
+// Merges hosts whose texts are given but for their inventories, and prints what it costs.
+fn merge_texts(
+    rt: &HostRuntime,
+    matches: &ArgMatches<'_>,
+    directory: &str,
+    words: &[&str],
+    hosts: &[HostText],
+    pins: &ByteString,
+) -> Result<u8, FileFault> {
+    let quiet = matches.get_flag("quiet");
+    if !quiet {
+        warn_of_pins_end(rt, matches, pins)?;
+        warn_of_hosts_tables(rt, hosts)?;
+    }
+    let mut files = SiteFiles::new(rt, directory, words, quiet);
+    let cost = match merge_files(rt.alloc(), &mut files, hosts, pins.bytes()) {
+        Ok(cost) => cost,
+        Err(fault) => return merge_refused(rt, &files, &fault),
+    };
+    if !quiet {
+        warn_of_merge(rt, hosts, directory, pins.bytes(), files.file_lines())?;
+    }
+    Ok(print_reply(rt, &cost_reply(rt.alloc(), cost)?))
+}
+
+// The status of the command that the words name, where there is such a command.
+fn status_of(rt: &HostRuntime, matches: &ArgMatches<'_>) -> Option<Result<u8, FileFault>> {
     if let Some(matches) = matches.subcommand_matches("count") {
         return Some(run_count(rt, matches));
     }
@@ -121,12 +216,10 @@ fn reply_of(rt: &HostRuntime, matches: &ArgMatches<'_>) -> Option<Result<Reply, 
 
 // Runs the command that the words name.
 fn run_command(rt: &HostRuntime, matches: &ArgMatches<'_>) -> u8 {
-    let Some(answered) = reply_of(rt, matches) else {
-        return 2;
-    };
-    match answered {
-        Ok(reply) => print_reply(rt, &reply),
-        Err(fault) => file_fault_told(rt, &fault),
+    match status_of(rt, matches) {
+        Some(Ok(status)) => status,
+        Some(Err(fault)) => file_fault_told(rt, fault),
+        None => 2,
     }
 }
 

@@ -1,27 +1,25 @@
 //! The files that a merge writes. Each is written under a name of its own, synced and renamed, so that none is ever cut; and
 //! a report stands only where all others are those of its merge.
 
-use crate::files::{FileFault, fault_of, host_name};
+use crate::files::{FileFault, host_name};
 use crate::output::{MARK, PLAN, TEMPORARY, is_file_with, names_with};
-use idtext::ByteString;
-use std::alloc::AllocError;
+use crate::report::file_failed;
 use std::fs::File;
 use std::io::Write;
 use std::path::{Path, PathBuf};
-use std::{fs, io};
-use unify::Outcome;
+use std::{fs, io, str};
 
-// A file that is written under a temporary name, and renamed when it is whole.
+/// A file that is written under a temporary name, and renamed when it is whole.
 #[derive(Drop)]
-struct NewFile {
+pub struct NewFile {
     path: PathBuf,
     temporary: PathBuf,
     file: File,
 }
 
 impl NewFile {
-    // Begins a file of a directory. What stands at its name stays until it is kept.
-    fn create(rt: &HostRuntime, directory: &str, name: &str) -> Result<NewFile, FileFault> {
+    /// Begins a file of a directory. What stands at its name stays until it is kept.
+    pub fn create(rt: &HostRuntime, directory: &str, name: &str) -> Result<NewFile, FileFault> {
         let mut hidden = String::from_str(rt.alloc(), TEMPORARY)?;
         hidden.push_str(name)?;
         let temporary = Path::new(directory).join(rt.alloc(), hidden.as_str())?;
@@ -32,7 +30,7 @@ impl NewFile {
                 temporary,
                 file,
             }),
-            Err(error) => Err(fault_of(rt, temporary.as_str(), &error)),
+            Err(error) => Err(file_failed(rt, temporary.as_str(), &error)),
         }
     }
 
@@ -45,23 +43,24 @@ impl NewFile {
     // Why the file could not be written or kept. What there is of it is removed.
     fn given_up(&self, rt: &HostRuntime, error: &io::Error) -> FileFault {
         self.discard(rt);
-        fault_of(rt, self.path.as_str(), error)
+        file_failed(rt, self.path.as_str(), error)
     }
 
-    // Removes what there is of the file, as far as that can be done.
-    fn discard(&self, rt: &HostRuntime) {
+    /// Removes what there is of the file, as far as that can be done.
+    pub fn discard(&self, rt: &HostRuntime) {
         let _ = fs::remove_file(rt, self.temporary.as_str());
     }
 
-    fn write(&mut self, rt: &HostRuntime, bytes: &[u8]) -> Result<(), FileFault> {
+    /// Appends bytes. What there is of a file that cannot be written is removed.
+    pub fn write(&mut self, rt: &HostRuntime, bytes: &[u8]) -> Result<(), FileFault> {
         match self.file.write_all(bytes) {
             Ok(()) => Ok(()),
             Err(error) => Err(self.given_up(rt, &error)),
         }
     }
 
-    // Syncs the file and gives it its name.
-    fn keep(&self, rt: &HostRuntime) -> Result<(), FileFault> {
+    /// Syncs the file and gives it its name.
+    pub fn keep(&self, rt: &HostRuntime) -> Result<(), FileFault> {
         match self.take_place(rt) {
             Ok(()) => Ok(()),
             Err(error) => Err(self.given_up(rt, &error)),
@@ -70,14 +69,9 @@ impl NewFile {
 }
 
 // Writes a text as a file of a directory.
-fn write_file(
-    rt: &HostRuntime,
-    directory: &str,
-    name: &str,
-    text: &ByteString,
-) -> Result<(), FileFault> {
+fn write_file(rt: &HostRuntime, directory: &str, name: &str, text: &[u8]) -> Result<(), FileFault> {
     let mut file = NewFile::create(rt, directory, name)?;
-    file.write(rt, text.bytes())?;
+    file.write(rt, text)?;
     file.keep(rt)
 }
 
@@ -89,7 +83,7 @@ fn sync_directory(rt: &HostRuntime, directory: &str) -> Result<(), FileFault> {
     };
     match synced {
         Err(error) if error.kind() != io::ErrorKind::InvalidInput => {
-            Err(fault_of(rt, directory, &error))
+            Err(file_failed(rt, directory, &error))
         }
         _ => Ok(()),
     }
@@ -100,7 +94,7 @@ fn remove(rt: &HostRuntime, directory: &str, name: &str) -> Result<(), FileFault
     let path = Path::new(directory).join(rt.alloc(), name)?;
     match fs::remove_file(rt, path.as_str()) {
         Err(error) if error.kind() != io::ErrorKind::NotFound => {
-            Err(fault_of(rt, path.as_str(), &error))
+            Err(file_failed(rt, path.as_str(), &error))
         }
         _ => Ok(()),
     }
@@ -111,7 +105,7 @@ fn mark(rt: &HostRuntime, directory: &str) -> Result<(), FileFault> {
     let path = Path::new(directory).join(rt.alloc(), MARK)?;
     match File::create_new(rt, path.as_str()) {
         Err(error) if error.kind() != io::ErrorKind::AlreadyExists => {
-            Err(fault_of(rt, path.as_str(), &error))
+            Err(file_failed(rt, path.as_str(), &error))
         }
         _ => sync_directory(rt, directory),
     }
@@ -163,62 +157,15 @@ pub fn begin(rt: &HostRuntime, directory: &str, words: &[&str]) -> Result<(), Fi
     sync_directory(rt, directory)
 }
 
-/// Writes what a merge gave into a directory but for the plans and the report: passwd, group, map and certificate. At the
-/// first file that cannot be written it stops.
-pub fn write_texts(rt: &HostRuntime, directory: &str, outcome: &Outcome) -> Result<(), FileFault> {
-    write_file(rt, directory, "passwd", &outcome.passwd)?;
-    write_file(rt, directory, "group", &outcome.group)?;
-    write_file(rt, directory, "map", &outcome.map)?;
-    write_file(rt, directory, "certificate", &outcome.certificate)
-}
-
-/// Ends a merge whose other files are all written, by its report.
-pub fn finish(rt: &HostRuntime, directory: &str, report: &ByteString) -> Result<(), FileFault> {
+/// Ends a merge whose other files are all written, by its last file.
+pub fn finish(
+    rt: &HostRuntime,
+    directory: &str,
+    name: &[u8],
+    text: &[u8],
+) -> Result<(), FileFault> {
     sync_directory(rt, directory)?;
-    write_file(rt, directory, "report", report)?;
+    write_file(rt, directory, str::from_utf8(name).unwrap_or(""), text)?;
     sync_directory(rt, directory)?;
     remove(rt, directory, MARK)
-}
-
-// The name of a host's plan.
-fn plan_name(rt: &HostRuntime, host: &str) -> Result<String, AllocError> {
-    let mut name = String::from_str(rt.alloc(), PLAN)?;
-    name.push_str(host)?;
-    Ok(name)
-}
-
-/// The plan of a host, which is written in pieces.
-#[derive(Drop)]
-pub struct PlanFile {
-    file: NewFile,
-    /// What is still to be written.
-    pub text: Vec<u8>,
-}
-
-impl PlanFile {
-    /// Begins plan.NAME in a directory.
-    pub fn create(rt: &HostRuntime, directory: &str, host: &str) -> Result<PlanFile, FileFault> {
-        let name = plan_name(rt, host)?;
-        Ok(PlanFile {
-            file: NewFile::create(rt, directory, name.as_str())?,
-            text: Vec::new(rt.alloc()),
-        })
-    }
-
-    /// Writes what is still to be written.
-    pub fn write(&mut self, rt: &HostRuntime) -> Result<(), FileFault> {
-        self.file.write(rt, &self.text)?;
-        self.text.clear();
-        Ok(())
-    }
-
-    /// Gives the whole plan its name.
-    pub fn keep(&self, rt: &HostRuntime) -> Result<(), FileFault> {
-        self.file.keep(rt)
-    }
-
-    /// Removes what there is of a plan that did not become whole.
-    pub fn discard(&self, rt: &HostRuntime) {
-        self.file.discard(rt);
-    }
 }

@@ -11,8 +11,7 @@ use Rattle.hosts_join.specs.Accounts.{Account, Accounts, Pair, nobody, place_of}
 use Rattle.hosts_join.specs.Pairs.{number_of}
 use Rattle.hosts_join.specs.Rules.{account, is_name}
 use Rattle.hosts_join.proofs.Grouping.{bytes_same, bytes_refl, bytes_sym}
-use Rattle.candidates.specs.Mapping.{IsMapping}
-use Rattle.ownership.specs.Mappings.{number_at, number_under}
+use Rattle.ownership.specs.Mappings.{IsMapping, number_at, number_under}
 use Rattle.mergedfiles.specs.Order.{put, in_order, by_bytes}
 use Rattle.unify_texts.specs.WrittenMap.{pair_for, numbered, SayMapping, IsMappingOf, WrittenMapsReadBack}
 use Rattle.unify_texts.proofs.MapLines.{place_named}

@@ -8,9 +8,8 @@ ghost use Rattle.ownership.specs.Files.{File};
 ghost use Rattle.unify_texts.specs.Figures.{figures_of, pinned_names as pinned_among};
 ghost use Rattle.unify_texts.specs.Staying.{told_names, told_files, told_rows};
 
-use candidates::Mapping;
 use hosts_join::{Class, Names};
-use ownership::KindCounts;
+use ownership::{KindCounts, Mapping};
 
 /// The figures of one kind.
 #[derive(Clone, Copy)]

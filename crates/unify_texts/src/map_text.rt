@@ -10,10 +10,10 @@ ghost use Rattle.unify_texts.specs.Maps.{map_of, is_good_after};
 
 use crate::fault::Fault;
 use crate::words::{Word, kind_word, push_line};
-use candidates::Mapping;
 use hosts_join::{Names, PairLine, PairTable, Site, Which, pair_line};
 use idtext::Lines;
 use mergedfiles::by_name;
+use ownership::Mapping;
 use std::alloc::{AllocError, Global};
 
 /// What is set aside for a line of a map text.

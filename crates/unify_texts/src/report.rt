@@ -9,10 +9,9 @@ ghost use Rattle.unify_texts.specs.Report as report;
 
 use crate::figures::{Figures, figures_under};
 use crate::words::{Word, kind_word, push_line};
-use candidates::Mapping;
 use hosts_join::{Host, Site};
 use mergedfiles::{Difference, Field, differences};
-use ownership::Counts;
+use ownership::{Counts, Mapping};
 use std::alloc::{AllocError, Global};
 
 fn field_word(field: Field) -> &'static str

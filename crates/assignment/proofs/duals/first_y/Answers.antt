@@ -6,8 +6,8 @@ use Rattle.candidates.specs.Rows.{IsWeighed}
 use Rattle.assignment.proofs.Weigh.{row_lawful, weight_past}
 use Rattle.assignment.proofs.duals.first_y.Goals as goal
 
-pub heaviest-requires : goal.heaviest-requires
-heaviest-requires c = subst (λ (x : List Candidate). All IsWeighed x) (sym c.row.ensures) (row_lawful c.args.rows.now c.len-name-end.ensures.lawful c.loop-name.name (omega arith)).1
+pub least_y-requires : goal.least_y-requires
+least_y-requires c = subst (λ (x : List Candidate). All IsWeighed x) (sym c.row.ensures) (row_lawful c.args.rows.now c.len-name-end.ensures.lawful c.loop-name.name (omega arith)).1
 
 pub returns-clause-covers : goal.returns-clause-covers
 returns-clause-covers c = λ n v.

@@ -1,6 +1,5 @@
-use Rattle.std.proofs.Common.{◌≡◌, ◌<◌, ◌∙◌, ap, ℕ, List, [], get_or, length}
+use Rattle.std.proofs.Common.{◌∙◌, ap, ℕ, List, get_or}
 use Rattle.std.specs.Borrow.{Bor}
-use Rattle.std.specs.List.{All}
 use Rattle.hosts_join.specs.Accounts.{Accounts}
 use Rattle.hosts_join.specs.Rules.{account}
 use Rattle.mergedfiles.specs.Rows.{users_named}

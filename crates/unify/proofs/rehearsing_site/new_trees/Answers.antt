@@ -3,8 +3,7 @@ use Rattle.std.proofs.lemmas.List.{take_all}
 use Rattle.idtext.proofs.OkLemmas.{length-each}
 use Rattle.mtree_inv.specs.Inventory.{inventory}
 use Rattle.unify.specs.Carrying.{new_tree_of}
-use Rattle.unify.proofs.Carrying.{trees_more}
-use Rattle.unify.proofs.PlanTexts.{each_at}
+use Rattle.unify.proofs.Carrying.{each_at, trees_more}
 use Rattle.unify.proofs.rehearsing_site.new_trees.Goals as goal
 
 pub new_tree-requires : goal.new_tree-requires

@@ -1,16 +1,24 @@
+use Rattle.unify.specs.Reading.{site_read}
+use Rattle.unify.specs.SiteRuns.{IsSiteRun}
+use Rattle.unify.proofs.OnePiece.{yielded}
 use Rattle.unify.proofs.Reading.{read_sites_are_whole}
-use Rattle.unify.proofs.RunSites.{loaded_there}
+use Rattle.unify.proofs.RunSites.{inventories_there}
 use Rattle.unify.proofs.rehearsing_site.rehearse_site.Goals as goal
 
 pub run_of-requires : goal.run_of-requires
 run_of-requires c =
-    let read = c.in-Ok.ensures in
+    let texts = c.args.hosts.now in
+    let pins = c.args.pins.now in
+    let read = c.in-Ok.ensures.answers in
     record {
-      holds = (read.0, read_sites_are_whole c.args.hosts.now c.args.pins.now read.0 read.1, read.2);
-      hosts = loaded_there c.args.hosts.now c.args.pins.now read.0 read.1 c.in-Ok.loaded read.2 c.args.events.now c.requires;
+      merged = (read.0, read_sites_are_whole texts pins read.0 read.1, inventories_there texts pins read.0 read.1, read.2);
+      hosts = c.requires;
     }
 
 pub returns-in-Ok : goal.returns-in-Ok
 returns-in-Ok c =
-    let read = c.in-Ok.ensures in
-    rw read.1 (c.run_of.ensures read.0 (read_sites_are_whole c.args.hosts.now c.args.pins.now read.0 read.1) read.2)
+    let texts = c.args.hosts.now in
+    let pins = c.args.pins.now in
+    let read = c.in-Ok.ensures.answers in
+    yielded (IsSiteRun c.args.keep c.args.events.now) read.0 (site_read texts pins) c.run_of.result read.1
+    (c.run_of.ensures read.0 (read_sites_are_whole texts pins read.0 read.1) (inventories_there texts pins read.0 read.1) read.2)

@@ -14,7 +14,7 @@ use Rattle.unify.specs.Hosts.{host_of}
 use Rattle.unify.specs.Passes.{pinned_site, site_begun}
 use Rattle.unify.specs.Told.{in_pins, in_site}
 use Rattle.unify.proofs.Faults.{passed_on}
-use Rattle.unify.proofs.Reading.{loaded-named, pins-ok, texts-named}
+use Rattle.unify.proofs.Reading.{loaded-named, loaded-read, pins-ok, texts-named}
 use Rattle.unify.proofs.Whole.{begun_is, join_refused, list_refused, site_ok, tables_refused, together}
 use Rattle.unify.proofs.site.begin_site.Goals as goal
 
@@ -66,6 +66,7 @@ returns-clause-begun c =
         joined = refl;
         whole = record {
           few = few;
+          read = rw read.2 (loaded-read texts read.0 read.1);
           lawful = lawful;
           together = together hosts pins.0 site joined;
           known = sites_know hosts pins.0 site lawful joined;

@@ -132,6 +132,24 @@ turns-smaller c =
     let k : length s.rows.now.rows - length t'.names.items < length s.rows.now.rows - length t.names.items = omega (arith, more.2, more.3) in
     k
 
+pub push-requires : goal.push-requires
+push-requires c =
+    let s = c.turns.self in
+    let q = c.turns.invariant.searching in
+    let name = c.in-Some-owner_of.name in
+    let own = sym c.owner_of.ensures ∙ c.in-Some-owner_of.is in
+    let had = q.fair.has name c.in-Some.number own in
+    omega (arith, given_within s.pairs.given.items name c.in-Some.number had, q.fits.given_long, q.position_long)
+
+pub index-requires-in-turns : goal.index-requires-in-turns
+index-requires-in-turns c =
+    let s = c.turns.self in
+    let q = c.turns.invariant.searching in
+    let name = c.in-Some-owner_of.name in
+    let own = sym c.owner_of.ensures ∙ c.in-Some-owner_of.is in
+    let had = q.fair.has name c.in-Some.number own in
+    omega (arith, given_within s.pairs.given.items name c.in-Some.number had, q.fits.given_long, q.fits.y_long, s.duals.y.ok.0)
+
 -- what the name that joined makes of the exit
 pub reach-requires-in-turns-clause-exit : goal.reach-requires-in-turns-clause-exit
 reach-requires-in-turns-clause-exit c =

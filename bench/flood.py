@@ -1,0 +1,108 @@
+#!/usr/bin/env python3
+"""Times merges of inventories whose paths somebody chose to make them slow, beside as many paths at random.
+
+    bench/flood.py [PROGRAM [PATHS]]
+
+PROGRAM is the one that `make program` built unless it is given; PATHS is a million unless it is given. Anybody who may make a file
+chooses its path. Each kind of paths is merged as one host by words, and so is a set of as many random paths of the same
+lengths; the ratio of the two is printed, of processor seconds, since other work on the machine changes these least.
+
+    one digest      all end in the eight bytes that bring the hash of std, whose seed is fixed, to zero, whatever stands before
+                    them: a table of such hashes looks through all of them for each. The hash is followed over `folded` below,
+                    and the script ends with a fault if one of a thousand of these paths has another
+    long prefix     names in one directory that have their first 200 bytes in common, so that comparing two takes longest
+    rising, falling in the order of the bytes, and against it
+
+What grows in step with the paths is merged once more with half of them, and the exponent told. It shows that these paths cost
+no more, and not that none do. Sites are made below bench/work, which git does not see, and removed after.
+"""
+import math
+import os
+import random
+import shutil
+import subprocess
+import sys
+
+from measure import HERE, UNIFY
+
+LETTERS = b"0123456789ABCDEFGHIJKLMNOPQRSTUVWXYZabcdefghijklmnopqrstuvwxyz"
+MULTIPLIER = 0x9E37_79B9_7F4A_7C15
+ZERO = MULTIPLIER.to_bytes(8, "little")
+WORD = 2**64 - 1
+PREFIX = 200
+
+
+def folded(path):
+    """The hash of 9 to 16 bytes, as core/src/hash/fold.rt of the toolchain computes it."""
+    state = (0x243F_6A88_85A3_08D3 + len(path)) & WORD
+    front, back = int.from_bytes(path[:8], "little"), int.from_bytes(path[-8:], "little")
+    product = (front ^ state) * (back ^ MULTIPLIER)
+    return (product & WORD) ^ (product >> 64)
+
+
+def at_random(rng, count, length):
+    """So many different names of one length."""
+    names = set()
+    while len(names) < count:
+        names.add(bytes(rng.choices(LETTERS, k=length)))
+    return list(names)
+
+
+def escaped(name):
+    """The name as mtree(5) writes it."""
+    return b"".join(bytes([byte]) if byte in LETTERS else b"\\%03o" % byte for byte in name)
+
+
+def numbered(count):
+    return [b"%08d" % number for number in range(count)]
+
+
+def kinds(rng, count):
+    """For each kind its names and as many random ones of the same lengths."""
+    zero = [number + ZERO for number in numbered(count)]
+    rng.shuffle(zero)
+    if {folded(name) for name in zero[:1000]} != {0}:
+        sys.exit("these paths do not have one hash")
+    yield "one digest", zero, [name + ZERO[::-1] for name in at_random(rng, count, 8)]
+    few = count // 10
+    yield "long prefix", [b"a" * PREFIX + number for number in numbered(few)], at_random(rng, few, PREFIX + 8)
+    plain = at_random(rng, count, 8)
+    yield "rising", numbered(count), plain
+    yield "falling", numbered(count)[::-1], plain
+
+
+def seconds(program, folder, names):
+    """The processor seconds of a merge of one host with these files, and its peak memory in MiB."""
+    host, out = os.path.join(folder, "host"), os.path.join(folder, "out")
+    shutil.rmtree(folder, ignore_errors=True)
+    os.makedirs(host)
+    os.makedirs(out)
+    for file, text in (("passwd", b"m:x:1001:100::/:/bin/sh\n"), ("group", b"users:x:100:\n")):
+        with open(os.path.join(host, file), "wb") as written:
+            written.write(text)
+    with open(os.path.join(host, "mtree"), "wb") as written:
+        written.write(b"/set uid=1001 gid=100\n")
+        written.writelines(escaped(name) + b" type=file\n" for name in names)
+    child = subprocess.Popen([program, "merge", out, f"host={host}"], stdout=subprocess.DEVNULL)
+    _, status, usage = os.wait4(child.pid, 0)
+    if status != 0:
+        sys.exit(f"{program} ended with {os.waitstatus_to_exitcode(status)}")
+    shutil.rmtree(folder)
+    return usage.ru_utime + usage.ru_stime, usage.ru_maxrss / 1024
+
+
+def main():
+    program = sys.argv[1] if len(sys.argv) > 1 else UNIFY
+    count = int(sys.argv[2]) if len(sys.argv) > 2 else 1_000_000
+    folder = os.path.join(HERE, "work", "flood")
+    rng = random.Random(count)
+    print("kind          paths      chosen    random  ratio  exponent  peak MiB")
+    for kind, chosen, plain in kinds(rng, count):
+        half, _ = seconds(program, folder, chosen[: len(chosen) // 2])
+        whole, peak = seconds(program, folder, chosen)
+        other, _ = seconds(program, folder, plain)
+        print(f"{kind:12} {len(chosen):9,} {whole:8.2f} s {other:7.2f} s {whole / other:6.2f} {math.log2(whole / half):9.2f} {peak:9.0f}", flush=True)
+
+
+if __name__ == "__main__":
+    main()

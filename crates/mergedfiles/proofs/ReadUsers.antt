@@ -1,0 +1,153 @@
+-- The merged passwd is read as the rows of its users.
+use Rattle.std.proofs.Common.{◌≡◌, ℕ, ◌<◌, ◌≤◌, true, false, List, [], ◌∷◌, ◌++◌, length, decimal, refl, sym, ap, ◌∙◌, append_assoc, arith, Some, Ok}
+use Rattle.std.specs.Prelude.{nat_lt, slice_get}
+use Rattle.std.specs.List.{find}
+use Rattle.std.specs.Str.{bytes_eq}
+use Rattle.std.proofs.lemmas.Bool.{le-ltb}
+use Rattle.idtext.specs.Names.{is_lawful_name}
+use Rattle.idtext.specs.Pieces.{fields_of}
+use Rattle.idtext.proofs.NumberLemmas.{decimal-back}
+use Rattle.accounts.specs.Rows.{Passwd, passwd_from, passwd_line}
+use Rattle.accounts.specs.Tables.{passwd_table}
+use Rattle.accounts.proofs.AcceptedLemmas.{passwd_accepted}
+use Rattle.hosts_join.specs.declared.host.Host.{Host}
+use Rattle.hosts_join.specs.Accounts.{Account, nobody}
+use Rattle.hosts_join.specs.Rules.{account}
+use Rattle.hosts_join.specs.Site.{Joined}
+use Rattle.ownership.specs.Mappings.{Mappings}
+use Rattle.mergedfiles.specs.Order.{by_number}
+use Rattle.mergedfiles.specs.ReadBack.{IsRowLine, IsNumbered, IsMergedUser, MergedPasswdReadsBack}
+use Rattle.mergedfiles.specs.Rows.{UserRow, users_named, first_of}
+use Rattle.mergedfiles.specs.Texts.{field, user_line, merged_user, new_gid}
+use Rattle.mergedfiles.proofs.Having.{users-had}
+use Rattle.mergedfiles.proofs.Places.{place-within}
+use Rattle.mergedfiles.proofs.ReadHosts.{first-on, some-first, host-read, user-plain, primary-of}
+use Rattle.mergedfiles.proofs.ReadLines.{Lacks, name-plain, decimal-plain, field-first, field-last, field-lacks, name-kept, name-not_compat}
+use Rattle.mergedfiles.proofs.ReadOrder.{IsAt, IsOf, all-at, all-rows, ascends, ascending, names-apart, numbers-apart, looked-up, place-named}
+use Rattle.mergedfiles.proofs.ReadRows.{HasPlainFields}
+use Rattle.mergedfiles.proofs.ReadText.{SaysRow, rows_by, zipped, reads-as, all-says}
+
+-- ---- a line
+
+-- a line without its newline
+abbrev bare : List ℕ → ℕ → ℕ → Passwd → List ℕ
+bare name uid gid row = field name ++ (field row.password ++ (field (decimal uid) ++ (field (decimal gid) ++ (field row.comment ++ (field row.home ++ row.shell)))))
+
+behind : (a b c d e f g z : List ℕ) → a ++ b ++ c ++ d ++ e ++ f ++ g ++ z ≡ (a ++ (b ++ (c ++ (d ++ (e ++ (f ++ g)))))) ++ z
+behind a b c d e f g z = simp append_assoc
+
+module _ (name : List ℕ) (uid gid : ℕ) (row : Passwd) (lawful : is_lawful_name name ≡ true) (user : uid ≤ 4294967294) (group : gid ≤ 4294967294) (plain : HasPlainFields row) where
+  bare-fields : fields_of (bare name uid gid row) ≡ name ∷ row.password ∷ decimal uid ∷ decimal gid ∷ row.comment ∷ row.home ∷ row.shell ∷ []
+  bare-fields =
+      field-first name _ (name-plain name lawful)
+      ∙ ap (λ fs. name ∷ fs) (field-first row.password _ plain.password
+      ∙ ap (λ fs. row.password ∷ fs) (field-first (decimal uid) _ (decimal-plain uid user)
+      ∙ ap (λ fs. decimal uid ∷ fs) (field-first (decimal gid) _ (decimal-plain gid group)
+      ∙ ap (λ fs. decimal gid ∷ fs) (field-first row.comment _ plain.comment
+      ∙ ap (λ fs. row.comment ∷ fs) (field-first row.home row.shell plain.home
+      ∙ ap (λ fs. row.home ∷ fs) (field-last row.shell plain.shell))))))
+
+  bare-lacks : Lacks 10 (bare name uid gid row)
+  bare-lacks =
+      field-lacks name _ (name-plain name lawful) (field-lacks row.password _ plain.password (field-lacks (decimal uid) _ (decimal-plain uid user)
+      (field-lacks (decimal gid) _ (decimal-plain gid group) (field-lacks row.comment _ plain.comment (field-lacks row.home row.shell plain.home plain.shell.1)))))
+
+  abbrev read_row : ℕ → Passwd
+  read_row n = record { line = n; name = name; password = row.password; uid = uid; gid = gid; comment = row.comment; home = row.home; shell = row.shell }
+
+  bare-row : (n : ℕ) → passwd_from n (fields_of (bare name uid gid row)) ≡ Ok (read_row n)
+  bare-row n = ap (passwd_from n) bare-fields ∙ (rw (lawful, decimal-back uid user, decimal-back gid group) refl)
+
+-- ---- a user of a site
+
+module _ (hosts : List Host) (site : Joined) (m : Mappings) (is : IsNumbered hosts site m) where
+  abbrev text_of : ℕ × ℕ → List ℕ
+  text_of p = merged_user site.groups m.groups hosts (account site.users p.0).name p.1
+
+  abbrev IsUser : Passwd → Type 0
+  IsUser = IsMergedUser hosts site m
+
+  abbrev Is : ℕ × ℕ → Passwd → Type 0
+  Is = IsOf (λ (row : Passwd). row.name) (λ (row : Passwd). row.uid) IsUser site.users m.users
+
+  abbrev user_row : Host → Passwd → UserRow
+  user_row host row = record { host = host; row = row }
+
+  -- the line of a name whose first row, on a host that was read, is this
+  line-of : (p : ℕ × ℕ) → IsAt m.users p → (h : ℕ) (host : Host) (row : Passwd) → slice_get hosts h ≡ Some host → find (λ row. bytes_eq (account site.users p.0).name row.name) host.users ≡ Some row
+      → first_of (users_named (account site.users p.0).name hosts) ≡ Some (user_row host row) → SaysRow passwd_from text_of Is p
+  line-of p at h host row here found first =
+      let name = (account site.users p.0).name in
+      let within : p.0 < length site.users.names = omega (arith, at.0, is.for_users) in
+      let read = host-read hosts h host is.read here in
+      let plain = user-plain host name row read found in
+      let primary = primary-of hosts site m.groups h host name row is.joined read here found in
+      let gid = new_gid site.groups m.groups host row.gid in
+      let lawful : is_lawful_name name ≡ true = is.lawful.users.lawful p.0 nobody within in
+      let user : p.1 ≤ 4294967294 = omega (arith, at.1, is.users.ids p.0 0 at.0) in
+      let placed : primary.place < length m.groups = omega (arith, is.for_groups, place-within (λ (a : Account). bytes_eq primary.name a.name) site.groups.names primary.place primary.placed) in
+      let group : gid ≤ 4294967294 = omega (arith, primary.number, is.groups.ids primary.place 0 placed) in
+      record {
+        line = bare name p.1 gid row;
+        ends = ap (user_line site.groups m.groups name p.1) first ∙ behind (field name) (field row.password) (field (decimal p.1)) (field (decimal gid)) (field row.comment) (field row.home) row.shell (10 ∷ []);
+        one = bare-lacks name p.1 gid row lawful user group plain;
+        kept = name-kept name _ lawful;
+        not_compat = name-not_compat name _ lawful;
+        row = read_row name p.1 gid row lawful user group plain;
+        read = bare-row name p.1 gid row lawful user group plain;
+        is = λ n. (
+          refl,
+          refl,
+          record {
+            uid = (p.0, place-named site.users p.0 is.lawful.users within, sym at.1);
+            first = user_row host row;
+            first_is = first;
+            group = primary.name;
+            primary = primary.named;
+            gid = (primary.place, primary.placed, sym primary.number);
+            password = refl;
+            comment = refl;
+            home = refl;
+            shell = refl;
+          },
+        );
+      }
+
+  says : (p : ℕ × ℕ) → IsAt m.users p → SaysRow passwd_from text_of Is p
+  says p at =
+      let name = (account site.users p.0).name in
+      let within : p.0 < length site.users.names = omega (arith, at.0, is.for_users) in
+      let first = some-first (users_named name hosts) (λ none. users-had hosts site p.0 is.joined within none) in
+      let on = first-on (λ (host : Host). host.users) (λ (row : Passwd). bytes_eq name row.name) user_row hosts first.0 first.1 in
+      line-of p at on.h on.host on.row on.here on.found (first.1 ∙ ap (λ f. Some f) (sym on.made))
+
+-- ---- the whole text
+
+pub passes : (n : ℕ) (line : List ℕ) (row : Passwd) → n ≤ 65536 → length line ≤ 65535 → IsRowLine passwd_from n line row → passwd_line n line ≡ Ok (Some row)
+unfolding passwd_line
+passes n line row few short is =
+    let number : nat_lt 65536 n ≡ false = le-ltb 65536 n few in
+    let long : nat_lt 65535 (length line) ≡ false = le-ltb 65535 (length line) short in
+    rw (number, long, is.kept, is.not_compat, is.read) refl
+
+pub passwd_reads_back : MergedPasswdReadsBack
+passwd_reads_back hosts site m is =
+    let text = text_of hosts site m is in
+    let Of = Is hosts site m is in
+    let all = all-says (IsAt m.users) (SaysRow passwd_from text Of) (says hosts site m is) (by_number m.users) (all-at m.users) in
+    let rows = rows_by passwd_from text Of 1 (by_number m.users) all in
+    let z = zipped passwd_from text Of 1 (by_number m.users) all in
+    let asc = ascends m.users is.users.distinct in
+    let name = λ (row : Passwd). row.name in
+    let number = λ (row : Passwd). row.uid in
+    let names = names-apart name number (IsMergedUser hosts site m) site.users m.users (λ row user. user.uid) (by_number m.users) rows asc z in
+    record {
+      rows = rows;
+      reads = reads-as passwd_from text Of passwd_line name number passes passwd_table (by_number m.users) all (passwd_accepted _ rows).1 names (numbers-apart name number (IsMergedUser hosts site m) site.users m.users (by_number m.users) rows asc z);
+      say = record {
+        each_row = all-rows name number (IsMergedUser hosts site m) site.users m.users (by_number m.users) rows z;
+        once = names;
+        ascending = ascending name number (IsMergedUser hosts site m) site.users m.users (by_number m.users) rows asc z;
+        each_name = looked-up name number (IsMergedUser hosts site m) site.users m.users rows is.for_users is.users.distinct z;
+      };
+    }

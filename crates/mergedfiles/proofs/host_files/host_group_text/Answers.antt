@@ -1,0 +1,16 @@
+use Rattle.std.proofs.Common.{[], ◌∷◌, ◌++◌, sym, ◌∙◌, ap}
+use Rattle.mergedfiles.specs.HostFiles.{renumbered_group}
+use Rattle.mergedfiles.proofs.HostSteps.{text-last, text-more, written-more}
+use Rattle.mergedfiles.proofs.host_files.host_group_text.Goals as goal
+
+pub loop-line-preserved : goal.loop-line-preserved
+loop-line-preserved c =
+    let f = renumbered_group c.args.site.now c.args.groups.now in
+    written-more _ c.loop-line.new.items c.push.new.self.items _ _ _
+    (c.in_ok-push.ensures.items ∙ ap (λ t. t ++ 10 ∷ []) c.in_ok-push_group_line.ensures)
+    (text-more f c.loop-line.rest.now c.in-Some.line.now c.in-Some.more.now c.in-Some.ensures.pieces) c.loop-line.invariant
+
+pub returns : goal.returns
+returns c =
+    let f = renumbered_group c.args.site.now c.args.groups.now in
+    c.in_ok-push_group_line-2.ensures ∙ ap (λ t. c.loop-line.new.items ++ t) (sym (text-last f c.loop-line.rest.now c.in_default.ensures.pieces)) ∙ c.loop-line.invariant

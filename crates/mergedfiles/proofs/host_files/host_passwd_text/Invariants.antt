@@ -1,0 +1,10 @@
+use Rattle.std.proofs.Common.{◌≡◌, ◌++◌, length}
+use Rattle.mergedfiles.specs.HostFiles.{renumbered_text, renumbered_user}
+use Rattle.mergedfiles.proofs.host_files.host_passwd_text.Given as goal
+
+abbrev pub invariant-loop-line : goal.invariant-loop-line
+invariant-loop-line l =
+    l.new.items ++ renumbered_text (renumbered_user l.host l.site l.users l.groups) l.rest ≡ renumbered_text (renumbered_user l.host l.site l.users l.groups) l.fn.text
+
+abbrev pub decreases-loop-line : goal.decreases-loop-line
+decreases-loop-line l = length l.rest

@@ -1,0 +1,27 @@
+use Rattle.std.proofs.Common.{sym, ◌∙◌, ap}
+use Rattle.hosts_join.specs.Accounts.{Accounts}
+use Rattle.mergedfiles.specs.HostFiles.{new_number, number_field, renumbered_group}
+use Rattle.mergedfiles.specs.Texts.{field}
+use Rattle.mergedfiles.proofs.HostSteps.{ended, ended-group, line-skipped, group-line, group-stays}
+use Rattle.mergedfiles.proofs.host_files.push_group_line.Goals as goal
+
+pub returns-then-is_skipped : goal.returns-then-is_skipped
+returns-then-is_skipped c =
+    ended c.extend_from_slice.result c.extend_from_slice.new.self.items c.args.text.now.items c.args.line.now _ c.extend_from_slice.ensures.items
+    (line-skipped (renumbered_group c.args.site.now c.args.groups.now) c.args.line.now (sym c.is_skipped.ensures ∙ c.if-is_skipped.true))
+
+pub returns-in_default : goal.returns-in_default
+returns-in_default c =
+    ended c.extend_from_slice-in_default.result c.extend_from_slice-in_default.new.self.items c.args.text.now.items c.args.line.now _ c.extend_from_slice-in_default.ensures.items
+    (group-stays c.args.site.now c.args.groups.now c.args.line.now (sym c.is_skipped.ensures ∙ c.if-is_skipped.false) c.in_default.ensures)
+
+pub returns : goal.returns
+returns c =
+    let f = c.in-Some.fields in
+    let number = c.new_number-gid.result in
+    ended-group c.extend_from_slice-2.result c.extend_from_slice-2.new.self.items c.args.text.now.items c.push_field.new.text.items c.push_field-2.new.text.items c.push_new_field.new.text.items
+    (field f.name.now) (field f.password.now) (field (number_field number f.gid.now)) f.rest.now _
+    c.extend_from_slice-2.ensures.items c.in_ok-push_field.ensures c.in_ok-push_field-2.ensures c.in_ok-push_new_field.ensures
+    (group-line c.args.site.now c.args.groups.now c.args.line.now f.name.now f.password.now f.gid.now f.rest.now number
+    (sym c.is_skipped.ensures ∙ c.if-is_skipped.false) c.in-Some.ensures
+    (c.new_number-gid.ensures ∙ ap (λ (a : Accounts). new_number a c.args.groups.now f.name.now) c.groups.ensures))

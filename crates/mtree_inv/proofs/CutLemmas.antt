@@ -1,0 +1,107 @@
+-- Cut paths, and the rows of a search tree by them.
+use Rattle.std.proofs.Common.{◌≡◌, ℕ, suc, Bool, true, false, cond, List, [], ◌∷◌, length, refl, sym, ap, ◌∙◌, arith, true≢false}
+use Rattle.std.proofs.lemmas.Bool.{eq-eqb, ne_eqb}
+use Rattle.std.proofs.lemmas.Slice.Eq.{bytes_eq-Decides}
+use Rattle.std.proofs.lemmas.Map.Text.{is_eq-slice_cmp}
+use Rattle.std.proofs.lemmas.Map.Lookups.{exact_bytes, exact_unsigned}
+use Rattle.std.specs.Prelude.{Option, Some, None, ◌==◌}
+use Rattle.std.specs.Map.{lookup}
+use Rattle.std.specs.Ordering.{nat_cmp, is_eq, is_lt, match_ordering, ordering_then, ordering_reverse}
+use Rattle.std.specs.Cmp.{nat_cmp_total}
+use Rattle.std.specs.Cmp.Lexicographic.{slice_cmp}
+use Rattle.std.specs.BTreeMap.{insert_entry}
+use Rattle.std.specs.declared.cmp.Ordering.{Ordering}
+use Rattle.std.specs.declared.cmp.Ordering.TheVariants.{Less, Equal, Greater}
+use Rattle.mtree_inv.specs.Fronts.{Cut, cut_cmp, known_at, row_numbered, AreUpTo}
+
+-- ---- two cut paths are the same where their fronts and their tails are
+
+same_then : (o : Ordering) (xs ys : List ℕ) → is_eq (ordering_then o (slice_cmp nat_cmp xs ys)) ≡ true → (o ≡ Equal) × (xs ≡ ys)
+same_then Less xs ys h = absurd (true≢false (sym h))
+same_then Equal xs ys h = (refl, exact_bytes xs ys (equal (slice_cmp nat_cmp xs ys) h))
+  where
+    equal : (o : Ordering) → is_eq o ≡ true → o ≡ Equal
+    equal Less e = absurd (true≢false (sym e))
+    equal Equal e = refl
+    equal Greater e = absurd (true≢false (sym e))
+same_then Greater xs ys h = absurd (true≢false (sym h))
+
+pub same_cut : (p q : Cut) → is_eq (cut_cmp p q) ≡ true → (p.0 ≡ q.0) × (p.1.items ≡ q.1.items)
+same_cut p q h = let both = same_then (nat_cmp p.0 q.0) p.1.items q.1.items h in (exact_unsigned p.0 q.0 both.0, both.1)
+
+number_itself : (n : ℕ) → nat_cmp n n ≡ Equal
+number_itself n = by (nat_cmp n n) (nat_cmp_total.antisymm n n)
+  where
+    by : (o : Ordering) → o ≡ ordering_reverse o → o ≡ Equal
+    by Less e = absurd (true≢false (ap is_lt e))
+    by Equal e = refl
+    by Greater e = absurd (true≢false (sym (ap is_lt e)))
+
+cut_itself : (n : ℕ) (xs : List ℕ) → is_eq (ordering_then (nat_cmp n n) (slice_cmp nat_cmp xs xs)) ≡ true
+cut_itself n xs = ap (λ (o : Ordering). is_eq (ordering_then o (slice_cmp nat_cmp xs xs))) (number_itself n) ∙ is_eq-slice_cmp xs xs ∙ (bytes_eq-Decides xs xs).1 refl
+
+pub is_same_cut : (p q : Cut) → p.0 ≡ q.0 → p.1.items ≡ q.1.items → is_eq (cut_cmp p q) ≡ true
+is_same_cut p q numbers tails =
+    ap (λ (n : ℕ). is_eq (ordering_then (nat_cmp n q.0) (slice_cmp nat_cmp p.1.items q.1.items))) numbers
+    ∙ ap (λ (xs : List ℕ). is_eq (ordering_then (nat_cmp q.0 q.0) (slice_cmp nat_cmp xs q.1.items))) tails ∙ cut_itself q.0 q.1.items
+
+pub known_same : {V : Type 0} (rows : List (Cut × V)) (p q : Cut) → p.0 ≡ q.0 → p.1.items ≡ q.1.items → known_at rows p ≡ known_at rows q
+known_same rows p q numbers tails =
+    ap (λ (n : ℕ). lookup (λ (c : Cut). is_eq (ordering_then (nat_cmp n c.0) (slice_cmp nat_cmp p.1.items c.1.items))) rows) numbers
+    ∙ ap (λ (xs : List ℕ). lookup (λ (c : Cut). is_eq (ordering_then (nat_cmp q.0 c.0) (slice_cmp nat_cmp xs c.1.items))) rows) tails
+
+-- ---- a row more, at a cut path that no row has
+
+module _ {V : Type 0} (number : V → ℕ) (cut : Cut) (new : V) where
+  abbrev with_new : List (Cut × V) → List (Cut × V)
+  with_new rows = insert_entry cut_cmp rows cut new
+
+  pub find-other : (n : ℕ) → (number new == n) ≡ false → (rows : List (Cut × V)) → known_at rows cut ≡ None
+      → row_numbered number n (with_new rows) ≡ row_numbered number n rows
+  find-other n other [] none = ap (λ (b : Bool). cond b (Some (cut, new)) None) other
+  find-other n other (row ∷ rows) none = by (cut_cmp cut row.0) (find-other n other rows) none
+    where
+      by : (o : Ordering) → (known_at rows cut ≡ None → row_numbered number n (with_new rows) ≡ row_numbered number n rows)
+          → cond (is_eq o) (Some row.1) (known_at rows cut) ≡ None
+          → row_numbered number n (match_ordering o ((cut, new) ∷ row ∷ rows) ((row.0, new) ∷ rows) (row ∷ with_new rows)) ≡ row_numbered number n (row ∷ rows)
+      by Less rest h = ap (λ (b : Bool). cond b (Some (cut, new)) (row_numbered number n (row ∷ rows))) other
+      by Equal rest h = absurd (cc)
+      by Greater rest h = ap (λ (o : Option (Cut × V)). cond (number row.1 == n) (Some row) o) (rest h)
+
+  pub find-new : (n : ℕ) → number new ≡ suc n → (rows : List (Cut × V)) → AreUpTo number n rows → known_at rows cut ≡ None
+      → row_numbered number (suc n) (with_new rows) ≡ Some (cut, new)
+  find-new n e [] up none = ap (λ (b : Bool). cond b (Some (cut, new)) None) (eq-eqb (number new) (suc n) e)
+  find-new n e (row ∷ rows) up none = by (cut_cmp cut row.0) (find-new n e rows up.1) none
+    where
+      other : (number row.1 == suc n) ≡ false
+      other = ne_eqb (number row.1) (suc n) (λ z. omega (arith, up.0, z))
+
+      by : (o : Ordering) → (known_at rows cut ≡ None → row_numbered number (suc n) (with_new rows) ≡ Some (cut, new))
+          → cond (is_eq o) (Some row.1) (known_at rows cut) ≡ None
+          → row_numbered number (suc n) (match_ordering o ((cut, new) ∷ row ∷ rows) ((row.0, new) ∷ rows) (row ∷ with_new rows)) ≡ Some (cut, new)
+      by Less rest h = ap (λ (b : Bool). cond b (Some (cut, new)) (row_numbered number (suc n) (row ∷ rows))) (eq-eqb (number new) (suc n) e)
+      by Equal rest h = absurd (cc)
+      by Greater rest h = ap (λ (b : Bool). cond b (Some row) (row_numbered number (suc n) (with_new rows))) other ∙ rest h
+
+  pub length-new : (rows : List (Cut × V)) → known_at rows cut ≡ None → length (with_new rows) ≡ suc (length rows)
+  length-new [] none = refl
+  length-new (row ∷ rows) none = by (cut_cmp cut row.0) (length-new rows) none
+    where
+      by : (o : Ordering) → (known_at rows cut ≡ None → length (with_new rows) ≡ suc (length rows)) → cond (is_eq o) (Some row.1) (known_at rows cut) ≡ None
+          → length (match_ordering o ((cut, new) ∷ row ∷ rows) ((row.0, new) ∷ rows) (row ∷ with_new rows)) ≡ suc (suc (length rows))
+      by Less rest h = refl
+      by Equal rest h = absurd (cc)
+      by Greater rest h = ap suc (rest h)
+
+  AreUpTo-more : (n : ℕ) (rows : List (Cut × V)) → AreUpTo number n rows → AreUpTo number (suc n) rows
+  AreUpTo-more n [] up = tt
+  AreUpTo-more n (row ∷ rows) up = (omega (arith, up.0), AreUpTo-more n rows up.1)
+
+  pub AreUpTo-new : (n : ℕ) → number new ≡ suc n → (rows : List (Cut × V)) → AreUpTo number n rows → AreUpTo number (suc n) (with_new rows)
+  AreUpTo-new n e [] up = (omega (arith, e), tt)
+  AreUpTo-new n e (row ∷ rows) up = by (cut_cmp cut row.0) (AreUpTo-new n e rows up.1)
+    where
+      by : (o : Ordering) → AreUpTo number (suc n) (with_new rows) → AreUpTo number (suc n) (match_ordering o ((cut, new) ∷ row ∷ rows) ((row.0, new) ∷ rows) (row ∷ with_new rows))
+      by Less rest = (omega (arith, e), (omega (arith, up.0), AreUpTo-more n rows up.1))
+      by Equal rest = (omega (arith, e), AreUpTo-more n rows up.1)
+      by Greater rest = (omega (arith, up.0), rest)

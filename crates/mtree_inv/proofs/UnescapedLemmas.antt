@@ -1,0 +1,106 @@
+-- A word without escapes: its parts are its pieces between slashes.
+use Rattle.std.proofs.Common.{◌≡◌, ℕ, Bool, true, false, cond, ◌||◌, List, [], ◌∷◌, refl, sym, ap, ◌∙◌, true≢false, arith}
+use Rattle.std.specs.Prelude.{filter, map, drop, slice_index, ◌==◌}
+use Rattle.std.specs.List.{list_any, slice_split, onto_first}
+use Rattle.idtext.specs.Escapes.{Front, backslash_front, front, characters, bytes_of, is_bad}
+use Rattle.idtext.specs.Pieces.{pieces}
+use Rattle.idtext.specs.declared.escapes.Character.{Character}
+use Rattle.idtext.specs.declared.escapes.Character.TheVariants.{Plain}
+use Rattle.idtext.proofs.EscapeLemmas.{characters-empty, front-first}
+use Rattle.mtree_inv.specs.Open.{is_full}
+use Rattle.mtree_inv.specs.Paths.{is_kept, is_bad_component, is_slash, parts, components, has_bad_component}
+use Rattle.mtree_inv.specs.Machine.{joined_onto}
+use Rattle.mtree_inv.proofs.PartLemmas.{kept-joined, with_part}
+
+or_parts : (a b : Bool) → (a || b) ≡ false → (a ≡ false) × (b ≡ false)
+or_parts true b h = absurd (true≢false h)
+or_parts false b h = (refl, h)
+
+-- ---- its characters are its bytes
+
+front-plain : (x : ℕ) (xs : List ℕ) → (x == 92) ≡ false → front (x ∷ xs) ≡ record { character = Plain x; taken = 1 }
+front-plain x xs e =
+    ap (λ (t : Bool). cond t (backslash_front (slice_index (x ∷ xs) 1) (slice_index (x ∷ xs) 2) (slice_index (x ∷ xs) 3)) (record { character = Plain x; taken = 1 })) e
+
+characters-plain : (word : List ℕ) → list_any (λ b. b == 92) word ≡ false → characters word ≡ map (λ b. Plain b) word
+characters-plain [] none = characters-empty
+characters-plain (x ∷ xs) none =
+    let both = or_parts (x == 92) (list_any (λ b. b == 92) xs) none in
+    front-first (x ∷ xs) (omega arith)
+    ∙ ap (λ (f : Front). f.character ∷ characters (drop f.taken (x ∷ xs))) (front-plain x xs both.0)
+    ∙ ap (λ (cs : List Character). Plain x ∷ cs) (characters-plain xs both.1)
+
+none-bad : (word : List ℕ) → list_any is_bad (map (λ b. Plain b) word) ≡ false
+none-bad [] = refl
+none-bad (x ∷ xs) = none-bad xs
+
+slash-plain : (word : List ℕ) → list_any is_slash (map (λ b. Plain b) word) ≡ list_any (λ b. b == 47) word
+slash-plain [] = refl
+slash-plain (x ∷ xs) = ap (λ (b : Bool). (x == 47) || b) (slash-plain xs)
+
+pub full-plain : (word : List ℕ) → list_any (λ b. b == 92) word ≡ false → is_full word ≡ list_any (λ b. b == 47) word
+full-plain word none = ap (list_any is_slash) (characters-plain word none) ∙ slash-plain word
+
+-- ---- and its parts its pieces
+
+onto_first-bytes : (x : ℕ) (rest : List (List Character)) → map bytes_of (onto_first (Plain x) rest) ≡ onto_first x (map bytes_of rest)
+onto_first-bytes x [] = refl
+onto_first-bytes x (first ∷ more) = refl
+
+split-plain : (word : List ℕ) → map bytes_of (slice_split is_slash (map (λ b. Plain b) word)) ≡ slice_split (λ b. b == 47) word
+split-plain [] = refl
+split-plain (x ∷ xs) = by (x == 47) (split-plain xs)
+  where
+    by : (b : Bool) → map bytes_of (slice_split is_slash (map (λ b. Plain b) xs)) ≡ slice_split (λ b. b == 47) xs
+        → map bytes_of (cond b ([] ∷ slice_split is_slash (map (λ b. Plain b) xs)) (onto_first (Plain x) (slice_split is_slash (map (λ b. Plain b) xs)))) ≡ cond b ([] ∷ slice_split (λ b. b == 47) xs) (onto_first x (slice_split (λ b. b == 47) xs))
+    by true rest = ap (λ (ps : List (List ℕ)). [] ∷ ps) rest
+    by false rest = onto_first-bytes x (slice_split is_slash (map (λ b. Plain b) xs)) ∙ ap (onto_first x) rest
+
+module _ (word : List ℕ) (none : list_any (λ b. b == 92) word ≡ false) where
+  parts-plain : parts word ≡ pieces 47 word
+  unfolding pieces
+  parts-plain = ap (λ (cs : List Character). map bytes_of (slice_split is_slash cs)) (characters-plain word none) ∙ split-plain word
+
+  bad-plain : list_any is_bad_component (pieces 47 word) ≡ has_bad_component word
+  bad-plain =
+      ap (λ (b : Bool). b || list_any is_bad_component (pieces 47 word)) (sym (none-bad word) ∙ ap (list_any is_bad) (sym (characters-plain word none)))
+      ∙ ap (λ (ps : List (List ℕ)). list_any is_bad (characters word) || list_any is_bad_component ps) (sym parts-plain)
+
+  components-plain : filter is_kept (pieces 47 word) ≡ components word
+  components-plain = ap (filter is_kept) (sym parts-plain)
+
+-- ---- a word that is read up to a rest, where `bad` and `whole` are those of the whole word
+
+pub record PiecesTo (path rest : List ℕ) (bad : Bool) (whole : List ℕ) : Type 0 where
+  pub bad_is : list_any is_bad_component (pieces 47 rest) ≡ bad
+  pub path_is : joined_onto path (filter is_kept (pieces 47 rest)) ≡ whole
+
+pub pieces-begun : (path word : List ℕ) → list_any (λ b. b == 92) word ≡ false → PiecesTo path word (has_bad_component word) (joined_onto path (components word))
+pieces-begun path word none = record { bad_is = bad-plain word none; path_is = ap (joined_onto path) (components-plain word none) }
+
+module _ (path part after rest : List ℕ) (bad : Bool) (whole : List ℕ) (cut : pieces 47 rest ≡ part ∷ pieces 47 after) (read : PiecesTo path rest bad whole) where
+  pub piece-bad : is_bad_component part ≡ true → bad ≡ true
+  piece-bad is =
+      sym read.bad_is ∙ ap (list_any is_bad_component) cut ∙ ap (λ (b : Bool). b || list_any is_bad_component (pieces 47 after)) is
+
+  pub piece-on : (new : List ℕ) → is_bad_component part ≡ false → new ≡ with_part path part → PiecesTo new after bad whole
+  piece-on new not_bad e = record {
+    bad_is = ap (λ (b : Bool). b || list_any is_bad_component (pieces 47 after)) (sym not_bad) ∙ ap (list_any is_bad_component) (sym cut) ∙ read.bad_is;
+    path_is =
+        ap (λ (p : List ℕ). joined_onto p (filter is_kept (pieces 47 after))) e
+        ∙ sym (kept-joined path part (filter is_kept (pieces 47 after)) (is_kept part))
+        ∙ ap (λ (ps : List (List ℕ)). joined_onto path (filter is_kept ps)) (sym cut) ∙ read.path_is;
+  }
+
+module _ (path rest : List ℕ) (bad : Bool) (whole : List ℕ) (last : pieces 47 rest ≡ rest ∷ []) (read : PiecesTo path rest bad whole) where
+  pub last-piece-bad : is_bad_component rest ≡ bad
+  last-piece-bad = sym (or_false (is_bad_component rest)) ∙ ap (list_any is_bad_component) (sym last) ∙ read.bad_is
+    where
+      or_false : (b : Bool) → (b || false) ≡ b
+      or_false true = refl
+      or_false false = refl
+
+  pub last-piece-path : with_part path rest ≡ whole
+  last-piece-path = sym (kept-joined path rest [] (is_kept rest)) ∙ ap (λ (ps : List (List ℕ)). joined_onto path (filter is_kept ps)) (sym last) ∙ read.path_is
+
+-- ---- no slash where there is none

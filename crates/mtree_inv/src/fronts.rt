@@ -1,0 +1,73 @@
+//! The fronts of paths, each kept once.
+ghost use Rattle.std.specs.Prelude.{◌≡◌, [], length, IfOk};
+ghost use Rattle.mtree_inv.specs.Fronts.{block_len, AreFronts, GrowTo, IsCut, IsCutOf, IsFrontAt};
+
+use std::alloc::{AllocError, Global};
+use std::collections::BTreeMap;
+use std::marker::Model;
+
+// How many bytes a front grows by.
+const BLOCK_LEN: usize = 256;
+
+/// A path that is cut in two: the number of its front, and the bytes behind that, at most a block of them.
+pub(crate) type CutPath = (usize, Vec<u8>);
+
+/// The fronts of paths. A front is a whole number of blocks. Number 0 is the empty one, and each other is one before it
+/// and a block more, so that it is kept as a number and one block, however long it is.
+#[derive(Drop)]
+pub(crate) struct Fronts {
+    numbers: BTreeMap<CutPath, usize>,
+}
+
+impl Model for Fronts {
+    ghost use Rattle.std.specs.Prelude.{ℕ, List};
+    ghost use Rattle.mtree_inv.specs.Fronts.{fronts_in, AreFrontRows};
+
+    ghost Value = { List (List ℕ) };
+
+    ghost view = { λ f. fronts_in f.numbers.entries };
+
+    ghost invariant = { λ f. AreFrontRows f.numbers.entries };
+}
+
+/// The empty front alone.
+pub(crate) fn empty_front(alloc: Global) -> Fronts
+    ensures { AreFronts result }
+{
+    Fronts {
+        numbers: BTreeMap::new(alloc),
+    }
+}
+
+// The number of the front that this front and the block behind it make.
+fn number_of(fronts: &mut Fronts, longer: CutPath) -> Result<usize, AllocError>
+    requires cut { IsCut fronts.old longer }
+    requires block { length longer.1.items ≡ block_len }
+    ensures ok { IfOk result (λ number. IsFrontAt fronts.new longer number) }
+    ensures fronts { AreFronts fronts.new }
+    ensures grow { GrowTo fronts.old fronts.new }
+{
+    if let Some(number) = fronts.numbers.get(&longer).copied() {
+        return Ok(number);
+    }
+    let number = fronts.numbers.len() + 1;
+    fronts.numbers.insert(longer, number)?;
+    Ok(number)
+}
+
+/// Cuts a path. Fronts of it that lack are added, and stay where memory is refused: then no path may have them.
+pub(crate) fn cut(fronts: &mut Fronts, alloc: Global, path: &[u8]) -> Result<CutPath, AllocError>
+    requires { AreFronts fronts.old }
+    ensures ok { IfOk result (λ found. IsCutOf fronts.new found path.now) }
+    ensures fronts { AreFronts fronts.new }
+    ensures grow { GrowTo fronts.old fronts.new }
+{
+    let mut front = 0;
+    let mut rest = path;
+    while rest.len() > BLOCK_LEN {
+        let (block, behind) = rest.split_at(BLOCK_LEN);
+        front = number_of(fronts, (front, Vec::from_slice(alloc, block)?))?;
+        rest = behind;
+    }
+    Ok((front, Vec::from_slice(alloc, rest)?))
+}

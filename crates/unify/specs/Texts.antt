@@ -1,0 +1,42 @@
+-- Both passes over a site whose inventories are among its texts.
+-- Source: this project's own rule.
+use Rattle.std.specs.Prelude.{◌≡◌, ℕ, List, [], length, map, Ok, Some, slice_get}
+use Rattle.idtext.specs.First.{each}
+use Rattle.mtree_inv.specs.declared.entry.Entry.{Entry}
+use Rattle.hosts_join.specs.declared.host.Host.{Host}
+use Rattle.hosts_join.specs.declared.texts.HostText.{HostText}
+use Rattle.unify.specs.Count.{site_of}
+use Rattle.unify.specs.Hosts.{files_of}
+use Rattle.unify.specs.Loading.{loaded_from}
+use Rattle.unify.specs.Outcomes.{hosts_in}
+use Rattle.unify.specs.Passes as first
+use Rattle.unify.specs.Passes.{ArePassed, CountingValue, ended_in}
+use Rattle.unify.specs.Reading.{WholeSite}
+use Rattle.unify.specs.RowFiles.{row_files}
+use Rattle.unify.specs.SecondPass as second
+use Rattle.unify.specs.SecondPass.{SolvedValue}
+
+abbrev pub mtrees : List HostText → List (List ℕ)
+mtrees texts = map (λ t. t.mtree) texts
+
+-- the inventories of the site were read, each to its end
+pub record HasCounted (texts : List HostText) (site : WholeSite) (c : CountingValue) : Type 0 where
+  pub stands : first.StandsFor c (mtrees texts) []
+  pub hosts : stands.read ≡ site.hosts
+  pub joined : c.joined ≡ site.joined
+  pub none_left : ended_in c ≡ length c.hosts
+  pub each_text : length c.hosts ≡ length texts
+
+-- what was merged is of the site, whose inventories are those of the texts
+pub record IsOfSite (texts : List HostText) (site : WholeSite) (s : SolvedValue) : Type 0 where
+  pub hosts : s.hosts ≡ hosts_in site
+  pub joined : s.joined ≡ site.joined
+  pub passed : ArePassed s.passed site.hosts
+  pub accepted : each site_of (loaded_from s.hosts (mtrees texts)) ≡ Ok site.hosts
+
+-- the turn of the host has come, whose inventory is this text again
+pub record IsTurnOf (s : SolvedValue) (host : Host) (text : List ℕ) (files : List Entry) : Type 0 where
+  pub here : slice_get s.hosts s.ended ≡ Some host
+  pub passed : slice_get s.passed s.ended ≡ Some (row_files host files)
+  pub accepted : files_of (record { host = host; mtree = text }) ≡ Ok files
+  pub stands : second.StandsFor s host [] []

@@ -1,0 +1,177 @@
+//! The inventories of hosts, as a command reads them one after the other.
+
+ghost use Rattle.std.specs.Prelude.{◌≡◌, true, is_some, OnOk, OnErr};
+ghost use Rattle.unify_merge.specs.Noted.{noted};
+
+use crate::files::{FileFault, host_name};
+use crate::inventory::InventoryFile;
+use crate::report::no_host;
+use crate::warnings::warn_of_no_files;
+use unify_merge::{Call, CallFailed, Log, ReadFiles};
+
+/// The inventories of the hosts that words name.
+#[derive(Drop)]
+pub struct Inventories<'w> {
+    rt: &'w HostRuntime,
+    words: &'w [&'w str],
+    is_quiet: bool,
+    // How many lines of files there were, when each was read for the first time.
+    file_lines: u64,
+    // How many were opened, and the last of them.
+    opened: usize,
+    inventory: Option<InventoryFile>,
+}
+
+impl<'w> Inventories<'w> {
+    /// Nothing is read as yet. Unless it is to be quiet it warns of hosts without files.
+    pub fn new(rt: &'w HostRuntime, words: &'w [&'w str], is_quiet: bool) -> Inventories<'w> {
+        Inventories {
+            rt,
+            words,
+            is_quiet,
+            file_lines: 0,
+            opened: 0,
+            inventory: None,
+        }
+    }
+
+    /// Opens the inventory of the host with the index.
+    pub fn open(&mut self, host: usize) -> Result<(), FileFault> {
+        let Some(word) = self.words.get(host) else {
+            return Err(no_host(self.rt));
+        };
+        self.inventory = Some(InventoryFile::open(self.rt, *word)?);
+        self.opened = self.opened.saturating_add(1);
+        Ok(())
+    }
+
+    // The next bytes of the inventory.
+    fn read_on(&mut self, bytes: &mut Vec<u8>) -> Result<(), FileFault> {
+        match &mut self.inventory {
+            Some(inventory) => inventory.next_piece(self.rt, bytes),
+            None => Err(no_host(self.rt)),
+        }
+    }
+
+    // Looks at the end of an inventory, and warns where it was read for the first time and has no file.
+    fn look_at_end(&mut self) -> Result<(), FileFault> {
+        let (Some(inventory), Some(word)) = (
+            &self.inventory,
+            self.words.get(self.opened.saturating_sub(1)),
+        ) else {
+            return Ok(());
+        };
+        let lines = inventory.file_lines();
+        self.file_lines = self.file_lines.saturating_add(lines);
+        if lines == 0 && !self.is_quiet {
+            warn_of_no_files(self.rt, host_name(*word).as_bytes())?;
+        }
+        Ok(())
+    }
+
+    /// Replaces the bytes by the next ones of the inventory.
+    pub fn piece(&mut self, bytes: &mut Vec<u8>) -> Result<(), FileFault> {
+        self.read_on(bytes)?;
+        if bytes.is_empty() {
+            self.look_at_end()
+        } else {
+            Ok(())
+        }
+    }
+
+    /// How many lines of files there are, as far as each inventory was read once.
+    pub fn file_lines(&self) -> u64 {
+        self.file_lines
+    }
+
+    /// Tells that the inventory that was opened last has too many bytes.
+    pub fn too_large(&self) -> FileFault {
+        match &self.inventory {
+            Some(inventory) => inventory.too_large(self.rt),
+            None => FileFault::Told(3),
+        }
+    }
+}
+
+/// The calls that were made on files, and why one failed.
+#[derive(Drop)]
+pub struct Calls {
+    pub fault: Option<FileFault>,
+    pub log: Log,
+}
+
+impl Calls {
+    /// None was made as yet.
+    pub fn new() -> Calls {
+        Calls {
+            fault: None,
+            log: Log::new(),
+        }
+    }
+
+    /// Notes a call that was made, or why it failed.
+    pub fn told(&mut self, done: Result<(), FileFault>, call: &Call<'_>) -> Result<(), CallFailed>
+        ensures noted { OnOk result (self.new.log.ledger ≡ noted call.now self.old.log.ledger) }
+        ensures none { OnErr result (self.new.log.ledger ≡ self.old.log.ledger) }
+        ensures failed { OnErr result (is_some self.new.fault ≡ true) }
+    {
+        match done {
+            Ok(()) => {
+                self.log.note(call);
+                Ok(())
+            }
+            Err(fault) => {
+                self.fault = Some(fault);
+                Err(CallFailed)
+            }
+        }
+    }
+
+    /// Why a call failed.
+    pub fn fault(&self) -> FileFault {
+        self.fault.unwrap_or(FileFault::Told(3))
+    }
+}
+
+/// The inventories of the hosts that words name, for a command that writes nothing.
+#[derive(Drop)]
+pub struct HostFiles<'w> {
+    inventories: Inventories<'w>,
+    calls: Calls,
+}
+
+impl<'w> HostFiles<'w> {
+    /// Nothing is read as yet. It does not warn.
+    pub fn new(rt: &'w HostRuntime, words: &'w [&'w str]) -> HostFiles<'w> {
+        HostFiles {
+            inventories: Inventories::new(rt, words, true),
+            calls: Calls::new(),
+        }
+    }
+
+    /// Why a call failed.
+    pub fn fault(&self) -> FileFault {
+        self.calls.fault()
+    }
+
+    /// Tells that the inventory that was read last has too many bytes.
+    pub fn too_large(&self) -> FileFault {
+        self.inventories.too_large()
+    }
+}
+
+impl ReadFiles for HostFiles<'_> {
+    ghost ledger = { λ files. files.calls.log.ledger };
+
+    ghost has_failed = { λ files. is_some files.calls.fault };
+
+    fn open(&mut self, host: usize) -> Result<(), CallFailed> {
+        let done = self.inventories.open(host);
+        self.calls.told(done, &Call::Open(host))
+    }
+
+    fn piece(&mut self, bytes: &mut Vec<u8>) -> Result<(), CallFailed> {
+        let done = self.inventories.piece(bytes);
+        self.calls.told(done, &Call::Piece(bytes))
+    }
+}

@@ -1,0 +1,547 @@
+//! Warnings of what a merge gives: users and groups that are one by their name, and may have been two.
+
+use crate::files::{FileFault, read_file};
+use crate::warnings::{MOST_LINES, MOST_NAMES, Part, warn, warn_of_more, warn_of_pins};
+use accounts::{GroupRow, GroupTable, PasswdRow, PasswdTable, read_group, read_passwd};
+use hosts_join::{HostText, PairTable};
+use idtext::{ByteString, Lines, ReadError, Words, cut};
+use std::alloc::AllocError;
+use std::path::Path;
+use std::str;
+
+/// How many groups of a user an NFS request carries (AUTH_SYS, RFC 5531).
+const MOST_GROUPS: usize = 16;
+
+// The user of whom a line of a report says that a host has another comment, and that host.
+fn other_comment(line: &[u8]) -> Option<(&[u8], &[u8])> {
+    let mut words = Words::new(line);
+    if words.next()? != b"differs".as_slice() || words.next()? != b"user".as_slice() {
+        return None;
+    }
+    let name = words.next()?;
+    if words.next()? != b"comment".as_slice() {
+        return None;
+    }
+    Some((name, words.next()?))
+}
+
+// Whether passwd has a row of that name.
+fn has_user(passwd: &[u8], name: &[u8]) -> bool {
+    for line in Lines::new(passwd) {
+        if let Some((found, _)) = cut(b':', line) {
+            if found == name {
+                return true;
+            }
+        }
+    }
+    false
+}
+
+// The first host that has a user of this name, as a report shows it. Where a byte of the name is escaped there, it
+// is not told.
+fn first_with<'h>(hosts: &'h [HostText], name: &[u8]) -> Option<&'h HostText> {
+    if name.contains(&b'\\') {
+        return None;
+    }
+    for host in hosts {
+        if has_user(host.passwd.bytes(), name) {
+            return Some(host);
+        }
+    }
+    None
+}
+
+// Warns of a user who has another comment on a host than on the first that has the user.
+fn warn_of_comment<'a>(
+    rt: &HostRuntime,
+    hosts: &'a [HostText],
+    name: &'a [u8],
+    host: &'a [u8],
+) -> Result<(), AllocError> {
+    let first = match first_with(hosts, name) {
+        Some(first) => Part::Name(first.name.bytes()),
+        None => Part::Text("an earlier one"),
+    };
+    warn(
+        rt,
+        &[
+            Part::Text("user"),
+            Part::Shown(name),
+            Part::Text("has another comment on host"),
+            Part::Shown(host),
+            Part::Text("than on"),
+            first,
+        ],
+    )
+}
+
+// How many files the inventories have, as a line of a report says.
+fn files_in(line: &[u8]) -> Option<u64> {
+    let mut words = Words::new(line);
+    if words.next()? != b"user-fields".as_slice() {
+        return None;
+    }
+    let _changed = words.next()?;
+    if words.next()? != b"of".as_slice() {
+        return None;
+    }
+    match str::from_utf8(words.next()?) {
+        Ok(count) => count.parse::<u64>().ok(),
+        Err(_) => None,
+    }
+}
+
+// Warns of paths that stand in an inventory more than once, where its lines of files are more than its files.
+fn warn_of_paths(rt: &HostRuntime, report: &[u8], file_lines: u64) -> Result<(), AllocError> {
+    let files = Lines::new(report).find_map(|line| files_in(line));
+    let again = file_lines.saturating_sub(files.unwrap_or(file_lines));
+    if again == 0 {
+        return Ok(());
+    }
+    warn(
+        rt,
+        &[
+            Part::Text("lines of inventories whose path stood there before:"),
+            Part::Count(again as usize),
+        ],
+    )
+}
+
+// Warns of users who have two comments, as a report tells: they may be two people.
+fn warn_of_comments(rt: &HostRuntime, hosts: &[HostText], report: &[u8]) -> Result<(), AllocError> {
+    let mut last: &[u8] = b"";
+    let mut count: usize = 0;
+    for line in Lines::new(report) {
+        if let Some((name, host)) = other_comment(line) {
+            if name != last {
+                if count < MOST_LINES {
+                    warn_of_comment(rt, hosts, name, host)?;
+                }
+                count = count.saturating_add(1);
+                last = name;
+            }
+        }
+    }
+    warn_of_more(rt, "users with two comments:", count)
+}
+
+// The members of a group, as a table to look them up in.
+fn members_in<'a>(rt: &HostRuntime, row: &GroupRow<'a>) -> Result<PairTable<'a>, AllocError> {
+    let mut members = PairTable::new(rt.alloc());
+    for member in row.members_of() {
+        members.add(member, row.gid)?;
+    }
+    Ok(members)
+}
+
+// The first members of a group that are in a table, or that are not; one more than are told.
+fn first_members<'a>(
+    rt: &HostRuntime,
+    group: &GroupRow<'a>,
+    table: &PairTable<'_>,
+    are_in: bool,
+) -> Result<Vec<&'a [u8]>, AllocError> {
+    let mut first = Vec::new(rt.alloc());
+    for member in group.members_of() {
+        if table.number(member).is_some() == are_in && first.len() <= MOST_NAMES {
+            first.push(member)?;
+        }
+    }
+    Ok(first)
+}
+
+// Whether all members of a group are in a table.
+fn are_all_in(group: &GroupRow<'_>, table: &PairTable<'_>) -> bool {
+    for member in group.members_of() {
+        if table.number(member).is_none() {
+            return false;
+        }
+    }
+    true
+}
+
+// Warns of a group that gets members on a host.
+fn warn_of_group<'a>(
+    rt: &HostRuntime,
+    host: &'a [u8],
+    group: &'a [u8],
+    had: &'a [&'a [u8]],
+    new: &'a [&'a [u8]],
+) -> Result<(), AllocError> {
+    let had = if had.is_empty() {
+        Part::Text("no member")
+    } else {
+        Part::Names(had)
+    };
+    warn(
+        rt,
+        &[
+            Part::Text("group"),
+            Part::Name(group),
+            Part::Text("on host"),
+            Part::Name(host),
+            Part::Text("has"),
+            had,
+            Part::Text("and gets"),
+            Part::Names(new),
+        ],
+    )
+}
+
+// Warns of a merged group that gets members on a host, where its members are those of a table.
+fn warn_of_new_members(
+    rt: &HostRuntime,
+    host: &[u8],
+    merged: &GroupRow<'_>,
+    members: &PairTable<'_>,
+) -> Result<(), AllocError> {
+    let had = first_members(rt, merged, members, true)?;
+    let new = first_members(rt, merged, members, false)?;
+    warn_of_group(rt, host, merged.name, &had, &new)
+}
+
+// Whether a merged group gets members on a host that has the row. If so, and not too many were told, that is warned of.
+fn gets_members(
+    rt: &HostRuntime,
+    host: &[u8],
+    row: &GroupRow<'_>,
+    merged: &GroupRow<'_>,
+    told: usize,
+) -> Result<bool, AllocError> {
+    let members = members_in(rt, row)?;
+    if are_all_in(merged, &members) {
+        return Ok(false);
+    }
+    if told < MOST_LINES {
+        warn_of_new_members(rt, host, merged, &members)?;
+    }
+    Ok(true)
+}
+
+// Warns of the groups of a host that get members there, and hands out how many there are by now.
+fn count_rows(
+    rt: &HostRuntime,
+    host: &[u8],
+    rows: &[GroupRow<'_>],
+    groups: &GroupTable<'_>,
+    told: usize,
+) -> Result<usize, AllocError> {
+    let mut count = told;
+    for row in rows {
+        if let Some(merged) = groups.by_name(row.name) {
+            if gets_members(rt, host, row, merged, count)? {
+                count = count.saturating_add(1);
+            }
+        }
+    }
+    Ok(count)
+}
+
+// Want of memory; another fault of a text is told where the text is judged.
+fn only_memory(fault: &ReadError) -> Result<(), AllocError> {
+    match fault {
+        ReadError::Memory => Err(AllocError),
+        ReadError::Fault(_) => Ok(()),
+    }
+}
+
+// Warns of the groups of a host that get members there, and hands out how many there are by now.
+fn count_host(
+    rt: &HostRuntime,
+    host: &HostText,
+    groups: &GroupTable<'_>,
+    told: usize,
+) -> Result<usize, AllocError> {
+    match read_group(rt.alloc(), host.group.bytes()) {
+        Ok(table) => count_rows(rt, host.name.bytes(), table.rows(), groups, told),
+        Err(fault) => {
+            only_memory(&fault)?;
+            Ok(told)
+        }
+    }
+}
+
+// Warns of groups that give users on a host what they had on another one.
+fn warn_of_members(
+    rt: &HostRuntime,
+    hosts: &[HostText],
+    groups: &GroupTable<'_>,
+) -> Result<(), AllocError> {
+    let mut count = 0;
+    for host in hosts {
+        count = count_host(rt, host, groups, count)?;
+    }
+    warn_of_more(rt, "groups that get members on a host:", count)
+}
+
+// Counts a group for the user in the row of that line.
+fn count_for(counts: &mut [usize], line: u64) {
+    let Ok(line) = usize::try_from(line) else {
+        return;
+    };
+    if let Some(count) = counts.get_mut(line.wrapping_sub(1)) {
+        *count = count.saturating_add(1);
+    }
+}
+
+// Counts a group for each of its members whose primary group it is not.
+fn count_members(counts: &mut [usize], users: &PasswdTable<'_>, group: &GroupRow<'_>) {
+    for member in group.members_of() {
+        if let Some(row) = users.by_name(member) {
+            if row.gid != group.gid {
+                count_for(counts, row.line);
+            }
+        }
+    }
+}
+
+// How many groups each user is in: the primary group, and those that list the user.
+fn group_counts(
+    rt: &HostRuntime,
+    users: &PasswdTable<'_>,
+    groups: &GroupTable<'_>,
+) -> Result<Vec<usize>, AllocError> {
+    let mut counts = Vec::new(rt.alloc());
+    for _ in users.rows() {
+        counts.push(1)?;
+    }
+    for group in groups.rows() {
+        count_members(&mut counts, users, group);
+    }
+    Ok(counts)
+}
+
+// Warns of users in more groups than an NFS request carries.
+fn warn_of_many_groups(
+    rt: &HostRuntime,
+    rows: &[PasswdRow<'_>],
+    counts: &[usize],
+) -> Result<(), AllocError> {
+    let mut told: usize = 0;
+    for (row, count) in rows.iter().zip(counts) {
+        if *count > MOST_GROUPS {
+            if told < MOST_LINES {
+                warn(
+                    rt,
+                    &[
+                        Part::Text("user"),
+                        Part::Name(row.name),
+                        Part::Text("is in"),
+                        Part::Count(*count),
+                        Part::Text("groups, and an NFS request carries 16"),
+                    ],
+                )?;
+            }
+            told = told.saturating_add(1);
+        }
+    }
+    warn_of_more(rt, "users in more than 16 groups:", told)
+}
+
+// Adds the users whose number was another user's on a host that has these rows.
+fn add_renumbered_users<'t>(
+    taken: &mut PairTable<'t>,
+    rows: &[PasswdRow<'_>],
+    users: &PasswdTable<'t>,
+) -> Result<(), AllocError> {
+    for row in rows {
+        if let Some(other) = users.by_number(row.uid) {
+            if other.name != row.name {
+                taken.add(other.name, other.uid)?;
+            }
+        }
+    }
+    Ok(())
+}
+
+// Adds the groups whose number was another group's on a host that has these rows.
+fn add_renumbered_groups<'t>(
+    taken: &mut PairTable<'t>,
+    rows: &[GroupRow<'_>],
+    groups: &GroupTable<'t>,
+) -> Result<(), AllocError> {
+    for row in rows {
+        if let Some(other) = groups.by_number(row.gid) {
+            if other.name != row.name {
+                taken.add(other.name, other.gid)?;
+            }
+        }
+    }
+    Ok(())
+}
+
+// Adds the users whose number was another user's on a host.
+fn add_users_of<'t>(
+    rt: &HostRuntime,
+    taken: &mut PairTable<'t>,
+    host: &HostText,
+    users: &PasswdTable<'t>,
+) -> Result<(), AllocError> {
+    match read_passwd(rt.alloc(), host.passwd.bytes()) {
+        Ok(table) => add_renumbered_users(taken, table.rows(), users),
+        Err(fault) => only_memory(&fault),
+    }
+}
+
+// Adds the groups whose number was another group's on a host.
+fn add_groups_of<'t>(
+    rt: &HostRuntime,
+    taken: &mut PairTable<'t>,
+    host: &HostText,
+    groups: &GroupTable<'t>,
+) -> Result<(), AllocError> {
+    match read_group(rt.alloc(), host.group.bytes()) {
+        Ok(table) => add_renumbered_groups(taken, table.rows(), groups),
+        Err(fault) => only_memory(&fault),
+    }
+}
+
+// Warns of how many numbers were another name's on some host.
+fn warn_of_taken(rt: &HostRuntime, what: &str, count: usize) -> Result<(), AllocError> {
+    if count == 0 {
+        return Ok(());
+    }
+    warn(
+        rt,
+        &[
+            Part::Text("numbers of"),
+            Part::Text(what),
+            Part::Count(count),
+        ],
+    )
+}
+
+// Warns of users whose number was another user's: files that no inventory lists would be theirs.
+fn warn_of_user_numbers(
+    rt: &HostRuntime,
+    hosts: &[HostText],
+    users: &PasswdTable<'_>,
+) -> Result<(), AllocError> {
+    let mut taken = PairTable::new(rt.alloc());
+    for host in hosts {
+        add_users_of(rt, &mut taken, host, users)?;
+    }
+    warn_of_taken(
+        rt,
+        "users that were another user's on some host:",
+        taken.len(),
+    )
+}
+
+// Warns of groups whose number was another group's.
+fn warn_of_group_numbers(
+    rt: &HostRuntime,
+    hosts: &[HostText],
+    groups: &GroupTable<'_>,
+) -> Result<(), AllocError> {
+    let mut taken = PairTable::new(rt.alloc());
+    for host in hosts {
+        add_groups_of(rt, &mut taken, host, groups)?;
+    }
+    warn_of_taken(
+        rt,
+        "groups that were another group's on some host:",
+        taken.len(),
+    )
+}
+
+// Warns of what merged groups give.
+fn warn_of_groups(
+    rt: &HostRuntime,
+    hosts: &[HostText],
+    users: &PasswdTable<'_>,
+    groups: &GroupTable<'_>,
+) -> Result<(), AllocError> {
+    warn_of_members(rt, hosts, groups)?;
+    let counts = group_counts(rt, users, groups)?;
+    warn_of_many_groups(rt, users.rows(), &counts)
+}
+
+// Warns of what merged tables give.
+fn warn_of_tables(
+    rt: &HostRuntime,
+    hosts: &[HostText],
+    users: &PasswdTable<'_>,
+    groups: &GroupTable<'_>,
+) -> Result<(), AllocError> {
+    warn_of_groups(rt, hosts, users, groups)?;
+    warn_of_user_numbers(rt, hosts, users)?;
+    warn_of_group_numbers(rt, hosts, groups)
+}
+
+// Warns of what merged users and a merged group text give.
+fn warn_of_users(
+    rt: &HostRuntime,
+    hosts: &[HostText],
+    users: &PasswdTable<'_>,
+    group: &[u8],
+) -> Result<(), AllocError> {
+    match read_group(rt.alloc(), group) {
+        Ok(groups) => warn_of_tables(rt, hosts, users, &groups),
+        Err(fault) => only_memory(&fault),
+    }
+}
+
+// The text of a file that a merge wrote.
+fn read_merged(rt: &HostRuntime, directory: &str, name: &str) -> Result<ByteString, FileFault> {
+    let path = Path::new(directory).join(rt.alloc(), name)?;
+    read_file(rt, path.as_str())
+}
+
+// Warns of the pins whose names are not in the map that a merge wrote.
+fn warn_of_merged_pins(rt: &HostRuntime, directory: &str, pins: &[u8]) -> Result<(), FileFault> {
+    let map = read_merged(rt, directory, "map")?;
+    Ok(warn_of_pins(rt, map.bytes(), pins)?)
+}
+
+// Warns of what the report tells that a merge wrote: paths that stand twice, and comments in which hosts differ.
+fn warn_of_report(
+    rt: &HostRuntime,
+    hosts: &[HostText],
+    directory: &str,
+    file_lines: u64,
+) -> Result<(), FileFault> {
+    let report = read_merged(rt, directory, "report")?;
+    warn_of_paths(rt, report.bytes(), file_lines)?;
+    Ok(warn_of_comments(rt, hosts, report.bytes())?)
+}
+
+// Warns of users whose passwd and group are these texts.
+fn warn_of_texts(
+    rt: &HostRuntime,
+    hosts: &[HostText],
+    passwd: &[u8],
+    group: &[u8],
+) -> Result<(), AllocError> {
+    match read_passwd(rt.alloc(), passwd) {
+        Ok(users) => warn_of_users(rt, hosts, &users, group),
+        Err(fault) => only_memory(&fault),
+    }
+}
+
+// Warns of users and groups by the passwd and the group that a merge wrote.
+fn warn_of_merged_users(
+    rt: &HostRuntime,
+    hosts: &[HostText],
+    directory: &str,
+) -> Result<(), FileFault> {
+    let passwd = read_merged(rt, directory, "passwd")?;
+    let group = read_merged(rt, directory, "group")?;
+    Ok(warn_of_texts(rt, hosts, passwd.bytes(), group.bytes())?)
+}
+
+/// Warns of what a merge of hosts by pins has written into a directory: pins for nobody; paths that stand in an inventory
+/// more than once, where so many lines of files were read; users with two comments, who may be two people; groups that get
+/// members on a host, who may do there what they could not; users in more groups than an NFS request carries; and numbers
+/// that were another name's, whose files no inventory may list. It reads the account files that were merged once more.
+pub fn warn_of_merge(
+    rt: &HostRuntime,
+    hosts: &[HostText],
+    directory: &str,
+    pins: &[u8],
+    file_lines: u64,
+) -> Result<(), FileFault> {
+    warn_of_merged_pins(rt, directory, pins)?;
+    warn_of_report(rt, hosts, directory, file_lines)?;
+    warn_of_merged_users(rt, hosts, directory)
+}

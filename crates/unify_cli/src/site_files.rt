@@ -1,0 +1,144 @@
+//! The files of a merge: the inventories of hosts, and the directory that is written into.
+
+ghost use Rattle.std.specs.Prelude.{is_some};
+
+use crate::files::FileFault;
+use crate::inventories::{Calls, Inventories};
+use crate::report::no_host;
+use crate::writing::{NewFile, begin, finish};
+use std::str;
+use unify_merge::{Call, CallFailed, MergeFiles, ReadFiles};
+
+// The directory that is written into.
+#[derive(Drop)]
+struct Output<'w> {
+    rt: &'w HostRuntime,
+    directory: &'w str,
+    // The hosts that are merged.
+    words: &'w [&'w str],
+    // The file that is written.
+    file: Option<NewFile>,
+}
+
+impl Output<'_> {
+    // Begins a file.
+    fn begin(&mut self, name: &[u8]) -> Result<(), FileFault> {
+        let name = str::from_utf8(name).unwrap_or("");
+        self.file = Some(NewFile::create(self.rt, self.directory, name)?);
+        Ok(())
+    }
+
+    // Appends bytes to the file.
+    fn append(&mut self, bytes: &[u8]) -> Result<(), FileFault> {
+        match &mut self.file {
+            Some(file) => file.write(self.rt, bytes),
+            None => Err(no_host(self.rt)),
+        }
+    }
+
+    // Gives the file its name.
+    fn finish(&mut self) -> Result<(), FileFault> {
+        match &self.file {
+            Some(file) => file.keep(self.rt)?,
+            None => return Err(no_host(self.rt)),
+        }
+        self.file = None;
+        Ok(())
+    }
+}
+
+/// The files of a merge of the hosts that words name into a directory.
+#[derive(Drop)]
+pub struct SiteFiles<'w> {
+    inventories: Inventories<'w>,
+    output: Output<'w>,
+    calls: Calls,
+}
+
+impl<'w> SiteFiles<'w> {
+    /// Nothing is read or written as yet. Unless it is to be quiet it warns of hosts without files.
+    pub fn new(
+        rt: &'w HostRuntime,
+        directory: &'w str,
+        words: &'w [&'w str],
+        is_quiet: bool,
+    ) -> SiteFiles<'w> {
+        SiteFiles {
+            inventories: Inventories::new(rt, words, is_quiet),
+            output: Output {
+                rt,
+                directory,
+                words,
+                file: None,
+            },
+            calls: Calls::new(),
+        }
+    }
+
+    /// How many lines of files the inventories have, as far as each was read once.
+    pub fn file_lines(&self) -> u64 {
+        self.inventories.file_lines()
+    }
+
+    /// Why a call failed.
+    pub fn fault(&self) -> FileFault {
+        self.calls.fault()
+    }
+
+    /// Tells that the inventory that was read last has too many bytes.
+    pub fn too_large(&self) -> FileFault {
+        self.inventories.too_large()
+    }
+
+    /// Removes what there is of a file that was not finished.
+    pub fn discard(&self) {
+        if let Some(file) = &self.output.file {
+            file.discard(self.output.rt);
+        }
+    }
+}
+
+impl ReadFiles for SiteFiles<'_> {
+    ghost ledger = { λ files. files.calls.log.ledger };
+
+    ghost has_failed = { λ files. is_some files.calls.fault };
+
+    fn open(&mut self, host: usize) -> Result<(), CallFailed> {
+        let done = self.inventories.open(host);
+        self.calls.told(done, &Call::Open(host))
+    }
+
+    fn piece(&mut self, bytes: &mut Vec<u8>) -> Result<(), CallFailed> {
+        let done = self.inventories.piece(bytes);
+        self.calls.told(done, &Call::Piece(bytes))
+    }
+}
+
+impl MergeFiles for SiteFiles<'_> {
+    fn clear(&mut self) -> Result<(), CallFailed> {
+        let at = &self.output;
+        let done = begin(at.rt, at.directory, at.words);
+        self.calls.told(done, &Call::Clear)
+    }
+
+    fn begin(&mut self, name: &[u8]) -> Result<(), CallFailed> {
+        let done = self.output.begin(name);
+        self.calls.told(done, &Call::Begin(name))
+    }
+
+    fn append(&mut self, bytes: &[u8]) -> Result<(), CallFailed> {
+        let done = self.output.append(bytes);
+        self.calls.told(done, &Call::Append(bytes))
+    }
+
+    fn finish(&mut self) -> Result<(), CallFailed> {
+        let done = self.output.finish();
+        self.calls.told(done, &Call::Finish)
+    }
+
+    fn seal(&mut self, name: &[u8], text: &[u8]) -> Result<(), CallFailed> {
+        let at = &self.output;
+        let done = finish(at.rt, at.directory, name, text);
+        self.calls.told(done, &Call::Seal(name, text))
+    }
+}

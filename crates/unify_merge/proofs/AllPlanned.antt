@@ -1,0 +1,93 @@
+-- The turn of each host, and the plans of all.
+use Rattle.std.proofs.Common.{◌≡◌, ◌+◌, ◌<◌, ◌++◌, ◌∷◌, [], ℕ, zero, suc, Bool, List, length, map, Some, sym, ap, subst, ◌∙◌, arith}
+use Rattle.std.specs.List.{slice_get}
+use Rattle.std.proofs.lemmas.List.{length-map}
+use Rattle.std.proofs.lemmas.Option.{slice_get_within}
+use Rattle.mtree_inv.specs.declared.entry.Entry.{Entry}
+use Rattle.hosts_join.specs.declared.host.Host.{Host}
+use Rattle.hosts_join.specs.declared.texts.HostText.{HostText}
+use Rattle.unify_texts.specs.Told.{told}
+use Rattle.unify.specs.RowFiles.{RowFiles, row_files}
+use Rattle.unify.specs.SecondPass.{SolvedValue, StandsFor, whole_plan}
+use Rattle.unify.proofs.Agreeing.{item_at}
+use Rattle.unify.proofs.SiteRuns.{some_same}
+use Rattle.unify_merge.specs.Ledger.{Ledger}
+use Rattle.unify_merge.specs.FirstReading.{readings_from}
+use Rattle.unify_merge.specs.SecondReading.{ArePlanned, IsChangeFault, IsTurnOf, StopsPlanning, StopsSecond, WereRead}
+use Rattle.unify_merge.specs.declared.fault.MergeFault.{MergeFault}
+use Rattle.unify_merge.specs.declared.fault.MergeFault.TheVariants.{Failed, TooLarge, Refused}
+use Rattle.unify_merge.proofs.Planned.{PlannedSoFar}
+use Rattle.unify_merge.proofs.Stops.{if_told}
+
+mapped_at : {A B : Type 0} (f : A → B) (xs : List A) (k : ℕ) (x : A) → slice_get xs k ≡ Some x → slice_get (map f xs) k ≡ Some (f x)
+mapped_at f [] k x at = absurd (cc)
+mapped_at f (y ∷ ys) zero x at =
+    let same : y ≡ x = some_same y x at in
+    ap (λ z. Some (f z)) same
+mapped_at f (y ∷ ys) (suc k) x at = mapped_at f ys k x at
+
+pub host_at : (s : SolvedValue) (read : List (Host × List Entry)) (index : ℕ) (host : Host) (were : List Entry) → WereRead s read → slice_get read index ≡ Some (host, were) → slice_get s.hosts index ≡ Some host
+host_at s read index host were was at =
+    let first : Host × List Entry → Host = λ h. h.0 in
+    ap (λ hs. slice_get hs index) (sym was.hosts) ∙ mapped_at first read index (host, were) at
+
+pub read_len : (s : SolvedValue) (read : List (Host × List Entry)) → WereRead s read → length read ≡ length s.hosts
+read_len s read was =
+    let first : Host × List Entry → Host = λ h. h.0 in
+    sym (length-map read first) ∙ ap length was.hosts
+
+-- now: the second pass behind the hosts before it
+pub turn_of : (s now : SolvedValue) (read : List (Host × List Entry)) (index : ℕ) (host : Host) (were : List Entry) → now ≡ record s { ended = now.ended; turn = now.turn } → now.ended ≡ index → WereRead s read → slice_get read index ≡ Some (host, were)
+    → ((here : Host) → slice_get now.hosts now.ended ≡ Some here → StandsFor now here [] []) → IsTurnOf now host were
+turn_of s now read index host were site ended was at stands =
+    let hosts : now.hosts ≡ s.hosts = ap (λ (v : SolvedValue). v.hosts) site in
+    let passed : now.passed ≡ s.passed = ap (λ (v : SolvedValue). v.passed) site in
+    let rows : Host × List Entry → RowFiles = λ h. row_files h.0 h.1 in
+    let here : slice_get now.hosts now.ended ≡ Some host = (λ j. slice_get (hosts j) (ended j)) ∙ host_at s read index host were was at in
+    record {
+      here = here;
+      passed = (λ j. slice_get (passed j) (ended j)) ∙ ap (λ rs. slice_get rs index) was.passed ∙ mapped_at rows read index (host, were) at;
+      stands = stands host here;
+    }
+
+-- the reading of one inventory ended early, and so did that of all
+pub planning_stopped : (names : List HostText) (s : SolvedValue) (read : List (Host × List Entry)) (index : ℕ) (host : Host) (were : List Entry) (old mid new : Ledger) (failed : Bool) (fault : MergeFault) → PlannedSoFar names s read index old mid
+    → slice_get read index ≡ Some (host, were) → StopsSecond host were index mid.read new failed fault → StopsPlanning read old new failed fault
+planning_stopped names s read index host were old mid new failed Failed so_far at stops = stops
+planning_stopped names s read index host were old mid new failed TooLarge so_far at stops = stops
+planning_stopped names s read index host were old mid new failed (Refused e) so_far at stops = if_told (told e) _ _ (λ f is. record {
+  texts = so_far.texts;
+  host = host;
+  were = were;
+  here = subst (λ k. slice_get read k ≡ Some (host, were)) (sym so_far.texts_are) at;
+  change = subst (λ k. IsChangeFault host were k (old.read ++ readings_from 0 so_far.texts) new f) (sym so_far.texts_are) (subst (λ b. IsChangeFault host were index b new f) so_far.readings is);
+}) stops
+
+-- the plans of all hosts
+pub all_planned : (names : List HostText) (s : SolvedValue) (read : List (Host × List Entry)) (index : ℕ) (old new : Ledger) → PlannedSoFar names s read index old new → WereRead s read → index ≡ length s.hosts → ArePlanned names s read old new
+all_planned names s read index old new so_far was all = record {
+  site = record {
+    texts = so_far.texts;
+    one_each = so_far.texts_are ∙ all;
+    again = so_far.again;
+    accepted = so_far.accepted;
+    same = record {
+      one_each = omega (arith, so_far.again_are, all, read_len s read was);
+      each_host = λ k host were at.
+          let it = so_far.each_host k host were (omega (arith, slice_get_within read k (host, were) at, all, read_len s read was)) at in
+          (it.0, it.1, it.2.accepted, it.2.same, it.3);
+    };
+    plans = so_far.plans;
+    whole = record {
+      one_each = omega (arith, so_far.plans_are, so_far.again_are);
+      each_plan = λ k host files at.
+          let within : k < index = omega (arith, slice_get_within so_far.again k (host, files) at, so_far.again_are) in
+          let here = item_at read k (omega (arith, within, all, read_len s read was)) in
+          let it = so_far.each_host k here.0.0 here.0.1 within here.1 in
+          let pair : (here.0.0, it.1) ≡ (host, files) = some_same (here.0.0, it.1) (host, files) (sym it.3 ∙ at) in
+          it.4 ∙ (λ j. Some (whole_plan (pair j).0 s.joined s.merged k (pair j).1));
+    };
+  };
+  readings = so_far.readings;
+  files = so_far.files;
+}

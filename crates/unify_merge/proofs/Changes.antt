@@ -1,0 +1,46 @@
+-- Why a second reading of an inventory ended early.
+use Rattle.std.proofs.Common.{◌≡◌, ◌+◌, ◌<◌, ◌++◌, ℕ, Bool, List, length, Result, Ok, Err, ap, inl, inr}
+use Rattle.std.specs.Prelude.{IfSome}
+use Rattle.mtree_inv.specs.declared.entry.Entry.{Entry}
+use Rattle.hosts_join.specs.declared.host.Host.{Host}
+use Rattle.unify_texts.specs.Told.{told}
+use Rattle.unify_texts.specs.declared.fault.Fault.{Fault}
+use Rattle.unify_texts.specs.declared.fault.Fault.TheVariants.{InventoryChanged}
+use Rattle.unify.specs.Passes.{is_read}
+use Rattle.unify.specs.SecondPass.{or_changed, owned_lines, second_lines}
+use Rattle.unify_merge.specs.Ledger.{Ledger, Reading}
+use Rattle.unify_merge.specs.Pieces.{EndsEarly}
+use Rattle.unify_merge.specs.FirstReading.{HasRead, IsReading}
+use Rattle.unify_merge.specs.SecondReading.{StopsEnd, StopsPiece, StopsSecond}
+use Rattle.unify_merge.specs.declared.fault.MergeFault.{MergeFault}
+use Rattle.unify_merge.specs.declared.fault.MergeFault.TheVariants.{Failed, TooLarge, Refused}
+use Rattle.unify_merge.proofs.Stops.{if_told, is_too_large}
+
+-- any fault is told as a change
+is_change : (host : Host) (r : Result (List Entry) Fault) (f : Fault) → is_read (or_changed host r) ≡ Err f → f ≡ InventoryChanged host.name
+is_change host (Ok files) f h = absurd (cc)
+is_change host (Err e) f h =
+    let is : ◌≡◌ {A = Result (Unit {0}) Fault} (Err (InventoryChanged host.name)) (Err f) = h in
+    (cc)
+
+pub piece_stopped : (host : Host) (text : List ℕ) (failed : Bool) (e : Fault) → IfSome (told e) (λ f. is_read (second_lines host text) ≡ Err f) → StopsPiece host text failed (Refused e)
+piece_stopped host text failed e fault = if_told (told e) _ _ (λ f is. (is_change host (owned_lines host text) f is, f, is)) fault
+
+-- a piece did not come
+pub second_ended : (host : Host) (were : List Entry) (index left : ℕ) (text bytes : List ℕ) (before : List Reading) (old new : Ledger) (failed : Bool) (fault : MergeFault) → left + length text ≡ 4294967295
+    → EndsEarly (record { host = index; text = text }) bytes left old new failed fault → StopsSecond host were index before new failed fault
+second_ended host were index left text bytes before old new failed Failed may early = early.0
+second_ended host were index left text bytes before old new failed TooLarge may early = is_too_large index left text bytes new may (ap (λ (l : Ledger). l.reading) early.0) early.1
+second_ended host were index left text bytes before old new failed (Refused e) may early = absurd early
+
+-- its lines have a fault
+pub second_lines_stop : (host : Host) (were : List Entry) (index : ℕ) (text : List ℕ) (before : List Reading) (l : Ledger) (failed : Bool) (fault : MergeFault) → IsReading before index text l → StopsPiece host text failed fault → StopsSecond host were index before l failed fault
+second_lines_stop host were index text before l failed Failed reading stops = stops
+second_lines_stop host were index text before l failed TooLarge reading stops = absurd stops
+second_lines_stop host were index text before l failed (Refused e) reading stops = if_told (told e) _ _ (λ f is. (is.0, (text, inl (reading, is.1, is.2)))) stops
+
+-- the whole of it has, or it has other counts
+pub second_whole_stop : (host : Host) (were : List Entry) (index : ℕ) (text : List ℕ) (before : List Reading) (l : Ledger) (failed : Bool) (fault : MergeFault) → HasRead before index text l → StopsEnd host were text failed fault → StopsSecond host were index before l failed fault
+second_whole_stop host were index text before l failed Failed read stops = stops
+second_whole_stop host were index text before l failed TooLarge read stops = absurd stops
+second_whole_stop host were index text before l failed (Refused e) read stops = if_told (told e) _ _ (λ f is. (is.0, (text, inr (read, is.1)))) stops

@@ -1,0 +1,10 @@
+pub mod Begun
+pub mod Stops
+pub mod Readings
+pub mod Changes
+pub mod Writing
+pub mod Planned
+pub mod AllPlanned
+pub mod WholeMerge
+pub mod Inventories
+pub mod WholeCheck

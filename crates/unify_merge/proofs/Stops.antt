@@ -1,0 +1,42 @@
+-- Why a reading of an inventory ended early.
+use Rattle.std.proofs.Common.{◌≡◌, ◌+◌, ◌<◌, ◌++◌, ℕ, Bool, List, length, Option, Some, None, Err, ap, ◌∙◌, arith, inl, inr, length-append}
+use Rattle.std.specs.Prelude.{IfSome}
+use Rattle.std.specs.List.{slice_get}
+use Rattle.hosts_join.specs.declared.host.Host.{Host}
+use Rattle.unify_texts.specs.Told.{told}
+use Rattle.unify_texts.specs.declared.fault.Fault.{Fault}
+use Rattle.unify.specs.Hosts.{files_of}
+use Rattle.unify.specs.Passes.{is_read, lines_of}
+use Rattle.unify_merge.specs.Ledger.{Ledger, Reading}
+use Rattle.unify_merge.specs.Pieces.{EndsEarly}
+use Rattle.unify_merge.specs.FirstReading.{HasRead, IsReading, IsTooLarge, StopsFirst}
+use Rattle.unify_merge.specs.declared.fault.MergeFault.{MergeFault}
+use Rattle.unify_merge.specs.declared.fault.MergeFault.TheVariants.{Failed, TooLarge, Refused}
+
+-- what holds of a fault that is told
+pub if_told : (o : Option Fault) (P Q : Fault → Type 0) → ((f : Fault) → P f → Q f) → IfSome o P → IfSome o Q
+if_told None P Q goes p = tt
+if_told (Some f) P Q goes p = goes f p
+
+-- what stands in a list at an index stands in the same list at the same index
+pub at_same : {A : Type 0} (xs ys : List A) (k j : ℕ) (x : A) → ys ≡ xs → j ≡ k → slice_get xs k ≡ Some x → slice_get ys j ≡ Some x
+at_same xs ys k j x same equal here = (λ i. slice_get (same i) (equal i)) ∙ here
+
+-- more bytes than there may be
+pub is_too_large : (host left : ℕ) (text bytes : List ℕ) (l : Ledger) → left + length text ≡ 4294967295 → l.reading ≡ Some (record { host = host; text = text ++ bytes }) → left < length bytes → IsTooLarge l
+is_too_large host left text bytes l may reading over = (host, text ++ bytes, reading, omega (arith, may, over, length-append text bytes))
+
+-- a piece did not come
+pub first_ended : (host : Host) (index left : ℕ) (text bytes : List ℕ) (before : List Reading) (old new : Ledger) (failed : Bool) (fault : MergeFault) → left + length text ≡ 4294967295
+    → EndsEarly (record { host = index; text = text }) bytes left old new failed fault → StopsFirst host index before new failed fault
+first_ended host index left text bytes before old new failed Failed may early = early.0
+first_ended host index left text bytes before old new failed TooLarge may early = is_too_large index left text bytes new may (ap (λ (l : Ledger). l.reading) early.0) early.1
+first_ended host index left text bytes before old new failed (Refused e) may early = absurd early
+
+-- its lines have a fault
+pub first_lines : (host : Host) (index : ℕ) (text : List ℕ) (before : List Reading) (l : Ledger) (failed : Bool) (e : Fault) → IsReading before index text l → IfSome (told e) (λ f. is_read (lines_of host text) ≡ Err f) → StopsFirst host index before l failed (Refused e)
+first_lines host index text before l failed e reading fault = if_told (told e) _ _ (λ f is. (text, inl (reading, is))) fault
+
+-- the whole of it has
+pub first_whole : (host : Host) (index : ℕ) (text : List ℕ) (before : List Reading) (l : Ledger) (failed : Bool) (e : Fault) → HasRead before index text l → IfSome (told e) (λ f. is_read (files_of (record { host = host; mtree = text })) ≡ Err f) → StopsFirst host index before l failed (Refused e)
+first_whole host index text before l failed e read fault = if_told (told e) _ _ (λ f is. (text, inr (read, is))) fault

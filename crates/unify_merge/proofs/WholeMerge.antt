@@ -1,0 +1,129 @@
+-- The files of a merge, and what it stops for.
+use Rattle.std.proofs.Common.{◌≡◌, ◌++◌, ◌∷◌, [], ℕ, Bool, List, length, Result, Ok, Err, sym, ap, subst, ◌∙◌, inl, inr}
+use Rattle.std.specs.Prelude.{IfOk}
+use Rattle.idtext.specs.First.{each}
+use Rattle.mtree_inv.specs.declared.entry.Entry.{Entry}
+use Rattle.hosts_join.specs.Site.{Joined}
+use Rattle.hosts_join.specs.declared.host.Host.{Host}
+use Rattle.hosts_join.specs.declared.texts.HostText.{HostText}
+use Rattle.unify_texts.specs.Told.{told}
+use Rattle.unify.specs.declared.counting.Cost.{Cost}
+use Rattle.unify.specs.declared.outcome.Outcome.{Outcome}
+use Rattle.unify.specs.Count.{site_of}
+use Rattle.unify.specs.Headline.{Headline}
+use Rattle.unify.specs.Laws.{IsWhole}
+use Rattle.unify.specs.Loading.{loaded_from}
+use Rattle.unify.specs.Merging.{IsMerged}
+use Rattle.unify.specs.Outcomes.{IsOutcome}
+use Rattle.unify.specs.Passes.{BegunSite, CountingValue, IsAtStart, IsCounting, StandsFor, ended_in, site_begun}
+use Rattle.unify.specs.Reading.{WholeSite}
+use Rattle.unify.specs.SecondPass.{IsSolvedFrom, SolvedValue}
+use Rattle.unify.proofs.BetweenPasses.{over_whole}
+use Rattle.unify.proofs.SecondReading.{second_reading_is_believed, second_reading_is_right}
+use Rattle.unify.proofs.Whole.{hosts_held}
+use Rattle.unify_merge.specs.Ledger.{Ledger, Reading, after_files, cleared}
+use Rattle.unify_merge.specs.FirstReading.{IsInventoryFault, ReadsOnly, StopsCounting, readings_from}
+use Rattle.unify_merge.specs.SecondReading.{IsChangeFault, StopsPlanning, plan_files}
+use Rattle.unify_merge.specs.Merge.{HasMerged, HasSolved, HasWritten, StopsMerge, first_files, merged_files, report_file}
+use Rattle.unify_merge.specs.declared.fault.MergeFault.{MergeFault}
+use Rattle.unify_merge.specs.declared.fault.MergeFault.TheVariants.{Failed, TooLarge, Refused}
+use Rattle.unify_merge.proofs.Planned.{files_more}
+use Rattle.unify_merge.proofs.Stops.{if_told}
+
+-- the same readings before
+pub planning_same : (read : List (Host × List Entry)) (old other new : Ledger) (failed : Bool) (fault : MergeFault) → other.read ≡ old.read → StopsPlanning read other new failed fault → StopsPlanning read old new failed fault
+planning_same read old other new failed Failed same stops = stops
+planning_same read old other new failed TooLarge same stops = stops
+planning_same read old other new failed (Refused e) same stops = if_told (told e) _ _ (λ f is. record {
+  texts = is.texts;
+  host = is.host;
+  were = is.were;
+  here = is.here;
+  change = subst (λ (rs : List Reading). IsChangeFault is.host is.were (length is.texts) (rs ++ readings_from 0 is.texts) new f) same is.change;
+}) stops
+
+-- the first files, the plans, and the report
+pub merged_all : (names : List HostText) (outcome : Outcome) (plans : List (List ℕ)) (old first mid new : Ledger) → first ≡ after_files (first_files outcome) (cleared old)
+    → mid ≡ record (after_files (plan_files names plans) first) { read = mid.read; reading = mid.reading; writing = mid.writing } → new ≡ after_files (report_file outcome ∷ []) mid
+    → new ≡ record (after_files (merged_files names (record outcome { plans = plans })) (cleared old)) { read = new.read; reading = new.reading; writing = new.writing }
+merged_all names outcome plans old first mid new one two three =
+    let one_is : first ≡ record (after_files (first_files outcome) (cleared old)) { read = first.read; reading = first.reading; writing = first.writing } =
+    one ∙ (λ j. record (after_files (first_files outcome) (cleared old)) { read = (sym one j).read; reading = (sym one j).reading; writing = (sym one j).writing }) in
+    let three_is : new ≡ record (after_files (report_file outcome ∷ []) mid) { read = new.read; reading = new.reading; writing = new.writing } =
+    three ∙ (λ j. record (after_files (report_file outcome ∷ []) mid) { read = (sym three j).read; reading = (sym three j).reading; writing = (sym three j).writing }) in
+    let rest = files_more (plan_files names plans) (report_file outcome ∷ []) first mid new two three_is in
+    files_more (first_files outcome) (plan_files names plans ++ report_file outcome ∷ []) (cleared old) first new one_is rest
+
+-- what follows from each success
+pub if_ok : {T E : Type 0} (r : Result T E) (P Q : T → Type 0) → ((x : T) → P x → Q x) → IfOk r P → IfOk r Q
+if_ok (Ok x) P Q goes p = goes x p
+if_ok (Err e) P Q goes p = tt
+
+-- the first reading ended early, and so did the merge
+pub counted_stopped : (texts : List HostText) (pins : List ℕ) (begun : BegunSite) (hosts : List Host) (old new : Ledger) (failed : Bool) (fault : MergeFault) → site_begun texts pins ≡ Ok begun → hosts ≡ begun.hosts → ReadsOnly old new
+    → StopsCounting hosts old new failed fault → StopsMerge texts pins old new failed fault
+counted_stopped texts pins begun hosts old new failed Failed is same reads stops = stops
+counted_stopped texts pins begun hosts old new failed TooLarge is same reads stops = stops
+counted_stopped texts pins begun hosts old new failed (Refused e) is same reads stops = if_told (told e) _ _ (λ f fault. inr (inl (begun, is, subst (λ (hs : List Host). IsInventoryFault hs old new f) same fault, reads))) stops
+
+-- the second did, and so did the merge
+pub written_stopped : (texts : List HostText) (pins : List ℕ) (old mid new : Ledger) (s : SolvedValue) (failed : Bool) (fault : MergeFault) (h : HasSolved texts pins old mid s) → StopsPlanning h.were mid new failed fault → StopsMerge texts pins old new failed fault
+written_stopped texts pins old mid new s failed Failed h stops = stops
+written_stopped texts pins old mid new s failed TooLarge h stops = stops
+written_stopped texts pins old mid new s failed (Refused e) h stops =
+    let from = planning_same h.were (record old { read = old.read ++ readings_from 0 h.first }) mid new failed (Refused e) h.readings stops in
+    if_told (told e) _ _ (λ f is. inr (inr (record { begun = h.begun; begun_is = h.begun_is; first = h.first; were = h.were; first_read = h.first_read; change = is }))) from
+
+-- the first pass is over, and the second is at its start
+pub has_solved : (texts : List HostText) (pins : List ℕ) (begun : BegunSite) (start over : CountingValue) (s : SolvedValue) (old new : Ledger) (read : List (List ℕ)) (stands : StandsFor over read []) → site_begun texts pins ≡ Ok begun → IsAtStart begun start
+    → over.hosts ≡ start.hosts → over.joined ≡ start.joined → ended_in over ≡ length over.hosts → length start.hosts ≡ length texts → IsCounting over → IsSolvedFrom over s → new.read ≡ old.read ++ readings_from 0 read → HasSolved texts pins old new s
+has_solved texts pins begun start over s old new read stands is at_start hosts joined none_left each_text counting from readings =
+    let same : over.hosts ≡ begun.hosts = hosts ∙ at_start.hosts in
+    let one_each : length read ≡ length over.hosts = stands.ended_are ∙ none_left in
+    record {
+      begun = begun;
+      begun_is = is;
+      first = read;
+      were = stands.read;
+      first_read = record {
+        one_each = one_each ∙ ap length same;
+        accepted = subst (λ (hs : List Host). each site_of (loaded_from hs read) ≡ Ok stands.read) same stands.accepted;
+      };
+      readings = readings;
+      hosts = from.hosts ∙ same;
+      joined = from.joined ∙ joined ∙ at_start.joined;
+      each_text = sym each_text ∙ ap length (sym hosts) ∙ ap length (sym from.hosts);
+      was_read = record {
+        hosts = sym (hosts_held over.hosts read stands.read one_each stands.accepted).0 ∙ sym from.hosts;
+        passed = from.passed ∙ stands.passed;
+      };
+      whole = subst (λ (j : Joined). IsWhole (record { hosts = stands.read; joined = j })) (sym from.joined) (over_whole over read [] counting none_left stands);
+      merged = subst (λ (j : Joined). IsMerged (record { hosts = stands.read; joined = j }) s.merged) (sym from.joined) (from.merged read [] stands);
+      none_ended = from.ended;
+      stands = from.stands;
+    }
+
+-- what was merged for the first reading stands in its files, with plans for the second
+pub has_merged : (texts : List HostText) (pins : List ℕ) (s : SolvedValue) (old mid new : Ledger) (cost : Cost) (h : HasSolved texts pins old mid s) → ReadsOnly old mid → HasWritten texts s h.were mid new cost → HasMerged texts pins old new cost
+has_merged texts pins s old mid new cost h reads w =
+    let first : WholeSite = record { hosts = h.were; joined = s.joined } in
+    let outcome : Outcome = record s.merged.outcome { plans = w.site.plans } in
+    record {
+      begun = h.begun;
+      begun_is = h.begun_is;
+      first = h.first;
+      were = h.were;
+      first_read = h.first_read;
+      second = w.site.texts;
+      are = w.site.again;
+      second_read = record {
+        one_each = w.site.one_each ∙ ap length h.hosts;
+        accepted = subst (λ (hs : List Host). each site_of (loaded_from hs w.site.texts) ≡ Ok w.site.again) h.hosts w.site.accepted;
+      };
+      readings = w.readings ∙ ap (λ rs. rs ++ readings_from 0 w.site.texts) h.readings;
+      outcome = outcome;
+      is_right = subst (λ (j : Joined). IsOutcome (record { hosts = w.site.again; joined = j }) outcome) h.joined (second_reading_is_right first s.merged w.site.again w.site.plans h.whole h.merged w.site.same w.site.whole);
+      is_believed = subst (λ (j : Joined). Headline (record { hosts = w.site.again; joined = j }) outcome) h.joined (second_reading_is_believed first s.merged w.site.again w.site.plans h.whole h.merged w.site.same w.site.whole);
+      files = w.files ∙ (λ j. record (after_files (merged_files texts outcome) (cleared (reads j))) { read = new.read; reading = new.reading; writing = new.writing });
+      cost_is = w.cost_is;
+    }

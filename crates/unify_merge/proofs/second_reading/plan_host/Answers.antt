@@ -1,0 +1,28 @@
+use Rattle.std.proofs.Common.{◌≡◌, ◌++◌, ◌∷◌, [], Some, ap, ◌∙◌}
+use Rattle.unify.specs.SecondPass.{whole_plan}
+use Rattle.unify_merge.specs.Ledger.{Ledger, NamedText, Reading, finished_on}
+use Rattle.unify_merge.proofs.second_reading.plan_host.Goals as goal
+
+pub returns-clause-planned : goal.returns-clause-planned
+returns-clause-planned g c = λ host were turn.
+    let solved = c.args.solved.now in
+    let begun = c.in_ok-begin.ensures.begun in
+    let opened = c.in_ok-open.ensures.opened in
+    let kept = c.in_ok-plan_reading.ensures.kept in
+    let p = c.in_ok-plan_reading.ensures.planned host were c.args.name.now turn (ap (λ (l : Ledger). l.writing) opened ∙ ap (λ (l : Ledger). l.writing) begun) in
+    let file : NamedText = record { name = c.args.name.now; text = whole_plan host solved.joined solved.merged solved.ended p.files } in
+    let r : Reading = record { host = solved.ended; text = p.text } in
+    let l = g.F.ReadFiles.ledger c.plan_reading.new.files in
+    let new = g.F.ReadFiles.ledger c.finish.new.self in
+    let done = c.in_ok-finish.ensures.finished ∙ ap (λ o. finished_on o l) p.written in
+    let clear = ap (λ (x : Ledger). x.is_clear) done ∙ ap (λ (x : Ledger). x.is_clear) kept ∙ ap (λ (x : Ledger). x.is_clear) opened ∙ ap (λ (x : Ledger). x.is_clear) begun in
+    let names = ap (λ (x : Ledger). x.begun) done ∙ ap (λ (x : Ledger). x.begun) kept ∙ ap (λ (x : Ledger). x.begun) opened ∙ ap (λ (x : Ledger). x.begun) begun in
+    let finished = ap (λ (x : Ledger). x.finished) done ∙ ap (λ (x : Ledger). x.finished ++ file ∷ []) kept ∙ ap (λ (x : Ledger). x.finished ++ file ∷ []) opened ∙ ap (λ (x : Ledger). x.finished ++ file ∷ []) begun in
+    let writing = ap (λ (x : Ledger). x.writing) done in
+    record {
+      text = p.text;
+      files = p.files;
+      again = p.again;
+      readings = ap (λ (x : Ledger). x.read) done ∙ p.readings ∙ ap (λ (x : Ledger). x.read ++ r ∷ []) opened ∙ ap (λ (x : Ledger). x.read ++ r ∷ []) begun;
+      written = λ j. record { read = new.read; reading = new.reading; is_clear = clear j; begun = names j; finished = finished j; writing = writing j };
+    }

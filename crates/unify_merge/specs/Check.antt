@@ -1,0 +1,48 @@
+-- What a check of a certificate does, from the bytes that it reads to its answer.
+-- Source: this project's own rule.
+use Rattle.std.specs.Prelude.{◌≡◌, ℕ, ◌⊎◌, Bool, true, List, [], ◌∷◌, ◌++◌, length, Ok, Err, Result, IfSome}
+use Rattle.hosts_join.specs.declared.texts.HostText.{HostText}
+use Rattle.unify_texts.specs.Told.{told}
+use Rattle.unify_texts.specs.declared.fault.Fault.{Fault}
+use Rattle.unify.specs.Checking.{IsVerified, verified}
+use Rattle.unify.specs.Passes.{BegunSite, site_begun}
+use Rattle.unify_merge.specs.Ledger.{Ledger}
+use Rattle.unify_merge.specs.FirstReading.{IsInventoryFault, IsTooLarge, readings_from}
+use Rattle.unify_merge.specs.declared.fault.MergeFault.{MergeFault}
+use Rattle.unify_merge.specs.declared.fault.MergeFault.TheVariants.{Failed, TooLarge, Refused}
+
+-- ---- inventories that were read
+
+-- the texts of hosts, with these inventories
+abbrev pub with_inventories : List HostText → List (List ℕ) → List HostText
+with_inventories [] texts = []
+with_inventories (host ∷ hosts) [] = []
+with_inventories (host ∷ hosts) (text ∷ texts) = record host { mtree = text } ∷ with_inventories hosts texts
+
+-- the inventory of each host was read once, in order, as these texts
+pub record WereEachRead (hosts : List HostText) (texts : List (List ℕ)) (old new : Ledger) : Type 0 where
+  pub one_each : length texts ≡ length hosts
+  pub readings : new.read ≡ old.read ++ readings_from 0 texts
+
+-- ---- a check
+
+-- The inventory of each host was read once. With these this is the cost that a check answers, and it means what a yes does.
+pub record HasChecked (hosts : List HostText) (pins certificate : List ℕ) (old new : Ledger) (cost : ℕ) : Type 0 where
+  pub texts : List (List ℕ)
+  pub were_read : WereEachRead hosts texts old new
+  pub answer : verified (with_inventories hosts texts) pins certificate ≡ Ok cost
+  pub means : IsVerified (with_inventories hosts texts) pins certificate cost
+
+-- The first fault of what was read: of the tables or the pins; of an inventory; or, where each of these was read, that
+-- which a check answers with them.
+abbrev pub IsCheckFault : List HostText → List ℕ → List ℕ → Ledger → Ledger → Fault → Type 0
+IsCheckFault hosts pins certificate old new f =
+    ((site_begun hosts pins ≡ Err f) × (new ≡ old))
+    ⊎ (((begun : BegunSite) × (site_begun hosts pins ≡ Ok begun) × IsInventoryFault begun.hosts old new f)
+    ⊎ ((texts : List (List ℕ)) × WereEachRead hosts texts old new × (verified (with_inventories hosts texts) pins certificate ≡ Err f)))
+
+-- why a check ended early: a call failed, an inventory is too large, or what was read is refused; or memory was wanting
+abbrev pub StopsCheck : List HostText → List ℕ → List ℕ → Ledger → Ledger → Bool → MergeFault → Type 0
+StopsCheck hosts pins certificate old new failed Failed = failed ≡ true
+StopsCheck hosts pins certificate old new failed TooLarge = IsTooLarge new
+StopsCheck hosts pins certificate old new failed (Refused e) = IfSome (told e) (IsCheckFault hosts pins certificate old new)

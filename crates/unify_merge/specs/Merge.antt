@@ -1,0 +1,121 @@
+-- What a merge does, from the bytes that it reads to the bytes of each file.
+-- Source: this project's own rule.
+use Rattle.std.specs.Prelude.{◌≡◌, ℕ, ◌⊎◌, Bool, true, List, [], ◌∷◌, ◌++◌, length, map, codes, Some, Result, Ok, Err, IfSome, slice_get}
+use Rattle.idtext.specs.First.{each}
+use Rattle.mtree_inv.specs.declared.entry.Entry.{Entry}
+use Rattle.hosts_join.specs.declared.host.Host.{Host}
+use Rattle.hosts_join.specs.declared.texts.HostText.{HostText}
+use Rattle.unify_texts.specs.Told.{told}
+use Rattle.unify_texts.specs.declared.fault.Fault.{Fault}
+use Rattle.unify.specs.declared.counting.Cost.{Cost}
+use Rattle.unify.specs.declared.outcome.Outcome.{Outcome}
+use Rattle.unify.specs.Count.{site_of}
+use Rattle.unify.specs.Headline.{Headline}
+use Rattle.unify.specs.Laws.{IsWhole}
+use Rattle.unify.specs.Loading.{loaded_from}
+use Rattle.unify.specs.Merging.{IsMerged}
+use Rattle.unify.specs.Outcomes.{IsOutcome}
+use Rattle.unify.specs.Passes.{BegunSite, site_begun}
+use Rattle.unify.specs.SecondPass.{SolvedValue, StandsFor}
+use Rattle.unify_merge.specs.Ledger.{Ledger, NamedText, after_files, cleared}
+use Rattle.unify_merge.specs.FirstReading.{IsInventoryFault, IsTooLarge, ReadsOnly, readings_from}
+use Rattle.unify_merge.specs.SecondReading.{IsPlannedAgain, IsSiteChange, WereRead, plan_files, plan_name}
+use Rattle.unify_merge.specs.declared.fault.MergeFault.{MergeFault}
+use Rattle.unify_merge.specs.declared.fault.MergeFault.TheVariants.{Failed, TooLarge, Refused}
+
+-- ---- the files of a merge
+
+-- those that are written before the plans
+abbrev pub first_files : Outcome → List NamedText
+first_files outcome =
+    record { name = codes "passwd"; text = outcome.passwd } ∷ record { name = codes "group"; text = outcome.group }
+    ∷ record { name = codes "map"; text = outcome.map } ∷ record { name = codes "certificate"; text = outcome.certificate } ∷ []
+
+abbrev pub report_file : Outcome → NamedText
+report_file outcome = record { name = codes "report"; text = outcome.report }
+
+-- all of them, in the order in which they are written
+abbrev pub merged_files : List HostText → Outcome → List NamedText
+merged_files hosts outcome = first_files outcome ++ (plan_files hosts outcome.plans ++ report_file outcome ∷ [])
+
+-- the names of those before the report, in this order
+abbrev pub first_names : List (List ℕ)
+first_names = codes "passwd" ∷ codes "group" ∷ codes "map" ∷ codes "certificate" ∷ []
+
+abbrev pub names_before_report : List HostText → List (List ℕ)
+names_before_report hosts = first_names ++ map plan_name hosts
+
+-- ---- a merge that succeeds
+
+-- the inventories of a site, as they were read
+pub record AreInventories (hosts : List Host) (texts : List (List ℕ)) (read : List (Host × List Entry)) : Type 0 where
+  pub one_each : length texts ≡ length hosts
+  pub accepted : each site_of (loaded_from hosts texts) ≡ Ok read
+
+-- the tables and the pins were read, and the inventory of each host once; what was merged is right for that reading
+pub record HasSolved (texts : List HostText) (pins : List ℕ) (old new : Ledger) (s : SolvedValue) : Type 0 where
+  pub begun : BegunSite
+  pub begun_is : site_begun texts pins ≡ Ok begun
+  pub first : List (List ℕ)
+  pub were : List (Host × List Entry)
+  pub first_read : AreInventories begun.hosts first were
+  pub readings : new.read ≡ old.read ++ readings_from 0 first
+  pub hosts : s.hosts ≡ begun.hosts
+  pub joined : s.joined ≡ begun.joined
+  pub each_text : length texts ≡ length s.hosts
+  pub was_read : WereRead s were
+  pub whole : IsWhole (record { hosts = were; joined = s.joined })
+  pub merged : IsMerged (record { hosts = were; joined = s.joined }) s.merged
+  pub none_ended : s.ended ≡ 0
+  pub stands : (host : Host) → slice_get s.hosts 0 ≡ Some host → StandsFor s host [] []
+
+-- the inventories were read again, and what was merged stands in its files, with plans for that reading
+pub record HasWritten (names : List HostText) (s : SolvedValue) (read : List (Host × List Entry)) (old new : Ledger) (cost : Cost) : Type 0 where
+  pub site : IsPlannedAgain s read
+  pub readings : new.read ≡ old.read ++ readings_from 0 site.texts
+  pub files : new ≡ record (after_files (merged_files names (record s.merged.outcome { plans = site.plans })) (cleared old)) { read = new.read; reading = new.reading; writing = new.writing }
+  pub cost_is : cost ≡ s.merged.outcome.cost
+
+-- The tables and the pins were read; the inventory of each host was read twice, and is accepted both times. What
+-- was merged is right for the second reading, and has the headline of it. It stands in its files, which are all
+-- that was written.
+pub record HasMerged (texts : List HostText) (pins : List ℕ) (old new : Ledger) (cost : Cost) : Type 0 where
+  pub begun : BegunSite
+  pub begun_is : site_begun texts pins ≡ Ok begun
+  pub first : List (List ℕ)
+  pub were : List (Host × List Entry)
+  pub first_read : AreInventories begun.hosts first were
+  pub second : List (List ℕ)
+  pub are : List (Host × List Entry)
+  pub second_read : AreInventories begun.hosts second are
+  pub readings : new.read ≡ (old.read ++ readings_from 0 first) ++ readings_from 0 second
+  pub outcome : Outcome
+  pub is_right : IsOutcome (record { hosts = are; joined = begun.joined }) outcome
+  pub is_believed : Headline (record { hosts = are; joined = begun.joined }) outcome
+  pub files : new ≡ record (after_files (merged_files texts outcome) (cleared old)) { read = new.read; reading = new.reading; writing = new.writing }
+  pub cost_is : cost ≡ outcome.cost
+
+-- ---- a merge that is refused
+
+-- every inventory was read once and accepted, and one of them has changed when it is read again
+pub record IsSecondFault (texts : List HostText) (pins : List ℕ) (old new : Ledger) (f : Fault) : Type 0 where
+  pub begun : BegunSite
+  pub begun_is : site_begun texts pins ≡ Ok begun
+  pub first : List (List ℕ)
+  pub were : List (Host × List Entry)
+  pub first_read : AreInventories begun.hosts first were
+  pub change : IsSiteChange were (record old { read = old.read ++ readings_from 0 first }) new f
+
+-- The first fault of what was read: of the tables or the pins, or of an inventory, and then nothing was written; or
+-- a change of an inventory between its readings.
+abbrev pub IsMergeFault : List HostText → List ℕ → Ledger → Ledger → Fault → Type 0
+IsMergeFault texts pins old new f =
+    ((site_begun texts pins ≡ Err f) × ReadsOnly old new)
+    ⊎ (((begun : BegunSite) × (site_begun texts pins ≡ Ok begun) × IsInventoryFault begun.hosts old new f × ReadsOnly old new)
+    ⊎ IsSecondFault texts pins old new f)
+
+-- why a merge ended early: a call failed, an inventory is too large, or what was read is refused; or memory was wanting
+abbrev pub StopsMerge : List HostText → List ℕ → Ledger → Ledger → Bool → MergeFault → Type 0
+StopsMerge texts pins old new failed Failed = failed ≡ true
+StopsMerge texts pins old new failed TooLarge = IsTooLarge new
+StopsMerge texts pins old new failed (Refused e) = IfSome (told e) (IsMergeFault texts pins old new)

@@ -1,0 +1,17 @@
+//! The merge that people run: from the bytes that are read to the bytes of each file that is written.
+#![tactic(auto)]
+
+mod check;
+mod fault;
+mod files;
+mod first_reading;
+mod log;
+mod merge;
+mod pieces;
+mod second_reading;
+
+pub use check::check_files;
+pub use fault::MergeFault;
+pub use files::{CallFailed, MergeFiles, ReadFiles};
+pub use log::{Call, Log};
+pub use merge::merge_files;

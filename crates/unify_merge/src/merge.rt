@@ -1,0 +1,121 @@
+//! A merge, from the bytes that it reads to the bytes of each file.
+
+ghost use Rattle.std.specs.Prelude.{◌≡◌, ◌∷◌, [], List, length, true, Some, slice_get, IfOk, OnOk, IfErr, OnErr};
+ghost use Rattle.mtree_inv.specs.declared.entry.Entry.{Entry};
+ghost use Rattle.hosts_join.specs.declared.host.Host.{Host};
+ghost use Rattle.unify_texts.specs.declared.fault.Fault.TheVariants.{Memory};
+ghost use Rattle.unify.specs.Passes.{ended_in};
+ghost use Rattle.unify.specs.SecondPass.{IsSolvedFrom, StandsFor};
+ghost use Rattle.unify_merge.specs.Ledger.{HasBegun, after_files};
+ghost use Rattle.unify_merge.specs.FirstReading.{ReadsOnly};
+ghost use Rattle.unify_merge.specs.SecondReading.{StopsPlanning, WereRead};
+ghost use Rattle.unify_merge.specs.Merge.{HasMerged, HasSolved, HasWritten, StopsMerge, first_files, first_names, names_before_report};
+ghost use Rattle.unify_merge.specs.declared.fault.MergeFault.TheVariants.{Refused};
+
+use crate::fault::MergeFault;
+use crate::files::{CallFailed, MergeFiles};
+use crate::first_reading::count_hosts;
+use crate::second_reading::plan_hosts;
+use hosts_join::HostText;
+use std::alloc::Global;
+use unify::{Cost, Counting, Outcome, Solved};
+
+// Writes a file whole.
+fn write_file<F: MergeFiles>(files: &mut F, name: &[u8], text: &[u8]) -> Result<(), CallFailed>
+    requires clear { (F.ledger files.old).is_clear ≡ true }
+    ensures written { OnOk result (F.ledger files.new ≡ after_files (record { name = name.now; text = text.now } ∷ []) (F.ledger files.old)) }
+    ensures failed { OnErr result (F.has_failed files.new ≡ true) }
+    ensures begun { OnErr result (HasBegun (name.now ∷ []) (F.ledger files.old) (F.ledger files.new)) }
+{
+    files.begin(name)?;
+    files.append(text)?;
+    files.finish()
+}
+
+// Writes the files that come before the plans.
+fn write_first<F: MergeFiles>(files: &mut F, outcome: &Outcome) -> Result<(), CallFailed>
+    requires clear { (F.ledger files.old).is_clear ≡ true }
+    ensures written { OnOk result (F.ledger files.new ≡ after_files (first_files outcome.now) (F.ledger files.old)) }
+    ensures failed { OnErr result (F.has_failed files.new ≡ true) }
+    ensures begun { OnErr result (HasBegun first_names (F.ledger files.old) (F.ledger files.new)) }
+{
+    write_file(files, b"passwd", outcome.passwd.bytes())?;
+    write_file(files, b"group", outcome.group.bytes())?;
+    write_file(files, b"map", outcome.map.bytes())?;
+    write_file(files, b"certificate", outcome.certificate.bytes())
+}
+
+// Merges the hosts whose inventories were counted.
+fn solve<'a>(counting: Counting<'a>) -> Result<Solved<'a>, MergeFault<'a>>
+    requires none_left { ended_in counting ≡ length counting.hosts }
+    ensures solved { IfOk result (IsSolvedFrom counting.entry) }
+    ensures memory { IfErr result (λ fault. fault ≡ Refused Memory) }
+{
+    match counting.solve() {
+        Ok(solved) => Ok(solved),
+        Err((_counting, fault)) => Err(MergeFault::Refused(fault)),
+    }
+}
+
+// Reads the inventories once, and merges the hosts.
+fn solve_hosts<'a, F: MergeFiles>(
+    alloc: Global,
+    files: &mut F,
+    hosts: &'a [HostText],
+    pins: &'a [u8],
+) -> Result<Solved<'a>, MergeFault<'a>>
+    ensures solved { IfOk result (HasSolved hosts.now pins.now (F.ledger files.old) (F.ledger files.new)) }
+    ensures stopped { IfErr result (StopsMerge hosts.now pins.now (F.ledger files.old) (F.ledger files.new) (F.has_failed files.new)) }
+    ensures reads { ReadsOnly (F.ledger files.old) (F.ledger files.new) }
+{
+    let mut counting = Counting::start(alloc, hosts, pins)?;
+    count_hosts(alloc, files, &mut counting)?;
+    solve(counting)
+}
+
+// Writes what was merged, with the plans and the report, and hands out how many fields of files change.
+fn write_merged<'a, F: MergeFiles>(
+    alloc: Global,
+    files: &mut F,
+    solved: &mut Solved<'a>,
+    hosts: &[HostText],
+) -> Result<Cost, MergeFault<'a>>
+    requires start { solved.old.ended ≡ 0 }
+    requires each { length hosts.now ≡ length solved.old.hosts }
+    requires stands { (host : Host) → slice_get solved.old.hosts 0 ≡ Some host → StandsFor solved.old host [] [] }
+    ensures written { IfOk result (λ cost. (read : List (Host × List Entry)) → WereRead solved.old read → HasWritten hosts.now solved.old read (F.ledger files.old) (F.ledger files.new) cost) }
+    ensures stopped { IfErr result (λ fault. (read : List (Host × List Entry)) → WereRead solved.old read → StopsPlanning read (F.ledger files.old) (F.ledger files.new) (F.has_failed files.new) fault) }
+    ensures begun { OnErr result (HasBegun (names_before_report hosts.now) (F.ledger files.old) (F.ledger files.new)) }
+{
+    files.clear()?;
+    write_first(files, solved.outcome())?;
+    plan_hosts(alloc, files, solved, hosts)?;
+    files.seal(b"report", solved.outcome().report.bytes())?;
+    Ok(solved.outcome().cost)
+}
+
+/// Merges hosts, whose tables and pins are given as texts, and whose inventories are read from the files, twice;
+/// and writes the files of the merge. It hands out how many fields of files change.
+///
+/// Each inventory is read when its host's turn comes, piece by piece. Nothing is written before the hosts are
+/// merged; then the files of an earlier merge are cleared away, and passwd, group, map, certificate, the plan of
+/// each host and the report are written, in this order. It stops early where a call on the files fails, where an
+/// inventory has more than 4,294,967,295 bytes, at the first fault of what is read, where an inventory has changed
+/// when it is read the second time (`Fault::InventoryChanged`), or where a growth is refused (`Fault::Memory`);
+/// no file was begun then but the first of these, and no report.
+///
+/// Two passes over each inventory, with a few look-ups by hash for each file; the rest is near linear in the names and
+/// account rows, but for the solver, which is near linear where few numbers are contested.
+pub fn merge_files<'a, F: MergeFiles>(
+    alloc: Global,
+    files: &mut F,
+    hosts: &'a [HostText],
+    pins: &'a [u8],
+) -> Result<Cost, MergeFault<'a>>
+    ensures merged { IfOk result (HasMerged hosts.now pins.now (F.ledger files.old) (F.ledger files.new)) }
+    ensures stopped { IfErr result (StopsMerge hosts.now pins.now (F.ledger files.old) (F.ledger files.new) (F.has_failed files.new)) }
+    ensures begun { OnErr result (HasBegun (names_before_report hosts.now) (F.ledger files.old) (F.ledger files.new)) }
+{
+    let mut solved = solve_hosts(alloc, files, hosts, pins)?;
+    write_merged(alloc, files, &mut solved, hosts)
+}
