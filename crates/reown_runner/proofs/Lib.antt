@@ -8,3 +8,5 @@ pub mod Lists
 pub mod Memories
 pub mod Campaigns
 pub mod Finishing
+pub mod Moments
+pub mod Interleaved

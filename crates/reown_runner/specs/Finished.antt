@@ -4,7 +4,7 @@ use Rattle.std.specs.Prelude.{◌≡◌, ◌⊎◌, ◌≢◌, ℕ, true, false,
 use Rattle.std.specs.Str.{bytes_eq}
 use Rattle.reown_plan.specs.declared.plan.Owner.{Owner}
 use Rattle.reown_plan.specs.PlanData.{PlanRecord}
-use Rattle.reown_runner.specs.Tree.{TreeData, Cells, IsSettled}
+use Rattle.reown_runner.specs.Tree.{TreeData, Cells, Image, IsSettled}
 
 -- a tree is as its inventory, with the mark not set and nothing pending
 pub record IsFresh (inventory : List ℕ → Option Owner) (cells : Cells) : Type 0 where
@@ -24,6 +24,10 @@ after_record (Some r) has = Some r.after
 -- the owner of a file after the plan: the new one of its record, else what the inventory has
 abbrev pub owner_after_plan : (List ℕ → Option Owner) → List PlanRecord → List ℕ → Option Owner
 owner_after_plan inventory records path = after_record (find (λ r. bytes_eq path r.path) records) (inventory path)
+
+-- the file at the path has the owner that the inventory tells, or the one after the plan
+abbrev pub IsOldOrNew : (List ℕ → Option Owner) → List PlanRecord → Image → List ℕ → Type 0
+IsOldOrNew inventory records image path = (image.owner path ≡ inventory path) ⊎ (image.owner path ≡ owner_after_plan inventory records path)
 
 -- The lists of a safe tree: those of a planned file have its old and new owner, those of another file its owner in the
 -- inventory, and those of a planned file its new owner alone where the mark's list has "set".

@@ -9,4 +9,5 @@ pub mod Memory
 pub mod MemoryReads
 pub mod Failing
 pub mod Campaign
+pub mod Interleaved
 pub mod Finished

@@ -1,14 +1,17 @@
 //! What holds of safe trees, of runs, and of plans that are done.
-ghost use Rattle.std.specs.Prelude.{◌≡◌, ◌↔◌, ◌+◌, ◌≤◌, ℕ, true, false, List, Option, None, length, replicate};
+ghost use Rattle.std.specs.Prelude.{◌≡◌, ◌↔◌, ◌+◌, ◌++◌, ◌≤◌, ℕ, true, false, List, Option, None, IfSome, length, replicate};
 ghost use Rattle.reown_plan.specs.declared.plan.Owner.{Owner};
 ghost use Rattle.reown_plan.specs.PlanData.{PlanRecord, HaveDistinctPaths};
 ghost use Rattle.reown_runner.specs.declared.runner.Place.{Place};
 ghost use Rattle.reown_runner.specs.declared.runner.Place.TheVariants.{Start, Done};
 ghost use Rattle.reown_runner.specs.declared.runner.RunFault.{RunFault};
+ghost use Rattle.reown_runner.specs.declared.runner.RunFault.TheVariants.{Device};
 ghost use Rattle.reown_runner.specs.Tree.{TreeData, Image, IsImage, IsReadable, Stops, cells_of};
 ghost use Rattle.reown_runner.specs.State.{State, StandsFor, fresh, cells_at};
-ghost use Rattle.reown_runner.specs.Safe.{IsSafe, IsSafeInStep};
-ghost use Rattle.reown_runner.specs.Finished.{IsFresh, AreOld, owner_after_plan, HasSafeLists};
+ghost use Rattle.reown_runner.specs.Safe.{IsSafe, IsSafeImage, IsSafeInStep};
+ghost use Rattle.reown_runner.specs.Finished.{IsFresh, AreOld, IsOldOrNew, owner_after_plan, HasSafeLists};
+ghost use Rattle.reown_runner.specs.declared.campaign.Event.{Event};
+ghost use Rattle.reown_runner.specs.Interleaved.{AllHappen, HappensHostByHost, one_by_one};
 ghost use Rattle.reown_runner.specs.Run.{Host, HostEvent, Advances, IsRun, AreRuns};
 
 /// A tree that is as its inventory is safe and in step at the start of a plan whose paths are there at their old owners;
@@ -28,6 +31,27 @@ pub fn stays_safe()
     ensures runs { (inventory : List ℕ → Option Owner) (records : List PlanRecord) → HaveDistinctPaths records
         → (host : Host) (runs : List (List HostEvent)) (end : Host) → AreRuns records host runs end
         → IsSafeInStep inventory records host.place (cells_at host.state) → IsSafeInStep inventory records end.place (cells_at end.state) }
+{}
+
+/// A front of a run is a run as well, whose end is as safe: so it is behind each event, whatever comes after it.
+pub fn a_front_is_a_run()
+    ensures { (inventory : List ℕ → Option Owner) (records : List PlanRecord) → HaveDistinctPaths records
+        → (host : Host) (front rest : List HostEvent) (refused : Option RunFault) (end : Host) → IsRun records host (front ++ rest) refused end
+        → IsSafeInStep inventory records host.place (cells_at host.state)
+        → (cut : Option RunFault) × (there : Host) × IsRun records host front cut there × IsSafeInStep inventory records there.place (cells_at there.state) }
+{}
+
+/// Of a safe tree a stop leaves each file at its old or its new owner, where the inventory has the plan's old owners.
+pub fn safe_is_old_or_new()
+    ensures { (inventory : List ℕ → Option Owner) (records : List PlanRecord) (image : Image) → AreOld inventory records → IsSafeImage inventory records image
+        → (path : List ℕ) → IsOldOrNew inventory records image path }
+{}
+
+/// Only the device refuses a run of a host that is safe and in step.
+pub fn only_the_device_refuses()
+    ensures { (inventory : List ℕ → Option Owner) (records : List PlanRecord) → HaveDistinctPaths records
+        → (host : Host) (events : List HostEvent) (refused : Option RunFault) (end : Host) → IsRun records host events refused end
+        → IsSafeInStep inventory records host.place (cells_at host.state) → IfSome refused (λ fault. fault ≡ Device) }
 {}
 
 /// A stop of a tree that is safe and in step, at whatever place, leaves one that is safe and in step at the start: `reopen`
@@ -55,4 +79,25 @@ pub fn done_means_done()
 pub fn advances_from_start()
     ensures { (records : List PlanRecord) (n : ℕ) (host end : Host) → host.place ≡ Start → (cells_at host.state).mark ≡ false → IsRun records host (replicate n Advances) None end
         → (end.place ≡ Done) ↔ (length records + 4 ≤ n) }
+{}
+
+/// Events of many hosts in one list happen exactly where each host goes by its own, in their order, as `drive` tells it host
+/// by host. A run is its events one by one.
+pub fn happens_host_by_host()
+    ensures hosts { HappensHostByHost }
+    ensures runs { (records : List PlanRecord) (host : Host) (events : List HostEvent) (refused : Option RunFault) (end : Host) → IsRun records host events refused end → AreRuns records host (one_by_one events) end }
+{}
+
+/// In a world whose hosts are safe and in step, as fresh trees are, they stay so whatever events happen, in whatever order and
+/// refused or not; and whatever a further stop leaves, each file of each host is at its old or its new owner.
+pub fn worlds_stay_safe()
+    ensures safe { (inventory : ℕ → List ℕ → Option Owner) (plans : ℕ → List PlanRecord) → ((host : ℕ) → HaveDistinctPaths (plans host))
+        → (old : ℕ → Host) (events : List Event) (new : ℕ → Host) → AllHappen plans old events new
+        → ((host : ℕ) → IsSafeInStep (inventory host) (plans host) (old host).place (cells_at (old host).state))
+        → (host : ℕ) → IsSafeInStep (inventory host) (plans host) (new host).place (cells_at (new host).state) }
+    ensures files { (inventory : ℕ → List ℕ → Option Owner) (plans : ℕ → List PlanRecord) → ((host : ℕ) → HaveDistinctPaths (plans host))
+        → (old : ℕ → Host) (events : List Event) (new : ℕ → Host) → AllHappen plans old events new
+        → ((host : ℕ) → IsSafeInStep (inventory host) (plans host) (old host).place (cells_at (old host).state))
+        → (host : ℕ) → AreOld (inventory host) (plans host)
+        → (image : Image) → IsImage (cells_at (new host).state) image → (path : List ℕ) → IsOldOrNew (inventory host) (plans host) image path }
 {}

@@ -89,7 +89,7 @@ printed_plans_are_rehearsed texts pins_text site outcome read o h text plan text
     let pair : (loaded.0.host, read_here.0) ≡ at.0 = ok_same (loaded.0.host, read_here.0) at.0 read_here.2 in
     let listed : inventory 16777216 text.mtree ≡ Ok files =
     ap (λ (t : HostText). inventory 16777216 t.mtree) (sym same) ∙ ap (inventory 16777216) (as_loaded from.0 loaded.0 from.2).1 ∙ (files_read loaded.0 read_here.0 read_here.1).0 ∙ ap (λ (p : Host × List Entry). Ok p.1) pair in
-    let found = (outcomes_are_believed site outcome (read_sites_are_whole texts pins_text site read) o).a_finished_plan_keeps_names h host files at.1 in
+    let found = (outcomes_are_believed site outcome (read_sites_are_whole texts pins_text site read) o).a_plan_keeps_names h host files at.1 in
     let told : PlanData = record { host = host.name; records = found.records } in
     let reads : ReadsAs plan (Ok told) = subst (λ p. ReadsAs p (Ok told)) (some_same found.plan plan (sym found.printed ∙ plan_at)) found.read in
     let none = none_faulty files [] found.records found.begins in

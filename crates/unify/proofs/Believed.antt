@@ -1,5 +1,5 @@
 -- What a merge may answer is what it is believed for.
-use Rattle.std.proofs.Common.{◌≡◌, ℕ, zero, suc, ◌+◌, ◌<◌, ◌≤◌, ◌↔◌, true, false, List, [], ◌∷◌, length, get_or, map, Option, Some, None, refl, sym, ap, subst, ◌∙◌, arith}
+use Rattle.std.proofs.Common.{◌≡◌, ◌⊎◌, ℕ, zero, suc, ◌+◌, ◌<◌, ◌≤◌, ◌↔◌, true, false, List, [], ◌∷◌, length, get_or, map, Option, Some, None, refl, sym, ap, subst, ◌∙◌, arith}
 use Rattle.std.specs.List.{slice_get}
 use Rattle.std.specs.Option.{is_some, option_map}
 use Rattle.std.specs.Str.{bytes_eq}
@@ -17,6 +17,7 @@ use Rattle.ownership.specs.Mappings.{IsAdmissible, Mappings, number_at}
 use Rattle.certcheck.specs.Reading.{certificate_in}
 use Rattle.certcheck.proofs.Missing.{any_is_place}
 use Rattle.certcheck.proofs.Spelled.{spelled_is_read}
+use Rattle.reown_plan.specs.Owners.{owner_of}
 use Rattle.reown_plan.specs.PlanData.{PlanData}
 use Rattle.reown_plan.specs.Spelling as plan
 use Rattle.reown_plan.specs.Target.{plan_of, host_plan, name_at}
@@ -27,20 +28,21 @@ use Rattle.reown_runner.specs.Safe.{IsSafeInStep}
 use Rattle.reown_runner.specs.State.{fresh, cells_at}
 use Rattle.reown_runner.specs.Tree.{Image}
 use Rattle.reown_runner.proofs.Finishing.{fresh_safe, fresh_history, done_image}
+use Rattle.reown_runner.proofs.Moments.{device_alone, old_or_new}
 use Rattle.reown_runner.proofs.Runs.{runs_sound}
 use Rattle.unify_texts.specs.WrittenMap.{SayMapping}
 use Rattle.unify_texts.specs.declared.map_text.MapText.{MapText}
 use Rattle.unify.specs.declared.outcome.Outcome.{Outcome}
 use Rattle.unify.specs.Believed.{OutcomesAreBelieved, NumbersTellNames}
 use Rattle.unify.specs.Cost.{cost_of}
-use Rattle.unify.specs.Headline.{HaveOneNumberEach, FinishedPlanKeepsNames, IsNamedAsBefore, KeepsItsNames, fields, untouched}
+use Rattle.unify.specs.Headline.{HaveOneNumberEach, PlanKeepsNames, IsNamedAsBefore, IsOldOrNamed, KeepsItsNames, fields, untouched}
 use Rattle.unify.specs.Installed.{AreInstalled}
 use Rattle.unify.specs.Laws.{IsWhole}
 use Rattle.unify.specs.Outcomes.{IsOutcome, cost_in, hosts_in, plan_texts_from}
 use Rattle.unify.specs.Reading.{WholeSite}
 use Rattle.unify.proofs.Costs.{costs_agree}
-use Rattle.unify.proofs.Installed.{are_installed, named_as_before}
-use Rattle.unify.proofs.Keeping.{is_mapping, map_says_mappings, plan_is_old, keeps_names}
+use Rattle.unify.proofs.Installed.{are_installed, named_as_before, old_or_named}
+use Rattle.unify.proofs.Keeping.{is_mapping, map_says_mappings, plan_is_old, keeps_names, old_or_kept}
 use Rattle.unify.proofs.SiteRuns.{some_same}
 
 -- ---- one number each
@@ -95,9 +97,9 @@ name_is site h host files here =
     let there : slice_get (hosts_in site) h ≡ Some host = slice_get-map (λ (x : Host × List Entry). x.0) site.hosts h ∙ ap (option_map (λ (x : Host × List Entry). x.0)) here in
     read_at (map (λ (x : Host). x.name) (hosts_in site)) h [] host.name (slice_get-map (λ (x : Host). x.name) (hosts_in site) h ∙ ap (option_map (λ (x : Host). x.name)) there)
 
-finished : (site : WholeSite) (outcome : Outcome) → IsWhole site → (o : IsOutcome site outcome) (printed : MapText) → SayMapping site.joined.users o.mappings.users printed.users → SayMapping site.joined.groups o.mappings.groups printed.groups
-    → (installed : AreInstalled site outcome o.mappings printed) → (h : ℕ) (host : Host) (files : List Entry) → slice_get site.hosts h ≡ Some (host, files) → FinishedPlanKeepsNames printed installed.passwd.rows installed.group.rows outcome.plans h host files
-finished site outcome whole o printed users groups installed h host files here =
+plan_keeps : (site : WholeSite) (outcome : Outcome) → IsWhole site → (o : IsOutcome site outcome) (printed : MapText) → SayMapping site.joined.users o.mappings.users printed.users → SayMapping site.joined.groups o.mappings.groups printed.groups
+    → (installed : AreInstalled site outcome o.mappings printed) → (h : ℕ) (host : Host) (files : List Entry) → slice_get site.hosts h ≡ Some (host, files) → PlanKeepsNames printed installed.passwd.rows installed.group.rows outcome.plans h host files
+plan_keeps site outcome whole o printed users groups installed h host files here =
     let m = o.mappings in
     let is = whole.each_host h host files here in
     let records = plan_of site.joined m.users m.groups h files in
@@ -109,14 +111,20 @@ finished site outcome whole o printed users groups installed h host files here =
     let lawful = plan-lawful (hosts_in site) site.joined m.users m.groups h files (subst plan.IsHostName (sym name) is.named) (is_mapping site.joined.users m.users whole.lawful.users ok.users).numbers (is_mapping site.joined.groups m.groups whole.lawful.groups ok.groups).numbers is.files_are in
     let old = plan_is_old site.joined m.users m.groups h files is.files_are.distinct in
     let at_first : Image = record { owner = owner_in files; mark = false } in
+    let start = fresh_safe (owner_in files) records (cells_at (fresh at_first)) (fresh_history (owner_in files) at_first (λ path. refl) refl) old in
     record {
       plan = plan.spelling made;
       printed = ap (λ texts. slice_get texts h) o.printed.plans ∙ text_at (hosts_in site) site.joined m site.hosts 0 h host files here ∙ ap (λ i. Some (plan.spelling (host_plan (hosts_in site) site.joined m.users m.groups i files))) from_zero ∙ ap (λ p. Some (plan.spelling p)) same;
       records = records;
       read = (subst plan.IsLawful same lawful, refl);
       begins = old;
+      only_the_device_refuses = λ asked runs there are events refused end run.
+          device_alone (owner_in files) records lawful.distinct there events refused end run (runs_sound (owner_in files) records lawful.distinct (untouched asked files) runs there start are);
+      at_every_moment = λ asked runs end are image is_image.
+          let safe = runs_sound (owner_in files) records lawful.distinct (untouched asked files) runs end start are in
+          All-weaker (λ f. (image.owner f.path ≡ Some (owner_of f)) ⊎ KeepsItsNames printed host image.owner f) (IsOldOrNamed printed installed.passwd.rows installed.group.rows host image.owner) (old_or_named site outcome m printed installed host image.owner) files
+          (old_or_kept site.joined m printed users groups h host files is image (old_or_new (owner_in files) records image old (safe.safe image is_image)));
       kept = λ asked runs end are done image is_image.
-          let start = fresh_safe (owner_in files) records (cells_at (fresh at_first)) (fresh_history (owner_in files) at_first (λ path. refl) refl) old in
           let safe = runs_sound (owner_in files) records lawful.distinct (untouched asked files) runs end start are in
           let at_done : IsSafeInStep (owner_in files) records Done (cells_at end.state) = subst (λ p. IsSafeInStep (owner_in files) records p (cells_at end.state)) done safe in
           All-weaker (KeepsItsNames printed host image.owner) (IsNamedAsBefore printed installed.passwd.rows installed.group.rows host image.owner) (named_as_before site outcome m printed installed host image.owner) files
@@ -150,7 +158,7 @@ outcomes_are_believed site outcome whole o =
       potentials_prove_it = o.answered.certified;
       cost_is_told = o.printed.cost ∙ sym (costs_agree site o.mappings back.pairs whole back.users back.groups);
       no_other_map_rewrites_fewer = none_fewer site outcome whole o back.pairs back.users back.groups;
-      a_finished_plan_keeps_names = finished site outcome whole o back.pairs back.users back.groups installed;
+      a_plan_keeps_names = plan_keeps site outcome whole o back.pairs back.users back.groups installed;
     }
 
 -- ---- numbers and names

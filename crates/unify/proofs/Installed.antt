@@ -1,5 +1,5 @@
 -- The merged passwd and group are read back, and say the map's pairs.
-use Rattle.std.proofs.Common.{◌≡◌, ℕ, zero, suc, ◌==◌, true, List, [], ◌∷◌, get_or, Option, Some, refl, sym, ap, subst, ◌∙◌, inl, inr}
+use Rattle.std.proofs.Common.{◌≡◌, ◌⊎◌, ℕ, zero, suc, ◌==◌, true, List, [], ◌∷◌, get_or, Option, Some, refl, sym, ap, subst, ◌∙◌, inl, inr}
 use Rattle.std.specs.Prelude.{◌↔◌}
 use Rattle.std.specs.List.{All, find}
 use Rattle.std.specs.Option.{is_some, option_map}
@@ -20,10 +20,11 @@ use Rattle.mergedfiles.specs.ReadBack.{WasRead, IsNumbered, HasNumber, IsMergedU
 use Rattle.mergedfiles.proofs.ReadUsers.{passwd_reads_back}
 use Rattle.mergedfiles.proofs.ReadGroups.{group_reads_back}
 use Rattle.reown_plan.specs.declared.plan.Owner.{Owner}
+use Rattle.reown_plan.specs.Owners.{owner_of}
 use Rattle.unify_texts.specs.declared.map_text.MapText.{MapText}
 use Rattle.unify_texts.specs.WrittenMap.{SayMapping}
 use Rattle.unify.specs.declared.outcome.Outcome.{Outcome}
-use Rattle.unify.specs.Headline.{IsNamedAsBefore, KeepsItsNames}
+use Rattle.unify.specs.Headline.{IsNamedAsBefore, IsOldOrNamed, KeepsItsNames}
 use Rattle.unify.specs.Installed.{AreInstalled}
 use Rattle.unify.specs.Laws.{IsWhole}
 use Rattle.unify.specs.Outcomes.{IsOutcome, hosts_in}
@@ -121,3 +122,8 @@ named_as_before site outcome m printed installed host tree file kept = record {
   user_is = (installed.users_agree kept.user kept.now.uid).1 kept.has_user;
   group_is = (installed.groups_agree kept.group kept.now.gid).1 kept.has_group;
 }
+
+pub old_or_named : (site : WholeSite) (outcome : Outcome) (m : Mappings) (printed : MapText) → (installed : AreInstalled site outcome m printed) → (host : Host) (tree : List ℕ → Option Owner) (file : Entry)
+    → (tree file.path ≡ Some (owner_of file)) ⊎ KeepsItsNames printed host tree file → IsOldOrNamed printed installed.passwd.rows installed.group.rows host tree file
+old_or_named site outcome m printed installed host tree file (inl old) = inl old
+old_or_named site outcome m printed installed host tree file (inr kept) = inr (named_as_before site outcome m printed installed host tree file kept)

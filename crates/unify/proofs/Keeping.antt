@@ -1,5 +1,5 @@
 -- Files that keep their names.
-use Rattle.std.proofs.Common.{◌≡◌, ℕ, ◌≤◌, true, List, get_or, Option, Some, None, refl, sym, ap, subst, ◌∙◌, arith}
+use Rattle.std.proofs.Common.{◌≡◌, ◌⊎◌, inl, inr, ℕ, ◌<◌, ◌≤◌, true, List, length, get_or, Option, Some, None, refl, sym, ap, subst, ◌∙◌, arith}
 use Rattle.std.specs.List.{All, filter, find}
 use Rattle.std.specs.Option.{is_some, option_map}
 use Rattle.std.specs.Prelude.{not}
@@ -26,8 +26,9 @@ use Rattle.reown_plan.specs.PlanData.{PlanRecord}
 use Rattle.reown_plan.specs.Target as target
 use Rattle.reown_plan.specs.Target.{renumbered, record_to, records_to, plan_of}
 use Rattle.reown_plan.proofs.Keeping.{owner_after-target}
-use Rattle.reown_runner.specs.Finished.{after_record, owner_after_plan, AreOld}
+use Rattle.reown_runner.specs.Finished.{after_record, owner_after_plan, AreOld, IsOldOrNew}
 use Rattle.reown_runner.specs.Memory.{owner_in}
+use Rattle.reown_runner.specs.Tree.{Image}
 use Rattle.unify_texts.specs.declared.map_text.MapText.{MapText}
 use Rattle.unify_texts.specs.WrittenMap.{SayMapping, IsMappingOf, ReadsBack}
 use Rattle.unify_texts.proofs.MapNames.{written_map_reads_back}
@@ -89,18 +90,19 @@ at_target to files distinct = λ k d l.
     let found = find (λ (r : PlanRecord). bytes_eq f.path r.path) (records_to to files) in
     ap (after_record found) (inventory_has files distinct k d l) ∙ after_same found (owner_of f) ∙ ap (λ (o : Owner). Some o) (owner_after-target to files distinct k d l)
 
--- a host whose files have their owners after the plan keeps the names of its files
-pub keeps_names : (site : Joined) (m : Mappings) (printed : MapText) → SayMapping site.users m.users printed.users → SayMapping site.groups m.groups printed.groups
+-- a file that has its owner after the plan keeps its names
+keeps_name : (site : Joined) (m : Mappings) (printed : MapText) → SayMapping site.users m.users printed.users → SayMapping site.groups m.groups printed.groups
     → (h : ℕ) (host : Host) (files : List Entry) → IsReadHost site h host files
-    → (owner : List ℕ → Option Owner) → ((path : List ℕ) → owner path ≡ owner_after_plan (owner_in files) (plan_of site m.users m.groups h files) path) → All (KeepsItsNames printed host owner) files
-keeps_names site m printed users groups h host files is owner after = λ k d l.
+    → (owner : List ℕ → Option Owner) (k : ℕ) (d : Entry) → k < length files → owner (get_or files k d).path ≡ owner_after_plan (owner_in files) (plan_of site m.users m.groups h files) (get_or files k d).path
+    → KeepsItsNames printed host owner (get_or files k d)
+keeps_name site m printed users groups h host files is owner k d l after =
     let f = get_or files k d in
     let has = is.owned k d l in
     let user = named site.users m.users printed.users users h f.uid _ has.user (is.known.users f.uid) in
     let group = named site.groups m.groups printed.groups groups h f.gid _ has.group (is.known.groups f.gid) in
     record {
       now = target.target site m.users m.groups h f;
-      here = after f.path ∙ at_target (target.target site m.users m.groups h) files is.files_are.distinct k d l;
+      here = after ∙ at_target (target.target site m.users m.groups h) files is.files_are.distinct k d l;
       user = user.0;
       had_user = user.1;
       has_user = user.2;
@@ -108,3 +110,19 @@ keeps_names site m printed users groups h host files is owner after = λ k d l.
       had_group = group.1;
       has_group = group.2;
     }
+
+-- a host whose files have their owners after the plan keeps the names of its files
+pub keeps_names : (site : Joined) (m : Mappings) (printed : MapText) → SayMapping site.users m.users printed.users → SayMapping site.groups m.groups printed.groups
+    → (h : ℕ) (host : Host) (files : List Entry) → IsReadHost site h host files
+    → (owner : List ℕ → Option Owner) → ((path : List ℕ) → owner path ≡ owner_after_plan (owner_in files) (plan_of site m.users m.groups h files) path) → All (KeepsItsNames printed host owner) files
+keeps_names site m printed users groups h host files is owner after = λ k d l. keeps_name site m printed users groups h host files is owner k d l (after (get_or files k d).path)
+
+-- where each path has its old or its new owner, each file is at its old one or keeps its names
+pub old_or_kept : (site : Joined) (m : Mappings) (printed : MapText) → SayMapping site.users m.users printed.users → SayMapping site.groups m.groups printed.groups
+    → (h : ℕ) (host : Host) (files : List Entry) → IsReadHost site h host files
+    → (image : Image) → ((path : List ℕ) → IsOldOrNew (owner_in files) (plan_of site m.users m.groups h files) image path) → All (λ f. (image.owner f.path ≡ Some (owner_of f)) ⊎ KeepsItsNames printed host image.owner f) files
+old_or_kept site m printed users groups h host files is image each = λ k d l.
+    elim (each (get_or files k d).path) [
+      | inl old ↦ inl (old ∙ inventory_has files is.files_are.distinct k d l)
+      | inr new ↦ inr (keeps_name site m printed users groups h host files is image.owner k d l new)
+    ]

@@ -41,7 +41,7 @@ use Rattle.unify.proofs.Adding.{loaded_from-parts}
 use Rattle.unify.proofs.Believed.{name_is, outcomes_are_believed}
 use Rattle.unify.proofs.Keeping.{is_mapping, plan_is_old}
 use Rattle.unify.proofs.Reading.{steps}
-use Rattle.unify.proofs.SiteRuns.{some_same, runs_keep}
+use Rattle.unify.proofs.SiteRuns.{some_same, runs_keep, runs_stay}
 use Rattle.unify.proofs.TwoPasses.{mtrees-kept}
 use Rattle.unify.proofs.Whole.{hosts_held}
 
@@ -178,6 +178,7 @@ site_runs keep events site whole run merged trees are carried =
       a_tree_each = carried.a_tree_each ∙ ap length are ∙ length-map all (new_tree_of keep) ∙ length-map site.hosts (λ (h : Host × List Entry). h.1);
       went = went;
       done = carried.done_are;
+      at_this_moment = runs_stay site run.outcome whole merged believed.map believed.map_read believed.mappings believed.installed keep events (λ host. None) carried.runners run.trees.items went;
       names_kept = subst (λ told. DoneKeepsNames site believed.map believed.installed.passwd.rows believed.installed.group.rows told run.trees.items) (sym carried.done_are)
           (runs_keep site run.outcome whole merged believed.map believed.map_read believed.mappings believed.installed keep events (λ host. None) carried.runners run.trees.items went);
     }

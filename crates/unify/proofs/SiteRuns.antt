@@ -1,5 +1,5 @@
--- A host that is done in a rehearsal keeps its names.
-use Rattle.std.proofs.Common.{◌≡◌, ℕ, zero, suc, ◌+◌, true, List, [], ◌∷◌, map, Option, Some, Ok, refl, sym, ap, subst, ◌∙◌, arith}
+-- The files of a host in a rehearsal have their old owners or keep their names.
+use Rattle.std.proofs.Common.{◌≡◌, ◌⊎◌, ℕ, zero, suc, ◌+◌, true, List, [], ◌∷◌, map, Option, Some, Ok, refl, sym, ap, subst, ◌∙◌, arith}
 use Rattle.std.specs.List.{All, slice_get}
 use Rattle.std.specs.Option.{option_map}
 use Rattle.std.proofs.lemmas.Bool.{false≢true}
@@ -9,6 +9,7 @@ use Rattle.idtext.proofs.OkLemmas.{ok_same}
 use Rattle.mtree_inv.specs.declared.entry.Entry.{Entry}
 use Rattle.hosts_join.specs.declared.host.Host.{Host}
 use Rattle.ownership.specs.Mappings.{Mappings}
+use Rattle.reown_plan.specs.Owners.{owner_of}
 use Rattle.reown_plan.specs.Target.{plan_of}
 use Rattle.reown_runner.specs.declared.campaign.Event.{Event}
 use Rattle.reown_runner.specs.declared.runner.Place.{Place}
@@ -23,19 +24,20 @@ use Rattle.reown_runner.specs.Tree.{Image, IsImage, TreeData, cells_of}
 use Rattle.reown_runner.specs.World.{Hosted, IsHostOf}
 use Rattle.reown_runner.proofs.Finishing.{fresh_safe, done_image}
 use Rattle.reown_runner.proofs.Memories.{new_fresh}
+use Rattle.reown_runner.proofs.Moments.{old_or_new}
 use Rattle.unify_texts.specs.WrittenMap.{SayMapping}
 use Rattle.unify_texts.specs.declared.map_text.MapText.{MapText}
 use Rattle.unify_texts.specs.Maps.{map_of}
 use Rattle.unify.specs.declared.outcome.Outcome.{Outcome}
 use Rattle.unify.specs.Believed.{DoneKeepsPrintedNames, RunsKeepNames}
-use Rattle.unify.specs.Headline.{IsNamedAsBefore, KeepsItsNames}
+use Rattle.unify.specs.Headline.{IsNamedAsBefore, IsOldOrNamed, KeepsItsNames}
 use Rattle.unify.specs.Installed.{AreInstalled}
 use Rattle.unify.specs.Laws.{IsWhole}
 use Rattle.unify.specs.Outcomes.{IsOutcome}
 use Rattle.unify.specs.Reading.{WholeSite}
-use Rattle.unify.specs.SiteRuns.{DoneKeepsNames, runners_from, new_world}
-use Rattle.unify.proofs.Installed.{are_installed, named_as_before}
-use Rattle.unify.proofs.Keeping.{map_says_mappings, plan_is_old, keeps_names}
+use Rattle.unify.specs.SiteRuns.{DoneKeepsNames, EachIsOldOrNamed, runners_from, new_world}
+use Rattle.unify.proofs.Installed.{are_installed, named_as_before, old_or_named}
+use Rattle.unify.proofs.Keeping.{map_says_mappings, plan_is_old, keeps_names, old_or_kept}
 
 pub some_same : {X : Type 0} (x y : X) → Some x ≡ Some y → x ≡ y
 some_same x y e = cc
@@ -86,9 +88,11 @@ module _ (site : WholeSite) (outcome : Outcome) (whole : IsWhole site) (merged :
       All-weaker (KeepsItsNames printed host image.owner) (IsNamedAsBefore printed installed.passwd.rows installed.group.rows host image.owner) (named_as_before site outcome mappings printed installed host image.owner) files
       (keeps_names site.joined merged.mappings printed say.0 say.1 h host files (whole.each_host h host files here) image.owner after)
 
-  pub runs_keep : (keep : Keep) (events : List Event) (refused : ℕ → Option RunFault) (runners : List RunnerData) (trees : List Mem) → EachGoes known_mem (new_world keep site merged.mappings) events refused (record { runners = runners; trees = trees })
-      → DoneKeepsNames site printed installed.passwd.rows installed.group.rows (map (λ runner. is_done runner.place) runners) trees
-  runs_keep keep events refused runners trees goes h host files tree here done at image is_image =
+  -- a host's runner and tree, as far as the events lead: safe and in step
+  host_went : (keep : Keep) (events : List Event) (refused : ℕ → Option RunFault) (runners : List RunnerData) (trees : List Mem) → EachGoes known_mem (new_world keep site merged.mappings) events refused (record { runners = runners; trees = trees })
+      → (h : ℕ) (host : Host) (files : List Entry) (tree : Mem) → slice_get site.hosts h ≡ Some (host, files) → slice_get trees h ≡ Some tree
+      → (runner : RunnerData) × (slice_get runners h ≡ Some runner) × IsSafeInStep (owner_in files) (plan_of site.joined merged.mappings.users merged.mappings.groups h files) runner.place (cells_of (known_mem tree))
+  host_went keep events refused runners trees goes h host files tree here at =
       let m = merged.mappings in
       let is = whole.each_host h host files here in
       let records = plan_of site.joined m.users m.groups h files in
@@ -102,13 +106,29 @@ module _ (site : WholeSite) (outcome : Outcome) (whole : IsWhole site) (merged :
       let last = went.0 in
       let start = fresh_safe (owner_in files) records (cells_of (known_mem (tree_of keep (host, files)))) (new_fresh files) (plan_is_old site.joined m.users m.groups h files is.files_are.distinct) in
       let safe = went.2.safe (owner_in files) start in
-      let told : Some (is_done last.runner.place) ≡ Some true = sym (slice_get-map (λ (r : RunnerData). is_done r.place) runners h ∙ ap (option_map (λ (r : RunnerData). is_done r.place)) went.1.runner) ∙ done in
-      let at_done : last.runner.place ≡ Done = is_at_done last.runner.place (some_same (is_done last.runner.place) true told) in
       let same_tree : last.tree ≡ tree = some_same last.tree tree (sym went.1.tree ∙ at) in
-      let finished : IsSafeInStep (owner_in files) records Done (cells_of (known_mem tree)) =
-      subst (λ t. IsSafeInStep (owner_in files) records Done (cells_of (known_mem t))) same_tree (subst (λ p. IsSafeInStep (owner_in files) records p (cells_of (known_mem last.tree))) at_done safe)
-      in
-      done_keeps h host files here (known_mem tree) finished image is_image
+      (last.runner, went.1.runner, subst (λ t. IsSafeInStep (owner_in files) records last.runner.place (cells_of (known_mem t))) same_tree safe)
+
+  pub runs_stay : (keep : Keep) (events : List Event) (refused : ℕ → Option RunFault) (runners : List RunnerData) (trees : List Mem) → EachGoes known_mem (new_world keep site merged.mappings) events refused (record { runners = runners; trees = trees })
+      → EachIsOldOrNamed site printed installed.passwd.rows installed.group.rows trees
+  runs_stay keep events refused runners trees goes h host files tree here at image is_image =
+      let m = merged.mappings in
+      let is = whole.each_host h host files here in
+      let records = plan_of site.joined m.users m.groups h files in
+      let say = says site outcome whole merged printed read in
+      let went = host_went keep events refused runners trees goes h host files tree here at in
+      All-weaker (λ f. (image.owner f.path ≡ Some (owner_of f)) ⊎ KeepsItsNames printed host image.owner f) (IsOldOrNamed printed installed.passwd.rows installed.group.rows host image.owner) (old_or_named site outcome mappings printed installed host image.owner) files
+      (old_or_kept site.joined m printed say.0 say.1 h host files is image (old_or_new (owner_in files) records image (plan_is_old site.joined m.users m.groups h files is.files_are.distinct) (went.2.safe image is_image)))
+
+  pub runs_keep : (keep : Keep) (events : List Event) (refused : ℕ → Option RunFault) (runners : List RunnerData) (trees : List Mem) → EachGoes known_mem (new_world keep site merged.mappings) events refused (record { runners = runners; trees = trees })
+      → DoneKeepsNames site printed installed.passwd.rows installed.group.rows (map (λ runner. is_done runner.place) runners) trees
+  runs_keep keep events refused runners trees goes h host files tree here done at image is_image =
+      let m = merged.mappings in
+      let records = plan_of site.joined m.users m.groups h files in
+      let went = host_went keep events refused runners trees goes h host files tree here at in
+      let told : Some (is_done went.0.place) ≡ Some true = sym (slice_get-map (λ (r : RunnerData). is_done r.place) runners h ∙ ap (option_map (λ (r : RunnerData). is_done r.place)) went.1) ∙ done in
+      let at_done : went.0.place ≡ Done = is_at_done went.0.place (some_same (is_done went.0.place) true told) in
+      done_keeps h host files here (known_mem tree) (subst (λ p. IsSafeInStep (owner_in files) records p (cells_of (known_mem tree))) at_done went.2) image is_image
 
 pub done_keeps_printed_names : DoneKeepsPrintedNames
 done_keeps_printed_names site outcome whole merged printed read h host files here tree finished image is_image =
@@ -118,4 +138,4 @@ done_keeps_printed_names site outcome whole merged printed read h host files her
 pub runs_keep_names : RunsKeepNames
 runs_keep_names keep events site outcome whole merged printed read refused runners trees goes =
     let installed = installed_by site outcome whole merged printed read in
-    (installed, runs_keep site outcome whole merged printed read merged.mappings installed keep events refused runners trees goes)
+    (installed, runs_stay site outcome whole merged printed read merged.mappings installed keep events refused runners trees goes, runs_keep site outcome whole merged printed read merged.mappings installed keep events refused runners trees goes)

@@ -23,19 +23,21 @@ use Rattle.unify.specs.Installed.{AreInstalled}
 use Rattle.unify.specs.Laws.{IsWhole}
 use Rattle.unify.specs.Outcomes.{IsOutcome}
 use Rattle.unify.specs.Reading.{WholeSite}
-use Rattle.unify.specs.SiteRuns.{new_world, DoneKeepsNames}
+use Rattle.unify.specs.SiteRuns.{new_world, DoneKeepsNames, EachIsOldOrNamed}
 
 -- what a merge may answer for a site is believed
 abbrev pub OutcomesAreBelieved : Type 0
 OutcomesAreBelieved = (site : WholeSite) (outcome : Outcome) → IsWhole site → IsOutcome site outcome → Headline site outcome
 
 -- Where the plans of a merge were carried out on trees in memory as far as any events lead, refused or not, the files of a host
--- that is done have the names that they had, by the map that the merge printed, and by the passwd and group.
+-- that is done have the names that they had, by the map that the merge printed, and by the passwd and group; those of any
+-- other host have these names or their old owners.
 abbrev pub RunsKeepNames : Type 0
 RunsKeepNames = (keep : Keep) (events : List Event) (site : WholeSite) (outcome : Outcome) → IsWhole site → (merged : IsOutcome site outcome)
     → (printed : MapText) → map_of outcome.map ≡ Ok printed → (refused : ℕ → Option RunFault) (runners : List RunnerData) (trees : List Mem)
     → EachGoes known_mem (new_world keep site merged.mappings) events refused (record { runners = runners; trees = trees })
-    → (installed : AreInstalled site outcome merged.mappings printed) × DoneKeepsNames site printed installed.passwd.rows installed.group.rows (map (λ runner. is_done runner.place) runners) trees
+    → (installed : AreInstalled site outcome merged.mappings printed) × EachIsOldOrNamed site printed installed.passwd.rows installed.group.rows trees
+    × DoneKeepsNames site printed installed.passwd.rows installed.group.rows (map (λ runner. is_done runner.place) runners) trees
 
 -- Whatever tree carried out the printed plan of a host, with whatever stops and failed calls: where it is safe and in step at
 -- the end, as a runner's calls keep it, every file has the names that it had, whatever a further stop leaves.

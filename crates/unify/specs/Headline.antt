@@ -1,6 +1,6 @@
 -- What a merge is believed for.
 -- Source: the assignment problem with its weak duality (Kuhn, Munkres); the sentence is this project's own.
-use Rattle.std.specs.Prelude.{◌≡◌, ◌≤◌, ◌+◌, ℕ, false, List, Option, Some, Ok, slice_get, All}
+use Rattle.std.specs.Prelude.{◌≡◌, ◌⊎◌, ◌≤◌, ◌+◌, ℕ, false, List, Option, Some, Ok, IfSome, slice_get, All}
 use Rattle.accounts.specs.Rows.{Passwd, Group}
 use Rattle.mtree_inv.specs.declared.entry.Entry.{Entry}
 use Rattle.hosts_join.specs.Accounts.{Accounts, Pair}
@@ -14,12 +14,15 @@ use Rattle.certcheck.specs.Check.{mappings_of}
 use Rattle.certcheck.specs.Reading.{certificate_in}
 use Rattle.certcheck.specs.declared.certificate.Certificate.{Certificate}
 use Rattle.reown_plan.specs.declared.plan.Owner.{Owner}
+use Rattle.reown_plan.specs.Owners.{owner_of}
 use Rattle.reown_plan.specs.PlanData.{PlanRecord}
 use Rattle.reown_plan.specs.Reading.{ReadsAs}
 use Rattle.reown_runner.specs.declared.runner.Place.TheVariants.{Start, Done}
+use Rattle.reown_runner.specs.declared.runner.RunFault.{RunFault}
+use Rattle.reown_runner.specs.declared.runner.RunFault.TheVariants.{Device}
 use Rattle.reown_runner.specs.Finished.{AreOld}
 use Rattle.reown_runner.specs.Memory.{owner_in}
-use Rattle.reown_runner.specs.Run.{HostEvent, AreRuns}
+use Rattle.reown_runner.specs.Run.{HostEvent, IsRun, AreRuns}
 use Rattle.reown_runner.specs.Run as run
 use Rattle.reown_runner.specs.State.{fresh, cells_at}
 use Rattle.reown_runner.specs.Tree.{Image, IsImage}
@@ -57,6 +60,10 @@ pub record IsNamedAsBefore (map : MapText) (users : List Passwd) (groups : List 
   pub user_is : user_at users by_map.now.uid ≡ Some by_map.user
   pub group_is : group_at groups by_map.now.gid ≡ Some by_map.group
 
+-- It has the owner that the inventory tells, or is named as before.
+abbrev pub IsOldOrNamed : MapText → List Passwd → List Group → Host → (List ℕ → Option Owner) → Entry → Type 0
+IsOldOrNamed map users groups host tree file = (tree file.path ≡ Some (owner_of file)) ⊎ IsNamedAsBefore map users groups host tree file
+
 -- how many fields of files change: owner fields and group fields
 abbrev pub fields : Cost → ℕ
 fields cost = cost.users + cost.groups
@@ -66,24 +73,29 @@ fields cost = cost.users + cost.groups
 abbrev pub untouched : ℕ → List Entry → run.Host
 untouched asked files = record { place = Start; state = fresh (record { owner = owner_in files; mark = false }); asked = asked }
 
--- The host's plan is read as some records, whose files are there at their old owners, so that only its device can refuse a
--- run of it. However they are carried out, in runs one after the other with any stops and failed calls: once they are done,
--- whatever a further stop leaves, every file has the names that it had.
+-- The host's plan is read as some records, whose files are there at their old owners. However they are carried out, in runs one
+-- after the other with any stops and failed calls: only the device refuses a further run; at every moment, whatever a stop
+-- leaves, every file has its old owner or the names that it had; and once the plan is done, every file has these names.
 -- users, groups: the rows of the merged passwd and group
 -- h: the index of the host
-pub record FinishedPlanKeepsNames (map : MapText) (users : List Passwd) (groups : List Group) (plans : List (List ℕ)) (h : ℕ) (host : Host) (files : List Entry) : Type 0 where
+pub record PlanKeepsNames (map : MapText) (users : List Passwd) (groups : List Group) (plans : List (List ℕ)) (h : ℕ) (host : Host) (files : List Entry) : Type 0 where
   pub plan : List ℕ
   pub printed : slice_get plans h ≡ Some plan
   pub records : List PlanRecord
   pub read : ReadsAs plan (Ok (record { host = host.name; records = records }))
   pub begins : AreOld (owner_in files) records
+  pub only_the_device_refuses : (asked : ℕ) (runs : List (List HostEvent)) (there : run.Host) → AreRuns records (untouched asked files) runs there
+      → (events : List HostEvent) (refused : Option RunFault) (end : run.Host) → IsRun records there events refused end → IfSome refused (λ fault. fault ≡ Device)
+  pub at_every_moment : (asked : ℕ) (runs : List (List HostEvent)) (end : run.Host) → AreRuns records (untouched asked files) runs end
+      → (image : Image) → IsImage (cells_at end.state) image → All (IsOldOrNamed map users groups host image.owner) files
   pub kept : (asked : ℕ) (runs : List (List HostEvent)) (end : run.Host) → AreRuns records (untouched asked files) runs end → end.place ≡ Done
       → (image : Image) → IsImage (cells_at end.state) image → All (IsNamedAsBefore map users groups host image.owner) files
 
 -- The map gives every user and group name one distinct number, in its pool or at its pin, and the merged passwd and group have
 -- exactly one row for each name, with its number; no other such mapping rewrites fewer owner and group fields over all
--- inventories, as the printed potentials prove; and once its plan has finished, however often stopped, every file of a host has
--- by the map, and by the merged passwd and group, the user and group names it had.
+-- inventories, as the printed potentials prove; and while a host's plan is carried out, however often stopped, every file of it
+-- has its old owner, or by the map, and by the merged passwd and group, the user and group names it had; once the plan has
+-- finished, every file has these names.
 pub record Headline (site : WholeSite) (outcome : Outcome) : Type 0 where
   -- what is printed
   pub map : MapText
@@ -105,4 +117,4 @@ pub record Headline (site : WholeSite) (outcome : Outcome) : Type 0 where
   pub no_other_map_rewrites_fewer : (other : MapText) (m : Mappings) → HaveOneNumberEach site.joined.users m.users other.users → HaveOneNumberEach site.joined.groups m.groups other.groups
       → fields (cost_of map site.hosts) ≤ fields (cost_of other site.hosts)
   -- names are kept
-  pub a_finished_plan_keeps_names : (h : ℕ) (host : Host) (files : List Entry) → slice_get site.hosts h ≡ Some (host, files) → FinishedPlanKeepsNames map installed.passwd.rows installed.group.rows outcome.plans h host files
+  pub a_plan_keeps_names : (h : ℕ) (host : Host) (files : List Entry) → slice_get site.hosts h ≡ Some (host, files) → PlanKeepsNames map installed.passwd.rows installed.group.rows outcome.plans h host files

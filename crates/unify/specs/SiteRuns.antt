@@ -16,7 +16,7 @@ use Rattle.reown_runner.specs.Tree.{Image, IsImage, cells_of}
 use Rattle.reown_runner.specs.World.{World}
 use Rattle.unify_texts.specs.declared.map_text.MapText.{MapText}
 use Rattle.unify.specs.declared.rehearsing_site.SiteRun.{SiteRun}
-use Rattle.unify.specs.Headline.{Headline, IsNamedAsBefore}
+use Rattle.unify.specs.Headline.{Headline, IsNamedAsBefore, IsOldOrNamed}
 use Rattle.unify.specs.Outcomes.{IsOutcome}
 use Rattle.unify.specs.Reading.{WholeSite}
 
@@ -38,6 +38,11 @@ abbrev pub DoneKeepsNames : WholeSite → MapText → List Passwd → List Group
 DoneKeepsNames site map users groups done trees = (h : ℕ) (host : Host) (files : List Entry) (tree : Mem) → slice_get site.hosts h ≡ Some (host, files) → slice_get done h ≡ Some true → slice_get trees h ≡ Some tree
     → (image : Image) → IsImage (cells_of (known_mem tree)) image → All (IsNamedAsBefore map users groups host image.owner) files
 
+-- on every host, done or not, every file has its old owner or the names that it had, whatever a further stop leaves
+abbrev pub EachIsOldOrNamed : WholeSite → MapText → List Passwd → List Group → List Mem → Type 0
+EachIsOldOrNamed site map users groups trees = (h : ℕ) (host : Host) (files : List Entry) (tree : Mem) → slice_get site.hosts h ≡ Some (host, files) → slice_get trees h ≡ Some tree
+    → (image : Image) → IsImage (cells_of (known_mem tree)) image → All (IsOldOrNamed map users groups host image.owner) files
+
 -- A site that was merged, and whose plans went on as far as these events lead, each host by its own, none of them refused.
 pub record IsSiteRun (keep : Keep) (events : List Event) (site : WholeSite) (run : SiteRun) : Type 0 where
   pub merged : IsOutcome site run.outcome
@@ -47,4 +52,5 @@ pub record IsSiteRun (keep : Keep) (events : List Event) (site : WholeSite) (run
   pub a_tree_each : length run.trees.items ≡ length site.hosts
   pub went : EachGoes known_mem (new_world keep site merged.mappings) events (λ host. None) (record { runners = runners; trees = run.trees.items })
   pub done : run.done.items ≡ map (λ runner. is_done runner.place) runners
+  pub at_this_moment : EachIsOldOrNamed site believed.map believed.installed.passwd.rows believed.installed.group.rows run.trees.items
   pub names_kept : DoneKeepsNames site believed.map believed.installed.passwd.rows believed.installed.group.rows run.done.items run.trees.items

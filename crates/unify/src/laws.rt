@@ -19,16 +19,17 @@ pub fn owners_agree()
 
 /// What a merge may answer for a site that was read is believed: the map that is printed gives every name one distinct
 /// number, in its pool or at its pin, and the passwd and group that are printed have exactly one row for each name, with
-/// its number; no other such mappings rewrite fewer owner and group fields, as the printed potentials prove; and once its
-/// plan has finished, however often stopped, every file of a host has by the map, and by that passwd and group, the names
-/// it had.
+/// its number; no other such mappings rewrite fewer owner and group fields, as the printed potentials prove; and while a
+/// host's plan is carried out, however often stopped, every file of it has its old owner, or by the map, and by that passwd
+/// and group, the names it had; once the plan has finished, every file has these names.
 pub fn outcomes_are_believed()
     ensures { OutcomesAreBelieved }
 {}
 
 /// Where the plans of a merge were carried out on trees in memory as far as any events lead, refused or not, the files of
-/// a host that is done have the names that they had, by the printed map and by the printed passwd and group. So have those
-/// of any tree that is safe and in step at the end of its printed plan.
+/// a host that is done have the names that they had, by the printed map and by the printed passwd and group, and those of
+/// any other host have these names or their old owners. So have those of any tree that is safe and in step at the end of its
+/// printed plan these names.
 pub fn runs_keep_names()
     ensures runs { RunsKeepNames }
     ensures trees { DoneKeepsPrintedNames }
