@@ -9,8 +9,9 @@ use reown_plan::Owner;
 pub struct DeviceFault;
 
 /// A tree of files with owners and a mark, on a device whose calls may fail and which a stop may cut off: until a sync, a
-/// stop leaves in each cell by itself what was written or what was there before (chown(2), fsync(2)). What a call costs is
-/// for the tree to say.
+/// stop leaves in each cell by itself what was written or what was there before (chown(2), fsync(2)). A stop inside a call
+/// leaves what one behind it would where the call has failed: its write or sync has happened or not, and no other. What a
+/// call costs is for the tree to say.
 pub trait Tree {
     /// What is known of it.
     ghost known: { Self → TreeData };
