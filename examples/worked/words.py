@@ -82,7 +82,7 @@ def merged_by_words(program, bundle):
 def accounts_in(text):
     """The lines of a passwd or a group, each with its fields, where it is that of an account."""
     for line in text.split("\n"):
-        yield line, None if not line.strip(" \t\r\v\f") or line.startswith("#") else line.split(":")
+        yield line, None if not line.strip(" \t") or line.startswith("#") else line.split(":")
 
 
 def own_files(texts, users, groups):

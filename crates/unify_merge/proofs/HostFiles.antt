@@ -1,6 +1,6 @@
 -- Each host's own files, one host after the other.
-use Rattle.std.proofs.Common.{◌≡◌, ◌+◌, ◌++◌, ◌∷◌, [], ℕ, zero, suc, List, map, take, drop, None, Some, Result, Ok, Err, refl, sym, ap, ◌∙◌, append_assoc, append-nil}
-use Rattle.std.specs.Prelude.{OnOk, codes}
+use Rattle.std.proofs.Common.{◌≡◌, ◌++◌, ◌∷◌, [], ℕ, zero, suc, List, map, take, drop, None, Some, Result, Ok, Err, refl, sym, ap, ◌∙◌, append_assoc, append-nil}
+use Rattle.std.specs.Prelude.{OnOk}
 use Rattle.std.specs.List.{slice_get}
 use Rattle.std.proofs.lemmas.List.{map-append}
 use Rattle.hosts_join.specs.Site.{Joined}
@@ -54,7 +54,7 @@ module _ (site : Joined) (m : Mappings) where
   no_hosts hosts (t ∷ texts) = refl
 
   pub host_files_more : (texts : List HostText) (hosts : List Host) (k : ℕ) (text : HostText) (host : Host) → slice_get texts k ≡ Some text → slice_get hosts k ≡ Some host
-      → host_files site m (take (k + 1) texts) hosts ≡ host_files site m (take k texts) hosts ++ (passwd_file host site m text ∷ group_file site m text ∷ [])
+      → host_files site m (take (suc k) texts) hosts ≡ host_files site m (take k texts) hosts ++ (passwd_file host site m text ∷ group_file site m text ∷ [])
   host_files_more [] hosts k text host at there = absurd (cc)
   host_files_more (t ∷ texts) [] k text host at there = absurd (cc)
   host_files_more (t ∷ texts) (h ∷ hosts) zero text host at there =
@@ -63,7 +63,7 @@ module _ (site : Joined) (m : Mappings) where
       ap (λ fs. both h t ++ fs) (no_hosts hosts texts) ∙ (λ j. both (same_host j) (same_text j))
   host_files_more (t ∷ texts) (h ∷ hosts) (suc k) text host at there = ap (λ fs. both h t ++ fs) (host_files_more texts hosts k text host at there)
 
-pub host_names_more : (texts : List HostText) (k : ℕ) (text : HostText) → slice_get texts k ≡ Some text → host_names (take (k + 1) texts) ≡ host_names (take k texts) ++ own_names text
+pub host_names_more : (texts : List HostText) (k : ℕ) (text : HostText) → slice_get texts k ≡ Some text → host_names (take (suc k) texts) ≡ host_names (take k texts) ++ own_names text
 host_names_more [] k text at = absurd (cc)
 host_names_more (t ∷ texts) zero text at =
     let same : t ≡ text = some_same t text at in

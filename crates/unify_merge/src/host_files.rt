@@ -8,7 +8,7 @@ ghost use Rattle.unify_merge.specs.HostFiles.{HasFiles, StopsWriting, group_file
 
 use crate::fault::MergeFault;
 use crate::files::MergeFiles;
-use crate::writing::write_file;
+use crate::whole_file::write_file;
 use hosts_join::HostText;
 use std::alloc::{AllocError, Global};
 use unify::Solved;

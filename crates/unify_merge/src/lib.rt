@@ -10,7 +10,7 @@ mod log;
 mod merge;
 mod pieces;
 mod second_reading;
-mod writing;
+mod whole_file;
 
 pub use check::check_files;
 pub use fault::MergeFault;

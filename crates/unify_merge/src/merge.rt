@@ -17,7 +17,7 @@ use crate::files::{CallFailed, MergeFiles};
 use crate::first_reading::count_hosts;
 use crate::host_files::write_hosts;
 use crate::second_reading::plan_hosts;
-use crate::writing::write_file;
+use crate::whole_file::write_file;
 use hosts_join::HostText;
 use std::alloc::Global;
 use unify::{Cost, Counting, Outcome, Solved};

@@ -1,4 +1,4 @@
-use Rattle.std.proofs.Common.{◌≡◌, ◌++◌, ◌∷◌, [], suc, take, drop, Some, sym, ap, subst, ◌∙◌, arith, append_assoc, append-nil}
+use Rattle.std.proofs.Common.{◌≡◌, ◌+◌, ◌++◌, ◌∷◌, [], suc, take, drop, Some, sym, ap, subst, ◌∙◌, arith, append_assoc, append-nil}
 use Rattle.std.specs.List.{slice_get}
 use Rattle.std.proofs.lemmas.List.{take_all}
 use Rattle.std.proofs.lemmas.Option.{slice_get-get_or}
@@ -37,10 +37,13 @@ loop-index-preserved g c =
     let here = item_at v.hosts index (omega (arith, c.loop-index-test.true, c.requires.each)) in
     let both = passwd_file here.0 v.joined m text ∷ group_file v.joined m text ∷ [] in
     let written = c.in_ok-write_host.ensures.written here.0 here.1 in
+    let next : suc index ≡ index + 1 = omega arith in
+    let names = sym (host_names_more texts index text at) ∙ ap (λ i. host_names (take i texts)) next in
+    let files = sym (host_files_more v.joined m texts v.hosts index text here.0 at here.1) ∙ ap (λ i. host_files v.joined m (take i texts) v.hosts) next in
     record {
       clear = ap (λ (l : Ledger). l.is_clear) written ∙ inv.clear;
-      begun = ap (λ (l : Ledger). l.begun) written ∙ ap (λ ns. ns ++ own_names text) inv.begun ∙ append_assoc old.begun (host_names (take index texts)) (own_names text) ∙ ap (λ ns. old.begun ++ ns) (sym (host_names_more texts index text at));
-      written = subst (λ fs. HasFiles fs old new) (sym (host_files_more v.joined m texts v.hosts index text here.0 at here.1)) (more_written (host_files v.joined m (take index texts) v.hosts) both old mid new inv.written written);
+      begun = ap (λ (l : Ledger). l.begun) written ∙ ap (λ ns. ns ++ own_names text) inv.begun ∙ append_assoc old.begun (host_names (take index texts)) (own_names text) ∙ ap (λ ns. old.begun ++ ns) names;
+      written = subst (λ fs. HasFiles fs old new) files (more_written (host_files v.joined m (take index texts) v.hosts) both old mid new inv.written written);
     }
 
 pub returns-clause-written : goal.returns-clause-written

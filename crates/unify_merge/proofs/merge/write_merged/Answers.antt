@@ -1,8 +1,8 @@
-use Rattle.std.proofs.Common.{◌≡◌, ◌++◌, ◌∷◌, [], ℕ, List, length, map, refl, sym, ap, subst, ◌∙◌, append_assoc}
+use Rattle.std.proofs.Common.{◌≡◌, ◌++◌, ◌∷◌, [], length, map, sym, ap, subst, ◌∙◌, append_assoc}
 use Rattle.std.proofs.lemmas.Result.{err_from_is_err_and}
 use Rattle.unify.specs.Merging.{mappings_in}
 use Rattle.unify.specs.SecondPass.{SolvedValue}
-use Rattle.unify_merge.specs.Ledger.{HasBegun, Ledger, NamedText, after_files, cleared}
+use Rattle.unify_merge.specs.Ledger.{HasBegun, Ledger, after_files, cleared}
 use Rattle.unify_merge.specs.HostFiles.{HasFiles, host_files, host_names}
 use Rattle.unify_merge.specs.Merge.{first_files, first_names, names_before_report, report_file}
 use Rattle.unify_merge.specs.FirstReading.{readings_from}
@@ -11,8 +11,8 @@ use Rattle.unify_merge.proofs.Begun.{begun_all, begun_behind, begun_from, begun_
 use Rattle.unify_merge.proofs.WholeMerge.{merged_all, planning_same, writing_stopped}
 use Rattle.unify_merge.proofs.merge.write_merged.Goals as goal
 
-pub write_hosts-requires-each : goal.write_hosts-requires-each
-write_hosts-requires-each g c = c.requires.each ∙ ap (λ (v : SolvedValue). length v.hosts) (sym c.in_ok-plan_hosts.ensures.site)
+pub write_hosts-requires-clause-each : goal.write_hosts-requires-clause-each
+write_hosts-requires-clause-each g c = c.requires.each ∙ ap (λ (v : SolvedValue). length v.hosts) (sym c.in_ok-plan_hosts.ensures.site)
 
 pub returns-in_err-plan_hosts-clause-stopped : goal.returns-in_err-plan_hosts-clause-stopped
 returns-in_err-plan_hosts-clause-stopped g c =
