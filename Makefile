@@ -40,7 +40,8 @@ try:
 demo-proved: program
 	@rm -rf $(DEMO) && mkdir -p $(DEMO)
 	@./$(PROGRAM) merge $(DEMO) $(OFFICE)
-	@for file in passwd group map certificate report plan.amber plan.basalt; do \
+	@for file in passwd group map certificate report plan.amber plan.basalt \
+		passwd.amber group.amber passwd.basalt group.basalt; do \
 		echo; echo "$(DEMO)/$$file:"; cat $(DEMO)/$$file; done
 
 test:

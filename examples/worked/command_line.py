@@ -206,7 +206,7 @@ TABLE = [
 ]
 # Words that have an answer for standard output, which is full.
 UNWRITTEN = ["count map a b", "merge -q out a b", "check good a b", "rehearse plan b/mtree", "--help", "--version"]
-MERGED = {"passwd", "group", "map", "certificate", "report", "plan.a", "plan.b"}
+MERGED = {"passwd", "group", "map", "certificate", "report", *(f"{file}.{host}" for file in ("plan", "passwd", "group") for host in "ab")}
 
 
 def lay_out(room):

@@ -233,24 +233,29 @@ def compare_words(program, bundles):
         bundle = Bundle(text)
         status, answer = answered(program, text)
         if status != 2 and bundle.is_for_words():
-            want(f"{name}, by words", merged_by_bundle(status, answer), merged_by_words(program, bundle))
+            want(f"{name}, by words", merged_by_bundle(status, answer, bundle), merged_by_words(program, bundle))
             compared += 1
     return compared
 
 
 def compare_inventories(program):
-    """Inventories by words: those of texts.py, and one of a host whose texts all end without a newline."""
+    """Inventories by words: those of texts.py, and one of a host whose texts all end without a newline, as its own new files do
+    then."""
     for name, inventory, told in inventories():
         want(name, told_of(told), read_by_words(program, inventory))
     nested = read(FOLDER / "merge/nested-inventory.bundle")
     whole, cut = (merged_by_words(program, bundle) for bundle in (Bundle(nested), without_last_newlines(nested)))
+    for name in whole[3]:
+        if name.startswith(("passwd.", "group.")):
+            cut[3][name] += "\n"
     want("lines-split", whole, cut)
 
 
 def left_by_stop(files, hosts):
     """What a merge leaves that stops where it writes the plan of the first of these hosts, the others being the later ones."""
     lost = {"report", *(f"plan.{name}" for name, _ in hosts)}
-    return {name: text for name, text in files.items() if name not in lost} | {".unify-merge": ""}
+    kept = {name: text for name, text in files.items() if name not in lost and not name.startswith(("passwd.", "group."))}
+    return kept | {".unify-merge": ""}
 
 
 def compare_changing(program):
@@ -275,10 +280,12 @@ def compare_changing(program):
 
 
 def compare_gone(program):
-    """An inventory that is gone when it is to be read for the second time, where an earlier merge was written: of its plans none
-    is left."""
+    """An inventory that is gone when it is to be read for the second time, where an earlier merge was written: of its plans and
+    of what it wrote for each host none is left."""
     bundle = Bundle(read(FOLDER / "merge/two-names-one-number.bundle") + "host c\n")
-    older = {f"plan.{name}": f"unify plan 1 {name}\n1 1 2 2 5 older\nend\n" for name, _ in [*bundle.hosts, ("d", {})]}
+    names = [name for name, _ in bundle.hosts] + ["d"]
+    older = {f"plan.{name}": f"unify plan 1 {name}\n1 1 2 2 5 older\nend\n" for name in names}
+    older |= {f"{file}.{name}": "older\n" for file in ("passwd", "group") for name in names}
     older["report"] = "unify report 2\n"
     *_, files = merged_by_words(program, bundle)
     came = merged_while_changing(program, bundle, 1, None, older)

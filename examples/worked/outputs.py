@@ -7,8 +7,8 @@
                                                         and while one takes the place of an earlier one
 
 A stop is a SIGKILL that strace sends when the program makes a system call; without strace the program is killed after times
-that grow. After each, every file is whole: as it was before or as the merge makes it; no plan stands beside the map of another
-merge; a report stands only where all files are those of one merge; and the merge made again gives what it gives without a stop.
+that grow. After each, every file is whole: as it was before or as the merge makes it; no file of a host stands beside the map of
+another merge; a report stands only where all files are those of one merge; and the merge made again gives what it gives without a stop.
 
 Prints the first difference and ends with status 1 there.
 """
@@ -24,11 +24,18 @@ import time
 STORED = pathlib.Path(__file__).resolve().parents[1] / "stored-count"
 MARK, TEMPORARY = ".unify-merge", ".unify-new."
 ORDER = ["passwd", "group", "map", "certificate"]
+# Those of each host, in the order in which a merge writes them.
+OF_HOSTS = ["plan", "passwd", "group"]
 # The system calls that change files or what is on a disk, as strace names them.
 CHANGING = "openat,write,fsync,rename,unlink"
 # A stop at each of the first calls and then at every seventh is a few seconds' work.
 STEP = 7
 LEAST_STOPS = 6
+
+
+def of_hosts(*hosts):
+    """The names of the files of hosts."""
+    return [f"{file}.{host}" for file in OF_HOSTS for host in hosts]
 
 
 def fail(name, what):
@@ -97,6 +104,8 @@ REFUSED = [
     ("somebody's report", "echo report > out/report", "out a b", "out: " + FOREIGN("report")),
     ("passwd and somebody's report", "touch out/passwd; echo report > out/report", "out a b", "out: " + FOREIGN("passwd")),
     ("somebody's plan", "echo plan > out/plan.md", "out a b", "out: " + FOREIGN("plan.md")),
+    ("somebody's old passwd", "touch out/passwd.old", "out a b", "out: " + FOREIGN("passwd.old")),
+    ("somebody's old group", "ln -s nowhere out/group.old", "out a b", "out: " + FOREIGN("group.old")),
     ("a folder as report", "mkdir out/report", "out a b", "out: " + FOREIGN("report")),
     ("an empty word", "", " a b", "-: an empty word"),
     ("an empty word behind -o", "", "-o  a b", "-: an empty word"),
@@ -115,21 +124,22 @@ def refused(room, name, change, words, told):
 
 
 def replaced(room):
-    """A merge takes the place of an earlier one, of which no plan stays; what is somebody else's stays. The earlier map gives
-    the pins."""
+    """A merge takes the place of an earlier one, of which no file of a host stays; what is somebody else's stays. The earlier map
+    gives the pins."""
     earlier = room.merge("out", "a", "b", "c")
-    want("a merge", {*ORDER, "report", "plan.a", "plan.b", "plan.c"}, set(earlier))
-    for name in ("notes", "plan.md"):
+    want("a merge", {*ORDER, "report", *of_hosts("a", "b", "c")}, set(earlier))
+    mine = ["notes", "plan.md", "passwd.old", "group.md"]
+    for name in mine:
         (room.out / name).write_text("mine\n")
     later = room.merge("--pins", "out/map", "-o", "out", "a/", "./b")
-    want("a second merge", {*ORDER, "report", "plan.a", "plan.b", "notes", "plan.md"}, set(later))
-    want("what is not the merge's", (b"mine\n", b"mine\n"), (later["notes"], later["plan.md"]))
+    want("a second merge", {*ORDER, "report", *of_hosts("a", "b"), *mine}, set(later))
+    want("what is not the merge's", [b"mine\n"] * len(mine), [later[name] for name in mine])
     fresh = room.path / "fresh"
     fresh.mkdir()
     (fresh / "map").write_bytes(earlier["map"])
     pins = str((fresh / "map").rename(room.path / "earlier"))
     room.merge("--pins", pins, "fresh", "a", "b")
-    for name in ("notes", "plan.md"):
+    for name in mine:
         del later[name]
     want("a second merge, by the same pins", contents(fresh), later)
 
@@ -185,7 +195,7 @@ def planted(room, name, link):
     link(victim, room.out / name)
     merged = room.merge("out", "a", "b")
     want(f"a link at {name}: what it leads to", "mine\n", victim.read_text())
-    want(f"a link at {name}: the merge", {*ORDER, "report", "plan.a", "plan.b"}, set(merged))
+    want(f"a link at {name}: the merge", {*ORDER, "report", *of_hosts("a", "b")}, set(merged))
     want(f"a link at {name}: other links", False, any(path.is_symlink() for path in room.out.iterdir()))
     want(f"a link at {name}: other names", {1}, {path.stat().st_nlink for path in room.out.iterdir()})
 
@@ -194,9 +204,9 @@ def links(program):
     """Links to a file of somebody's, in a directory that is new where that is accepted, and else in one that has a merge."""
     makes = [lambda victim, name: name.symlink_to(victim), lambda victim, name: name.hardlink_to(victim)]
     for link in makes:
-        for file in [*ORDER, "report", "plan.a", "plan.b"]:
+        for file in [*ORDER, "report", *of_hosts("a", "b")]:
             in_room(program, lambda room: planted(room, TEMPORARY + file, link))
-        for file in [*ORDER, "plan.b", MARK, TEMPORARY + "passwd"]:
+        for file in [*ORDER, *of_hosts("b"), MARK, TEMPORARY + "passwd"]:
             in_room(program, lambda room: (room.merge("out", "a", "b"), planted(room, file, link)))
 
 
@@ -241,15 +251,17 @@ def full_disk(program):
 
 
 def whole(name, merges, came):
-    """Every file is that of one of these merges; no plan stands beside the map of another one; and a report stands only where
-    all files are those of its merge."""
+    """Every file is that of one of these merges; no file of a host stands beside the map of another one, nor without its plan; and
+    a report stands only where all files are those of its merge."""
     ours = {file: text for file, text in came.items() if not file.startswith(".")}
     for file, text in ours.items():
         want(f"{name}: {file}", True, text in [merge.get(file) for merge in merges])
-    plans = [file for file in ours if file.startswith("plan.")]
+    theirs = [file for file in ours if "." in file]
     mapped = [merge for merge in merges if "map" in ours and merge.get("map") == ours["map"]]
-    if plans and not any(all(merge.get(plan) == ours[plan] for plan in plans) for merge in mapped):
-        fail(name, f"plans {plans} beside the map of another merge")
+    if theirs and not any(all(merge.get(file) == ours[file] for file in theirs) for merge in mapped):
+        fail(name, f"{theirs} beside the map of another merge")
+    if lost := {f"plan.{file.partition('.')[2]}" for file in theirs} - set(ours):
+        fail(name, f"files of hosts without {lost}")
     if "report" in ours and ours not in [merge for merge in merges if merge]:
         fail(name, "a report beside files that are not those of its merge")
 
@@ -281,7 +293,7 @@ def stopped(room, step):
     earlier = room.merge("--pins", other_pins(room), "out", "b", "c", "a")
     laid(room.out, {})
     merged = room.merge("out", "a", "b")
-    want("two merges that differ", [], [name for name in ("passwd", "map", "plan.a", "report") if merged[name] == earlier[name]])
+    want("two merges that differ", [], [name for name in ("passwd", "map", "plan.a", "passwd.a", "report") if merged[name] == earlier[name]])
     number = 0
     for older in ({}, earlier):
         laid(room.out, older)

@@ -79,11 +79,34 @@ def merged_by_words(program, bundle):
         return merged(program, room, bundle.lay_out(room))
 
 
-def merged_by_bundle(status, answer):
-    """The same, of the answer to the bundle: what is told stands in the report, and a refusal goes to standard error."""
+def accounts_in(text):
+    """The lines of a passwd or a group, each with its fields, where it is that of an account."""
+    for line in text.split("\n"):
+        yield line, None if not line.strip(" \t") or line.startswith("#") else line.split(":")
+
+
+def own_files(texts, users, groups):
+    """A host's own passwd and group with the numbers of a map, given by name."""
+    named = {int(fields[2]): fields[0] for _, fields in reversed([*accounts_in(texts.get("group", ""))]) if fields}
+    passwd, group = [], []
+    for line, fields in accounts_in(texts.get("passwd", "")):
+        passwd.append(":".join([*fields[:2], users[fields[0]], groups[named[int(fields[3])]], *fields[4:]]) if fields else line)
+    for line, fields in accounts_in(texts.get("group", "")):
+        group.append(":".join([*fields[:2], groups[fields[0]], *fields[3:]]) if fields else line)
+    return "\n".join(passwd), "\n".join(group)
+
+
+def merged_by_bundle(status, answer, bundle):
+    """The same, of the answer to the bundle: what is told stands in the report, and a refusal goes to standard error. Each host's
+    own files are made here by the map that was answered."""
     if status != 0:
         return status, "", answer, {}
     files = texts_of(answer.split("\n")[:-1])
+    rows = [line.rsplit(" ", 1) for line in files["map"].split("\n")[:-1]]
+    numbers = {key: number for key, number in rows}
+    users, groups = ({key.partition(" ")[2]: number for key, number in numbers.items() if key.startswith(kind)} for kind in ("user ", "group "))
+    for name, texts in bundle.hosts:
+        files[f"passwd.{name}"], files[f"group.{name}"] = own_files(texts, users, groups)
     changed = re.findall(r"^(user|group)-fields (\d+) of", files["report"], re.M)
     return status, "".join(f"{kind}-fields {number}\n" for kind, number in changed), "", files
 

@@ -15,7 +15,7 @@ use Rattle.hosts_join.specs.Rules.{account, is_name}
 use Rattle.hosts_join.specs.declared.host.Host.{Host}
 use Rattle.hosts_join.proofs.Grouping.{bytes_same}
 use Rattle.hosts_join.proofs.Pairing.{place-holds}
-use Rattle.ownership.specs.Mappings.{Mappings, number_at}
+use Rattle.ownership.specs.Mappings.{IsAdmissible, Mappings, number_at}
 use Rattle.mergedfiles.specs.ReadBack.{WasRead, IsNumbered, HasNumber, IsMergedUser, IsMergedGroup, IsMergedPasswd, IsMergedGroupFile}
 use Rattle.mergedfiles.proofs.ReadUsers.{passwd_reads_back}
 use Rattle.mergedfiles.proofs.ReadGroups.{group_reads_back}
@@ -51,7 +51,7 @@ some-place n (x ∷ names) e = elim (cases_Bool (bytes_eq n x.name)) [
 
 module _ (a : Accounts) (m : List ℕ) (pairs : List Pair) (say : SayMapping a m pairs) where
   -- a pair is a name with its number
-  paired : (n : List ℕ) (v : ℕ) → number_of pairs n ≡ Some v → HasNumber a m n v
+  pub paired : (n : List ℕ) (v : ℕ) → number_of pairs n ≡ Some v → HasNumber a m n v
   paired n v e =
       let at = some-place n a.names (sym (say.names n) ∙ ap is_some e) in
       let here = place-holds (λ (x : Account). bytes_eq n x.name) a.names at.0 nobody at.1 in
@@ -82,11 +82,10 @@ module _ {Row : Type 0} (name : Row → List ℕ) (number : Row → ℕ) (a : Ac
 -- ---- the files of a merge
 
 -- what is read back asks for
-numbered : (site : WholeSite) (outcome : Outcome) → IsWhole site → (o : IsOutcome site outcome) → IsNumbered (hosts_in site) site.joined o.mappings
-numbered site outcome whole o =
-    let m = o.mappings in
-    let users = is_mapping site.joined.users m.users whole.lawful.users o.answered.least.admissible.users in
-    let groups = is_mapping site.joined.groups m.groups whole.lawful.groups o.answered.least.admissible.groups in
+pub numbered : (site : WholeSite) (m : Mappings) → IsWhole site → IsAdmissible site.joined.users m.users → IsAdmissible site.joined.groups m.groups → IsNumbered (hosts_in site) site.joined m
+numbered site m whole by_user by_group =
+    let users = is_mapping site.joined.users m.users whole.lawful.users by_user in
+    let groups = is_mapping site.joined.groups m.groups whole.lawful.groups by_group in
     record {
       read = hosts-were-read site whole;
       joined = whole.together;
@@ -102,7 +101,8 @@ pub are_installed : (site : WholeSite) (outcome : Outcome) → IsWhole site → 
     → AreInstalled site outcome o.mappings printed
 are_installed site outcome whole o printed say_users say_groups =
     let m = o.mappings in
-    let is = numbered site outcome whole o in
+    let ok = o.answered.least.admissible in
+    let is = numbered site m whole ok.users ok.groups in
     let passwd : IsMergedPasswd (hosts_in site) site.joined m outcome.passwd = subst (IsMergedPasswd (hosts_in site) site.joined m) (sym o.printed.passwd) (passwd_reads_back (hosts_in site) site.joined m is) in
     let group : IsMergedGroupFile (hosts_in site) site.joined m outcome.group = subst (IsMergedGroupFile (hosts_in site) site.joined m) (sym o.printed.group) (group_reads_back (hosts_in site) site.joined m is) in
     record {

@@ -101,6 +101,20 @@ host-read text loaded h =
       primary = site_ok (primary_checked made) primary.0 primary.1;
     })
 
+-- its tables are those of its texts
+pub tables-of : (text : HostText) (loaded : Loaded) → host_of text ≡ Ok loaded → (passwd_table text.passwd ≡ Ok loaded.host.users) × (group_table text.group ≡ Ok loaded.host.groups)
+unfolding host_of
+tables-of text loaded h =
+    let ranges = bind_ok (in_file text.name file.LoginDefs (ranges_of text.logindefs)) _ loaded h in
+    let users = bind_ok (in_file text.name file.Passwd (passwd_table text.passwd)) _ loaded ranges.2 in
+    let groups = bind_ok (in_file text.name file.Group (group_table text.group)) _ loaded users.2 in
+    let made : Host = record { name = text.name; ranges = ranges.0; users = users.0; groups = groups.0 } in
+    let primary = bind_ok (in_site (primary_checked made)) _ loaded groups.2 in
+    let same = ok_same (record { host = made; mtree = text.mtree }) loaded primary.2 in (
+      file_ok text.name file.Passwd (passwd_table text.passwd) users.0 users.1 ∙ ap (λ (l : Loaded). Ok l.host.users) same,
+      file_ok text.name file.Group (group_table text.group) groups.0 groups.1 ∙ ap (λ (l : Loaded). Ok l.host.groups) same,
+    )
+
 -- a host that was loaded has the name and the inventory of its texts
 pub as_loaded : (text : HostText) (loaded : Loaded) → host_of text ≡ Ok loaded → (text.name ≡ loaded.host.name) × (text.mtree ≡ loaded.mtree)
 unfolding host_of

@@ -133,7 +133,7 @@ module _ (first : WholeSite) (whole : IsWhole first) (hosts : List (Host × List
       subst (λ (p : Host × List Entry). IsReadHost first.joined h p.0 p.1) pair
       (read-host first.joined h (record { host = at.0.0; mtree = now.0 }) now.1 (filed at.0.0 now.0 now.1 now.2) (was.named, was.read, was.lawful, was.known))
 
-  still_whole : IsWhole last
+  pub still_whole : IsWhole last
   still_whole = record {
     few_hosts = subst (λ n. n ≤ 64) (sym again.one_each) whole.few_hosts;
     each_host = read_host;

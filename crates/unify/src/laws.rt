@@ -2,6 +2,7 @@
 ghost use Rattle.unify.specs.Laws.{OwnersAgree, ReadSitesAreWhole, EmptyPinsAreNone, PassesReadTheSite, CostsAgree};
 ghost use Rattle.unify.specs.Believed.{OutcomesAreBelieved, DoneKeepsPrintedNames, RunsKeepNames, NumbersTellNames};
 ghost use Rattle.unify.specs.TwoPasses.{TwoPassesAreBelieved, SecondReadingIsBelieved, SecondReadingIsRight};
+ghost use Rattle.unify.specs.HostTexts.{HostsKeepOwnFiles, TablesAreOfTexts};
 ghost use Rattle.unify.specs.Agreeing.{PrintedCertificatesAreAccepted, PrintedMapsAreCounted, NoMapRewritesFewer, PrintedPlansAreRehearsed};
 
 /// Every site that was read is whole: it has at most 64 hosts, whose names are lawful, whose tables are those of a passwd
@@ -64,6 +65,14 @@ pub fn two_passes_are_believed()
 pub fn second_reading_is_believed()
     ensures right { SecondReadingIsRight }
     ensures believed { SecondReadingIsBelieved }
+{}
+
+/// Where what was merged has the headline, each host's own passwd and group with their new numbers are, line by line, those of
+/// the host but for the numbers; and what the headline says of the host's plan holds with these two in place of the merged
+/// ones. The texts are those that the tables of the hosts were read from, each at the index of its host.
+pub fn hosts_keep_own_files()
+    ensures keep { HostsKeepOwnFiles }
+    ensures texts { TablesAreOfTexts }
 {}
 
 /// The cost of a map by its pairs and each host's own tables, which `count` answers, is that of its mappings by the

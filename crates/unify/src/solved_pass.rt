@@ -9,7 +9,8 @@ use crate::plan_turn::{PlanTurn, Stop, feed_plan, finish_plan, next_turn};
 use crate::row_files::RowFiles;
 use hosts_join::{Host, Site};
 use idtext::Name;
-use std::alloc::Global;
+use mergedfiles::{host_group_text, host_passwd_text};
+use std::alloc::{AllocError, Global};
 use std::marker::Model;
 use unify_texts::Fault;
 
@@ -49,10 +50,11 @@ fn stopped<'a>(host: &Host<'a>, stop: Stop) -> Fault<'a>
 }
 
 impl<'a> Solved<'a> {
-    ghost use Rattle.std.specs.Prelude.{◌≡◌, ◌+◌, ◌-◌, ◌<◌, ◌≤◌, ◌++◌, [], ℕ, length, true, Ok, Err, Some, IfSome, IfErr, OnOk, MatchResult, slice_get};
+    ghost use Rattle.std.specs.Prelude.{◌≡◌, ◌+◌, ◌-◌, ◌<◌, ◌≤◌, ◌++◌, [], ℕ, length, true, Ok, Err, Some, IfSome, IfOk, IfErr, OnOk, MatchResult, slice_get};
     ghost use Rattle.idtext.specs.First.{Gives};
     ghost use Rattle.mtree_inv.specs.declared.entry.Entry.{Entry};
     ghost use Rattle.hosts_join.specs.declared.host.Host.{Host};
+    ghost use Rattle.mergedfiles.specs.HostFiles.{host_groups, host_users};
     ghost use Rattle.unify_texts.specs.Told.{told};
     ghost use Rattle.unify_texts.specs.declared.fault.Fault.TheVariants.{InventoryChanged};
     ghost use Rattle.unify.specs.Passes.{is_read};
@@ -150,6 +152,45 @@ impl<'a> Solved<'a> {
         }
         self.ended = next;
         Ok(())
+    }
+
+    /// A host's own passwd with its new numbers, of the text that its table was read from: in the line of each user the
+    /// uid is the new number of its name and the gid that of its primary group, and every other byte is as it was. Of any
+    /// other text the uid of a name that no host has stays, and so does a gid that is of no group of the host. Asked is that
+    /// there is a host with the index.
+    ///
+    /// One pass over the text, with three look-ups by hash for each user. Memory for the new text alone.
+    ///
+    /// # Errors
+    ///
+    /// `AllocError` where memory is refused.
+    pub fn host_passwd(&self, index: usize, text: &[u8]) -> Result<Vec<u8>, AllocError>
+        requires within { index < length self.now.hosts }
+        ensures { IfOk result (λ new. (host : Host) → slice_get self.now.hosts index ≡ Some host → new.items ≡ host_users host self.now.joined self.now.merged.users self.now.merged.groups text.now) }
+    {
+        host_passwd_text(
+            self.alloc,
+            text,
+            &self.hosts[index],
+            &self.site,
+            &self.merged.users,
+            &self.merged.groups,
+        )
+    }
+
+    /// A host's own group with its new numbers, of the text that its table was read from: in the line of each group the gid
+    /// is the new number of its name, and every other byte is as it was. Of any other text the gid of a name that no host has
+    /// stays.
+    ///
+    /// One pass over the text, with one look-up by hash for each group. Memory for the new text alone.
+    ///
+    /// # Errors
+    ///
+    /// `AllocError` where memory is refused.
+    pub fn host_group(&self, text: &[u8]) -> Result<Vec<u8>, AllocError>
+        ensures { IfOk result (λ new. new.items ≡ host_groups self.now.joined self.now.merged.groups text.now) }
+    {
+        host_group_text(self.alloc, text, &self.site, &self.merged.groups)
     }
 
     /// How many hosts' inventories have not been ended a second time. No cost.

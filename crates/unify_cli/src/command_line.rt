@@ -63,7 +63,7 @@ fn out<'a>(alloc: Global) -> Result<Arg<'a>, AllocError> {
     unless_output(word(
         alloc,
         "OUT",
-        "the existing directory to write passwd, group, map, certificate, report and plan.NAME into",
+        "the existing directory to write the merged files and those of each host into",
     ))
 }
 

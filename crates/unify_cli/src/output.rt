@@ -17,6 +17,11 @@ pub const TEMPORARY: &str = ".unify-new.";
 /// How the names of plans begin.
 pub const PLAN: &str = "plan.";
 
+/// How the names of each host's own passwd and group begin.
+pub const OWN_PASSWD: &str = "passwd.";
+
+pub const OWN_GROUP: &str = "group.";
+
 /// Why nothing is written into a directory.
 #[derive(Clone, Copy)]
 pub enum OutputFault<'a> {
@@ -46,7 +51,7 @@ impl OutputFault<'_> {
 // Files that directories of hosts hold, and no merge writes.
 const HOST_FILES: [&str; 3] = ["mtree", "login.defs", "shadow"];
 
-// Files that a merge writes, but for the plans.
+// Files that a merge writes, but for those of each host.
 const MERGED_FILES: [&str; 5] = ["passwd", "group", "map", "certificate", "report"];
 
 // The host whose directory it is, among those that words name.
@@ -155,15 +160,23 @@ fn was_merged_into(rt: &HostRuntime, directory: &str) -> Result<bool, FileFault>
     is_file_with(rt, report.as_str(), b"unify report ")
 }
 
+// Refuses a directory that holds names that begin as those of the files of hosts do.
+fn refuse_names_with(rt: &HostRuntime, directory: &str, start: &str) -> Result<(), FileFault> {
+    match names_with(rt, directory, start)?.last() {
+        None => Ok(()),
+        Some(name) => Err(output_refused(rt, directory, OutputFault::Foreign(name.as_str()))),
+    }
+}
+
 // Refuses a directory that holds something that stands in the way of a first merge.
 fn refuse_foreign(rt: &HostRuntime, directory: &str) -> Result<(), FileFault> {
     if let Some(name) = first_held(rt, directory, &MERGED_FILES)? {
         return Err(output_refused(rt, directory, OutputFault::Foreign(name)));
     }
-    match names_with(rt, directory, PLAN)?.last() {
-        None => Ok(()),
-        Some(name) => Err(output_refused(rt, directory, OutputFault::Foreign(name.as_str()))),
+    for start in &[PLAN, OWN_PASSWD, OWN_GROUP] {
+        refuse_names_with(rt, directory, *start)?;
     }
+    Ok(())
 }
 
 // Refuses a directory that holds what no merge may change.

@@ -2,7 +2,7 @@
 //! a report stands only where all others are those of its merge.
 
 use crate::files::{FileFault, host_name};
-use crate::output::{MARK, PLAN, TEMPORARY, is_file_with, names_with};
+use crate::output::{MARK, OWN_GROUP, OWN_PASSWD, PLAN, TEMPORARY, is_file_with, names_with};
 use crate::report::file_failed;
 use std::fs::File;
 use std::io::Write;
@@ -111,30 +111,36 @@ fn mark(rt: &HostRuntime, directory: &str) -> Result<(), FileFault> {
     }
 }
 
-// Whether the plan of that name is one of the hosts that words name.
-fn is_planned(name: &str, words: &[&str]) -> bool {
-    let host = name.strip_prefix(PLAN);
-    words.iter().any(|word| host == Some(host_name(*word)))
+// Whether a merge wrote a plan for the host of that name.
+fn has_plan(rt: &HostRuntime, directory: &str, host: &str) -> Result<bool, FileFault> {
+    let mut name = String::from_str(rt.alloc(), PLAN)?;
+    name.push_str(host)?;
+    let path = Path::new(directory).join(rt.alloc(), name.as_str())?;
+    is_file_with(rt, path.as_str(), b"unify plan ")
 }
 
-// Removes what has the name of a plan, if it is a plan or one will stand there.
-fn remove_plan(
+// Removes what has the name of a file of a host, if a merge wrote a plan for this host or one will.
+fn remove_of_host(
     rt: &HostRuntime,
     directory: &str,
     name: &str,
+    start: &str,
     words: &[&str],
 ) -> Result<(), FileFault> {
-    let path = Path::new(directory).join(rt.alloc(), name)?;
-    if is_planned(name, words) || is_file_with(rt, path.as_str(), b"unify plan ")? {
+    let host = name.strip_prefix(start).unwrap_or("");
+    if words.iter().any(|word| host_name(*word) == host) || has_plan(rt, directory, host)? {
         remove(rt, directory, name)?;
     }
     Ok(())
 }
 
-// Removes the plans of an earlier merge, also those of hosts that are no more.
-fn remove_plans(rt: &HostRuntime, directory: &str, words: &[&str]) -> Result<(), FileFault> {
-    for name in &names_with(rt, directory, PLAN)? {
-        remove_plan(rt, directory, name.as_str(), words)?;
+// Removes the files of hosts that an earlier merge wrote, also those of hosts that are no more. The plans go last, since
+// they tell whose the others are.
+fn remove_of_hosts(rt: &HostRuntime, directory: &str, words: &[&str]) -> Result<(), FileFault> {
+    for start in &[OWN_PASSWD, OWN_GROUP, PLAN] {
+        for name in &names_with(rt, directory, *start)? {
+            remove_of_host(rt, directory, name.as_str(), *start, words)?;
+        }
     }
     Ok(())
 }
@@ -147,12 +153,12 @@ fn remove_temporary(rt: &HostRuntime, directory: &str) -> Result<(), FileFault> 
     Ok(())
 }
 
-/// Begins to write a merge of the hosts that words name into a directory: the report and the plans of an earlier merge go
-/// before any of its other files does, and the directory has a mark until the new report stands.
+/// Begins to write a merge of the hosts that words name into a directory: the report, the hosts' own files and the plans of an
+/// earlier merge go before any of its other files does, and the directory has a mark until the new report stands.
 pub fn begin(rt: &HostRuntime, directory: &str, words: &[&str]) -> Result<(), FileFault> {
     mark(rt, directory)?;
     remove(rt, directory, "report")?;
-    remove_plans(rt, directory, words)?;
+    remove_of_hosts(rt, directory, words)?;
     remove_temporary(rt, directory)?;
     sync_directory(rt, directory)
 }

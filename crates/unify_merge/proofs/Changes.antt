@@ -1,5 +1,5 @@
 -- Why a second reading of an inventory ended early.
-use Rattle.std.proofs.Common.{◌≡◌, ◌+◌, ◌<◌, ◌++◌, ℕ, Bool, List, length, Result, Ok, Err, ap, inl, inr}
+use Rattle.std.proofs.Common.{◌≡◌, ◌+◌, ℕ, Bool, List, length, Result, Ok, Err, ap, inl, inr}
 use Rattle.std.specs.Prelude.{IfSome}
 use Rattle.mtree_inv.specs.declared.entry.Entry.{Entry}
 use Rattle.hosts_join.specs.declared.host.Host.{Host}

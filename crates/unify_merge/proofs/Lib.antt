@@ -3,6 +3,7 @@ pub mod Stops
 pub mod Readings
 pub mod Changes
 pub mod Writing
+pub mod HostFiles
 pub mod Planned
 pub mod AllPlanned
 pub mod WholeMerge

@@ -1,5 +1,5 @@
 -- Readings one after the other.
-use Rattle.std.proofs.Common.{◌≡◌, ◌+◌, ◌++◌, ◌∷◌, [], ℕ, Bool, List, length, Ok, Err, Some, refl, sym, ap, subst, ◌∙◌, arith, Result, append_assoc}
+use Rattle.std.proofs.Common.{◌≡◌, ◌+◌, ◌++◌, ◌∷◌, [], ℕ, Bool, List, length, Ok, Err, Some, sym, ap, subst, ◌∙◌, arith, Result, append_assoc}
 use Rattle.std.specs.Prelude.{IfErr, OnOk}
 use Rattle.std.specs.List.{slice_get}
 use Rattle.idtext.specs.First.{each}

@@ -1,28 +1,40 @@
 -- The files of a merge, and what it stops for.
-use Rattle.std.proofs.Common.{◌≡◌, ◌++◌, ◌∷◌, [], ℕ, Bool, List, length, Result, Ok, Err, sym, ap, subst, ◌∙◌, inl, inr}
+use Rattle.std.proofs.Common.{◌≡◌, ◌++◌, ◌∷◌, [], ℕ, Bool, List, length, map, Some, Result, Ok, Err, refl, sym, ap, subst, ◌∙◌, inl, inr}
 use Rattle.std.specs.Prelude.{IfOk}
+use Rattle.std.specs.List.{slice_get}
+use Rattle.std.specs.Option.{option_map}
+use Rattle.std.proofs.lemmas.Option.{slice_get-map}
 use Rattle.idtext.specs.First.{each}
+use Rattle.idtext.proofs.OkLemmas.{ok_same}
 use Rattle.mtree_inv.specs.declared.entry.Entry.{Entry}
 use Rattle.hosts_join.specs.Site.{Joined}
 use Rattle.hosts_join.specs.declared.host.Host.{Host}
 use Rattle.hosts_join.specs.declared.texts.HostText.{HostText}
+use Rattle.ownership.specs.Mappings.{Mappings}
+use Rattle.certcheck.specs.Check.{mappings_of}
+use Rattle.certcheck.specs.Reading.{certificate_in}
+use Rattle.certcheck.proofs.Spelled.{spelled_is_read}
 use Rattle.unify_texts.specs.Told.{told}
+use Rattle.unify_texts.specs.declared.fault.Fault.{Fault}
 use Rattle.unify.specs.declared.counting.Cost.{Cost}
+use Rattle.unify.specs.declared.merging.Merged.{Merged}
 use Rattle.unify.specs.declared.outcome.Outcome.{Outcome}
 use Rattle.unify.specs.Count.{site_of}
 use Rattle.unify.specs.Headline.{Headline}
 use Rattle.unify.specs.Laws.{IsWhole}
 use Rattle.unify.specs.Loading.{loaded_from}
-use Rattle.unify.specs.Merging.{IsMerged}
+use Rattle.unify.specs.Merging.{IsMerged, mappings_in}
 use Rattle.unify.specs.Outcomes.{IsOutcome}
 use Rattle.unify.specs.Passes.{BegunSite, CountingValue, IsAtStart, IsCounting, StandsFor, ended_in, site_begun}
 use Rattle.unify.specs.Reading.{WholeSite}
 use Rattle.unify.specs.SecondPass.{IsSolvedFrom, SolvedValue}
 use Rattle.unify.proofs.BetweenPasses.{over_whole}
-use Rattle.unify.proofs.SecondReading.{second_reading_is_believed, second_reading_is_right}
+use Rattle.unify.proofs.HostTexts.{hosts_keep_own_files, tables_are_of_texts}
+use Rattle.unify.proofs.SecondReading.{second_reading_is_believed, second_reading_is_right, still_whole}
 use Rattle.unify.proofs.Whole.{hosts_held}
 use Rattle.unify_merge.specs.Ledger.{Ledger, Reading, after_files, cleared}
 use Rattle.unify_merge.specs.FirstReading.{IsInventoryFault, ReadsOnly, StopsCounting, readings_from}
+use Rattle.unify_merge.specs.HostFiles.{HasFiles, StopsWriting, host_files}
 use Rattle.unify_merge.specs.SecondReading.{IsChangeFault, StopsPlanning, plan_files}
 use Rattle.unify_merge.specs.Merge.{HasMerged, HasSolved, HasWritten, StopsMerge, first_files, merged_files, report_file}
 use Rattle.unify_merge.specs.declared.fault.MergeFault.{MergeFault}
@@ -42,17 +54,27 @@ planning_same read old other new failed (Refused e) same stops = if_told (told e
   change = subst (λ (rs : List Reading). IsChangeFault is.host is.were (length is.texts) (rs ++ readings_from 0 is.texts) new f) same is.change;
 }) stops
 
--- the first files, the plans, and the report
-pub merged_all : (names : List HostText) (outcome : Outcome) (plans : List (List ℕ)) (old first mid new : Ledger) → first ≡ after_files (first_files outcome) (cleared old)
-    → mid ≡ record (after_files (plan_files names plans) first) { read = mid.read; reading = mid.reading; writing = mid.writing } → new ≡ after_files (report_file outcome ∷ []) mid
-    → new ≡ record (after_files (merged_files names (record outcome { plans = plans })) (cleared old)) { read = new.read; reading = new.reading; writing = new.writing }
-merged_all names outcome plans old first mid new one two three =
+-- the files of a host were not written, and so the merge ended early
+pub writing_stopped : (read : List (Host × List Entry)) (old new : Ledger) (failed : Bool) (fault : MergeFault) → StopsWriting failed fault → StopsPlanning read old new failed fault
+writing_stopped read old new failed Failed stops = stops
+writing_stopped read old new failed TooLarge stops = absurd stops
+writing_stopped read old new failed (Refused e) stops = subst (λ (x : Fault). StopsPlanning read old new failed (Refused x)) (sym stops) tt
+
+-- the first files, the plans, those of each host, and the report
+pub merged_all : (texts : List HostText) (begun : BegunSite) (m : Mappings) (outcome : Outcome) (plans : List (List ℕ)) (old first mid own new : Ledger) → first ≡ after_files (first_files outcome) (cleared old)
+    → mid ≡ record (after_files (plan_files texts plans) first) { read = mid.read; reading = mid.reading; writing = mid.writing } → HasFiles (host_files begun.joined m texts begun.hosts) mid own → new ≡ after_files (report_file outcome ∷ []) own
+    → new ≡ record (after_files (merged_files texts begun m (record outcome { plans = plans })) (cleared old)) { read = new.read; reading = new.reading; writing = new.writing }
+merged_all texts begun m outcome plans old first mid own new one two three four =
+    let hosts = host_files begun.joined m texts begun.hosts in
     let one_is : first ≡ record (after_files (first_files outcome) (cleared old)) { read = first.read; reading = first.reading; writing = first.writing } =
     one ∙ (λ j. record (after_files (first_files outcome) (cleared old)) { read = (sym one j).read; reading = (sym one j).reading; writing = (sym one j).writing }) in
-    let three_is : new ≡ record (after_files (report_file outcome ∷ []) mid) { read = new.read; reading = new.reading; writing = new.writing } =
-    three ∙ (λ j. record (after_files (report_file outcome ∷ []) mid) { read = (sym three j).read; reading = (sym three j).reading; writing = (sym three j).writing }) in
-    let rest = files_more (plan_files names plans) (report_file outcome ∷ []) first mid new two three_is in
-    files_more (first_files outcome) (plan_files names plans ++ report_file outcome ∷ []) (cleared old) first new one_is rest
+    let three_is : own ≡ record (after_files hosts mid) { read = own.read; reading = own.reading; writing = own.writing } =
+    three ∙ (λ j. record (after_files hosts mid) { read = (sym three j).read; reading = (sym three j).reading; writing = (sym three j).writing }) in
+    let four_is : new ≡ record (after_files (report_file outcome ∷ []) own) { read = new.read; reading = new.reading; writing = new.writing } =
+    four ∙ (λ j. record (after_files (report_file outcome ∷ []) own) { read = (sym four j).read; reading = (sym four j).reading; writing = (sym four j).writing }) in
+    let rest = files_more hosts (report_file outcome ∷ []) mid own new three_is four_is in
+    let behind = files_more (plan_files texts plans) (hosts ++ report_file outcome ∷ []) first mid new two rest in
+    files_more (first_files outcome) (plan_files texts plans ++ (hosts ++ report_file outcome ∷ [])) (cleared old) first new one_is behind
 
 -- what follows from each success
 pub if_ok : {T E : Type 0} (r : Result T E) (P Q : T → Type 0) → ((x : T) → P x → Q x) → IfOk r P → IfOk r Q
@@ -103,11 +125,49 @@ has_solved texts pins begun start over s old new read stands is at_start hosts j
       stands = from.stands;
     }
 
+-- what was merged is right and believed, and stands in its files
+record IsMergedFor (texts : List HostText) (begun : BegunSite) (are : List (Host × List Entry)) (outcome : Outcome) (old new : Ledger) : Type 0 where
+  whole : IsWhole (record { hosts = are; joined = begun.joined })
+  right : IsOutcome (record { hosts = are; joined = begun.joined }) outcome
+  believed : Headline (record { hosts = are; joined = begun.joined }) outcome
+  files : new ≡ record (after_files (merged_files texts begun believed.mappings outcome) (cleared old)) { read = new.read; reading = new.reading; writing = new.writing }
+
+-- the mappings of a headline are those that were merged
+same_mappings : (site : WholeSite) (merged : Merged) (last : WholeSite) (plans : List (List ℕ)) → IsMerged site merged → last.joined ≡ site.joined → (believed : Headline last (record merged.outcome { plans = plans })) → believed.mappings ≡ mappings_in merged
+same_mappings site merged last plans is joined believed =
+    let c = is.certificate in
+    let read = ap certificate_in is.printed.printed.certificate ∙ spelled_is_read c (record { users = is.answered.user_side; groups = is.answered.group_side }) in
+    let same : believed.certificate ≡ c = ok_same believed.certificate c (sym believed.certificate_read ∙ read) in
+    sym believed.potentials_are_of_these ∙ (λ j. mappings_of (joined j) (same j)) ∙ is.answered.certificate_has
+
 -- what was merged for the first reading stands in its files, with plans for the second
-pub has_merged : (texts : List HostText) (pins : List ℕ) (s : SolvedValue) (old mid new : Ledger) (cost : Cost) (h : HasSolved texts pins old mid s) → ReadsOnly old mid → HasWritten texts s h.were mid new cost → HasMerged texts pins old new cost
-has_merged texts pins s old mid new cost h reads w =
+merged_for : (texts : List HostText) (pins : List ℕ) (s : SolvedValue) (old mid new : Ledger) (cost : Cost) (h : HasSolved texts pins old mid s) → ReadsOnly old mid → (w : HasWritten texts s h.were mid new cost)
+    → IsMergedFor texts h.begun w.site.again (record s.merged.outcome { plans = w.site.plans }) old new
+merged_for texts pins s old mid new cost h reads w =
     let first : WholeSite = record { hosts = h.were; joined = s.joined } in
     let outcome : Outcome = record s.merged.outcome { plans = w.site.plans } in
+    let read : BegunSite = record { hosts = s.hosts; joined = s.joined } in
+    let last : WholeSite = record { hosts = w.site.again; joined = s.joined } in
+    let begun : read ≡ h.begun = λ j. record { hosts = h.hosts j; joined = h.joined j } in
+    let believed : Headline last outcome = second_reading_is_believed first s.merged w.site.again w.site.plans h.whole h.merged w.site.same w.site.whole in
+    let same : mappings_in s.merged ≡ believed.mappings = sym (same_mappings first s.merged last w.site.plans h.merged refl believed) in
+    subst (λ (b : BegunSite). IsMergedFor texts b w.site.again outcome old new) begun
+    (record {
+      whole = still_whole first h.whole w.site.again w.site.same;
+      right = second_reading_is_right first s.merged w.site.again w.site.plans h.whole h.merged w.site.same w.site.whole;
+      believed = believed;
+      files = w.files ∙ (λ j. record (after_files (merged_files texts read (same j) outcome) (cleared (reads j))) { read = new.read; reading = new.reading; writing = new.writing });
+    })
+
+pub has_merged : (texts : List HostText) (pins : List ℕ) (s : SolvedValue) (old mid new : Ledger) (cost : Cost) (h : HasSolved texts pins old mid s) → ReadsOnly old mid → HasWritten texts s h.were mid new cost → HasMerged texts pins old new cost
+has_merged texts pins s old mid new cost h reads w =
+    let outcome : Outcome = record s.merged.outcome { plans = w.site.plans } in
+    let site : WholeSite = record { hosts = w.site.again; joined = h.begun.joined } in
+    let merged : IsMergedFor texts h.begun w.site.again outcome old new = merged_for texts pins s old mid new cost h reads w in
+    let one_each : length w.site.texts ≡ length h.begun.hosts = w.site.one_each ∙ ap length h.hosts in
+    let accepted : each site_of (loaded_from h.begun.hosts w.site.texts) ≡ Ok w.site.again = subst (λ (hs : List Host). each site_of (loaded_from hs w.site.texts) ≡ Ok w.site.again) h.hosts w.site.accepted in
+    let first : Host × List Entry → Host = λ x. x.0 in
+    let held : map first w.site.again ≡ h.begun.hosts = sym (hosts_held h.begun.hosts w.site.texts w.site.again one_each accepted).0 in
     record {
       begun = h.begun;
       begun_is = h.begun_is;
@@ -116,14 +176,15 @@ has_merged texts pins s old mid new cost h reads w =
       first_read = h.first_read;
       second = w.site.texts;
       are = w.site.again;
-      second_read = record {
-        one_each = w.site.one_each ∙ ap length h.hosts;
-        accepted = subst (λ (hs : List Host). each site_of (loaded_from hs w.site.texts) ≡ Ok w.site.again) h.hosts w.site.accepted;
-      };
+      second_read = record { one_each = one_each; accepted = accepted };
       readings = w.readings ∙ ap (λ rs. rs ++ readings_from 0 w.site.texts) h.readings;
       outcome = outcome;
-      is_right = subst (λ (j : Joined). IsOutcome (record { hosts = w.site.again; joined = j }) outcome) h.joined (second_reading_is_right first s.merged w.site.again w.site.plans h.whole h.merged w.site.same w.site.whole);
-      is_believed = subst (λ (j : Joined). Headline (record { hosts = w.site.again; joined = j }) outcome) h.joined (second_reading_is_believed first s.merged w.site.again w.site.plans h.whole h.merged w.site.same w.site.whole);
-      files = w.files ∙ (λ j. record (after_files (merged_files texts outcome) (cleared (reads j))) { read = new.read; reading = new.reading; writing = new.writing });
+      is_right = merged.right;
+      is_believed = merged.believed;
+      own_files = λ k host files text at there.
+          let here : slice_get h.begun.hosts k ≡ Some host = ap (λ hs. slice_get hs k) (sym held) ∙ slice_get-map first w.site.again k ∙ ap (option_map first) at in
+          let tables = tables_are_of_texts texts pins h.begun k host text h.begun_is here there in
+          hosts_keep_own_files site outcome merged.whole merged.believed k host files text at tables.0 tables.1;
+      files = merged.files;
       cost_is = w.cost_is;
     }

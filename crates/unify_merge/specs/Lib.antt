@@ -4,5 +4,6 @@ pub mod Noted
 pub mod Pieces
 pub mod FirstReading
 pub mod SecondReading
+pub mod HostFiles
 pub mod Merge
 pub mod Check

@@ -1,31 +1,34 @@
 -- What a merge does, from the bytes that it reads to the bytes of each file.
 -- Source: this project's own rule.
-use Rattle.std.specs.Prelude.{◌≡◌, ℕ, ◌⊎◌, Bool, true, List, [], ◌∷◌, ◌++◌, length, map, codes, Some, Result, Ok, Err, IfSome, slice_get}
+use Rattle.std.specs.Prelude.{◌≡◌, ℕ, ◌⊎◌, Bool, true, List, [], ◌∷◌, ◌++◌, length, map, codes, Some, Ok, Err, IfSome, slice_get}
 use Rattle.idtext.specs.First.{each}
 use Rattle.mtree_inv.specs.declared.entry.Entry.{Entry}
 use Rattle.hosts_join.specs.declared.host.Host.{Host}
 use Rattle.hosts_join.specs.declared.texts.HostText.{HostText}
+use Rattle.ownership.specs.Mappings.{Mappings}
 use Rattle.unify_texts.specs.Told.{told}
 use Rattle.unify_texts.specs.declared.fault.Fault.{Fault}
 use Rattle.unify.specs.declared.counting.Cost.{Cost}
 use Rattle.unify.specs.declared.outcome.Outcome.{Outcome}
 use Rattle.unify.specs.Count.{site_of}
 use Rattle.unify.specs.Headline.{Headline}
+use Rattle.unify.specs.HostTexts.{KeepsOwnFiles}
 use Rattle.unify.specs.Laws.{IsWhole}
 use Rattle.unify.specs.Loading.{loaded_from}
-use Rattle.unify.specs.Merging.{IsMerged}
+use Rattle.unify.specs.Merging.{IsMerged, mappings_in}
 use Rattle.unify.specs.Outcomes.{IsOutcome}
 use Rattle.unify.specs.Passes.{BegunSite, site_begun}
 use Rattle.unify.specs.SecondPass.{SolvedValue, StandsFor}
 use Rattle.unify_merge.specs.Ledger.{Ledger, NamedText, after_files, cleared}
 use Rattle.unify_merge.specs.FirstReading.{IsInventoryFault, IsTooLarge, ReadsOnly, readings_from}
+use Rattle.unify_merge.specs.HostFiles.{host_files, host_names}
 use Rattle.unify_merge.specs.SecondReading.{IsPlannedAgain, IsSiteChange, WereRead, plan_files, plan_name}
 use Rattle.unify_merge.specs.declared.fault.MergeFault.{MergeFault}
 use Rattle.unify_merge.specs.declared.fault.MergeFault.TheVariants.{Failed, TooLarge, Refused}
 
 -- ---- the files of a merge
 
--- those that are written before the plans
+-- those of the whole site that are written before those of the hosts
 abbrev pub first_files : Outcome → List NamedText
 first_files outcome =
     record { name = codes "passwd"; text = outcome.passwd } ∷ record { name = codes "group"; text = outcome.group }
@@ -34,16 +37,16 @@ first_files outcome =
 abbrev pub report_file : Outcome → NamedText
 report_file outcome = record { name = codes "report"; text = outcome.report }
 
--- all of them, in the order in which they are written
-abbrev pub merged_files : List HostText → Outcome → List NamedText
-merged_files hosts outcome = first_files outcome ++ (plan_files hosts outcome.plans ++ report_file outcome ∷ [])
+-- all of them, in the order in which they are written, where the hosts were read from the texts and have these numbers
+abbrev pub merged_files : List HostText → BegunSite → Mappings → Outcome → List NamedText
+merged_files texts begun m outcome = first_files outcome ++ (plan_files texts outcome.plans ++ (host_files begun.joined m texts begun.hosts ++ report_file outcome ∷ []))
 
 -- the names of those before the report, in this order
 abbrev pub first_names : List (List ℕ)
 first_names = codes "passwd" ∷ codes "group" ∷ codes "map" ∷ codes "certificate" ∷ []
 
 abbrev pub names_before_report : List HostText → List (List ℕ)
-names_before_report hosts = first_names ++ map plan_name hosts
+names_before_report texts = first_names ++ (map plan_name texts ++ host_names texts)
 
 -- ---- a merge that succeeds
 
@@ -73,12 +76,12 @@ pub record HasSolved (texts : List HostText) (pins : List ℕ) (old new : Ledger
 pub record HasWritten (names : List HostText) (s : SolvedValue) (read : List (Host × List Entry)) (old new : Ledger) (cost : Cost) : Type 0 where
   pub site : IsPlannedAgain s read
   pub readings : new.read ≡ old.read ++ readings_from 0 site.texts
-  pub files : new ≡ record (after_files (merged_files names (record s.merged.outcome { plans = site.plans })) (cleared old)) { read = new.read; reading = new.reading; writing = new.writing }
+  pub files : new ≡ record (after_files (merged_files names (record { hosts = s.hosts; joined = s.joined }) (mappings_in s.merged) (record s.merged.outcome { plans = site.plans })) (cleared old)) { read = new.read; reading = new.reading; writing = new.writing }
   pub cost_is : cost ≡ s.merged.outcome.cost
 
 -- The tables and the pins were read; the inventory of each host was read twice, and is accepted both times. What
--- was merged is right for the second reading, and has the headline of it. It stands in its files, which are all
--- that was written.
+-- was merged is right for the second reading, and has the headline of it; and each host's own passwd and group with
+-- their new numbers keep the names of its files as well. It stands in its files, which are all that was written.
 pub record HasMerged (texts : List HostText) (pins : List ℕ) (old new : Ledger) (cost : Cost) : Type 0 where
   pub begun : BegunSite
   pub begun_is : site_begun texts pins ≡ Ok begun
@@ -92,7 +95,9 @@ pub record HasMerged (texts : List HostText) (pins : List ℕ) (old new : Ledger
   pub outcome : Outcome
   pub is_right : IsOutcome (record { hosts = are; joined = begun.joined }) outcome
   pub is_believed : Headline (record { hosts = are; joined = begun.joined }) outcome
-  pub files : new ≡ record (after_files (merged_files texts outcome) (cleared old)) { read = new.read; reading = new.reading; writing = new.writing }
+  pub own_files : (h : ℕ) (host : Host) (files : List Entry) (text : HostText) → slice_get are h ≡ Some (host, files) → slice_get texts h ≡ Some text
+      → KeepsOwnFiles (record { hosts = are; joined = begun.joined }) is_believed.mappings is_believed.map outcome.plans h host files text
+  pub files : new ≡ record (after_files (merged_files texts begun is_believed.mappings outcome) (cleared old)) { read = new.read; reading = new.reading; writing = new.writing }
   pub cost_is : cost ≡ outcome.cost
 
 -- ---- a merge that is refused

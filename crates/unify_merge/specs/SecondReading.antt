@@ -1,6 +1,6 @@
 -- The inventories as they are read the second time, while plans are written.
 -- Source: this project's own rule.
-use Rattle.std.specs.Prelude.{◌≡◌, ℕ, ◌⊎◌, Bool, true, List, [], ◌∷◌, ◌++◌, length, map, codes, Some, Result, Ok, Err, IfSome, slice_get}
+use Rattle.std.specs.Prelude.{◌≡◌, ℕ, ◌⊎◌, Bool, true, List, [], ◌∷◌, ◌++◌, length, map, codes, Some, Ok, Err, IfSome, slice_get}
 use Rattle.idtext.specs.First.{each}
 use Rattle.mtree_inv.specs.declared.entry.Entry.{Entry}
 use Rattle.hosts_join.specs.declared.host.Host.{Host}
@@ -11,11 +11,10 @@ use Rattle.unify_texts.specs.declared.fault.Fault.TheVariants.{InventoryChanged}
 use Rattle.unify.specs.Count.{site_of}
 use Rattle.unify.specs.Loading.{loaded_from}
 use Rattle.unify.specs.Passes.{ArePassed, is_read}
-use Rattle.unify.specs.Reading.{WholeSite}
 use Rattle.unify.specs.RowFiles.{row_files}
 use Rattle.unify.specs.SecondPass as second
 use Rattle.unify.specs.SecondPass.{HaveSameCounts, SolvedValue, second_files, second_lines, whole_plan}
-use Rattle.unify.specs.TwoPasses.{AreReadAgain, AreWholePlans, read_last}
+use Rattle.unify.specs.TwoPasses.{AreReadAgain, AreWholePlans}
 use Rattle.unify_merge.specs.Ledger.{Ledger, NamedText, Reading, after_files}
 use Rattle.unify_merge.specs.FirstReading.{HasRead, IsReading, IsTooLarge, readings_from}
 use Rattle.unify_merge.specs.declared.fault.MergeFault.{MergeFault}

@@ -34,7 +34,8 @@ pub trait MergeFiles: ReadFiles {
     ghost use Rattle.std.specs.Prelude.{◌≡◌, true, [], ◌∷◌, OnOk, OnErr};
     ghost use Rattle.unify_merge.specs.Ledger.{cleared, with_begun, with_bytes, with_finished, after_files};
 
-    /// Clears away what an earlier merge left: its report first, and its plans, those of hosts that are no more too.
+    /// Clears away what an earlier merge left: its report first, and what it wrote for each host, also for hosts that are
+    /// no more.
     fn clear(&mut self) -> Result<(), CallFailed>
         ensures clear { OnOk result (Self.ledger self.new ≡ cleared (Self.ledger self.old)) }
         ensures none { OnErr result (Self.ledger self.new ≡ Self.ledger self.old) }

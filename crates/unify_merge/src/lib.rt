@@ -5,10 +5,12 @@ mod check;
 mod fault;
 mod files;
 mod first_reading;
+mod host_files;
 mod log;
 mod merge;
 mod pieces;
 mod second_reading;
+mod whole_file;
 
 pub use check::check_files;
 pub use fault::MergeFault;

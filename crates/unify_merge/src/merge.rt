@@ -15,24 +15,14 @@ ghost use Rattle.unify_merge.specs.declared.fault.MergeFault.TheVariants.{Refuse
 use crate::fault::MergeFault;
 use crate::files::{CallFailed, MergeFiles};
 use crate::first_reading::count_hosts;
+use crate::host_files::write_hosts;
 use crate::second_reading::plan_hosts;
+use crate::whole_file::write_file;
 use hosts_join::HostText;
 use std::alloc::Global;
 use unify::{Cost, Counting, Outcome, Solved};
 
-// Writes a file whole.
-fn write_file<F: MergeFiles>(files: &mut F, name: &[u8], text: &[u8]) -> Result<(), CallFailed>
-    requires clear { (F.ledger files.old).is_clear ≡ true }
-    ensures written { OnOk result (F.ledger files.new ≡ after_files (record { name = name.now; text = text.now } ∷ []) (F.ledger files.old)) }
-    ensures failed { OnErr result (F.has_failed files.new ≡ true) }
-    ensures begun { OnErr result (HasBegun (name.now ∷ []) (F.ledger files.old) (F.ledger files.new)) }
-{
-    files.begin(name)?;
-    files.append(text)?;
-    files.finish()
-}
-
-// Writes the files that come before the plans.
+// Writes the files of the whole site that come before those of the hosts.
 fn write_first<F: MergeFiles>(files: &mut F, outcome: &Outcome) -> Result<(), CallFailed>
     requires clear { (F.ledger files.old).is_clear ≡ true }
     ensures written { OnOk result (F.ledger files.new ≡ after_files (first_files outcome.now) (F.ledger files.old)) }
@@ -73,7 +63,8 @@ fn solve_hosts<'a, F: MergeFiles>(
     solve(counting)
 }
 
-// Writes what was merged, with the plans and the report, and hands out how many fields of files change.
+// Writes what was merged, with the plans, each host's own files and the report, and hands out how many fields of files
+// change.
 fn write_merged<'a, F: MergeFiles>(
     alloc: Global,
     files: &mut F,
@@ -90,6 +81,7 @@ fn write_merged<'a, F: MergeFiles>(
     files.clear()?;
     write_first(files, solved.outcome())?;
     plan_hosts(alloc, files, solved, hosts)?;
+    write_hosts(alloc, files, solved, hosts)?;
     files.seal(b"report", solved.outcome().report.bytes())?;
     Ok(solved.outcome().cost)
 }
@@ -99,10 +91,10 @@ fn write_merged<'a, F: MergeFiles>(
 ///
 /// Each inventory is read when its host's turn comes, piece by piece. Nothing is written before the hosts are
 /// merged; then the files of an earlier merge are cleared away, and passwd, group, map, certificate, the plan of
-/// each host and the report are written, in this order. It stops early where a call on the files fails, where an
-/// inventory has more than 4,294,967,295 bytes, at the first fault of what is read, where an inventory has changed
-/// when it is read the second time (`Fault::InventoryChanged`), or where a growth is refused (`Fault::Memory`);
-/// no file was begun then but the first of these, and no report.
+/// each host, each host's own passwd and group with their new numbers and the report are written, in this order. It stops
+/// early where a call on the files fails, where an inventory has more than 4,294,967,295 bytes, at the first fault of
+/// what is read, where an inventory has changed when it is read the second time (`Fault::InventoryChanged`), or where
+/// a growth is refused (`Fault::Memory`); no file was begun then but the first of these, and no report.
 ///
 /// Two passes over each inventory, with a few look-ups by hash for each file; the rest is near linear in the names and
 /// account rows, but for the solver, which is near linear where few numbers are contested.

@@ -10,9 +10,10 @@ ghost use Rattle.unify_merge.specs.SecondReading.{ArePlanned, HasPlan, IsPlanned
 
 use crate::fault::MergeFault;
 use crate::files::MergeFiles;
+use crate::host_files::host_file_name;
 use crate::pieces::{MOST_BYTES, next_piece};
 use hosts_join::HostText;
-use std::alloc::{AllocError, Global};
+use std::alloc::Global;
 use unify::Solved;
 
 // The bytes of a piece, and what its plan goes on with.
@@ -112,15 +113,6 @@ fn plan_host<'a, F: MergeFiles>(
     Ok(())
 }
 
-// The name of the file of a host's plan.
-fn plan_file_name(alloc: Global, host: &HostText) -> Result<Vec<u8>, AllocError>
-    ensures { IfOk result (λ name. name.items ≡ plan_name host.now) }
-{
-    let mut name = Vec::from_slice(alloc, b"plan.")?;
-    name.extend_from_slice(host.name.bytes())?;
-    Ok(name)
-}
-
 // Reads the inventory of the next host once more, and writes the host's plan.
 fn plan_named<'a, F: MergeFiles>(
     alloc: Global,
@@ -141,7 +133,7 @@ fn plan_named<'a, F: MergeFiles>(
     ensures ended { OnOk result (solved.new.ended ≡ index + 1) }
     ensures site { solved.new ≡ record solved.old { ended = solved.new.ended; turn = solved.new.turn } }
 {
-    let name = plan_file_name(alloc, host)?;
+    let name = host_file_name(alloc, b"plan.", host)?;
     plan_host(files, solved, index, &name, buffers)
 }
 

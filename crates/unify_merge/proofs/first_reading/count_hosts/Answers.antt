@@ -1,8 +1,7 @@
-use Rattle.std.proofs.Common.{◌≡◌, ◌+◌, ◌<◌, ◌++◌, ◌∷◌, [], List, length, Some, refl, sym, ap, subst, ◌∙◌, arith}
+use Rattle.std.proofs.Common.{◌≡◌, ◌<◌, ◌++◌, ◌∷◌, [], List, length, Some, refl, sym, ap, subst, ◌∙◌, arith}
 use Rattle.std.specs.List.{slice_get}
 use Rattle.std.proofs.lemmas.Result.{err_from_is_err_and}
 use Rattle.hosts_join.specs.declared.host.Host.{Host}
-use Rattle.unify.specs.Passes.{ended_in}
 use Rattle.unify.proofs.Agreeing.{item_at}
 use Rattle.unify_merge.specs.FirstReading.{StopsCounting}
 use Rattle.unify_merge.proofs.Readings.{counting_stopped, first_same, read_more, reads_on}

@@ -1,13 +1,18 @@
-use Rattle.std.proofs.Common.{◌≡◌, ◌++◌, ◌∷◌, [], ℕ, List, map, refl, sym, ap, subst, ◌∙◌, append_assoc}
+use Rattle.std.proofs.Common.{◌≡◌, ◌++◌, ◌∷◌, [], length, map, sym, ap, subst, ◌∙◌, append_assoc}
 use Rattle.std.proofs.lemmas.Result.{err_from_is_err_and}
+use Rattle.unify.specs.Merging.{mappings_in}
 use Rattle.unify.specs.SecondPass.{SolvedValue}
-use Rattle.unify_merge.specs.Ledger.{HasBegun, Ledger, NamedText, after_files, cleared}
+use Rattle.unify_merge.specs.Ledger.{HasBegun, Ledger, after_files, cleared}
+use Rattle.unify_merge.specs.HostFiles.{HasFiles, host_files, host_names}
 use Rattle.unify_merge.specs.Merge.{first_files, first_names, names_before_report, report_file}
 use Rattle.unify_merge.specs.FirstReading.{readings_from}
 use Rattle.unify_merge.specs.SecondReading.{plan_name}
 use Rattle.unify_merge.proofs.Begun.{begun_all, begun_behind, begun_from, begun_front, on_err}
-use Rattle.unify_merge.proofs.WholeMerge.{merged_all, planning_same}
+use Rattle.unify_merge.proofs.WholeMerge.{merged_all, planning_same, writing_stopped}
 use Rattle.unify_merge.proofs.merge.write_merged.Goals as goal
+
+pub write_hosts-requires-clause-each : goal.write_hosts-requires-clause-each
+write_hosts-requires-clause-each g c = c.requires.each ∙ ap (λ (v : SolvedValue). length v.hosts) (sym c.in_ok-plan_hosts.ensures.site)
 
 pub returns-in_err-plan_hosts-clause-stopped : goal.returns-in_err-plan_hosts-clause-stopped
 returns-in_err-plan_hosts-clause-stopped g c =
@@ -17,50 +22,79 @@ returns-in_err-plan_hosts-clause-stopped g c =
     rw (p.1, p.2) (λ read was.
     planning_same read (g.F.ReadFiles.ledger c.args.files.now) (g.F.ReadFiles.ledger c.write_first.new.files) (g.F.ReadFiles.ledger now) (g.F.ReadFiles.has_failed now) c.in_err-plan_hosts.field-0.0 before (c.in_err-plan_hosts.ensures.stopped read was))
 
+pub returns-in_err-write_hosts-clause-stopped : goal.returns-in_err-write_hosts-clause-stopped
+returns-in_err-write_hosts-clause-stopped g c =
+    let p = err_from_is_err_and c.from_residual-in_err-write_hosts.result c.from_residual-in_err-write_hosts.ensures.1 in
+    let now = c.write_hosts.new.files in
+    rw (p.1, p.2) (λ read was. writing_stopped read (g.F.ReadFiles.ledger c.args.files.now) (g.F.ReadFiles.ledger now) (g.F.ReadFiles.has_failed now) c.in_err-write_hosts.field-0.0 c.in_err-write_hosts.ensures.stopped)
+
 pub returns-clause-written : goal.returns-clause-written
 returns-clause-written g c = λ read was.
     let p = c.in_ok-plan_hosts.ensures.planned read was in
+    let v = c.args.solved.now in
+    let texts = c.args.hosts.now in
     let old = g.F.ReadFiles.ledger c.args.files.now in
     let first = g.F.ReadFiles.ledger c.write_first.new.files in
     let mid = g.F.ReadFiles.ledger c.plan_hosts.new.files in
+    let own = g.F.ReadFiles.ledger c.write_hosts.new.files in
     let new = g.F.ReadFiles.ledger c.seal.new.self in
-    let outcome = c.args.solved.now.merged.outcome in
+    let outcome = v.merged.outcome in
     let same_first = c.outcome.ensures in
-    let solved : c.plan_hosts.new.solved.merged ≡ c.args.solved.now.merged = ap (λ (v : SolvedValue). v.merged) c.in_ok-plan_hosts.ensures.site in
+    let site = c.in_ok-plan_hosts.ensures.site in
+    let solved : c.plan_hosts.new.solved.merged ≡ v.merged = ap (λ (x : SolvedValue). x.merged) site in
     let begun : first ≡ after_files (first_files outcome) (cleared old) = c.in_ok-write_first.ensures.written ∙ (λ j. after_files (first_files (same_first j)) (c.in_ok-clear.ensures.clear j)) in
     let report : c.bytes.result.now ≡ outcome.report = c.bytes.ensures ∙ ap (λ o. o.report) (c.outcome-2.ensures ∙ ap (λ m. m.outcome) solved) in
-    let sealed = c.in_ok-seal.ensures.sealed ∙ (λ j. after_files (record { name = (report_file outcome).name; text = report j } ∷ []) mid) in
+    let sealed = c.in_ok-seal.ensures.sealed ∙ (λ j. after_files (record { name = (report_file outcome).name; text = report j } ∷ []) own) in
+    let written : HasFiles (host_files v.joined (mappings_in v.merged) texts v.hosts) mid own = subst (λ (x : SolvedValue). HasFiles (host_files x.joined (mappings_in x.merged) texts x.hosts) mid own) site c.in_ok-write_hosts.ensures.written in
     record {
       site = p.site;
-      readings = ap (λ (l : Ledger). l.read) sealed ∙ p.readings ∙ (λ j. (begun j).read ++ readings_from 0 p.site.texts);
-      files = merged_all c.args.hosts.now outcome p.site.plans old first mid new begun p.files sealed;
+      readings = ap (λ (l : Ledger). l.read) sealed ∙ ap (λ (l : Ledger). l.read) written ∙ p.readings ∙ (λ j. (begun j).read ++ readings_from 0 p.site.texts);
+      files = merged_all texts (record { hosts = v.hosts; joined = v.joined }) (mappings_in v.merged) outcome p.site.plans old first mid own new begun p.files written sealed;
       cost_is = ap (λ o. o.cost) (c.outcome-3.ensures ∙ ap (λ m. m.outcome) solved);
     }
 
 pub returns-in_err-write_first-clause-begun : goal.returns-in_err-write_first-clause-begun
 returns-in_err-write_first-clause-begun g c =
-    let names = c.args.hosts.now in
+    let texts = c.args.hosts.now in
     let old = g.F.ReadFiles.ledger c.args.files.now in
     let mid = g.F.ReadFiles.ledger c.clear.new.self in
     let new = g.F.ReadFiles.ledger c.write_first.new.files in
-    on_err c.from_residual-in_err-write_first.result (HasBegun (names_before_report names) old new)
-    (begun_from (names_before_report names) old mid new (ap (λ (l : Ledger). l.begun) c.in_ok-clear.ensures.clear) (begun_front first_names (map plan_name names) mid new c.in_err-write_first.ensures.begun))
+    on_err c.from_residual-in_err-write_first.result (HasBegun (names_before_report texts) old new)
+    (begun_from (names_before_report texts) old mid new (ap (λ (l : Ledger). l.begun) c.in_ok-clear.ensures.clear) (begun_front first_names (map plan_name texts ++ host_names texts) mid new c.in_err-write_first.ensures.begun))
 
 pub returns-in_err-plan_hosts-clause-begun : goal.returns-in_err-plan_hosts-clause-begun
 returns-in_err-plan_hosts-clause-begun g c =
-    let names = c.args.hosts.now in
+    let texts = c.args.hosts.now in
+    let plans = map plan_name texts in
     let old = g.F.ReadFiles.ledger c.args.files.now in
     let mid = g.F.ReadFiles.ledger c.write_first.new.files in
     let new = g.F.ReadFiles.ledger c.plan_hosts.new.files in
     let begun = ap (λ (l : Ledger). l.begun) c.in_ok-write_first.ensures.written ∙ ap (λ (l : Ledger). l.begun ++ first_names) c.in_ok-clear.ensures.clear in
-    on_err c.from_residual-in_err-plan_hosts.result (HasBegun (names_before_report names) old new) (begun_behind first_names (map plan_name names) old mid new begun c.in_err-plan_hosts.ensures.begun)
+    on_err c.from_residual-in_err-plan_hosts.result (HasBegun (names_before_report texts) old new)
+    (begun_behind first_names (plans ++ host_names texts) old mid new begun (begun_front plans (host_names texts) mid new c.in_err-plan_hosts.ensures.begun))
+
+pub returns-in_err-write_hosts-clause-begun : goal.returns-in_err-write_hosts-clause-begun
+returns-in_err-write_hosts-clause-begun g c =
+    let texts = c.args.hosts.now in
+    let plans = map plan_name texts in
+    let old = g.F.ReadFiles.ledger c.args.files.now in
+    let first = g.F.ReadFiles.ledger c.write_first.new.files in
+    let mid = g.F.ReadFiles.ledger c.plan_hosts.new.files in
+    let new = g.F.ReadFiles.ledger c.write_hosts.new.files in
+    let begun = ap (λ (l : Ledger). l.begun) c.in_ok-write_first.ensures.written ∙ ap (λ (l : Ledger). l.begun ++ first_names) c.in_ok-clear.ensures.clear in
+    on_err c.from_residual-in_err-write_hosts.result (HasBegun (names_before_report texts) old new)
+    (begun_behind first_names (plans ++ host_names texts) old first new begun (begun_behind plans (host_names texts) first mid new c.in_ok-plan_hosts.ensures.begun c.in_err-write_hosts.ensures.begun))
 
 pub returns-in_err-seal-clause-begun : goal.returns-in_err-seal-clause-begun
 returns-in_err-seal-clause-begun g c =
-    let names = c.args.hosts.now in
+    let texts = c.args.hosts.now in
+    let hosts = host_names texts in
+    let plans = map plan_name texts in
     let old = g.F.ReadFiles.ledger c.args.files.now in
     let new = g.F.ReadFiles.ledger c.seal.new.self in
-    let plans = map plan_name names in
     let begun = ap (λ (l : Ledger). l.begun) c.in_ok-write_first.ensures.written ∙ ap (λ (l : Ledger). l.begun ++ first_names) c.in_ok-clear.ensures.clear in
-    on_err c.from_residual-in_err-seal.result (HasBegun (names_before_report names) old new)
-    (begun_all (names_before_report names) old new (ap (λ (l : Ledger). l.begun) c.in_err-seal.ensures.none ∙ c.in_ok-plan_hosts.ensures.begun ∙ ap (λ ns. ns ++ plans) begun ∙ append_assoc old.begun first_names plans))
+    let planned = c.in_ok-plan_hosts.ensures.begun ∙ ap (λ ns. ns ++ plans) begun in
+    let own = c.in_ok-write_hosts.ensures.begun ∙ ap (λ ns. ns ++ hosts) planned in
+    let all = own ∙ append_assoc (old.begun ++ first_names) plans hosts ∙ append_assoc old.begun first_names (plans ++ hosts) in
+    on_err c.from_residual-in_err-seal.result (HasBegun (names_before_report texts) old new)
+    (begun_all (names_before_report texts) old new (ap (λ (l : Ledger). l.begun) c.in_err-seal.ensures.none ∙ all))

@@ -1,4 +1,4 @@
-use Rattle.std.proofs.Common.{◌≡◌, ◌++◌, ◌∷◌, [], Some, ap, ◌∙◌}
+use Rattle.std.proofs.Common.{◌++◌, ◌∷◌, [], ap, ◌∙◌}
 use Rattle.unify.specs.SecondPass.{whole_plan}
 use Rattle.unify_merge.specs.Ledger.{Ledger, NamedText, Reading, finished_on}
 use Rattle.unify_merge.proofs.second_reading.plan_host.Goals as goal

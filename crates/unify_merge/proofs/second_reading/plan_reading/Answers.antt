@@ -1,7 +1,5 @@
-use Rattle.std.proofs.Common.{◌≡◌, ◌+◌, ◌++◌, ◌∷◌, [], ℕ, List, length, Some, sym, ap, subst, ◌∙◌, arith, length-append}
+use Rattle.std.proofs.Common.{◌≡◌, ◌++◌, ◌∷◌, [], Some, sym, ap, ◌∙◌, arith, length-append}
 use Rattle.std.proofs.lemmas.Result.{err_from_is_err_and}
-use Rattle.mtree_inv.specs.declared.entry.Entry.{Entry}
-use Rattle.hosts_join.specs.declared.host.Host.{Host}
 use Rattle.unify.specs.SecondPass.{SolvedValue, whole_plan}
 use Rattle.unify.proofs.SiteRuns.{some_same}
 use Rattle.unify_merge.specs.Ledger.{Ledger, NamedText, Reading}

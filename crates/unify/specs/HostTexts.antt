@@ -1,0 +1,53 @@
+-- Each host's own passwd and group with their new numbers, and what they are believed for.
+-- Source: passwd(5) and group(5); the sentence is this project's own.
+use Rattle.std.specs.Prelude.{◌≡◌, ℕ, List, Some, Ok, slice_get}
+use Rattle.accounts.specs.Tables.{passwd_table, group_table}
+use Rattle.hosts_join.specs.Site.{Joined}
+use Rattle.hosts_join.specs.declared.host.Host.{Host}
+use Rattle.hosts_join.specs.declared.texts.HostText.{HostText}
+use Rattle.mtree_inv.specs.declared.entry.Entry.{Entry}
+use Rattle.ownership.specs.Mappings.{Mappings}
+use Rattle.mergedfiles.specs.HostFiles.{host_users, host_groups}
+use Rattle.mergedfiles.specs.HostReadBack.{IsHostPasswd, IsHostGroup}
+use Rattle.unify_texts.specs.declared.map_text.MapText.{MapText}
+use Rattle.unify.specs.declared.outcome.Outcome.{Outcome}
+use Rattle.unify.specs.Headline.{Headline, PlanKeepsNames}
+use Rattle.unify.specs.Laws.{IsWhole}
+use Rattle.unify.specs.Passes.{BegunSite, site_begun}
+use Rattle.unify.specs.Reading.{WholeSite}
+
+-- the host's own passwd, with only its numbers replaced
+abbrev pub own_passwd : Host → Joined → Mappings → HostText → List ℕ
+own_passwd host site m text = host_users host site m.users m.groups text.passwd
+
+-- its own group
+abbrev pub own_group : Joined → Mappings → HostText → List ℕ
+own_group site m text = host_groups site m.groups text.group
+
+-- What they say when they are read: line by line they are those of the host, but for the numbers;
+-- and while its plan is carried out, however often stopped, every file of the host has its old
+-- owner, or by them the user and group names it had; once it has finished, every file has these.
+-- map: the printed map, as it is read
+-- h: the index of the host
+pub record KeepsOwnFiles (site : WholeSite) (m : Mappings) (map : MapText)
+    (plans : List (List ℕ)) (h : ℕ) (host : Host) (files : List Entry)
+    (text : HostText) : Type 0 where
+  pub passwd : IsHostPasswd host site.joined m text.passwd (own_passwd host site.joined m text)
+  pub group : IsHostGroup host site.joined m text.group (own_group site.joined m text)
+  pub a_plan_keeps_names :
+      PlanKeepsNames map passwd.rows group.rows plans h host files
+
+-- so it is for each host of a site that has the headline, and the texts of its own files
+abbrev pub HostsKeepOwnFiles : Type 0
+HostsKeepOwnFiles = (site : WholeSite) (outcome : Outcome) → IsWhole site
+    → (believed : Headline site outcome) (h : ℕ) (host : Host) (files : List Entry)
+    (text : HostText) → slice_get site.hosts h ≡ Some (host, files)
+    → passwd_table text.passwd ≡ Ok host.users → group_table text.group ≡ Ok host.groups
+    → KeepsOwnFiles site believed.mappings believed.map outcome.plans h host files text
+
+-- these are the texts that a site was read from, at the index of the host
+abbrev pub TablesAreOfTexts : Type 0
+TablesAreOfTexts = (texts : List HostText) (pins : List ℕ) (begun : BegunSite) (h : ℕ)
+    (host : Host) (text : HostText) → site_begun texts pins ≡ Ok begun
+    → slice_get begun.hosts h ≡ Some host → slice_get texts h ≡ Some text
+    → (passwd_table text.passwd ≡ Ok host.users) × (group_table text.group ≡ Ok host.groups)
