@@ -8,3 +8,4 @@ pub mod AllPlanned
 pub mod WholeMerge
 pub mod Inventories
 pub mod WholeCheck
+pub mod WholeCount

@@ -6,3 +6,4 @@ pub mod FirstReading
 pub mod SecondReading
 pub mod Merge
 pub mod Check
+pub mod Count

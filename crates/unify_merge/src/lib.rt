@@ -2,6 +2,7 @@
 #![tactic(auto)]
 
 mod check;
+mod count;
 mod fault;
 mod files;
 mod first_reading;
@@ -11,6 +12,7 @@ mod pieces;
 mod second_reading;
 
 pub use check::check_files;
+pub use count::count_files;
 pub use fault::MergeFault;
 pub use files::{CallFailed, MergeFiles, ReadFiles};
 pub use log::{Call, Log};
