@@ -76,6 +76,12 @@ refused_costing c host turn f inv here met = record {
       absurd (cc);
 }
 
+-- while none was met, the turn goes on
+pub going : (c : CostingValue) (host : Host) → IsCosting c → slice_get c.hosts c.ended ≡ Some host → met_by host c.turn ≡ None → (text : List ℕ) × TurnsFor c.names host c.turn text
+going c host inv here none =
+    let s = inv.standing (met_here c c.turn host here ∙ none) in
+    (s.1, s.2.turns host here)
+
 -- of a host's turn that has not met a fault
 turned : (c : CostingValue) (P : Type 0) (host : Host) → IsCosting c → slice_get c.hosts c.ended ≡ Some host → IfSome (met_by host c.turn) (λ f. ⊥ × P) → (ended : List (List ℕ)) × (text : List ℕ) × StandsFor c ended text
 turned c P host inv here again = inv.standing (met_here c c.turn host here ∙ unmet (λ f. P) (met_by host c.turn) again)
@@ -149,12 +155,3 @@ again_by c turn r (Some f) again = (again.0, ap (λ t. record c { turn = t }) ag
 pub again_as : (c : CostingValue) (turn : CostTurn) (host : Host) (r : Result (Unit {0}) Fault) → slice_get c.hosts c.ended ≡ Some host → IfSome (met_by host c.turn) (λ f. TellsFault f r × (turn ≡ c.turn))
     → IfSome (fault_met c) (λ f. TellsFault f r × (record c { turn = turn } ≡ c))
 again_as c turn host r here again = subst (λ o. IfSome o (λ f. TellsFault f r × (record c { turn = turn } ≡ c))) (sym (met_here c c.turn host here)) (again_by c turn r (met_by host c.turn) again)
-
--- a turn that was over goes on with nothing
-pub again_over : (c now : CostingValue) (turn : CostTurn) (host : Host) (r : Result (Unit {0}) Fault) → slice_get c.hosts c.ended ≡ Some host → IfSome (met_by host c.turn) (λ f. ⊥ × (turn ≡ c.turn))
-    → IfSome (fault_met c) (λ f. TellsFault f r × (now ≡ c))
-again_over c now turn host r here again = by (fault_met c) (met_here c c.turn host here ∙ unmet (λ f. turn ≡ c.turn) (met_by host c.turn) again)
-  where
-    by : (o : Option Fault) → o ≡ None → IfSome o (λ f. TellsFault f r × (now ≡ c))
-    by None none = tt
-    by (Some f) none = absurd (cc)

@@ -7,9 +7,17 @@ use Rattle.hosts_join.specs.declared.host.Host.{Host}
 use Rattle.unify_texts.specs.Told.{told}
 use Rattle.unify.specs.Costing.{CostingValue, fault_met}
 use Rattle.unify.specs.Passes.{TellsFault, is_read, lines_of}
-use Rattle.unify.proofs.Costings.{again_as, failed_if, met_new, next_costing, stands_if}
+use Rattle.unify.proofs.Costings.{again_as, failed_if, going, met_new, next_costing, stands_if}
 use Rattle.unify.proofs.Passing.{same_host}
 use Rattle.unify.proofs.costing_pass.Costing.piece.Goals as goal
+
+pub feed_cost-requires : goal.feed_cost-requires
+feed_cost-requires c =
+    let v : CostingValue = record { hosts = c.self.inside.hosts.items; names = c.self.inside.names; ended = c.self.inside.ended; cost = c.self.inside.cost; turn = c.self.inside.turn } in
+    let host = c.index-host.result.now in
+    let left : v.ended < length v.hosts = rw (← c.self.view_is) at c.requires.left in
+    let here : slice_get v.hosts v.ended ≡ Some host = slice_get-get_or v.hosts v.ended host left ∙ ap (λ (h : Host). Some h) (sym c.index-host.ensures) in
+    going v host c.self.invariant here
 
 pub invariant_of-self : goal.invariant_of-self
 invariant_of-self c =
