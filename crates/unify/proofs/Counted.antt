@@ -79,15 +79,15 @@ module _ {R : Type 0} (name : R → List ℕ) (number : R → ℕ) (table : Host
 
 -- ---- pairs that say the names of accounts, which are those of the hosts' tables
 
-module _ {R : Type 0} (name : R → List ℕ) (table : Host → List R) (pairs : List Pair) (hosts : List Loaded)
-    (had : (n : List ℕ) → is_some (number_of pairs n) ≡ list_any (λ (l : Loaded). is_some (find (λ x. bytes_eq n (name x)) (table l.host))) hosts) where
-  abbrev has : List ℕ → Loaded → Bool
-  has n l = is_some (find (λ x. bytes_eq n (name x)) (table l.host))
+module _ {R : Type 0} (name : R → List ℕ) (table : Host → List R) (pairs : List Pair) (hosts : List Host)
+    (had : (n : List ℕ) → is_some (number_of pairs n) ≡ list_any (λ (h : Host). is_some (find (λ x. bytes_eq n (name x)) (table h))) hosts) where
+  abbrev has : List ℕ → Host → Bool
+  has n h = is_some (find (λ x. bytes_eq n (name x)) (table h))
 
-  each_mapped : list_all (λ (l : Loaded). list_all (λ x. is_some (number_of pairs (name x))) (table l.host)) hosts ≡ true
+  each_mapped : list_all (λ (h : Host). list_all (λ x. is_some (number_of pairs (name x))) (table h)) hosts ≡ true
   each_mapped =
-      all_pass (λ (l : Loaded). list_all (λ x. is_some (number_of pairs (name x))) (table l.host)) hosts
-      (λ k d at. let rows = table (get_or hosts k d).host in
+      all_pass (λ (h : Host). list_all (λ x. is_some (number_of pairs (name x))) (table h)) hosts
+      (λ k d at. let rows = table (get_or hosts k d) in
       all_pass (λ x. is_some (number_of pairs (name x))) rows
       (λ j e within. let n = name (get_or rows j e) in
       had n ∙ list_any_at (has n) hosts k d at (found_any (λ x. bytes_eq n (name x)) rows ∙ list_any_at (λ x. bytes_eq n (name x)) rows j e within (bytes_refl n))))
@@ -108,18 +108,16 @@ printed_maps_are_counted texts pins_text site outcome read o =
     let back = map_says_mappings site outcome whole o in
     let hosts = map (λ (l : Loaded). l.host) s.loaded in
     let joined = together hosts s.pins site.joined s.joined_is in
-    let users : (n : List ℕ) → is_some (number_of back.pairs.users n) ≡ list_any (has_user n) s.loaded = λ n.
+    let users : (n : List ℕ) → is_some (number_of back.pairs.users n) ≡ list_any (has_user n) hosts = λ n.
     back.users.names n ∙ ap (λ (a : Accounts). is_name a.names n) joined.users
-    ∙ named_somewhere (λ (r : Passwd). r.name) (λ (r : Passwd). r.uid) (λ (h : Host). h.users) (λ (h : Host). h.ranges.uid) (λ (h : Host). h.ranges.sys_uid) hosts n
-    ∙ any_map (λ (h : Host). is_some (find (λ (r : Passwd). bytes_eq n r.name) h.users)) (λ (l : Loaded). l.host) s.loaded in
-    let groups : (n : List ℕ) → is_some (number_of back.pairs.groups n) ≡ list_any (has_group n) s.loaded = λ n.
+    ∙ named_somewhere (λ (r : Passwd). r.name) (λ (r : Passwd). r.uid) (λ (h : Host). h.users) (λ (h : Host). h.ranges.uid) (λ (h : Host). h.ranges.sys_uid) hosts n in
+    let groups : (n : List ℕ) → is_some (number_of back.pairs.groups n) ≡ list_any (has_group n) hosts = λ n.
     back.groups.names n ∙ ap (λ (a : Accounts). is_name a.names n) joined.groups
-    ∙ named_somewhere (λ (r : Group). r.name) (λ (r : Group). r.gid) (λ (h : Host). h.groups) (λ (h : Host). h.ranges.gid) (λ (h : Host). h.ranges.sys_gid) hosts n
-    ∙ any_map (λ (h : Host). is_some (find (λ (r : Group). bytes_eq n r.name) h.groups)) (λ (l : Loaded). l.host) s.loaded in
-    let checked : names_checked back.pairs s.loaded ≡ Ok tt = rw (
-      each_mapped (λ (r : Passwd). r.name) (λ (h : Host). h.users) back.pairs.users s.loaded users,
-      each_had (λ (r : Passwd). r.name) (λ (h : Host). h.users) back.pairs.users s.loaded users,
-      each_mapped (λ (r : Group). r.name) (λ (h : Host). h.groups) back.pairs.groups s.loaded groups,
-      each_had (λ (r : Group). r.name) (λ (h : Host). h.groups) back.pairs.groups s.loaded groups,
+    ∙ named_somewhere (λ (r : Group). r.name) (λ (r : Group). r.gid) (λ (h : Host). h.groups) (λ (h : Host). h.ranges.gid) (λ (h : Host). h.ranges.sys_gid) hosts n in
+    let checked : names_checked back.pairs hosts ≡ Ok tt = rw (
+      each_mapped (λ (r : Passwd). r.name) (λ (h : Host). h.users) back.pairs.users hosts users,
+      each_had (λ (r : Passwd). r.name) (λ (h : Host). h.users) back.pairs.users hosts users,
+      each_mapped (λ (r : Group). r.name) (λ (h : Host). h.groups) back.pairs.groups hosts groups,
+      each_had (λ (r : Group). r.name) (λ (h : Host). h.groups) back.pairs.groups hosts groups,
     ) refl in
     rw (listed.1, s.hosts_are, back.read, checked, s.files_are) (ap (λ c. Ok c) (costs_agree site o.mappings back.pairs whole back.users back.groups ∙ sym o.printed.cost))

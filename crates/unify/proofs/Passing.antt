@@ -28,7 +28,7 @@ use Rattle.unify.proofs.Turns.{again_if}
 
 -- ---- hosts with the texts that were ended
 
-loaded_none : (hosts : List Host) → loaded_from hosts [] ≡ []
+pub loaded_none : (hosts : List Host) → loaded_from hosts [] ≡ []
 loaded_none [] = refl
 loaded_none (h ∷ hosts) = refl
 
@@ -152,7 +152,7 @@ stands_ended c turn r rows before ended text host s here a fresh are_rows are_be
 pub met_here : (c : CountingValue) (turn : Turn) (host : Host) → slice_get c.hosts (ended_in c) ≡ Some host → met_on (slice_get c.hosts (ended_in c)) turn ≡ met_by host turn
 met_here c turn host here = ap (λ o. met_on o turn) here
 
-unmet : (P : Fault → Type 0) (o : Option Fault) → IfSome o (λ f. ⊥ × P f) → o ≡ None
+pub unmet : (P : Fault → Type 0) (o : Option Fault) → IfSome o (λ f. ⊥ × P f) → o ≡ None
 unmet P None h = refl
 unmet P (Some f) h = absurd h.0
 

@@ -50,7 +50,7 @@ mtrees-kept (t ∷ texts) loaded h =
     ∙ ap (λ ls. map (λ (l : Loaded). l.mtree) ls) (ok_same (first.0 ∷ rest.0) loaded rest.2)
 
 -- the hosts that were loaded, with the texts of the inventories, are what was loaded
-loaded-again : (texts : List HostText) (loaded : List Loaded) → each host_of texts ≡ Ok loaded → loaded_from (map (λ l. l.host) loaded) (map (λ t. t.mtree) texts) ≡ loaded
+pub loaded-again : (texts : List HostText) (loaded : List Loaded) → each host_of texts ≡ Ok loaded → loaded_from (map (λ l. l.host) loaded) (map (λ t. t.mtree) texts) ≡ loaded
 loaded-again texts loaded h = ap (λ ms. loaded_from (map (λ (l : Loaded). l.host) loaded) ms) (mtrees-kept texts loaded h) ∙ loaded_from-parts loaded
 
 -- what the inventories say

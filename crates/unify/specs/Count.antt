@@ -1,7 +1,7 @@
 -- The answer to count, or the first fault: the host list; host by host its files but the inventory; the map; host by host the
 -- inventory and its owners.
 -- Source: this project's own rule.
-use Rattle.std.specs.Prelude.{ℕ, Bool, List, Result, Ok, Err, is_some, find, bytes_eq, if◌then◌else◌, ◌&&◌}
+use Rattle.std.specs.Prelude.{ℕ, Bool, List, Result, Ok, Err, map, is_some, find, bytes_eq, if◌then◌else◌, ◌&&◌}
 use Rattle.std.specs.List.{list_all, list_any}
 use Rattle.idtext.specs.First.{◌>>=◌, each}
 use Rattle.hosts_join.specs.declared.texts.HostText.{HostText}
@@ -29,21 +29,21 @@ abbrev pub are_groups_mapped : List Pair → List Group → Bool
 are_groups_mapped pairs rows = list_all (λ row. is_some (number_of pairs row.name)) rows
 
 -- a host has the name
-abbrev pub has_user : List ℕ → Loaded → Bool
-has_user name loaded = is_some (find (λ row. bytes_eq name row.name) loaded.host.users)
+abbrev pub has_user : List ℕ → Host → Bool
+has_user name host = is_some (find (λ row. bytes_eq name row.name) host.users)
 
-abbrev pub has_group : List ℕ → Loaded → Bool
-has_group name loaded = is_some (find (λ row. bytes_eq name row.name) loaded.host.groups)
+abbrev pub has_group : List ℕ → Host → Bool
+has_group name host = is_some (find (λ row. bytes_eq name row.name) host.groups)
 
 -- the names of the map are exactly the names of the hosts
-abbrev pub is_user_map : List Pair → List Loaded → Bool
-is_user_map pairs hosts = list_all (λ loaded. are_users_mapped pairs loaded.host.users) hosts && list_all (λ p. list_any (has_user p.name) hosts) pairs
+abbrev pub is_user_map : List Pair → List Host → Bool
+is_user_map pairs hosts = list_all (λ host. are_users_mapped pairs host.users) hosts && list_all (λ p. list_any (has_user p.name) hosts) pairs
 
-abbrev pub is_group_map : List Pair → List Loaded → Bool
-is_group_map pairs hosts = list_all (λ loaded. are_groups_mapped pairs loaded.host.groups) hosts && list_all (λ p. list_any (has_group p.name) hosts) pairs
+abbrev pub is_group_map : List Pair → List Host → Bool
+is_group_map pairs hosts = list_all (λ host. are_groups_mapped pairs host.groups) hosts && list_all (λ p. list_any (has_group p.name) hosts) pairs
 
-abbrev pub names_checked : MapText → List Loaded → Result (Unit {0}) Fault
-names_checked map hosts = if is_user_map map.users hosts && is_group_map map.groups hosts then Ok tt else Err (BadMap 0)
+abbrev pub names_checked : MapText → List Host → Result (Unit {0}) Fault
+names_checked pairs hosts = if is_user_map pairs.users hosts && is_group_map pairs.groups hosts then Ok tt else Err (BadMap 0)
 
 -- a host with the files of its inventory
 abbrev pub site_of : Loaded → Result (Host × List Entry) Fault
@@ -51,12 +51,12 @@ site_of loaded = files_of loaded >>= λ files. Ok (loaded.host, files)
 
 -- the cost over all hosts and their files
 abbrev pub total_of : MapText → Result (List (Host × List Entry)) Fault → Result Cost Fault
-total_of map sites = sites >>= λ all. Ok (cost_of map all)
+total_of pairs sites = sites >>= λ all. Ok (cost_of pairs all)
 
 unfoldable pub count_of : List HostText → List ℕ → Result Cost Fault
 count_of texts map_text = do
-  list ← in_site (hosts_checked texts)
-  hosts ← each host_of texts
-  map ← map_of map_text
-  names ← names_checked map hosts
-  total_of map (each site_of hosts)
+  listed ← in_site (hosts_checked texts)
+  loaded ← each host_of texts
+  pairs ← map_of map_text
+  named ← names_checked pairs (map (λ l. l.host) loaded)
+  total_of pairs (each site_of loaded)

@@ -1,7 +1,7 @@
 //! What the texts of a host say.
 
 ghost use Rattle.std.specs.Prelude.{◌≡◌, ◌≤◌, [], length, Ok, Err, IfOk, IfErr, IfSome, All, option_map};
-ghost use Rattle.idtext.specs.First.{Gives, each, first_fault, unless};
+ghost use Rattle.idtext.specs.First.{Gives, each};
 ghost use Rattle.accounts.specs.Laws.{IsPasswdTable, IsGroupTable};
 ghost use Rattle.accounts.specs.Tables.{passwd_table, group_table};
 ghost use Rattle.logindefs.specs.Ranges.{IsHostRanges, ranges_of};
@@ -13,7 +13,7 @@ ghost use Rattle.unify_texts.specs.declared.fault.Fault.{Fault};
 ghost use Rattle.unify_texts.specs.declared.fault.Fault.TheVariants.{Line};
 ghost use Rattle.unify_texts.specs.Told.{told};
 ghost use Rattle.unify.specs.Told.{in_file, site_told, in_site};
-ghost use Rattle.unify.specs.Hosts.{host_of, owner_fault, files_of};
+ghost use Rattle.unify.specs.Hosts.{host_of, owner_fault};
 
 use accounts::{GroupTable, PasswdTable, read_group, read_passwd};
 use hosts_join::{Host, HostText, SiteFault, check_primary};
@@ -236,28 +236,4 @@ pub fn ownership_fault<'a>(
         }));
     }
     Ok(None)
-}
-
-// Whether each file is owned, up to the first that is not.
-fn check_owners<'a>(alloc: Global, host: &Host<'a>, files: &[Entry]) -> Result<(), Fault<'a>>
-    ensures { Gives (λ x. x) told result (unless (first_fault (owner_fault host.now) [] files.now) tt) }
-{
-    for file in files {
-        if let Some(fault) = ownership_fault(alloc, host, file)? {
-            return Err(fault);
-        }
-    }
-    Ok(())
-}
-
-/// Reads a host's inventory of at most 16,777,216 files, and then checks that the uid and the gid of each file are
-/// numbers of a user and of a group on the host, in inventory order, uid before gid. One pass over the text.
-#[tactic(auto, unfolding(crate::specs::Hosts::files_of))]
-pub fn load_files<'a>(alloc: Global, host: &Host<'a>, mtree: &[u8]) -> Result<Inventory, Fault<'a>>
-    ensures exact { Gives (λ files. files) told result (files_of (record { host = host.now; mtree = mtree.now })) }
-    ensures few { IfOk result (λ files. length files ≤ 16777216) }
-{
-    let files = inventory_at(alloc, host.name.bytes(), mtree)?;
-    check_owners(alloc, host, files.entries())?;
-    Ok(files)
 }

@@ -7,7 +7,8 @@ ghost use Rattle.unify.specs.Lines.{cost_lines, accepted_line};
 ghost use Rattle.unify.specs.Output.{counted, checked, answered};
 ghost use Rattle.unify.specs.Replies.{reply_of};
 
-use crate::counting::{Cost, count};
+use crate::counting::Cost;
+use crate::texts::count;
 use crate::verifying::verify;
 use hosts_join::HostText;
 use idtext::push_number;

@@ -57,8 +57,8 @@ fn join_pinned<'a>(alloc: Global, hosts: &[Host<'a>], pins: &'a [u8]) -> Result<
     join_hosts(alloc, hosts, &pins)
 }
 
-// The hosts with their tables.
-fn load_tables<'a>(alloc: Global, texts: &'a [HostText]) -> Result<Vec<Host<'a>>, Fault<'a>>
+/// Reads the files of all hosts but their inventories, as `load_hosts` does, and keeps the tables alone.
+pub fn load_tables<'a>(alloc: Global, texts: &'a [HostText]) -> Result<Vec<Host<'a>>, Fault<'a>>
     ensures read { Yields (λ loaded hosts. hosts.items ≡ map (λ l. l.host) loaded) told result (each host_of texts.now) }
     ensures len { IfOk result (λ hosts. length hosts.items ≡ length texts.now) }
     ensures lawful { IfOk result (λ hosts. All IsLawfulHost hosts.items) }

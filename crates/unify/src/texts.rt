@@ -1,10 +1,12 @@
-//! Both passes over a site whose inventories are among its texts: each of them is one piece.
+//! The passes over a site whose inventories are among its texts: each of them is one piece.
 
 ghost use Rattle.std.specs.Prelude.{◌≡◌, ◌+◌, ◌<◌, ◌++◌, ◌∷◌, [], ℕ, List, length, Some, None, slice_get, MatchResult, OnOk};
 ghost use Rattle.idtext.specs.First.{Gives, Yields};
 ghost use Rattle.mtree_inv.specs.declared.entry.Entry.{Entry};
 ghost use Rattle.hosts_join.specs.declared.host.Host.{Host};
 ghost use Rattle.unify_texts.specs.Told.{told};
+ghost use Rattle.unify.specs.Costing as costed;
+ghost use Rattle.unify.specs.Count.{count_of};
 ghost use Rattle.unify.specs.Headline.{Headline};
 ghost use Rattle.unify.specs.Hosts.{files_of};
 ghost use Rattle.unify.specs.Laws.{IsWhole};
@@ -18,6 +20,8 @@ ghost use Rattle.unify.specs.SecondPass.{whole_plan};
 ghost use Rattle.unify.specs.Texts.{HasCounted, IsOfSite, IsTurnOf};
 ghost use Rattle.unify.specs.TwoPasses.{AreWholePlans};
 
+use crate::costing_pass::Costing;
+use crate::counting::Cost;
 use crate::counting_pass::Counting;
 use crate::outcome::{Outcome, TextList};
 use crate::solved_pass::Solved;
@@ -134,4 +138,35 @@ pub fn consolidate<'a>(
         Ok(solved) => with_plans(alloc, solved, hosts),
         Err((_counting, fault)) => Err(fault),
     }
+}
+
+// Takes the inventory of the next host, which is this text.
+fn cost_text<'a>(costing: &mut Costing<'a>, text: &[u8]) -> Result<(), Fault<'a>>
+    requires left { costing.old.ended < length costing.old.hosts }
+    ensures told { (ended : List (List ℕ)) (host : Host) → costed.StandsFor costing.old ended [] → slice_get costing.old.hosts costing.old.ended ≡ Some host → Gives (λ _. tt) told result (is_read (files_of (record { host = host; mtree = text.now }))) }
+    ensures stands { OnOk result ((ended : List (List ℕ)) → costed.StandsFor costing.old ended [] → costed.StandsFor costing.new (ended ++ text.now ∷ []) []) }
+    ensures ended { OnOk result (costing.new.ended ≡ costing.old.ended + 1) }
+    ensures site { (costing.new.hosts ≡ costing.old.hosts) × (costing.new.names ≡ costing.old.names) }
+{
+    costing.piece(text)?;
+    costing.end_host()
+}
+
+/// How many owner and group fields of the hosts' files the numbers of a map text change, for any map whose names are
+/// exactly those of the hosts; it need keep no pin and no pool.
+///
+/// It refuses with the first fault in this order: the host list; host by host login.defs, passwd, group and the primary
+/// groups; the map, by line, and then at line 0 where its names are not exactly the hosts' names; host by host the
+/// inventory, and then its owners. `Fault::Memory` is a growth that was refused.
+///
+/// It reads each text once, and each owner by hash, so it takes time linear in the texts (a map's names are looked up on
+/// each host). It keeps the tables of all hosts, which borrow their texts, and the paths of one inventory at a time.
+pub fn count<'a>(alloc: Global, hosts: &'a [HostText], map: &'a [u8]) -> Result<Cost, Fault<'a>>
+    ensures { Gives (λ cost. cost) told result (count_of hosts.now map.now) }
+{
+    let mut costing = Costing::start(alloc, hosts, map)?;
+    for text in hosts {
+        cost_text(&mut costing, text.mtree.bytes())?;
+    }
+    Ok(costing.cost())
 }

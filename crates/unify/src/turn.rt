@@ -30,8 +30,8 @@ pub struct Turn {
     pub unowned: Option<Entry>,
 }
 
-// A fault of the reader, told with its host.
-fn read_fault<'a>(host: &Host<'a>, fault: ReadError) -> Fault<'a>
+/// A fault of the reader, told with its host. Constant time.
+pub fn read_fault<'a>(host: &Host<'a>, fault: ReadError) -> Fault<'a>
     ensures { result ≡ read_told host.now fault }
 {
     match fault {
@@ -40,8 +40,8 @@ fn read_fault<'a>(host: &Host<'a>, fault: ReadError) -> Fault<'a>
     }
 }
 
-// The fault of a file without an account, or want of memory for its path.
-fn tell_owner<'a>(alloc: Global, host: &Host<'a>, unowned: &Option<Entry>) -> Fault<'a>
+/// The fault of a file without an account, or want of memory for its path. Two look-ups by hash.
+pub fn tell_owner<'a>(alloc: Global, host: &Host<'a>, unowned: &Option<Entry>) -> Fault<'a>
     ensures { IsToldAs (owner_told host.now unowned.now) result }
 {
     let Some(entry) = unowned else {
@@ -54,8 +54,8 @@ fn tell_owner<'a>(alloc: Global, host: &Host<'a>, unowned: &Option<Entry>) -> Fa
     }
 }
 
-// Drops the files that wait.
-fn drain(reader: &mut Reader)
+/// Drops the files that wait.
+pub fn drain(reader: &mut Reader)
     ensures stays { reader.new ≡ record reader.old { waiting = [] } }
     ensures stands { (text : List ℕ) → standing.StandsFor reader.old text → standing.StandsFor reader.new text }
 {

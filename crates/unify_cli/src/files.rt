@@ -134,17 +134,6 @@ pub fn read_hosts_tables(rt: &HostRuntime, words: &[&str]) -> Result<Vec<HostTex
     Ok(hosts)
 }
 
-/// The texts of the hosts that words name, in order.
-pub fn read_hosts(rt: &HostRuntime, words: &[&str]) -> Result<Vec<HostText>, FileFault> {
-    let mut hosts = Vec::new(rt.alloc());
-    for word in words {
-        let mut host = read_tables(rt, *word)?;
-        host.mtree = read_host_file(rt, host_directory(*word), "mtree")?;
-        hosts.push(host)?;
-    }
-    Ok(hosts)
-}
-
 /// Hosts with the texts of all their files but their inventories, and of each whether its inventory has a file in it.
 #[derive(Drop)]
 pub struct SeenHosts {

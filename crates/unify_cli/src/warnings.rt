@@ -113,11 +113,6 @@ pub fn is_of_file(line: &[u8]) -> bool {
     }
 }
 
-// Whether an inventory has a file in it.
-fn has_file(text: &[u8]) -> bool {
-    Lines::new(text).any(|line| is_of_file(line))
-}
-
 /// Warns of a host without files.
 pub fn warn_of_no_files(rt: &HostRuntime, name: &[u8]) -> Result<(), AllocError> {
     warn_of_host(rt, name, "has no files")
@@ -149,17 +144,6 @@ fn warn_of_tables(rt: &HostRuntime, host: &HostText) -> Result<(), AllocError> {
 pub fn warn_of_hosts_tables(rt: &HostRuntime, hosts: &[HostText]) -> Result<(), AllocError> {
     for host in hosts {
         warn_of_tables(rt, host)?;
-    }
-    Ok(())
-}
-
-/// Warns of what the account files and the inventories of hosts have.
-pub fn warn_of_hosts(rt: &HostRuntime, hosts: &[HostText]) -> Result<(), AllocError> {
-    warn_of_hosts_tables(rt, hosts)?;
-    for host in hosts {
-        if !has_file(host.mtree.bytes()) {
-            warn_of_no_files(rt, host.name.bytes())?;
-        }
     }
     Ok(())
 }

@@ -1,7 +1,7 @@
 //! Commands given in words.
 
 use crate::command_line::command_line;
-use crate::files::{FileFault, read_file, read_hosts, read_hosts_tables, see_hosts};
+use crate::files::{FileFault, read_file, read_hosts_tables, see_hosts};
 use crate::inventories::HostFiles;
 use crate::merge_warnings::warn_of_merge;
 use crate::output::open_output;
@@ -9,37 +9,14 @@ use crate::report::{
     file_fault_told, memory_refused, no_host, print_reply, write_failed, wrong_words,
 };
 use crate::site_files::SiteFiles;
-use crate::warnings::{warn_of_end, warn_of_hosts, warn_of_hosts_tables, warn_of_seen};
+use crate::warnings::{warn_of_end, warn_of_hosts_tables, warn_of_seen};
 use clap::error::ErrorKind;
 use clap::{ArgMatches, Error};
 use hosts_join::HostText;
 use idtext::ByteString;
 use std::alloc::AllocError;
-use unify::{accepted_reply, cost_reply, count_reply, refused, rehearse_reply};
-use unify_merge::{MergeFault, check_files, merge_files};
-
-// Prints what a map costs on hosts.
-fn count_hosts(
-    rt: &HostRuntime,
-    matches: &ArgMatches<'_>,
-    path: &str,
-    map: &ByteString,
-    hosts: &[HostText],
-) -> Result<u8, FileFault> {
-    if !matches.get_flag("quiet") {
-        warn_of_end(rt, path, map)?;
-        warn_of_hosts(rt, hosts)?;
-    }
-    Ok(print_reply(rt, &count_reply(rt.alloc(), hosts, map.bytes())?))
-}
-
-// count [--quiet] MAP HOST...
-fn run_count(rt: &HostRuntime, matches: &ArgMatches<'_>) -> Result<u8, FileFault> {
-    let path = matches.get_str("MAP").unwrap_or("");
-    let map = read_file(rt, path)?;
-    let hosts = read_hosts(rt, matches.get_strs("HOST").unwrap_or(&[]))?;
-    count_hosts(rt, matches, path, &map, &hosts)
-}
+use unify::{accepted_reply, cost_reply, refused, rehearse_reply};
+use unify_merge::{MergeFault, check_files, count_files, merge_files};
 
 // The pins text, empty where none is named.
 fn read_pins(rt: &HostRuntime, matches: &ArgMatches<'_>) -> Result<ByteString, FileFault> {
@@ -69,6 +46,33 @@ fn reading_refused(
         MergeFault::TooLarge => Err(files.too_large()),
         MergeFault::Failed => Err(files.fault()),
     }
+}
+
+// Prints what a map costs on the hosts that words name.
+fn count_hosts(
+    rt: &HostRuntime,
+    words: &[&str],
+    map: &ByteString,
+    hosts: &[HostText],
+) -> Result<u8, FileFault> {
+    let mut files = HostFiles::new(rt, words);
+    match count_files(rt.alloc(), &mut files, hosts, map.bytes()) {
+        Ok(cost) => Ok(print_reply(rt, &cost_reply(rt.alloc(), cost)?)),
+        Err(fault) => reading_refused(rt, &files, &fault),
+    }
+}
+
+// count [--quiet] MAP HOST...
+fn run_count(rt: &HostRuntime, matches: &ArgMatches<'_>) -> Result<u8, FileFault> {
+    let path = matches.get_str("MAP").unwrap_or("");
+    let map = read_file(rt, path)?;
+    let words = matches.get_strs("HOST").unwrap_or(&[]);
+    let seen = see_hosts(rt, words)?;
+    if !matches.get_flag("quiet") {
+        warn_of_end(rt, path, &map)?;
+        warn_of_seen(rt, &seen)?;
+    }
+    count_hosts(rt, words, &map, &seen.hosts)
 }
 
 // Prints what a check of a certificate of the hosts that words name gives.

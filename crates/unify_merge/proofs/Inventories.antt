@@ -14,9 +14,11 @@ use Rattle.hosts_join.specs.Site.{joined_site}
 use Rattle.hosts_join.specs.declared.host.Host.{Host}
 use Rattle.hosts_join.specs.declared.texts.HostText.{HostText}
 use Rattle.unify_texts.specs.declared.bundle_line.FileName.TheVariants as file
+use Rattle.unify_texts.specs.Maps.{map_of}
 use Rattle.unify_texts.specs.declared.fault.Fault.{Fault}
 use Rattle.unify.specs.declared.host.Loaded.{Loaded}
-use Rattle.unify.specs.Count.{site_of}
+use Rattle.unify.specs.Costing.{BegunCost, cost_begun}
+use Rattle.unify.specs.Count.{names_checked, site_of}
 use Rattle.unify.specs.Hosts.{host_of}
 use Rattle.unify.specs.Loading.{loaded_from}
 use Rattle.unify.specs.Passes.{BegunSite, site_begun}
@@ -24,7 +26,7 @@ use Rattle.unify.specs.Reading.{site_read}
 use Rattle.unify.specs.Told.{in_file, in_pins, in_site}
 use Rattle.unify.proofs.Adding.{loaded_hosts}
 use Rattle.unify.proofs.TwoPasses.{first-step, site_is}
-use Rattle.unify_merge.specs.Check.{with_inventories}
+use Rattle.unify_merge.specs.FirstReading.{with_inventories}
 
 -- ---- the list of hosts
 
@@ -109,6 +111,15 @@ begun-with hosts texts pins same =
   where
     joined : List Host → Result BegunSite Fault
     joined tables = in_pins (pins_of pins) >>= λ pairs. in_site (joined_site tables pairs) >>= λ all. Ok (record { hosts = tables; joined = all })
+
+pub cost_begun-with : (hosts : List HostText) (texts : List (List ℕ)) (map_text : List ℕ) → length texts ≡ length hosts → cost_begun (with_inventories hosts texts) map_text ≡ cost_begun hosts map_text
+unfolding cost_begun
+cost_begun-with hosts texts map_text same =
+    ap (λ list. in_site list >>= λ listed. each host_of (with_inventories hosts texts) >>= λ loaded. mapped (map (λ (l : Loaded). l.host) loaded)) (list-with hosts texts same)
+    ∙ ap (λ r. in_site (hosts_checked hosts) >>= λ listed. r) (tables-with hosts texts mapped same)
+  where
+    mapped : List Host → Result BegunCost Fault
+    mapped tables = map_of map_text >>= λ pairs. names_checked pairs tables >>= λ named. Ok (record { hosts = tables; names = pairs })
 
 -- ---- a site whose inventories were read
 

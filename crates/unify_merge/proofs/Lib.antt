@@ -9,3 +9,4 @@ pub mod AllPlanned
 pub mod WholeMerge
 pub mod Inventories
 pub mod WholeCheck
+pub mod WholeCount

@@ -1,30 +1,15 @@
 -- What a check of a certificate does, from the bytes that it reads to its answer.
 -- Source: this project's own rule.
-use Rattle.std.specs.Prelude.{◌≡◌, ℕ, ◌⊎◌, Bool, true, List, [], ◌∷◌, ◌++◌, length, Ok, Err, IfSome}
+use Rattle.std.specs.Prelude.{◌≡◌, ℕ, ◌⊎◌, Bool, true, List, Ok, Err, IfSome}
 use Rattle.hosts_join.specs.declared.texts.HostText.{HostText}
 use Rattle.unify_texts.specs.Told.{told}
 use Rattle.unify_texts.specs.declared.fault.Fault.{Fault}
 use Rattle.unify.specs.Checking.{IsVerified, verified}
 use Rattle.unify.specs.Passes.{BegunSite, site_begun}
 use Rattle.unify_merge.specs.Ledger.{Ledger}
-use Rattle.unify_merge.specs.FirstReading.{IsInventoryFault, IsTooLarge, readings_from}
+use Rattle.unify_merge.specs.FirstReading.{IsInventoryFault, IsTooLarge, WereEachRead, with_inventories}
 use Rattle.unify_merge.specs.declared.fault.MergeFault.{MergeFault}
 use Rattle.unify_merge.specs.declared.fault.MergeFault.TheVariants.{Failed, TooLarge, Refused}
-
--- ---- inventories that were read
-
--- the texts of hosts, with these inventories
-abbrev pub with_inventories : List HostText → List (List ℕ) → List HostText
-with_inventories [] texts = []
-with_inventories (host ∷ hosts) [] = []
-with_inventories (host ∷ hosts) (text ∷ texts) = record host { mtree = text } ∷ with_inventories hosts texts
-
--- the inventory of each host was read once, in order, as these texts
-pub record WereEachRead (hosts : List HostText) (texts : List (List ℕ)) (old new : Ledger) : Type 0 where
-  pub one_each : length texts ≡ length hosts
-  pub readings : new.read ≡ old.read ++ readings_from 0 texts
-
--- ---- a check
 
 -- The inventory of each host was read once. With these this is the cost that a check answers, and it means what a yes does.
 pub record HasChecked (hosts : List HostText) (pins certificate : List ℕ) (old new : Ledger) (cost : ℕ) : Type 0 where

@@ -4,6 +4,7 @@ use Rattle.std.specs.Prelude.{◌≡◌, ℕ, ◌+◌, ◌<◌, ◌⊎◌, Bool,
 use Rattle.idtext.specs.First.{each}
 use Rattle.mtree_inv.specs.declared.entry.Entry.{Entry}
 use Rattle.hosts_join.specs.declared.host.Host.{Host}
+use Rattle.hosts_join.specs.declared.texts.HostText.{HostText}
 use Rattle.unify_texts.specs.Told.{told}
 use Rattle.unify_texts.specs.declared.fault.Fault.{Fault}
 use Rattle.unify.specs.Count.{site_of}
@@ -70,3 +71,16 @@ abbrev pub StopsCounting : List Host → Ledger → Ledger → Bool → MergeFau
 StopsCounting hosts old new failed Failed = failed ≡ true
 StopsCounting hosts old new failed TooLarge = IsTooLarge new
 StopsCounting hosts old new failed (Refused e) = IfSome (told e) (IsInventoryFault hosts old new)
+
+-- ---- inventories that were read
+
+-- the texts of hosts, with these inventories
+abbrev pub with_inventories : List HostText → List (List ℕ) → List HostText
+with_inventories [] texts = []
+with_inventories (host ∷ hosts) [] = []
+with_inventories (host ∷ hosts) (text ∷ texts) = record host { mtree = text } ∷ with_inventories hosts texts
+
+-- the inventory of each host was read once, in order, as these texts
+pub record WereEachRead (hosts : List HostText) (texts : List (List ℕ)) (old new : Ledger) : Type 0 where
+  pub one_each : length texts ≡ length hosts
+  pub readings : new.read ≡ old.read ++ readings_from 0 texts

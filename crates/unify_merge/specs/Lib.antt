@@ -7,3 +7,4 @@ pub mod SecondReading
 pub mod HostFiles
 pub mod Merge
 pub mod Check
+pub mod Count

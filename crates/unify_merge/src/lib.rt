@@ -2,6 +2,7 @@
 #![tactic(auto)]
 
 mod check;
+mod count;
 mod fault;
 mod files;
 mod first_reading;
@@ -13,6 +14,7 @@ mod second_reading;
 mod whole_file;
 
 pub use check::check_files;
+pub use count::count_files;
 pub use fault::MergeFault;
 pub use files::{CallFailed, MergeFiles, ReadFiles};
 pub use log::{Call, Log};

@@ -1,0 +1,19 @@
+use Rattle.std.proofs.Common.{◌≡◌, ◌+◌, ◌≤◌, ◌++◌, ℕ, List, None, length}
+use Rattle.mtree_inv.specs.Standing as standing
+use Rattle.mtree_inv.specs.declared.entry.Entry.{Entry}
+use Rattle.unify.specs.Costing.{AreCosted}
+use Rattle.unify.proofs.cost_turn.cost_waiting.Given as goal
+
+-- done: the files that were counted
+abbrev pub invariant-loop-entry : goal.invariant-loop-entry
+invariant-loop-entry l = record {
+  stays : l.from ≡ record l.initial.from { waiting = l.from.waiting };
+  stands : (text : List ℕ) → standing.StandsFor l.initial.from text → standing.StandsFor l.from text;
+  done : List Entry;
+  so_far : l.initial.from.waiting ≡ done ++ l.from.waiting;
+  costed : (files : List Entry) → AreCosted l.names l.host l.initial.cost None files → AreCosted l.names l.host l.cost None (files ++ done);
+  room : (l.cost.users + length l.from.waiting ≤ 2147483648) × (l.cost.groups + length l.from.waiting ≤ 2147483648);
+}
+
+abbrev pub decreases-loop-entry : goal.decreases-loop-entry
+decreases-loop-entry l = length l.from.waiting

@@ -1,0 +1,19 @@
+use Rattle.std.proofs.Common.{◌++◌, ◌∷◌, [], sym, ap, ◌∙◌}
+use Rattle.unify_merge.specs.Ledger.{Ledger, Reading}
+use Rattle.unify_merge.proofs.Readings.{first_same, if_err, on_ok}
+use Rattle.unify_merge.proofs.count.cost_host.Goals as goal
+
+pub returns-clause-counted : goal.returns-clause-counted
+returns-clause-counted g c =
+    let opened = ap (λ (l : Ledger). l.read) c.in_ok-open.ensures.opened in
+    on_ok c.cost_reading.result _ _ (λ counted ended stands.
+    let it = counted ended stands in
+    (it.0, it.1, it.2 ∙ (λ j. opened j ++ record { host = sym c.requires.next j; text = it.0 } ∷ [])))
+    c.cost_reading.ensures.counted
+
+pub returns-clause-stopped : goal.returns-clause-stopped
+returns-clause-stopped g c =
+    let opened = ap (λ (l : Ledger). l.read) c.in_ok-open.ensures.opened in
+    if_err c.cost_reading.result _ _ (λ fault stopped ended host stands here.
+    first_same host _ _ _ _ (g.F.ReadFiles.ledger c.cost_reading.new.files) _ fault (sym c.requires.next) opened (stopped ended host stands (rw c.requires.next at here)))
+    c.cost_reading.ensures.stopped

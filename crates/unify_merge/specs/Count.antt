@@ -1,0 +1,31 @@
+-- What a count of a map does, from the bytes that it reads to its answer.
+-- Source: this project's own rule.
+use Rattle.std.specs.Prelude.{◌≡◌, ℕ, ◌⊎◌, Bool, true, List, Ok, Err, Result, IfSome}
+use Rattle.hosts_join.specs.declared.texts.HostText.{HostText}
+use Rattle.unify_texts.specs.Told.{told}
+use Rattle.unify_texts.specs.declared.fault.Fault.{Fault}
+use Rattle.unify.specs.declared.counting.Cost.{Cost}
+use Rattle.unify.specs.Costing.{BegunCost, cost_begun}
+use Rattle.unify.specs.Count.{count_of}
+use Rattle.unify_merge.specs.Ledger.{Ledger}
+use Rattle.unify_merge.specs.FirstReading.{IsInventoryFault, IsTooLarge, WereEachRead, with_inventories}
+use Rattle.unify_merge.specs.declared.fault.MergeFault.{MergeFault}
+use Rattle.unify_merge.specs.declared.fault.MergeFault.TheVariants.{Failed, TooLarge, Refused}
+
+-- The inventory of each host was read once. With these this is the cost that a count answers.
+pub record HasCounted (hosts : List HostText) (map_text : List ℕ) (old new : Ledger) (cost : Cost) : Type 0 where
+  pub texts : List (List ℕ)
+  pub were_read : WereEachRead hosts texts old new
+  pub answer : count_of (with_inventories hosts texts) map_text ≡ Ok cost
+
+-- the first fault of what was read: of the tables or the map; or of an inventory
+abbrev pub IsCountFault : List HostText → List ℕ → Ledger → Ledger → Fault → Type 0
+IsCountFault hosts map_text old new f =
+    ((cost_begun hosts map_text ≡ Err f) × (new ≡ old))
+    ⊎ ((begun : BegunCost) × (cost_begun hosts map_text ≡ Ok begun) × IsInventoryFault begun.hosts old new f)
+
+-- why a count ended early: a call failed, an inventory is too large, or what was read is refused; or memory was wanting
+abbrev pub StopsCount : List HostText → List ℕ → Ledger → Ledger → Bool → MergeFault → Type 0
+StopsCount hosts map_text old new failed Failed = failed ≡ true
+StopsCount hosts map_text old new failed TooLarge = IsTooLarge new
+StopsCount hosts map_text old new failed (Refused e) = IfSome (told e) (IsCountFault hosts map_text old new)
