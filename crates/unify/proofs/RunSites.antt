@@ -1,5 +1,5 @@
 -- A site whose plans were carried out, from its parts.
-use Rattle.std.proofs.Common.{◌≡◌, ℕ, zero, suc, ◌+◌, ◌<◌, List, [], ◌∷◌, length, map, Some, None, Ok, refl, sym, ap, subst, ◌∙◌, arith}
+use Rattle.std.proofs.Common.{◌≡◌, ℕ, zero, suc, ◌+◌, List, [], ◌∷◌, length, map, Some, None, Ok, refl, sym, ap, subst, ◌∙◌, arith}
 use Rattle.std.specs.List.{All, slice_get}
 use Rattle.std.proofs.lemmas.List.{length-map}
 use Rattle.std.proofs.lemmas.List.Elements.{All-nil, All-cons}
@@ -20,7 +20,6 @@ use Rattle.reown_runner.specs.declared.campaign.Event.{Event}
 use Rattle.reown_runner.specs.declared.memory.Keep.{Keep}
 use Rattle.reown_runner.specs.declared.runner.Place.TheVariants.{Start}
 use Rattle.reown_runner.specs.Campaign.{EachGoes}
-use Rattle.reown_runner.specs.Campaign.{host_of as events_of}
 use Rattle.reown_runner.specs.Memory.{Mem, known_mem, owner_in}
 use Rattle.reown_runner.specs.RunnerData.{RunnerData}
 use Rattle.reown_runner.specs.World.{World}

@@ -1,4 +1,4 @@
-use Rattle.std.proofs.Common.{◌<◌, List, length, map, subst, sym, ap, ◌∙◌}
+use Rattle.std.proofs.Common.{◌<◌, length, map, subst, sym, ap, ◌∙◌}
 use Rattle.std.specs.List.{All}
 use Rattle.std.proofs.lemmas.List.{length-map}
 use Rattle.hosts_join.specs.declared.texts.HostText.{HostText}

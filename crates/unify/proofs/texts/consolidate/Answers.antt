@@ -1,10 +1,7 @@
-use Rattle.std.proofs.Common.{None}
-use Rattle.std.specs.Prelude.{MatchResult}
-use Rattle.unify_texts.specs.Told.{told}
 use Rattle.unify.specs.Headline.{Headline}
 use Rattle.unify.specs.Outcomes.{IsOutcome}
 use Rattle.unify.specs.Reading.{site_read}
-use Rattle.unify.proofs.OnePiece.{each_text_again, either_right, merged_for, of_site, yielded}
+use Rattle.unify.proofs.OnePiece.{either_right, merged_for, of_site, yielded}
 use Rattle.unify.proofs.Reading.{read_sites_are_whole}
 use Rattle.unify.proofs.texts.consolidate.Goals as goal
 

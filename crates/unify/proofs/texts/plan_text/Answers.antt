@@ -1,11 +1,11 @@
-use Rattle.std.proofs.Common.{◌≡◌, ◌++◌, [], Ok, Some, refl, sym, ap, ◌∙◌}
+use Rattle.std.proofs.Common.{◌≡◌, ◌++◌, [], refl, sym, ap, ◌∙◌}
 use Rattle.std.specs.List.{slice_get}
 use Rattle.std.proofs.lemmas.Result.{err_from_is_err_and}
 use Rattle.idtext.proofs.OkLemmas.{ok_same}
 use Rattle.unify_texts.specs.Told.{told}
 use Rattle.unify.specs.Passes.{is_read}
 use Rattle.unify.specs.RowFiles.{row_files}
-use Rattle.unify.specs.SecondPass.{SolvedValue, or_changed, second_lines, whole_plan}
+use Rattle.unify.specs.SecondPass.{or_changed, second_lines, whole_plan}
 use Rattle.unify.proofs.OnePiece.{lines_again, never_told, not_told}
 use Rattle.unify.proofs.texts.plan_text.Goals as goal
 

@@ -1,11 +1,10 @@
-use Rattle.std.proofs.Common.{◌≡◌, ◌+◌, ◌<◌, ◌++◌, ◌∷◌, [], List, ℕ, length, map, None, Some, refl, sym, ap, subst, ◌∙◌, arith}
+use Rattle.std.proofs.Common.{◌+◌, ◌++◌, ◌∷◌, [], Some, refl, sym, ap, subst, ◌∙◌, arith}
 use Rattle.std.specs.List.{slice_get}
 use Rattle.std.specs.Option.{option_map}
 use Rattle.std.proofs.lemmas.Option.{slice_get-get_or, slice_get-map}
 use Rattle.std.proofs.lemmas.Result.{err_from_is_err_and}
 use Rattle.hosts_join.specs.declared.texts.HostText.{HostText}
 use Rattle.unify.specs.SecondPass.{SolvedValue}
-use Rattle.unify.specs.Texts.{mtrees}
 use Rattle.unify.proofs.Agreeing.{item_at}
 use Rattle.unify.proofs.OnePiece.{ArePlannedSoFar, all_planned, none_planned, one_planned, turn_of}
 use Rattle.unify.proofs.texts.plan_texts.Goals as goal
