@@ -1,6 +1,6 @@
 -- What a map changes of inventories that come in pieces, host by host, and of which no text is kept.
 -- Source: this project's own rule.
-use Rattle.std.specs.Prelude.{◌≡◌, ◌≤◌, ◌*◌, ℕ, true, false, List, [], map, length, Option, Some, None, Result, Ok, slice_get}
+use Rattle.std.specs.Prelude.{◌≡◌, ◌≤◌, ◌*◌, ℕ, false, List, [], map, length, Option, Some, None, Result, Ok, slice_get}
 use Rattle.idtext.specs.First.{◌>>=◌, each, first_fault}
 use Rattle.mtree_inv.specs.declared.entry.Entry.{Entry}
 use Rattle.mtree_inv.specs.Standing as reader

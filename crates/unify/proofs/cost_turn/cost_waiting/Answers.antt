@@ -1,6 +1,5 @@
-use Rattle.std.proofs.Common.{List, [], ◌∷◌, ◌++◌, None, length, sym, ap, subst, ◌∙◌, arith, append_assoc}
+use Rattle.std.proofs.Common.{[], ◌∷◌, ◌++◌, None, length, sym, ap, subst, ◌∙◌, arith, append_assoc}
 use Rattle.mtree_inv.specs.Standing.{ReaderValue}
-use Rattle.mtree_inv.specs.declared.entry.Entry.{Entry}
 use Rattle.unify.specs.Costing.{AreCosted}
 use Rattle.unify.specs.Hosts.{owner_fault}
 use Rattle.unify.proofs.CostTurns.{costed_first, costed_one, is_owned_none}

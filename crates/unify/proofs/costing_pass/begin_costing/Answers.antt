@@ -1,4 +1,4 @@
-use Rattle.std.proofs.Common.{◌≡◌, refl, sym, ◌∙◌, map, Ok, Err, ap, arith}
+use Rattle.std.proofs.Common.{◌≡◌, refl, ◌∙◌, map}
 use Rattle.std.proofs.lemmas.Result.{err_from_is_err_and}
 use Rattle.idtext.specs.First.{each}
 use Rattle.hosts_join.specs.Checks.{hosts_checked}

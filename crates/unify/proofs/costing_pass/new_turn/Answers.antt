@@ -1,4 +1,4 @@
-use Rattle.std.proofs.Common.{◌≡◌, None, [], refl, subst, sym}
+use Rattle.std.proofs.Common.{None, [], refl, subst, sym}
 use Rattle.idtext.specs.First.{first_fault}
 use Rattle.unify.specs.Costing.{AreCosted}
 use Rattle.unify.proofs.Costings.{nothing}
