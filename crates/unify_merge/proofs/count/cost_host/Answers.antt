@@ -1,5 +1,5 @@
 use Rattle.std.proofs.Common.{◌++◌, ◌∷◌, [], sym, ap, ◌∙◌}
-use Rattle.unify_merge.specs.Ledger.{Ledger, Reading}
+use Rattle.unify_merge.specs.Ledger.{Ledger}
 use Rattle.unify_merge.proofs.Readings.{first_same, if_err, on_ok}
 use Rattle.unify_merge.proofs.count.cost_host.Goals as goal
 
