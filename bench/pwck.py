@@ -1,12 +1,14 @@
 #!/usr/bin/env python3
-"""What pwck and grpck of the Debian package `passwd` say of the account files of examples/office: of each host's own, of these with
-their new numbers (passwd.NAME and group.NAME), and of the merged ones.
+"""What pwck and grpck of the Debian package `passwd` say of account files: of each host's own, of these with their new numbers
+(passwd.NAME and group.NAME), and of the merged ones. The hosts are those of examples/office, and then three that are made of a
+Debian system's own files: of those that its package base-passwd has, and of this machine's, with people who have other numbers
+on each.
 
     bench/pwck.py [PROGRAM]
 
-PROGRAM is what `make program` built, if none is named. It wants root, since pwck and grpck are run with `--root` in a folder that has
-the two files as /etc/passwd and /etc/group, and the homes and shells that the passwd names. Ends with status 1 where they say
-something else of a host's own files with their new numbers than of those that the host had.
+PROGRAM is what `make program` built, if none is named. It wants Debian, and root, since pwck and grpck are run with `--root` in a
+folder that has the two files as /etc/passwd and /etc/group, and the homes and shells that the passwd names. Ends with status 1
+where they say something else of a host's own files with their new numbers than of those that the host had.
 """
 import pathlib
 import subprocess
@@ -16,7 +18,15 @@ import tempfile
 from measure import HERE, UNIFY
 
 OFFICE = pathlib.Path(HERE).parent / "examples/office"
-HOSTS = "amber", "basalt"
+# Debian's own passwd and group: as its package base-passwd has them, and as they are here.
+MASTER = "/usr/share/base-passwd/passwd.master", "/usr/share/base-passwd/group.master"
+HERE_TOO = "/etc/passwd", "/etc/group"
+# Of each host what it is made of, and its people with their numbers.
+DEBIAN = {
+    "web": (MASTER, {"ada": 1100, "zoe": 1101}),
+    "db": (HERE_TOO, {"zoe": 1100, "ada": 1101}),
+    "build": (MASTER, {"ada": 1101, "eve": 1100}),
+}
 
 
 def lay_out(root, passwd, group):
@@ -45,19 +55,42 @@ def said(passwd, group):
         return told
 
 
-def main(program=UNIFY):
+def debian_hosts(folder):
+    """Makes the folders of the hosts of Debian's own files; each of the people has a file there."""
+    for host, ((passwd, group), people) in DEBIAN.items():
+        (folder / host).mkdir()
+        rows = "".join(f"{name}:x:{uid}:{uid}:{name}:/home/{name}:/bin/sh\n" for name, uid in people.items())
+        (folder / host / "passwd").write_text(pathlib.Path(passwd).read_text() + rows)
+        rows = "".join(f"{name}:x:{gid}:\n" for name, gid in people.items())
+        (folder / host / "group").write_text(pathlib.Path(group).read_text() + rows)
+        (folder / host / "login.defs").write_text("SYS_UID_MIN 100\nSYS_GID_MIN 100\n")
+        files = "".join(f"./home/{name} uid={number} gid={number}\n" for name, number in people.items())
+        (folder / host / "mtree").write_text(files)
+
+
+def told_of(program, hosts):
+    """Merges the hosts, whose folders are given by name, prints what is said, and tells whose own files differ in that."""
+    differ = []
     with tempfile.TemporaryDirectory() as name:
         out = pathlib.Path(name)
-        words = [program, "merge", "-q", out, *(f"{host}={OFFICE / host}" for host in HOSTS)]
+        words = [program, "merge", "-q", out, *(f"{host}={folder}" for host, folder in hosts.items())]
         subprocess.run(words, check=True, stdout=subprocess.DEVNULL)
-        differ = []
-        for host in HOSTS:
-            before = said(OFFICE / host / "passwd", OFFICE / host / "group")
+        for host, folder in hosts.items():
+            before = said(folder / "passwd", folder / "group")
             after = said(out / f"passwd.{host}", out / f"group.{host}")
             print(f"{host}, its own:", *before, sep="\n  ")
             print(f"{host}, with new numbers:", *after, sep="\n  ")
             differ += [host] * (before != after)
         print("merged:", *said(out / "passwd", out / "group"), sep="\n  ")
+    return differ
+
+
+def main(program=UNIFY):
+    differ = told_of(program, {host: OFFICE / host for host in ("amber", "basalt")})
+    with tempfile.TemporaryDirectory() as name:
+        folder = pathlib.Path(name)
+        debian_hosts(folder)
+        differ += told_of(program, {host: folder / host for host in DEBIAN})
     print(f"not the same: {' '.join(differ)}" if differ else "the same of each host's own files, before and after")
     return bool(differ)
 
