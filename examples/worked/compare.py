@@ -5,10 +5,10 @@
 
 README.md beside this file has the form of the examples. Also compared: examples that are too large to be kept as files,
 each prefix of merge/root-only.bundle, the whole one byte a read, inputs and outputs that fail, the command line, certificates
-and plans that end too early, each merge by words with directories, inventories of many pieces and one that changes or goes
-while it is read twice, the texts and the inventories of texts.py, and the merges of 300 small generated sites, of 40 contested
-ones and of all triples of users with few files, whose cost has to be the least of all admissible mappings, and what the check of
-the printed certificate answers.
+and plans that end too early, each merge with the hosts' own files, and by words with directories, inventories of many pieces and
+one that changes or goes while it is read twice, the texts and the inventories of texts.py, and the merges of 300 small generated
+sites, of 40 contested ones and of all triples of users with few files, whose cost has to be the least of all admissible mappings,
+and what the check of the printed certificate answers.
 
 Prints the first difference and ends with status 1 there; else the last line tells how many examples there were.
 """
@@ -27,13 +27,13 @@ from command_line import command_lines
 from cut_texts import cut_texts
 from sites import all_triples, contested_sites, some_site
 from texts import inventories, read_by_words, refused_texts, told_of, without_last_newlines
-from words import Bundle, merged_by_bundle, merged_by_words, merged_while_changing
+from words import Bundle, merged_by_bundle, merged_by_words, merged_while_changing, own_lines, with_hosts
 
 FOLDER = pathlib.Path(__file__).resolve().parent
 SITES = 300
 ENDINGS = {"bundle", "answer", "parts", "status", "accepted"}
 # So many there are at least: with fewer, some were lost.
-LEAST_FILES, LEAST_BY_WORDS, LEAST_BY_LINE, LEAST_CUT = 132, 85, 105, 280
+LEAST_FILES, LEAST_BY_WORDS, LEAST_BY_LINE, LEAST_CUT = 135, 85, 105, 280
 
 # The answers to the prefixes of merge/root-only.bundle: the first and the last length, the status, and the fault line or the
 # example that has the answer.
@@ -83,7 +83,7 @@ def has_part(answer, part):
 def check_of(bundle, answer):
     """The bundle that has the certificate of a merge's answer checked, with the same pins and hosts."""
     certificate = re.search(r"^file certificate\n(?:\|.*\n)*", answer, re.M)
-    return bundle.replace("run merge\n", "run check\n" + (certificate.group() if certificate else ""), 1)
+    return "run check\n" + (certificate.group() if certificate else "") + bundle.partition("\n")[2]
 
 
 def compare_accepted(program, name, bundle, answer, accepted):
@@ -227,13 +227,16 @@ def compare_cut_texts(program):
 
 
 def compare_words(program, bundles):
-    """Merges by words what is in bundles, and tells how many were compared."""
+    """Merges what is in bundles with the hosts' own files, which stand behind what is answered without them, and by words; and
+    tells how many were compared by words."""
     compared = 0
     for name, text in bundles:
         bundle = Bundle(text)
         status, answer = answered(program, text)
+        own = own_lines(answer, bundle) if status == 0 else ""
+        want(f"{name}, with the hosts' own files", (status, answer + own), answered(program, with_hosts(text)))
         if status != 2 and bundle.is_for_words():
-            want(f"{name}, by words", merged_by_bundle(status, answer, bundle), merged_by_words(program, bundle))
+            want(f"{name}, by words", merged_by_bundle(status, answer + own), merged_by_words(program, bundle))
             compared += 1
     return compared
 

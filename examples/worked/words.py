@@ -96,17 +96,29 @@ def own_files(texts, users, groups):
     return "\n".join(passwd), "\n".join(group)
 
 
-def merged_by_bundle(status, answer, bundle):
-    """The same, of the answer to the bundle: what is told stands in the report, and a refusal goes to standard error. Each host's
-    own files are made here by the map that was answered."""
+def with_hosts(text):
+    """The bundle of a merge that has each host's own files answered as well."""
+    return text.replace("run merge\n", "run merge hosts\n", 1)
+
+
+def own_lines(answer, bundle):
+    """What `run merge hosts` answers behind an answer to `run merge`: each host's own files, made here by the map that was
+    answered."""
+    numbers = dict(line.rsplit(" ", 1) for line in texts_of(answer.split("\n")[:-1])["map"].split("\n")[:-1])
+    users, groups = ({key.partition(" ")[2]: number for key, number in numbers.items() if key.startswith(kind)} for kind in ("user ", "group "))
+    lines = []
+    for name, texts in bundle.hosts:
+        for file, text in zip(("passwd", "group"), own_files(texts, users, groups)):
+            lines += [f"file {file}.{name}", *("|" + line for line in text.split("\n")[:-1])]
+    return "".join(line + "\n" for line in lines)
+
+
+def merged_by_bundle(status, answer):
+    """The same, of the answer to the bundle with the hosts' own files: what is told stands in the report, and a refusal goes to
+    standard error."""
     if status != 0:
         return status, "", answer, {}
     files = texts_of(answer.split("\n")[:-1])
-    rows = [line.rsplit(" ", 1) for line in files["map"].split("\n")[:-1]]
-    numbers = {key: number for key, number in rows}
-    users, groups = ({key.partition(" ")[2]: number for key, number in numbers.items() if key.startswith(kind)} for kind in ("user ", "group "))
-    for name, texts in bundle.hosts:
-        files[f"passwd.{name}"], files[f"group.{name}"] = own_files(texts, users, groups)
     changed = re.findall(r"^(user|group)-fields (\d+) of", files["report"], re.M)
     return status, "".join(f"{kind}-fields {number}\n" for kind, number in changed), "", files
 

@@ -2,11 +2,13 @@
 
 mod campaigns;
 mod failures;
+mod keep_texts;
+mod marks;
 mod readers;
 mod stops;
 
 use mtree_inv::read_inventory;
-use reown_plan::Owner;
+use reown_plan::{Owner, Plan};
 use reown_runner::{MemTree, Tree};
 use std::alloc::Global;
 use std::process::Abort;
@@ -43,11 +45,11 @@ fn tree_of(alloc: Global, text: &[u8]) -> Result<MemTree, Fail> {
     Ok(MemTree::new(alloc, &inventory)?)
 }
 
-// Whether each file of the plan is at its new owner, and the mark.
-fn check<T: Tree>(rt: &impl Abort, tree: &mut T, new: [bool; 6], mark: bool) {
+// Whether each file of the plan is at its new owner, and whether the tree is marked for it.
+fn check<T: Tree>(rt: &impl Abort, plan: &Plan, tree: &mut T, new: [bool; 6], marked: bool) {
     for ((path, old_uid, new_uid), is_new) in FILES.iter().zip(new.iter()) {
         let uid = if *is_new { *new_uid } else { *old_uid };
         assert!(rt; tree.owner(path) == Ok(Some(Owner { uid, gid: 100 })));
     }
-    assert!(rt; tree.mark() == Ok(mark));
+    assert!(rt; tree.is_marked(&plan.mark()) == Ok(marked));
 }

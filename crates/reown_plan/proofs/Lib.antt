@@ -8,3 +8,4 @@ pub mod Readings
 pub mod Writing
 pub mod Keeping
 pub mod Lawful
+pub mod Marks

@@ -1,11 +1,13 @@
 //! What holds of plans and their texts.
-ghost use Rattle.std.specs.Prelude.{◌≡◌, ◌++◌, ℕ, List, [], All, Result, Ok};
+ghost use Rattle.std.specs.Prelude.{◌≡◌, ◌↔◌, ◌++◌, ℕ, List, [], All, Result, Ok, true};
 ghost use Rattle.ownership.specs.Mappings.{IsMapping};
 ghost use Rattle.hosts_join.specs.Site.{Joined};
 ghost use Rattle.hosts_join.specs.declared.host.Host.{Host};
 ghost use Rattle.mtree_inv.specs.Files.{AreFiles, HaveDistinctFiles};
 ghost use Rattle.mtree_inv.specs.declared.entry.Entry.{Entry};
 ghost use Rattle.reown_plan.specs.Keeps.{KeepsNames};
+ghost use Rattle.reown_plan.specs.declared.mark.PlanMark.{PlanMark};
+ghost use Rattle.reown_plan.specs.Mark.{mark_of, mark_eq};
 ghost use Rattle.reown_plan.specs.PlanData.{PlanData};
 ghost use Rattle.reown_plan.specs.Spelling.{spelling, IsHostName, IsLawful};
 ghost use Rattle.reown_plan.specs.Reading.{ReadsAs};
@@ -32,4 +34,11 @@ pub fn plans_read_back()
 pub fn plans_keep_names()
     ensures targets { (site : Joined) (users groups : List ℕ) (host : ℕ) (files : List Entry) → HaveDistinctFiles files → All (λ f. owner_after (plan_of site users groups host files) f ≡ target site users groups host f) files }
     ensures names { (site : Joined) (users groups : List ℕ) (host : ℕ) (files : List Entry) → HaveDistinctFiles files → All (λ f. KeepsNames site users groups host f (owner_after (plan_of site users groups host files) f)) files }
+{}
+
+/// Marks are compared field by field, and plans of one mark are of one host. That such plans have one text is the word of
+/// SHA-256, and no law.
+pub fn marks_tell_plans()
+    ensures equal { (a b : PlanMark) → (mark_eq a b ≡ true) ↔ (a ≡ b) }
+    ensures hosts { (a b : PlanData) → IsHostName a.host → IsHostName b.host → mark_of a ≡ mark_of b → a.host ≡ b.host }
 {}

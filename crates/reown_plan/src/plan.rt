@@ -2,6 +2,7 @@
 ghost use Rattle.std.specs.Prelude.{◌≡◌};
 ghost use Rattle.reown_plan.specs.declared.plan.PlanFault.TheVariants.{BadPlan, Memory};
 
+use crate::mark::PlanMark;
 use crate::read::{read_head, read_record};
 use std::alloc::{AllocError, AllocFailed, Global};
 use std::collections::HashSet;
@@ -39,24 +40,27 @@ pub enum PlanFault {
 /// A host's plan, whose paths are slices of its text.
 #[derive(Drop)]
 pub struct Plan<'a> {
+    text: &'a [u8],
     host: &'a [u8],
     records: Vec<Record<'a>>,
 }
 
 impl<'a> Model for Plan<'a> {
-    ghost use Rattle.std.specs.Prelude.{map};
+    ghost use Rattle.std.specs.Prelude.{◌≡◌, map};
     ghost use Rattle.reown_plan.specs.PlanData.{PlanData, HaveDistinctPaths};
 
     ghost Value = { PlanData };
 
     ghost use Rattle.reown_plan.specs.Records.{record_of};
+    ghost use Rattle.reown_plan.specs.Spelling.{spelling, IsHostName};
 
     ghost view = { λ p. record { host = p.host.now; records = map record_of p.records.items } };
 
-    ghost invariant = { λ p. HaveDistinctPaths (map record_of p.records.items) };
+    ghost invariant = { λ p. HaveDistinctPaths (map record_of p.records.items) × IsHostName p.host.now × (p.text.now ≡ spelling (record { host = p.host.now; records = map record_of p.records.items })) };
 }
 
 ghost use Rattle.std.specs.Prelude.{map, ℕ, IfOk, IfErr, MatchResult};
+ghost use Rattle.reown_plan.specs.Mark.{mark_of};
 ghost use Rattle.reown_plan.specs.PlanData.{PlanData, HaveDistinctPaths};
 ghost use Rattle.reown_plan.specs.Records.{record_of};
 ghost use Rattle.reown_plan.specs.Spelling.{spelling, IsLawful, IsFaultAt};
@@ -104,7 +108,11 @@ impl<'a> Plan<'a> {
             rest = after;
         }
         if rest == b"end\n".as_slice() {
-            return Ok(Plan { host, records });
+            return Ok(Plan {
+                text,
+                host,
+                records,
+            });
         }
         let behind = if rest.starts_with(b"end\n".as_slice()) {
             4
@@ -119,6 +127,13 @@ impl<'a> Plan<'a> {
         ensures { result.now ≡ self.now.host }
     {
         self.host
+    }
+
+    /// The mark of a tree on which it is done. One pass over its text, and no memory.
+    pub fn mark(&self) -> PlanMark
+        ensures { result ≡ mark_of self.now }
+    {
+        PlanMark::new(self.host, self.text)
     }
 
     /// Its records in order; their paths differ. Takes constant time and no memory.

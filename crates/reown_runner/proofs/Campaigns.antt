@@ -8,7 +8,7 @@ use Rattle.reown_runner.specs.declared.campaign.Event.{Event}
 use Rattle.reown_runner.specs.declared.runner.Place.TheVariants.{Start}
 use Rattle.reown_runner.specs.declared.runner.Progress.{Progress}
 use Rattle.reown_runner.specs.declared.runner.RunFault.{RunFault}
-use Rattle.reown_runner.specs.declared.runner.RunFault.TheVariants.{Device, Missing, Foreign}
+use Rattle.reown_runner.specs.declared.runner.RunFault.TheVariants.{Device, Missing, Unfinished, Foreign}
 use Rattle.reown_runner.specs.Tree.{TreeData, IsReadable, Stops, cells_of}
 use Rattle.reown_runner.specs.State.{State, StandsFor, fresh}
 use Rattle.reown_runner.specs.Safe.{IsSafeInStep}
@@ -21,7 +21,7 @@ use Rattle.std.specs.List.{cons_option}
 use Rattle.reown_runner.proofs.Cellwise.{either}
 use Rattle.reown_runner.proofs.Lists.{slice_get-read, slice_get-past, slice_get-set, slice_get-set_other}
 use Rattle.reown_runner.proofs.Runs.{run_then, run_one}
-use Rattle.reown_runner.proofs.Histories.{stop_sound, stop_stands}
+use Rattle.reown_runner.proofs.Histories.{safe_as, stop_sound, stop_stands}
 
 some_is : {X : Type 0} (x y : X) → Some x ≡ Some y → x ≡ y
 some_is x y h = cc
@@ -34,6 +34,7 @@ module _ {T : Type 0} (known : T → TreeData) where
   pub goes_nowhere : (runner : RunnerData) (tree : T) → Goes known (hosted runner tree) [] None (hosted runner tree)
   goes_nowhere runner tree =
       record {
+        mark = refl;
         records = refl;
         stands = λ s stands. (s, stands, (refl, refl));
         safe = λ inventory safe. safe;
@@ -46,6 +47,7 @@ module _ {T : Type 0} (known : T → TreeData) where
   told_then None a b c e h = h ∙ e
   told_then (Some Device) a b c e h = h ∙ ap (λ n. n + 1) e
   told_then (Some (Missing i)) a b c e h = h ∙ e
+  told_then (Some (Unfinished i)) a b c e h = h ∙ e
   told_then (Some (Foreign i)) a b c e h = h ∙ e
 
   -- and then more
@@ -53,21 +55,27 @@ module _ {T : Type 0} (known : T → TreeData) where
       → Goes known (hosted w0 t0) first None (hosted w1 t1) → Goes known (hosted w1 t1) rest refused (hosted w2 t2) → Goes known (hosted w0 t0) (first ++ rest) refused (hosted w2 t2)
   goes_then w0 t0 first w1 t1 rest refused w2 t2 a b =
       record {
+        mark = b.mark ∙ a.mark;
         records = b.records ∙ a.records;
         stands = λ s stands.
             let x = a.stands s stands in
-            let y = b.stands x.0 x.1 in (
+            let y = b.stands x.0 (subst (λ m. StandsFor m (known t1) x.0) (sym a.mark) x.1) in (
               y.0,
-              y.1,
+              subst (λ m. StandsFor m (known t2) y.0) a.mark y.1,
               run_then w0.records (host_at w0.place (known t0) s) first (host_at w1.place (known t1) x.0) rest refused (host_at w2.place (known t2) y.0) x.2
                   (subst (λ cs. IsRun cs (host_at w1.place (known t1) x.0) rest refused (host_at w2.place (known t2) y.0)) a.records y.2),
             );
-        safe = λ inventory safe.
-            subst (λ cs. IsSafeInStep inventory cs w2.place (cells_of (known t2))) a.records (b.safe inventory (subst (λ cs. IsSafeInStep inventory cs w1.place (cells_of (known t1))) (sym a.records) (a.safe inventory safe)));
-        device = λ inventory safe. b.device inventory (subst (λ cs. IsSafeInStep inventory cs w1.place (cells_of (known t1))) (sym a.records) (a.safe inventory safe));
+        safe = λ inventory safe. by_first inventory (b.safe inventory (by_second inventory (a.safe inventory safe)));
+        device = λ inventory safe. b.device inventory (by_second inventory (a.safe inventory safe));
         told = told_then refused (known t0).faults (known t1).faults (known t2).faults a.told b.told;
         asked = omega (arith, a.asked, b.asked, length-append first rest);
       }
+    where
+      by_second : (inventory : List ℕ → Option Owner) → IsSafeInStep inventory w0.records w1.place (cells_of w0.mark (known t1)) → IsSafeInStep inventory w1.records w1.place (cells_of w1.mark (known t1))
+      by_second inventory h = safe_as inventory w0.records w1.records w0.mark w1.mark (sym a.records) (sym a.mark) w1.place (known t1) h
+
+      by_first : (inventory : List ℕ → Option Owner) → IsSafeInStep inventory w1.records w2.place (cells_of w1.mark (known t2)) → IsSafeInStep inventory w0.records w2.place (cells_of w0.mark (known t2))
+      by_first inventory h = safe_as inventory w1.records w0.records w1.mark w0.mark a.records a.mark w2.place (known t2) h
 
   asked_one : (plan : _) (before after : ℕ) → IsAsked plan before after → after ≤ before + 1
   asked_one plan before after (inl same) = omega arith
@@ -77,6 +85,7 @@ module _ {T : Type 0} (known : T → TreeData) where
   told_by (Ok x) before after h = h
   told_by (Err Device) before after h = h.0
   told_by (Err (Missing i)) before after h = h
+  told_by (Err (Unfinished i)) before after h = h
   told_by (Err (Foreign i)) before after h = h
 
   refused_device : (result : Result Progress RunFault) → IfErr result (λ fault. fault ≡ Device) → IfSome (refusal result) (λ fault. fault ≡ Device)
@@ -85,34 +94,36 @@ module _ {T : Type 0} (known : T → TreeData) where
 
   -- by an advance
   pub goes_on_by : (w : RunnerData) (t : T) (w' : RunnerData) (t' : T) (result : Result Progress RunFault)
-      → w'.records ≡ w.records
-      → ((s : State) → StandsFor (known t) s → (u : State) × StandsFor (known t') u × Advanced w.records (host_at w.place (known t) s) (moved w'.place result) (host_at w'.place (known t') u))
-      → ((inventory : List ℕ → Option Owner) → IsSafeInStep inventory w.records w.place (cells_of (known t)) → IsSafeInStep inventory w.records w'.place (cells_of (known t')))
-      → ((inventory : List ℕ → Option Owner) → IsSafeInStep inventory w.records w.place (cells_of (known t)) → IfErr result (λ fault. fault ≡ Device))
+      → w'.mark ≡ w.mark → w'.records ≡ w.records
+      → ((s : State) → StandsFor w.mark (known t) s → (u : State) × StandsFor w.mark (known t') u × Advanced w.records (host_at w.place (known t) s) (moved w'.place result) (host_at w'.place (known t') u))
+      → ((inventory : List ℕ → Option Owner) → IsSafeInStep inventory w.records w.place (cells_of w.mark (known t)) → IsSafeInStep inventory w.records w'.place (cells_of w.mark (known t')))
+      → ((inventory : List ℕ → Option Owner) → IsSafeInStep inventory w.records w.place (cells_of w.mark (known t)) → IfErr result (λ fault. fault ≡ Device))
       → IsTold (known t).faults (known t').faults result
-      → IsAsked (turn w.records w.place (known t).owner (known t).mark) (known t).asked (known t').asked
+      → IsAsked (turn w.records w.place (known t).owner (cells_of w.mark (known t)).mark) (known t).asked (known t').asked
       → Goes known (hosted w t) (Advances ∷ []) (refusal result) (hosted w' t')
-  goes_on_by w t w' t' result records stands safe device told asked =
+  goes_on_by w t w' t' result mark records stands safe device told asked =
       record {
+        mark = mark;
         records = records;
         stands = λ s h. (let x = stands s h in (x.0, x.1, run_one w.records (host_at w.place (known t) s) (host_at w'.place (known t') x.0) result x.2));
         safe = safe;
         device = λ inventory s. refused_device result (device inventory s);
         told = told_by result (known t).faults (known t').faults told;
-        asked = asked_one (turn w.records w.place (known t).owner (known t).mark) (known t).asked (known t').asked asked;
+        asked = asked_one (turn w.records w.place (known t).owner (cells_of w.mark (known t)).mark) (known t).asked (known t').asked asked;
       }
 
   -- by a stop
-  pub goes_down : (w : RunnerData) (t : T) (w' : RunnerData) (t' : T) → w' ≡ record w { place = Start } → IsReadable (cells_of (known t)) → Stops (cells_of (known t)) (cells_of (known t')) → (known t').faults ≡ (known t).faults → (known t').asked ≡ (known t).asked
+  pub goes_down : (w : RunnerData) (t : T) (w' : RunnerData) (t' : T) → w' ≡ record w { place = Start } → IsReadable (cells_of w.mark (known t)) → Stops (cells_of w.mark (known t)) (cells_of w.mark (known t')) → (known t').faults ≡ (known t).faults → (known t').asked ≡ (known t).asked
       → Goes known (hosted w t) (Halts ∷ []) None (hosted w' t')
   goes_down w t w' t' is readable stops faults asked =
       let place : w'.place ≡ Start = ap (λ (v : RunnerData). v.place) is in
       record {
+        mark = ap (λ (v : RunnerData). v.mark) is;
         records = ap (λ (v : RunnerData). v.records) is;
         stands = λ s h.
-            let x = stop_stands s (cells_of (known t)) (cells_of (known t')) h stops in
+            let x = stop_stands s (cells_of w.mark (known t)) (cells_of w.mark (known t')) h stops in
             (fresh x.0, x.2, (x.0, x.1, (refl, λ i. record { place = place i; state = fresh x.0; asked = asked i })));
-        safe = λ inventory safe. subst (λ p. IsSafeInStep inventory w.records p (cells_of (known t'))) (sym place) (stop_sound inventory w.records w.place (cells_of (known t)) (cells_of (known t')) readable stops safe);
+        safe = λ inventory safe. subst (λ p. IsSafeInStep inventory w.records p (cells_of w.mark (known t'))) (sym place) (stop_sound inventory w.records w.place (cells_of w.mark (known t)) (cells_of w.mark (known t')) readable stops safe);
         device = λ inventory safe. tt;
         told = faults;
         asked = omega arith;

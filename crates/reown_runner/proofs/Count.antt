@@ -1,5 +1,5 @@
 -- Each advance is one nearer to the end.
-use Rattle.std.proofs.Common.{◌≡◌, inl, inr, ◌<◌, ◌≤◌, ◌+◌, ◌-◌, ℕ, zero, suc, max, Bool, true, false, cond, nat_lt, List, [], ◌∷◌, Option, None, Some, Ok, Err, IsSome, length, slice_get, refl, sym, ◌∙◌, ap, subst, arith}
+use Rattle.std.proofs.Common.{◌≡◌, inl, inr, ◌<◌, ◌≤◌, ◌+◌, ◌-◌, ℕ, zero, suc, max, Bool, true, false, cond, nat_lt, List, [], ◌∷◌, Option, None, Some, Result, Ok, Err, IsSome, length, slice_get, refl, sym, ◌∙◌, ap, subst, arith}
 use Rattle.std.proofs.lemmas.Bool.Decides.{nat_tests}
 use Rattle.reown_plan.specs.declared.plan.Owner.{Owner}
 use Rattle.reown_plan.specs.PlanData.{PlanRecord}
@@ -8,10 +8,11 @@ use Rattle.reown_runner.specs.declared.runner.Place.TheVariants.{Start, Record, 
 use Rattle.reown_runner.specs.declared.runner.Progress.{Progress}
 use Rattle.reown_runner.specs.declared.runner.Progress.TheVariants.{Working, Done as Finished}
 use Rattle.reown_runner.specs.declared.runner.RunFault.{RunFault}
-use Rattle.reown_runner.specs.declared.runner.RunFault.TheVariants.{Device, Missing, Foreign}
+use Rattle.reown_runner.specs.declared.runner.RunFault.TheVariants.{Device, Missing, Unfinished, Foreign}
 use Rattle.reown_plan.specs.Owners.{owner_eq}
-use Rattle.reown_runner.specs.Step.{Turn, turn, turn_at, record_turn, record_place, IsAsked, IsTold, IsPlaceOf, progress_at, advances_left, operations_left}
+use Rattle.reown_runner.specs.Step.{Turn, is_new, not_new, marked_turn, turn, turn_at, record_turn, record_place, IsAsked, IsTold, IsPlaceOf, progress_at, advances_left, operations_left}
 use Rattle.reown_runner.proofs.Cellwise.{either}
+use Rattle.reown_runner.proofs.Turns.{marked-passed, marked-refused}
 
 -- where a turn leads
 record_next : (i : ℕ) (planned : PlanRecord) (next : Place) (owner : Option Owner) (t : Turn) → record_turn i planned next owner ≡ Ok t → t.next ≡ next
@@ -40,6 +41,17 @@ is_there [] i h = absurd (omega arith)
 is_there (y ∷ ys) zero h = refl
 is_there (y ∷ ys) (suc i) h = is_there ys i (omega arith)
 
+-- where the mark is set nothing is left to do
+marked_is : (i : ℕ) (records : List PlanRecord) (owner : List ℕ → Option Owner) (t : Turn) → marked_turn i records owner ≡ Ok t → (t.operation ≡ None) × (t.next ≡ Done)
+marked_is i [] owner t e = (cc, cc)
+marked_is i (r ∷ rs) owner t e =
+    elim (either (is_new r (owner r.path))) [
+      | inl new ↦ marked_is (i + 1) rs owner t (sym (marked-passed i r rs owner new) ∙ e)
+      | inr old ↦
+          let refused : ◌≡◌ {A = Result Turn RunFault} (Err (not_new i r (owner r.path))) (Ok t) = sym (marked-refused i r rs owner old) ∙ e in
+          absurd cc
+    ]
+
 module _ (records : List PlanRecord) (owner : List ℕ → Option Owner) where
   -- the place after a turn
   pub one_nearer : (place : Place) (mark : Bool) (t : Turn) → IsPlaceOf records place → (place ≡ Start → mark ≡ false) → turn records place owner mark ≡ Ok t → advances_left records t.next ≡ advances_left records place - 1
@@ -57,7 +69,7 @@ module _ (records : List PlanRecord) (owner : List ℕ → Option Owner) where
 
   pub nearer : (place : Place) (mark : Bool) (t : Turn) → IsPlaceOf records place → turn records place owner mark ≡ Ok t → advances_left records t.next ≤ advances_left records place - 1
   nearer Start true t fits e =
-      let is : t.next ≡ Done = cc in
+      let is = (marked_is 0 records owner t e).1 in
       let left : advances_left records t.next ≡ 0 = ap (advances_left records) is in
       omega arith
   nearer Start false t fits e = (let h = one_nearer Start false t fits (λ _. refl) e in omega arith)
@@ -72,7 +84,8 @@ record_operation records i fits = (omega arith, omega arith)
 
 -- what writes or syncs is neither the start nor the end
 operating : (records : List PlanRecord) (owner : List ℕ → Option Owner) (place : Place) (mark : Bool) (t : Turn) → IsPlaceOf records place → turn records place owner mark ≡ Ok t → IsSome t.operation → (1 ≤ advances_left records place) × (advances_left records place ≤ length records + 3)
-operating records owner Start mark t fits e some = absurd (let none : t.operation ≡ None = cc in cc)
+operating records owner Start true t fits e some = absurd (let none = (marked_is 0 records owner t e).0 in cc)
+operating records owner Start false t fits e some = absurd (let none : t.operation ≡ None = cc in cc)
 operating records owner (Record i) mark t fits e some = record_operation records i fits
 operating records owner SyncOwners mark t fits e some = (omega arith, omega arith)
 operating records owner Mark mark t fits e some = (omega arith, omega arith)
@@ -109,7 +122,7 @@ to_place : (records : List PlanRecord) (next place : Place) → next ≡ place �
 to_place records next place is h = subst (GoesOn records) (sym is) h
 
 goes_on : (records : List PlanRecord) (owner : List ℕ → Option Owner) (place : Place) (mark : Bool) (t : Turn) → IsPlaceOf records place → turn records place owner mark ≡ Ok t → GoesOn records t.next
-goes_on records owner Start true t fits e = (let is : t.next ≡ Done = cc in to_place records t.next Done is (tt, λ h. cc))
+goes_on records owner Start true t fits e = (let is = (marked_is 0 records owner t e).1 in to_place records t.next Done is (tt, λ h. cc))
 goes_on records owner Start false t fits e = (let is : t.next ≡ record_place records 0 = cc in to_place records t.next (record_place records 0) is (record_on records 0))
 goes_on records owner (Record i) mark t fits e =
     (let is : t.next ≡ record_place records (i + 1) = some_at records i owner (slice_get records i) t (is_there records i fits) e in to_place records t.next (record_place records (i + 1)) is (record_on records (i + 1)))
@@ -159,4 +172,5 @@ most_left records Done = omega arith
 pub not_counted : (before mid after : ℕ) (fault : RunFault) → fault ≡ Device → mid ≡ before → IsTold {X = Progress} mid after (Err fault) → after ≡ before → ⊥
 not_counted before mid after Device is same told none = omega (arith, told.0)
 not_counted before mid after (Missing i) is same told none = absurd cc
+not_counted before mid after (Unfinished i) is same told none = absurd cc
 not_counted before mid after (Foreign i) is same told none = absurd cc

@@ -3,6 +3,7 @@ use Rattle.std.proofs.Common.{◌≡◌, ◌≢◌, ◌↔◌, inl, inr, ◌≤�
 use Rattle.std.specs.Str.{bytes_eq}
 use Rattle.std.specs.Cmp.Lexicographic.{bytes_decides}
 use Rattle.std.proofs.lemmas.List.Elements.{All-head, All-tail, All-cons}
+use Rattle.reown_plan.specs.declared.mark.PlanMark.{PlanMark}
 use Rattle.reown_plan.specs.declared.plan.Owner.{Owner}
 use Rattle.reown_plan.specs.PlanData.{PlanRecord}
 use Rattle.reown_runner.specs.declared.runner.Place.{Place}
@@ -60,10 +61,10 @@ module _ (inventory : List ℕ → Option Owner) where
     pub done_reads : (cells : Cells) → IsReadable cells → IsSafeInStep inventory records Done cells → (path : List ℕ) → cells.owner path ≡ owner_after_plan inventory records path
     done_reads cells readable s path = (done_image cells s (record { owner = cells.owner; mark = cells.mark }) (record { owner = readable.owner; mark = readable.mark })).1 path
 
-    pub by_lists : (tree : TreeData) → IsReadable (cells_of tree) → IsSafe inventory records (cells_of tree) ↔ HasSafeLists inventory records tree
-    by_lists tree readable = (
-      λ safe. (let s = safe_cells inventory records (cells_of tree) readable safe in record { planned = s.planned; others = s.others; finished = s.finished }),
-      λ lists. safe_images inventory records (cells_of tree) (record { planned = lists.planned; others = lists.others; finished = lists.finished }),
+    pub by_lists : (plan : PlanMark) (tree : TreeData) → IsReadable (cells_of plan tree) → IsSafe inventory records (cells_of plan tree) ↔ HasSafeLists plan inventory records tree
+    by_lists plan tree readable = (
+      λ safe. (let s = safe_cells inventory records (cells_of plan tree) readable safe in record { planned = s.planned; others = s.others; finished = s.finished }),
+      λ lists. safe_images inventory records (cells_of plan tree) (record { planned = lists.planned; others = lists.others; finished = lists.finished }),
     )
 
 one_less : (a m : ℕ) → a - 1 - m ≡ a - suc m

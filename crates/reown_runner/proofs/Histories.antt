@@ -1,21 +1,22 @@
 -- Histories of operations, and the trees that stand for them.
-use Rattle.std.proofs.Common.{◌≡◌, ◌≢◌, ◌⊎◌, ◌↔◌, inl, inr, ℕ, true, false, cond, get_or, slice_get, ◌+◌, List, [], ◌∷◌, ◌++◌, Option, None, Some, Result, Ok, Err, IsOk, refl, sym, ◌∙◌, ap, subst}
+use Rattle.std.proofs.Common.{◌≡◌, ◌≢◌, ◌⊎◌, ◌↔◌, inl, inr, ℕ, true, false, cond, get_or, List, [], ◌∷◌, ◌++◌, Option, None, Some, Result, Ok, Err, IsOk, refl, sym, ◌∙◌, ap, subst}
 use Rattle.std.specs.List.{AllByRecursion}
 use Rattle.std.specs.Str.{bytes_eq}
 use Rattle.std.specs.Cmp.Lexicographic.{bytes_decides}
 use Rattle.std.proofs.lemmas.List.{append-nil, append_assoc}
 use Rattle.std.proofs.lemmas.List.Sums.{fold_push}
+use Rattle.reown_plan.specs.declared.mark.PlanMark.{PlanMark}
 use Rattle.reown_plan.specs.declared.plan.Owner.{Owner}
 use Rattle.reown_plan.specs.PlanData.{PlanRecord}
 use Rattle.reown_runner.specs.declared.runner.Place.{Place}
-use Rattle.reown_runner.specs.declared.runner.Place.TheVariants.{Start, Record, SyncOwners, Mark, SyncMark, Done}
+use Rattle.reown_runner.specs.declared.runner.Place.TheVariants.{Start, Done}
 use Rattle.reown_runner.specs.declared.runner.RunFault.{RunFault}
-use Rattle.reown_runner.specs.declared.runner.RunFault.TheVariants.{Device, Missing, Foreign}
+use Rattle.reown_runner.specs.declared.runner.RunFault.TheVariants.{Device, Missing, Unfinished, Foreign}
 use Rattle.reown_runner.specs.Tree.{TreeData, Cells, cells_of, Image, IsImage, IsReadable, IsSettled, SameMark, Does, Stops, Operation, Write, SetMark, Sync}
 use Rattle.reown_runner.specs.State.{State, StandsFor, Keeps, fresh, did, owner_then, mark_then, owner_after, mark_after, IsKept, cells_at}
 use Rattle.reown_runner.specs.Safe.{IsSafeInStep}
 use Rattle.reown_runner.specs.Run.{Advanced, host_at}
-use Rattle.reown_runner.specs.Step.{Turn, turn, turn_at, record_turn, record_place, place_after, IsAdvance, IsAsked}
+use Rattle.reown_runner.specs.Step.{Turn, turn, place_after, IsAdvance, IsAsked}
 use Rattle.reown_runner.proofs.Turns.{keeps, kept, same_keeps}
 use Rattle.reown_runner.proofs.Cellwise.{either, safe_cells, safe_images}
 
@@ -203,18 +204,9 @@ module _ (s : State) where
         };
       }
 
-same_turn_at : (records : List PlanRecord) (i : ℕ) (o : Option PlanRecord) (f g : List ℕ → Option Owner) → ((path : List ℕ) → f path ≡ g path) → turn_at records i o f ≡ turn_at records i o g
-same_turn_at records i None f g same = refl
-same_turn_at records i (Some planned) f g same = ap (record_turn i planned (record_place records (i + 1))) (same planned.path)
-
 -- trees that read alike take the same turn
 pub same_readings : (records : List PlanRecord) (place : Place) (a b : Cells) → Keeps a b → turn records place b.owner b.mark ≡ turn records place a.owner a.mark
-same_readings records Start a b k = ap (λ m. Ok (record { operation = None; next = cond m Done (record_place records 0) })) k.mark.mark
-same_readings records (Record i) a b k = same_turn_at records i (slice_get records i) b.owner a.owner k.owners.owner
-same_readings records SyncOwners a b k = refl
-same_readings records Mark a b k = refl
-same_readings records SyncMark a b k = refl
-same_readings records Done a b k = refl
+same_readings records place a b k = λ i. turn records place (λ path. k.owners.owner path i) (k.mark.mark i)
 
 -- an advance on a tree is one in each history that it stands for
 pub advance_stands : (records : List PlanRecord) (place : Place) (s : State) (old new : Cells) (answer : Result Place RunFault) → Keeps (cells_at s) old → IsAdvance (turn records place old.owner old.mark) (λ operation. Does operation old new) answer
@@ -225,20 +217,21 @@ advance_stands records place s old new (Err Device) k (inl d) = (s, keeps k (sam
 advance_stands records place s old new (Err Device) k (inr a) =
     (did a.0.operation s, stands_after s old new a.0.operation k a.2, inr (a.0, sym (same_readings records place (cells_at s) old k) ∙ a.1, refl))
 advance_stands records place s old new (Err (Missing i)) k a = (s, keeps k (same_keeps a.1), (sym (same_readings records place (cells_at s) old k) ∙ a.0, refl))
+advance_stands records place s old new (Err (Unfinished i)) k a = (s, keeps k (same_keeps a.1), (sym (same_readings records place (cells_at s) old k) ∙ a.0, refl))
 advance_stands records place s old new (Err (Foreign i)) k a = (s, keeps k (same_keeps a.1), (sym (same_readings records place (cells_at s) old k) ∙ a.0, refl))
 
 -- so it is an advance of each host whose tree it is
-pub host_advances : (records : List PlanRecord) (place end : Place) (old new : TreeData) (answer : Result Place RunFault) → end ≡ place_after place answer → IsAsked (turn records place old.owner old.mark) old.asked new.asked
-    → (place ≡ Done → IsOk answer × (new.asked ≡ old.asked)) → IsAdvance (turn records place old.owner old.mark) (λ operation. Does operation (cells_of old) (cells_of new)) answer
-    → (s : State) → StandsFor old s → (t : State) × StandsFor new t × Advanced records (host_at place old s) answer (host_at end new t)
-host_advances records place end old new answer goes asked rests step s stands =
-    let h = advance_stands records place s (cells_of old) (cells_of new) answer stands step in (
+pub host_advances : (plan : PlanMark) (records : List PlanRecord) (place end : Place) (old new : TreeData) (answer : Result Place RunFault) → end ≡ place_after place answer → IsAsked (turn records place old.owner (cells_of plan old).mark) old.asked new.asked
+    → (place ≡ Done → IsOk answer × (new.asked ≡ old.asked)) → IsAdvance (turn records place old.owner (cells_of plan old).mark) (λ operation. Does operation (cells_of plan old) (cells_of plan new)) answer
+    → (s : State) → StandsFor plan old s → (t : State) × StandsFor plan new t × Advanced records (host_at place old s) answer (host_at end new t)
+host_advances plan records place end old new answer goes asked rests step s stands =
+    let h = advance_stands records place s (cells_of plan old) (cells_of plan new) answer stands step in (
       h.0,
       h.1,
       record {
         step = h.2;
         place = goes;
-        asked = subst (λ plan. IsAsked plan old.asked new.asked) (same_readings records place (cells_at s) (cells_of old) stands) asked;
+        asked = subst (λ turn. IsAsked turn old.asked new.asked) (same_readings records place (cells_at s) (cells_of plan old) stands) asked;
         rests = rests;
       },
     )
@@ -249,7 +242,13 @@ as_done plan s t (Ok next) a = (a.0, a.1, a.2, subst (λ u. Does a.0.operation (
 as_done plan s t (Err Device) (inl e) = inl (subst (λ u. Does None (cells_at s) (cells_at u)) (sym e) (did_does s None))
 as_done plan s t (Err Device) (inr a) = inr (a.0, a.1, subst (λ u. Does a.0.operation (cells_at s) (cells_at u)) (sym a.2) (did_does s a.0.operation))
 as_done plan s t (Err (Missing i)) a = (a.0, subst (λ u. Does None (cells_at s) (cells_at u)) (sym a.1) (did_does s None))
+as_done plan s t (Err (Unfinished i)) a = (a.0, subst (λ u. Does None (cells_at s) (cells_at u)) (sym a.1) (did_does s None))
 as_done plan s t (Err (Foreign i)) a = (a.0, subst (λ u. Does None (cells_at s) (cells_at u)) (sym a.1) (did_does s None))
+
+-- of equal records and marks the same is said
+pub safe_as : (inventory : List ℕ → Option Owner) (records others : List PlanRecord) (plan other : PlanMark) → records ≡ others → plan ≡ other → (place : Place) (tree : TreeData) → IsSafeInStep inventory records place (cells_of plan tree) → IsSafeInStep inventory others place (cells_of other tree)
+safe_as inventory records others plan other same_records same_mark place tree safe =
+    subst (λ m. IsSafeInStep inventory others place (cells_of m tree)) same_mark (subst (λ cs. IsSafeInStep inventory cs place (cells_of plan tree)) same_records safe)
 
 -- a stop
 pub stop_sound : (inventory : List ℕ → Option Owner) (records : List PlanRecord) (place : Place) (old new : Cells) → IsReadable old → Stops old new → IsSafeInStep inventory records place old → IsSafeInStep inventory records Start new

@@ -10,3 +10,4 @@ pub mod Campaigns
 pub mod Finishing
 pub mod Moments
 pub mod Interleaved
+pub mod Halves

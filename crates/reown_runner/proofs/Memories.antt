@@ -10,9 +10,11 @@ use Rattle.std.proofs.lemmas.List.Folds.{find_at}
 use Rattle.std.proofs.lemmas.List.Quantifiers.{position-Some}
 use Rattle.mtree_inv.specs.declared.entry.Entry.{Entry}
 use Rattle.mtree_inv.specs.Files.{HaveDistinctFiles}
+use Rattle.reown_plan.specs.declared.mark.PlanMark.{PlanMark}
 use Rattle.reown_plan.specs.declared.plan.Owner.{Owner}
+use Rattle.reown_plan.specs.Mark.{is_marked_for}
 use Rattle.reown_runner.specs.declared.memory.FileCell.{FileCell}
-use Rattle.reown_runner.specs.Tree.{Writes, IsSettled, Syncs, Stops, cells_of}
+use Rattle.reown_runner.specs.Tree.{Writes, IsSettled, Syncs, Stops, cells_of, ForEachPlan}
 use Rattle.reown_plan.specs.Owners.{owner_of}
 use Rattle.reown_runner.specs.Memory.{Mem, known_mem, cell_of, values_of, keeps_file, keeps_mark, settled_cell, left_cell, owner_in, new_mem, IsReopened}
 use Rattle.reown_runner.specs.Finished.{IsFresh}
@@ -53,14 +55,14 @@ module _ (m n : Mem) (paths : n.paths ≡ m.paths) (cells : n.cells ≡ map sync
   synced_cell : (path : List ℕ) → cell_of n path ≡ option_map synced (cell_of m path)
   synced_cell path = ap (λ ps. option_and_then (slice_get n.cells) (position (bytes_eq path) ps)) paths ∙ at_place (position (bytes_eq path) m.paths)
 
-  pub sync_done : n.mark_now ≡ m.mark_now → n.mark_synced ≡ n.mark_now → Syncs (cells_of (known_mem m)) (cells_of (known_mem n))
-  sync_done now same =
+  pub sync_done : n.mark_now ≡ m.mark_now → n.mark_synced ≡ n.mark_now → ForEachPlan Syncs (known_mem m) (known_mem n)
+  sync_done now same plan =
       record {
         owner = λ path. ap now_of (synced_cell path) ∙ synced_now (cell_of m path);
-        mark = now;
+        mark = ap (is_marked_for plan) now;
         settled = record {
           owner = λ path x h. settled_values (cell_of m path) (λ c. c.now) x (subst (λ c. Contains (values_of c) x) (synced_cell path) h) ∙ sym (ap now_of (synced_cell path));
-          mark = λ b h. elim (one_of_two n.mark_synced n.mark_now b h) [ inl e ↦ e ∙ same | inr e ↦ e ];
+          mark = λ b h. elim (one_of_two (is_marked_for plan n.mark_synced) (is_marked_for plan n.mark_now) b h) [ inl e ↦ e ∙ ap (is_marked_for plan) same | inr e ↦ e ];
         };
       }
 
@@ -86,8 +88,8 @@ module _ (m n : Mem) (path : List ℕ) (to : Owner) (i : ℕ) (c : FileCell) (pa
   other : (q : List ℕ) → q ≢ path → cell_of n q ≡ cell_of m q
   other q ne = ap (λ ps. option_and_then (slice_get n.cells) (position (bytes_eq q) ps)) paths ∙ apart q ne (position (bytes_eq q) m.paths) refl
 
-  pub write_done : Writes path to (cells_of (known_mem m)) (cells_of (known_mem n))
-  write_done =
+  pub write_done : ForEachPlan (Writes path to) (known_mem m) (known_mem n)
+  write_done plan =
       record {
         owner = ap now_of new_here;
         owner_left = λ x h.
@@ -98,9 +100,9 @@ module _ (m n : Mem) (path : List ℕ) (to : Owner) (i : ℕ) (c : FileCell) (pa
         other = λ q ne. ap now_of (other q ne);
         other_left = λ q ne x. (λ h. subst (λ o. Contains (values_of o) x) (other q ne) h, λ h. subst (λ o. Contains (values_of o) x) (sym (other q ne)) h);
         mark = record {
-          mark = now;
+          mark = ap (is_marked_for plan) now;
           mark_left = λ b.
-              let marks : n.mark_synced ∷ n.mark_now ∷ [] ≡ m.mark_synced ∷ m.mark_now ∷ [] = λ k. before k ∷ now k ∷ [] in
+              let marks : map (is_marked_for plan) (n.mark_synced ∷ n.mark_now ∷ []) ≡ map (is_marked_for plan) (m.mark_synced ∷ m.mark_now ∷ []) = λ k. is_marked_for plan (before k) ∷ is_marked_for plan (now k) ∷ [] in
               (λ h. subst (λ bs. Contains bs b) marks h, λ h. subst (λ bs. Contains bs b) (sym marks) h);
         };
       }
@@ -147,18 +149,18 @@ module _ (m n : Mem) (reopened : IsReopened m n) where
   leaves_path : (path : List ℕ) → Leaves (cell_of m path) (cell_of n path)
   leaves_path path = subst (λ ps. Leaves (cell_of m path) (option_and_then (slice_get n.cells) (position (bytes_eq path) ps))) (sym reopened.paths) (leaves_at (position (bytes_eq path) m.paths))
 
-  kept_mark : (b : Bool) → Contains (m.mark_synced ∷ m.mark_now ∷ []) (cond b m.mark_now m.mark_synced)
-  kept_mark true = last_of_two m.mark_synced m.mark_now
-  kept_mark false = first_of_two m.mark_synced m.mark_now
+  kept_mark : (plan : PlanMark) (b : Bool) → Contains (map (is_marked_for plan) (m.mark_synced ∷ m.mark_now ∷ [])) (is_marked_for plan (cond b m.mark_now m.mark_synced))
+  kept_mark plan true = last_of_two (is_marked_for plan m.mark_synced) (is_marked_for plan m.mark_now)
+  kept_mark plan false = first_of_two (is_marked_for plan m.mark_synced) (is_marked_for plan m.mark_now)
 
-  pub reopen_stops : Stops (cells_of (known_mem m)) (cells_of (known_mem n))
-  reopen_stops =
+  pub reopen_stops : ForEachPlan Stops (known_mem m) (known_mem n)
+  reopen_stops plan =
       record {
         owner = λ path. leaves_one (leaves_path path);
-        mark = subst (Contains (m.mark_synced ∷ m.mark_now ∷ [])) (sym reopened.mark) (kept_mark (keeps_mark m.keep m.cells));
+        mark = subst (λ o. Contains (map (is_marked_for plan) (m.mark_synced ∷ m.mark_now ∷ [])) (is_marked_for plan o)) (sym reopened.mark) (kept_mark plan (keeps_mark m.keep m.cells));
         settled = record {
           owner = λ path x h. leaves_settled (leaves_path path) x h;
-          mark = λ b h. elim (one_of_two n.mark_synced n.mark_now b h) [ inl e ↦ e ∙ reopened.mark_synced | inr e ↦ e ];
+          mark = λ b h. elim (one_of_two (is_marked_for plan n.mark_synced) (is_marked_for plan n.mark_now) b h) [ inl e ↦ e ∙ ap (is_marked_for plan) reopened.mark_synced | inr e ↦ e ];
         };
       }
 
@@ -194,15 +196,15 @@ new_settled_at files (Some i) x h =
     let same = slice_get-map owner_by files i in
     entry_values (slice_get files i) x (subst (λ o. Contains (values_of o) x) same h) ∙ sym (ap now_of same)
 
-pub new_settled : (files : List Entry) → IsSettled (cells_of (known_mem (new_mem files)))
-new_settled files =
+pub new_settled : (files : List Entry) (plan : PlanMark) → IsSettled (cells_of plan (known_mem (new_mem files)))
+new_settled files plan =
     record {
       owner = λ path x h. new_settled_at files (position (bytes_eq path) (map (λ e. e.path) files)) x h;
       mark = λ b h. elim (one_of_two false false b h) [ inl e ↦ e | inr e ↦ e ];
     }
 
-pub new_fresh : (files : List Entry) → IsFresh (owner_in files) (cells_of (known_mem (new_mem files)))
-new_fresh files = record { owner = new_owner files; mark = refl; settled = new_settled files }
+pub new_fresh : (files : List Entry) (plan : PlanMark) → IsFresh (owner_in files) (cells_of plan (known_mem (new_mem files)))
+new_fresh files plan = record { owner = new_owner files; mark = refl; settled = new_settled files plan }
 
 -- one more file
 module _ {K : Type 0} (f : K → List ℕ) (keys after : List K) (files : List Entry) (i : ℕ) (d : Entry) (v : K) where

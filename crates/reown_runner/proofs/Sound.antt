@@ -2,19 +2,19 @@
 use Rattle.std.proofs.Common.{◌≡◌, ◌≢◌, ◌⊎◌, ◌<◌, ◌≤◌, ◌+◌, inl, inr, ℕ, zero, suc, Bool, true, false, cond, ◌==◌, nat_lt, List, [], ◌∷◌, Option, None, Some, Result, Ok, Err, length, take, get_or, slice_get, refl, sym, ◌∙◌, ap, subst, arith}
 use Rattle.std.proofs.lemmas.Bool.Decides.{nat_tests}
 use Rattle.std.proofs.lemmas.List.{take_all, get_or-take, length-take-le}
-use Rattle.std.proofs.lemmas.List.Elements.{All-more}
+use Rattle.std.proofs.lemmas.List.Elements.{All-more, All-head, All-tail}
 use Rattle.reown_plan.specs.declared.plan.Owner.{Owner}
 use Rattle.reown_plan.specs.PlanData.{PlanRecord, HaveDistinctPaths}
 use Rattle.reown_runner.specs.declared.runner.Place.{Place}
 use Rattle.reown_runner.specs.declared.runner.Place.TheVariants.{Start, Record, SyncOwners, Mark, SyncMark, Done}
 use Rattle.reown_runner.specs.declared.runner.RunFault.{RunFault}
-use Rattle.reown_runner.specs.declared.runner.RunFault.TheVariants.{Device, Missing, Foreign}
+use Rattle.reown_runner.specs.declared.runner.RunFault.TheVariants.{Device, Missing, Unfinished, Foreign}
 use Rattle.reown_runner.specs.Tree.{Cells, IsReadable, Same, Syncs, Writes, SetsMark, Does, Write, SetMark, Sync}
 use Rattle.reown_runner.specs.State.{Keeps}
 use Rattle.reown_runner.specs.Safe.{ReadNew, IsSafeInStep}
 use Rattle.reown_plan.specs.Owners.{owner_eq}
-use Rattle.reown_runner.specs.Step.{Turn, turn, turn_at, record_turn, record_place, IsAdvance, place_after}
-use Rattle.reown_runner.proofs.Turns.{same_keeps, synced_keeps, turn-at_old, turn-at_new}
+use Rattle.reown_runner.specs.Step.{Turn, is_new, marked_turn, turn, turn_at, record_turn, record_place, IsAdvance, place_after}
+use Rattle.reown_runner.proofs.Turns.{marked-passed, same_keeps, synced_keeps, turn-at_old, turn-at_new}
 use Rattle.reown_runner.proofs.Cellwise.{either, LeftNew, CellSafe, CellStep, CellSound, sound_cells, sound_images}
 
 found : {X : Type 0} (xs : List X) (i : ℕ) (x : X) → slice_get xs i ≡ Some x → (d : X) → get_or xs i d ≡ x
@@ -210,6 +210,23 @@ module _ (inventory : List ℕ → Option Owner) (records : List PlanRecord) (di
   did_turn : (t u : Turn) → taken t ≡ taken u → Does u.operation old new → Does t.operation old new
   did_turn t u same did = subst (λ v. Does v.operation old new) (sym (same_turn t u same)) did
 
+  -- where the mark is set each file is at its new owner
+  marked_reads : old.mark ≡ true → CellSafe inventory records old → ReadNew records old
+  marked_reads set safe n d h = safe.finished (subst old.mark_left set readable.mark) n d h (old.owner (get_or records n d).path) (readable.owner (get_or records n d).path)
+
+  all_passed : (i : ℕ) (some : List PlanRecord) → ReadNew some old → marked_turn i some old.owner ≡ Ok (record { operation = None; next = Done })
+  all_passed i [] new = refl
+  all_passed i (r ∷ rs) new =
+      let here : old.owner r.path ≡ Some r.after = All-head (λ (x : PlanRecord). old.owner x.path ≡ Some x.after) r rs new in
+      marked-passed i r rs old.owner (ap (is_new r) here ∙ equal_owner r.after) ∙ all_passed (i + 1) rs (All-tail (λ (x : PlanRecord). old.owner x.path ≡ Some x.after) r rs new)
+
+  abbrev start_turn : Bool → Turn
+  start_turn mark = record { operation = None; next = cond mark Done (record_place records 0) }
+
+  start_takes : (mark : Bool) → old.mark ≡ mark → CellSafe inventory records old → turn records Start old.owner mark ≡ Ok (start_turn mark)
+  start_takes true set safe = all_passed 0 records (marked_reads set safe)
+  start_takes false set safe = refl
+
   start_sound : (mark : Bool) → old.mark ≡ mark → Sound Start old → Same old new → Sound (cond mark Done (record_place records 0)) new
   start_sound true set s k =
       same_sound Done k (record {
@@ -242,16 +259,19 @@ module _ (inventory : List ℕ → Option Owner) (records : List PlanRecord) (di
   record_sound i planned at s (passes is read) (Err Device) (inr a) =
       same_sound (Record i) (did_turn (record { operation = None; next = record_place records (i + 1) }) a.0 (sym is ∙ a.1) a.2) s
   record_sound i planned at s h (Err (Missing j)) a = same_sound (Record i) a.1 s
+  record_sound i planned at s h (Err (Unfinished j)) a = same_sound (Record i) a.1 s
   record_sound i planned at s h (Err (Foreign j)) a = same_sound (Record i) a.1 s
 
   pub advance_sound : (place : Place) (answer : Result Place RunFault) → Sound place old → IsAdvance (turn records place old.owner old.mark) (λ operation. Does operation old new) answer → Sound (place_after place answer) new
   advance_sound Start (Ok next) s a =
-      let t : Turn = record { operation = None; next = cond old.mark Done (record_place records 0) } in
-      subst (λ p. Sound p new) (ap (λ u. u.next) (same_turn t a.0 a.1) ∙ sym a.2) (start_sound old.mark refl s (did_turn t a.0 a.1 a.3))
+      let t = start_turn old.mark in
+      let is = sym (start_takes old.mark refl s.safe) ∙ a.1 in
+      subst (λ p. Sound p new) (ap (λ u. u.next) (same_turn t a.0 is) ∙ sym a.2) (start_sound old.mark refl s (did_turn t a.0 is a.3))
   advance_sound Start (Err Device) s (inl k) = same_sound Start k s
   advance_sound Start (Err Device) s (inr a) =
-      same_sound Start (did_turn (record { operation = None; next = cond old.mark Done (record_place records 0) }) a.0 a.1 a.2) s
+      same_sound Start (did_turn (start_turn old.mark) a.0 (sym (start_takes old.mark refl s.safe) ∙ a.1) a.2) s
   advance_sound Start (Err (Missing j)) s a = same_sound Start a.1 s
+  advance_sound Start (Err (Unfinished j)) s a = same_sound Start a.1 s
   advance_sound Start (Err (Foreign j)) s a = same_sound Start a.1 s
   advance_sound (Record i) answer s a =
       let planned = (there records i s.step.0).0 in
@@ -265,6 +285,7 @@ module _ (inventory : List ℕ → Option Owner) (records : List PlanRecord) (di
   advance_sound SyncOwners (Err Device) s (inl k) = same_sound SyncOwners k s
   advance_sound SyncOwners (Err Device) s (inr a) = kept_sound inventory records old new SyncOwners (synced_keeps readable (did_turn (record { operation = Some Sync; next = Mark }) a.0 a.1 a.2)) s
   advance_sound SyncOwners (Err (Missing j)) s a = same_sound SyncOwners a.1 s
+  advance_sound SyncOwners (Err (Unfinished j)) s a = same_sound SyncOwners a.1 s
   advance_sound SyncOwners (Err (Foreign j)) s a = same_sound SyncOwners a.1 s
   advance_sound Mark (Ok next) s a =
       let t : Turn = record { operation = Some SetMark; next = SyncMark } in
@@ -275,6 +296,7 @@ module _ (inventory : List ℕ → Option Owner) (records : List PlanRecord) (di
       let w = did_turn (record { operation = Some SetMark; next = SyncMark }) a.0 a.1 a.2 in
       record { safe = marked_safe inventory records old new w s.step s.safe; step = marked_left inventory records old new w s.step }
   advance_sound Mark (Err (Missing j)) s a = same_sound Mark a.1 s
+  advance_sound Mark (Err (Unfinished j)) s a = same_sound Mark a.1 s
   advance_sound Mark (Err (Foreign j)) s a = same_sound Mark a.1 s
   advance_sound SyncMark (Ok next) s a =
       let t : Turn = record { operation = Some Sync; next = Done } in
@@ -286,6 +308,7 @@ module _ (inventory : List ℕ → Option Owner) (records : List PlanRecord) (di
   advance_sound SyncMark (Err Device) s (inl k) = same_sound SyncMark k s
   advance_sound SyncMark (Err Device) s (inr a) = kept_sound inventory records old new SyncMark (synced_keeps readable (did_turn (record { operation = Some Sync; next = Done }) a.0 a.1 a.2)) s
   advance_sound SyncMark (Err (Missing j)) s a = same_sound SyncMark a.1 s
+  advance_sound SyncMark (Err (Unfinished j)) s a = same_sound SyncMark a.1 s
   advance_sound SyncMark (Err (Foreign j)) s a = same_sound SyncMark a.1 s
   advance_sound Done (Ok next) s a =
       let t : Turn = record { operation = None; next = Done } in
@@ -293,11 +316,12 @@ module _ (inventory : List ℕ → Option Owner) (records : List PlanRecord) (di
   advance_sound Done (Err Device) s (inl k) = same_sound Done k s
   advance_sound Done (Err Device) s (inr a) = same_sound Done (did_turn (record { operation = None; next = Done }) a.0 a.1 a.2) s
   advance_sound Done (Err (Missing j)) s a = same_sound Done a.1 s
+  advance_sound Done (Err (Unfinished j)) s a = same_sound Done a.1 s
   advance_sound Done (Err (Foreign j)) s a = same_sound Done a.1 s
 
   -- a sound host is refused by its device alone
   pub has_turn : (place : Place) → Sound place old → (t : Turn) × (turn records place old.owner old.mark ≡ Ok t)
-  has_turn Start s = (record { operation = None; next = cond old.mark Done (record_place records 0) }, refl)
+  has_turn Start s = (start_turn old.mark, start_takes old.mark refl s.safe)
   has_turn (Record i) s =
       let planned = (there records i s.step.0).0 in
       let at = (there records i s.step.0).1 in
@@ -320,4 +344,5 @@ module _ (inventory : List ℕ → Option Owner) (records : List PlanRecord) (di
   pub only_device : (place : Place) (fault : RunFault) → IsSafeInStep inventory records place old → IsAdvance (turn records place old.owner old.mark) (λ operation. Does operation old new) (Err fault) → fault ≡ Device
   only_device place Device s a = refl
   only_device place (Missing i) s a = (let t = has_turn inventory records distinct old new readable place (sound_cells inventory records old place readable s) in absurd (not_both t.0 (Missing i) (sym t.1 ∙ a.0)))
+  only_device place (Unfinished i) s a = (let t = has_turn inventory records distinct old new readable place (sound_cells inventory records old place readable s) in absurd (not_both t.0 (Unfinished i) (sym t.1 ∙ a.0)))
   only_device place (Foreign i) s a = (let t = has_turn inventory records distinct old new readable place (sound_cells inventory records old place readable s) in absurd (not_both t.0 (Foreign i) (sym t.1 ∙ a.0)))

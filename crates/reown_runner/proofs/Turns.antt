@@ -1,15 +1,20 @@
 -- Turns, and what calls do in a row.
 use Rattle.std.proofs.Common.{◌≡◌, ◌⊎◌, ◌<◌, inl, inr, ℕ, zero, suc, length, map, get_or, [], ◌∷◌, arith, Bool, true, false, cond, not, List, Option, None, Some, Result, Ok, Err, IsErrAnd, slice_get, ◌+◌, refl, sym, ◌∙◌, ap, subst}
+use Rattle.std.specs.Prelude.{⊤, drop}
+use Rattle.std.proofs.lemmas.List.{at_drop_more}
+use Rattle.reown_plan.specs.declared.plan.Record.{Record as Planned}
+use Rattle.reown_plan.specs.Records.{record_of}
+use Rattle.reown_plan.specs.declared.mark.PlanMark.{PlanMark}
 use Rattle.reown_plan.specs.declared.plan.Owner.{Owner}
 use Rattle.reown_plan.specs.PlanData.{PlanRecord}
 use Rattle.reown_runner.specs.declared.runner.Place.{Place}
 use Rattle.reown_runner.specs.declared.runner.Place.TheVariants.{Start, Record, SyncOwners, Mark, SyncMark, Done}
 use Rattle.reown_runner.specs.declared.runner.RunFault.{RunFault}
-use Rattle.reown_runner.specs.declared.runner.RunFault.TheVariants.{Device, Missing, Foreign}
+use Rattle.reown_runner.specs.declared.runner.RunFault.TheVariants.{Device, Missing, Unfinished, Foreign}
 use Rattle.reown_runner.specs.Tree.{Cells, Operation, Write, SetMark, Sync, IsReadable, Same, SameOwners, SameMark, Syncs, Does, MayDo, counted}
 use Rattle.reown_runner.specs.State.{Keeps, KeepsOwners, KeepsMark}
 use Rattle.reown_plan.specs.Owners.{owner_eq}
-use Rattle.reown_runner.specs.Step.{Turn, record_turn, record_place, turn_at, turn, IsAdvance, IsAsked}
+use Rattle.reown_runner.specs.Step.{Turn, is_new, not_new, marked_turn, record_turn, record_place, turn_at, turn, IsAdvance, IsAsked, IsTold}
 
 module _ (i : ℕ) (planned : PlanRecord) (next : Place) (owner : Owner) where
   pub turn-at_old : owner_eq owner planned.before ≡ true → record_turn i planned next (Some owner) ≡ Ok (record { operation = Some (Write planned.path planned.after); next = next })
@@ -19,6 +24,64 @@ module _ (i : ℕ) (planned : PlanRecord) (next : Place) (owner : Owner) where
   turn-at_new old new =
       ap (λ b. cond b (Ok (record { operation = Some (Write planned.path planned.after); next = next })) (cond (owner_eq owner planned.after) (Ok (record { operation = None; next = next })) (Err (Foreign i)))) old
       ∙ ap (λ b. cond b (Ok (record { operation = None; next = next })) (Err (Foreign i))) new
+
+-- where the mark is set, a file at its new owner is passed, and the first other one is refused
+module _ (i : ℕ) (planned : PlanRecord) (records : List PlanRecord) (owner : List ℕ → Option Owner) where
+  pub marked-passed : is_new planned (owner planned.path) ≡ true → marked_turn i (planned ∷ records) owner ≡ marked_turn (i + 1) records owner
+  marked-passed new = ap (λ b. cond b (marked_turn (i + 1) records owner) (Err (not_new i planned (owner planned.path)))) new
+
+  pub marked-refused : is_new planned (owner planned.path) ≡ false → marked_turn i (planned ∷ records) owner ≡ Err (not_new i planned (owner planned.path))
+  marked-refused old = ap (λ b. cond b (marked_turn (i + 1) records owner) (Err (not_new i planned (owner planned.path)))) old
+
+-- what is refused without a fault of the device
+abbrev IsNoDevice : RunFault → Type 0
+IsNoDevice Device = ⊥
+IsNoDevice (Missing i) = ⊤
+IsNoDevice (Unfinished i) = ⊤
+IsNoDevice (Foreign i) = ⊤
+
+not_new-apart : (i : ℕ) (planned : PlanRecord) (owner : Option Owner) → IsNoDevice (not_new i planned owner)
+not_new-apart i planned None = tt
+not_new-apart i planned (Some owner) = by (owner_eq owner planned.before)
+  where
+    by : (b : Bool) → IsNoDevice (cond b (Unfinished i) (Foreign i))
+    by true = tt
+    by false = tt
+
+refused : (plan : Result Turn RunFault) (Did : Option Operation → Type 0) (fault : RunFault) → IsNoDevice fault → plan ≡ Err fault → Did None → IsAdvance plan Did (Err fault)
+refused plan Did Device apart is did = absurd apart
+refused plan Did (Missing i) apart is did = (is, did)
+refused plan Did (Unfinished i) apart is did = (is, did)
+refused plan Did (Foreign i) apart is did = (is, did)
+
+untold : (before after : ℕ) (fault : RunFault) → IsNoDevice fault → after ≡ before → IsTold {X = Place} before after (Err fault)
+untold before after Device apart same = absurd apart
+untold before after (Missing i) apart same = same
+untold before after (Unfinished i) apart same = same
+untold before after (Foreign i) apart same = same
+
+module _ (i : ℕ) (planned : PlanRecord) (owner : Option Owner) where
+  pub not_new-refused : (plan : Result Turn RunFault) (Did : Option Operation → Type 0) → plan ≡ Err (not_new i planned owner) → Did None → IsAdvance plan Did (Err (not_new i planned owner))
+  not_new-refused plan Did is did = refused plan Did (not_new i planned owner) (not_new-apart i planned owner) is did
+
+  pub not_new-told : (before after : ℕ) → after ≡ before → IsTold {X = Place} before after (Err (not_new i planned owner))
+  not_new-told before after same = untold before after (not_new i planned owner) (not_new-apart i planned owner) same
+
+-- what a read answers is no plan's: the mark of none
+pub no_plan : PlanMark
+no_plan = record { host = []; length = 0; digest = [] }
+
+-- what is read behind the records
+abbrev pub nothing_planned : Planned
+nothing_planned = record { before = record { uid = 0; gid = 0 }; after = record { uid = 0; gid = 0 }; path = record { ref_ptr = (0, 0); now = [] } }
+
+-- one record on, over the records as the code has them
+module _ (records : List Planned) (i : ℕ) (d : Planned) (below : i < length records) (owner : List ℕ → Option Owner) where
+  pub marked-more : is_new (record_of (get_or records i d)) (owner (get_or records i d).path.now) ≡ true → marked_turn i (map record_of (drop i records)) owner ≡ marked_turn (i + 1) (map record_of (drop (i + 1) records)) owner
+  marked-more new = at_drop_more (λ rs. marked_turn i (map record_of rs) owner) records i d below ∙ marked-passed i (record_of (get_or records i d)) (map record_of (drop (i + 1) records)) owner new
+
+  pub marked-ends : is_new (record_of (get_or records i d)) (owner (get_or records i d).path.now) ≡ false → marked_turn i (map record_of (drop i records)) owner ≡ Err (not_new i (record_of (get_or records i d)) (owner (get_or records i d).path.now))
+  marked-ends old = at_drop_more (λ rs. marked_turn i (map record_of rs) owner) records i d below ∙ marked-refused i (record_of (get_or records i d)) (map record_of (drop (i + 1) records)) owner old
 
 keeps_owners : {a b c : Cells} → KeepsOwners a b → KeepsOwners b c → KeepsOwners a c
 keeps_owners p q = record { owner = λ path. q.owner path ∙ p.owner path; owner_left = λ path x h. p.owner_left path x (q.owner_left path x h) }
@@ -72,6 +135,15 @@ after_keeping a b c (Some SetMark) p q =
     }
 after_keeping a b c (Some Sync) p q = record { owner = λ path. q.owner path ∙ p.owners.owner path; mark = q.mark ∙ p.mark.mark; settled = q.settled }
 
+-- what is answered behind a reading is answered as well before it
+pub advance-behind : (first then : Result Turn RunFault) (old mid new : Cells) (answer : Result Place RunFault) → first ≡ then → Same old mid → IsAdvance then (λ operation. Does operation mid new) answer → IsAdvance first (λ operation. Does operation old new) answer
+advance-behind first then old mid new (Ok next) is kept a = (a.0, is ∙ a.1, a.2, after_keeping old mid new a.0.operation kept a.3)
+advance-behind first then old mid new (Err Device) is kept (inl a) = inl (same kept a)
+advance-behind first then old mid new (Err Device) is kept (inr a) = inr (a.0, is ∙ a.1, after_keeping old mid new a.0.operation kept a.2)
+advance-behind first then old mid new (Err (Missing i)) is kept a = (is ∙ a.0, same kept a.1)
+advance-behind first then old mid new (Err (Unfinished i)) is kept a = (is ∙ a.0, same kept a.1)
+advance-behind first then old mid new (Err (Foreign i)) is kept a = (is ∙ a.0, same kept a.1)
+
 module _ (old mid new : Cells) (plan : Result Turn RunFault) (operation : Operation) (next : Place) (is : plan ≡ Ok (record { operation = Some operation; next = next })) where
   pub advance-done : Same old mid → Does (Some operation) mid new → (t : Turn) × (plan ≡ Ok t) × (next ≡ t.next) × Does t.operation old new
   advance-done kept did = (record { operation = Some operation; next = next }, is, refl, after_keeping old mid new (Some operation) kept did)
@@ -88,6 +160,7 @@ pub at_device : (plan : Result Turn RunFault) (old new : Cells) (r : Result Plac
 at_device plan old new (Ok p) h d = absurd h
 at_device plan old new (Err Device) h d = d
 at_device plan old new (Err (Missing i)) h d = cc
+at_device plan old new (Err (Unfinished i)) h d = cc
 at_device plan old new (Err (Foreign i)) h d = cc
 
 pub not-not : (b : Bool) → not b ≡ false → b ≡ true
@@ -95,11 +168,11 @@ not-not true h = refl
 not-not false h = sym h
 
 module _ (records : List PlanRecord) (place : Place) (owner : List ℕ → Option Owner) (mark : Bool) where
-  pub turn-start_done : place ≡ Start → mark ≡ true → turn records place owner mark ≡ Ok (record { operation = None; next = Done })
-  turn-start_done is set = ap (λ p. turn records p owner mark) is ∙ ap (λ m. Ok (record { operation = None; next = cond m Done (record_place records 0) })) set
+  pub turn-start_marked : place ≡ Start → mark ≡ true → turn records place owner mark ≡ marked_turn 0 records owner
+  turn-start_marked is set = ap (λ p. turn records p owner mark) is ∙ ap (λ m. cond m (marked_turn 0 records owner) (Ok (record { operation = None; next = record_place records 0 }))) set
 
   pub turn-start : place ≡ Start → mark ≡ false → turn records place owner mark ≡ Ok (record { operation = None; next = record_place records 0 })
-  turn-start is set = ap (λ p. turn records p owner mark) is ∙ ap (λ m. Ok (record { operation = None; next = cond m Done (record_place records 0) })) set
+  turn-start is set = ap (λ p. turn records p owner mark) is ∙ ap (λ m. cond m (marked_turn 0 records owner) (Ok (record { operation = None; next = record_place records 0 }))) set
 
   pub turn-record : (i : ℕ) (planned : PlanRecord) → place ≡ Record i → slice_get records i ≡ Some planned → turn records place owner mark ≡ record_turn i planned (record_place records (i + 1)) (owner planned.path)
   turn-record i planned is there = ap (λ p. turn records p owner mark) is ∙ ap (λ o. turn_at records i o owner) there

@@ -8,7 +8,7 @@ use Rattle.reown_runner.specs.declared.campaign.EventFault.{EventFault}
 use Rattle.reown_runner.specs.declared.campaign.EventFault.TheVariants.{Run, NoSuchHost}
 use Rattle.reown_runner.specs.declared.campaign.DriveFault.{DriveFault}
 use Rattle.reown_runner.specs.declared.runner.RunFault.{RunFault}
-use Rattle.reown_runner.specs.declared.runner.RunFault.TheVariants.{Device, Missing, Foreign}
+use Rattle.reown_runner.specs.declared.runner.RunFault.TheVariants.{Device, Missing, Unfinished, Foreign}
 use Rattle.reown_runner.specs.declared.runner.Place.{Place}
 use Rattle.reown_runner.specs.declared.runner.Place.TheVariants.{Start, Record, SyncOwners, Mark, SyncMark, Done}
 use Rattle.reown_runner.specs.Tree.{TreeData, cells_of}
@@ -50,15 +50,17 @@ abbrev pub IsToldBy : Option RunFault → ℕ → ℕ → Type 0
 IsToldBy None before after = after ≡ before
 IsToldBy (Some Device) before after = after ≡ before + 1
 IsToldBy (Some (Missing i)) before after = after ≡ before
+IsToldBy (Some (Unfinished i)) before after = after ≡ before
 IsToldBy (Some (Foreign i)) before after = after ≡ before
 
 -- one host goes from there to there by its events: its tree by a run of them, with just the writes and syncs of that run
 pub record Goes {T : Type 0} (known : T → TreeData) (before : Hosted T) (events : List HostEvent) (refused : Option RunFault) (after : Hosted T) : Type 0 where
+  pub mark : after.runner.mark ≡ before.runner.mark
   pub records : after.runner.records ≡ before.runner.records
-  pub stands : (s : State) → StandsFor (known before.tree) s
-      → (t : State) × StandsFor (known after.tree) t × IsRun before.runner.records (host_at before.runner.place (known before.tree) s) events refused (host_at after.runner.place (known after.tree) t)
-  pub safe : (inventory : List ℕ → Option Owner) → IsSafeInStep inventory before.runner.records before.runner.place (cells_of (known before.tree)) → IsSafeInStep inventory before.runner.records after.runner.place (cells_of (known after.tree))
-  pub device : (inventory : List ℕ → Option Owner) → IsSafeInStep inventory before.runner.records before.runner.place (cells_of (known before.tree)) → IfSome refused (λ fault. fault ≡ Device)
+  pub stands : (s : State) → StandsFor before.runner.mark (known before.tree) s
+      → (t : State) × StandsFor before.runner.mark (known after.tree) t × IsRun before.runner.records (host_at before.runner.place (known before.tree) s) events refused (host_at after.runner.place (known after.tree) t)
+  pub safe : (inventory : List ℕ → Option Owner) → IsSafeInStep inventory before.runner.records before.runner.place (cells_of before.runner.mark (known before.tree)) → IsSafeInStep inventory before.runner.records after.runner.place (cells_of before.runner.mark (known after.tree))
+  pub device : (inventory : List ℕ → Option Owner) → IsSafeInStep inventory before.runner.records before.runner.place (cells_of before.runner.mark (known before.tree)) → IfSome refused (λ fault. fault ≡ Device)
   pub told : IsToldBy refused (known before.tree).faults (known after.tree).faults
   pub asked : (known after.tree).asked ≤ (known before.tree).asked + length events
 

@@ -1,12 +1,14 @@
 -- How a plan begins on a tree, and what it has done when it is finished.
 -- Source: this project's own rule.
-use Rattle.std.specs.Prelude.{◌≡◌, ◌⊎◌, ◌≢◌, ℕ, true, false, List, Option, None, Some, All, Contains, find}
+use Rattle.std.specs.Prelude.{◌≡◌, ◌⊎◌, ◌≢◌, ℕ, true, false, List, Option, None, Some, All, Contains, find, map}
 use Rattle.std.specs.Str.{bytes_eq}
+use Rattle.reown_plan.specs.declared.mark.PlanMark.{PlanMark}
 use Rattle.reown_plan.specs.declared.plan.Owner.{Owner}
+use Rattle.reown_plan.specs.Mark.{is_marked_for}
 use Rattle.reown_plan.specs.PlanData.{PlanRecord}
 use Rattle.reown_runner.specs.Tree.{TreeData, Cells, Image, IsSettled}
 
--- a tree is as its inventory, with the mark not set and nothing pending
+-- a tree is as its inventory, not marked for the plan, and nothing is pending
 pub record IsFresh (inventory : List ℕ → Option Owner) (cells : Cells) : Type 0 where
   pub owner : (path : List ℕ) → cells.owner path ≡ inventory path
   pub mark : cells.mark ≡ false
@@ -30,8 +32,8 @@ abbrev pub IsOldOrNew : (List ℕ → Option Owner) → List PlanRecord → Imag
 IsOldOrNew inventory records image path = (image.owner path ≡ inventory path) ⊎ (image.owner path ≡ owner_after_plan inventory records path)
 
 -- The lists of a safe tree: those of a planned file have its old and new owner, those of another file its owner in the
--- inventory, and those of a planned file its new owner alone where the mark's list has "set".
-pub record HasSafeLists (inventory : List ℕ → Option Owner) (records : List PlanRecord) (tree : TreeData) : Type 0 where
+-- inventory, and those of a planned file its new owner alone where the marks' list has one of the plan.
+pub record HasSafeLists (plan : PlanMark) (inventory : List ℕ → Option Owner) (records : List PlanRecord) (tree : TreeData) : Type 0 where
   pub planned : All (λ r. (x : Option Owner) → Contains (tree.owners_left r.path) x → (x ≡ Some r.before) ⊎ (x ≡ Some r.after)) records
   pub others : (path : List ℕ) → All (λ r. r.path ≢ path) records → (x : Option Owner) → Contains (tree.owners_left path) x → x ≡ inventory path
-  pub finished : Contains tree.marks_left true → All (λ r. (x : Option Owner) → Contains (tree.owners_left r.path) x → x ≡ Some r.after) records
+  pub finished : Contains (map (is_marked_for plan) tree.marks_left) true → All (λ r. (x : Option Owner) → Contains (tree.owners_left r.path) x → x ≡ Some r.after) records

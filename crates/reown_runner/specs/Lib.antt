@@ -11,3 +11,4 @@ pub mod Failing
 pub mod Campaign
 pub mod Interleaved
 pub mod Finished
+pub mod Halfway

@@ -4,6 +4,7 @@ use Rattle.std.specs.Prelude.{◌≡◌, ℕ, ◌%◌, ◌==◌, Bool, true, fal
 use Rattle.std.specs.Option.{option_map, option_and_then}
 use Rattle.std.specs.Str.{bytes_eq}
 use Rattle.mtree_inv.specs.declared.entry.Entry.{Entry}
+use Rattle.reown_plan.specs.declared.mark.PlanMark.{PlanMark}
 use Rattle.reown_plan.specs.declared.plan.Owner.{Owner}
 use Rattle.reown_plan.specs.Owners.{owner_of, owner_eq}
 use Rattle.reown_runner.specs.Tree.{TreeData, counted}
@@ -16,8 +17,8 @@ use Rattle.reown_runner.specs.declared.memory.FileCell.{FileCell}
 pub record Mem : Type 0 where
   pub paths : List (List ℕ)
   pub cells : List FileCell
-  pub mark_synced : Bool
-  pub mark_now : Bool
+  pub mark_synced : Option PlanMark
+  pub mark_now : Option PlanMark
   pub keep : Keep
   pub asked : ℕ
 
@@ -73,9 +74,9 @@ IsWritten path owner old new =
     (i : ℕ) × (position (bytes_eq path) old.paths ≡ Some i)
     × ((c : FileCell) × (slice_get old.cells i ≡ Some c) × (new ≡ record old { cells = slice_set old.cells i (record { synced = c.synced; now = owner }); asked = counted old.asked }))
 
--- the mark's write: it is set now, and nothing else changes
-abbrev pub marked : Mem → Mem
-marked m = record m { mark_now = true; asked = counted m.asked }
+-- the mark's write: it is this plan's now, and nothing else changes
+abbrev pub marked : PlanMark → Mem → Mem
+marked plan m = record m { mark_now = Some plan; asked = counted m.asked }
 
 -- a sync: what is there now is synced, and nothing else changes
 abbrev pub settled : Mem → Mem
@@ -95,14 +96,14 @@ pub record IsReopened (old new : Mem) : Type 0 where
   pub keep : new.keep ≡ old.keep
   pub asked : new.asked ≡ old.asked
 
--- a tree as its inventory: each file at its owner, the mark not set, nothing pending
+-- a tree as its inventory: each file at its owner, marked for no plan, nothing pending
 abbrev pub new_mem : List Entry → Mem
 new_mem files =
     record {
       paths = map (λ e. e.path) files;
       cells = map (λ e. settled_cell (owner_of e)) files;
-      mark_synced = false;
-      mark_now = false;
+      mark_synced = None;
+      mark_now = None;
       keep = All;
       asked = 0;
     }

@@ -1,8 +1,9 @@
--- A tree as its history: how it began, and the operations since.
+-- A tree as its history: how it began, and the operations since. Its mark is set where it is that of the plan that sees it.
 -- Source: the usual model of a device with a write cache; fsync(2).
 use Rattle.std.specs.Prelude.{◌≡◌, ◌≢◌, ℕ, Bool, true, List, [], ◌∷◌, ◌++◌, Option, None, Some, fold, if◌then◌else◌}
 use Rattle.std.specs.List.{AllByRecursion}
 use Rattle.std.specs.Str.{bytes_eq}
+use Rattle.reown_plan.specs.declared.mark.PlanMark.{PlanMark}
 use Rattle.reown_plan.specs.declared.plan.Owner.{Owner}
 use Rattle.reown_runner.specs.Tree.{TreeData, Cells, Image, Operation, Write, SetMark, Sync, cells_of}
 
@@ -66,6 +67,6 @@ pub record Keeps (first second : Cells) : Type 0 where
   pub owners : KeepsOwners first second
   pub mark : KeepsMark first second
 
--- the readings agree, and a stop leaves in the tree only what it might leave in the state
-abbrev pub StandsFor : TreeData → State → Type 0
-StandsFor tree s = Keeps (cells_at s) (cells_of tree)
+-- as the plan sees the tree, the readings agree, and a stop leaves in the tree only what it might leave in the state
+abbrev pub StandsFor : PlanMark → TreeData → State → Type 0
+StandsFor plan tree s = Keeps (cells_at s) (cells_of plan tree)

@@ -1,6 +1,6 @@
 -- What one advance does.
 -- Source: this project's own rule.
-use Rattle.std.specs.Prelude.{◌≡◌, ◌⊎◌, ◌<◌, ◌^◌, ◌-◌, ⊤, min, IsSome, ℕ, ◌+◌, Bool, List, Option, None, Some, Result, Ok, Err, length, slice_get, nat_lt, if◌then◌else◌}
+use Rattle.std.specs.Prelude.{◌≡◌, ◌⊎◌, ◌<◌, ◌^◌, ◌-◌, ⊤, min, IsSome, ℕ, ◌+◌, Bool, false, List, [], ◌∷◌, Option, None, Some, Result, Ok, Err, length, slice_get, nat_lt, if◌then◌else◌}
 use Rattle.reown_plan.specs.declared.plan.Owner.{Owner}
 use Rattle.reown_plan.specs.Owners.{owner_eq}
 use Rattle.reown_plan.specs.PlanData.{PlanRecord}
@@ -9,7 +9,7 @@ use Rattle.reown_runner.specs.declared.runner.Place.TheVariants.{Start, Record, 
 use Rattle.reown_runner.specs.declared.runner.Progress.{Progress}
 use Rattle.reown_runner.specs.declared.runner.Progress.TheVariants.{Working, Done as Finished}
 use Rattle.reown_runner.specs.declared.runner.RunFault.{RunFault}
-use Rattle.reown_runner.specs.declared.runner.RunFault.TheVariants.{Device, Missing, Foreign}
+use Rattle.reown_runner.specs.declared.runner.RunFault.TheVariants.{Device, Missing, Unfinished, Foreign}
 use Rattle.reown_runner.specs.Tree.{Operation, Write, SetMark, Sync, counted}
 
 -- an operation, if there is one, and the place after it
@@ -35,9 +35,24 @@ abbrev pub turn_at : List PlanRecord → ℕ → Option PlanRecord → (List ℕ
 turn_at records i None owner = Ok (record { operation = None; next = SyncOwners })
 turn_at records i (Some planned) owner = record_turn i planned (record_place records (i + 1)) (owner planned.path)
 
+-- whether a file reads as at its new owner
+abbrev pub is_new : PlanRecord → Option Owner → Bool
+is_new planned None = false
+is_new planned (Some owner) = owner_eq owner planned.after
+
+-- what is wrong with the file of the record i, which does not read so though its plan is marked as done
+abbrev pub not_new : ℕ → PlanRecord → Option Owner → RunFault
+not_new i planned None = Missing i
+not_new i planned (Some owner) = if owner_eq owner planned.before then Unfinished i else Foreign i
+
+-- where the mark is set, from the record i on: the first file that is not at its new owner is refused, and else all is done
+abbrev pub marked_turn : ℕ → List PlanRecord → (List ℕ → Option Owner) → Result Turn RunFault
+marked_turn i [] owner = Ok (record { operation = None; next = Done })
+marked_turn i (planned ∷ records) owner = if is_new planned (owner planned.path) then marked_turn (i + 1) records owner else Err (not_new i planned (owner planned.path))
+
 -- what an advance does at a place, over a tree with these readings, where no call fails
 abbrev pub turn : List PlanRecord → Place → (List ℕ → Option Owner) → Bool → Result Turn RunFault
-turn records Start owner mark = Ok (record { operation = None; next = if mark then Done else record_place records 0 })
+turn records Start owner mark = if mark then marked_turn 0 records owner else Ok (record { operation = None; next = record_place records 0 })
 turn records (Record i) owner mark = turn_at records i (slice_get records i) owner
 turn records SyncOwners owner mark = Ok (record { operation = Some Sync; next = Mark })
 turn records Mark owner mark = Ok (record { operation = Some SetMark; next = SyncMark })
@@ -50,6 +65,7 @@ abbrev pub IsAdvance : Result Turn RunFault → (Option Operation → Type 0) �
 IsAdvance plan Did (Ok next) = (t : Turn) × (plan ≡ Ok t) × (next ≡ t.next) × Did t.operation
 IsAdvance plan Did (Err Device) = Did None ⊎ ((t : Turn) × (plan ≡ Ok t) × Did t.operation)
 IsAdvance plan Did (Err (Missing i)) = (plan ≡ Err (Missing i)) × Did None
+IsAdvance plan Did (Err (Unfinished i)) = (plan ≡ Err (Unfinished i)) × Did None
 IsAdvance plan Did (Err (Foreign i)) = (plan ≡ Err (Foreign i)) × Did None
 
 -- the place after an answer: a refusal leaves it
@@ -75,6 +91,7 @@ abbrev pub IsTold : {X : Type 0} → ℕ → ℕ → Result X RunFault → Type 
 IsTold before after (Ok x) = after ≡ before
 IsTold before after (Err Device) = (after ≡ before + 1) × (after < 2 ^ 64)
 IsTold before after (Err (Missing i)) = after ≡ before
+IsTold before after (Err (Unfinished i)) = after ≡ before
 IsTold before after (Err (Foreign i)) = after ≡ before
 
 -- nothing was asked for, or the one operation of the turn

@@ -1,28 +1,41 @@
--- A tree: a cell for each path, and one for the mark. What a read answers, and what a stop may leave: only a sync says that
--- what was written stays.
+-- A tree: a cell for each path, and one for the mark, which says of which plan it is. What a read answers, and what a stop may
+-- leave: only a sync says that what was written stays.
 -- Source: the usual model of a device with a write cache; chown(2), fsync(2).
-use Rattle.std.specs.Prelude.{◌≡◌, ◌≢◌, ◌⊎◌, ◌↔◌, ℕ, ◌+◌, ◌<◌, ◌-◌, ◌^◌, Bool, true, List, Option, None, Some, Result, Ok, Err, min, Contains}
+use Rattle.std.specs.Prelude.{◌≡◌, ◌≢◌, ◌⊎◌, ◌↔◌, ℕ, ◌+◌, ◌<◌, ◌-◌, ◌^◌, Bool, true, List, Option, None, Some, Result, Ok, Err, map, min, Contains}
+use Rattle.reown_plan.specs.declared.mark.PlanMark.{PlanMark}
 use Rattle.reown_plan.specs.declared.plan.Owner.{Owner}
+use Rattle.reown_plan.specs.Mark.{is_marked_for}
 
 -- what is known of a tree: each cell's reading, and the values that a stop may leave there; how often a call has
 -- failed; how many writes and syncs were asked for
 pub record TreeData : Type 0 where
   pub owner : List ℕ → Option Owner
   pub owners_left : List ℕ → List (Option Owner)
-  pub mark : Bool
-  pub marks_left : List Bool
+  pub mark : Option PlanMark
+  pub marks_left : List (Option PlanMark)
   pub faults : ℕ
   pub asked : ℕ
 
--- each cell's reading, and what a stop may leave there
+-- A tree as one plan sees it: each cell's reading, and what a stop may leave there. Its mark is set where it is this plan's.
 pub record Cells : Type 1 where
   pub owner : List ℕ → Option Owner
   pub owner_left : List ℕ → Option Owner → Type 0
   pub mark : Bool
   pub mark_left : Bool → Type 0
 
-abbrev pub cells_of : TreeData → Cells
-cells_of t = record { owner = t.owner; owner_left = λ path. Contains (t.owners_left path); mark = t.mark; mark_left = Contains t.marks_left }
+-- as the plan with this mark sees it
+abbrev pub cells_of : PlanMark → TreeData → Cells
+cells_of plan t =
+    record {
+      owner = t.owner;
+      owner_left = λ path. Contains (t.owners_left path);
+      mark = is_marked_for plan t.mark;
+      mark_left = Contains (map (is_marked_for plan) t.marks_left);
+    }
+
+-- so it is for each plan
+abbrev pub ForEachPlan : (Cells → Cells → Type 0) → TreeData → TreeData → Type 0
+ForEachPlan Is old new = (plan : PlanMark) → Is (cells_of plan old) (cells_of plan new)
 
 -- what is read now is among what a stop may leave
 pub record IsReadable (c : Cells) : Type 0 where

@@ -19,7 +19,7 @@ pub enum Event {
 /// Why an event was refused.
 #[derive(Clone, Copy, Debug, PartialEq, Eq)]
 pub enum EventFault {
-    /// 36, 37, 38: the host's runner was refused.
+    /// 36, 37, 38, 44: the host's runner was refused.
     Run(RunFault),
     /// 39: there is no host of this index.
     NoSuchHost,
@@ -54,7 +54,7 @@ impl<'p, 'a, T> Model for Campaign<'p, 'a, T> {
 
 ghost use Rattle.reown_runner.specs.Campaign.{host_of, host_event, refused_of, happened, Goes, EachGoes, is_done, event_refusal, IsForHost, AreForHosts};
 ghost use Rattle.reown_runner.specs.Run.{refusal};
-ghost use Rattle.reown_runner.specs.RunnerData.{RunnerData};
+ghost use Rattle.reown_runner.specs.RunnerData.{RunnerData, starting};
 
 impl Event {
     fn host(self) -> u32
@@ -85,7 +85,7 @@ fn happen_to<T: Tree>(runner: &mut Runner, tree: &mut T, event: Event) -> Result
 }
 
 impl<'p, 'a, T> Campaign<'p, 'a, T> {
-    /// A runner at its start for each plan, with the trees. One runner of memory a plan.
+    /// A runner at its start for each plan, with the trees. One runner of memory a plan, and one pass over its text.
     ///
     /// # Errors
     ///
@@ -96,7 +96,7 @@ impl<'p, 'a, T> Campaign<'p, 'a, T> {
         trees: Vec<T>,
     ) -> Result<Self, (AllocError, Vec<T>)>
         requires { length plans.now ≡ length trees.items }
-        ensures runners { IfOk result (λ campaign. campaign.runners ≡ map (λ plan. record { records = plan.records; place = Place.Start }) plans.now) }
+        ensures runners { IfOk result (λ campaign. campaign.runners ≡ map starting plans.now) }
         ensures trees { IfOk result (λ campaign. campaign.trees ≡ trees.items) }
         ensures back { IfErr result (λ refusal. refusal.1.items ≡ trees.items) }
     {

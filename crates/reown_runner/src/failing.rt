@@ -3,7 +3,7 @@ ghost use Rattle.std.specs.Prelude.{◌≡◌, ◌≢◌, ◌+◌, ◌^◌, ◌<
 ghost use Rattle.reown_runner.specs.declared.failing.Item.TheVariants.{Pass};
 
 use crate::{DeviceFault, MemTree, Tree};
-use reown_plan::Owner;
+use reown_plan::{Owner, PlanMark};
 use std::marker::Model;
 
 /// What a call does.
@@ -40,7 +40,8 @@ impl Model for FailTree {
 
 ghost use Rattle.reown_runner.specs.Failing.{known_failing, readable_failing, next_item, IsScripted};
 ghost use Rattle.reown_runner.specs.Memory.{known_mem, IsWritten, marked, settled, IsReopened};
-ghost use Rattle.reown_runner.specs.Tree.{cells_of, counted, Same, Writes, SetsMark, Syncs, Stops, MayDo, Write, SetMark, Sync, IsCounted};
+ghost use Rattle.reown_runner.specs.Tree.{cells_of, ForEachPlan, counted, Same, Writes, SetsMark, Syncs, Stops, MayDo, Write, SetMark, Sync, IsCounted};
+ghost use Rattle.reown_plan.specs.Mark.{is_marked_for};
 ghost use Rattle.std.specs.Prelude.{⊤, OnOk, OnErr, IfOk, IsSome};
 
 impl FailTree {
@@ -98,38 +99,38 @@ impl FailTree {
         self.tree.owner(path).unwrap()
     }
 
-    fn read_mark(&mut self) -> bool
-        ensures answer { result ≡ (known_mem self.old.tree).mark }
+    fn read_mark(&mut self, plan: &PlanMark) -> bool
+        ensures answer { result ≡ is_marked_for plan.now (known_mem self.old.tree).mark }
         ensures untouched { self.new ≡ self.old }
     {
-        self.tree.mark().unwrap()
+        self.tree.is_marked(plan).unwrap()
     }
 
     fn write(&mut self, path: &[u8], owner: Owner)
         requires { IsSome ((known_mem self.old.tree).owner path.now) }
-        ensures done { Writes path.now owner (cells_of (known_mem self.old.tree)) (cells_of (known_mem self.new.tree)) }
+        ensures done { ForEachPlan (Writes path.now owner) (known_mem self.old.tree) (known_mem self.new.tree) }
         ensures written { IsWritten path.now owner self.old.tree self.new.tree }
         ensures rest { self.new ≡ record self.old { tree = self.new.tree } }
     {
         self.tree.set_owner(path, owner).unwrap()
     }
 
-    fn write_mark(&mut self)
-        ensures done { SetsMark (cells_of (known_mem self.old.tree)) (cells_of (known_mem self.new.tree)) }
-        ensures marked { self.new ≡ record self.old { tree = marked self.old.tree } }
+    fn write_mark(&mut self, plan: &PlanMark)
+        ensures done { SetsMark (cells_of plan.now (known_mem self.old.tree)) (cells_of plan.now (known_mem self.new.tree)) }
+        ensures marked { self.new ≡ record self.old { tree = marked plan.now self.old.tree } }
     {
-        self.tree.set_mark().unwrap()
+        self.tree.set_mark(plan).unwrap()
     }
 
     fn settle(&mut self)
-        ensures done { Syncs (cells_of (known_mem self.old.tree)) (cells_of (known_mem self.new.tree)) }
+        ensures done { ForEachPlan Syncs (known_mem self.old.tree) (known_mem self.new.tree) }
         ensures settled { self.new ≡ record self.old { tree = settled self.old.tree } }
     {
         self.tree.sync().unwrap()
     }
 
     fn stop(&mut self)
-        ensures left { Stops (cells_of (known_mem self.old.tree)) (cells_of (known_mem self.new.tree)) }
+        ensures left { ForEachPlan Stops (known_mem self.old.tree) (known_mem self.new.tree) }
         ensures chosen { IsReopened self.old.tree self.new.tree }
         ensures rest { self.new ≡ record self.old { tree = self.new.tree } }
     {
@@ -142,7 +143,7 @@ impl Tree for FailTree {
 
     fn owner(&mut self, path: &[u8]) -> Result<Option<Owner>, DeviceFault>
         ensures answer { IfOk result (λ owner. owner ≡ (known_failing self.old).owner path.now) }
-        ensures same { Same (cells_of (known_failing self.old)) (cells_of (known_failing self.new)) }
+        ensures same { ForEachPlan Same (known_failing self.old) (known_failing self.new) }
         ensures faults { IsCounted (known_failing self.old).faults (known_failing self.new).faults result }
         ensures asked { (known_failing self.new).asked ≡ (known_failing self.old).asked }
         ensures scripted { IsScripted (next_item self.old) result ⊤ ⊤ }
@@ -157,8 +158,8 @@ impl Tree for FailTree {
 
     fn set_owner(&mut self, path: &[u8], owner: Owner) -> Result<(), DeviceFault>
         requires { IsSome ((known_failing self.old).owner path.now) }
-        ensures done { OnOk result (Writes path.now owner (cells_of (known_failing self.old)) (cells_of (known_failing self.new))) }
-        ensures failed { OnErr result (MayDo (Write path.now owner) (cells_of (known_failing self.old)) (cells_of (known_failing self.new))) }
+        ensures done { OnOk result (ForEachPlan (Writes path.now owner) (known_failing self.old) (known_failing self.new)) }
+        ensures failed { OnErr result (ForEachPlan (MayDo (Write path.now owner)) (known_failing self.old) (known_failing self.new)) }
         ensures faults { IsCounted (known_failing self.old).faults (known_failing self.new).faults result }
         ensures asked { (known_failing self.new).asked ≡ counted (known_failing self.old).asked }
         ensures scripted { IsScripted (next_item self.old) result (self.new.tree ≡ self.old.tree) (IsWritten path.now owner self.old.tree self.new.tree) }
@@ -178,9 +179,9 @@ impl Tree for FailTree {
         }
     }
 
-    fn mark(&mut self) -> Result<bool, DeviceFault>
-        ensures answer { IfOk result (λ mark. mark ≡ (known_failing self.old).mark) }
-        ensures same { Same (cells_of (known_failing self.old)) (cells_of (known_failing self.new)) }
+    fn is_marked(&mut self, plan: &PlanMark) -> Result<bool, DeviceFault>
+        ensures answer { IfOk result (λ set. set ≡ is_marked_for plan.now (known_failing self.old).mark) }
+        ensures same { ForEachPlan Same (known_failing self.old) (known_failing self.new) }
         ensures faults { IsCounted (known_failing self.old).faults (known_failing self.new).faults result }
         ensures asked { (known_failing self.new).asked ≡ (known_failing self.old).asked }
         ensures scripted { IsScripted (next_item self.old) result ⊤ ⊤ }
@@ -188,36 +189,36 @@ impl Tree for FailTree {
         ensures script { self.new.script ≡ drop 1 self.old.script }
     {
         match self.take() {
-            Item::Pass => Ok(self.read_mark()),
+            Item::Pass => Ok(self.read_mark(plan)),
             Item::FailBefore | Item::FailAfter => Err(self.fail()),
         }
     }
 
-    fn set_mark(&mut self) -> Result<(), DeviceFault>
-        ensures done { OnOk result (SetsMark (cells_of (known_failing self.old)) (cells_of (known_failing self.new))) }
-        ensures failed { OnErr result (MayDo SetMark (cells_of (known_failing self.old)) (cells_of (known_failing self.new))) }
+    fn set_mark(&mut self, plan: &PlanMark) -> Result<(), DeviceFault>
+        ensures done { OnOk result (SetsMark (cells_of plan.now (known_failing self.old)) (cells_of plan.now (known_failing self.new))) }
+        ensures failed { OnErr result (MayDo SetMark (cells_of plan.now (known_failing self.old)) (cells_of plan.now (known_failing self.new))) }
         ensures faults { IsCounted (known_failing self.old).faults (known_failing self.new).faults result }
         ensures asked { (known_failing self.new).asked ≡ counted (known_failing self.old).asked }
-        ensures scripted { IsScripted (next_item self.old) result (self.new.tree ≡ self.old.tree) (self.new.tree ≡ marked self.old.tree) }
+        ensures scripted { IsScripted (next_item self.old) result (self.new.tree ≡ self.old.tree) (self.new.tree ≡ marked plan.now self.old.tree) }
         ensures script { self.new.script ≡ drop 1 self.old.script }
     {
         self.count();
         match self.take() {
             Item::Pass => {
-                self.write_mark();
+                self.write_mark(plan);
                 Ok(())
             }
             Item::FailBefore => Err(self.fail()),
             Item::FailAfter => {
-                self.write_mark();
+                self.write_mark(plan);
                 Err(self.fail())
             }
         }
     }
 
     fn sync(&mut self) -> Result<(), DeviceFault>
-        ensures done { OnOk result (Syncs (cells_of (known_failing self.old)) (cells_of (known_failing self.new))) }
-        ensures failed { OnErr result (MayDo Sync (cells_of (known_failing self.old)) (cells_of (known_failing self.new))) }
+        ensures done { OnOk result (ForEachPlan Syncs (known_failing self.old) (known_failing self.new)) }
+        ensures failed { OnErr result (ForEachPlan (MayDo Sync) (known_failing self.old) (known_failing self.new)) }
         ensures faults { IsCounted (known_failing self.old).faults (known_failing self.new).faults result }
         ensures asked { (known_failing self.new).asked ≡ counted (known_failing self.old).asked }
         ensures scripted { IsScripted (next_item self.old) result (self.new.tree ≡ self.old.tree) (self.new.tree ≡ settled self.old.tree) }
@@ -238,7 +239,7 @@ impl Tree for FailTree {
     }
 
     fn reopen(&mut self)
-        ensures left { Stops (cells_of (known_failing self.old)) (cells_of (known_failing self.new)) }
+        ensures left { ForEachPlan Stops (known_failing self.old) (known_failing self.new) }
         ensures faults { (known_failing self.new).faults ≡ (known_failing self.old).faults }
         ensures asked { (known_failing self.new).asked ≡ (known_failing self.old).asked }
         ensures chosen { IsReopened self.old.tree self.new.tree }

@@ -1,5 +1,6 @@
 //! What holds of safe trees, of runs, and of plans that are done.
 ghost use Rattle.std.specs.Prelude.{◌≡◌, ◌↔◌, ◌+◌, ◌++◌, ◌≤◌, ℕ, true, false, List, Option, None, IfSome, length, replicate};
+ghost use Rattle.reown_plan.specs.declared.mark.PlanMark.{PlanMark};
 ghost use Rattle.reown_plan.specs.declared.plan.Owner.{Owner};
 ghost use Rattle.reown_plan.specs.PlanData.{PlanRecord, HaveDistinctPaths};
 ghost use Rattle.reown_runner.specs.declared.runner.Place.{Place};
@@ -14,12 +15,12 @@ ghost use Rattle.reown_runner.specs.declared.campaign.Event.{Event};
 ghost use Rattle.reown_runner.specs.Interleaved.{AllHappen, HappensHostByHost, one_by_one};
 ghost use Rattle.reown_runner.specs.Run.{Host, HostEvent, Advances, IsRun, AreRuns};
 
-/// A tree that is as its inventory is safe and in step at the start of a plan whose paths are there at their old owners;
-/// so is a world without a history. Such a tree stands for the history in which nothing has happened.
+/// A tree that is as its inventory, and not marked for the plan, is safe and in step at the start of a plan whose paths are
+/// there at their old owners; so is a world without a history. Such a tree stands for the history in which nothing has happened.
 pub fn fresh_is_safe()
-    ensures trees { (inventory : List ℕ → Option Owner) (records : List PlanRecord) (tree : TreeData) → IsFresh inventory (cells_of tree) → AreOld inventory records → IsSafeInStep inventory records Start (cells_of tree) }
+    ensures trees { (inventory : List ℕ → Option Owner) (plan : PlanMark) (records : List PlanRecord) (tree : TreeData) → IsFresh inventory (cells_of plan tree) → AreOld inventory records → IsSafeInStep inventory records Start (cells_of plan tree) }
     ensures worlds { (inventory : List ℕ → Option Owner) (records : List PlanRecord) (image : Image) → ((path : List ℕ) → image.owner path ≡ inventory path) → image.mark ≡ false → AreOld inventory records → IsSafeInStep inventory records Start (cells_at (fresh image)) }
-    ensures stands { (inventory : List ℕ → Option Owner) (tree : TreeData) → IsFresh inventory (cells_of tree) → StandsFor tree (fresh (record { owner = inventory; mark = false })) }
+    ensures stands { (inventory : List ℕ → Option Owner) (plan : PlanMark) (tree : TreeData) → IsFresh inventory (cells_of plan tree) → StandsFor plan tree (fresh (record { owner = inventory; mark = false })) }
 {}
 
 /// A host that is safe and in step stays so over any run of its events, also where one is refused, and over any such runs
@@ -57,19 +58,19 @@ pub fn only_the_device_refuses()
 /// A stop of a tree that is safe and in step, at whatever place, leaves one that is safe and in step at the start: `reopen`
 /// by itself, with a new `Runner` after it.
 pub fn a_stop_stays_safe()
-    ensures { (inventory : List ℕ → Option Owner) (records : List PlanRecord) (place : Place) (old new : TreeData) → IsReadable (cells_of old) → Stops (cells_of old) (cells_of new)
-        → IsSafeInStep inventory records place (cells_of old) → IsSafeInStep inventory records Start (cells_of new) }
+    ensures { (inventory : List ℕ → Option Owner) (plan : PlanMark) (records : List PlanRecord) (place : Place) (old new : TreeData) → IsReadable (cells_of plan old) → Stops (cells_of plan old) (cells_of plan new)
+        → IsSafeInStep inventory records place (cells_of plan old) → IsSafeInStep inventory records Start (cells_of plan new) }
 {}
 
 /// A tree is safe exactly where its lists are.
 pub fn safe_by_lists()
-    ensures { (inventory : List ℕ → Option Owner) (records : List PlanRecord) (tree : TreeData) → IsReadable (cells_of tree) → IsSafe inventory records (cells_of tree) ↔ HasSafeLists inventory records tree }
+    ensures { (inventory : List ℕ → Option Owner) (plan : PlanMark) (records : List PlanRecord) (tree : TreeData) → IsReadable (cells_of plan tree) → IsSafe inventory records (cells_of plan tree) ↔ HasSafeLists plan inventory records tree }
 {}
 
-/// A host that is done has its mark set and each file at its owner after the plan, whatever a stop leaves.
+/// A host that is done is marked for its plan and has each file at its owner after the plan, whatever a stop leaves.
 pub fn done_means_done()
-    ensures trees { (inventory : List ℕ → Option Owner) (records : List PlanRecord) (tree : TreeData) → IsSafeInStep inventory records Done (cells_of tree)
-        → (image : Image) → IsImage (cells_of tree) image → (image.mark ≡ true) × ((path : List ℕ) → image.owner path ≡ owner_after_plan inventory records path) }
+    ensures trees { (inventory : List ℕ → Option Owner) (plan : PlanMark) (records : List PlanRecord) (tree : TreeData) → IsSafeInStep inventory records Done (cells_of plan tree)
+        → (image : Image) → IsImage (cells_of plan tree) image → (image.mark ≡ true) × ((path : List ℕ) → image.owner path ≡ owner_after_plan inventory records path) }
     ensures worlds { (inventory : List ℕ → Option Owner) (records : List PlanRecord) (s : State) → IsSafeInStep inventory records Done (cells_at s)
         → (image : Image) → IsImage (cells_at s) image → (image.mark ≡ true) × ((path : List ℕ) → image.owner path ≡ owner_after_plan inventory records path) }
 {}

@@ -6,7 +6,7 @@ ghost use Rattle.std.specs.Str.{bytes_eq};
 use crate::{DeviceFault, Tree};
 use indexmap::IndexSet;
 use mtree_inv::Inventory;
-use reown_plan::Owner;
+use reown_plan::{Owner, PlanMark, Record};
 use std::alloc::{AllocError, Global};
 use std::marker::Model;
 
@@ -30,13 +30,14 @@ pub struct FileCell {
     now: Owner,
 }
 
-/// A tree in memory. A path is found by hash; a sync and a stop take one pass over the files. No call but `new` takes memory.
+/// A tree in memory. A path is found by hash; a sync and a stop take one pass over the files. No call
+/// but `new` and `of_records` takes memory.
 #[derive(Drop)]
 pub struct MemTree {
     paths: IndexSet<Vec<u8>>,
     cells: Vec<FileCell>,
-    mark_synced: bool,
-    mark_now: bool,
+    mark_synced: Option<PlanMark>,
+    mark_now: Option<PlanMark>,
     keep: Keep,
     asked: u64,
 }
@@ -54,8 +55,39 @@ impl Model for MemTree {
 
 ghost use Rattle.reown_runner.specs.Memory.{known_mem, keeps_file, is_odd_one, settled_cell, left_cell, owner_in, new_mem, IsWritten, marked, settled, IsReopened};
 ghost use Rattle.reown_runner.specs.MemoryReads.{readable_mem};
-ghost use Rattle.reown_runner.specs.Tree.{cells_of, counted, Same, Writes, SetsMark, Syncs, Stops, MayDo, Write, SetMark, Sync, IsCounted};
+ghost use Rattle.reown_runner.specs.Tree.{cells_of, ForEachPlan, counted, Same, Writes, SetsMark, Syncs, Stops, MayDo, Write, SetMark, Sync, IsCounted};
+ghost use Rattle.reown_plan.specs.Mark.{is_marked_for};
+ghost use Rattle.reown_plan.specs.declared.mark.PlanMark.{PlanMark};
 ghost use Rattle.reown_runner.specs.Finished.{IsFresh};
+ghost use Rattle.reown_runner.specs.Halfway.{mem_of_records, AreHalfway, MayGoOn};
+ghost use Rattle.reown_plan.specs.PlanData.{HaveDistinctPaths};
+ghost use Rattle.reown_plan.specs.Records.{record_of};
+
+// The paths of records, which differ.
+fn paths_of(alloc: Global, records: &[Record]) -> Result<IndexSet<Vec<u8>>, AllocError>
+    requires { HaveDistinctPaths (map record_of records.now) }
+    ensures { IfOk result (λ paths. map (λ k. k.items) paths.keys ≡ map (λ r. r.path) (map record_of records.now)) }
+{
+    let mut paths = IndexSet::with_capacity(alloc, records.len())?;
+    for planned in records {
+        paths.insert(planned.path.to_vec(alloc)?)?;
+    }
+    Ok(paths)
+}
+
+// A cell at each owner, with nothing pending.
+fn cells_at(alloc: Global, owners: &[Owner]) -> Result<Vec<FileCell>, AllocError>
+    ensures { IfOk result (λ cells. cells.items ≡ map settled_cell owners.now) }
+{
+    let mut cells = Vec::with_capacity(alloc, owners.len())?;
+    for owner in owners {
+        cells.push(FileCell {
+            synced: *owner,
+            now: *owner,
+        })?;
+    }
+    Ok(cells)
+}
 
 fn sync_cells(cells: &mut [FileCell])
     ensures { cells.new ≡ map (λ c. settled_cell c.now) cells.old }
@@ -90,7 +122,7 @@ fn leave_cells(cells: &mut [FileCell], keep: Keep) -> bool
 }
 
 impl MemTree {
-    /// A tree as its inventory, with the mark not set and nothing pending. A stop keeps all, until `on_reopen` chooses
+    /// A tree as its inventory, marked for no plan, with nothing pending. A stop keeps all, until `on_reopen` chooses
     /// otherwise. One pass over the inventory, with a copy of each path.
     ///
     /// # Errors
@@ -98,7 +130,7 @@ impl MemTree {
     /// `AllocError` where memory is refused.
     pub fn new(alloc: Global, inventory: &Inventory) -> Result<MemTree, AllocError>
         ensures starts { IfOk result (λ tree. tree ≡ new_mem inventory.now) }
-        ensures fresh { IfOk result (λ tree. IsFresh (owner_in inventory.now) (cells_of (known_mem tree))) }
+        ensures fresh { IfOk result (λ tree. (plan : PlanMark) → IsFresh (owner_in inventory.now) (cells_of plan (known_mem tree))) }
     {
         let entries = inventory.entries();
         let mut paths = IndexSet::with_capacity(alloc, entries.len())?;
@@ -117,8 +149,39 @@ impl MemTree {
         Ok(MemTree {
             paths,
             cells,
-            mark_synced: false,
-            mark_now: false,
+            mark_synced: None,
+            mark_now: None,
+            keep: Keep::All,
+            asked: 0,
+        })
+    }
+
+    /// A tree that has just the files of records, at these owners, with the mark as told and nothing pending. Where each
+    /// owner is the old or the new one, as an earlier run may have left it, the plan may go on from there. A stop keeps
+    /// all, until `on_reopen` chooses otherwise. One pass, with a copy of each path.
+    ///
+    /// # Errors
+    ///
+    /// `AllocError` where memory is refused.
+    pub fn of_records(
+        alloc: Global,
+        records: &[Record],
+        owners: &[Owner],
+        mark: Option<PlanMark>,
+    ) -> Result<MemTree, AllocError>
+        requires distinct { HaveDistinctPaths (map record_of records.now) }
+        requires as_many { length owners.now ≡ length records.now }
+        ensures starts { IfOk result (λ tree. tree ≡ mem_of_records (map record_of records.now) owners.now mark) }
+        ensures safe { IfOk result (λ tree. (plan : PlanMark) → AreHalfway (map record_of records.now) owners.now (is_marked_for plan mark)
+            → MayGoOn (map record_of records.now) (cells_of plan (known_mem tree))) }
+    {
+        let paths = paths_of(alloc, records)?;
+        let cells = cells_at(alloc, owners)?;
+        Ok(MemTree {
+            paths,
+            cells,
+            mark_synced: mark,
+            mark_now: mark,
             keep: Keep::All,
             asked: 0,
         })
@@ -132,8 +195,8 @@ impl MemTree {
         self.keep = keep;
     }
 
-    // The place of a path.
-    fn index_of(&self, path: &[u8]) -> Option<usize>
+    /// The place of a path among the paths, if it is one of them. A look-up by hash.
+    pub fn index_of(&self, path: &[u8]) -> Option<usize>
         ensures place { result ≡ position (bytes_eq path.now) self.now.paths }
         ensures within { IfSome result (λ i. i < length self.now.cells) }
     {
@@ -191,7 +254,7 @@ impl Tree for MemTree {
 
     fn owner(&mut self, path: &[u8]) -> Result<Option<Owner>, DeviceFault>
         ensures answer { IfOk result (λ owner. owner ≡ (known_mem self.old).owner path.now) }
-        ensures same { Same (cells_of (known_mem self.old)) (cells_of (known_mem self.new)) }
+        ensures same { ForEachPlan Same (known_mem self.old) (known_mem self.new) }
         ensures faults { IsCounted (known_mem self.old).faults (known_mem self.new).faults result }
         ensures asked { (known_mem self.new).asked ≡ (known_mem self.old).asked }
         ensures untouched { self.new ≡ self.old }
@@ -204,8 +267,8 @@ impl Tree for MemTree {
 
     fn set_owner(&mut self, path: &[u8], owner: Owner) -> Result<(), DeviceFault>
         requires { IsSome ((known_mem self.old).owner path.now) }
-        ensures done { OnOk result (Writes path.now owner (cells_of (known_mem self.old)) (cells_of (known_mem self.new))) }
-        ensures failed { OnErr result (MayDo (Write path.now owner) (cells_of (known_mem self.old)) (cells_of (known_mem self.new))) }
+        ensures done { OnOk result (ForEachPlan (Writes path.now owner) (known_mem self.old) (known_mem self.new)) }
+        ensures failed { OnErr result (ForEachPlan (MayDo (Write path.now owner)) (known_mem self.old) (known_mem self.new)) }
         ensures faults { IsCounted (known_mem self.old).faults (known_mem self.new).faults result }
         ensures asked { (known_mem self.new).asked ≡ counted (known_mem self.old).asked }
         ensures written { IsWritten path.now owner self.old self.new }
@@ -215,31 +278,31 @@ impl Tree for MemTree {
         Ok(())
     }
 
-    fn mark(&mut self) -> Result<bool, DeviceFault>
-        ensures answer { IfOk result (λ mark. mark ≡ (known_mem self.old).mark) }
-        ensures same { Same (cells_of (known_mem self.old)) (cells_of (known_mem self.new)) }
+    fn is_marked(&mut self, plan: &PlanMark) -> Result<bool, DeviceFault>
+        ensures answer { IfOk result (λ set. set ≡ is_marked_for plan.now (known_mem self.old).mark) }
+        ensures same { ForEachPlan Same (known_mem self.old) (known_mem self.new) }
         ensures faults { IsCounted (known_mem self.old).faults (known_mem self.new).faults result }
         ensures asked { (known_mem self.new).asked ≡ (known_mem self.old).asked }
         ensures untouched { self.new ≡ self.old }
     {
-        Ok(self.mark_now)
+        Ok(self.mark_now.is_some_and(|mark| mark == *plan))
     }
 
-    fn set_mark(&mut self) -> Result<(), DeviceFault>
-        ensures done { OnOk result (SetsMark (cells_of (known_mem self.old)) (cells_of (known_mem self.new))) }
-        ensures failed { OnErr result (MayDo SetMark (cells_of (known_mem self.old)) (cells_of (known_mem self.new))) }
+    fn set_mark(&mut self, plan: &PlanMark) -> Result<(), DeviceFault>
+        ensures done { OnOk result (SetsMark (cells_of plan.now (known_mem self.old)) (cells_of plan.now (known_mem self.new))) }
+        ensures failed { OnErr result (MayDo SetMark (cells_of plan.now (known_mem self.old)) (cells_of plan.now (known_mem self.new))) }
         ensures faults { IsCounted (known_mem self.old).faults (known_mem self.new).faults result }
         ensures asked { (known_mem self.new).asked ≡ counted (known_mem self.old).asked }
-        ensures marked { self.new ≡ marked self.old }
+        ensures marked { self.new ≡ marked plan.now self.old }
     {
-        self.mark_now = true;
+        self.mark_now = Some(*plan);
         self.asked = self.asked.saturating_add(1);
         Ok(())
     }
 
     fn sync(&mut self) -> Result<(), DeviceFault>
-        ensures done { OnOk result (Syncs (cells_of (known_mem self.old)) (cells_of (known_mem self.new))) }
-        ensures failed { OnErr result (MayDo Sync (cells_of (known_mem self.old)) (cells_of (known_mem self.new))) }
+        ensures done { OnOk result (ForEachPlan Syncs (known_mem self.old) (known_mem self.new)) }
+        ensures failed { OnErr result (ForEachPlan (MayDo Sync) (known_mem self.old) (known_mem self.new)) }
         ensures faults { IsCounted (known_mem self.old).faults (known_mem self.new).faults result }
         ensures asked { (known_mem self.new).asked ≡ counted (known_mem self.old).asked }
         ensures settled { self.new ≡ settled self.old }
@@ -249,7 +312,7 @@ impl Tree for MemTree {
     }
 
     fn reopen(&mut self)
-        ensures left { Stops (cells_of (known_mem self.old)) (cells_of (known_mem self.new)) }
+        ensures left { ForEachPlan Stops (known_mem self.old) (known_mem self.new) }
         ensures faults { (known_mem self.new).faults ≡ (known_mem self.old).faults }
         ensures asked { (known_mem self.new).asked ≡ (known_mem self.old).asked }
         ensures chosen { IsReopened self.old self.new }

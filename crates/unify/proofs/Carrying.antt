@@ -18,12 +18,12 @@ use Rattle.reown_runner.specs.declared.campaign.Event.TheVariants.{Advance}
 use Rattle.reown_runner.specs.declared.campaign.EventFault.{EventFault}
 use Rattle.reown_runner.specs.declared.campaign.EventFault.TheVariants.{Run, NoSuchHost}
 use Rattle.reown_runner.specs.declared.memory.Keep.{Keep}
-use Rattle.reown_runner.specs.declared.runner.Place.TheVariants.{Start}
 use Rattle.reown_runner.specs.declared.runner.RunFault.{RunFault}
 use Rattle.reown_runner.specs.declared.runner.RunFault.TheVariants.{Device}
 use Rattle.reown_runner.specs.Campaign.{AreForHosts, EachGoes, IsForHost, IsToldBy, happened, host_of, is_done, refused_for, refused_of}
 use Rattle.reown_runner.specs.Memory.{Mem, known_mem, new_mem}
-use Rattle.reown_runner.specs.RunnerData.{RunnerData}
+use Rattle.reown_plan.specs.Mark.{mark_of}
+use Rattle.reown_runner.specs.RunnerData.{RunnerData, starting}
 use Rattle.reown_runner.specs.Tree.{cells_of}
 use Rattle.reown_runner.specs.World.{World, Hosted, IsHostOf}
 use Rattle.reown_runner.proofs.Campaigns.{refused_here}
@@ -80,25 +80,24 @@ done_more runners i done so_far runner at =
     ∙ sym (map-append told (take i runners) (get_or runners i runner ∷ []))
     ∙ sym (ap (map told) (take_more runners i runner long))
 
-abbrev starting : List PlanData → List Mem → World Mem
-starting plans trees = record { runners = at_start plans; trees = trees }
+abbrev beginning : List PlanData → List Mem → World Mem
+beginning plans trees = record { runners = at_start plans; trees = trees }
 
 -- no event is refused, where each plan's tree is ready for it: the trees count no fault
 pub never_refused : (plans : List PlanData) (trees : List Mem) → AreReady plans trees → (event : Event) → host_of event < length trees → (o : Option Event) → o ≡ Some event → (fault : EventFault) → IsForHost event (length trees) (Err fault)
-    → (front : List Event) (after : World Mem) → EachGoes known_mem (starting plans trees) front (λ host. refused_for host o fault) after → ⊥
+    → (front : List Event) (after : World Mem) → EachGoes known_mem (beginning plans trees) front (λ host. refused_for host o fault) after → ⊥
 never_refused plans trees are event within o at NoSuchHost for_host front after goes = omega (arith, within, for_host)
 never_refused plans trees are event within o at (Run fault) for_host front after goes =
     let h = host_of event in
     let plan = get_or plans h (record { host = []; records = [] }) in
     let tree = get_or trees h (new_mem []) in
-    let start : PlanData → RunnerData = λ p. record { records = p.records; place = Start } in
     let plan_at : slice_get plans h ≡ Some plan = slice_get-get_or plans h (record { host = []; records = [] }) (omega (arith, within, are.paired)) in
     let tree_at : slice_get trees h ≡ Some tree = slice_get-get_or trees h (new_mem []) within in
-    let first : Hosted Mem = record { runner = start plan; tree = tree } in
-    let first_is : IsHostOf (starting plans trees) h first = record { runner = slice_get-map start plans h ∙ ap (option_map start) plan_at; tree = tree_at } in
+    let first : Hosted Mem = record { runner = starting plan; tree = tree } in
+    let first_is : IsHostOf (beginning plans trees) h first = record { runner = slice_get-map starting plans h ∙ ap (option_map starting) plan_at; tree = tree_at } in
     let went = goes h first first_is in
     let ready = are.ready h plan tree plan_at tree_at in
-    let safe = fresh_safe ready.inventory plan.records (cells_of (known_mem tree)) ready.fresh ready.old in
+    let safe = fresh_safe ready.inventory plan.records (cells_of (mark_of plan) (known_mem tree)) (ready.fresh (mark_of plan)) ready.old in
     let refused : refused_for h o (Run fault) ≡ Some fault = ap (λ e. refused_for h e (Run fault)) at ∙ refused_here h h fault (λ i. h) in
     let device : fault ≡ Device = subst (λ (r : Option RunFault). IfSome r (λ f. f ≡ Device)) refused (went.2.device ready.inventory safe) in
     let told : IsToldBy (Some Device) 0 0 = subst (λ (f : RunFault). IsToldBy (Some f) 0 0) device (subst (λ (r : Option RunFault). IsToldBy r 0 0) refused went.2.told) in
@@ -110,7 +109,7 @@ pub none_refused : (plans : List PlanData) (trees : List Mem) → AreReady plans
 none_refused plans trees are events there world runners begun fault for_hosts after goes =
     let event = get_or events fault.event (Advance 0) in
     let at : slice_get events fault.event ≡ Some event = slice_get-get_or events fault.event (Advance 0) for_hosts.0 in
-    let same : world ≡ starting plans trees = λ i. record { runners = runners i; trees = begun i } in
+    let same : world ≡ beginning plans trees = λ i. record { runners = runners i; trees = begun i } in
     let for_host : IsForHost event (length trees) (Err fault.fault) = subst (λ (ts : List Mem). IsForHost event (length ts) (Err fault.fault)) begun (for_hosts.2 event at) in
     never_refused plans trees are event (there fault.event (Advance 0) for_hosts.0) (slice_get events fault.event) at fault.fault for_host (happened events (Err fault)) after
     (subst (λ (w : World Mem). EachGoes known_mem w (happened events (Err fault)) (λ host. refused_for host (slice_get events fault.event) fault.fault) after) same goes)
@@ -119,14 +118,13 @@ pub all_carried : (plans : List PlanData) (trees : List Mem) (events : List Even
     → (after : World Mem) → EachGoes known_mem world events (λ host. None) after → length after.runners ≡ length world.runners → length after.trees ≡ length world.trees
     → (done : List Bool) → done ≡ map (λ r. is_done r.place) after.runners → (ends : List Mem) → ends ≡ after.trees → AreCarriedOut plans trees events done ends
 all_carried plans trees events world runners begun after goes as_many as_many_trees done told ends are =
-    let start : PlanData → RunnerData = λ p. record { records = p.records; place = Start } in
-    let same : world ≡ starting plans trees = λ i. record { runners = runners i; trees = begun i } in
+    let same : world ≡ beginning plans trees = λ i. record { runners = runners i; trees = begun i } in
     let last : after ≡ record { runners = after.runners; trees = ends } = λ i. record { runners = after.runners; trees = sym are i } in
     record {
       runners = after.runners;
-      a_runner_each = as_many ∙ ap length runners ∙ length-map plans start;
+      a_runner_each = as_many ∙ ap length runners ∙ length-map plans starting;
       a_tree_each = ap length are ∙ as_many_trees ∙ ap length begun;
-      went = subst (λ (w : World Mem). EachGoes known_mem (starting plans trees) events (λ host. None) w) last (subst (λ (w : World Mem). EachGoes known_mem w events (λ host. None) after) same goes);
+      went = subst (λ (w : World Mem). EachGoes known_mem (beginning plans trees) events (λ host. None) w) last (subst (λ (w : World Mem). EachGoes known_mem w events (λ host. None) after) same goes);
       done_are = told;
     }
 

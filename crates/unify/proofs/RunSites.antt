@@ -18,10 +18,9 @@ use Rattle.reown_plan.specs.Target.{host_plan, name_at}
 use Rattle.reown_plan.proofs.Lawful.{plan-lawful}
 use Rattle.reown_runner.specs.declared.campaign.Event.{Event}
 use Rattle.reown_runner.specs.declared.memory.Keep.{Keep}
-use Rattle.reown_runner.specs.declared.runner.Place.TheVariants.{Start}
 use Rattle.reown_runner.specs.Campaign.{EachGoes}
 use Rattle.reown_runner.specs.Memory.{Mem, known_mem, owner_in}
-use Rattle.reown_runner.specs.RunnerData.{RunnerData}
+use Rattle.reown_runner.specs.RunnerData.{RunnerData, starting}
 use Rattle.reown_runner.specs.World.{World}
 use Rattle.reown_runner.proofs.Memories.{new_fresh}
 use Rattle.unify.specs.declared.outcome.Outcome.{Outcome}
@@ -68,11 +67,11 @@ texts_spell : (hosts : List Host) (site : Joined) (m : Mappings) (index : ℕ) (
 texts_spell hosts site m index [] = refl
 texts_spell hosts site m index (files ∷ more) = ap (λ (ts : List (List ℕ)). spelling (host_plan hosts site m.users m.groups index files) ∷ ts) (texts_spell hosts site m (index + 1) more)
 
-runners_start : (site : WholeSite) (m : Mappings) (hosts : List Host) (start : ℕ) (all : List (Host × List Entry)) → at_start (plans_from hosts site.joined m start (map (λ h. h.1) all)) ≡ runners_from site m start all
-runners_start site m hosts start [] = refl
-runners_start site m hosts start (here ∷ more) =
-    let first : PlanData = host_plan hosts site.joined m.users m.groups start here.1 in
-    ap (λ (rs : List RunnerData). record { records = first.records; place = Start } ∷ rs) (runners_start site m hosts (start + 1) more)
+runners_start : (site : WholeSite) (m : Mappings) (start : ℕ) (all : List (Host × List Entry)) → at_start (plans_from (hosts_in site) site.joined m start (map (λ h. h.1) all)) ≡ runners_from site m start all
+runners_start site m start [] = refl
+runners_start site m start (here ∷ more) =
+    let first : PlanData = host_plan (hosts_in site) site.joined m.users m.groups start here.1 in
+    ap (λ (rs : List RunnerData). starting first ∷ rs) (runners_start site m (start + 1) more)
 
 trees_start : (keep : Keep) (all : List (Host × List Entry)) → map (new_tree_of keep) (map (λ h. h.1) all) ≡ map (λ here. new_tree_of keep here.1) all
 trees_start keep [] = refl
@@ -163,7 +162,7 @@ site_runs keep events site whole run merged trees are carried =
     let m = merged.mappings in
     let all = map (λ (h : Host × List Entry). h.1) site.hosts in
     let believed : Headline site run.outcome = outcomes_are_believed site run.outcome whole merged in
-    let runners_are = runners_start site m (hosts_in site) 0 site.hosts in
+    let runners_are = runners_start site m 0 site.hosts in
     let trees_are : trees ≡ new_trees keep site = are ∙ trees_start keep site.hosts in
     let first : World Mem = record { runners = at_start (plans_in site m); trees = trees } in
     let begun : first ≡ new_world keep site m = λ i. record { runners = runners_are i; trees = trees_are i } in

@@ -10,7 +10,8 @@ use Rattle.mtree_inv.specs.declared.entry.Entry.{Entry}
 use Rattle.hosts_join.specs.declared.host.Host.{Host}
 use Rattle.ownership.specs.Mappings.{Mappings}
 use Rattle.reown_plan.specs.Owners.{owner_of}
-use Rattle.reown_plan.specs.Target.{plan_of}
+use Rattle.reown_plan.specs.declared.mark.PlanMark.{PlanMark}
+use Rattle.reown_plan.specs.Target.{plan_of, host_plan}
 use Rattle.reown_runner.specs.declared.campaign.Event.{Event}
 use Rattle.reown_runner.specs.declared.runner.Place.{Place}
 use Rattle.reown_runner.specs.declared.runner.Place.TheVariants.{Start, Record, SyncOwners, Mark, SyncMark, Done}
@@ -18,7 +19,8 @@ use Rattle.reown_runner.specs.declared.runner.RunFault.{RunFault}
 use Rattle.reown_runner.specs.declared.memory.Keep.{Keep}
 use Rattle.reown_runner.specs.Campaign.{EachGoes, is_done}
 use Rattle.reown_runner.specs.Memory.{Mem, known_mem, new_mem, owner_in}
-use Rattle.reown_runner.specs.RunnerData.{RunnerData}
+use Rattle.reown_runner.specs.MemoryReads.{readable_mem}
+use Rattle.reown_runner.specs.RunnerData.{RunnerData, starting}
 use Rattle.reown_runner.specs.Safe.{IsSafeInStep}
 use Rattle.reown_runner.specs.Tree.{Image, IsImage, TreeData, cells_of}
 use Rattle.reown_runner.specs.World.{Hosted, IsHostOf}
@@ -33,7 +35,7 @@ use Rattle.unify.specs.Believed.{DoneKeepsPrintedNames, RunsKeepNames}
 use Rattle.unify.specs.Headline.{IsNamedAsBefore, IsOldOrNamed, KeepsItsNames}
 use Rattle.unify.specs.Installed.{AreInstalled}
 use Rattle.unify.specs.Laws.{IsWhole}
-use Rattle.unify.specs.Outcomes.{IsOutcome}
+use Rattle.unify.specs.Outcomes.{IsOutcome, hosts_in}
 use Rattle.unify.specs.Reading.{WholeSite}
 use Rattle.unify.specs.SiteRuns.{DoneKeepsNames, EachIsOldOrNamed, runners_from, new_world}
 use Rattle.unify.proofs.Installed.{are_installed, named_as_before, old_or_named}
@@ -43,7 +45,7 @@ pub some_same : {X : Type 0} (x y : X) → Some x ≡ Some y → x ≡ y
 some_same x y e = cc
 
 abbrev start_of : WholeSite → Mappings → ℕ → List Entry → RunnerData
-start_of site m h files = record { records = plan_of site.joined m.users m.groups h files; place = Start }
+start_of site m h files = starting (host_plan (hosts_in site) site.joined m.users m.groups h files)
 
 runner_at : (site : WholeSite) (m : Mappings) (hosts : List (Host × List Entry)) (start k : ℕ) (host : Host) (files : List Entry) → slice_get hosts k ≡ Some (host, files) → slice_get (runners_from site m start hosts) k ≡ Some (start_of site m (start + k) files)
 runner_at site m [] start k host files here = absurd (cc)
@@ -63,6 +65,13 @@ is_at_done Mark h = absurd (false≢true h)
 is_at_done SyncMark h = absurd (false≢true h)
 is_at_done Done h = refl
 
+-- what one plan sees of a stop, another sees with the mark as it reads it
+abbrev seen_by : PlanMark → Mem → Image → Image
+seen_by mark tree image = record { owner = image.owner; mark = (cells_of mark (known_mem tree)).mark }
+
+is_seen : (plan mark : PlanMark) (tree : Mem) (image : Image) → IsImage (cells_of plan (known_mem tree)) image → IsImage (cells_of mark (known_mem tree)) (seen_by mark tree image)
+is_seen plan mark tree image is = record { owner = is.owner; mark = (readable_mem tree mark).mark }
+
 abbrev tree_of : Keep → Host × List Entry → Mem
 tree_of keep here = record (new_mem here.1) { keep = keep }
 
@@ -80,18 +89,18 @@ installed_by site outcome whole merged printed read = let say = says site outcom
 
 module _ (site : WholeSite) (outcome : Outcome) (whole : IsWhole site) (merged : IsOutcome site outcome) (printed : MapText) (read : map_of outcome.map ≡ Ok printed) (mappings : Mappings) (installed : AreInstalled site outcome mappings printed) where
   done_keeps : (h : ℕ) (host : Host) (files : List Entry) → slice_get site.hosts h ≡ Some (host, files)
-      → (tree : TreeData) → IsSafeInStep (owner_in files) (plan_of site.joined merged.mappings.users merged.mappings.groups h files) Done (cells_of tree)
-      → (image : Image) → IsImage (cells_of tree) image → All (IsNamedAsBefore printed installed.passwd.rows installed.group.rows host image.owner) files
-  done_keeps h host files here tree finished image is_image =
+      → (plan : PlanMark) (tree : TreeData) → IsSafeInStep (owner_in files) (plan_of site.joined merged.mappings.users merged.mappings.groups h files) Done (cells_of plan tree)
+      → (image : Image) → IsImage (cells_of plan tree) image → All (IsNamedAsBefore printed installed.passwd.rows installed.group.rows host image.owner) files
+  done_keeps h host files here plan tree finished image is_image =
       let say = says site outcome whole merged printed read in
-      let after = (done_image (owner_in files) (plan_of site.joined merged.mappings.users merged.mappings.groups h files) (cells_of tree) finished image is_image).1 in
+      let after = (done_image (owner_in files) (plan_of site.joined merged.mappings.users merged.mappings.groups h files) (cells_of plan tree) finished image is_image).1 in
       All-weaker (KeepsItsNames printed host image.owner) (IsNamedAsBefore printed installed.passwd.rows installed.group.rows host image.owner) (named_as_before site outcome mappings printed installed host image.owner) files
       (keeps_names site.joined merged.mappings printed say.0 say.1 h host files (whole.each_host h host files here) image.owner after)
 
   -- a host's runner and tree, as far as the events lead: safe and in step
   host_went : (keep : Keep) (events : List Event) (refused : ℕ → Option RunFault) (runners : List RunnerData) (trees : List Mem) → EachGoes known_mem (new_world keep site merged.mappings) events refused (record { runners = runners; trees = trees })
       → (h : ℕ) (host : Host) (files : List Entry) (tree : Mem) → slice_get site.hosts h ≡ Some (host, files) → slice_get trees h ≡ Some tree
-      → (runner : RunnerData) × (slice_get runners h ≡ Some runner) × IsSafeInStep (owner_in files) (plan_of site.joined merged.mappings.users merged.mappings.groups h files) runner.place (cells_of (known_mem tree))
+      → (runner : RunnerData) × (slice_get runners h ≡ Some runner) × IsSafeInStep (owner_in files) (plan_of site.joined merged.mappings.users merged.mappings.groups h files) runner.place (cells_of (start_of site merged.mappings h files).mark (known_mem tree))
   host_went keep events refused runners trees goes h host files tree here at =
       let m = merged.mappings in
       let is = whole.each_host h host files here in
@@ -104,36 +113,39 @@ module _ (site : WholeSite) (outcome : Outcome) (whole : IsWhole site) (merged :
       } in
       let went = goes h first first_is in
       let last = went.0 in
-      let start = fresh_safe (owner_in files) records (cells_of (known_mem (tree_of keep (host, files)))) (new_fresh files) (plan_is_old site.joined m.users m.groups h files is.files_are.distinct) in
+      let mark = (start_of site m h files).mark in
+      let start = fresh_safe (owner_in files) records (cells_of mark (known_mem (tree_of keep (host, files)))) (new_fresh files mark) (plan_is_old site.joined m.users m.groups h files is.files_are.distinct) in
       let safe = went.2.safe (owner_in files) start in
       let same_tree : last.tree ≡ tree = some_same last.tree tree (sym went.1.tree ∙ at) in
-      (last.runner, went.1.runner, subst (λ t. IsSafeInStep (owner_in files) records last.runner.place (cells_of (known_mem t))) same_tree safe)
+      (last.runner, went.1.runner, subst (λ t. IsSafeInStep (owner_in files) records last.runner.place (cells_of mark (known_mem t))) same_tree safe)
 
   pub runs_stay : (keep : Keep) (events : List Event) (refused : ℕ → Option RunFault) (runners : List RunnerData) (trees : List Mem) → EachGoes known_mem (new_world keep site merged.mappings) events refused (record { runners = runners; trees = trees })
       → EachIsOldOrNamed site printed installed.passwd.rows installed.group.rows trees
-  runs_stay keep events refused runners trees goes h host files tree here at image is_image =
+  runs_stay keep events refused runners trees goes h host files tree here at plan image is_image =
       let m = merged.mappings in
       let is = whole.each_host h host files here in
       let records = plan_of site.joined m.users m.groups h files in
       let say = says site outcome whole merged printed read in
+      let mark = (start_of site m h files).mark in
       let went = host_went keep events refused runners trees goes h host files tree here at in
       All-weaker (λ f. (image.owner f.path ≡ Some (owner_of f)) ⊎ KeepsItsNames printed host image.owner f) (IsOldOrNamed printed installed.passwd.rows installed.group.rows host image.owner) (old_or_named site outcome mappings printed installed host image.owner) files
-      (old_or_kept site.joined m printed say.0 say.1 h host files is image (old_or_new (owner_in files) records image (plan_is_old site.joined m.users m.groups h files is.files_are.distinct) (went.2.safe image is_image)))
+      (old_or_kept site.joined m printed say.0 say.1 h host files is (seen_by mark tree image) (old_or_new (owner_in files) records (seen_by mark tree image) (plan_is_old site.joined m.users m.groups h files is.files_are.distinct) (went.2.safe (seen_by mark tree image) (is_seen plan mark tree image is_image))))
 
   pub runs_keep : (keep : Keep) (events : List Event) (refused : ℕ → Option RunFault) (runners : List RunnerData) (trees : List Mem) → EachGoes known_mem (new_world keep site merged.mappings) events refused (record { runners = runners; trees = trees })
       → DoneKeepsNames site printed installed.passwd.rows installed.group.rows (map (λ runner. is_done runner.place) runners) trees
-  runs_keep keep events refused runners trees goes h host files tree here done at image is_image =
+  runs_keep keep events refused runners trees goes h host files tree here done at plan image is_image =
       let m = merged.mappings in
       let records = plan_of site.joined m.users m.groups h files in
       let went = host_went keep events refused runners trees goes h host files tree here at in
       let told : Some (is_done went.0.place) ≡ Some true = sym (slice_get-map (λ (r : RunnerData). is_done r.place) runners h ∙ ap (option_map (λ (r : RunnerData). is_done r.place)) went.1) ∙ done in
       let at_done : went.0.place ≡ Done = is_at_done went.0.place (some_same (is_done went.0.place) true told) in
-      done_keeps h host files here (known_mem tree) (subst (λ p. IsSafeInStep (owner_in files) records p (cells_of (known_mem tree))) at_done went.2) image is_image
+      let mark = (start_of site m h files).mark in
+      done_keeps h host files here mark (known_mem tree) (subst (λ p. IsSafeInStep (owner_in files) records p (cells_of mark (known_mem tree))) at_done went.2) (seen_by mark tree image) (is_seen plan mark tree image is_image)
 
 pub done_keeps_printed_names : DoneKeepsPrintedNames
-done_keeps_printed_names site outcome whole merged printed read h host files here tree finished image is_image =
+done_keeps_printed_names site outcome whole merged printed read h host files here plan tree finished image is_image =
     let installed = installed_by site outcome whole merged printed read in
-    (installed, done_keeps site outcome whole merged printed read merged.mappings installed h host files here tree finished image is_image)
+    (installed, done_keeps site outcome whole merged printed read merged.mappings installed h host files here plan tree finished image is_image)
 
 pub runs_keep_names : RunsKeepNames
 runs_keep_names keep events site outcome whole merged printed read refused runners trees goes =

@@ -9,7 +9,7 @@ use Rattle.reown_plan.specs.PlanData.{PlanRecord, HaveDistinctPaths}
 use Rattle.reown_runner.specs.declared.runner.Place.{Place}
 use Rattle.reown_runner.specs.declared.runner.Place.TheVariants.{Start, Record, SyncOwners, Mark, SyncMark, Done}
 use Rattle.reown_runner.specs.declared.runner.RunFault.{RunFault}
-use Rattle.reown_runner.specs.declared.runner.RunFault.TheVariants.{Device, Missing, Foreign}
+use Rattle.reown_runner.specs.declared.runner.RunFault.TheVariants.{Device, Missing, Unfinished, Foreign}
 use Rattle.reown_runner.specs.Finished.{IsFresh}
 use Rattle.reown_runner.specs.Memory.{owner_in}
 use Rattle.reown_runner.specs.RunnerData.{RunnerData}
@@ -45,6 +45,7 @@ module _ (records : List PlanRecord) where
         subst (λ p. Goes n p (did t.operation s) refused end) goes (subst (λ u. Goes n next.place u refused end) after (next.asked, rest))
     after_ok t (Err Device) is at a rest = absurd (unfailing rest.1)
     after_ok t (Err (Missing i)) is at a rest = absurd (let h : ◌≡◌ {A = Result Turn RunFault} (Ok t) (Err (Missing i)) = sym is ∙ a.0 in cc)
+    after_ok t (Err (Unfinished i)) is at a rest = absurd (let h : ◌≡◌ {A = Result Turn RunFault} (Ok t) (Err (Unfinished i)) = sym is ∙ a.0 in cc)
     after_ok t (Err (Foreign i)) is at a rest = absurd (let h : ◌≡◌ {A = Result Turn RunFault} (Ok t) (Err (Foreign i)) = sym is ∙ a.0 in cc)
 
     after_err : (f : RunFault) (answer : Result Place RunFault) → planned ≡ Err f → IsAdvance planned (λ operation. next.state ≡ did operation s) answer → GoesOn answer → refused ≡ Some f
@@ -53,6 +54,10 @@ module _ (records : List PlanRecord) where
     after_err f (Err (Missing i)) is a rest =
         let h : ◌≡◌ {A = Result Turn RunFault} (Err (Missing i)) (Err f) = sym a.0 ∙ is in
         let same : Missing i ≡ f = cc in
+        rest.1 ∙ ap (λ x. Some x) same
+    after_err f (Err (Unfinished i)) is a rest =
+        let h : ◌≡◌ {A = Result Turn RunFault} (Err (Unfinished i)) (Err f) = sym a.0 ∙ is in
+        let same : Unfinished i ≡ f = cc in
         rest.1 ∙ ap (λ x. Some x) same
     after_err f (Err (Foreign i)) is a rest =
         let h : ◌≡◌ {A = Result Turn RunFault} (Err (Foreign i)) (Err f) = sym a.0 ∙ is in
@@ -228,6 +233,7 @@ module _ (files : List Entry) (records : List PlanRecord) where
   unfailed (Ok x) told e = absurd cc
   unfailed (Err Device) told e = absurd (omega (arith, told.0))
   unfailed (Err (Missing i)) told e = absurd cc
+  unfailed (Err (Unfinished i)) told e = absurd cc
   unfailed (Err (Foreign i)) told e = absurd cc
 
   ended : (result : Result (Unit {0}) RunFault) (end : Host) → OnOk result (end.place ≡ Done) → refusal result ≡ None → end.place ≡ Done

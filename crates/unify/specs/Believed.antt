@@ -4,6 +4,7 @@ use Rattle.std.specs.Prelude.{◌≡◌, ◌↔◌, ℕ, List, Option, Some, Ok,
 use Rattle.mtree_inv.specs.declared.entry.Entry.{Entry}
 use Rattle.hosts_join.specs.Accounts.{Accounts}
 use Rattle.hosts_join.specs.declared.host.Host.{Host}
+use Rattle.reown_plan.specs.declared.mark.PlanMark.{PlanMark}
 use Rattle.reown_plan.specs.declared.plan.Owner.{Owner}
 use Rattle.reown_plan.specs.Target.{plan_of}
 use Rattle.reown_runner.specs.declared.campaign.Event.{Event}
@@ -44,8 +45,8 @@ RunsKeepNames = (keep : Keep) (events : List Event) (site : WholeSite) (outcome 
 abbrev pub DoneKeepsPrintedNames : Type 0
 DoneKeepsPrintedNames = (site : WholeSite) (outcome : Outcome) → IsWhole site → (merged : IsOutcome site outcome) (printed : MapText) → map_of outcome.map ≡ Ok printed
     → (h : ℕ) (host : Host) (files : List Entry) → slice_get site.hosts h ≡ Some (host, files)
-    → (tree : TreeData) → IsSafeInStep (owner_in files) (plan_of site.joined merged.mappings.users merged.mappings.groups h files) Done (cells_of tree)
-    → (image : Image) → IsImage (cells_of tree) image → (installed : AreInstalled site outcome merged.mappings printed) × All (IsNamedAsBefore printed installed.passwd.rows installed.group.rows host image.owner) files
+    → (plan : PlanMark) (tree : TreeData) → IsSafeInStep (owner_in files) (plan_of site.joined merged.mappings.users merged.mappings.groups h files) Done (cells_of plan tree)
+    → (image : Image) → IsImage (cells_of plan tree) image → (installed : AreInstalled site outcome merged.mappings printed) × All (IsNamedAsBefore printed installed.passwd.rows installed.group.rows host image.owner) files
 
 -- Two files, on any hosts, that keep their names under one map have one uid exactly where their users had one name, and one gid
 -- exactly where their groups had one.

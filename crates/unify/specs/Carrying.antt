@@ -5,16 +5,16 @@ use Rattle.idtext.specs.First.{each}
 use Rattle.mtree_inv.specs.Inventory.{inventory}
 use Rattle.mtree_inv.specs.declared.entry.Entry.{Entry}
 use Rattle.hosts_join.specs.declared.texts.HostText.{HostText}
+use Rattle.reown_plan.specs.declared.mark.PlanMark.{PlanMark}
 use Rattle.reown_plan.specs.declared.plan.Owner.{Owner}
 use Rattle.reown_plan.specs.PlanData.{PlanData}
 use Rattle.reown_plan.specs.Spelling.{spelling, IsLawful}
 use Rattle.reown_runner.specs.declared.campaign.Event.{Event}
 use Rattle.reown_runner.specs.declared.memory.Keep.{Keep}
-use Rattle.reown_runner.specs.declared.runner.Place.TheVariants.{Start}
 use Rattle.reown_runner.specs.Campaign.{EachGoes, is_done}
 use Rattle.reown_runner.specs.Finished.{IsFresh, AreOld}
 use Rattle.reown_runner.specs.Memory.{Mem, known_mem, new_mem}
-use Rattle.reown_runner.specs.RunnerData.{RunnerData}
+use Rattle.reown_runner.specs.RunnerData.{RunnerData, starting}
 use Rattle.reown_runner.specs.Tree.{cells_of}
 use Rattle.unify.specs.Reading.{WholeSite}
 
@@ -24,12 +24,12 @@ new_tree_of keep files = record (new_mem files) { keep = keep }
 
 -- runners at the start of plans
 abbrev pub at_start : List PlanData → List RunnerData
-at_start plans = map (λ plan. record { records = plan.records; place = Start }) plans
+at_start plans = map starting plans
 
--- the tree is as some inventory, which has the plan's files at their old owners
+-- the tree is as some inventory, which has the plan's files at their old owners, and marked for no plan
 pub record IsReady (plan : PlanData) (tree : Mem) : Type 0 where
   pub inventory : List ℕ → Option Owner
-  pub fresh : IsFresh inventory (cells_of (known_mem tree))
+  pub fresh : (mark : PlanMark) → IsFresh inventory (cells_of mark (known_mem tree))
   pub old : AreOld inventory plan.records
 
 -- a tree for each plan, ready for it

@@ -5,6 +5,8 @@ use Rattle.idtext.specs.Pieces.{lines}
 use Rattle.hosts_join.specs.declared.texts.HostText.{HostText}
 use Rattle.unify.specs.declared.counting.Cost.{Cost}
 use Rattle.unify.specs.declared.outcome.Outcome.{Outcome}
+use Rattle.unify.specs.declared.site_files.NamedText.{NamedText}
+use Rattle.unify.specs.declared.site_files.SiteFiles.{SiteFiles}
 
 abbrev pub cost_lines : Cost → List ℕ
 cost_lines cost = codes "user-fields " ++ decimal cost.users ++ codes "\ngroup-fields " ++ decimal cost.groups ++ 10 ∷ []
@@ -36,3 +38,11 @@ abbrev pub merge_lines : List HostText → Outcome → List ℕ
 merge_lines hosts outcome =
     file_lines (codes "passwd") outcome.passwd ++ file_lines (codes "group") outcome.group ++ file_lines (codes "map") outcome.map
     ++ file_lines (codes "certificate") outcome.certificate ++ file_lines (codes "report") outcome.report ++ plan_lines hosts outcome.plans
+
+-- files behind one another
+abbrev pub named_lines : List NamedText → List ℕ
+named_lines files = flat_map (λ file. file_lines file.name file.text) files
+
+-- what a merge writes with each host's own files: these behind all others
+abbrev pub site_lines : List HostText → SiteFiles → List ℕ
+site_lines hosts files = merge_lines hosts files.outcome ++ named_lines files.own.items

@@ -2,13 +2,15 @@
 
 ghost use Rattle.std.specs.Prelude.{◌≡◌, ◌++◌, OnOk, IfOk, flat_map, codes};
 ghost use Rattle.idtext.specs.Pieces.{lines};
-ghost use Rattle.unify.specs.Lines.{barred, file_lines, merge_lines, plan_lines};
-ghost use Rattle.unify.specs.Output.{Answers, IsMergeTold};
+ghost use Rattle.unify.specs.Lines.{barred, file_lines, merge_lines, named_lines, plan_lines};
+ghost use Rattle.unify.specs.Lines.{site_lines};
+ghost use Rattle.unify.specs.Output.{Answers, IsMergeTold, IsMergeWithHostsTold};
 ghost use Rattle.unify.specs.Replies.{reply_of};
 
 use crate::outcome::Outcome;
 use crate::reply::{Reply, refused};
-use crate::texts::consolidate;
+use crate::site_files::{NamedText, SiteFiles};
+use crate::texts::{consolidate, consolidate_hosts};
 use hosts_join::HostText;
 use idtext::{ByteString, Lines};
 use std::alloc::{AllocError, Global};
@@ -34,11 +36,11 @@ fn push_text(out: &mut Vec<u8>, text: &[u8]) -> Result<(), AllocError>
 }
 
 // Appends a file: its name and the lines of its text.
-fn push_file(out: &mut Vec<u8>, name: &str, text: &ByteString) -> Result<(), AllocError>
+fn push_file(out: &mut Vec<u8>, name: &[u8], text: &ByteString) -> Result<(), AllocError>
     ensures { OnOk result (out.new.items ≡ out.old.items ++ file_lines name.now text.now) }
 {
     out.extend_from_slice(b"file ")?;
-    out.extend_from_slice(name.as_bytes())?;
+    out.extend_from_slice(name)?;
     out.push(b'\n')?;
     push_text(out, text.bytes())
 }
@@ -68,12 +70,31 @@ fn outcome_text(alloc: Global, hosts: &[HostText], outcome: &Outcome) -> Result<
     ensures { IfOk result (λ text. text.items ≡ merge_lines hosts.now outcome.now) }
 {
     let mut text = Vec::new(alloc);
-    push_file(&mut text, "passwd", &outcome.passwd)?;
-    push_file(&mut text, "group", &outcome.group)?;
-    push_file(&mut text, "map", &outcome.map)?;
-    push_file(&mut text, "certificate", &outcome.certificate)?;
-    push_file(&mut text, "report", &outcome.report)?;
+    push_file(&mut text, b"passwd", &outcome.passwd)?;
+    push_file(&mut text, b"group", &outcome.group)?;
+    push_file(&mut text, b"map", &outcome.map)?;
+    push_file(&mut text, b"certificate", &outcome.certificate)?;
+    push_file(&mut text, b"report", &outcome.report)?;
     push_plans(&mut text, hosts, outcome.plans.texts())?;
+    Ok(text)
+}
+
+// Appends files, behind one another.
+fn push_files(out: &mut Vec<u8>, files: &[NamedText]) -> Result<(), AllocError>
+    ensures { OnOk result (out.new.items ≡ out.old.items ++ named_lines files.now) }
+{
+    for file in files {
+        push_file(out, file.name.bytes(), &file.text)?;
+    }
+    Ok(())
+}
+
+// The files of an outcome, and behind them each host's own.
+fn site_text(alloc: Global, hosts: &[HostText], files: &SiteFiles) -> Result<Vec<u8>, AllocError>
+    ensures { IfOk result (λ text. text.items ≡ site_lines hosts.now files.now) }
+{
+    let mut text = outcome_text(alloc, hosts, &files.outcome)?;
+    push_files(&mut text, &files.own)?;
     Ok(text)
 }
 
@@ -87,6 +108,28 @@ pub fn merge_reply(alloc: Global, hosts: &[HostText], pins: &[u8]) -> Result<Rep
     match consolidate(alloc, hosts, pins) {
         Ok(outcome) => Ok(Reply {
             text: outcome_text(alloc, hosts, &outcome)?,
+            status: 0,
+        }),
+        Err(fault) => refused(alloc, &fault),
+    }
+}
+
+/// What goes out for a merge of these hosts with these pins, with each host's own files: the files
+/// of its outcome, and behind them passwd.NAME and group.NAME of each host, one host after the
+/// other; or the fault line with its status. An error is a growth that was refused.
+///
+/// Beside what `consolidate_hosts` takes, it is one pass over all these texts.
+pub fn merge_hosts_reply(
+    alloc: Global,
+    hosts: &[HostText],
+    pins: &[u8],
+) -> Result<Reply, AllocError>
+    ensures { IfOk result
+        (λ reply. Answers (IsMergeWithHostsTold hosts.now pins.now) (reply_of reply)) }
+{
+    match consolidate_hosts(alloc, hosts, pins) {
+        Ok(files) => Ok(Reply {
+            text: site_text(alloc, hosts, &files)?,
             status: 0,
         }),
         Err(fault) => refused(alloc, &fault),

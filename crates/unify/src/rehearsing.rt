@@ -40,6 +40,10 @@ fn run_fault<'a>(
     match fault {
         RunFault::Device => Ok(Fault::Device),
         RunFault::Missing(i) => Ok(Fault::Missing(ByteString::copy_of(alloc, records[i].path)?)),
+        RunFault::Unfinished(i) => Ok(Fault::Unfinished(ByteString::copy_of(
+            alloc,
+            records[i].path,
+        )?)),
         RunFault::Foreign(i) => Ok(Fault::Foreign(ByteString::copy_of(alloc, records[i].path)?)),
     }
 }

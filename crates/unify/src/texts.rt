@@ -8,6 +8,7 @@ ghost use Rattle.unify_texts.specs.Told.{told};
 ghost use Rattle.unify.specs.Costing as costed;
 ghost use Rattle.unify.specs.Count.{count_of};
 ghost use Rattle.unify.specs.Headline.{Headline};
+ghost use Rattle.unify.specs.HostTexts.{AreSiteFiles};
 ghost use Rattle.unify.specs.Hosts.{files_of};
 ghost use Rattle.unify.specs.Laws.{IsWhole};
 ghost use Rattle.unify.specs.Merging.{IsMerged};
@@ -17,13 +18,14 @@ ghost use Rattle.unify.specs.Passes.{ended_in, is_read};
 ghost use Rattle.unify.specs.Reading.{WholeSite, site_read};
 ghost use Rattle.unify.specs.SecondPass as second;
 ghost use Rattle.unify.specs.SecondPass.{whole_plan};
-ghost use Rattle.unify.specs.Texts.{HasCounted, IsOfSite, IsTurnOf};
+ghost use Rattle.unify.specs.Texts.{ArePlannedWithOwn, HasCounted, IsOfSite, IsPlanned, IsTurnOf};
 ghost use Rattle.unify.specs.TwoPasses.{AreWholePlans};
 
 use crate::costing_pass::Costing;
 use crate::counting::Cost;
 use crate::counting_pass::Counting;
 use crate::outcome::{Outcome, TextList};
+use crate::site_files::{SiteFiles, own_files};
 use crate::solved_pass::Solved;
 use hosts_join::HostText;
 use idtext::ByteString;
@@ -108,7 +110,9 @@ fn with_plans<'a>(
     requires start { solved.ended ≡ 0 }
     requires each { length texts.now ≡ length solved.hosts }
     requires stands { (host : Host) → slice_get solved.hosts 0 ≡ Some host → second.StandsFor solved host [] [] }
-    ensures { (site : WholeSite) → IsOfSite texts.now site solved.entry → IsWhole site → IsMerged site solved.entry.merged → MatchResult result (λ outcome. IsOutcome site outcome × Headline site outcome) (λ e. told e ≡ None) }
+    ensures believed { (site : WholeSite) → IsOfSite texts.now site solved.entry → IsWhole site → IsMerged site solved.entry.merged → MatchResult result (λ outcome. IsOutcome site outcome × Headline site outcome) (λ e. told e ≡ None) }
+    ensures planned { (site : WholeSite) → IsOfSite texts.now site solved.entry
+        → MatchResult result (IsPlanned site solved.entry.merged) (λ e. told e ≡ None) }
 {
     let mut solved = solved;
     let plans = plan_texts(alloc, &mut solved, texts)?;
@@ -136,6 +140,46 @@ pub fn consolidate<'a>(
     let counting = read_site(alloc, hosts, pins)?;
     match counting.solve() {
         Ok(solved) => with_plans(alloc, solved, hosts),
+        Err((_counting, fault)) => Err(fault),
+    }
+}
+
+// What a merge writes, with its plans and each host's own files. It fails for want of memory
+// alone.
+fn with_own_files<'a>(
+    alloc: Global,
+    solved: Solved<'a>,
+    texts: &[HostText],
+) -> Result<SiteFiles, Fault<'a>>
+    requires start { solved.ended ≡ 0 }
+    requires each { length texts.now ≡ length solved.hosts }
+    requires stands { (host : Host) → slice_get solved.hosts 0 ≡ Some host
+        → second.StandsFor solved host [] [] }
+    ensures { (site : WholeSite) → IsOfSite texts.now site solved.entry
+        → MatchResult result (ArePlannedWithOwn texts.now site solved.entry.merged)
+        (λ e. told e ≡ None) }
+{
+    let own = own_files(alloc, &solved, texts)?;
+    let outcome = with_plans(alloc, solved, texts)?;
+    Ok(SiteFiles { outcome, own })
+}
+
+/// What `consolidate` gives, with each host's own passwd and group with their new numbers, as the
+/// files passwd.NAME and group.NAME: by the same map the texts of the host with only their numbers
+/// replaced. It refuses as `consolidate` does.
+///
+/// Beside what `consolidate` takes, it is one pass over each passwd and each group, and memory for
+/// the new texts.
+pub fn consolidate_hosts<'a>(
+    alloc: Global,
+    hosts: &'a [HostText],
+    pins: &'a [u8],
+) -> Result<SiteFiles, Fault<'a>>
+    ensures { Yields (AreSiteFiles hosts.now) told result (site_read hosts.now pins.now) }
+{
+    let counting = read_site(alloc, hosts, pins)?;
+    match counting.solve() {
+        Ok(solved) => with_own_files(alloc, solved, hosts),
         Err((_counting, fault)) => Err(fault),
     }
 }

@@ -3,13 +3,11 @@ use Rattle.std.proofs.Common.{◌≡◌, ◌++◌, ◌∷◌, [], ℕ, zero, suc
 use Rattle.std.specs.Prelude.{OnOk}
 use Rattle.std.specs.List.{slice_get}
 use Rattle.std.proofs.lemmas.List.{map-append}
-use Rattle.hosts_join.specs.Site.{Joined}
-use Rattle.hosts_join.specs.declared.host.Host.{Host}
 use Rattle.hosts_join.specs.declared.texts.HostText.{HostText}
-use Rattle.ownership.specs.Mappings.{Mappings}
 use Rattle.unify.proofs.SiteRuns.{some_same}
-use Rattle.unify_merge.specs.Ledger.{Ledger, NamedText, after_files}
-use Rattle.unify_merge.specs.HostFiles.{HasFiles, group_file, host_files, host_names, own_names, passwd_file}
+use Rattle.unify.specs.declared.site_files.NamedText.{NamedText}
+use Rattle.unify_merge.specs.Ledger.{Ledger, after_files}
+use Rattle.unify_merge.specs.HostFiles.{HasFiles, host_names, own_names}
 
 -- what follows from a success
 pub on_ok_goes : {T E : Type 0} (r : Result T E) (P Q : Type 0) → (P → Q) → OnOk r P → OnOk r Q
@@ -43,25 +41,6 @@ more_written one two old mid new first then =
     λ j. record { read = read j; reading = reading j; is_clear = clear j; begun = begun j; finished = finished j; writing = new.writing }
 
 -- ---- one host more
-
-module _ (site : Joined) (m : Mappings) where
-  -- the two files of a host
-  abbrev both : Host → HostText → List NamedText
-  both host text = passwd_file host site m text ∷ group_file site m text ∷ []
-
-  pub no_hosts : (hosts : List Host) (texts : List HostText) → host_files site m (take 0 texts) hosts ≡ []
-  no_hosts hosts [] = refl
-  no_hosts hosts (t ∷ texts) = refl
-
-  pub host_files_more : (texts : List HostText) (hosts : List Host) (k : ℕ) (text : HostText) (host : Host) → slice_get texts k ≡ Some text → slice_get hosts k ≡ Some host
-      → host_files site m (take (suc k) texts) hosts ≡ host_files site m (take k texts) hosts ++ (passwd_file host site m text ∷ group_file site m text ∷ [])
-  host_files_more [] hosts k text host at there = absurd (cc)
-  host_files_more (t ∷ texts) [] k text host at there = absurd (cc)
-  host_files_more (t ∷ texts) (h ∷ hosts) zero text host at there =
-      let same_text : t ≡ text = some_same t text at in
-      let same_host : h ≡ host = some_same h host there in
-      ap (λ fs. both h t ++ fs) (no_hosts hosts texts) ∙ (λ j. both (same_host j) (same_text j))
-  host_files_more (t ∷ texts) (h ∷ hosts) (suc k) text host at there = ap (λ fs. both h t ++ fs) (host_files_more texts hosts k text host at there)
 
 pub host_names_more : (texts : List HostText) (k : ℕ) (text : HostText) → slice_get texts k ≡ Some text → host_names (take (suc k) texts) ≡ host_names (take k texts) ++ own_names text
 host_names_more [] k text at = absurd (cc)

@@ -17,7 +17,8 @@ use Rattle.unify.proofs.OnePiece.{at_end, at_front}
 use Rattle.unify.proofs.Passing.{each_push, loaded_push}
 use Rattle.unify.proofs.SiteRuns.{some_same}
 use Rattle.unify.proofs.Sites.{site_given}
-use Rattle.unify_merge.specs.Ledger.{Ledger, NamedText, Reading, after_files}
+use Rattle.unify.specs.declared.site_files.NamedText.{NamedText}
+use Rattle.unify_merge.specs.Ledger.{Ledger, Reading, after_files}
 use Rattle.unify_merge.specs.FirstReading.{readings_from}
 use Rattle.unify_merge.specs.SecondReading.{HasPlan, IsReadAgain, plan_files, plan_name}
 use Rattle.unify_merge.proofs.Readings.{read_more}

@@ -5,22 +5,18 @@ use Rattle.std.specs.List.{slice_get}
 use Rattle.std.specs.Option.{option_map}
 use Rattle.std.proofs.lemmas.Option.{slice_get-map}
 use Rattle.idtext.specs.First.{each}
-use Rattle.idtext.proofs.OkLemmas.{ok_same}
 use Rattle.mtree_inv.specs.declared.entry.Entry.{Entry}
 use Rattle.hosts_join.specs.Site.{Joined}
 use Rattle.hosts_join.specs.declared.host.Host.{Host}
 use Rattle.hosts_join.specs.declared.texts.HostText.{HostText}
 use Rattle.ownership.specs.Mappings.{Mappings}
-use Rattle.certcheck.specs.Check.{mappings_of}
-use Rattle.certcheck.specs.Reading.{certificate_in}
-use Rattle.certcheck.proofs.Spelled.{spelled_is_read}
 use Rattle.unify_texts.specs.Told.{told}
 use Rattle.unify_texts.specs.declared.fault.Fault.{Fault}
 use Rattle.unify.specs.declared.counting.Cost.{Cost}
-use Rattle.unify.specs.declared.merging.Merged.{Merged}
 use Rattle.unify.specs.declared.outcome.Outcome.{Outcome}
 use Rattle.unify.specs.Count.{site_of}
 use Rattle.unify.specs.Headline.{Headline}
+use Rattle.unify.specs.HostTexts.{host_files}
 use Rattle.unify.specs.Laws.{IsWhole}
 use Rattle.unify.specs.Loading.{loaded_from}
 use Rattle.unify.specs.Merging.{IsMerged, mappings_in}
@@ -30,11 +26,12 @@ use Rattle.unify.specs.Reading.{WholeSite}
 use Rattle.unify.specs.SecondPass.{IsSolvedFrom, SolvedValue}
 use Rattle.unify.proofs.BetweenPasses.{over_whole}
 use Rattle.unify.proofs.HostTexts.{hosts_keep_own_files, tables_are_of_texts}
+use Rattle.unify.proofs.OwnFiles.{same_mappings}
 use Rattle.unify.proofs.SecondReading.{second_reading_is_believed, second_reading_is_right, still_whole}
 use Rattle.unify.proofs.Whole.{hosts_held}
 use Rattle.unify_merge.specs.Ledger.{Ledger, Reading, after_files, cleared}
 use Rattle.unify_merge.specs.FirstReading.{IsInventoryFault, ReadsOnly, StopsCounting, readings_from}
-use Rattle.unify_merge.specs.HostFiles.{HasFiles, StopsWriting, host_files}
+use Rattle.unify_merge.specs.HostFiles.{HasFiles, StopsWriting}
 use Rattle.unify_merge.specs.SecondReading.{IsChangeFault, StopsPlanning, plan_files}
 use Rattle.unify_merge.specs.Merge.{HasMerged, HasSolved, HasWritten, StopsMerge, first_files, merged_files, report_file}
 use Rattle.unify_merge.specs.declared.fault.MergeFault.{MergeFault}
@@ -131,14 +128,6 @@ record IsMergedFor (texts : List HostText) (begun : BegunSite) (are : List (Host
   right : IsOutcome (record { hosts = are; joined = begun.joined }) outcome
   believed : Headline (record { hosts = are; joined = begun.joined }) outcome
   files : new ≡ record (after_files (merged_files texts begun believed.mappings outcome) (cleared old)) { read = new.read; reading = new.reading; writing = new.writing }
-
--- the mappings of a headline are those that were merged
-same_mappings : (site : WholeSite) (merged : Merged) (last : WholeSite) (plans : List (List ℕ)) → IsMerged site merged → last.joined ≡ site.joined → (believed : Headline last (record merged.outcome { plans = plans })) → believed.mappings ≡ mappings_in merged
-same_mappings site merged last plans is joined believed =
-    let c = is.certificate in
-    let read = ap certificate_in is.printed.printed.certificate ∙ spelled_is_read c (record { users = is.answered.user_side; groups = is.answered.group_side }) in
-    let same : believed.certificate ≡ c = ok_same believed.certificate c (sym believed.certificate_read ∙ read) in
-    sym believed.potentials_are_of_these ∙ (λ j. mappings_of (joined j) (same j)) ∙ is.answered.certificate_has
 
 -- what was merged for the first reading stands in its files, with plans for the second
 merged_for : (texts : List HostText) (pins : List ℕ) (s : SolvedValue) (old mid new : Ledger) (cost : Cost) (h : HasSolved texts pins old mid s) → ReadsOnly old mid → (w : HasWritten texts s h.were mid new cost)

@@ -1,15 +1,11 @@
 -- What was read and written, as the calls tell it that succeeded.
 -- Source: this project's own rule.
 use Rattle.std.specs.Prelude.{◌≡◌, ℕ, Bool, true, false, List, [], ◌∷◌, ◌++◌, map, Option, Some, None}
+use Rattle.unify.specs.declared.site_files.NamedText.{NamedText}
 
 -- a reading of the inventory of the host with the index, as far as it went
 pub record Reading : Type 0 where
   pub host : ℕ
-  pub text : List ℕ
-
--- a file, as far as it was written
-pub record NamedText : Type 0 where
-  pub name : List ℕ
   pub text : List ℕ
 
 pub record Ledger : Type 0 where
@@ -19,7 +15,7 @@ pub record Ledger : Type 0 where
   -- whether what an earlier merge left was cleared away
   pub is_clear : Bool
   -- the names of the files that were begun, in order; the files that were finished, in order; and the one that is
-  -- written
+  -- written, as far as it was
   pub begun : List (List ℕ)
   pub finished : List NamedText
   pub writing : Option NamedText

@@ -10,18 +10,19 @@ use Rattle.unify_texts.specs.Told.{told}
 use Rattle.unify_texts.specs.declared.fault.Fault.{Fault}
 use Rattle.unify.specs.declared.counting.Cost.{Cost}
 use Rattle.unify.specs.declared.outcome.Outcome.{Outcome}
+use Rattle.unify.specs.declared.site_files.NamedText.{NamedText}
 use Rattle.unify.specs.Count.{site_of}
 use Rattle.unify.specs.Headline.{Headline}
-use Rattle.unify.specs.HostTexts.{KeepsOwnFiles}
+use Rattle.unify.specs.HostTexts.{EachKeepsOwnFiles, host_files}
 use Rattle.unify.specs.Laws.{IsWhole}
 use Rattle.unify.specs.Loading.{loaded_from}
 use Rattle.unify.specs.Merging.{IsMerged, mappings_in}
 use Rattle.unify.specs.Outcomes.{IsOutcome}
 use Rattle.unify.specs.Passes.{BegunSite, site_begun}
 use Rattle.unify.specs.SecondPass.{SolvedValue, StandsFor}
-use Rattle.unify_merge.specs.Ledger.{Ledger, NamedText, after_files, cleared}
+use Rattle.unify_merge.specs.Ledger.{Ledger, after_files, cleared}
 use Rattle.unify_merge.specs.FirstReading.{IsInventoryFault, IsTooLarge, ReadsOnly, readings_from}
-use Rattle.unify_merge.specs.HostFiles.{host_files, host_names}
+use Rattle.unify_merge.specs.HostFiles.{host_names}
 use Rattle.unify_merge.specs.SecondReading.{IsPlannedAgain, IsSiteChange, WereRead, plan_files, plan_name}
 use Rattle.unify_merge.specs.declared.fault.MergeFault.{MergeFault}
 use Rattle.unify_merge.specs.declared.fault.MergeFault.TheVariants.{Failed, TooLarge, Refused}
@@ -95,8 +96,8 @@ pub record HasMerged (texts : List HostText) (pins : List ℕ) (old new : Ledger
   pub outcome : Outcome
   pub is_right : IsOutcome (record { hosts = are; joined = begun.joined }) outcome
   pub is_believed : Headline (record { hosts = are; joined = begun.joined }) outcome
-  pub own_files : (h : ℕ) (host : Host) (files : List Entry) (text : HostText) → slice_get are h ≡ Some (host, files) → slice_get texts h ≡ Some text
-      → KeepsOwnFiles (record { hosts = are; joined = begun.joined }) is_believed.mappings is_believed.map outcome.plans h host files text
+  pub own_files : EachKeepsOwnFiles (record { hosts = are; joined = begun.joined }) outcome
+      is_believed texts
   pub files : new ≡ record (after_files (merged_files texts begun is_believed.mappings outcome) (cleared old)) { read = new.read; reading = new.reading; writing = new.writing }
   pub cost_is : cost ≡ outcome.cost
 

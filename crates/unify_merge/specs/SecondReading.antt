@@ -15,7 +15,8 @@ use Rattle.unify.specs.RowFiles.{row_files}
 use Rattle.unify.specs.SecondPass as second
 use Rattle.unify.specs.SecondPass.{HaveSameCounts, SolvedValue, second_files, second_lines, whole_plan}
 use Rattle.unify.specs.TwoPasses.{AreReadAgain, AreWholePlans}
-use Rattle.unify_merge.specs.Ledger.{Ledger, NamedText, Reading, after_files}
+use Rattle.unify.specs.declared.site_files.NamedText.{NamedText}
+use Rattle.unify_merge.specs.Ledger.{Ledger, Reading, after_files}
 use Rattle.unify_merge.specs.FirstReading.{HasRead, IsReading, IsTooLarge, readings_from}
 use Rattle.unify_merge.specs.declared.fault.MergeFault.{MergeFault}
 use Rattle.unify_merge.specs.declared.fault.MergeFault.TheVariants.{Failed, TooLarge, Refused}

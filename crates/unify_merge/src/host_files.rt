@@ -2,25 +2,17 @@
 
 ghost use Rattle.std.specs.Prelude.{◌≡◌, ◌<◌, ◌++◌, ◌∷◌, [], codes, length, true, Some, slice_get, IfOk, OnOk, IfErr, OnErr, MatchResult};
 ghost use Rattle.hosts_join.specs.declared.host.Host.{Host};
+ghost use Rattle.unify.specs.HostTexts.{group_file, host_files, passwd_file};
 ghost use Rattle.unify.specs.Merging.{mappings_in};
 ghost use Rattle.unify_merge.specs.Ledger.{HasBegun, after_files};
-ghost use Rattle.unify_merge.specs.HostFiles.{HasFiles, StopsWriting, group_file, host_files, host_names, own_names, passwd_file};
+ghost use Rattle.unify_merge.specs.HostFiles.{HasFiles, StopsWriting, host_names, own_names};
 
 use crate::fault::MergeFault;
 use crate::files::MergeFiles;
 use crate::whole_file::write_file;
 use hosts_join::HostText;
-use std::alloc::{AllocError, Global};
-use unify::Solved;
-
-/// The name of a file of a host, which begins so.
-pub fn host_file_name(alloc: Global, start: &[u8], host: &HostText) -> Result<Vec<u8>, AllocError>
-    ensures { IfOk result (λ name. name.items ≡ start.now ++ host.now.name) }
-{
-    let mut name = Vec::from_slice(alloc, start)?;
-    name.extend_from_slice(host.name.bytes())?;
-    Ok(name)
-}
+use std::alloc::Global;
+use unify::{Solved, host_file_name};
 
 // Writes a text as a file of a host, whose name begins so.
 fn write_text<'a, F: MergeFiles>(

@@ -10,11 +10,10 @@ ghost use Rattle.unify_merge.specs.SecondReading.{ArePlanned, HasPlan, IsPlanned
 
 use crate::fault::MergeFault;
 use crate::files::MergeFiles;
-use crate::host_files::host_file_name;
 use crate::pieces::{MOST_BYTES, next_piece};
 use hosts_join::HostText;
 use std::alloc::Global;
-use unify::Solved;
+use unify::{Solved, host_file_name};
 
 // The bytes of a piece, and what its plan goes on with.
 #[derive(Drop)]

@@ -8,7 +8,7 @@ use Rattle.idtext.specs.First.{first_fault, unless}
 use Rattle.idtext.specs.Faults.{line_number}
 use Rattle.idtext.specs.Pieces.{begins_with}
 use Rattle.unify_texts.specs.declared.bundle_line.Command.{Command}
-use Rattle.unify_texts.specs.declared.bundle_line.Command.TheVariants.{Count, Merge, Check, Rehearse}
+use Rattle.unify_texts.specs.declared.bundle_line.Command.TheVariants.{Count, Merge, MergeHosts, Check, Rehearse}
 use Rattle.unify_texts.specs.declared.bundle_line.FileName.{FileName}
 use Rattle.unify_texts.specs.declared.bundle_line.FileName.TheVariants as file
 use Rattle.unify_texts.specs.declared.bundle_line.BundleLine.{BundleLine}
@@ -73,8 +73,9 @@ line_said line =
     (λ _. choose line (begins_with (codes "host ") line) _ _ (λ h. front_is (codes "host ") line h)
     (λ _. choose line (bytes_eq line (codes "run count")) _ _ (λ h. bytes_are line (codes "run count") h)
     (λ _. choose line (bytes_eq line (codes "run merge")) _ _ (λ h. bytes_are line (codes "run merge") h)
+    (λ _. choose line (bytes_eq line (codes "run merge hosts")) _ _ (λ h. bytes_are line (codes "run merge hosts") h)
     (λ _. choose line (bytes_eq line (codes "run check")) _ _ (λ h. bytes_are line (codes "run check") h)
-    (λ _. choose line (bytes_eq line (codes "run rehearse")) (Run Rehearse) Wrong (λ h. bytes_are line (codes "run rehearse") h) (λ _. tt)))))))
+    (λ _. choose line (bytes_eq line (codes "run rehearse")) (Run Rehearse) Wrong (λ h. bytes_are line (codes "run rehearse") h) (λ _. tt))))))))
 
 -- ---- and what it says, from its text
 
@@ -101,6 +102,7 @@ run_read : (command : Command) → bundle_line_of (codes "run " ++ command_word 
 unfolding bundle_line_of
 run_read Count = refl
 run_read Merge = refl
+run_read MergeHosts = refl
 run_read Check = refl
 run_read Rehearse = refl
 
@@ -375,6 +377,7 @@ gives_host command host hosts first rest back free spells over =
 no_rehearsal : (command : Command) → (command ≡ Rehearse → ⊥) → not (is_rehearsal command) ≡ true
 no_rehearsal Count h = refl
 no_rehearsal Merge h = refl
+no_rehearsal MergeHosts h = refl
 no_rehearsal Check h = refl
 no_rehearsal Rehearse h = absurd (h refl)
 

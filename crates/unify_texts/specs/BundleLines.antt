@@ -3,7 +3,7 @@
 use Rattle.std.specs.Prelude.{ℕ, Bool, List, ◌==◌, drop, if◌then◌else◌, bytes_eq, codes}
 use Rattle.idtext.specs.Pieces.{begins_with}
 use Rattle.unify_texts.specs.declared.bundle_line.Command.{Command}
-use Rattle.unify_texts.specs.declared.bundle_line.Command.TheVariants.{Count, Merge, Check, Rehearse}
+use Rattle.unify_texts.specs.declared.bundle_line.Command.TheVariants.{Count, Merge, MergeHosts, Check, Rehearse}
 use Rattle.unify_texts.specs.declared.bundle_line.FileName.{FileName}
 use Rattle.unify_texts.specs.declared.bundle_line.FileName.TheVariants as file
 use Rattle.unify_texts.specs.declared.bundle_line.BundleLine.{BundleLine}
@@ -23,6 +23,7 @@ file_word file.LoginDefs = codes "login.defs"
 abbrev pub command_word : Command → List ℕ
 command_word Count = codes "count"
 command_word Merge = codes "merge"
+command_word MergeHosts = codes "merge hosts"
 command_word Check = codes "check"
 command_word Rehearse = codes "rehearse"
 
@@ -60,6 +61,7 @@ bundle_line_of line =
     else if begins_with (codes "host ") line then Host (drop 5 line)
     else if bytes_eq line (codes "run count") then Run Count
     else if bytes_eq line (codes "run merge") then Run Merge
+    else if bytes_eq line (codes "run merge hosts") then Run MergeHosts
     else if bytes_eq line (codes "run check") then Run Check
     else if bytes_eq line (codes "run rehearse") then Run Rehearse
     else Wrong

@@ -66,18 +66,18 @@ fn campaign_of<'p, 'a>(
     }
 }
 
-// Each file of the second tree is as it was, and its mark is set.
-fn check_second(rt: &impl Abort, tree: &mut FailTree) {
+// Each file of the second tree is as it was, and the tree is marked for its plan.
+fn check_second(rt: &impl Abort, plan: &Plan, tree: &mut FailTree) {
     for (path, uid) in SECOND_FILES {
         assert!(rt; tree.owner(path) == Ok(Some(Owner { uid, gid: 100 })));
     }
-    assert!(rt; tree.mark() == Ok(true));
+    assert!(rt; tree.is_marked(&plan.mark()) == Ok(true));
 }
 
-fn check_both(rt: &impl Abort, trees: &mut [FailTree]) {
-    assert!(rt; trees.len() == 2);
-    check(rt, &mut trees[0], ALL, true);
-    check_second(rt, &mut trees[1]);
+fn check_both(rt: &impl Abort, plans: &[Plan<'_>], trees: &mut [FailTree]) {
+    assert!(rt; plans.len() == 2 && trees.len() == 2);
+    check(rt, &plans[0], &mut trees[0], ALL, true);
+    check_second(rt, &plans[1], &mut trees[1]);
 }
 
 // The fourteen advances of both hosts: a bit that is set is one of the second host.
@@ -93,7 +93,7 @@ fn interleave(rt: &impl Abort, alloc: Global, plans: &[Plan<'_>], order: u32) ->
     let events = advances_of(alloc, order)?;
     let mut campaign = campaign_of(rt, alloc, plans, both_trees(alloc, &[])?)?;
     assert!(rt; campaign.drive(&events) == Ok(true));
-    check_both(rt, &mut campaign.into_trees());
+    check_both(rt, plans, &mut campaign.into_trees());
     Ok(())
 }
 

@@ -32,9 +32,9 @@ fn check_failure(rt: &impl Abort, plan: &Plan, tree: &mut FailTree, place: Place
     let mut runner = Runner::new(plan);
     assert!(rt; runner.run(tree) == Err(RunFault::Device));
     assert!(rt; runner.place() == place && tree.faults() == 1);
-    check(rt, tree, new, false);
+    check(rt, plan, tree, new, false);
     assert!(rt; runner.run(tree) == Ok(()));
-    check(rt, tree, ALL, true);
+    check(rt, plan, tree, ALL, true);
 }
 
 #[test]

@@ -7,7 +7,7 @@ use std::alloc::Global;
 use std::process::Abort;
 use std::test::Fail;
 
-// A stop after so many advances, which files it leaves at their new owner, and whether it leaves the mark set.
+// A stop after so many advances, which files it leaves at their new owner, and whether it leaves the tree marked.
 type Stop = (Keep, usize, [bool; 6], bool);
 
 const STOPS: [Stop; 7] = [
@@ -38,14 +38,14 @@ fn stop(rt: &impl Abort, plan: &Plan, tree: &mut MemTree, keep: Keep, advances: 
     tree.reopen();
 }
 
-// A new runner carries the plan out. Where the mark is set, it is done by its first advance.
+// A new runner carries the plan out. Where the tree is marked for it, it is done by its first advance.
 fn finish(rt: &impl Abort, plan: &Plan, tree: &mut MemTree) {
-    let mark = tree.mark() == Ok(true);
+    let marked = tree.is_marked(&plan.mark()) == Ok(true);
     let mut runner = Runner::new(plan);
     let first = runner.advance(tree);
-    assert!(rt; (first == Ok(Progress::Done)) == mark && first.is_ok());
+    assert!(rt; (first == Ok(Progress::Done)) == marked && first.is_ok());
     assert!(rt; runner.run(tree) == Ok(()) && runner.place() == Place::Done);
-    check(rt, tree, ALL, true);
+    check(rt, plan, tree, ALL, true);
 }
 
 #[test]
@@ -55,10 +55,10 @@ fn stops(rt: HostRuntime) -> Result<(), Fail> {
 }
 
 fn check_stops(rt: &impl Abort, alloc: Global, plan: &Plan) -> Result<(), Fail> {
-    for (keep, advances, new, mark) in STOPS {
+    for (keep, advances, new, marked) in STOPS {
         let mut tree = tree_of(alloc, INVENTORY)?;
         stop(rt, plan, &mut tree, keep, advances);
-        check(rt, &mut tree, new, mark);
+        check(rt, plan, &mut tree, new, marked);
         finish(rt, plan, &mut tree);
     }
     Ok(())

@@ -5,7 +5,7 @@ ghost use Rattle.reown_runner.specs.Campaign.{host_of};
 
 use crate::tests::hosts::swap_hosts;
 use hosts_join::HostText;
-use reown_plan::Owner;
+use reown_plan::{Owner, Plan, PlanMark};
 use reown_runner::{Event, Keep, MemTree, Tree};
 use std::alloc::Global;
 use std::process::Abort;
@@ -81,8 +81,16 @@ fn rehearsed(
     }
 }
 
-// The users of a tree's files, and its mark.
-fn check_tree(rt: &impl Abort, tree: &mut MemTree, files: &[&[u8]], users: &[u32], mark: bool) {
+// The mark of the plan that was printed for a host.
+fn mark_of(alloc: Global, run: &SiteRun, host: usize) -> Result<PlanMark, Fail> {
+    match run.outcome.plans.texts().get(host) {
+        Some(text) => Ok(Plan::read(alloc, text.bytes())?.mark()),
+        None => Err(Fail::new("a host has no plan")),
+    }
+}
+
+// The users of a tree's files.
+fn check_tree(rt: &impl Abort, tree: &mut MemTree, files: &[&[u8]], users: &[u32]) {
     for (path, uid) in files.iter().zip(users.iter()) {
         let owner = Owner {
             uid: *uid,
@@ -90,14 +98,24 @@ fn check_tree(rt: &impl Abort, tree: &mut MemTree, files: &[&[u8]], users: &[u32
         };
         assert!(rt; tree.owner(*path) == Ok(Some(owner)));
     }
-    assert!(rt; tree.mark() == Ok(mark));
 }
 
-fn check(rt: &impl Abort, run: &mut SiteRun, done: bool, users: &[u32]) {
+// A tree is marked for its host's plan exactly where that is done.
+fn check(
+    rt: &impl Abort,
+    alloc: Global,
+    run: &mut SiteRun,
+    done: bool,
+    users: &[u32],
+) -> Result<(), Fail> {
     assert!(rt; run.done.as_slice() == [done, done].as_slice());
+    let marks = [mark_of(alloc, run, 0)?, mark_of(alloc, run, 1)?];
     assert!(rt; run.trees.len() == 2);
-    check_tree(rt, &mut run.trees[0], FILES_OF_A, users, done);
-    check_tree(rt, &mut run.trees[1], FILES_OF_B, OF_B, done);
+    check_tree(rt, &mut run.trees[0], FILES_OF_A, users);
+    check_tree(rt, &mut run.trees[1], FILES_OF_B, OF_B);
+    assert!(rt; run.trees[0].is_marked(&marks[0]) == Ok(done));
+    assert!(rt; run.trees[1].is_marked(&marks[1]) == Ok(done));
+    Ok(())
 }
 
 #[test]
@@ -109,7 +127,7 @@ fn site_rehearsed(rt: HostRuntime) -> Result<(), Fail> {
 fn check_courses(rt: &impl Abort, alloc: Global, hosts: &[HostText]) -> Result<(), Fail> {
     for (keep, events, done, users) in COURSES {
         let mut run = rehearsed(alloc, hosts, keep, events)?;
-        check(rt, &mut run, done, users);
+        check(rt, alloc, &mut run, done, users)?;
     }
     Ok(())
 }

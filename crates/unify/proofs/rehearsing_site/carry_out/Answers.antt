@@ -1,8 +1,6 @@
 use Rattle.std.proofs.Common.{length, ap, sym, ◌∙◌}
 use Rattle.std.proofs.lemmas.List.{length-map}
-use Rattle.reown_plan.specs.PlanData.{PlanData}
-use Rattle.reown_runner.specs.declared.runner.Place.TheVariants.{Start}
-use Rattle.reown_runner.specs.RunnerData.{RunnerData}
+use Rattle.reown_runner.specs.RunnerData.{starting}
 use Rattle.unify.proofs.Carrying.{none_refused, all_carried}
 use Rattle.unify.proofs.rehearsing_site.carry_out.Goals as goal
 
@@ -11,8 +9,7 @@ unreachable-requires c = none_refused c.args.plans.now c.args.trees.items c.requ
 
 pub done_of-requires : goal.done_of-requires
 done_of-requires c =
-    let start : PlanData → RunnerData = λ p. record { records = p.records; place = Start } in
-    sym (c.in-Ok-drive.ensures.runners ∙ ap length c.in-Ok.ensures.runners ∙ length-map c.args.plans.now start)
+    sym (c.in-Ok-drive.ensures.runners ∙ ap length c.in-Ok.ensures.runners ∙ length-map c.args.plans.now starting)
 
 pub returns : goal.returns
 returns c =

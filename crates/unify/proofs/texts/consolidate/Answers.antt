@@ -13,7 +13,7 @@ returns-in-Ok-clause-answers c =
     let of = of_site texts read.0 c.in_ok-counting.counting read.2 c.in-Ok.solved c.in-Ok.ensures in
     let merged = merged_for texts read.0 c.in_ok-counting.counting read.2 c.in-Ok.solved c.in-Ok.ensures in
     yielded IsOutcome read.0 (site_read texts pins) c.with_plans.result read.1
-    (either_right (IsOutcome read.0) (Headline read.0) c.with_plans.result (c.with_plans.ensures read.0 of (read_sites_are_whole texts pins read.0 read.1) merged)).0
+    (either_right (IsOutcome read.0) (Headline read.0) c.with_plans.result (c.with_plans.ensures.believed read.0 of (read_sites_are_whole texts pins read.0 read.1) merged)).0
 
 pub returns-in-Ok-clause-believed : goal.returns-in-Ok-clause-believed
 returns-in-Ok-clause-believed c =
@@ -23,4 +23,4 @@ returns-in-Ok-clause-believed c =
     let of = of_site texts read.0 c.in_ok-counting.counting read.2 c.in-Ok.solved c.in-Ok.ensures in
     let merged = merged_for texts read.0 c.in_ok-counting.counting read.2 c.in-Ok.solved c.in-Ok.ensures in
     yielded Headline read.0 (site_read texts pins) c.with_plans.result read.1
-    (either_right (IsOutcome read.0) (Headline read.0) c.with_plans.result (c.with_plans.ensures read.0 of (read_sites_are_whole texts pins read.0 read.1) merged)).1
+    (either_right (IsOutcome read.0) (Headline read.0) c.with_plans.result (c.with_plans.ensures.believed read.0 of (read_sites_are_whole texts pins read.0 read.1) merged)).1

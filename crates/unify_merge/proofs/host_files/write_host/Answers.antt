@@ -3,7 +3,8 @@ use Rattle.std.specs.Prelude.{codes}
 use Rattle.unify.specs.Merging.{mappings_in}
 use Rattle.unify.proofs.Agreeing.{item_at}
 use Rattle.unify_merge.specs.Ledger.{HasBegun, Ledger, after_files}
-use Rattle.unify_merge.specs.HostFiles.{group_file, own_names, passwd_file}
+use Rattle.unify.specs.HostTexts.{group_file, passwd_file}
+use Rattle.unify_merge.specs.HostFiles.{own_names}
 use Rattle.unify_merge.proofs.Begun.{begun_behind, begun_front, on_err, on_err_goes}
 use Rattle.unify_merge.proofs.HostFiles.{files_behind, on_ok_goes}
 use Rattle.unify_merge.proofs.host_files.write_host.Goals as goal

@@ -4,12 +4,14 @@ use Rattle.std.proofs.lemmas.List.{take_all}
 use Rattle.std.proofs.lemmas.Option.{slice_get-get_or}
 use Rattle.std.proofs.lemmas.Result.{err_from_is_err_and}
 use Rattle.hosts_join.specs.declared.texts.HostText.{HostText}
+use Rattle.unify.specs.HostTexts.{group_file, host_files, passwd_file}
 use Rattle.unify.specs.Merging.{mappings_in}
 use Rattle.unify.proofs.Agreeing.{item_at}
+use Rattle.unify.proofs.OwnFiles.{host_files_more, no_hosts}
 use Rattle.unify_merge.specs.Ledger.{HasBegun, Ledger}
-use Rattle.unify_merge.specs.HostFiles.{HasFiles, group_file, host_files, host_names, own_names, passwd_file}
+use Rattle.unify_merge.specs.HostFiles.{HasFiles, host_names, own_names}
 use Rattle.unify_merge.proofs.Begun.{begun_behind, begun_front}
-use Rattle.unify_merge.proofs.HostFiles.{host_files_more, host_names_from, host_names_more, more_written, no_hosts, none_written}
+use Rattle.unify_merge.proofs.HostFiles.{host_names_from, host_names_more, more_written, none_written}
 use Rattle.unify_merge.proofs.host_files.write_hosts.Goals as goal
 
 pub loop-index-init : goal.loop-index-init

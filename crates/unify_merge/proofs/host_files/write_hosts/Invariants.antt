@@ -1,6 +1,7 @@
 use Rattle.std.proofs.Common.{◌≡◌, ◌++◌, take, true}
+use Rattle.unify.specs.HostTexts.{host_files}
 use Rattle.unify.specs.Merging.{mappings_in}
-use Rattle.unify_merge.specs.HostFiles.{HasFiles, host_files, host_names}
+use Rattle.unify_merge.specs.HostFiles.{HasFiles, host_names}
 use Rattle.unify_merge.proofs.host_files.write_hosts.Given as goal
 
 abbrev pub invariant-loop-index : goal.invariant-loop-index

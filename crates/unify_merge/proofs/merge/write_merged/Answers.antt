@@ -3,7 +3,8 @@ use Rattle.std.proofs.lemmas.Result.{err_from_is_err_and}
 use Rattle.unify.specs.Merging.{mappings_in}
 use Rattle.unify.specs.SecondPass.{SolvedValue}
 use Rattle.unify_merge.specs.Ledger.{HasBegun, Ledger, after_files, cleared}
-use Rattle.unify_merge.specs.HostFiles.{HasFiles, host_files, host_names}
+use Rattle.unify.specs.HostTexts.{host_files}
+use Rattle.unify_merge.specs.HostFiles.{HasFiles, host_names}
 use Rattle.unify_merge.specs.Merge.{first_files, first_names, names_before_report, report_file}
 use Rattle.unify_merge.specs.FirstReading.{readings_from}
 use Rattle.unify_merge.specs.SecondReading.{plan_name}

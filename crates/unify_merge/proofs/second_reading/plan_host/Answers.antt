@@ -1,6 +1,7 @@
 use Rattle.std.proofs.Common.{◌++◌, ◌∷◌, [], ap, ◌∙◌}
 use Rattle.unify.specs.SecondPass.{whole_plan}
-use Rattle.unify_merge.specs.Ledger.{Ledger, NamedText, Reading, finished_on}
+use Rattle.unify.specs.declared.site_files.NamedText.{NamedText}
+use Rattle.unify_merge.specs.Ledger.{Ledger, Reading, finished_on}
 use Rattle.unify_merge.proofs.second_reading.plan_host.Goals as goal
 
 pub returns-clause-planned : goal.returns-clause-planned

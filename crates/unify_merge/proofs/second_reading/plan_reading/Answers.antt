@@ -2,7 +2,8 @@ use Rattle.std.proofs.Common.{◌≡◌, ◌++◌, ◌∷◌, [], Some, sym, ap,
 use Rattle.std.proofs.lemmas.Result.{err_from_is_err_and}
 use Rattle.unify.specs.SecondPass.{SolvedValue, whole_plan}
 use Rattle.unify.proofs.SiteRuns.{some_same}
-use Rattle.unify_merge.specs.Ledger.{Ledger, NamedText, Reading}
+use Rattle.unify.specs.declared.site_files.NamedText.{NamedText}
+use Rattle.unify_merge.specs.Ledger.{Ledger, Reading}
 use Rattle.unify_merge.proofs.Changes.{second_ended, second_lines_stop, second_whole_stop}
 use Rattle.unify_merge.proofs.Readings.{if_err, on_ok}
 use Rattle.unify_merge.proofs.Stops.{at_same}

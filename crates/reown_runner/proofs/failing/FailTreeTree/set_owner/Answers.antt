@@ -1,13 +1,13 @@
 use Rattle.std.proofs.Common.{◌≡◌, sym, ◌∙◌, ap, subst, inr, refl, Ok, Err, Result}
 use Rattle.reown_runner.specs.declared.failing.Item.{Item}
 use Rattle.reown_runner.specs.declared.tree.DeviceFault.{DeviceFault}
-use Rattle.reown_runner.specs.Tree.{cells_of, Writes}
+use Rattle.reown_runner.specs.Tree.{ForEachPlan, Writes}
 use Rattle.reown_runner.specs.Memory.{Mem, known_mem, IsWritten}
 use Rattle.reown_runner.specs.Failing.{Failing, known_failing, next_item, IsScripted}
 use Rattle.reown_runner.proofs.failing.FailTreeTree.set_owner.Goals as goal
 
 pub returns-in-Pass-clause-done : goal.returns-in-Pass-clause-done
-returns-in-Pass-clause-done c = subst (λ (m : Mem). Writes c.args.path.now c.args.owner (cells_of (known_mem m)) (cells_of (known_mem c.write.new.self.tree))) (ap (λ (f : Failing). f.tree) c.take.ensures.script ∙ ap (λ (f : Failing). f.tree) c.count.ensures) c.write.ensures.done
+returns-in-Pass-clause-done c = subst (λ (m : Mem). ForEachPlan (Writes c.args.path.now c.args.owner) (known_mem m) (known_mem c.write.new.self.tree)) (ap (λ (f : Failing). f.tree) c.take.ensures.script ∙ ap (λ (f : Failing). f.tree) c.count.ensures) c.write.ensures.done
 
 pub returns-in-Pass-clause-scripted : goal.returns-in-Pass-clause-scripted
 returns-in-Pass-clause-scripted c =
@@ -16,11 +16,11 @@ returns-in-Pass-clause-scripted c =
     let exact = subst (λ (m : Mem). IsWritten c.args.path.now c.args.owner m c.write.new.self.tree) (ap (λ (f : Failing). f.tree) c.take.ensures.script ∙ ap (λ (f : Failing). f.tree) c.count.ensures) (c.write.ensures.written) in
     subst (λ (i : Item). IsScripted i result (c.write.new.self.tree ≡ c.args.self.now.tree) (IsWritten c.args.path.now c.args.owner c.args.self.now.tree c.write.new.self.tree)) (sym item) (refl, exact)
 
-done_after : (c : goal.After-fail-in-FailAfter) → Writes c.args.path.now c.args.owner (cells_of (known_failing c.args.self.now)) (cells_of (known_failing c.fail-in-FailAfter.new.self))
-done_after c = subst (λ (m : Mem). Writes c.args.path.now c.args.owner (cells_of (known_mem c.args.self.now.tree)) (cells_of (known_mem m))) (sym (ap (λ (f : Failing). f.tree) c.fail-in-FailAfter.ensures)) (subst (λ (m : Mem). Writes c.args.path.now c.args.owner (cells_of (known_mem m)) (cells_of (known_mem c.write-in-FailAfter.new.self.tree))) (ap (λ (f : Failing). f.tree) c.take.ensures.script ∙ ap (λ (f : Failing). f.tree) c.count.ensures) c.write-in-FailAfter.ensures.done)
+done_after : (c : goal.After-fail-in-FailAfter) → ForEachPlan (Writes c.args.path.now c.args.owner) (known_failing c.args.self.now) (known_failing c.fail-in-FailAfter.new.self)
+done_after c = subst (λ (m : Mem). ForEachPlan (Writes c.args.path.now c.args.owner) (known_mem c.args.self.now.tree) (known_mem m)) (sym (ap (λ (f : Failing). f.tree) c.fail-in-FailAfter.ensures)) (subst (λ (m : Mem). ForEachPlan (Writes c.args.path.now c.args.owner) (known_mem m) (known_mem c.write-in-FailAfter.new.self.tree)) (ap (λ (f : Failing). f.tree) c.take.ensures.script ∙ ap (λ (f : Failing). f.tree) c.count.ensures) c.write-in-FailAfter.ensures.done)
 
 pub returns-in-FailAfter-clause-failed : goal.returns-in-FailAfter-clause-failed
-returns-in-FailAfter-clause-failed c = inr (done_after c)
+returns-in-FailAfter-clause-failed c = λ plan. inr (done_after c plan)
 
 pub returns-in-FailAfter-clause-scripted : goal.returns-in-FailAfter-clause-scripted
 returns-in-FailAfter-clause-scripted c =

@@ -22,4 +22,4 @@ pub returns-clause-starts : goal.returns-clause-starts
 returns-clause-starts c = grind (arith, common_steps)
 
 pub returns-clause-fresh : goal.returns-clause-fresh
-returns-clause-fresh c = subst (λ (m : Mem). IsFresh (owner_in c.args.inventory.now) (cells_of (known_mem m))) (sym (returns-clause-starts c)) (new_fresh c.args.inventory.now)
+returns-clause-fresh c = λ plan. subst (λ (m : Mem). IsFresh (owner_in c.args.inventory.now) (cells_of plan (known_mem m))) (sym (returns-clause-starts c)) (new_fresh c.args.inventory.now plan)

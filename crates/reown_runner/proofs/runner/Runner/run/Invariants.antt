@@ -13,12 +13,14 @@ invariant-steps g l =
     let place = l.fn.self.place in
     let old = g.T.Tree.known l.fn.tree in
     let now = g.T.Tree.known l.tree in
+    let plan = l.fn.self.mark in
     record {
+      same_mark : l.self.mark ≡ plan;
       same : l.self.records ≡ records;
       counted : now.faults ≡ old.faults;
       spent : now.asked + operations_left records l.self.place ≤ old.asked + operations_left records place;
-      kept : (inventory : List ℕ → Option Owner) → IsSafeInStep inventory records place (cells_of old) → IsSafeInStep inventory records l.self.place (cells_of now);
-      run : (s : State) → StandsFor old s → (n : ℕ) × (t : State) × StandsFor now t × IsRun records (host_at place old s) (replicate n Advances) None (host_at l.self.place now t) × (n + max 1 (advances_left records l.self.place) ≤ length records + 4);
+      kept : (inventory : List ℕ → Option Owner) → IsSafeInStep inventory records place (cells_of plan old) → IsSafeInStep inventory records l.self.place (cells_of plan now);
+      run : (s : State) → StandsFor plan old s → (n : ℕ) × (t : State) × StandsFor plan now t × IsRun records (host_at place old s) (replicate n Advances) None (host_at l.self.place now t) × (n + max 1 (advances_left records l.self.place) ≤ length records + 4);
     }
 
 abbrev pub decreases-steps : goal.decreases-steps

@@ -1,0 +1,2 @@
+pub mod KeepLoop
+pub mod KeepBack

@@ -1,0 +1,6 @@
+pub mod KeepLines
+pub mod KeepTexts
+pub mod KeepTaken
+pub mod KeepLaws
+pub mod NameSets
+pub mod RangeLists

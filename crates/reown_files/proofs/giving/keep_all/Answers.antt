@@ -1,0 +1,21 @@
+use Rattle.std.proofs.Common.{◌≡◌, ◌∙◌, ◌∷◌, ◌<◌, map, length, sym, ap, subst, arith}
+use Rattle.reown_plan.specs.PlanData.{PlanRecord}
+use Rattle.std.specs.Result.{is_ok}
+use Rattle.std.proofs.lemmas.List.{get_or-map, length-map}
+use Rattle.reown_plan.specs.Records.{record_of}
+use Rattle.reown_files.specs.Calls.{Kept}
+use Rattle.reown_files.specs.Lawful.{is_lawful}
+use Rattle.reown_files.proofs.Laws.{nothing, keeps_on}
+use Rattle.reown_files.proofs.giving.keep_all.Goals as goal
+
+pub loop-i-preserved : goal.loop-i-preserved
+loop-i-preserved g c =
+    let rs = c.args.records.now in
+    let below : c.loop-i.i < length rs = omega arith in
+    let below_map : c.loop-i.i < length (map record_of rs) = omega (arith, length-map rs record_of) in
+    record {
+      kept = keeps_on (map record_of rs) c.loop-i.i (g.D.Disk.calls c.loop-i.disk) (g.D.Disk.calls c.keep.new.self) (is_ok c.keep.result) below_map
+          (subst (λ (r : PlanRecord). g.D.Disk.calls c.keep.new.self ≡ Kept r.path r.after (is_ok c.keep.result) ∷ g.D.Disk.calls c.loop-i.disk) (sym (get_or-map record_of rs c.loop-i.i _ nothing below)) c.keep.ensures)
+          (ap is_ok c.in-Ok.is) c.loop-i.invariant.kept;
+      lawful = λ mark plan h. ap (is_lawful mark plan) c.keep.ensures ∙ c.loop-i.invariant.lawful mark plan h;
+    }

@@ -1,0 +1,19 @@
+use Rattle.std.proofs.Common.{◌≡◌, ◌∙◌, ap, sym, map, true}
+use Rattle.reown_plan.specs.Mark.{mark_eq}
+use Rattle.reown_files.specs.Real.{RealData}
+use Rattle.std.specs.Result.{is_ok}
+use Rattle.reown_plan.specs.Records.{record_of}
+use Rattle.reown_files.specs.Lawful.{is_lawful, all_kept}
+use Rattle.reown_files.proofs.Laws.{lawful_mark, kept_behind_mark}
+use Rattle.reown_files.proofs.real_tree.RealTree.put_mark.Goals as goal
+
+pub invariant_of-self : goal.invariant_of-self
+invariant_of-self g c =
+    let records = map record_of c.self.inside.records.now in
+    let calls = g.D.Disk.calls c.self.inside.disk in
+    let own : mark_eq c.args.plan.now c.self.inside.mark ≡ true = ap (λ (r : RealData). mark_eq c.args.plan.now r.mark) c.self.view_is ∙ sym c.is_own.ensures ∙ c.if-not-is_own.false in
+    let done = is_ok c.put_mark.result in (
+      c.self.invariant.0,
+      ap (is_lawful c.self.inside.mark records) c.put_mark.ensures ∙ lawful_mark c.self.inside.mark records calls c.args.plan.now done own (c.self.invariant.2 c.if-not-self.false) c.self.invariant.1,
+      λ kept. ap (all_kept records) c.put_mark.ensures ∙ kept_behind_mark c.args.plan.now done calls records (c.self.invariant.2 kept),
+    )

@@ -1,0 +1,5 @@
+pub mod Calls
+pub mod Noted
+pub mod Lawful
+pub mod Real
+pub mod Counting

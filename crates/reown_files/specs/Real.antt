@@ -1,0 +1,37 @@
+-- A tree of real files, as its user sees it.
+-- Source: this project's own rule.
+use Rattle.std.specs.Prelude.{ℕ, Bool, List}
+use Rattle.reown_plan.specs.declared.mark.PlanMark.{PlanMark}
+use Rattle.reown_plan.specs.PlanData.{PlanRecord}
+use Rattle.reown_runner.specs.Tree.{TreeData, IsReadable, cells_of}
+use Rattle.reown_runner.specs.Memory.{Mem, known_mem}
+use Rattle.reown_runner.specs.MemoryReads.{readable_mem}
+use Rattle.reown_files.specs.Calls.{Called}
+
+-- the mark and the records of its plan; what it holds their files to be, with which each read is compared; whether each file was kept since
+-- the last write; whether it was stopped; how often a call has failed, and how many writes and syncs were asked of it; and what
+-- was asked of its disk
+pub record RealData : Type 0 where
+  pub mark : PlanMark
+  pub records : List PlanRecord
+  pub tree : Mem
+  pub is_kept : Bool
+  pub is_stopped : Bool
+  pub faults : ℕ
+  pub asked : ℕ
+  pub calls : List Called
+
+abbrev pub known_real : RealData → TreeData
+known_real r =
+    record {
+      owner = (known_mem r.tree).owner;
+      owners_left = (known_mem r.tree).owners_left;
+      mark = (known_mem r.tree).mark;
+      marks_left = (known_mem r.tree).marks_left;
+      faults = r.faults;
+      asked = r.asked;
+    }
+
+-- a stop may leave what is read
+pub readable_real : (r : RealData) (plan : PlanMark) → IsReadable (cells_of plan (known_real r))
+readable_real r plan = record { owner = (readable_mem r.tree plan).owner; mark = (readable_mem r.tree plan).mark }

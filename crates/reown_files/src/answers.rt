@@ -1,0 +1,92 @@
+//! What calls on a disk answer.
+
+use reown_plan::Owner;
+use std::alloc::{AllocError, AllocFailed};
+
+/// Why a call on a disk failed.
+#[derive(Clone, Copy, Debug, PartialEq, Eq)]
+pub enum Trouble {
+    /// A call of the system failed, with this number of an error (errno(3)).
+    System(i32),
+    /// A growth was refused.
+    Memory,
+    /// The path is none of an inventory: a part of it is empty, `.` or `..`, or too long.
+    BadPath,
+    /// A part of the path is not UTF-8, which the calls on files ask for.
+    NotText,
+    /// The file is not there, or a directory on the way to it is missing, or a link.
+    Gone,
+    /// The file has this owner, and not the one that was expected.
+    Foreign(Owner),
+    /// Another file came to its name while it was looked at.
+    Exchanged,
+    /// The file, or a directory on the way to it, lies on another file system than the root.
+    OtherMount,
+    /// The file has a name that is not in the plan.
+    LinkedElsewhere,
+    /// The file has two names in the plan, with two new owners.
+    LinkedOtherwise,
+    /// The call was made, and what was wanted is not there.
+    NotDone,
+    /// The directory is none.
+    NotDirectory,
+    /// Another process is at work below the directory.
+    Busy,
+    /// There is no /proc, by which files are reached (proc(5)).
+    NoProc,
+    /// The file of the mark is not a mark.
+    NotMark,
+}
+
+/// The bits of a file's mode around a change of its owner (inode(7)), set-user-ID and set-group-ID among them.
+#[derive(Clone, Copy, Debug, PartialEq, Eq)]
+pub struct Modes {
+    /// Those that it had before.
+    pub before: u32,
+    /// Those that it has after it.
+    pub after: u32,
+}
+
+/// Where the last call on a tree failed, and why.
+#[derive(Clone, Copy, Debug, PartialEq, Eq)]
+pub struct Stop {
+    /// The record whose file it was, if it was one's; records count from 0.
+    pub place: Option<usize>,
+    /// Why it failed.
+    pub trouble: Trouble,
+}
+
+/// Why a tree was not opened; records count from 0.
+#[derive(Clone, Copy, Debug, PartialEq, Eq)]
+pub enum OpenFault {
+    /// A growth was refused.
+    Memory,
+    /// 37: the file of this record is not there.
+    Missing(usize),
+    /// 38: the file of this record has this owner, which is neither its old nor its new one.
+    Foreign(usize, Owner),
+    /// The plan's mark is set, and the file of this record has its old owner.
+    Unfinished(usize),
+    /// The file of this record could not be looked at.
+    File(usize, Trouble),
+    /// The mark could not be looked at, or the disk not be synced.
+    Disk(Trouble),
+}
+
+impl From<AllocError> for OpenFault {
+    fn from(_: AllocError) -> Self {
+        OpenFault::Memory
+    }
+}
+
+impl<T: Drop> From<AllocFailed<T>> for OpenFault {
+    fn from(_: AllocFailed<T>) -> Self {
+        OpenFault::Memory
+    }
+}
+
+impl From<AllocError> for Trouble {
+    fn from(_: AllocError) -> Self {
+        Trouble::Memory
+    }
+}

@@ -1,0 +1,22 @@
+//! Carries a plan out on a real tree of files.
+#![tactic(auto)]
+
+mod answers;
+mod applying;
+mod counting;
+mod disk;
+mod giving;
+mod log;
+mod looking;
+mod mark_file;
+mod real_tree;
+mod root;
+mod walk;
+
+pub use answers::{Modes, OpenFault, Stop, Trouble};
+pub use applying::apply;
+pub use counting::{OwnerCounts, count_owners};
+pub use disk::Disk;
+pub use log::{Call, Log};
+pub use real_tree::RealTree;
+pub use root::Root;

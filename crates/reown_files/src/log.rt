@@ -1,0 +1,47 @@
+//! The record of calls on a disk that is real, which only clauses read.
+ghost use Rattle.std.specs.Prelude.{◌≡◌, List, [], ◌∷◌};
+ghost use Rattle.std.specs.Borrow.{ftrue};
+ghost use Rattle.reown_files.specs.Calls.{Called};
+
+use crate::Modes;
+use reown_plan::{Owner, PlanMark};
+use std::marker::Model;
+
+/// What was asked of a disk, the newest first, for contracts alone: it takes no memory and no time.
+#[derive(Drop)]
+pub struct Log {
+    pub ghost calls: { List Called },
+}
+
+impl Model for Log {
+    ghost also_owns = { λ _. ftrue };
+}
+
+/// A call that was made, with what it was given; what it answered, or whether it succeeded, comes last.
+#[derive(Clone, Copy)]
+pub enum Call<'a> {
+    /// The file of this path was to be given an owner in place of another.
+    Gave(&'a [u8], Owner, Owner, Option<Modes>),
+    /// The bits of its mode were to be set, where it has this owner.
+    SetMode(&'a [u8], Owner, u32, bool),
+    /// It was to be seen at this owner and synced.
+    Kept(&'a [u8], Owner, bool),
+    /// The mark of this plan was to be put.
+    PutMark(&'a PlanMark, bool),
+}
+
+impl Log {
+    ghost use Rattle.reown_files.specs.Noted.{noted};
+
+    /// Nothing was asked for as yet.
+    pub fn new() -> Log
+        ensures { result.calls ≡ [] }
+    {
+        Log {}
+    }
+
+    /// Notes a call.
+    pub fn note(&mut self, _call: &Call<'_>)
+        ensures { self.new.calls ≡ noted _call.now ∷ self.old.calls }
+    {}
+}

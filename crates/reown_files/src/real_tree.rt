@@ -1,0 +1,484 @@
+//! A tree of real files, held against what the run of its plan must have made of it.
+ghost use Rattle.std.specs.Prelude.{◌≡◌, ◌+◌, ◌^◌, ◌<◌, [], true, IfOk, OnOk, OnErr, IsSome, is_ok, map, length};
+
+use crate::giving::{give_file, has_change, keep_all};
+use crate::looking::{check_all_links, look_at_all, look_at_mark};
+use crate::{Disk, OpenFault, Stop, Trouble};
+use reown_plan::{Owner, Plan, PlanMark, Record};
+use reown_runner::{DeviceFault, MemTree, Tree};
+use std::alloc::{AllocError, Global};
+use std::marker::Model;
+
+/// The files of a plan on a disk, held against what the run of the plan must have made of them: a call that finds anything
+/// else fails. Each read looks at the disk. Nothing is written but what the plan has, and the mark is set only where each file
+/// was seen at its new owner and synced behind the last write. A call takes a look-up by hash and the calls of its disk; a sync
+/// is one pass over the plan.
+#[derive(Drop)]
+pub struct RealTree<'p, 'a, D: Disk> {
+    mark: PlanMark,
+    records: &'p [Record<'a>],
+    held: MemTree,
+    disk: D,
+    is_kept: bool,
+    is_stopped: bool,
+    faults: u64,
+    asked: u64,
+    stop: Option<Stop>,
+}
+
+impl<'p, 'a, D: Disk> Model for RealTree<'p, 'a, D> {
+    ghost use Rattle.std.specs.Prelude.{◌≡◌, map, true};
+    ghost use Rattle.reown_plan.specs.Records.{record_of};
+    ghost use Rattle.reown_files.specs.Lawful.{is_lawful, all_kept};
+    ghost use Rattle.reown_files.specs.Real.{RealData};
+
+    ghost Value = { RealData };
+
+    ghost view = { λ r. record {
+      mark = r.mark;
+      records = map record_of r.records.now;
+      tree = r.held;
+      is_kept = r.is_kept;
+      is_stopped = r.is_stopped;
+      faults = r.faults;
+      asked = r.asked;
+      calls = D.calls r.disk;
+    } };
+
+    ghost invariant = { λ r. (r.held.paths ≡ map (λ x. x.path) (map record_of r.records.now))
+        × (is_lawful r.mark (map record_of r.records.now) (D.calls r.disk) ≡ true)
+        × (r.is_kept ≡ true → all_kept (map record_of r.records.now) (D.calls r.disk) ≡ true) };
+}
+
+ghost use Rattle.reown_files.specs.Lawful.{is_lawful, is_planned};
+ghost use Rattle.reown_files.specs.Real.{RealData, known_real, readable_real};
+ghost use Rattle.reown_runner.specs.Memory.{known_mem, marked, settled};
+ghost use Rattle.reown_runner.specs.Halfway.{AreHalfway, MayGoOn};
+ghost use Rattle.reown_plan.specs.PlanData.{HaveDistinctPaths};
+ghost use Rattle.reown_plan.specs.Records.{record_of};
+ghost use Rattle.reown_plan.specs.Mark.{mark_of, mark_eq, is_marked_for};
+ghost use Rattle.reown_runner.specs.Tree.{cells_of, ForEachPlan, counted, Same, Writes, SetsMark, Syncs, Stops, MayDo, Write, SetMark, Sync, IsCounted};
+
+// The files of records at these owners, marked for the plan or for none.
+fn held_tree(
+    alloc: Global,
+    records: &[Record],
+    owners: &[Owner],
+    is_marked: bool,
+    mark: PlanMark,
+) -> Result<MemTree, AllocError>
+    requires distinct { HaveDistinctPaths (map record_of records.now) }
+    requires as_many { length owners.now ≡ length records.now }
+    requires halfway { AreHalfway (map record_of records.now) owners.now is_marked }
+    ensures paths { IfOk result (λ held. held.paths ≡ map (λ r. r.path) (map record_of records.now)) }
+    ensures safe { IfOk result (λ held. MayGoOn (map record_of records.now) (cells_of mark (known_mem held))) }
+{
+    if is_marked {
+        MemTree::of_records(alloc, records, owners, Some(mark))
+    } else {
+        MemTree::of_records(alloc, records, owners, None)
+    }
+}
+
+impl<'p, 'a, D: Disk> RealTree<'p, 'a, D> {
+    /// Opens the files of a plan on a disk, as an earlier run of the plan may have left them, or none. What such a run did is
+    /// synced first, so that a stop of the machine leaves it. Two passes over the plan.
+    ///
+    /// # Errors
+    ///
+    /// The first record, in order, whose file is not there, or has neither its old nor its new owner, or its old one where the
+    /// mark is set; then the first whose file has a name that is not in the plan; a call of the disk that failed; or want of
+    /// memory. Nothing is changed then.
+    pub fn open(alloc: Global, plan: &'p Plan<'a>, mut disk: D) -> Result<Self, OpenFault>
+        requires { D.calls disk ≡ [] }
+        ensures mark { IfOk result (λ tree. tree.mark ≡ mark_of plan.now) }
+        ensures records { IfOk result (λ tree. tree.records ≡ plan.now.records) }
+        ensures safe { IfOk result (λ tree. MayGoOn plan.now.records (cells_of (mark_of plan.now) (known_real tree))) }
+        ensures none_failed { IfOk result (λ tree. (tree.faults ≡ 0) × (tree.asked ≡ 0)) }
+    {
+        let mark = plan.mark();
+        let is_marked = match look_at_mark(&mut disk, &mark) {
+            Ok(is_marked) => is_marked,
+            Err(trouble) => return Err(OpenFault::Disk(trouble)),
+        };
+        let records = plan.records();
+        let owners = match look_at_all(alloc, &mut disk, records, is_marked) {
+            Ok(owners) => owners,
+            Err(fault) => return Err(fault),
+        };
+        if let Err(fault) = check_all_links(&mut disk, records) {
+            return Err(fault);
+        }
+        if let Err(trouble) = disk.settle() {
+            return Err(OpenFault::Disk(trouble));
+        }
+        let held = match held_tree(alloc, records, &owners, is_marked, mark) {
+            Ok(held) => held,
+            Err(_) => return Err(OpenFault::Memory),
+        };
+        Ok(RealTree {
+            mark,
+            records,
+            held,
+            disk,
+            is_kept: false,
+            is_stopped: false,
+            faults: 0,
+            asked: 0,
+            stop: None,
+        })
+    }
+
+    /// Nothing was asked of the disk but what the plan has, and that in its order. It is a law, and does nothing.
+    pub fn asks_only_the_plan(&self)
+        ensures { is_lawful self.now.mark self.now.records self.now.calls ≡ true }
+    {
+        let _kept = self.is_kept;
+    }
+
+    /// Where the last call failed and why, as far as the disk told. Constant time.
+    pub fn stop(&self) -> Option<Stop> {
+        self.stop
+    }
+
+    fn fail(&mut self) -> DeviceFault
+        requires { self.old.faults + 1 < 2 ^ 64 }
+        ensures { self.new ≡ record self.old { faults = self.old.faults + 1 } }
+    {
+        self.faults += 1;
+        DeviceFault
+    }
+
+    fn count(&mut self)
+        ensures { self.new ≡ record self.old { asked = counted self.old.asked } }
+    {
+        self.asked = self.asked.saturating_add(1);
+    }
+
+    // Whether a call may fail: not at the last count of failures.
+    fn may_fail(&self) -> bool
+        ensures { result ≡ true → self.now.faults + 1 < 2 ^ 64 }
+    {
+        self.faults < u64::MAX
+    }
+}
+
+// What is held.
+impl<'p, 'a, D: Disk> RealTree<'p, 'a, D> {
+    fn held_owner(&mut self, path: &[u8]) -> Option<Owner>
+        ensures answer { result ≡ (known_mem self.old.tree).owner path.now }
+        ensures untouched { self.new ≡ self.old }
+    {
+        self.held.owner(path).unwrap()
+    }
+
+    fn held_mark(&mut self, plan: &PlanMark) -> bool
+        ensures answer { result ≡ is_marked_for plan.now (known_mem self.old.tree).mark }
+        ensures untouched { self.new ≡ self.old }
+    {
+        self.held.is_marked(plan).unwrap()
+    }
+
+    fn write(&mut self, path: &[u8], owner: Owner)
+        requires { IsSome ((known_mem self.old.tree).owner path.now) }
+        ensures done { ForEachPlan (Writes path.now owner) (known_mem self.old.tree) (known_mem self.new.tree) }
+        ensures rest { self.new ≡ record self.old { tree = self.new.tree } }
+    {
+        self.held.set_owner(path, owner).unwrap()
+    }
+
+    fn write_mark(&mut self, plan: &PlanMark)
+        ensures done { SetsMark (cells_of plan.now (known_mem self.old.tree)) (cells_of plan.now (known_mem self.new.tree)) }
+        ensures rest { self.new ≡ record self.old { tree = marked plan.now self.old.tree } }
+    {
+        self.held.set_mark(plan).unwrap()
+    }
+
+    fn settle(&mut self)
+        ensures done { ForEachPlan Syncs (known_mem self.old.tree) (known_mem self.new.tree) }
+        ensures rest { self.new ≡ record self.old { tree = settled self.old.tree } }
+    {
+        self.held.sync().unwrap()
+    }
+
+    fn leave(&mut self)
+        ensures left { ForEachPlan Stops (known_mem self.old.tree) (known_mem self.new.tree) }
+        ensures rest { self.new ≡ record self.old { tree = self.new.tree; is_stopped = true } }
+    {
+        self.is_stopped = true;
+        self.held.reopen();
+    }
+}
+
+// What is asked of the disk. Each answers whether that was done, and found as it must be.
+impl<'p, 'a, D: Disk> RealTree<'p, 'a, D> {
+    fn note(&mut self, place: Option<usize>, told: Result<(), Trouble>) -> bool
+        ensures same { self.new ≡ self.old }
+        ensures told { result ≡ is_ok told }
+    {
+        match told {
+            Ok(()) => true,
+            Err(trouble) => {
+                self.stop = Some(Stop { place, trouble });
+                false
+            }
+        }
+    }
+
+    // The disk has this owner, or none, for the file.
+    fn sees(&mut self, path: &[u8], held: Option<Owner>) -> bool
+        ensures { self.new ≡ self.old }
+    {
+        if self.is_stopped {
+            return false;
+        }
+        let told = match self.disk.owner(path) {
+            Ok(found) => {
+                if found == held {
+                    Ok(())
+                } else {
+                    Err(found.map_or(Trouble::Gone, |owner| Trouble::Foreign(owner)))
+                }
+            }
+            Err(trouble) => Err(trouble),
+        };
+        let place = self.held.index_of(path);
+        self.note(place, told)
+    }
+
+    // Whether the plan has this change.
+    fn plans(&self, path: &[u8], before: Owner, after: Owner) -> bool
+        ensures { result ≡ true → is_planned self.now.records path.now before after ≡ true }
+    {
+        match self.held.index_of(path) {
+            Some(i) => has_change(self.records, i, path, before, after),
+            None => false,
+        }
+    }
+
+    // Makes a change that the plan has.
+    fn give_planned(&mut self, path: &[u8], before: Owner, after: Owner) -> Result<(), Trouble>
+        requires { is_planned self.old.records path.now before after ≡ true }
+        ensures { self.new ≡ record self.old { is_kept = self.new.is_kept; calls = self.new.calls } }
+    {
+        self.is_kept = false;
+        give_file(&mut self.disk, path, before, after)
+    }
+
+    // Makes a change, where the plan has it.
+    fn give(&mut self, path: &[u8], before: Option<Owner>, after: Owner) -> Result<(), Trouble>
+        ensures { self.new ≡ record self.old { is_kept = self.new.is_kept; calls = self.new.calls } }
+    {
+        let Some(before) = before else {
+            return Err(Trouble::Gone);
+        };
+        if self.is_stopped {
+            return Err(Trouble::NotDone);
+        }
+        if !self.plans(path, before, after) {
+            return Err(Trouble::NotDone);
+        }
+        self.give_planned(path, before, after)
+    }
+
+    fn gives(&mut self, path: &[u8], before: Option<Owner>, after: Owner) -> bool
+        ensures { self.new ≡ record self.old { is_kept = self.new.is_kept; calls = self.new.calls } }
+    {
+        let told = self.give(path, before, after);
+        let place = self.held.index_of(path);
+        self.note(place, told)
+    }
+
+    // Each file was seen at its new owner and synced behind the last write; and so the mark, where it is held.
+    fn keeps(&mut self, mark: bool) -> bool
+        ensures { self.new ≡ record self.old { is_kept = self.new.is_kept; calls = self.new.calls } }
+    {
+        self.keeps_files() && self.keeps_mark(mark)
+    }
+
+    fn keeps_files(&mut self) -> bool
+        ensures { self.new ≡ record self.old { is_kept = self.new.is_kept; calls = self.new.calls } }
+    {
+        if self.is_stopped {
+            return false;
+        }
+        if !self.is_kept && !self.keeps_each() {
+            return false;
+        }
+        let told = self.disk.settle();
+        self.note(None, told)
+    }
+
+    fn keeps_each(&mut self) -> bool
+        ensures { self.new ≡ record self.old { is_kept = self.new.is_kept; calls = self.new.calls } }
+    {
+        self.is_kept = false;
+        match keep_all(&mut self.disk, self.records) {
+            Ok(()) => {
+                self.is_kept = true;
+                true
+            }
+            Err(stop) => {
+                self.stop = Some(stop);
+                false
+            }
+        }
+    }
+
+    fn sees_mark(&mut self, plan: &PlanMark, held: bool) -> bool
+        ensures { self.new ≡ self.old }
+    {
+        if self.is_stopped {
+            return false;
+        }
+        let told = match self.disk.is_marked(plan) {
+            Ok(mark) => {
+                if mark == held {
+                    Ok(())
+                } else {
+                    Err(Trouble::NotDone)
+                }
+            }
+            Err(trouble) => Err(trouble),
+        };
+        self.note(None, told)
+    }
+
+    // Whether the mark is that of the plan.
+    fn is_own(&self, plan: &PlanMark) -> bool
+        ensures { result ≡ mark_eq plan.now self.now.mark }
+    {
+        *plan == self.mark
+    }
+
+    // Puts the mark of the plan, where each file was kept behind the last write.
+    fn put_mark(&mut self, plan: &PlanMark) -> Result<(), Trouble>
+        ensures { self.new ≡ record self.old { calls = self.new.calls } }
+    {
+        if self.is_stopped {
+            return Err(Trouble::NotDone);
+        }
+        if !self.is_kept {
+            return Err(Trouble::NotDone);
+        }
+        if !self.is_own(plan) {
+            return Err(Trouble::NotDone);
+        }
+        self.disk.put_mark(plan)
+    }
+
+    fn puts_mark(&mut self, plan: &PlanMark) -> bool
+        ensures { self.new ≡ record self.old { calls = self.new.calls } }
+    {
+        let told = self.put_mark(plan);
+        self.note(None, told)
+    }
+
+    fn keeps_mark(&mut self, held: bool) -> bool
+        ensures { self.new ≡ self.old }
+    {
+        let told = if held { self.disk.keep_mark() } else { Ok(()) };
+        self.note(None, told)
+    }
+}
+
+impl<'p, 'a, D: Disk> Tree for RealTree<'p, 'a, D> {
+    ghost known = { known_real };
+
+    fn owner(&mut self, path: &[u8]) -> Result<Option<Owner>, DeviceFault>
+        ensures answer { IfOk result (λ owner. owner ≡ (known_real self.old).owner path.now) }
+        ensures same { ForEachPlan Same (known_real self.old) (known_real self.new) }
+        ensures faults { IsCounted (known_real self.old).faults (known_real self.new).faults result }
+        ensures asked { (known_real self.new).asked ≡ (known_real self.old).asked }
+        ensures records { self.new.records ≡ self.old.records }
+    {
+        let held = self.held_owner(path);
+        let is_seen = self.sees(path, held);
+        if !is_seen && self.may_fail() {
+            return Err(self.fail());
+        }
+        Ok(held)
+    }
+
+    fn set_owner(&mut self, path: &[u8], owner: Owner) -> Result<(), DeviceFault>
+        requires { IsSome ((known_real self.old).owner path.now) }
+        ensures done { OnOk result (ForEachPlan (Writes path.now owner) (known_real self.old) (known_real self.new)) }
+        ensures failed { OnErr result (ForEachPlan (MayDo (Write path.now owner)) (known_real self.old) (known_real self.new)) }
+        ensures faults { IsCounted (known_real self.old).faults (known_real self.new).faults result }
+        ensures asked { (known_real self.new).asked ≡ counted (known_real self.old).asked }
+        ensures records { self.new.records ≡ self.old.records }
+    {
+        self.count();
+        let held = self.held_owner(path);
+        let is_given = self.gives(path, held, owner);
+        if !is_given && self.may_fail() {
+            return Err(self.fail());
+        }
+        self.write(path, owner);
+        Ok(())
+    }
+
+    fn is_marked(&mut self, plan: &PlanMark) -> Result<bool, DeviceFault>
+        ensures answer { IfOk result (λ set. set ≡ is_marked_for plan.now (known_real self.old).mark) }
+        ensures same { ForEachPlan Same (known_real self.old) (known_real self.new) }
+        ensures faults { IsCounted (known_real self.old).faults (known_real self.new).faults result }
+        ensures asked { (known_real self.new).asked ≡ (known_real self.old).asked }
+        ensures records { self.new.records ≡ self.old.records }
+    {
+        let held = self.held_mark(plan);
+        let is_seen = self.sees_mark(plan, held);
+        if !is_seen && self.may_fail() {
+            return Err(self.fail());
+        }
+        Ok(held)
+    }
+
+    fn set_mark(&mut self, plan: &PlanMark) -> Result<(), DeviceFault>
+        ensures done { OnOk result (SetsMark (cells_of plan.now (known_real self.old)) (cells_of plan.now (known_real self.new))) }
+        ensures failed { OnErr result (MayDo SetMark (cells_of plan.now (known_real self.old)) (cells_of plan.now (known_real self.new))) }
+        ensures faults { IsCounted (known_real self.old).faults (known_real self.new).faults result }
+        ensures asked { (known_real self.new).asked ≡ counted (known_real self.old).asked }
+        ensures records { self.new.records ≡ self.old.records }
+    {
+        self.count();
+        let is_put = self.puts_mark(plan);
+        if !is_put && self.may_fail() {
+            return Err(self.fail());
+        }
+        self.write_mark(plan);
+        Ok(())
+    }
+
+    fn sync(&mut self) -> Result<(), DeviceFault>
+        ensures done { OnOk result (ForEachPlan Syncs (known_real self.old) (known_real self.new)) }
+        ensures failed { OnErr result (ForEachPlan (MayDo Sync) (known_real self.old) (known_real self.new)) }
+        ensures faults { IsCounted (known_real self.old).faults (known_real self.new).faults result }
+        ensures asked { (known_real self.new).asked ≡ counted (known_real self.old).asked }
+        ensures records { self.new.records ≡ self.old.records }
+    {
+        self.count();
+        let plan = self.mark;
+        let held = self.held_mark(&plan);
+        let is_kept = self.keeps(held);
+        if !is_kept && self.may_fail() {
+            return Err(self.fail());
+        }
+        self.settle();
+        Ok(())
+    }
+
+    fn reopen(&mut self)
+        ensures left { ForEachPlan Stops (known_real self.old) (known_real self.new) }
+        ensures faults { (known_real self.new).faults ≡ (known_real self.old).faults }
+        ensures asked { (known_real self.new).asked ≡ (known_real self.old).asked }
+        ensures records { self.new.records ≡ self.old.records }
+    {
+        self.leave();
+    }
+
+    fn faults(&self) -> u64 {
+        self.faults
+    }
+
+    ghost readable = { readable_real };
+}

@@ -1,0 +1,319 @@
+//! The files below a directory.
+ghost use Rattle.std.specs.Prelude.{◌≡◌, [], IfOk};
+
+use crate::mark_file::MarkFile;
+use crate::walk::{Directory, Found, Kind};
+use crate::{Call, Disk, Log, Modes, Trouble};
+use reown_plan::{Owner, PlanMark};
+use std::collections::HashMap;
+
+// The names of a file that has several.
+#[derive(Clone, Copy, Debug)]
+struct Names {
+    // How many are in the plan.
+    met: u64,
+    // How many of those were to be given their new owner.
+    given: u64,
+    // The new owner, which is that of each of them.
+    after: Owner,
+}
+
+// The files below a directory. A path goes down from it by descriptors, part by part, and no link is followed.
+#[derive(Drop)]
+struct Below<'w> {
+    rt: &'w HostRuntime,
+    root: Directory,
+    names: HashMap<(u64, u64), Names>,
+}
+
+// Whether a part of a path is the name of a file.
+fn is_name(part: &[u8]) -> bool {
+    !part.is_empty() && part != b".".as_slice() && part != b"..".as_slice()
+}
+
+// Whether a file may have several names that are given.
+fn has_names(found: &Found) -> bool {
+    found.kind != Kind::Directory && found.links > 1
+}
+
+impl<'w> Below<'w> {
+    // The directory that a path's last part is in, and that part: `.` for the root itself.
+    fn descend<'b>(&self, path: &'b [u8]) -> Result<(Directory, &'b [u8]), Trouble> {
+        let mut directory = self.root.below(self.rt, b".")?;
+        let mut name: &'b [u8] = b".";
+        if path == b".".as_slice() {
+            return Ok((directory, name));
+        }
+        for part in path.split(|byte| *byte == b'/') {
+            if !is_name(part) {
+                return Err(Trouble::BadPath);
+            }
+            if name != b".".as_slice() {
+                directory = directory.below(self.rt, name)?;
+            }
+            name = part;
+        }
+        Ok((directory, name))
+    }
+
+    // What a name of a directory stands for, on the root's file system.
+    fn find(&self, directory: &Directory, name: &[u8]) -> Result<Found, Trouble> {
+        let found = directory.find(self.rt, name)?;
+        if found.device != self.root.found().device {
+            return Err(Trouble::OtherMount);
+        }
+        Ok(found)
+    }
+
+    // The same, where it has this owner.
+    fn expect(&self, directory: &Directory, name: &[u8], owner: Owner) -> Result<Found, Trouble> {
+        let found = self.find(directory, name)?;
+        if found.owner != owner {
+            return Err(Trouble::Foreign(found.owner));
+        }
+        Ok(found)
+    }
+
+    // What is at a path.
+    fn look(&self, path: &[u8]) -> Result<Found, Trouble> {
+        let (directory, name) = self.descend(path)?;
+        self.find(&directory, name)
+    }
+
+    // Counts a name of a file that has several.
+    fn count_name(&mut self, found: &Found, after: Owner) -> Result<(), Trouble> {
+        if !has_names(found) {
+            return Ok(());
+        }
+        let key = (found.device, found.inode);
+        let met = match self.names.get(&key).copied() {
+            Some(names) if names.after != after => return Err(Trouble::LinkedOtherwise),
+            Some(names) => names.met.saturating_add(1),
+            None => 1,
+        };
+        let names = Names {
+            met,
+            given: 0,
+            after,
+        };
+        match self.names.insert(key, names) {
+            Ok(_) => Ok(()),
+            Err(_) => Err(Trouble::Memory),
+        }
+    }
+
+    // A file with several names is given its owner once, with the last of them: until then none of them has it.
+    fn waits_for_names(&mut self, found: &Found) -> bool {
+        if !has_names(found) {
+            return false;
+        }
+        match self.names.get_mut(&(found.device, found.inode)) {
+            Some(names) => {
+                names.given = names.given.saturating_add(1);
+                names.given < names.met
+            }
+            None => false,
+        }
+    }
+
+    // Waits until what a name stands for has reached its device. Links and the like wait for `settle`.
+    fn sync(&self, directory: &Directory, name: &[u8], found: &Found) -> Result<(), Trouble> {
+        if found.kind == Kind::Other {
+            return Ok(());
+        }
+        directory.open(self.rt, name, found)?.sync()
+    }
+
+    // Gives what a name stands for another owner. A regular file or a directory is looked at again when it is open.
+    fn give_found(
+        &self,
+        directory: &Directory,
+        name: &[u8],
+        found: &Found,
+        after: Owner,
+    ) -> Result<(), Trouble> {
+        if found.kind == Kind::Other {
+            return directory.give_by_name(self.rt, name, after);
+        }
+        let file = directory.open(self.rt, name, found)?;
+        let now = file.itself()?;
+        if now.owner != found.owner {
+            return Err(Trouble::Foreign(now.owner));
+        }
+        file.give(after)
+    }
+}
+
+// The calls of a disk.
+impl<'w> Below<'w> {
+    fn meet(&mut self, path: &[u8], after: Owner) -> Result<Owner, Trouble> {
+        let (directory, name) = self.descend(path)?;
+        let found = self.find(&directory, name)?;
+        self.count_name(&found, after)?;
+        if found.owner == after {
+            self.sync(&directory, name, &found)?;
+        }
+        Ok(found.owner)
+    }
+
+    fn check_links(&self, path: &[u8]) -> Result<(), Trouble> {
+        if self.names.is_empty() {
+            return Ok(());
+        }
+        let found = self.look(path)?;
+        match self.names.get(&(found.device, found.inode)) {
+            Some(names) if names.met != found.links => Err(Trouble::LinkedElsewhere),
+            _ => Ok(()),
+        }
+    }
+
+    fn give(&mut self, path: &[u8], before: Owner, after: Owner) -> Result<Modes, Trouble> {
+        let (directory, name) = self.descend(path)?;
+        let found = self.expect(&directory, name, before)?;
+        if self.waits_for_names(&found) {
+            return Ok(Modes {
+                before: found.mode,
+                after: found.mode,
+            });
+        }
+        self.give_found(&directory, name, &found, after)?;
+        let now = self.expect(&directory, name, after)?;
+        if !now.is_same_file(&found) {
+            return Err(Trouble::Exchanged);
+        }
+        Ok(Modes {
+            before: found.mode,
+            after: now.mode,
+        })
+    }
+
+    fn set_mode(&self, path: &[u8], owner: Owner, mode: u32) -> Result<(), Trouble> {
+        let (directory, name) = self.descend(path)?;
+        let found = self.expect(&directory, name, owner)?;
+        if found.kind == Kind::Other {
+            return Err(Trouble::NotDone);
+        }
+        let file = directory.open(self.rt, name, &found)?;
+        file.set_mode(mode)?;
+        if file.itself()?.mode != mode {
+            return Err(Trouble::NotDone);
+        }
+        Ok(())
+    }
+
+    fn keep(&self, path: &[u8], owner: Owner) -> Result<(), Trouble> {
+        let (directory, name) = self.descend(path)?;
+        let found = self.expect(&directory, name, owner)?;
+        self.sync(&directory, name, &found)
+    }
+}
+
+/// The files below a directory of the system, with the mark in a file of its own. A path goes down from the directory by
+/// descriptors, part by part: no link is followed, no other file system entered, and no link, socket, pipe or device opened.
+/// Other processes that open the same directory so are kept from it while this one has it.
+#[derive(Drop)]
+pub struct Root<'w> {
+    below: Below<'w>,
+    mark: MarkFile<'w>,
+    log: Log,
+}
+
+impl<'w> Root<'w> {
+    /// The files below the directory at a path, and the mark at another. Nothing is looked at as yet but the directory.
+    ///
+    /// # Errors
+    ///
+    /// What is in the way: a directory that is none or cannot be opened, or is another process's; or no /proc.
+    pub fn open(rt: &'w HostRuntime, path: &str, mark: &'w str) -> Result<Root<'w>, Trouble>
+        ensures { IfOk result (λ root. root.log.calls ≡ []) }
+    {
+        let root = Directory::at(rt, path)?;
+        if !root.is_reached(rt) {
+            return Err(Trouble::NoProc);
+        }
+        root.lock()?;
+        let below = Below {
+            rt,
+            root,
+            names: HashMap::new(rt.alloc()),
+        };
+        Ok(Root {
+            below,
+            mark: MarkFile::at(rt, mark),
+            log: Log::new(),
+        })
+    }
+}
+
+// A file that may not be there.
+fn if_there<T: Drop>(looked: Result<T, Trouble>) -> Result<Option<T>, Trouble> {
+    match looked {
+        Ok(found) => Ok(Some(found)),
+        Err(Trouble::Gone) => Ok(None),
+        Err(trouble) => Err(trouble),
+    }
+}
+
+impl<'w> Disk for Root<'w> {
+    ghost calls = { λ root. root.log.calls };
+
+    fn meet(&mut self, path: &[u8], after: Owner) -> Result<Option<Owner>, Trouble> {
+        if_there(self.below.meet(path, after))
+    }
+
+    fn check_links(&mut self, path: &[u8]) -> Result<(), Trouble> {
+        self.below.check_links(path)
+    }
+
+    fn owner(&mut self, path: &[u8]) -> Result<Option<Owner>, Trouble> {
+        match if_there(self.below.look(path)) {
+            Ok(Some(found)) => Ok(Some(found.owner)),
+            Ok(None) => Ok(None),
+            Err(trouble) => Err(trouble),
+        }
+    }
+
+    fn give(&mut self, path: &[u8], before: Owner, after: Owner) -> Result<Modes, Trouble> {
+        match self.below.give(path, before, after) {
+            Ok(modes) => {
+                self.log.note(&Call::Gave(path, before, after, Some(modes)));
+                Ok(modes)
+            }
+            Err(trouble) => {
+                self.log.note(&Call::Gave(path, before, after, None));
+                Err(trouble)
+            }
+        }
+    }
+
+    fn set_mode(&mut self, path: &[u8], owner: Owner, mode: u32) -> Result<(), Trouble> {
+        let told = self.below.set_mode(path, owner, mode);
+        self.log
+            .note(&Call::SetMode(path, owner, mode, told.is_ok()));
+        told
+    }
+
+    fn keep(&mut self, path: &[u8], owner: Owner) -> Result<(), Trouble> {
+        let told = self.below.keep(path, owner);
+        self.log.note(&Call::Kept(path, owner, told.is_ok()));
+        told
+    }
+
+    fn settle(&mut self) -> Result<(), Trouble> {
+        self.below.root.settle()
+    }
+
+    fn is_marked(&mut self, plan: &PlanMark) -> Result<bool, Trouble> {
+        self.mark.is_there(plan)
+    }
+
+    fn put_mark(&mut self, plan: &PlanMark) -> Result<(), Trouble> {
+        let told = self.mark.put(plan);
+        self.log.note(&Call::PutMark(plan, told.is_ok()));
+        told
+    }
+
+    fn keep_mark(&mut self) -> Result<(), Trouble> {
+        self.mark.keep()
+    }
+}
