@@ -3,10 +3,7 @@
 ghost use Rattle.std.specs.Prelude.{◌≡◌, true, is_some, OnOk, OnErr};
 ghost use Rattle.unify_merge.specs.Noted.{noted};
 
-use crate::files::{FileFault, host_name};
-use crate::inventory::InventoryFile;
-use crate::report::no_host;
-use crate::warnings::warn_of_no_files;
+use unify_io::{FileFault, InventoryFile, host_name, no_host, warn_of_no_files};
 use unify_merge::{Call, CallFailed, Log, ReadFiles};
 
 /// The inventories of the hosts that words name.

@@ -2,24 +2,16 @@
 //! with words it reads files.
 #![tactic(auto)]
 
-mod command_line;
-mod files;
 mod inventories;
-mod inventory;
-mod merge_warnings;
-mod output;
-mod report;
 mod site_files;
-mod warnings;
 mod words;
-mod writing;
 
-use report::{bundle_memory_refused, memory_refused};
 use std::env::{Env, FillError};
 use std::io::{BufReader, BufWriter, IsTerminal};
 use std::process::ExitCode;
 use std::{env, io};
 use unify::{Watched, run_bundle};
+use unify_io::{bundle_memory_refused, memory_refused};
 use words::{run_words, tell_help};
 
 /// How many bytes of standard input and output are read and written at once.

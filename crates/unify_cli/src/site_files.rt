@@ -2,11 +2,9 @@
 
 ghost use Rattle.std.specs.Prelude.{is_some};
 
-use crate::files::FileFault;
 use crate::inventories::{Calls, Inventories};
-use crate::report::no_host;
-use crate::writing::{NewFile, begin, finish};
 use std::str;
+use unify_io::{FileFault, NewFile, begin_output, finish_output, no_host};
 use unify_merge::{Call, CallFailed, MergeFiles, ReadFiles};
 
 // The directory that is written into.
@@ -117,7 +115,7 @@ impl ReadFiles for SiteFiles<'_> {
 impl MergeFiles for SiteFiles<'_> {
     fn clear(&mut self) -> Result<(), CallFailed> {
         let at = &self.output;
-        let done = begin(at.rt, at.directory, at.words);
+        let done = begin_output(at.rt, at.directory, at.words);
         self.calls.told(done, &Call::Clear)
     }
 
@@ -138,7 +136,7 @@ impl MergeFiles for SiteFiles<'_> {
 
     fn seal(&mut self, name: &[u8], text: &[u8]) -> Result<(), CallFailed> {
         let at = &self.output;
-        let done = finish(at.rt, at.directory, name, text);
+        let done = finish_output(at.rt, at.directory, name, text);
         self.calls.told(done, &Call::Seal(name, text))
     }
 }

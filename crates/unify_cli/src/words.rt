@@ -1,22 +1,24 @@
 //! Commands given in words.
 
-use crate::command_line::command_line;
-use crate::files::{FileFault, read_file, read_hosts_tables, see_hosts};
 use crate::inventories::HostFiles;
-use crate::merge_warnings::warn_of_merge;
-use crate::output::open_output;
-use crate::report::{
-    file_fault_told, memory_refused, no_host, print_reply, write_failed, wrong_words,
-};
 use crate::site_files::SiteFiles;
-use crate::warnings::{warn_of_end, warn_of_hosts_tables, warn_of_seen};
 use clap::error::ErrorKind;
 use clap::{ArgMatches, Error};
 use hosts_join::HostText;
 use idtext::ByteString;
 use std::alloc::AllocError;
-use unify::{accepted_reply, cost_reply, refused, rehearse_reply};
+use unify::{Reply, accepted_reply, cost_reply, refused, rehearse_reply};
+use unify_io::{
+    FileFault, command_line, file_fault_told, memory_refused, no_host, open_output, print_answer,
+    read_file, read_hosts_tables, see_hosts, warn_of_end, warn_of_hosts_tables, warn_of_merge,
+    warn_of_seen, write_failed, wrong_words,
+};
 use unify_merge::{MergeFault, check_files, count_files, merge_files};
+
+// Prints an answer, and hands out its status.
+fn print_reply(rt: &HostRuntime, reply: &Reply) -> u8 {
+    print_answer(rt, reply.status, &reply.text)
+}
 
 // The pins text, empty where none is named.
 fn read_pins(rt: &HostRuntime, matches: &ArgMatches<'_>) -> Result<ByteString, FileFault> {

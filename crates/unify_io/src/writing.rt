@@ -155,7 +155,7 @@ fn remove_temporary(rt: &HostRuntime, directory: &str) -> Result<(), FileFault> 
 
 /// Begins to write a merge of the hosts that words name into a directory: the report, the hosts' own files and the plans of an
 /// earlier merge go before any of its other files does, and the directory has a mark until the new report stands.
-pub fn begin(rt: &HostRuntime, directory: &str, words: &[&str]) -> Result<(), FileFault> {
+pub fn begin_output(rt: &HostRuntime, directory: &str, words: &[&str]) -> Result<(), FileFault> {
     mark(rt, directory)?;
     remove(rt, directory, "report")?;
     remove_of_hosts(rt, directory, words)?;
@@ -164,7 +164,7 @@ pub fn begin(rt: &HostRuntime, directory: &str, words: &[&str]) -> Result<(), Fi
 }
 
 /// Ends a merge whose other files are all written, by its last file.
-pub fn finish(
+pub fn finish_output(
     rt: &HostRuntime,
     directory: &str,
     name: &[u8],

@@ -7,7 +7,6 @@ use idtext::push_escaped;
 use std::alloc::AllocError;
 use std::io;
 use std::io::Write;
-use unify::Reply;
 
 /// A growth was refused before a bundle was read; what is told of a bundle stands on standard output.
 pub fn bundle_memory_refused(rt: &HostRuntime) -> u8 {
@@ -178,13 +177,13 @@ pub fn wrong_words(rt: &HostRuntime, error: &Error) -> u8 {
     }
 }
 
-/// Prints an answer, and hands out its status: a refusal goes to standard error.
-pub fn print_reply(rt: &HostRuntime, reply: &Reply) -> u8 {
-    if reply.status != 0 {
-        let _ = rt.stderr().write_all(&reply.text);
-        return reply.status;
+/// Prints an answer with its status, and hands out the status that the program ends with: a refusal goes to standard error.
+pub fn print_answer(rt: &HostRuntime, status: u8, text: &[u8]) -> u8 {
+    if status != 0 {
+        let _ = rt.stderr().write_all(text);
+        return status;
     }
-    if io::writer(rt).write_all(&reply.text).is_err() {
+    if io::writer(rt).write_all(text).is_err() {
         return write_failed(rt);
     }
     0

@@ -1,0 +1,24 @@
+//! What the program reads, writes and tells around the proved calls: its words, the files of hosts, the directory of a merge,
+//! warnings and messages. Nothing here decides what a merge, a check or a count answers.
+#![tactic(auto)]
+
+mod commands;
+mod files;
+mod inventory;
+mod merge_warnings;
+mod output;
+mod report;
+mod warnings;
+mod writing;
+
+pub use commands::command_line;
+pub use files::{FileFault, SeenHosts, host_name, read_file, read_hosts_tables, see_hosts};
+pub use inventory::InventoryFile;
+pub use merge_warnings::warn_of_merge;
+pub use output::open_output;
+pub use report::{
+    bundle_memory_refused, file_fault_told, memory_refused, no_host, print_answer, write_failed,
+    wrong_words,
+};
+pub use warnings::{warn_of_end, warn_of_hosts_tables, warn_of_no_files, warn_of_seen};
+pub use writing::{NewFile, begin_output, finish_output};
