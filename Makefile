@@ -46,6 +46,7 @@ demo-proved: program
 
 test:
 	RT_JOBS=$(LANES) rt ci
+	@gate/wrong_bodies.py --passed
 	@$(MAKE) --no-print-directory compare
 
 wrong-bodies:

@@ -89,8 +89,10 @@ def main():
         ran = subprocess.run([script], cwd=top, stdin=subprocess.DEVNULL, capture_output=True, text=True)
     told = ran.stdout.splitlines()
     wanted = sorted(f"small/{name}: {what}" for name, *_, what in EDITS)
-    is_told = len(told) == len(EDITS) + 1 and all(line.startswith(it) for line, it in zip(sorted(told[:-1]), wanted))
-    if not is_told or told[-1] != "4 refused, 3 let through" or ran.returncode != 1:
+    through = sorted(f"small/{name}" for name, *_, what in EDITS if not what.startswith("refused"))
+    ends = [f"not refused: {' '.join(through)}", "4 refused, 3 let through"]
+    is_told = len(told) == len(EDITS) + 2 and all(line.startswith(it) for line, it in zip(sorted(told[:-2]), wanted))
+    if not is_told or told[-2:] != ends or ran.returncode != 1:
         sys.exit(f"wrong_bodies.py, tried on a small crate, ended with {ran.returncode}:\n{ran.stdout}{ran.stderr}")
     print("wrong_bodies.py tells a wrong body that is let through")
 

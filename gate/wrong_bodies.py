@@ -2,6 +2,7 @@
 """Tries the wrong bodies of crates/NAME/wrong-bodies: the prover must refuse each one, in the function that it is in.
 
     gate/wrong_bodies.py [NAME..]
+    gate/wrong_bodies.py --passed     notes that `rt ci` has just passed these sources
 
 An edit is a file as rt's must-fail edits are: lines `file: PATH` below the crate, `old: TEXT`, which stands there once, and
 `new: TEXT`. The edits of a crate are tried in rounds. A round takes edits that touch different functions, makes them all in
@@ -9,8 +10,9 @@ one copy of the crate, and has these functions checked, with what they call. An 
 open in a function that the edit touches. What is not refused in a round is tried alone before it is told as let through. So
 is an edit outside of functions: all of the crate is checked with it, and it is refused where any goal is left open.
 
-All is done in a copy of the repository's crates. A crate that `rt ci` has passed on this machine is taken as proved; any other
-is proved first. Crates are tried side by side, RT_JOBS at a time. The last line is `N refused, M let through`; the status is 1
+All is done in a copy of the repository's crates. A crate that `rt ci` has passed on this machine is taken as proved, by the
+record of rt where it keeps one and else by build/passed and the libraries that it left; any other is proved first. Crates are
+tried side by side, RT_JOBS at a time. The last line is `N refused, M let through`; the status is 1
 if M is not 0.
 """
 import importlib.machinery
@@ -24,6 +26,8 @@ import tempfile
 from typing import NamedTuple
 
 FOLDER = "wrong-bodies"
+# What `rt ci` passed last: a line for each crate, its name and the sum of all that it is made from.
+PASSED = "build/passed"
 # A goal that a check left open, told at the source that it comes from, or at the answer that does not prove it. An answer that
 # only names what an edit took away shows nothing.
 OPEN = re.compile(r"^note: (?:\./)?(src/\S+?):(\d+):\d+: .*\bnot proved\b[^`\n]*(?:`([^`]+)`)?", re.M)
@@ -175,6 +179,28 @@ def made(changes, texts, text_of):
     return texts
 
 
+class Left:
+    """What `rt ci` passed and left in crates/*/out, for an rt that keeps no record of it (as its class Kept does)."""
+
+    def __init__(self, top):
+        self.top, noted = pathlib.Path(top), pathlib.Path(top, PASSED)
+        self.keys = set(noted.read_text(encoding="utf-8").splitlines()) if noted.is_file() else set()
+
+    def key(self, crate):
+        return f"{crate.name} {crate.stamp()}"
+
+    def give(self, crate, _tests, key):
+        """Puts the library of a crate that was passed into this copy of it. One with a stamp was left by another command."""
+        left = self.top / "crates" / crate.name / "out/rlib"
+        if key not in self.keys or (left / "stamp").exists() or not (left / f"{crate.name}.rlib").is_dir():
+            return False
+        shutil.copytree(left, f"{crate.folder}/out/rlib", dirs_exist_ok=True)
+        return True
+
+    def is_built(self, crate):
+        pass
+
+
 class Crate:
     """A crate with its wrong bodies."""
 
@@ -302,14 +328,19 @@ def tasks_of(crates, names):
     return tasks
 
 
-def tried(rt, names):
-    """Tries the edits of the crates of these names, or of all, and returns the status."""
+def tried(rt, names, top):
+    """Tries the edits of the crates of these names, or of all, and returns the status. What was passed was passed at the top."""
     # As under rt ci: the crates above a library load its statements.
     rt.Crate.cuts_libraries = True
     rt.Crate.allowed = rt.handles_of(os.getcwd())
-    every = rt.crates_of(os.getcwd())
+    if hasattr(rt, "Kept"):
+        every = rt.crates_of(os.getcwd())
+        passed = rt.Kept(every)
+    else:
+        # It puts what stands in the crates' out aside: nothing here.
+        every = rt.crates_of(os.getcwd(), os.getcwd())
+        passed = Left(top)
     rt.rtlib.guarded()
-    passed = rt.Kept(every)
     crates = [Crate(rt, it, passed) for it in every]
     have = [it.name for it in crates if it.edits or it.told]
     if unknown := set(names) - set(have):
@@ -318,22 +349,44 @@ def tried(rt, names):
     given = rt.in_lanes(tasks_of(crates, names))
     told = [what.startswith("refused") for it in crates if it.name in names for _, what in it.told]
     refused = sum(told)
+    not_refused = [f"{it.name}/{name}" for it in crates for name, what in it.told if not what.startswith("refused")]
+    if not_refused:
+        print(f"not refused: {' '.join(sorted(not_refused))}")
     print(f"{refused} refused, {len(told) - refused} let through")
     is_whole = all(given[name, "proof"] for name in names)
     return 0 if is_whole and refused == len(told) else 1
 
 
+def note_passed(rt):
+    """Notes the crates as they are, all of which `rt ci` has passed."""
+    left = Left(os.getcwd())
+    os.makedirs(os.path.dirname(PASSED), exist_ok=True)
+    keys = "".join(f"{left.key(it)}\n" for it in rt.rtlib.crates_below(os.getcwd()))
+    pathlib.Path(PASSED).write_text(keys, encoding="utf-8")
+    return 0
+
+
+def copy_crates(top, room):
+    """Copies what crates are made from."""
+    shutil.copytree(f"{top}/crates", f"{room}/crates", ignore=shutil.ignore_patterns("out"))
+    for name in ("crates.txt", "HANDLES"):
+        if os.path.exists(f"{top}/{name}"):
+            shutil.copy(f"{top}/{name}", room)
+    # rt looks for the top of a repository.
+    os.mkdir(f"{room}/.git")
+
+
 def main(names):
-    rt, here = toolchain(), os.getcwd()
+    rt, top = toolchain(), os.getcwd()
+    if names == ["--passed"]:
+        return note_passed(rt)
     with tempfile.TemporaryDirectory(prefix="wrong-bodies-") as room:
-        rt.copy_crates(here, f"{room}/repository")
-        # rt looks for the top of a repository.
-        os.mkdir(f"{room}/repository/.git")
-        os.chdir(f"{room}/repository")
+        copy_crates(top, room)
+        os.chdir(room)
         try:
-            return tried(rt, names)
+            return tried(rt, names, top)
         finally:
-            os.chdir(here)
+            os.chdir(top)
 
 
 if __name__ == "__main__":
