@@ -358,7 +358,9 @@ def tried(rt, names, top):
 
 
 def note_passed(rt):
-    """Notes the crates as they are, all of which `rt ci` has passed."""
+    """Notes the crates as they are, all of which `rt ci` has passed, where rt keeps no record of that."""
+    if hasattr(rt, "Kept"):
+        return 0
     left = Left(os.getcwd())
     os.makedirs(os.path.dirname(PASSED), exist_ok=True)
     keys = "".join(f"{left.key(it)}\n" for it in rt.rtlib.crates_below(os.getcwd()))
