@@ -42,6 +42,16 @@ DOUBTED = {
     "long": (ALICE(""), "users:x:100:" + ",".join(f"u{number}" for number in MANY) + "\n"),
 }
 GETS = "unify: warning: group {} on host {} has {} and gets {}\n".format
+# A tree, of which each folder holds one name, so that the files come in one order, and a folder with a link; and their lines.
+TREE = ["tree", "tree/new\nline", "tree/new\nline/a b\\#\u00e9\\"]
+LINKED = "linked/to nothing"
+OWNED = f"uid={os.getuid()} gid={os.getgid()}"
+MACHINE = f"# unify inventory 1 {os.uname().nodename}\n"
+TREE_LINES = (
+    f"./tree type=dir {OWNED}\n./tree/new\\012line type=dir {OWNED}\n"
+    f"./tree/new\\012line/a\\040b\\134#\\303\\251\\134 type=file {OWNED}\n"
+)
+LINKED_LINES = f"./linked type=dir {OWNED}\n./linked/to\\040nothing type=link {OWNED}\n"
 COMMENTS = "unify: warning: user {} has another comment on host {} than on {}\n".format
 # An inventory with three files, of which one stands on three lines; the second of these lines is joined of two.
 AGAIN = "# of alice\n./file uid=1001 gid=100\n/set uid=1001 gid=100\n\n  ./file \\\n  type=file\n. type=dir\nfile\n..\nother\n"
@@ -52,11 +62,12 @@ LACKING = {"lacks-passwd": "passwd", "lacks-group": "group", "lacks-mtree": "mtr
 # it has to hold.
 TABLE = [
     # Help and version.
-    ("--help", 0, ("unify", "count", "merge", "check", "rehearse", "--help", "--version"), ""),
+    ("--help", 0, ("unify", "count", "merge", "check", "rehearse", "inventory", "--help", "--version"), ""),
     ("count --help", 0, ("MAP", "HOST"), ""),
     ("merge --help", 0, ("--pins", "--output", "--quiet", "OUT", "HOST"), ""),
     ("check --help", 0, ("--pins", "CERTIFICATE", "HOST"), ""),
     ("rehearse --help", 0, ("PLAN", "MTREE"), ""),
+    ("inventory --help", 0, ("ROOT", "-x", "--one-file-system"), ""),
     ("--version", 0, "unify 0.1.0\n", ""),
     # Wrong words.
     ("recount", 2, "", ("recount",)),
@@ -74,6 +85,9 @@ TABLE = [
     ("rehearse", 2, "", ("PLAN", "MTREE")),
     ("rehearse plan", 2, "", ("MTREE",)),
     ("rehearse plan b/mtree more", 2, "", ("more",)),
+    ("inventory", 2, "", ("ROOT",)),
+    ("inventory -x", 2, "", ("ROOT",)),
+    ("inventory tree --quiet", 2, "", ("--quiet",)),
     (b"count map \xff", 2, "", ""),
     (["\x1b]0;r\x07 \x7f\u009b\xfc\n"], 2, "", ("\\033]0;r\\007 \\177\\302\\233\xc3\xbc\n",)),
     # What the commands answer. No host has a login.defs.
@@ -92,6 +106,29 @@ TABLE = [
     ("count map a/.. b", 1, "", "unify: 18 BadHostName a/..\n"),
     ("check good a b", 0, "accepted 2\n", ""),
     ("rehearse plan b/mtree", 0, "records 2\ndone\n", ""),
+    # Inventories of files of the room. What cannot be listed is told, and the rest is written.
+    ("inventory tree", 0, MACHINE + TREE_LINES + "# end 3\n", ""),
+    ("inventory -x linked/. ./tree//", 0, MACHINE + LINKED_LINES + TREE_LINES + "# end 5\n", ""),
+    ("inventory --one-file-system linked", 0, MACHINE + LINKED_LINES + "# end 2\n", ""),
+    (
+        ["inventory", "linked/to nothing", "tree"],
+        3,
+        MACHINE + TREE_LINES + "# end 3\n",
+        "unify: file linked/to\\040nothing: not a directory\n",
+    ),
+    ("inventory none tree", 3, MACHINE + TREE_LINES + "# end 3\n", "unify: file none: No such file or directory\n"),
+    ("inventory map", 3, MACHINE + "# end 0\n", "unify: file map: not a directory\n"),
+    (
+        "inventory odd-name linked",
+        3,
+        MACHINE + f"./odd-name type=dir {OWNED}\n" + LINKED_LINES + "# end 3\n",
+        "unify: file odd-name: a name in it is not text\n",
+    ),
+    ("inventory tree linked/../tree", 2, "", "unify: root linked/../tree: a part of it is ..\n"),
+    (["inventory", "tree", ""], 2, "", "unify: root -: an empty word\n"),
+    ("inventory tree linked ./tree/none", 2, "", "unify: root ./tree/none: it lies in tree\n"),
+    ("inventory linked . tree", 2, "", "unify: root linked: it lies in .\n"),
+    ("inventory tree treehouse", 3, MACHINE + TREE_LINES + "# end 3\n", "unify: file treehouse: No such file or directory\n"),
     # Warnings, which change nothing else.
     ("count map a=returns b", 0, COUNTED, RETURNS),
     ("count -q map a=returns b", 0, COUNTED, ""),
@@ -205,7 +242,7 @@ TABLE = [
     ("rehearse bad none", 3, "", "unify: file none: No such file or directory\n"),
 ]
 # Words that have an answer for standard output, which is full.
-UNWRITTEN = ["count map a b", "merge -q out a b", "check good a b", "rehearse plan b/mtree", "--help", "--version"]
+UNWRITTEN = ["count map a b", "merge -q out a b", "check good a b", "rehearse plan b/mtree", "inventory tree", "--help", "--version"]
 MERGED = {"passwd", "group", "map", "certificate", "report", *(f"{file}.{host}" for file in ("plan", "passwd", "group") for host in "ab")}
 
 
@@ -229,6 +266,12 @@ def lay_out(room):
             (room / host / file).write_text(text)
     shutil.copytree(room / "web", room / "again")
     (room / "again/mtree").write_text(AGAIN)
+    (room / TREE[1]).mkdir(parents=True)
+    (room / TREE[2]).touch()
+    (room / LINKED).parent.mkdir()
+    (room / LINKED).symlink_to("nothing")
+    (room / "odd-name").mkdir()
+    open(os.fsencode(room) + b"/odd-name/\xff", "w").close()
     (room / "bare").mkdir()
     for file in ("passwd", "group", "mtree"):
         (room / "bare" / file).write_text("#\n")

@@ -6,6 +6,7 @@ use clap::error::ErrorKind;
 use clap::{ArgMatches, Error};
 use hosts_join::HostText;
 use idtext::ByteString;
+use inventory_files::run_inventory;
 use std::alloc::AllocError;
 use unify::{Reply, accepted_reply, cost_reply, refused, rehearse_reply};
 use unify_io::{
@@ -215,6 +216,9 @@ fn status_of(rt: &HostRuntime, matches: &ArgMatches<'_>) -> Option<Result<u8, Fi
     }
     if let Some(matches) = matches.subcommand_matches("check") {
         return Some(run_check(rt, matches));
+    }
+    if let Some(matches) = matches.subcommand_matches("inventory") {
+        return Some(run_inventory(rt, matches));
     }
     let matches = matches.subcommand_matches("rehearse")?;
     Some(run_rehearse(rt, matches))

@@ -132,6 +132,33 @@ fn rehearse<'a>(alloc: Global) -> Result<Command<'a>, AllocError> {
         .arg(word(alloc, "MTREE", "the host's inventory"))
 }
 
+// -x, --one-file-system
+fn one_file_system<'a>(alloc: Global) -> Arg<'a> {
+    let flag = Arg::new(alloc, "one-file-system")
+        .long("one-file-system")
+        .help("leaves out what is on another file system than its ROOT")
+        .action(ArgAction::SetTrue);
+    with_letter(flag, 'x')
+}
+
+// ROOT..., one or more.
+fn roots<'a>(alloc: Global) -> Arg<'a> {
+    word(
+        alloc,
+        "ROOT",
+        "a directory, whose files are written with its path in front, without the first slash",
+    )
+    .num_args(1..)
+}
+
+// inventory [-x] ROOT...
+fn inventory<'a>(alloc: Global) -> Result<Command<'a>, AllocError> {
+    Command::new(alloc, "inventory")
+        .about("Writes the inventory of the files below directories of this machine")
+        .arg(one_file_system(alloc))?
+        .arg(roots(alloc))
+}
+
 // A command with one subcommand more.
 fn with_subcommand<'a>(
     command: Command<'a>,
@@ -152,5 +179,6 @@ pub fn command_line<'a>(alloc: Global) -> Result<Command<'a>, AllocError> {
     let counting = with_subcommand(bare, count(alloc))?;
     let merging = with_subcommand(counting, merge(alloc))?;
     let checking = with_subcommand(merging, check(alloc))?;
-    with_subcommand(checking, rehearse(alloc))
+    let rehearsing = with_subcommand(checking, rehearse(alloc))?;
+    with_subcommand(rehearsing, inventory(alloc))
 }

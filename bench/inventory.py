@@ -1,0 +1,65 @@
+#!/usr/bin/env python3
+"""Which names come back from the inventories that `unify inventory` writes: every byte that is a text by itself, and letters of two,
+three and four bytes, in the five places of escapes.py, in a folder and as the name of a folder.
+
+    bench/inventory.py [PROGRAM]
+
+PROGRAM is what `make program` built, if none is named. A path is right if the plan of a merge has it, and os.walk too. Then it
+tells what is said of names that are no text, and lists /usr, which it times.
+"""
+import os
+import pathlib
+import subprocess
+import sys
+
+from escapes import PLACES, fresh, read_back
+from measure import HERE, UNIFY, timed
+
+LETTERS = [bytes([byte]) for byte in range(1, 128) if byte != ord("/")] + [letter.encode() for letter in "é\u0085\u2028漢\U0001f600"]
+NO_TEXT = [b"\xff", b"\xc3", b"x\x80y"]
+
+
+def lay_out(tree):
+    """Files of one folder with each name, and folders of these names with a file each."""
+    for place in PLACES.values():
+        for letter in LETTERS:
+            name = place(letter)
+            if name != b".":
+                folder = tree + b"/folders/" + name
+                os.makedirs(folder, exist_ok=True)
+                open(folder + b"/" + name, "w").close()
+                open(tree + b"/" + name, "w").close()
+    os.symlink(b"nowhere", tree + b"/a link")
+    os.mkfifo(tree + b"/a pipe")
+
+
+def paths_below(folder, root):
+    """The paths of a root of a folder and of all below it, as os.walk has them."""
+    found = {root}
+    for path, folders, files in os.walk(folder + b"/" + root):
+        found |= {os.path.join(path, name)[len(folder) + 1 :] for name in folders + files}
+    return found
+
+
+def main():
+    program = pathlib.Path(*sys.argv[1:2] or [UNIFY]).resolve()
+    room, tree = fresh(pathlib.Path(HERE, "work", "inventory"))
+    folder = os.fsencode(tree.parent)
+    lay_out(os.fsencode(tree))
+    words = [program, "inventory", "-x", tree]
+    listed = subprocess.run(words, capture_output=True, check=True)
+    root = os.fsencode(tree).lstrip(b"/")
+    there = {root + path[len(b"tree") :] for path in paths_below(folder, b"tree")}
+    came, refused = read_back(program, room, listed.stdout)
+    print(f"{len(there)} paths: {len(there & came)} right, {refused} refused, {len(came - there)} other paths, {len(listed.stderr)} bytes told")
+    for name in NO_TEXT:
+        open(os.fsencode(tree) + b"/folders/" + name, "w").close()
+    again = subprocess.run(words, capture_output=True)
+    print(f"{len(NO_TEXT)} names that are no text: status {again.returncode}, the same files {again.stdout == listed.stdout}, told:")
+    print(again.stderr.decode().replace(str(tree), "TREE"), end="")
+    seconds, mebibytes, text = timed([program, "inventory", "-x", "/usr"])
+    print(f"/usr: {text.splitlines()[-1]}, {seconds:.2f} s, {mebibytes:.0f} MiB")
+
+
+if __name__ == "__main__":
+    main()

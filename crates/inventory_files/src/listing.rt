@@ -1,0 +1,198 @@
+//! The files below a root.
+
+use crate::output::Output;
+use crate::roots::NamedRoot;
+use crate::telling::{Trouble, tell_trouble};
+use crate::walk::{OpenDirectory, kind_of};
+use idtext::LARGEST_ID;
+use std::alloc::AllocError;
+use std::fs::{DirEntry, Metadata};
+use std::os::unix::fs::MetadataExt;
+use std::{fs, io};
+use unify_io::FileFault;
+
+// A path as it is written and told: that of the starting directory is a full stop.
+fn shown(path: &[u8]) -> &[u8] {
+    if path.is_empty() { b"." } else { path }
+}
+
+/// An inventory that is being written.
+#[derive(Drop)]
+pub struct Listing<'r> {
+    rt: &'r HostRuntime,
+    output: Output<'r>,
+    // Whether what is on another file system than its root is left out.
+    stays: bool,
+    // The file system of the present root.
+    device: u64,
+    // The path of the present file, as it is written; empty at the starting directory.
+    path: Vec<u8>,
+    // Whether a file is missing that was told of.
+    is_missing: bool,
+}
+
+impl<'r> Listing<'r> {
+    /// Nothing is listed yet.
+    pub fn new(rt: &'r HostRuntime, stays: bool) -> Result<Listing<'r>, FileFault> {
+        Ok(Listing {
+            rt,
+            output: Output::new(rt)?,
+            stays,
+            device: 0,
+            path: Vec::new(rt.alloc()),
+            is_missing: false,
+        })
+    }
+
+    /// Writes the first line.
+    pub fn head(&mut self, host: &[u8]) -> Result<(), FileFault> {
+        self.output.head(host)
+    }
+
+    /// Writes the last line, and hands out the exit status.
+    pub fn end(&mut self) -> Result<u8, FileFault> {
+        self.output.end()?;
+        Ok(if self.is_missing { 3 } else { 0 })
+    }
+
+    // Tells why the present file, or what is in it, is not listed.
+    fn trouble(&mut self, trouble: Trouble) -> Result<(), FileFault> {
+        if let Trouble::System(error) = trouble {
+            if error.kind() == io::ErrorKind::OutOfMemory {
+                return Err(FileFault::Memory);
+            }
+        }
+        self.is_missing = true;
+        tell_trouble(self.rt, shown(&self.path), trouble)?;
+        Ok(())
+    }
+
+    // Writes the line of the present file.
+    fn put(&mut self, found: &Metadata) -> Result<(), FileFault> {
+        if found.uid() > LARGEST_ID || found.gid() > LARGEST_ID {
+            return self.trouble(Trouble::NoOwner);
+        }
+        let kind = kind_of(&found.file_type());
+        let (uid, gid) = (found.uid(), found.gid());
+        if self.output.entry(shown(&self.path), uid, gid, kind)? {
+            Ok(())
+        } else {
+            self.trouble(Trouble::TooLong)
+        }
+    }
+
+    // Goes to a name in the directory whose path has so many bytes.
+    fn go_to(&mut self, path_len: usize, name: &str) -> Result<(), AllocError> {
+        self.path.truncate(path_len);
+        if path_len > 0 {
+            self.path.push(b'/')?;
+        }
+        self.path.extend_from_slice(name.as_bytes())
+    }
+
+    // Opens the directory that the present file is.
+    fn open(&mut self, path: &str, found: &Metadata) -> Result<Option<OpenDirectory>, FileFault> {
+        match OpenDirectory::at(self.rt, path, found, self.path.len()) {
+            Ok(directory) => Ok(Some(directory)),
+            Err(trouble) => {
+                self.trouble(trouble)?;
+                Ok(None)
+            }
+        }
+    }
+
+    // Lists the present file, and opens it if it is a directory.
+    fn list(&mut self, path: &str, found: &Metadata) -> Result<Option<OpenDirectory>, FileFault> {
+        if self.stays && found.dev() != self.device {
+            return Ok(None);
+        }
+        self.put(found)?;
+        if found.is_dir() {
+            self.open(path, found)
+        } else {
+            Ok(None)
+        }
+    }
+
+    // Lists what has a name in a directory. What is gone meanwhile is no file any more.
+    fn list_entry(
+        &mut self,
+        entry: &DirEntry,
+        path_len: usize,
+    ) -> Result<Option<OpenDirectory>, FileFault> {
+        self.go_to(path_len, entry.file_name())?;
+        match entry.metadata() {
+            Ok(found) => self.list(entry.path().as_str(), &found),
+            Err(error) if error.kind() == io::ErrorKind::NotFound => Ok(None),
+            Err(error) => {
+                self.trouble(Trouble::System(error))?;
+                Ok(None)
+            }
+        }
+    }
+
+    // Lists what came of a directory whose path has so many bytes.
+    fn list_came(
+        &mut self,
+        came: io::Result<DirEntry>,
+        path_len: usize,
+    ) -> Result<Option<OpenDirectory>, FileFault> {
+        match came {
+            Ok(entry) => self.list_entry(&entry, path_len),
+            Err(error) => {
+                self.path.truncate(path_len);
+                let is_name = error.kind() == io::ErrorKind::InvalidFilename;
+                self.trouble(if is_name {
+                    Trouble::NotText
+                } else {
+                    Trouble::System(error)
+                })?;
+                Ok(None)
+            }
+        }
+    }
+
+    // Lists all that is below the directories that are open, the last one first.
+    fn list_below(&mut self, open: &mut Vec<OpenDirectory>) -> Result<(), FileFault> {
+        for _ in 0..u64::MAX {
+            let Some(directory) = open.last_mut() else {
+                return Ok(());
+            };
+            let path_len = directory.path_len;
+            match directory.next_name() {
+                None => {
+                    let _ = open.pop();
+                }
+                Some(came) => {
+                    if let Some(below) = self.list_came(came, path_len)? {
+                        open.push(below)?;
+                    }
+                }
+            }
+        }
+        Ok(())
+    }
+
+    // Lists a root that the system told of, and all below it.
+    fn list_root(&mut self, word: &str, found: &Metadata) -> Result<(), FileFault> {
+        if !found.is_dir() {
+            return self.trouble(Trouble::NotDirectory);
+        }
+        self.device = found.dev();
+        let mut open = Vec::new(self.rt.alloc());
+        if let Some(directory) = self.list(word, found)? {
+            open.push(directory)?;
+        }
+        self.list_below(&mut open)
+    }
+
+    /// Lists a root and all below it.
+    pub fn root(&mut self, root: &NamedRoot<'_>) -> Result<(), FileFault> {
+        self.path.clear();
+        self.path.extend_from_slice(root.written.bytes())?;
+        match fs::symlink_metadata(self.rt, root.word) {
+            Ok(found) => self.list_root(root.word, &found),
+            Err(error) => self.trouble(Trouble::System(error)),
+        }
+    }
+}

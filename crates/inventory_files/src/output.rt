@@ -1,0 +1,78 @@
+//! The inventory as it goes to standard output.
+
+use idtext::MOST_BYTES;
+use inventory_text::{FileKind, push_end, push_entry, push_head};
+use std::io;
+use std::io::{BufWriter, Printer, Write};
+use unify_io::{FileFault, write_failed};
+
+// How many bytes are written at once.
+const BUFFER_BYTES: usize = 65536;
+
+/// Standard output, and how many files went to it.
+#[derive(Drop)]
+pub struct Output<'r> {
+    rt: &'r HostRuntime,
+    writer: BufWriter<Printer<'r, HostRuntime>>,
+    line: Vec<u8>,
+    count: u64,
+}
+
+impl<'r> Output<'r> {
+    /// Nothing is written yet.
+    pub fn new(rt: &'r HostRuntime) -> Result<Output<'r>, FileFault> {
+        let Ok(writer) = BufWriter::with_capacity(rt.alloc(), BUFFER_BYTES, io::writer(rt)) else {
+            return Err(FileFault::Memory);
+        };
+        Ok(Output {
+            rt,
+            writer,
+            line: Vec::new(rt.alloc()),
+            count: 0,
+        })
+    }
+
+    // Writes the line that was made, and begins another.
+    fn put_line(&mut self) -> Result<(), FileFault> {
+        let written = self.writer.write_all(&self.line);
+        self.line.clear();
+        match written {
+            Ok(()) => Ok(()),
+            Err(_) => Err(FileFault::Told(write_failed(self.rt))),
+        }
+    }
+
+    /// Writes the first line.
+    pub fn head(&mut self, host: &[u8]) -> Result<(), FileFault> {
+        push_head(&mut self.line, host)?;
+        self.put_line()
+    }
+
+    /// Writes the line of a file, and says whether it could be: not where it would have more bytes than a line may have.
+    pub fn entry(
+        &mut self,
+        path: &[u8],
+        uid: u32,
+        gid: u32,
+        kind: FileKind,
+    ) -> Result<bool, FileFault> {
+        push_entry(&mut self.line, path, uid, gid, kind)?;
+        if self.line.len() > MOST_BYTES + 1 {
+            self.line.clear();
+            return Ok(false);
+        }
+        self.put_line()?;
+        self.count = self.count.saturating_add(1);
+        Ok(true)
+    }
+
+    /// Writes the last line, and all that is still to be written.
+    pub fn end(&mut self) -> Result<(), FileFault> {
+        push_end(&mut self.line, self.count)?;
+        self.put_line()?;
+        match self.writer.flush() {
+            Ok(()) => Ok(()),
+            Err(_) => Err(FileFault::Told(write_failed(self.rt))),
+        }
+    }
+}

@@ -1,0 +1,30 @@
+//! The command.
+
+use crate::listing::Listing;
+use crate::roots::named_roots;
+use clap::ArgMatches;
+use unify_io::{FileFault, read_file};
+
+// Where the system tells the name of the host (proc(5)).
+const HOST_NAME: &str = "/proc/sys/kernel/hostname";
+
+// The bytes before the first newline.
+fn first_line(text: &[u8]) -> &[u8] {
+    match text.split(|byte| *byte == b'\n').next() {
+        Some(line) => line,
+        None => text,
+    }
+}
+
+/// Writes the inventory of the files below each ROOT to standard output, and hands out the exit status: 3 where something was
+/// left out, which is told on standard error.
+pub fn run_inventory(rt: &HostRuntime, matches: &ArgMatches<'_>) -> Result<u8, FileFault> {
+    let roots = named_roots(rt, matches.get_strs("ROOT").unwrap_or(&[]))?;
+    let host = read_file(rt, HOST_NAME)?;
+    let mut listing = Listing::new(rt, matches.get_flag("one-file-system"))?;
+    listing.head(first_line(host.bytes()))?;
+    for root in &roots {
+        listing.root(root)?;
+    }
+    listing.end()
+}

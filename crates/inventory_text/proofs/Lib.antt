@@ -1,0 +1,4 @@
+pub mod Escaped
+pub mod Visible
+pub mod Entries
+pub mod Texts

@@ -1,0 +1,46 @@
+-- The files of an inventory that is written, and which of them can be read back.
+-- Source: this project's profile of mtree(5), as mtree_inv defines it.
+use Rattle.std.specs.Prelude.{◌≡◌, ◌⊎◌, ℕ, true, false, ◌<◌, ◌≤◌, List, ◌++◌, All, codes, flat_map, length, map}
+use Rattle.idtext.specs.Pieces.{pieces}
+use Rattle.idtext.specs.Words.{most_bytes}
+use Rattle.mtree_inv.specs.declared.entry.Entry.{Entry}
+use Rattle.mtree_inv.specs.Files.{IsLawfulFile, HaveDistinctFiles}
+use Rattle.mtree_inv.specs.Paths.{is_bad_component, is_kept}
+use Rattle.inventory_text.specs.declared.kind.FileKind.{FileKind}
+use Rattle.inventory_text.specs.Writing.{ended, end_line, entry_line, head_line}
+
+-- a file with its owner, and what it is
+pub record Listed : Type 0 where
+  pub file : Entry
+  pub kind : FileKind
+
+abbrev pub line_of : Listed → List ℕ
+line_of listed = entry_line listed.file.path listed.file.uid listed.file.gid listed.kind
+
+abbrev pub files_of : List Listed → List Entry
+files_of listed = map (λ (l : Listed). l.file) listed
+
+-- the inventory of a host's files
+abbrev pub inventory_text : List ℕ → List Listed → List ℕ
+inventory_text host listed = ended (head_line host) ++ (flat_map (λ (l : Listed). ended (line_of l)) listed ++ ended (end_line (length listed)))
+
+-- a name of a path: not empty, neither `.` nor `..`, without a slash and a NUL byte
+pub record IsName (name : List ℕ) : Type 0 where
+  pub kept : is_kept name ≡ true
+  pub good : is_bad_component name ≡ false
+
+-- the starting directory itself, or names with slashes between them
+abbrev pub IsPath : List ℕ → Type 0
+IsPath path = (path ≡ codes ".") ⊎ All IsName (pieces 47 path)
+
+-- a lawful file, of such a path of bytes, whose line is not too long
+pub record IsListed (listed : Listed) : Type 0 where
+  pub lawful : IsLawfulFile listed.file
+  pub bytes : All (λ b. b < 256) listed.file.path
+  pub path : IsPath listed.file.path
+  pub short : length (line_of listed) ≤ most_bytes
+
+-- such files, no two of one path
+pub record AreListed (listed : List Listed) : Type 0 where
+  pub each : All IsListed listed
+  pub distinct : HaveDistinctFiles (files_of listed)

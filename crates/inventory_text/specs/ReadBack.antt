@@ -1,0 +1,19 @@
+-- What is written is read back.
+-- Source: this project's own rule, by the definitions of mtree_inv.
+use Rattle.std.specs.Prelude.{◌≡◌, ℕ, ◌<◌, ◌≤◌, ◌^◌, List, length, false, Ok, Some}
+use Rattle.idtext.specs.Words.{most_bytes}
+use Rattle.mtree_inv.specs.Kinds.{Kind, kind_of}
+use Rattle.mtree_inv.specs.Inventory.{inventory, said_alone}
+use Rattle.inventory_text.specs.Writing.{head_line}
+use Rattle.inventory_text.specs.Listed.{Listed, IsListed, AreListed, files_of, inventory_text, line_of}
+
+-- a logical line of these bytes, after any lines, says this file and no fault
+abbrev pub EntriesReadBack : Type 0
+EntriesReadBack = (before : List Kind) (number : ℕ) (listed : Listed) → IsListed listed
+    → said_alone before (kind_of (record { number = number; text = line_of listed; is_cut = false })) ≡ Ok (Some listed.file)
+
+-- the inventory of a host's files is exactly these, in their order; `most` is how many files the reader takes
+abbrev pub InventoriesReadBack : Type 0
+InventoriesReadBack = (most : ℕ) (host : List ℕ) (listed : List Listed)
+    → AreListed listed → length listed ≤ most → most < 2 ^ 64 → length (head_line host) ≤ most_bytes
+    → inventory most (inventory_text host listed) ≡ Ok (files_of listed)

@@ -1,0 +1,12 @@
+//! Inventories of files and their owners as they are written, in this project's profile of mtree(5), so that a reader gets back
+//! exactly the files that were listed: any path that a file can have, whatever bytes its names are of.
+#![tactic(auto)]
+
+mod kind;
+mod laws;
+mod parts;
+mod writing;
+
+pub use kind::FileKind;
+pub use laws::{entries_read_back, inventories_read_back};
+pub use writing::{push_end, push_entry, push_head};
