@@ -8,6 +8,7 @@ use hosts_join::HostText;
 use idtext::ByteString;
 use std::alloc::AllocError;
 use unify::{Reply, accepted_reply, cost_reply, refused, rehearse_reply};
+use unify_apply::run_apply;
 use unify_io::{
     FileFault, command_line, file_fault_told, memory_refused, no_host, open_output, print_answer,
     read_file, read_hosts_tables, see_hosts, warn_of_end, warn_of_hosts_tables, warn_of_merge,
@@ -216,8 +217,11 @@ fn status_of(rt: &HostRuntime, matches: &ArgMatches<'_>) -> Option<Result<u8, Fi
     if let Some(matches) = matches.subcommand_matches("check") {
         return Some(run_check(rt, matches));
     }
-    let matches = matches.subcommand_matches("rehearse")?;
-    Some(run_rehearse(rt, matches))
+    if let Some(matches) = matches.subcommand_matches("rehearse") {
+        return Some(run_rehearse(rt, matches));
+    }
+    let matches = matches.subcommand_matches("apply")?;
+    Some(run_apply(rt, matches))
 }
 
 // Runs the command that the words name.

@@ -132,6 +132,44 @@ fn rehearse<'a>(alloc: Global) -> Result<Command<'a>, AllocError> {
         .arg(word(alloc, "MTREE", "the host's inventory"))
 }
 
+// An argument that is there or not.
+fn flag<'a>(alloc: Global, name: &'a str, help: &'a str) -> Arg<'a> {
+    Arg::new(alloc, name)
+        .long(name)
+        .help(help)
+        .action(ArgAction::SetTrue)
+}
+
+// apply [--quiet] [--check] [--mark FILE] [--host NAME] PLAN ROOT
+fn apply<'a>(alloc: Global) -> Result<Command<'a>, AllocError> {
+    Command::new(alloc, "apply")
+        .about("Carries a plan out on the files below a directory, from wherever it was stopped")
+        .arg(quiet(alloc))?
+        .arg(flag(
+            alloc,
+            "check",
+            "counts the files by their owners, and changes nothing",
+        ))?
+        .arg(option(
+            alloc,
+            "mark",
+            "FILE",
+            "what tells that the plan was carried out; PLAN with .done behind it if not named",
+        ))?
+        .arg(option(
+            alloc,
+            "host",
+            "NAME",
+            "the plan's host, where this machine has another name",
+        ))?
+        .arg(word(alloc, "PLAN", "the plan of this host"))?
+        .arg(word(
+            alloc,
+            "ROOT",
+            "the directory that the paths of the host's inventory begin at",
+        ))
+}
+
 // A command with one subcommand more.
 fn with_subcommand<'a>(
     command: Command<'a>,
@@ -152,5 +190,6 @@ pub fn command_line<'a>(alloc: Global) -> Result<Command<'a>, AllocError> {
     let counting = with_subcommand(bare, count(alloc))?;
     let merging = with_subcommand(counting, merge(alloc))?;
     let checking = with_subcommand(merging, check(alloc))?;
-    with_subcommand(checking, rehearse(alloc))
+    let rehearsing = with_subcommand(checking, rehearse(alloc));
+    with_subcommand(rehearsing?, apply(alloc))
 }
