@@ -250,8 +250,8 @@ def main():
         print(f"{len(owners)} planned files")
         bench.refusals()
         took = bench.seconds()
-        bench.killed(took * 1.1, args.kills)
-        bench.killed(took * 1.1, args.kills, "--reverse")
+        bench.killed(took * 0.7, args.kills)
+        bench.killed(took * 0.7, args.kills, "--reverse")
     sys.exit(f"otherwise: {len(faults)}" if faults else 0)
 
 

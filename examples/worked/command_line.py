@@ -18,6 +18,7 @@ TEXTS = {
     "wrong": CERTIFICATE.format(8),
     "plan": "unify plan 1 b\n1001 100 1000 100 4 bob1\n1001 100 1000 100 4 bob2\nend\n",
     "own-plan": f"unify plan 1 b\n{OWN} {FAR} 3 map\n{FAR} {OWN} 4 pins\nend\n",
+    "near-plan": f"unify plan 1 b\n{OWN} {FAR} 3 map\nend\n",
     "far-plan": f"unify plan 1 b\n{FAR} 4000000002 4000000002 3 map\nend\n",
     "pins": "user bob 1005\n",
     "bad": "no line of any text\n",
@@ -61,7 +62,7 @@ TABLE = [
     ("merge --help", 0, ("--pins", "--output", "--quiet", "OUT", "HOST"), ""),
     ("check --help", 0, ("--pins", "CERTIFICATE", "HOST"), ""),
     ("rehearse --help", 0, ("PLAN", "MTREE"), ""),
-    ("apply --help", 0, ("--check", "--mark", "--host", "--quiet", "PLAN", "ROOT"), ""),
+    ("apply --help", 0, ("--check", "--reverse", "--mark", "--host", "--quiet", "PLAN", "ROOT"), ""),
     ("--version", 0, "unify 0.1.0\n", ""),
     # Wrong words.
     ("recount", 2, "", ("recount",)),
@@ -101,6 +102,8 @@ TABLE = [
     ("check good a b", 0, "accepted 2\n", ""),
     ("rehearse plan b/mtree", 0, "records 2\ndone\n", ""),
     ("apply --check own-plan .", 0, "before 1\nafter 1\nmissing 0\nforeign 0\n", ""),
+    ("apply --check near-plan .", 0, "before 1\nafter 0\nmissing 0\nforeign 0\n", ""),
+    ("apply --check --reverse near-plan .", 0, "before 0\nafter 1\nmissing 0\nforeign 0\n", ""),
     # Warnings, which change nothing else.
     ("count map a=returns b", 0, COUNTED, RETURNS),
     ("count -q map a=returns b", 0, COUNTED, ""),

@@ -9,6 +9,7 @@ use clap::ArgMatches;
 use idtext::push_number;
 use reown_files::{RealTree, Root, apply};
 use reown_plan::{Plan, PlanFault};
+use reown_reverse::reversed_text;
 use std::alloc::AllocError;
 use unify_io::{FileFault, print_answer, read_file};
 use unify_texts::Fault;
@@ -80,8 +81,37 @@ fn run_plan(
     apply_below(rt, place, plan)
 }
 
-/// Answers `apply` with these words: it carries a plan out, or counts its files. What it refuses is told, and the status handed
-/// out.
+// Why a text is no plan.
+fn no_plan(rt: &HostRuntime, fault: PlanFault) -> FileFault {
+    match fault {
+        PlanFault::BadPlan(offset) => fault_told(rt, &Fault::BadPlan(offset as u64)),
+        PlanFault::Memory => FileFault::Memory,
+    }
+}
+
+// Looks at the files of the plan of a text, or carries it out.
+fn run_text(
+    rt: &HostRuntime,
+    matches: &ArgMatches<'_>,
+    place: Place<'_>,
+    text: &[u8],
+) -> Result<u8, FileFault> {
+    match Plan::read(rt.alloc(), text) {
+        Ok(plan) => run_plan(rt, matches, place, &plan),
+        Err(fault) => Err(no_plan(rt, fault)),
+    }
+}
+
+// The text of the plan that takes the plan of a text back.
+fn reverse_of(rt: &HostRuntime, text: &[u8]) -> Result<Vec<u8>, FileFault> {
+    match Plan::read(rt.alloc(), text) {
+        Ok(plan) => Ok(reversed_text(rt.alloc(), &plan)?),
+        Err(fault) => Err(no_plan(rt, fault)),
+    }
+}
+
+/// Answers `apply` with these words: it carries a plan out or takes it back, or counts its files. What it refuses is told, and the
+/// status handed out.
 pub fn run_apply(rt: &HostRuntime, matches: &ArgMatches<'_>) -> Result<u8, FileFault> {
     let mark = mark_path(rt, matches)?;
     let place = Place {
@@ -89,9 +119,9 @@ pub fn run_apply(rt: &HostRuntime, matches: &ArgMatches<'_>) -> Result<u8, FileF
         mark: mark.as_str(),
     };
     let text = read_file(rt, matches.get_str("PLAN").unwrap_or(""))?;
-    match Plan::read(rt.alloc(), text.bytes()) {
-        Ok(plan) => run_plan(rt, matches, place, &plan),
-        Err(PlanFault::BadPlan(offset)) => Err(fault_told(rt, &Fault::BadPlan(offset as u64))),
-        Err(PlanFault::Memory) => Err(FileFault::Memory),
+    if matches.get_flag("reverse") {
+        let back = reverse_of(rt, text.bytes())?;
+        return run_text(rt, matches, place, &back);
     }
+    run_text(rt, matches, place, text.bytes())
 }

@@ -140,7 +140,7 @@ fn flag<'a>(alloc: Global, name: &'a str, help: &'a str) -> Arg<'a> {
         .action(ArgAction::SetTrue)
 }
 
-// apply [--quiet] [--check] [--mark FILE] [--host NAME] PLAN ROOT
+// apply [--quiet] [--check] [--reverse] [--mark FILE] [--host NAME] PLAN ROOT
 fn apply<'a>(alloc: Global) -> Result<Command<'a>, AllocError> {
     Command::new(alloc, "apply")
         .about("Carries a plan out on the files below a directory, from wherever it was stopped")
@@ -149,6 +149,11 @@ fn apply<'a>(alloc: Global) -> Result<Command<'a>, AllocError> {
             alloc,
             "check",
             "counts the files by their owners, and changes nothing",
+        ))?
+        .arg(flag(
+            alloc,
+            "reverse",
+            "takes the plan back: each file gets its old owner in place of its new one",
         ))?
         .arg(option(
             alloc,
