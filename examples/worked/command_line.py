@@ -11,10 +11,15 @@ import tempfile
 STORED = pathlib.Path(__file__).resolve().parents[1] / "stored-count"
 COUNTED = "user-fields 2\ngroup-fields 0\n"
 CERTIFICATE = "unify certificate 2\nuser alice 1001 3\nuser bob 1000 0\nzuser 1001 {}\ngroup users 100 0\nend\n"
+# The owner of the files of the room, and one that no file has.
+OWN, FAR = f"{os.geteuid()} {os.getegid()}", "4000000001 4000000001"
 TEXTS = {
     "good": CERTIFICATE.format(7),
     "wrong": CERTIFICATE.format(8),
     "plan": "unify plan 1 b\n1001 100 1000 100 4 bob1\n1001 100 1000 100 4 bob2\nend\n",
+    "own-plan": f"unify plan 1 b\n{OWN} {FAR} 3 map\n{FAR} {OWN} 4 pins\nend\n",
+    "near-plan": f"unify plan 1 b\n{OWN} {FAR} 3 map\nend\n",
+    "far-plan": f"unify plan 1 b\n{FAR} 4000000002 4000000002 3 map\nend\n",
     "pins": "user bob 1005\n",
     "bad": "no line of any text\n",
     "cut-pins": "user bob 1005",
@@ -62,12 +67,13 @@ LACKING = {"lacks-passwd": "passwd", "lacks-group": "group", "lacks-mtree": "mtr
 # it has to hold.
 TABLE = [
     # Help and version.
-    ("--help", 0, ("unify", "count", "merge", "check", "rehearse", "inventory", "--help", "--version"), ""),
+    ("--help", 0, ("unify", "count", "merge", "check", "rehearse", "inventory", "apply", "--help", "--version"), ""),
     ("count --help", 0, ("MAP", "HOST"), ""),
     ("merge --help", 0, ("--pins", "--output", "--quiet", "OUT", "HOST"), ""),
     ("check --help", 0, ("--pins", "CERTIFICATE", "HOST"), ""),
     ("rehearse --help", 0, ("PLAN", "MTREE"), ""),
     ("inventory --help", 0, ("ROOT", "-x", "--one-file-system"), ""),
+    ("apply --help", 0, ("--check", "--reverse", "--mark", "--host", "--quiet", "PLAN", "ROOT"), ""),
     ("--version", 0, "unify 0.1.0\n", ""),
     # Wrong words.
     ("recount", 2, "", ("recount",)),
@@ -88,6 +94,9 @@ TABLE = [
     ("inventory", 2, "", ("ROOT",)),
     ("inventory -x", 2, "", ("ROOT",)),
     ("inventory tree --quiet", 2, "", ("--quiet",)),
+    ("apply", 2, "", ("PLAN", "ROOT")),
+    ("apply plan", 2, "", ("ROOT",)),
+    ("apply plan b more", 2, "", ("more",)),
     (b"count map \xff", 2, "", ""),
     (["\x1b]0;r\x07 \x7f\u009b\xfc\n"], 2, "", ("\\033]0;r\\007 \\177\\302\\233\xc3\xbc\n",)),
     # What the commands answer. No host has a login.defs.
@@ -129,6 +138,9 @@ TABLE = [
     ("inventory tree linked ./tree/none", 2, "", "unify: root ./tree/none: it lies in tree\n"),
     ("inventory linked . tree", 2, "", "unify: root linked: it lies in .\n"),
     ("inventory tree treehouse", 3, MACHINE + TREE_LINES + "# end 3\n", "unify: file treehouse: No such file or directory\n"),
+    ("apply --check own-plan .", 0, "before 1\nafter 1\nmissing 0\nforeign 0\n", ""),
+    ("apply --check near-plan .", 0, "before 1\nafter 0\nmissing 0\nforeign 0\n", ""),
+    ("apply --check --reverse near-plan .", 0, "before 0\nafter 1\nmissing 0\nforeign 0\n", ""),
     # Warnings, which change nothing else.
     ("count map a=returns b", 0, COUNTED, RETURNS),
     ("count -q map a=returns b", 0, COUNTED, ""),
@@ -200,6 +212,10 @@ TABLE = [
     ("check wrong a b", 4, "", "unify: 34 SumsDiffer user 11 10\n"),
     ("rehearse bad b/mtree", 1, "", "unify: 35 BadPlan byte 0\n"),
     ("rehearse plan a/mtree", 1, "", "unify: 37 Missing bob1\n"),
+    ("apply bad b", 1, "", "unify: 35 BadPlan byte 0\n"),
+    ("apply --host a plan b", 1, "", "unify: host a: the plan is of host b\n"),
+    ("apply --check plan b", 1, "before 0\nafter 0\nmissing 2\nforeign 0\n", "unify: 37 Missing bob1\n"),
+    ("apply --check far-plan .", 1, "before 0\nafter 0\nmissing 0\nforeign 1\n", "unify: 38 Foreign map\n"),
     # Files that are not there, or cannot be read or written.
     ("count none a b", 3, "", "unify: file none: No such file or directory\n"),
     (["count", "", "a"], 3, "", "unify: file -: No such file or directory\n"),
@@ -216,6 +232,8 @@ TABLE = [
     ("count a a b", 3, "", "unify: file a: Is a directory\n"),
     ("rehearse none b/mtree", 3, "", "unify: file none: No such file or directory\n"),
     ("rehearse plan none", 3, "", "unify: file none: No such file or directory\n"),
+    ("apply none b", 3, "", "unify: file none: No such file or directory\n"),
+    ("apply --check plan none", 2, "", "unify: root none: not there, or behind a link\n"),
     # The order in which files are read: all of them before anything is judged.
     ("count none x y", 3, "", "unify: file none: No such file or directory\n"),
     ("count bad x y", 3, "", "unify: file x/passwd: No such file or directory\n"),
@@ -243,6 +261,7 @@ TABLE = [
 ]
 # Words that have an answer for standard output, which is full.
 UNWRITTEN = ["count map a b", "merge -q out a b", "check good a b", "rehearse plan b/mtree", "inventory tree", "--help", "--version"]
+UNWRITTEN = ["count map a b", "merge -q out a b", "check good a b", "rehearse plan b/mtree", "apply --check own-plan .", "--help", "--version"]
 MERGED = {"passwd", "group", "map", "certificate", "report", *(f"{file}.{host}" for file in ("plan", "passwd", "group") for host in "ab")}
 
 

@@ -9,6 +9,7 @@ use idtext::ByteString;
 use inventory_files::run_inventory;
 use std::alloc::AllocError;
 use unify::{Reply, accepted_reply, cost_reply, refused, rehearse_reply};
+use unify_apply::run_apply;
 use unify_io::{
     FileFault, command_line, file_fault_told, memory_refused, no_host, open_output, print_answer,
     read_file, read_hosts_tables, see_hosts, warn_of_end, warn_of_hosts_tables, warn_of_merge,
@@ -220,8 +221,11 @@ fn status_of(rt: &HostRuntime, matches: &ArgMatches<'_>) -> Option<Result<u8, Fi
     if let Some(matches) = matches.subcommand_matches("inventory") {
         return Some(run_inventory(rt, matches));
     }
-    let matches = matches.subcommand_matches("rehearse")?;
-    Some(run_rehearse(rt, matches))
+    if let Some(matches) = matches.subcommand_matches("rehearse") {
+        return Some(run_rehearse(rt, matches));
+    }
+    let matches = matches.subcommand_matches("apply")?;
+    Some(run_apply(rt, matches))
 }
 
 // Runs the command that the words name.

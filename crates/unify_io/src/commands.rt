@@ -34,13 +34,17 @@ fn with_letter<'a>(arg: Arg<'a>, letter: char) -> Arg<'a> {
     arg.short(letter)
 }
 
+// An argument that is there or not.
+fn flag<'a>(alloc: Global, name: &'a str, help: &'a str) -> Arg<'a> {
+    Arg::new(alloc, name)
+        .long(name)
+        .help(help)
+        .action(ArgAction::SetTrue)
+}
+
 // -q, --quiet
 fn quiet<'a>(alloc: Global) -> Arg<'a> {
-    let flag = Arg::new(alloc, "quiet")
-        .long("quiet")
-        .help("no warnings")
-        .action(ArgAction::SetTrue);
-    with_letter(flag, 'q')
+    with_letter(flag(alloc, "quiet", "no warnings"), 'q')
 }
 
 // --pins FILE
@@ -134,10 +138,11 @@ fn rehearse<'a>(alloc: Global) -> Result<Command<'a>, AllocError> {
 
 // -x, --one-file-system
 fn one_file_system<'a>(alloc: Global) -> Arg<'a> {
-    let flag = Arg::new(alloc, "one-file-system")
-        .long("one-file-system")
-        .help("leaves out what is on another file system than its ROOT")
-        .action(ArgAction::SetTrue);
+    let flag = flag(
+        alloc,
+        "one-file-system",
+        "leaves out what is on another file system than its ROOT",
+    );
     with_letter(flag, 'x')
 }
 
@@ -157,6 +162,41 @@ fn inventory<'a>(alloc: Global) -> Result<Command<'a>, AllocError> {
         .about("Writes the inventory of the files below directories of this machine")
         .arg(one_file_system(alloc))?
         .arg(roots(alloc))
+}
+
+// apply [--quiet] [--check] [--reverse] [--mark FILE] [--host NAME] PLAN ROOT
+fn apply<'a>(alloc: Global) -> Result<Command<'a>, AllocError> {
+    Command::new(alloc, "apply")
+        .about("Carries a plan out on the files below a directory, from wherever it was stopped")
+        .arg(quiet(alloc))?
+        .arg(flag(
+            alloc,
+            "check",
+            "counts the files by their owners, and changes nothing",
+        ))?
+        .arg(flag(
+            alloc,
+            "reverse",
+            "takes the plan back: each file gets its old owner in place of its new one",
+        ))?
+        .arg(option(
+            alloc,
+            "mark",
+            "FILE",
+            "what tells that the plan was carried out; PLAN with .done behind it if not named",
+        ))?
+        .arg(option(
+            alloc,
+            "host",
+            "NAME",
+            "the plan's host, where this machine has another name",
+        ))?
+        .arg(word(alloc, "PLAN", "the plan of this host"))?
+        .arg(word(
+            alloc,
+            "ROOT",
+            "the directory that the paths of the host's inventory begin at",
+        ))
 }
 
 // A command with one subcommand more.
@@ -180,5 +220,6 @@ pub fn command_line<'a>(alloc: Global) -> Result<Command<'a>, AllocError> {
     let merging = with_subcommand(counting, merge(alloc))?;
     let checking = with_subcommand(merging, check(alloc))?;
     let rehearsing = with_subcommand(checking, rehearse(alloc))?;
-    with_subcommand(rehearsing, inventory(alloc))
+    let listing = with_subcommand(rehearsing, inventory(alloc))?;
+    with_subcommand(listing, apply(alloc))
 }

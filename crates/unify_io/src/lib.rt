@@ -17,8 +17,8 @@ pub use inventory::InventoryFile;
 pub use merge_warnings::warn_of_merge;
 pub use output::open_output;
 pub use report::{
-    bundle_memory_refused, file_fault_told, memory_refused, no_host, print_answer, write_failed,
-    wrong_words,
+    Said, bundle_memory_refused, file_failed, file_fault_told, memory_refused, no_host,
+    print_answer, tell_of, write_failed, wrong_words,
 };
-pub use warnings::{warn_of_end, warn_of_hosts_tables, warn_of_no_files, warn_of_seen};
+pub use warnings::{Part, warn, warn_of_end, warn_of_hosts_tables, warn_of_no_files, warn_of_seen};
 pub use writing::{NewFile, begin_output, finish_output};

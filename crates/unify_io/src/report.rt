@@ -131,6 +131,60 @@ pub fn output_refused(rt: &HostRuntime, directory: &str, fault: OutputFault<'_>)
     }
 }
 
+/// A part of what is told of a thing that words name.
+#[derive(Clone, Copy)]
+pub enum Said<'a> {
+    Text(&'a str),
+    /// A name or a path, which is escaped.
+    Name(&'a [u8]),
+    /// What the system says of an error with this number (errno(3)).
+    System(i32),
+}
+
+// Appends a part of what is told.
+fn push_said(rt: &HostRuntime, line: &mut Vec<u8>, said: Said<'_>) -> Result<(), AllocError> {
+    match said {
+        Said::Text(text) => line.extend_from_slice(text.as_bytes()),
+        Said::Name(name) => push_escaped(line, name),
+        Said::System(number) => push_reason(rt, line, &io::Error::from_raw_os_error(number)),
+    }
+}
+
+// Appends the line that tells of a thing.
+fn push_told_of(
+    rt: &HostRuntime,
+    line: &mut Vec<u8>,
+    kind: &str,
+    name: &[u8],
+    parts: &[Said<'_>],
+) -> Result<(), AllocError> {
+    line.extend_from_slice(b"unify: ")?;
+    line.extend_from_slice(kind.as_bytes())?;
+    line.extend_from_slice(b" ")?;
+    push_escaped(line, if name.is_empty() { b"-" } else { name })?;
+    line.extend_from_slice(b": ")?;
+    for said in parts {
+        push_said(rt, line, *said)?;
+    }
+    line.extend_from_slice(b"\n")
+}
+
+/// Tells of a thing that words name, what kind of thing it is first, why the command does not go on: that line is all that it
+/// answers, with this status. Want of memory is told later.
+pub fn tell_of(
+    rt: &HostRuntime,
+    kind: &str,
+    name: &[u8],
+    parts: &[Said<'_>],
+    status: u8,
+) -> FileFault {
+    let mut line = Vec::new(rt.alloc());
+    match push_told_of(rt, &mut line, kind, name, parts) {
+        Ok(()) => tell(rt, &line, status),
+        Err(_) => FileFault::Memory,
+    }
+}
+
 /// No word names a host.
 pub fn no_host(rt: &HostRuntime) -> FileFault {
     tell(rt, b"unify: no HOST\n", 2)

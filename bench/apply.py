@@ -1,0 +1,259 @@
+#!/usr/bin/env python3
+"""Carries plans out on real files with `unify apply`, kills it on the way, and counts owners. It needs root.
+
+    bench/apply.py [--program FILE] [--files N] [--kills N] [--seed N] [--folder DIR]
+
+Makes a tree in a new folder below DIR: regular files, links, pipes, sockets, directories, files with the set-user-ID and
+set-group-ID bit, hard links, and names with spaces, newlines and letters beyond ASCII. The plan exchanges two owners. The program
+is killed with SIGKILL after random times and started again until it ends; after each kill every file has to be at its old or
+its new owner. Then the same with --reverse, and what has to be refused. Ends with status 1 where anything was otherwise.
+"""
+import argparse
+import collections
+import fcntl
+import os
+import pathlib
+import random
+import socket
+import stat
+import subprocess
+import sys
+import tempfile
+import time
+
+TOP = pathlib.Path(__file__).resolve().parent.parent
+ONE, OTHER, THIRD = (41001, 41101), (41002, 41102), (41003, 41103)
+faults = []
+
+
+def say(what, good=True):
+    """Prints what was seen, and notes it where it is not what it has to be."""
+    print(what if good else f"{what}  <- NOT AS IT HAS TO BE", flush=True)
+    if not good:
+        faults.append(what)
+
+
+def make_file(path, kind):
+    """Makes one file of a kind, in the current folder if it is a socket."""
+    if kind == "link":
+        os.symlink("/etc/passwd", path)
+    elif kind == "dangling":
+        os.symlink("nowhere", path)
+    elif kind == "pipe":
+        os.mkfifo(path)
+    elif kind == "socket":
+        # A path of a socket is short: it is bound by a name in the folder.
+        with socket.socket(socket.AF_UNIX) as made:
+            made.bind(path.name)
+    else:
+        path.write_bytes(b"some bytes\n")
+
+
+KINDS = ["regular"] * 12 + ["link", "dangling", "pipe", "socket", "set-uid", "set-gid", "hard", "spaced", "letters", "lines"]
+NAMES = {"spaced": "a name {} ", "letters": "größe-{}-名", "lines": "two\nlines {}"}
+
+
+def make_tree(root, count):
+    """Makes a tree, and hands out the planned paths in an order that an inventory may have, each with its old and new owner."""
+    planned, made = ["."], 0
+    while made < count:
+        folder = pathlib.Path(f"d{made // 500}", f"e{made // 100 % 5}")
+        (root / folder).mkdir(parents=True, exist_ok=True)
+        os.chdir(root / folder)
+        planned += [str(part) for part in (folder.parent, folder) if str(part) not in planned[-700:]]
+        for number in range(100):
+            kind = KINDS[number % len(KINDS)]
+            path = folder / NAMES.get(kind, kind + "-{}").format(made)
+            make_file(root / path, kind)
+            planned.append(str(path))
+            if kind == "hard":
+                for more in ("more", "most"):
+                    os.link(root / path, root / f"{path}-{more}")
+                    planned.append(f"{path}-{more}")
+            made += 1
+        (root / folder / "not planned").write_bytes(b"")
+        os.lchown(root / folder / "not planned", *THIRD)
+    os.chdir("/")
+    planned = list(dict.fromkeys(planned))
+    owners = {}
+    for number, path in enumerate(planned):
+        of_one = path.rsplit("-mo", 1)[0] if "hard" in path else path
+        before = ONE if hash_of(of_one) % 2 else OTHER
+        owners[path] = before, OTHER if before == ONE else ONE
+    for path, (before, _) in owners.items():
+        os.lchown(root / path, *before)
+    for path in planned:
+        name = path.rsplit("/", 1)[-1]
+        if name.startswith("set-uid"):
+            os.chmod(root / path, 0o4755)
+        if name.startswith("set-gid"):
+            os.chmod(root / path, 0o2755)
+        if name.startswith("e3"):
+            os.chmod(root / path, 0o2775)
+    return owners
+
+
+def hash_of(path):
+    return sum(path.encode())
+
+
+def plan_text(host, owners):
+    lines = [f"unify plan 1 {host}\n".encode()]
+    for path, (before, after) in owners.items():
+        name = path.encode()
+        lines.append(b"%d %d %d %d %d %s\n" % (*before, *after, len(name), name))
+    return b"".join(lines) + b"end\n"
+
+
+def seen(root, owners):
+    """How many planned files are at which owner, and the paths whose owner is none of the two."""
+    counts, third = collections.Counter(), []
+    for path, (before, after) in owners.items():
+        found = os.lstat(root / path)
+        owner = found.st_uid, found.st_gid
+        counts["old" if owner == before else "new" if owner == after else "third"] += 1
+        if owner not in (before, after):
+            third.append(path)
+    return counts, third
+
+
+def modes(root, owners):
+    return {path: stat.S_IMODE(os.lstat(root / path).st_mode) for path in owners}
+
+
+def others(root):
+    """The owners of what no plan has: the files that are not planned, and what links lead to."""
+    paths = [*sorted(root.glob("*/*/not planned")), pathlib.Path("/etc/passwd")]
+    return [(path, os.lstat(path).st_uid, os.lstat(path).st_gid) for path in paths]
+
+
+class Bench:
+    def __init__(self, program, room, owners, host):
+        self.program, self.room, self.root, self.owners, self.host = program, room, room / "tree", owners, host
+        self.plan = room / "plan"
+        self.plan.write_bytes(plan_text(host, owners))
+        self.modes, self.others = modes(self.root, owners), others(self.root)
+
+    def words(self, *flags):
+        return [self.program, "apply", "--host", self.host, "-q", *flags, str(self.plan), str(self.root)]
+
+    def ran(self, *flags):
+        return subprocess.run(self.words(*flags), capture_output=True, text=True)
+
+    def seconds(self):
+        """Carries the plan out without a stop, and back, and tells the time of the first."""
+        start = time.monotonic()
+        came = self.ran()
+        took = time.monotonic() - start
+        say(f"whole run: status {came.returncode}, {came.stdout!r}, {took:.1f} s {came.stderr}", came.returncode == 0)
+        self.at_end("whole run", "new")
+        start = time.monotonic()
+        came = self.ran()
+        say(f"once more: status {came.returncode}, {came.stdout!r}, {time.monotonic() - start:.1f} s", came.returncode == 0)
+        came = self.ran("--reverse")
+        say(f"reverse: status {came.returncode}, {came.stdout!r} {came.stderr}", came.returncode == 0)
+        self.at_end("reverse", "old")
+        return took
+
+    def at_end(self, what, side):
+        counts, third = seen(self.root, self.owners)
+        same_modes, same_others = modes(self.root, self.owners) == self.modes, others(self.root) == self.others
+        good = counts[side] == len(self.owners) and same_modes and same_others
+        say(f"  {what}: {dict(counts)}, modes as before: {same_modes}, what is not planned as before: {same_others}", good)
+
+    def killed(self, most, kills, *flags):
+        """Kills the program after random times, so often at most, and then has it end."""
+        stops = lost = thirds = 0
+        middle = []
+        for _ in range(kills):
+            running = subprocess.Popen(self.words(*flags), stdout=subprocess.PIPE, stderr=subprocess.PIPE)
+            try:
+                running.wait(random.uniform(0, most))
+                running.communicate()
+                break
+            except subprocess.TimeoutExpired:
+                running.kill()
+                running.communicate()
+            stops += 1
+            counts, third = seen(self.root, self.owners)
+            if 0 < counts["old"] < len(self.owners):
+                middle.append(counts["new"])
+            thirds += len(third)
+            now = modes(self.root, self.owners)
+            gone = [path for path in self.owners if now[path] != self.modes[path]]
+            lost += len(gone)
+            for path in gone:
+                os.chmod(self.root / path, self.modes[path])
+        say(f"kills {' '.join(flags)}: {stops}, of which {len(middle)} left files on both sides (at new owners: {middle})")
+        say(f"  files at a third owner after any of them: {thirds}; files that had lost a bit of their modes: {lost}", thirds == 0)
+        came = self.ran(*flags)
+        say(f"  then run to its end: status {came.returncode}, {came.stdout!r} {came.stderr}", came.returncode == 0)
+        self.at_end("then", "old" if "--reverse" in flags else "new")
+
+    def refused(self, what, flags, status, told):
+        before = seen(self.root, self.owners)[0]
+        came = self.ran(*flags)
+        good = came.returncode == status and told in came.stderr and came.stdout == "" and seen(self.root, self.owners)[0] == before
+        say(f"{what}: status {came.returncode}, {came.stderr.strip()}", good)
+
+    def refusals(self):
+        """What is refused with nothing changed; all files are at their old owners before."""
+        path = next(path for path in self.owners if "regular" in path)
+        os.lchown(self.root / path, *THIRD)
+        self.refused("a third owner", (), 1, f"38 Foreign {path}")
+        came = self.ran("--check")
+        say(f"  --check: status {came.returncode}, {came.stdout!r}, {came.stderr.strip()}", came.returncode == 1 and "foreign 1" in came.stdout)
+        os.lchown(self.root / path, *self.owners[path][0])
+        os.rename(self.root / path, self.root / "aside")
+        left_out = self.owners.pop(path)
+        self.refused("a missing file", (), 1, f"37 Missing {path}")
+        self.owners[path] = left_out
+        os.rename(self.root / "aside", self.root / path)
+        came = subprocess.run([self.program, "apply", "--host", "x" + self.host, str(self.plan), str(self.root)], capture_output=True, text=True)
+        say(f"another host named: status {came.returncode}, {came.stderr.strip()}", came.returncode == 1)
+        held = os.open(self.root, os.O_RDONLY)
+        fcntl.flock(held, fcntl.LOCK_EX)
+        self.refused("another at work", (), 2, "another command is at work there")
+        os.close(held)
+        inside = self.root / "d0/e0"
+        subprocess.run(["mount", "--bind", inside, inside], check=True)
+        try:
+            self.refused("a bind mount below", (), 2, "mounted below it once more")
+        finally:
+            subprocess.run(["umount", inside], check=True)
+        os.link(self.root / path, self.root / "one name more")
+        self.refused("a name that is not planned", (), 1, "has a name that the plan does not have")
+        os.unlink(self.root / "one name more")
+        came = subprocess.run(["setpriv", "--reuid", "41009", "--clear-groups", *self.words()], capture_output=True, text=True)
+        say(f"as another user: status {came.returncode}, {came.stderr.strip()}", came.returncode == 2 and "only root" in came.stderr)
+        came = self.ran("--check")
+        say(f"--check: status {came.returncode}, {came.stdout!r}", came.returncode == 0 and f"before {len(self.owners)}\n" in came.stdout)
+
+
+def main():
+    parser = argparse.ArgumentParser(description=__doc__, formatter_class=argparse.RawDescriptionHelpFormatter)
+    parser.add_argument("--program", default=str(TOP / "crates/unify_cli/out/unify_cli"))
+    parser.add_argument("--files", type=int, default=2000)
+    parser.add_argument("--kills", type=int, default=40)
+    parser.add_argument("--seed", type=int, default=1)
+    parser.add_argument("--folder", default=None)
+    args = parser.parse_args()
+    if os.geteuid() != 0:
+        sys.exit("bench/apply.py needs root")
+    random.seed(args.seed)
+    with tempfile.TemporaryDirectory(prefix="unify-apply-", dir=args.folder) as name:
+        room = pathlib.Path(name)
+        os.chmod(room, 0o755)
+        (room / "tree").mkdir()
+        owners = make_tree(room / "tree", args.files)
+        bench = Bench(str(pathlib.Path(args.program).resolve()), room, owners, "bench-host")
+        print(f"{len(owners)} planned files")
+        bench.refusals()
+        took = bench.seconds()
+        bench.killed(took * 0.7, args.kills)
+        bench.killed(took * 0.7, args.kills, "--reverse")
+    sys.exit(f"otherwise: {len(faults)}" if faults else 0)
+
+
+if __name__ == "__main__":
+    main()

@@ -1,0 +1,127 @@
+//! A plan that words name, carried out below a directory.
+ghost use Rattle.std.specs.Prelude.{◌≡◌, []};
+
+use crate::checking::check_below;
+use crate::machine::{see_caller, see_host};
+use crate::mounts::see_mounts;
+use crate::told::{Place, fault_told, not_opened, root_refused, stopped};
+use clap::ArgMatches;
+use idtext::push_number;
+use reown_files::{RealTree, Root, apply};
+use reown_plan::{Plan, PlanFault};
+use reown_reverse::reversed_text;
+use std::alloc::AllocError;
+use unify_io::{FileFault, print_answer, read_file};
+use unify_texts::Fault;
+
+// What the mark's file has behind the name of the plan's.
+const DONE: &str = ".done";
+
+// The path of the mark.
+fn mark_path(rt: &HostRuntime, matches: &ArgMatches<'_>) -> Result<String, AllocError> {
+    if let Some(path) = matches.get_str("mark") {
+        return String::from_str(rt.alloc(), path);
+    }
+    let mut path = String::from_str(rt.alloc(), matches.get_str("PLAN").unwrap_or(""))?;
+    path.push_str(DONE)?;
+    Ok(path)
+}
+
+// The two lines that tell a plan that was carried out.
+fn records_text(rt: &HostRuntime, records: usize) -> Result<Vec<u8>, AllocError> {
+    let mut text = Vec::from_slice(rt.alloc(), b"records ")?;
+    push_number(&mut text, records as u128)?;
+    text.extend_from_slice(b"\ndone\n")?;
+    Ok(text)
+}
+
+// Carries a plan out on the files of a disk, from wherever an earlier run left them.
+fn carry_out<'w>(
+    rt: &'w HostRuntime,
+    place: Place<'_>,
+    plan: &Plan<'_>,
+    root: Root<'w>,
+) -> Result<(), FileFault>
+    requires { root.log.calls ≡ [] }
+{
+    let mut tree = match RealTree::open(rt.alloc(), plan, root) {
+        Ok(tree) => tree,
+        Err(fault) => return Err(not_opened(rt, place, plan.records(), fault)),
+    };
+    match apply(plan, &mut tree) {
+        Ok(()) => Ok(()),
+        Err(_) => Err(stopped(rt, place, plan.records(), tree.stop())),
+    }
+}
+
+// Carries a plan out below a directory, which no other command is at work below.
+fn apply_below(rt: &HostRuntime, place: Place<'_>, plan: &Plan<'_>) -> Result<u8, FileFault> {
+    match Root::open(rt, place.root, place.mark) {
+        Ok(root) => carry_out(rt, place, plan, root)?,
+        Err(trouble) => return Err(root_refused(rt, place, trouble)),
+    }
+    let text = records_text(rt, plan.records().len())?;
+    Ok(print_answer(rt, 0, &text))
+}
+
+// Looks at the files of a plan, or carries it out.
+fn run_plan(
+    rt: &HostRuntime,
+    matches: &ArgMatches<'_>,
+    place: Place<'_>,
+    plan: &Plan<'_>,
+) -> Result<u8, FileFault> {
+    if matches.get_flag("check") {
+        return check_below(rt, place, plan);
+    }
+    let quiet = matches.get_flag("quiet");
+    see_host(rt, plan.host(), matches.get_str("host"), quiet)?;
+    see_caller(rt)?;
+    see_mounts(rt, place.root)?;
+    apply_below(rt, place, plan)
+}
+
+// Why a text is no plan.
+fn no_plan(rt: &HostRuntime, fault: PlanFault) -> FileFault {
+    match fault {
+        PlanFault::BadPlan(offset) => fault_told(rt, &Fault::BadPlan(offset as u64)),
+        PlanFault::Memory => FileFault::Memory,
+    }
+}
+
+// Looks at the files of the plan of a text, or carries it out.
+fn run_text(
+    rt: &HostRuntime,
+    matches: &ArgMatches<'_>,
+    place: Place<'_>,
+    text: &[u8],
+) -> Result<u8, FileFault> {
+    match Plan::read(rt.alloc(), text) {
+        Ok(plan) => run_plan(rt, matches, place, &plan),
+        Err(fault) => Err(no_plan(rt, fault)),
+    }
+}
+
+// The text of the plan that takes the plan of a text back.
+fn reverse_of(rt: &HostRuntime, text: &[u8]) -> Result<Vec<u8>, FileFault> {
+    match Plan::read(rt.alloc(), text) {
+        Ok(plan) => Ok(reversed_text(rt.alloc(), &plan)?),
+        Err(fault) => Err(no_plan(rt, fault)),
+    }
+}
+
+/// Answers `apply` with these words: it carries a plan out or takes it back, or counts its files. What it refuses is told, and the
+/// status handed out.
+pub fn run_apply(rt: &HostRuntime, matches: &ArgMatches<'_>) -> Result<u8, FileFault> {
+    let mark = mark_path(rt, matches)?;
+    let place = Place {
+        root: matches.get_str("ROOT").unwrap_or(""),
+        mark: mark.as_str(),
+    };
+    let text = read_file(rt, matches.get_str("PLAN").unwrap_or(""))?;
+    if matches.get_flag("reverse") {
+        let back = reverse_of(rt, text.bytes())?;
+        return run_text(rt, matches, place, &back);
+    }
+    run_text(rt, matches, place, text.bytes())
+}

@@ -1,0 +1,88 @@
+//! The machine that a plan is carried out on, and who does so.
+
+use idtext::{Lines, Words, cut};
+use std::alloc::AllocError;
+use unify_io::{FileFault, Part, Said, read_file, tell_of, warn};
+
+// Where the system tells the name of the machine (proc(5)).
+const NAME: &str = "/proc/sys/kernel/hostname";
+
+// Where it tells of this process.
+const STATUS: &str = "/proc/self/status";
+
+// The name of a machine without what stands behind its first dot.
+fn short_name(name: &[u8]) -> &[u8] {
+    match cut(b'.', name) {
+        Some((short, _)) => short,
+        None => name,
+    }
+}
+
+// Whether a machine of this name is the host of a plan.
+fn is_host(machine: &[u8], host: &[u8]) -> bool {
+    machine == host || short_name(machine) == host
+}
+
+// Tells that a plan is another host's.
+fn other_host(rt: &HostRuntime, name: &[u8], host: &[u8]) -> FileFault {
+    let parts = [Said::Text("the plan is of host "), Said::Name(host)];
+    tell_of(rt, "host", name, &parts, 1)
+}
+
+// Warns that the machine has another name than the host that it is to be.
+fn warn_of_name<'a>(rt: &HostRuntime, host: &'a [u8], machine: &'a [u8]) -> Result<(), AllocError> {
+    let middle = Part::Text("is to be this machine, whose name is");
+    warn(
+        rt,
+        &[
+            Part::Text("host"),
+            Part::Name(host),
+            middle,
+            Part::Name(machine),
+        ],
+    )
+}
+
+/// Sees that this machine is the host of a plan, or that the word for its host names that.
+pub fn see_host(
+    rt: &HostRuntime,
+    host: &[u8],
+    named: Option<&str>,
+    quiet: bool,
+) -> Result<(), FileFault> {
+    if let Some(name) = named {
+        if name.as_bytes() != host {
+            return Err(other_host(rt, name.as_bytes(), host));
+        }
+    }
+    let text = read_file(rt, NAME)?;
+    let machine = text.bytes().strip_suffix(b"\n").unwrap_or(text.bytes());
+    if is_host(machine, host) {
+        return Ok(());
+    }
+    if named.is_none() {
+        return Err(other_host(rt, machine, host));
+    }
+    if !quiet {
+        warn_of_name(rt, host, machine)?;
+    }
+    Ok(())
+}
+
+// Whether a line of the status tells that the effective user is 0. It is the second of four.
+fn is_of_root(line: &[u8]) -> bool {
+    let mut words = Words::new(line);
+    words.next() == Some(b"Uid:".as_slice())
+        && words.next().is_some()
+        && words.next() == Some(b"0".as_slice())
+}
+
+/// Sees that whoever calls may give files away.
+pub fn see_caller(rt: &HostRuntime) -> Result<(), FileFault> {
+    let status = read_file(rt, STATUS)?;
+    if Lines::new(status.bytes()).any(|line| is_of_root(line)) {
+        return Ok(());
+    }
+    let parts = [Said::Text("only root may give files other owners")];
+    Err(tell_of(rt, "command", b"apply", &parts, 2))
+}

@@ -1,0 +1,130 @@
+//! Mounts below the directory that a plan is carried out in, of its own file system: a second way to its files.
+
+use idtext::{Character, Lines, Words, first_character};
+use std::alloc::{AllocError, Global};
+use std::{fs, io};
+use unify_io::{FileFault, Said, read_file, tell_of};
+
+// Where the system tells the mounts that this process sees (proc(5)).
+const MOUNTS: &str = "/proc/self/mountinfo";
+
+// What is said of a directory that has its own file system below it once more.
+const TWICE: &str = "its file system is mounted below it once more, at ";
+
+// A mount: its file system, and the path where it is, which is empty for the root of all.
+#[derive(Drop)]
+struct Mount<'a> {
+    device: &'a [u8],
+    point: Vec<u8>,
+}
+
+// A directory's path without the slash that the root of all has.
+fn without_slash(path: &[u8]) -> &[u8] {
+    path.strip_suffix(b"/").unwrap_or(path)
+}
+
+// The bytes of a path with escapes.
+fn unescaped(alloc: Global, text: &[u8]) -> Result<Vec<u8>, AllocError> {
+    let mut bytes = Vec::new(alloc);
+    let mut rest = without_slash(text);
+    for _ in 0..text.len() {
+        let Some((found, next)) = first_character(rest) else {
+            break;
+        };
+        match found {
+            Character::Plain(byte) | Character::Escape(byte) => bytes.push(byte)?,
+            Character::Bad => bytes.push(b'\\')?,
+        }
+        rest = next;
+    }
+    Ok(bytes)
+}
+
+// The number of the file system and the path of a mount, with escapes: the third word of a line, and the fifth.
+fn mount_words(line: &[u8]) -> Option<(&[u8], &[u8])> {
+    let mut words = Words::new(line);
+    let _ = words.next()?;
+    let _ = words.next()?;
+    let device = words.next()?;
+    let _ = words.next()?;
+    let point = words.next()?;
+    Some((device, point))
+}
+
+// The mounts that a text tells, in its order: what was mounted later stands later.
+fn read_mounts(alloc: Global, text: &[u8]) -> Result<Vec<Mount<'_>>, AllocError> {
+    let mut mounts = Vec::new(alloc);
+    for line in Lines::new(text) {
+        if let Some((device, point)) = mount_words(line) {
+            let point = unescaped(alloc, point)?;
+            mounts.push(Mount { device, point })?;
+        }
+    }
+    Ok(mounts)
+}
+
+// Whether a path is that of a directory, or of something below it.
+fn is_within(path: &[u8], directory: &[u8]) -> bool {
+    match path.strip_prefix(directory) {
+        Some(rest) => rest.is_empty() || rest.starts_with(b"/"),
+        None => false,
+    }
+}
+
+// The file system of a directory: that of the mount that is the nearest to it, and the last of those.
+fn device_of<'a>(mounts: &[Mount<'a>], directory: &[u8]) -> &'a [u8] {
+    let mut device: &'a [u8] = b"";
+    let mut nearest: usize = 0;
+    for mount in mounts {
+        if mount.point.len() >= nearest && is_within(directory, &mount.point) {
+            nearest = mount.point.len();
+            device = mount.device;
+        }
+    }
+    device
+}
+
+// The first mount below a directory that is of its file system.
+fn mount_below<'m>(mounts: &'m [Mount<'_>], directory: &[u8]) -> Option<&'m [u8]> {
+    let device = device_of(mounts, directory);
+    for mount in mounts {
+        let is_below = mount.point.len() > directory.len() && is_within(&mount.point, directory);
+        if is_below && mount.device == device {
+            return Some(&mount.point);
+        }
+    }
+    None
+}
+
+// Tells that a directory has no path.
+fn no_path(rt: &HostRuntime, root: &str, said: Said<'_>) -> FileFault {
+    tell_of(rt, "root", root.as_bytes(), &[said], 2)
+}
+
+// Tells that the file system of a directory is mounted below it once more.
+fn mounted_twice(rt: &HostRuntime, root: &str, point: &[u8]) -> FileFault {
+    let parts = [Said::Text(TWICE), Said::Name(point)];
+    tell_of(rt, "root", root.as_bytes(), &parts, 2)
+}
+
+// What the system said of a path.
+fn said_of(error: &io::Error) -> Said<'static> {
+    match error.raw_os_error() {
+        Some(number) => Said::System(number),
+        None => Said::Text("no path"),
+    }
+}
+
+/// Sees that no mount below a directory is of its file system.
+pub fn see_mounts(rt: &HostRuntime, root: &str) -> Result<(), FileFault> {
+    let path = match fs::canonicalize(rt, root) {
+        Ok(path) => path,
+        Err(error) => return Err(no_path(rt, root, said_of(&error))),
+    };
+    let text = read_file(rt, MOUNTS)?;
+    let mounts = read_mounts(rt.alloc(), text.bytes())?;
+    match mount_below(&mounts, without_slash(path.as_str().as_bytes())) {
+        None => Ok(()),
+        Some(point) => Err(mounted_twice(rt, root, point)),
+    }
+}

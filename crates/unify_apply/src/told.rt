@@ -1,0 +1,160 @@
+//! Why a plan is not carried out, or only to a part of it.
+
+use idtext::ByteString;
+use reown_files::{OpenFault, Stop, Trouble};
+use reown_plan::Record;
+use std::alloc::AllocError;
+use std::io::Write;
+use unify_io::{FileFault, Said, tell_of};
+use unify_texts::{Fault, push_fault};
+
+/// Where a plan is carried out.
+#[derive(Clone, Copy)]
+pub struct Place<'a> {
+    /// The directory that its paths begin at.
+    pub root: &'a str,
+    /// The file of its mark.
+    pub mark: &'a str,
+}
+
+// What stands behind the reason of a stop.
+const GOES_ON: &str = "; the same command goes on from there";
+
+/// Tells a fault that has a number.
+pub fn fault_told(rt: &HostRuntime, fault: &Fault<'_>) -> FileFault {
+    let mut line = Vec::new(rt.alloc());
+    if push_fault(rt.alloc(), &mut line, fault).is_err() {
+        return FileFault::Memory;
+    }
+    let _ = rt.stderr().write_all(&line);
+    FileFault::Told(1)
+}
+
+// The path of a record, of those that are there.
+fn path_at<'a>(records: &[Record<'a>], i: usize) -> &'a [u8] {
+    match records.get(i) {
+        Some(planned) => planned.path,
+        None => b"",
+    }
+}
+
+// A copy of the path of a record.
+fn path_of(rt: &HostRuntime, records: &[Record<'_>], i: usize) -> Result<ByteString, AllocError> {
+    ByteString::copy_of(rt.alloc(), path_at(records, i))
+}
+
+/// Tells that the file of a record is not there.
+pub fn missing(rt: &HostRuntime, records: &[Record<'_>], i: usize) -> FileFault {
+    match path_of(rt, records, i) {
+        Ok(path) => fault_told(rt, &Fault::Missing(path)),
+        Err(_) => FileFault::Memory,
+    }
+}
+
+/// Tells that the file of a record has neither of its two owners.
+pub fn foreign(rt: &HostRuntime, records: &[Record<'_>], i: usize) -> FileFault {
+    match path_of(rt, records, i) {
+        Ok(path) => fault_told(rt, &Fault::Foreign(path)),
+        Err(_) => FileFault::Memory,
+    }
+}
+
+// Tells that the file of a record has its old owner, though the mark of the plan is there.
+fn unfinished(rt: &HostRuntime, records: &[Record<'_>], i: usize) -> FileFault {
+    match path_of(rt, records, i) {
+        Ok(path) => fault_told(rt, &Fault::Unfinished(path)),
+        Err(_) => FileFault::Memory,
+    }
+}
+
+// What is said of trouble.
+fn said_of(trouble: Trouble) -> Said<'static> {
+    Said::Text(match trouble {
+        Trouble::System(number) => return Said::System(number),
+        Trouble::Memory => "memory",
+        Trouble::BadPath => "a path that no inventory has, or too long",
+        Trouble::NotText => "a name that is not UTF-8",
+        Trouble::Gone => "not there, or behind a link",
+        Trouble::Foreign(_) => "another owner than the plan says",
+        Trouble::Exchanged => "another file came to its name",
+        Trouble::OtherMount => "on another file system than the root",
+        Trouble::LinkedElsewhere => "the file has a name that the plan does not have",
+        Trouble::LinkedOtherwise => "the plan has another owner for another name of the file",
+        Trouble::NotDone => "the system did not do what it was asked",
+        Trouble::NotDirectory => "Not a directory",
+        Trouble::Busy => "another command is at work there",
+        Trouble::NoProc => "files are reached by /proc, which is not there",
+        Trouble::NotMark => "no mark of a plan",
+    })
+}
+
+// Whether trouble is of what was found, and not of a call that failed.
+fn is_refusal(trouble: Trouble) -> bool {
+    matches!(
+        trouble,
+        Trouble::BadPath
+            | Trouble::NotText
+            | Trouble::OtherMount
+            | Trouble::LinkedElsewhere
+            | Trouble::LinkedOtherwise
+            | Trouble::NotMark
+    )
+}
+
+/// Tells of a file what is wrong with it before anything was changed.
+pub fn file_refused(rt: &HostRuntime, path: &[u8], trouble: Trouble) -> FileFault {
+    if trouble == Trouble::Memory {
+        return FileFault::Memory;
+    }
+    let status = if is_refusal(trouble) { 1 } else { 3 };
+    tell_of(rt, "file", path, &[said_of(trouble)], status)
+}
+
+/// Tells why a directory is not worked below.
+pub fn root_refused(rt: &HostRuntime, place: Place<'_>, trouble: Trouble) -> FileFault {
+    if trouble == Trouble::Memory {
+        return FileFault::Memory;
+    }
+    tell_of(rt, "root", place.root.as_bytes(), &[said_of(trouble)], 2)
+}
+
+/// Tells why the files of a plan are not begun with. Nothing was changed.
+pub fn not_opened(
+    rt: &HostRuntime,
+    place: Place<'_>,
+    records: &[Record<'_>],
+    fault: OpenFault,
+) -> FileFault {
+    match fault {
+        OpenFault::Memory => FileFault::Memory,
+        OpenFault::Missing(i) => missing(rt, records, i),
+        OpenFault::Foreign(i, _) => foreign(rt, records, i),
+        OpenFault::Unfinished(i) => unfinished(rt, records, i),
+        OpenFault::File(i, trouble) => file_refused(rt, path_at(records, i), trouble),
+        OpenFault::Disk(trouble) => file_refused(rt, place.mark.as_bytes(), trouble),
+    }
+}
+
+/// Tells where a run stopped, and why.
+pub fn stopped(
+    rt: &HostRuntime,
+    place: Place<'_>,
+    records: &[Record<'_>],
+    stop: Option<Stop>,
+) -> FileFault {
+    let (path, trouble) = match stop {
+        Some(stop) => (
+            stop.place
+                .map_or(place.mark.as_bytes(), |i| path_at(records, i)),
+            stop.trouble,
+        ),
+        None => (place.mark.as_bytes(), Trouble::NotDone),
+    };
+    tell_of(
+        rt,
+        "file",
+        path,
+        &[said_of(trouble), Said::Text(GOES_ON)],
+        3,
+    )
+}
