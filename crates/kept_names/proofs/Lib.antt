@@ -1,0 +1,3 @@
+pub mod Finds
+pub mod Noted
+pub mod Lost

@@ -1,0 +1,7 @@
+use Rattle.std.proofs.Common.{◌≡◌, ◌++◌, take}
+use Rattle.std.specs.List.{filter_map}
+use Rattle.kept_names.specs.Kept.{unnamed}
+use Rattle.kept_names.proofs.changes.push_unnamed.Given as goal
+
+abbrev pub invariant-loop-file : goal.invariant-loop-file
+invariant-loop-file l = l.found.items ≡ l.fn.found.items ++ filter_map (unnamed l.now) (take l.file-index l.files)

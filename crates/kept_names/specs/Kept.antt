@@ -1,0 +1,79 @@
+-- Whether files have the names of their owners still, by new account files.
+-- Sources: passwd(5) and group(5) (a number's name is that of its row); chown(2) (a file has a uid and a gid, and no name).
+-- That a number without a name has to stay as it is, is a rule of this product.
+use Rattle.std.specs.Prelude.{ℕ, Bool, true, false, ◌==◌, ◌||◌, ◌++◌, List, Option, Some, None, option_map, filter_map, is_none, if◌then◌else◌}
+use Rattle.std.specs.Str.{bytes_eq}
+use Rattle.hosts_join.specs.Kinds.{user_at, group_at}
+use Rattle.mtree_inv.specs.declared.entry.Entry.{Entry}
+use Rattle.mtree_inv.specs.Inventory.{file_at}
+use Rattle.kept_names.specs.declared.names.Accounts.{Accounts}
+use Rattle.kept_names.specs.declared.finding.What.{What}
+use Rattle.kept_names.specs.declared.finding.What.TheVariants.{Missing, Changed, New, Unnamed}
+
+-- a file, and what is found of it
+pub record Found : Type 0 where
+  pub file : Entry
+  pub what : What
+
+abbrev pub told_of : Entry → Option What → Option Found
+told_of file what = option_map (λ w. record { file = file; what = w }) what
+
+-- Whether an owner has the name that it had. One without a name has its number still, and no name.
+abbrev pub agree : Option (List ℕ) → Option (List ℕ) → ℕ → ℕ → Bool
+agree (Some was) (Some now) old new = bytes_eq was now
+agree None None old new = old == new
+agree (Some was) None old new = false
+agree None (Some now) old new = false
+
+abbrev pub users_agree : Accounts → Accounts → Entry → Entry → Bool
+users_agree was now file there = agree (user_at was.users file.uid) (user_at now.users there.uid) file.uid there.uid
+
+abbrev pub groups_agree : Accounts → Accounts → Entry → Entry → Bool
+groups_agree was now file there = agree (group_at was.groups file.gid) (group_at now.groups there.gid) file.gid there.gid
+
+-- the new number of an owner that has not the name that it had
+abbrev pub changed_to : Bool → ℕ → Option ℕ
+changed_to agree new = if agree then None else Some new
+
+abbrev pub change_by : Bool → Bool → Entry → Option What
+change_by true true there = None
+change_by true false there = Some (Changed None (Some there.gid))
+change_by false true there = Some (Changed (Some there.uid) None)
+change_by false false there = Some (Changed (Some there.uid) (Some there.gid))
+
+-- what is found of a file of the first inventory, which is `there` in the second
+abbrev pub change : Accounts → Accounts → Entry → Entry → Option What
+change was now file there = change_by (users_agree was now file there) (groups_agree was now file there) there
+
+abbrev pub change_at : Accounts → Accounts → Entry → Option Entry → Option What
+change_at was now file None = Some Missing
+change_at was now file (Some there) = change was now file there
+
+-- what is found of a file of the first inventory: that the second has it not, or with other names
+abbrev pub loss_of : Accounts → Accounts → List Entry → Entry → Option What
+loss_of was now after file = change_at was now file (file_at after file.path)
+
+abbrev pub loss : Accounts → Accounts → List Entry → Entry → Option Found
+loss was now after file = told_of file (loss_of was now after file)
+
+-- of a file of the second inventory: that the first has it not
+abbrev pub is_new : List Entry → Entry → Option What
+is_new before file = if is_none (file_at before file.path) then Some New else None
+
+abbrev pub new_file : List Entry → Entry → Option Found
+new_file before file = told_of file (is_new before file)
+
+-- of a file of the second inventory: that a number of its has no name
+abbrev pub unnamed_by : Bool → Bool → Option What
+unnamed_by user group = if user || group then Some (Unnamed user group) else None
+
+abbrev pub unnamed_of : Accounts → Entry → Option What
+unnamed_of now file = unnamed_by (is_none (user_at now.users file.uid)) (is_none (group_at now.groups file.gid))
+
+abbrev pub unnamed : Accounts → Entry → Option Found
+unnamed now file = told_of file (unnamed_of now file)
+
+-- what is found of the files of two inventories, by the old and by the new account files
+unfoldable pub findings : Accounts → Accounts → List Entry → List Entry → List Found
+findings was now before after =
+    filter_map (loss was now after) before ++ filter_map (new_file before) after ++ filter_map (unnamed now) after

@@ -1,0 +1,109 @@
+//! What is found of one file.
+ghost use Rattle.std.specs.Prelude.{◌≡◌, option_map};
+ghost use Rattle.kept_names.specs.Kept as kept;
+ghost use Rattle.kept_names.specs.Kept.{loss_of, unnamed_of, is_new};
+
+use crate::names::{Accounts, group_name, names_agree, user_name};
+use crate::paths::Paths;
+use mtree_inv::Entry;
+use std::marker::Model;
+
+/// What is found of a file.
+#[derive(Clone, Copy, Debug, PartialEq, Eq)]
+pub enum What {
+    /// Of a file of the first inventory: the second has it not.
+    Missing,
+    /// Of a file of the first inventory: in the second its user or its group is another by name. Of each that is, the number
+    /// there; where neither name is known, the number is another.
+    Changed(Option<u32>, Option<u32>),
+    /// Of a file of the second inventory: the first has it not.
+    New,
+    /// Of a file of the second inventory: whether no user, and whether no group, has its number by the new account files.
+    Unnamed(bool, bool),
+}
+
+/// A file of which something is found.
+#[derive(Drop)]
+pub struct Finding<'f> {
+    /// The file, as the first inventory has it where it is missing or changed, and else as the second has it.
+    pub file: &'f Entry,
+    /// What is found of it.
+    pub what: What,
+}
+
+impl<'f> Model for Finding<'f> {
+    ghost use Rattle.kept_names.specs.Kept.{Found};
+
+    ghost Value = { Found };
+
+    ghost view = { λ finding. record { file = finding.file.now; what = finding.what } };
+}
+
+// The number, unless names agree.
+fn changed_to(agree: bool, number: u32) -> Option<u32>
+    ensures { result ≡ kept.changed_to agree number }
+{
+    if agree { None } else { Some(number) }
+}
+
+// What has changed between a file's two owners.
+fn change(was: &Accounts<'_>, now: &Accounts<'_>, file: &Entry, there: &Entry) -> Option<What>
+    ensures { result ≡ kept.change was.now now.now file.now there.now }
+{
+    let users_agree = names_agree(
+        user_name(was, file.uid),
+        user_name(now, there.uid),
+        file.uid,
+        there.uid,
+    );
+    let groups_agree = names_agree(
+        group_name(was, file.gid),
+        group_name(now, there.gid),
+        file.gid,
+        there.gid,
+    );
+    if users_agree && groups_agree {
+        return None;
+    }
+    Some(What::Changed(
+        changed_to(users_agree, there.uid),
+        changed_to(groups_agree, there.gid),
+    ))
+}
+
+/// Whether a file of the first inventory is missing or changed. Four look-ups by hash, and one of its path.
+pub(crate) fn loss(
+    was: &Accounts<'_>,
+    now: &Accounts<'_>,
+    after: &Paths<'_>,
+    file: &Entry,
+) -> Option<What>
+    ensures { result ≡ loss_of was.now now.now after.now file.now }
+{
+    match after.file(file.path.bytes()) {
+        None => Some(What::Missing),
+        Some(there) => change(was, now, file, there),
+    }
+}
+
+/// Whether a file of the second inventory is new. A look-up of its path by hash.
+pub(crate) fn newness(before: &Paths<'_>, file: &Entry) -> Option<What>
+    ensures { result ≡ is_new before.now file.now }
+{
+    match before.file(file.path.bytes()) {
+        None => Some(What::New),
+        Some(_) => None,
+    }
+}
+
+/// Whether a file has a number that no account has. Two look-ups by hash.
+pub(crate) fn lack_of_name(now: &Accounts<'_>, file: &Entry) -> Option<What>
+    ensures { result ≡ unnamed_of now.now file.now }
+{
+    let user = user_name(now, file.uid).is_none();
+    let group = group_name(now, file.gid).is_none();
+    if user || group {
+        return Some(What::Unnamed(user, group));
+    }
+    None
+}

@@ -1,0 +1,17 @@
+//! Whether files still have the user and group names that they had, once a host's accounts have got new numbers.
+//!
+//! A first inventory was made under the old passwd and group, a second under the new ones. [`find_changes`] tells which files
+//! of the first are not in the second, which have another user or group by name, which files are new, and which have a number
+//! that no new account has.
+#![tactic(auto)]
+
+mod changes;
+mod finding;
+mod laws;
+mod names;
+mod paths;
+
+pub use changes::find_changes;
+pub use finding::{Finding, What};
+pub use laws::names_are_kept;
+pub use names::{Accounts, group_name, user_name};
