@@ -20,5 +20,5 @@ pub use report::{
     bundle_memory_refused, file_fault_told, memory_refused, no_host, print_answer, write_failed,
     wrong_words,
 };
-pub use warnings::{warn_of_end, warn_of_hosts_tables, warn_of_no_files, warn_of_seen};
+pub use warnings::{MOST_LINES, warn_of_end, warn_of_hosts_tables, warn_of_no_files, warn_of_seen};
 pub use writing::{NewFile, begin_output, finish_output};
