@@ -67,7 +67,13 @@ fn verify_under(
 ) -> Result<u8, FileFault> {
     let now = read_accounts(rt, texts)?;
     let before = read_mtree(rt, matches.get_str("BEFORE").unwrap_or(""))?;
-    compare_with(rt, was, &now, &before, matches.get_str("AFTER").unwrap_or(""))
+    compare_with(
+        rt,
+        was,
+        &now,
+        &before,
+        matches.get_str("AFTER").unwrap_or(""),
+    )
 }
 
 // Reads the account files under the old numbers.

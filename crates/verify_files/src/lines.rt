@@ -57,11 +57,7 @@ impl Tally {
 }
 
 // Appends ` NAME NUMBER`, with a hyphen for a name that is not there. No account has a name that begins with one.
-fn push_owner(
-    line: &mut Vec<u8>,
-    name: Option<&[u8]>,
-    number: u32,
-) -> Result<(), AllocError> {
+fn push_owner(line: &mut Vec<u8>, name: Option<&[u8]>, number: u32) -> Result<(), AllocError> {
     line.push(b' ')?;
     match name {
         Some(name) => push_escaped(line, name)?,
