@@ -63,17 +63,38 @@ AGAIN = "# of alice\n./file uid=1001 gid=100\n/set uid=1001 gid=100\n\n  ./file 
 # Hosts that are a without a file, and one whose passwd is refused and that has no inventory.
 LACKING = {"lacks-passwd": "passwd", "lacks-group": "group", "lacks-mtree": "mtree", "refused": "mtree"}
 
+# The account files of a host and its inventory, as they were and under new numbers. Of the second inventory each file but the
+# first is found: bob's is alice's, a group has lost its name, a number that never had a name is left, and so on.
+VERIFIED = {
+    "old-passwd": ALICE("") + "bob:x:1002:100::/:/bin/sh\n",
+    "old-group": "users:x:100:\nstaff:x:50:\n",
+    "new-passwd": "alice:x:2001:100::/:/bin/sh\nbob:x:2002:100::/:/bin/sh\n",
+    "new-group": "users:x:100:\nstaff:x:51:\n",
+    "first": "./a uid=1001 gid=100\n./b uid=1002 gid=100\n./c uid=1001 gid=50\n./d uid=7 gid=100\n./gone uid=1001 gid=100\n",
+    "second": "./a uid=2001 gid=100\n./b uid=2001 gid=100\n./c uid=2001 gid=50\n./d uid=7 gid=100\n./fresh uid=2002 gid=51\n",
+    "moved": "./a uid=2001 gid=100\n./b uid=2002 gid=100\n./c uid=2001 gid=51\n./new\\040one uid=2002 gid=51\n",
+    "named": "./a uid=1001 gid=100\n./b uid=1002 gid=100\n./c uid=1001 gid=50\n",
+    "none-left": "# no file\n",
+    "many-left": "".join(f"./f{number} uid=1001 gid=100\n" for number in range(12)),
+}
+VERIFY = "verify --was old-passwd old-group --now new-passwd new-group {} {}".format
 # Words; the exit status; what is on standard output; and what on standard error. What the crate clap words is a tuple of what
 # it has to hold.
 TABLE = [
     # Help and version.
-    ("--help", 0, ("unify", "count", "merge", "check", "rehearse", "inventory", "apply", "--help", "--version"), ""),
+    (
+        "--help",
+        0,
+        ("unify", "count", "merge", "check", "rehearse", "inventory", "apply", "verify", "--help", "--version"),
+        "",
+    ),
     ("count --help", 0, ("MAP", "HOST"), ""),
     ("merge --help", 0, ("--pins", "--output", "--quiet", "OUT", "HOST"), ""),
     ("check --help", 0, ("--pins", "CERTIFICATE", "HOST"), ""),
     ("rehearse --help", 0, ("PLAN", "MTREE"), ""),
     ("inventory --help", 0, ("ROOT", "-x", "--one-file-system"), ""),
     ("apply --help", 0, ("--check", "--reverse", "--mark", "--host", "--quiet", "PLAN", "ROOT"), ""),
+    ("verify --help", 0, ("--was <PASSWD> <GROUP>", "--now <PASSWD> <GROUP>", "<BEFORE>", "<AFTER>"), ""),
     ("--version", 0, "unify 0.1.0\n", ""),
     # Wrong words.
     ("recount", 2, "", ("recount",)),
@@ -141,6 +162,31 @@ TABLE = [
     ("apply --check own-plan .", 0, "before 1\nafter 1\nmissing 0\nforeign 0\n", ""),
     ("apply --check near-plan .", 0, "before 1\nafter 0\nmissing 0\nforeign 0\n", ""),
     ("apply --check --reverse near-plan .", 0, "before 0\nafter 1\nmissing 0\nforeign 0\n", ""),
+    # Which files have other owners by name.
+    (VERIFY("named", "moved"), 0, "kept 3\nmissing 0\nchanged 0\nnew 1\nunnamed 0\n", "unify: new new\\040one user bob 2002 group staff 51\n"),
+    (
+        VERIFY("first", "second"),
+        1,
+        "kept 2\nmissing 1\nchanged 2\nnew 1\nunnamed 2\n",
+        "unify: changed b user bob 1002 alice 2001\n"
+        "unify: changed c group staff 50 - 50\n"
+        "unify: missing gone\n"
+        "unify: new fresh user bob 2002 group staff 51\n"
+        "unify: unnamed c gid 50\n"
+        "unify: unnamed d uid 7\n",
+    ),
+    (
+        VERIFY("many-left", "none-left"),
+        1,
+        "kept 0\nmissing 12\nchanged 0\nnew 0\nunnamed 0\n",
+        "".join(f"unify: missing f{number}\n" for number in range(10)) + "unify: more missing: 2\n",
+    ),
+    ("verify --was old-passwd bad --now new-passwd new-group first second", 1, "", "unify: 1 BadFields file bad line 1\n"),
+    (VERIFY("first", "bad"), 1, "", "unify: 11 NoUid file bad line 1\n"),
+    (VERIFY("first", "none"), 3, "", "unify: file none: No such file or directory\n"),
+    ("verify --was none old-group --now new-passwd new-group first second", 3, "", "unify: file none: No such file or directory\n"),
+    ("verify --now new-passwd new-group first second", 2, "", ("--was",)),
+    ("verify --was old-passwd --now new-passwd new-group first", 2, "", ("AFTER",)),
     # Warnings, which change nothing else.
     ("count map a=returns b", 0, COUNTED, RETURNS),
     ("count -q map a=returns b", 0, COUNTED, ""),
@@ -260,8 +306,17 @@ TABLE = [
     ("rehearse bad none", 3, "", "unify: file none: No such file or directory\n"),
 ]
 # Words that have an answer for standard output, which is full.
-UNWRITTEN = ["count map a b", "merge -q out a b", "check good a b", "rehearse plan b/mtree", "inventory tree", "--help", "--version"]
-UNWRITTEN = ["count map a b", "merge -q out a b", "check good a b", "rehearse plan b/mtree", "apply --check own-plan .", "--help", "--version"]
+UNWRITTEN = [
+    "count map a b",
+    "merge -q out a b",
+    "check good a b",
+    "rehearse plan b/mtree",
+    "inventory tree",
+    "apply --check own-plan .",
+    "verify --was old-passwd old-group --now old-passwd old-group named named",
+    "--help",
+    "--version",
+]
 MERGED = {"passwd", "group", "map", "certificate", "report", *(f"{file}.{host}" for file in ("plan", "passwd", "group") for host in "ab")}
 
 
@@ -294,7 +349,7 @@ def lay_out(room):
     (room / "bare").mkdir()
     for file in ("passwd", "group", "mtree"):
         (room / "bare" / file).write_text("#\n")
-    for name, text in TEXTS.items():
+    for name, text in (TEXTS | VERIFIED).items():
         (room / name).write_text(text)
 
 

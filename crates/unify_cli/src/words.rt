@@ -16,6 +16,7 @@ use unify_io::{
     warn_of_seen, write_failed, wrong_words,
 };
 use unify_merge::{MergeFault, check_files, count_files, merge_files};
+use verify_files::run_verify;
 
 // Prints an answer, and hands out its status.
 fn print_reply(rt: &HostRuntime, reply: &Reply) -> u8 {
@@ -224,8 +225,11 @@ fn status_of(rt: &HostRuntime, matches: &ArgMatches<'_>) -> Option<Result<u8, Fi
     if let Some(matches) = matches.subcommand_matches("rehearse") {
         return Some(run_rehearse(rt, matches));
     }
-    let matches = matches.subcommand_matches("apply")?;
-    Some(run_apply(rt, matches))
+    if let Some(matches) = matches.subcommand_matches("apply") {
+        return Some(run_apply(rt, matches));
+    }
+    let matches = matches.subcommand_matches("verify")?;
+    Some(run_verify(rt, matches))
 }
 
 // Runs the command that the words name.

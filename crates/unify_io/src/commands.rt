@@ -6,6 +6,9 @@ use std::alloc::{AllocError, Global};
 /// What `--version` tells.
 const VERSION: &str = "0.1.0";
 
+/// The values of --was and of --now.
+const ACCOUNT_FILES: [&str; 2] = ["PASSWD", "GROUP"];
+
 // A word that has to stand there.
 fn word<'a>(alloc: Global, name: &'a str, help: &'a str) -> Arg<'a> {
     Arg::new(alloc, name).help(help).required(true)
@@ -199,6 +202,30 @@ fn apply<'a>(alloc: Global) -> Result<Command<'a>, AllocError> {
         ))
 }
 
+// The passwd and the group of a host behind a long name.
+fn accounts<'a>(alloc: Global, name: &'a str, help: &'a str) -> Arg<'a> {
+    option(alloc, name, "FILE", help)
+        .num_args(2)
+        .required(true)
+        .value_names(&ACCOUNT_FILES)
+}
+
+// verify --was PASSWD GROUP --now PASSWD GROUP BEFORE AFTER
+fn verify<'a>(alloc: Global) -> Result<Command<'a>, AllocError> {
+    let was = accounts(
+        alloc,
+        "was",
+        "the host's passwd and group before its numbers changed",
+    );
+    let now = accounts(alloc, "now", "its passwd and group with the new numbers");
+    Command::new(alloc, "verify")
+        .about("Tells which files of an inventory have other owners by name in a later one")
+        .arg(was)?
+        .arg(now)?
+        .arg(word(alloc, "BEFORE", "the inventory made under the first files"))?
+        .arg(word(alloc, "AFTER", "the inventory made under the second files"))
+}
+
 // A command with one subcommand more.
 fn with_subcommand<'a>(
     command: Command<'a>,
@@ -221,5 +248,6 @@ pub fn command_line<'a>(alloc: Global) -> Result<Command<'a>, AllocError> {
     let checking = with_subcommand(merging, check(alloc))?;
     let rehearsing = with_subcommand(checking, rehearse(alloc))?;
     let listing = with_subcommand(rehearsing, inventory(alloc))?;
-    with_subcommand(listing, apply(alloc))
+    let applying = with_subcommand(listing, apply(alloc))?;
+    with_subcommand(applying, verify(alloc))
 }

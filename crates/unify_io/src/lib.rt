@@ -20,5 +20,7 @@ pub use report::{
     Said, bundle_memory_refused, file_failed, file_fault_told, memory_refused, no_host,
     print_answer, tell_of, write_failed, wrong_words,
 };
-pub use warnings::{Part, warn, warn_of_end, warn_of_hosts_tables, warn_of_no_files, warn_of_seen};
+pub use warnings::{
+    MOST_LINES, Part, warn, warn_of_end, warn_of_hosts_tables, warn_of_no_files, warn_of_seen,
+};
 pub use writing::{NewFile, begin_output, finish_output};

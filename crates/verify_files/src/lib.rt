@@ -1,0 +1,101 @@
+//! The command `verify`: whether the files of a first inventory have the owners by name that they had, in a second one that
+//! was made once the host's account files had new numbers. What is found is proved in `kept_names`; here files are read, and
+//! lines are told.
+#![tactic(auto)]
+
+mod lines;
+mod reading;
+mod refused;
+
+use clap::ArgMatches;
+use kept_names::{Accounts, Finding, find_changes};
+use lines::{Tally, answer_text, found_lines};
+use mtree_inv::Inventory;
+use reading::{AccountTexts, read_account_texts, read_accounts, read_mtree};
+use std::io;
+use std::io::Write;
+use unify_io::{FileFault, write_failed};
+
+// Tells what was found: files on standard error, and how many on standard output.
+fn tell_found(
+    rt: &HostRuntime,
+    was: &Accounts<'_>,
+    now: &Accounts<'_>,
+    files: usize,
+    found: &[Finding<'_>],
+) -> Result<u8, FileFault> {
+    let mut tally = Tally::new(files);
+    let lines = found_lines(rt.alloc(), was, now, found, &mut tally)?;
+    let answer = answer_text(rt.alloc(), &tally)?;
+    let _ = rt.stderr().write_all(&lines);
+    if io::writer(rt).write_all(&answer).is_err() {
+        return Ok(write_failed(rt));
+    }
+    Ok(tally.status())
+}
+
+// Compares two inventories by the account files that each was made under.
+fn compare(
+    rt: &HostRuntime,
+    was: &Accounts<'_>,
+    now: &Accounts<'_>,
+    before: &Inventory,
+    after: &Inventory,
+) -> Result<u8, FileFault> {
+    let found = find_changes(rt.alloc(), was, now, before, after)?;
+    tell_found(rt, was, now, before.entries().len(), &found)
+}
+
+// Reads the second inventory, and compares the first with it.
+fn compare_with(
+    rt: &HostRuntime,
+    was: &Accounts<'_>,
+    now: &Accounts<'_>,
+    before: &Inventory,
+    path: &str,
+) -> Result<u8, FileFault> {
+    let after = read_mtree(rt, path)?;
+    compare(rt, was, now, before, &after)
+}
+
+// Reads the account files under the new numbers, and both inventories.
+fn verify_under(
+    rt: &HostRuntime,
+    matches: &ArgMatches<'_>,
+    was: &Accounts<'_>,
+    texts: &AccountTexts<'_>,
+) -> Result<u8, FileFault> {
+    let now = read_accounts(rt, texts)?;
+    let before = read_mtree(rt, matches.get_str("BEFORE").unwrap_or(""))?;
+    compare_with(
+        rt,
+        was,
+        &now,
+        &before,
+        matches.get_str("AFTER").unwrap_or(""),
+    )
+}
+
+// Reads the account files under the old numbers.
+fn verify_texts(
+    rt: &HostRuntime,
+    matches: &ArgMatches<'_>,
+    was_texts: &AccountTexts<'_>,
+    now_texts: &AccountTexts<'_>,
+) -> Result<u8, FileFault> {
+    let was = read_accounts(rt, was_texts)?;
+    verify_under(rt, matches, &was, now_texts)
+}
+
+/// verify --was PASSWD GROUP --now PASSWD GROUP BEFORE AFTER
+///
+/// Answers the exit status: 0 where no file is missing, changed or unnamed, and else 1; 3 where standard output takes no more.
+///
+/// # Errors
+///
+/// A `FileFault` where a file cannot be read or is refused, which is told, or where memory is refused.
+pub fn run_verify(rt: &HostRuntime, matches: &ArgMatches<'_>) -> Result<u8, FileFault> {
+    let was = read_account_texts(rt, matches.get_strs("was").unwrap_or(&[]))?;
+    let now = read_account_texts(rt, matches.get_strs("now").unwrap_or(&[]))?;
+    verify_texts(rt, matches, &was, &now)
+}

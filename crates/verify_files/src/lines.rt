@@ -1,0 +1,195 @@
+//! What is told of the files that were found, and how many there are.
+
+use idtext::{push_escaped, push_number};
+use kept_names::{Accounts, Finding, What, group_name, user_name};
+use std::alloc::{AllocError, Global};
+use unify_io::MOST_LINES;
+
+/// How many files are of each kind.
+#[derive(Clone, Copy, Drop)]
+pub(crate) struct Tally {
+    files: usize,
+    missing: usize,
+    changed: usize,
+    new: usize,
+    unnamed: usize,
+}
+
+impl Tally {
+    /// Nothing was found yet, of so many files of the first inventory.
+    pub(crate) fn new(files: usize) -> Tally {
+        Tally {
+            files,
+            missing: 0,
+            changed: 0,
+            new: 0,
+            unnamed: 0,
+        }
+    }
+
+    // Counts a file, and hands out how many there are of its kind.
+    fn count(&mut self, what: What) -> usize {
+        let count = match what {
+            What::Missing => &mut self.missing,
+            What::Changed(_, _) => &mut self.changed,
+            What::New => &mut self.new,
+            What::Unnamed(_, _) => &mut self.unnamed,
+        };
+        *count = count.saturating_add(1);
+        *count
+    }
+
+    // How many files of the first inventory are in the second with the names of their owners.
+    fn kept(&self) -> usize {
+        self.files
+            .saturating_sub(self.missing)
+            .saturating_sub(self.changed)
+    }
+
+    /// The exit status: new files alone are no fault.
+    pub(crate) fn status(&self) -> u8 {
+        if self.missing == 0 && self.changed == 0 && self.unnamed == 0 {
+            0
+        } else {
+            1
+        }
+    }
+}
+
+// Appends ` NAME NUMBER`, with a hyphen for a name that is not there. No account has a name that begins with one.
+fn push_owner(line: &mut Vec<u8>, name: Option<&[u8]>, number: u32) -> Result<(), AllocError> {
+    line.push(b' ')?;
+    match name {
+        Some(name) => push_escaped(line, name)?,
+        None => line.extend_from_slice(b"-")?,
+    }
+    line.push(b' ')?;
+    push_number(line, u128::from(number))
+}
+
+// Appends a user, and a group, by these account files.
+fn push_user(line: &mut Vec<u8>, accounts: &Accounts<'_>, uid: u32) -> Result<(), AllocError> {
+    push_owner(line, user_name(accounts, uid), uid)
+}
+
+fn push_group(line: &mut Vec<u8>, accounts: &Accounts<'_>, gid: u32) -> Result<(), AllocError> {
+    push_owner(line, group_name(accounts, gid), gid)
+}
+
+// Appends what a line says of a file behind its path.
+fn push_details(
+    line: &mut Vec<u8>,
+    was: &Accounts<'_>,
+    now: &Accounts<'_>,
+    finding: &Finding<'_>,
+) -> Result<(), AllocError> {
+    let file = finding.file;
+    match finding.what {
+        What::Missing => Ok(()),
+        What::Changed(user, group) => {
+            if let Some(uid) = user {
+                line.extend_from_slice(b" user")?;
+                push_user(line, was, file.uid)?;
+                push_user(line, now, uid)?;
+            }
+            if let Some(gid) = group {
+                line.extend_from_slice(b" group")?;
+                push_group(line, was, file.gid)?;
+                push_group(line, now, gid)?;
+            }
+            Ok(())
+        }
+        What::New => {
+            line.extend_from_slice(b" user")?;
+            push_user(line, now, file.uid)?;
+            line.extend_from_slice(b" group")?;
+            push_group(line, now, file.gid)
+        }
+        What::Unnamed(user, group) => {
+            if user {
+                line.extend_from_slice(b" uid ")?;
+                push_number(line, u128::from(file.uid))?;
+            }
+            if group {
+                line.extend_from_slice(b" gid ")?;
+                push_number(line, u128::from(file.gid))?;
+            }
+            Ok(())
+        }
+    }
+}
+
+// The word of a kind.
+fn word_of(what: What) -> &'static str {
+    match what {
+        What::Missing => "missing",
+        What::Changed(_, _) => "changed",
+        What::New => "new",
+        What::Unnamed(_, _) => "unnamed",
+    }
+}
+
+// Appends the line of a file.
+fn push_finding(
+    lines: &mut Vec<u8>,
+    was: &Accounts<'_>,
+    now: &Accounts<'_>,
+    finding: &Finding<'_>,
+) -> Result<(), AllocError> {
+    lines.extend_from_slice(b"unify: ")?;
+    lines.extend_from_slice(word_of(finding.what).as_bytes())?;
+    lines.push(b' ')?;
+    push_escaped(lines, finding.file.path.bytes())?;
+    push_details(lines, was, now, finding)?;
+    lines.push(b'\n')?;
+    Ok(())
+}
+
+// Appends a word and a number as a line.
+fn push_count(text: &mut Vec<u8>, word: &str, count: usize) -> Result<(), AllocError> {
+    text.extend_from_slice(word.as_bytes())?;
+    text.push(b' ')?;
+    push_number(text, count as u128)?;
+    text.push(b'\n')?;
+    Ok(())
+}
+
+// Appends how many files of a kind no line was told of.
+fn push_more(lines: &mut Vec<u8>, words: &str, count: usize) -> Result<(), AllocError> {
+    if count <= MOST_LINES {
+        return Ok(());
+    }
+    push_count(lines, words, count - MOST_LINES)
+}
+
+/// The lines of the first few files of each kind, and how many more there are of it. All are counted.
+pub(crate) fn found_lines(
+    alloc: Global,
+    was: &Accounts<'_>,
+    now: &Accounts<'_>,
+    found: &[Finding<'_>],
+    tally: &mut Tally,
+) -> Result<Vec<u8>, AllocError> {
+    let mut lines = Vec::new(alloc);
+    for finding in found {
+        if tally.count(finding.what) <= MOST_LINES {
+            push_finding(&mut lines, was, now, finding)?;
+        }
+    }
+    push_more(&mut lines, "unify: more missing:", tally.missing)?;
+    push_more(&mut lines, "unify: more changed:", tally.changed)?;
+    push_more(&mut lines, "unify: more new:", tally.new)?;
+    push_more(&mut lines, "unify: more unnamed:", tally.unnamed)?;
+    Ok(lines)
+}
+
+/// How many files there are of each kind.
+pub(crate) fn answer_text(alloc: Global, tally: &Tally) -> Result<Vec<u8>, AllocError> {
+    let mut text = Vec::new(alloc);
+    push_count(&mut text, "kept", tally.kept())?;
+    push_count(&mut text, "missing", tally.missing)?;
+    push_count(&mut text, "changed", tally.changed)?;
+    push_count(&mut text, "new", tally.new)?;
+    push_count(&mut text, "unnamed", tally.unnamed)?;
+    Ok(text)
+}
