@@ -23,8 +23,10 @@ DEMO = TOP / "build/office"
 TOLD = "expected-merge", "expected-merge", "expected-check", "expected-rehearse"
 # rt try interprets a program first, but none that reads its words: one step of that is enough.
 TRY = ["rt", "try", "--steps", "1"]
-# How many words name files before those that name hosts. Those behind --pins and -o name files too, and -o stands for the first.
-FILES_FIRST = {"merge": 1, "check": 1, "count": 1, "rehearse": 2}
+# How many words name files before those that name hosts; -o stands for the first.
+FILES_FIRST = {"merge": 1, "check": 1, "count": 1, "rehearse": 2, "apply": 2, "verify": 2, "inventory": sys.maxsize}
+# How many words behind an option name files.
+FILES_BEHIND = {"--pins": 1, "--output": 1, "-o": 1, "--mark": 1, "--was": 2, "--now": 2}
 
 
 def run_cases(cases):
@@ -112,12 +114,14 @@ def named_whole(words):
     files_left, whole, rest = 0 if has_output else FILES_FIRST.get(command, 0), [command], iter(rest)
     for word in rest:
         flag, equals, path = word.partition("=")
-        if word in ("--pins", "--output", "-o"):
-            whole += [word, *(file_whole(file, here) for file in itertools.islice(rest, 1))]
+        if word in FILES_BEHIND:
+            whole += [word, *(file_whole(file, here) for file in itertools.islice(rest, FILES_BEHIND[word]))]
+        elif word == "--host":
+            whole += [word, *itertools.islice(rest, 1)]
         elif word.startswith("-o"):
             whole += ["-o", file_whole(word[2:].removeprefix("="), here)]
         elif word.startswith("-"):
-            whole.append(f"{flag}={file_whole(path, here)}" if equals else word)
+            whole.append(f"{flag}={file_whole(path, here)}" if equals and flag != "--host" else word)
         elif files_left:
             files_left -= 1
             whole.append(file_whole(word, here))
