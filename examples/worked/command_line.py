@@ -60,6 +60,17 @@ LINKED_LINES = f"./linked type=dir {OWNED}\n./linked/to\\040nothing type=link {O
 COMMENTS = "unify: warning: user {} has another comment on host {} than on {}\n".format
 # An inventory with three files, of which one stands on three lines; the second of these lines is joined of two.
 AGAIN = "# of alice\n./file uid=1001 gid=100\n/set uid=1001 gid=100\n\n  ./file \\\n  type=file\n. type=dir\nfile\n..\nother\n"
+# The files of b in inventories that unify writes: whole, two one behind the other, cut behind a line, with a line lost, and cut
+# before another.
+HEAD, BOBS, END = "# unify inventory 1 b\n", "./bob1 type=file uid=1001 gid=100\n./bob2 type=file uid=1001 gid=100\n", "# end 2\n"
+WRITTEN = {
+    "whole": HEAD + BOBS + END,
+    "joined": HEAD + "# end 0\n" + HEAD + BOBS + END,
+    "cut": HEAD + BOBS,
+    "lost": HEAD + BOBS.splitlines(True)[0] + END,
+    "cut-before": HEAD + HEAD + BOBS + END,
+}
+WAS_CUT = "unify: file {}: cut: the last line that unify inventory writes is not there\n".format
 # Hosts that are a without a file, and one whose passwd is refused and that has no inventory.
 LACKING = {"lacks-passwd": "passwd", "lacks-group": "group", "lacks-mtree": "mtree", "refused": "mtree"}
 
@@ -136,6 +147,10 @@ TABLE = [
     ("count map a/.. b", 1, "", "unify: 18 BadHostName a/..\n"),
     ("check good a b", 0, "accepted 2\n", ""),
     ("rehearse plan b/mtree", 0, "records 2\ndone\n", ""),
+    # Inventories that unify wrote.
+    ("count map a b=whole", 0, COUNTED, ""),
+    ("merge -q out a b=joined", 0, COUNTED, ""),
+    ("rehearse plan whole/mtree", 0, "records 2\ndone\n", ""),
     # Inventories of files of the room. What cannot be listed is told, and the rest is written.
     ("inventory tree", 0, MACHINE + TREE_LINES + "# end 3\n", ""),
     ("inventory -x linked/. ./tree//", 0, MACHINE + LINKED_LINES + TREE_LINES + "# end 5\n", ""),
@@ -256,6 +271,11 @@ TABLE = [
     ("check bad a b", 1, "", "unify: 28 BadCertificate line 1\n"),
     ("check --pins pins good a b", 4, "", "unify: 32 PinBroken user bob\n"),
     ("check wrong a b", 4, "", "unify: 34 SumsDiffer user 11 10\n"),
+    *((f"count map a b={host}", 1, "", WAS_CUT(f"{host}/mtree")) for host in ("cut", "lost", "cut-before")),
+    ("check good a b=cut", 1, "", WAS_CUT("cut/mtree")),
+    ("merge out a b=cut", 1, "", WAS_CUT("cut/mtree")),
+    ("rehearse plan cut/mtree", 1, "", WAS_CUT("cut/mtree")),
+    (VERIFY("cut/mtree", "whole/mtree"), 1, "", WAS_CUT("cut/mtree")),
     ("rehearse bad b/mtree", 1, "", "unify: 35 BadPlan byte 0\n"),
     ("rehearse plan a/mtree", 1, "", "unify: 37 Missing bob1\n"),
     ("apply bad b", 1, "", "unify: 35 BadPlan byte 0\n"),
@@ -338,6 +358,9 @@ def lay_out(room):
         (room / host).mkdir()
         for file, text in zip(("passwd", "group", "mtree"), (*tables, "./file uid=1001 gid=100\n")):
             (room / host / file).write_text(text)
+    for host, mtree in WRITTEN.items():
+        shutil.copytree(STORED / "b", room / host)
+        (room / host / "mtree").write_text(mtree)
     shutil.copytree(room / "web", room / "again")
     (room / "again/mtree").write_text(AGAIN)
     (room / TREE[1]).mkdir(parents=True)

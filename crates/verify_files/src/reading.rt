@@ -5,7 +5,7 @@ use accounts::{GroupTable, PasswdTable, read_group, read_passwd};
 use idtext::ByteString;
 use kept_names::Accounts;
 use mtree_inv::{Inventory, read_inventory};
-use unify_io::{FileFault, read_file};
+use unify_io::{FileFault, read_file, see_whole};
 
 /// How many files an inventory may have, as for the other commands.
 const MOST_FILES: u32 = 16777216;
@@ -71,6 +71,7 @@ pub(crate) fn read_accounts<'t>(
 /// The inventory at a path.
 pub(crate) fn read_mtree(rt: &HostRuntime, path: &str) -> Result<Inventory, FileFault> {
     let text = read_file(rt, path)?;
+    see_whole(rt, path, text.bytes())?;
     match read_inventory(rt.alloc(), text.bytes(), MOST_FILES) {
         Ok(inventory) => Ok(inventory),
         Err(error) => Err(refused(rt, path, error)),
