@@ -3,6 +3,7 @@
 #                          with run-time checks and not proved
 #   make try ARGS='merge OUT HOST..'   your own words in the same way
 #   make program           proves the program and links it, which takes a while; make demo-proved runs the demo with it
+#   make demo-apply        as root: makes trees of two hosts, merges, carries the plans out, verifies and takes them back
 #   make install PREFIX=.. puts the proved program into PREFIX/bin
 #   make quick             for daily work: lays out and proves the crates that changed, and runs the worked examples unproved
 #   make test              the gate: proves every crate, tries the must-fail edits, runs the tests and the program, and
@@ -29,7 +30,7 @@ LANES ?= $(shell awk -v most=$$(nproc) '/^MemAvailable/ { fit = int($$2 / 300000
 # What make quick calls changed: whatever differs from this commit.
 SINCE ?= HEAD
 
-.PHONY: demo try demo-proved test compare wrong-bodies quick refused program install clean
+.PHONY: demo try demo-proved demo-apply test compare wrong-bodies quick refused program install clean
 
 demo:
 	@gate/unproved.py demo
@@ -43,6 +44,9 @@ demo-proved: program
 	@for file in passwd group map certificate report plan.amber plan.basalt \
 		passwd.amber group.amber passwd.basalt group.basalt; do \
 		echo; echo "$(DEMO)/$$file:"; cat $(DEMO)/$$file; done
+
+demo-apply: program
+	@examples/trees/demo.py $(PROGRAM) build/trees
 
 test:
 	RT_JOBS=$(LANES) rt ci
