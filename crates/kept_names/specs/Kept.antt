@@ -1,6 +1,6 @@
 -- Whether files have the names of their owners still, by new account files.
 -- Sources: passwd(5) and group(5) (a number's name is that of its row); chown(2) (a file has a uid and a gid, and no name).
--- That a number without a name has to stay as it is, is a rule of this product.
+-- That a number without a name has to stay as it is, is this project's own rule.
 use Rattle.std.specs.Prelude.{ℕ, Bool, true, false, ◌==◌, ◌||◌, ◌++◌, List, Option, Some, None, option_map, filter_map, is_none, if◌then◌else◌}
 use Rattle.std.specs.Str.{bytes_eq}
 use Rattle.hosts_join.specs.Kinds.{user_at, group_at}

@@ -1,5 +1,5 @@
 -- What it means that nothing is found missing or changed.
--- Source: this product's own rule; chown(2) for what an owner is.
+-- Source: this project's own rule; chown(2) for what an owner is.
 use Rattle.std.specs.Prelude.{◌≡◌, ◌↔◌, ℕ, Bool, true, false, List, Option, Some, None, Contains, All}
 use Rattle.hosts_join.specs.Kinds.{user_at, group_at}
 use Rattle.mtree_inv.specs.declared.entry.Entry.{Entry}
