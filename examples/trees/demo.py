@@ -21,12 +21,10 @@ FILES = {
         ("folder", "home", "root", "root"),
         ("folder", "home/ines", "ines", "ines"),
         ("file", "home/ines/Offer 2026.odt", "ines", "ines"),
-        ("link", "home/ines/mail", "ines", "ines"),
         ("folder", "home/jonas", "jonas", "jonas"),
         ("file", "home/jonas/.bashrc", "jonas", "jonas"),
         ("folder", "home/maya", "maya", "maya"),
-        ("set-id", "home/maya/viewer", "maya", "atlas"),
-        ("pipe", "home/maya/pipe", "maya", "maya"),
+        ("file", "home/maya/.zshrc", "maya", "maya"),
         ("folder", "backup", "postgres", "postgres"),
     ],
     "basalt": [
@@ -34,7 +32,10 @@ FILES = {
         ("folder", "home/ines", "ines", "ines"),
         ("folder", "home/jonas", "jonas", "jonas"),
         ("file", "home/jonas/two\nlines", "jonas", "jonas"),
+        ("link", "home/jonas/mail", "jonas", "jonas"),
+        ("pipe", "home/jonas/pipe", "jonas", "jonas"),
         ("folder", "home/lucia", "lucia", "lucia"),
+        ("set-id", "home/lucia/viewer", "lucia", "atlas"),
         ("file", "home/lucia/größe.csv", "lucia", "atlas"),
         ("folder", "home/maya", "maya", "users"),
     ],
@@ -56,7 +57,7 @@ def make_tree(root, host):
         if kind == "folder":
             path.mkdir()
         elif kind == "link":
-            path.symlink_to("/var/mail/ines")
+            path.symlink_to("/var/mail/jonas")
         elif kind == "pipe":
             os.mkfifo(path)
         else:
