@@ -18,17 +18,35 @@ struct Names {
     after: Owner,
 }
 
+// The directory that was opened last, and its path.
+#[derive(Drop)]
+struct Entered {
+    path: Vec<u8>,
+    directory: Directory,
+}
+
 // The files below a directory. A path goes down from it by descriptors, part by part, and no link is followed.
 #[derive(Drop)]
 struct Below<'w> {
     rt: &'w HostRuntime,
     root: Directory,
+    // Whether a sync of the root keeps all that was changed before.
+    has_one_journal: bool,
     names: HashMap<(u64, u64), Names>,
+    entered: Option<Entered>,
 }
 
 // Whether a part of a path is the name of a file.
 fn is_name(part: &[u8]) -> bool {
     !part.is_empty() && part != b".".as_slice() && part != b"..".as_slice()
+}
+
+// The directory part of a path, and the name in it: an empty one and `.` for the root itself.
+fn split_name(path: &[u8]) -> (&[u8], &[u8]) {
+    match path.iter().rposition(|byte| *byte == b'/') {
+        Some(slash) => (&path[..slash], &path[slash + 1..]),
+        None => (b"", path),
+    }
 }
 
 // Whether a file may have several names that are given.
@@ -37,28 +55,50 @@ fn has_names(found: &Found) -> bool {
 }
 
 impl<'w> Below<'w> {
-    // The directory that a path's last part is in, and that part: `.` for the root itself.
-    fn descend<'b>(&self, path: &'b [u8]) -> Result<(Directory, &'b [u8]), Trouble> {
+    // Opens a directory, part by part.
+    fn descend(&self, path: &[u8]) -> Result<Directory, Trouble> {
         let mut directory = self.root.below(self.rt, b".")?;
-        let mut name: &'b [u8] = b".";
-        if path == b".".as_slice() {
-            return Ok((directory, name));
+        if path.is_empty() {
+            return Ok(directory);
         }
         for part in path.split(|byte| *byte == b'/') {
             if !is_name(part) {
                 return Err(Trouble::BadPath);
             }
-            if name != b".".as_slice() {
-                directory = directory.below(self.rt, name)?;
-            }
-            name = part;
+            directory = directory.below(self.rt, part)?;
         }
-        Ok((directory, name))
+        Ok(directory)
     }
 
-    // What a name of a directory stands for, on the root's file system.
-    fn find(&self, directory: &Directory, name: &[u8]) -> Result<Found, Trouble> {
-        let found = directory.find(self.rt, name)?;
+    // Enters the directory that a path's last part is in, unless it was the last to be entered, and hands out that part.
+    fn enter<'b>(&mut self, path: &'b [u8]) -> Result<&'b [u8], Trouble> {
+        let (parent, name) = split_name(path);
+        if !is_name(name) && path != b".".as_slice() {
+            return Err(Trouble::BadPath);
+        }
+        if let Some(entered) = &self.entered {
+            if entered.path.as_slice() == parent {
+                return Ok(name);
+            }
+        }
+        self.entered = None;
+        let directory = self.descend(parent)?;
+        let path = Vec::from_slice(self.rt.alloc(), parent)?;
+        self.entered = Some(Entered { path, directory });
+        Ok(name)
+    }
+
+    // The directory that was entered last.
+    fn directory(&self) -> Result<&Directory, Trouble> {
+        match &self.entered {
+            Some(entered) => Ok(&entered.directory),
+            None => Err(Trouble::Gone),
+        }
+    }
+
+    // What a name of that directory stands for, on the root's file system.
+    fn find(&self, name: &[u8]) -> Result<Found, Trouble> {
+        let found = self.directory()?.find(self.rt, name)?;
         if found.device != self.root.found().device {
             return Err(Trouble::OtherMount);
         }
@@ -66,8 +106,8 @@ impl<'w> Below<'w> {
     }
 
     // The same, where it has this owner.
-    fn expect(&self, directory: &Directory, name: &[u8], owner: Owner) -> Result<Found, Trouble> {
-        let found = self.find(directory, name)?;
+    fn expect(&self, name: &[u8], owner: Owner) -> Result<Found, Trouble> {
+        let found = self.find(name)?;
         if found.owner != owner {
             return Err(Trouble::Foreign(found.owner));
         }
@@ -75,9 +115,9 @@ impl<'w> Below<'w> {
     }
 
     // What is at a path.
-    fn look(&self, path: &[u8]) -> Result<Found, Trouble> {
-        let (directory, name) = self.descend(path)?;
-        self.find(&directory, name)
+    fn look(&mut self, path: &[u8]) -> Result<Found, Trouble> {
+        let name = self.enter(path)?;
+        self.find(name)
     }
 
     // Counts a name of a file that has several.
@@ -116,22 +156,18 @@ impl<'w> Below<'w> {
         }
     }
 
-    // Waits until what a name stands for has reached its device. Links and the like wait for `settle`.
-    fn sync(&self, directory: &Directory, name: &[u8], found: &Found) -> Result<(), Trouble> {
-        if found.kind == Kind::Other {
+    // Waits until what a name stands for has reached its device. Links and the like wait for `settle`, and all files where
+    // there is one journal.
+    fn sync(&self, name: &[u8], found: &Found) -> Result<(), Trouble> {
+        if self.has_one_journal || found.kind == Kind::Other {
             return Ok(());
         }
-        directory.open(self.rt, name, found)?.sync()
+        self.directory()?.open(self.rt, name, found)?.sync()
     }
 
     // Gives what a name stands for another owner. A regular file or a directory is looked at again when it is open.
-    fn give_found(
-        &self,
-        directory: &Directory,
-        name: &[u8],
-        found: &Found,
-        after: Owner,
-    ) -> Result<(), Trouble> {
+    fn give_found(&self, name: &[u8], found: &Found, after: Owner) -> Result<(), Trouble> {
+        let directory = self.directory()?;
         if found.kind == Kind::Other {
             return directory.give_by_name(self.rt, name, after);
         }
@@ -147,16 +183,16 @@ impl<'w> Below<'w> {
 // The calls of a disk.
 impl<'w> Below<'w> {
     fn meet(&mut self, path: &[u8], after: Owner) -> Result<Owner, Trouble> {
-        let (directory, name) = self.descend(path)?;
-        let found = self.find(&directory, name)?;
+        let name = self.enter(path)?;
+        let found = self.find(name)?;
         self.count_name(&found, after)?;
         if found.owner == after {
-            self.sync(&directory, name, &found)?;
+            self.sync(name, &found)?;
         }
         Ok(found.owner)
     }
 
-    fn check_links(&self, path: &[u8]) -> Result<(), Trouble> {
+    fn check_links(&mut self, path: &[u8]) -> Result<(), Trouble> {
         if self.names.is_empty() {
             return Ok(());
         }
@@ -168,16 +204,16 @@ impl<'w> Below<'w> {
     }
 
     fn give(&mut self, path: &[u8], before: Owner, after: Owner) -> Result<Modes, Trouble> {
-        let (directory, name) = self.descend(path)?;
-        let found = self.expect(&directory, name, before)?;
+        let name = self.enter(path)?;
+        let found = self.expect(name, before)?;
         if self.waits_for_names(&found) {
             return Ok(Modes {
                 before: found.mode,
                 after: found.mode,
             });
         }
-        self.give_found(&directory, name, &found, after)?;
-        let now = self.expect(&directory, name, after)?;
+        self.give_found(name, &found, after)?;
+        let now = self.expect(name, after)?;
         if !now.is_same_file(&found) {
             return Err(Trouble::Exchanged);
         }
@@ -187,13 +223,13 @@ impl<'w> Below<'w> {
         })
     }
 
-    fn set_mode(&self, path: &[u8], owner: Owner, mode: u32) -> Result<(), Trouble> {
-        let (directory, name) = self.descend(path)?;
-        let found = self.expect(&directory, name, owner)?;
+    fn set_mode(&mut self, path: &[u8], owner: Owner, mode: u32) -> Result<(), Trouble> {
+        let name = self.enter(path)?;
+        let found = self.expect(name, owner)?;
         if found.kind == Kind::Other {
             return Err(Trouble::NotDone);
         }
-        let file = directory.open(self.rt, name, &found)?;
+        let file = self.directory()?.open(self.rt, name, &found)?;
         file.set_mode(mode)?;
         if file.itself()?.mode != mode {
             return Err(Trouble::NotDone);
@@ -201,10 +237,10 @@ impl<'w> Below<'w> {
         Ok(())
     }
 
-    fn keep(&self, path: &[u8], owner: Owner) -> Result<(), Trouble> {
-        let (directory, name) = self.descend(path)?;
-        let found = self.expect(&directory, name, owner)?;
-        self.sync(&directory, name, &found)
+    fn keep(&mut self, path: &[u8], owner: Owner) -> Result<(), Trouble> {
+        let name = self.enter(path)?;
+        let found = self.expect(name, owner)?;
+        self.sync(name, &found)
     }
 }
 
@@ -235,13 +271,23 @@ impl<'w> Root<'w> {
         let below = Below {
             rt,
             root,
+            has_one_journal: false,
             names: HashMap::new(rt.alloc()),
+            entered: None,
         };
         Ok(Root {
             below,
             mark: MarkFile::at(rt, mark),
             log: Log::new(),
         })
+    }
+
+    /// Leaves it to `settle` to see that changes have reached the device: for a file system with one journal, on which a sync of
+    /// one file keeps all that was changed before.
+    pub fn trust_one_journal(&mut self)
+        ensures { self.new.log.calls ≡ self.old.log.calls }
+    {
+        self.below.has_one_journal = true;
     }
 }
 

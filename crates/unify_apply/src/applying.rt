@@ -1,5 +1,5 @@
 //! A plan that words name, carried out below a directory.
-ghost use Rattle.std.specs.Prelude.{◌≡◌, []};
+ghost use Rattle.std.specs.Prelude.{◌≡◌, [], IfOk};
 
 use crate::checking::check_below;
 use crate::machine::{see_caller, see_host};
@@ -54,12 +54,34 @@ fn carry_out<'w>(
     }
 }
 
-// Carries a plan out below a directory, which no other command is at work below.
-fn apply_below(rt: &HostRuntime, place: Place<'_>, plan: &Plan<'_>) -> Result<u8, FileFault> {
+// Opens a directory, which no other command is at work below.
+fn opened<'w>(
+    rt: &'w HostRuntime,
+    place: Place<'w>,
+    has_one_journal: bool,
+) -> Result<Root<'w>, FileFault>
+    ensures { IfOk result (λ root. root.log.calls ≡ []) }
+{
     match Root::open(rt, place.root, place.mark) {
-        Ok(root) => carry_out(rt, place, plan, root)?,
-        Err(trouble) => return Err(root_refused(rt, place, trouble)),
+        Ok(mut root) => {
+            if has_one_journal {
+                root.trust_one_journal();
+            }
+            Ok(root)
+        }
+        Err(trouble) => Err(root_refused(rt, place, trouble)),
     }
+}
+
+// Carries a plan out below a directory.
+fn apply_below(
+    rt: &HostRuntime,
+    place: Place<'_>,
+    plan: &Plan<'_>,
+    has_one_journal: bool,
+) -> Result<u8, FileFault> {
+    let root = opened(rt, place, has_one_journal)?;
+    carry_out(rt, place, plan, root)?;
     let text = records_text(rt, plan.records().len())?;
     Ok(print_answer(rt, 0, &text))
 }
@@ -77,8 +99,8 @@ fn run_plan(
     let quiet = matches.get_flag("quiet");
     see_host(rt, plan.host(), matches.get_str("host"), quiet)?;
     see_caller(rt)?;
-    see_mounts(rt, place.root)?;
-    apply_below(rt, place, plan)
+    let has_one_journal = see_mounts(rt, place.root)?;
+    apply_below(rt, place, plan, has_one_journal)
 }
 
 // Why a text is no plan.

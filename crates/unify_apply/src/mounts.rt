@@ -11,10 +11,14 @@ const MOUNTS: &str = "/proc/self/mountinfo";
 // What is said of a directory that has its own file system below it once more.
 const TWICE: &str = "its file system is mounted below it once more, at ";
 
-// A mount: its file system, and the path where it is, which is empty for the root of all.
+// The kinds of file system with one journal, on which a sync of one file keeps all that was changed before.
+const WITH_ONE_JOURNAL: [&[u8]; 3] = [b"ext3", b"ext4", b"xfs"];
+
+// A mount: its file system, what kind that is of, and the path where it is, which is empty for the root of all.
 #[derive(Drop)]
 struct Mount<'a> {
     device: &'a [u8],
+    kind: &'a [u8],
     point: Vec<u8>,
 }
 
@@ -40,24 +44,49 @@ fn unescaped(alloc: Global, text: &[u8]) -> Result<Vec<u8>, AllocError> {
     Ok(bytes)
 }
 
-// The number of the file system and the path of a mount, with escapes: the third word of a line, and the fifth.
-fn mount_words(line: &[u8]) -> Option<(&[u8], &[u8])> {
+// The words of a line that are looked at.
+#[derive(Clone, Copy)]
+struct MountWords<'a> {
+    // The number of the file system, the third word.
+    device: &'a [u8],
+    // The path, with escapes, the fifth.
+    point: &'a [u8],
+    // The kind of file system, behind the word `-`, before which stand as many as there are.
+    kind: &'a [u8],
+}
+
+// The words of a line.
+fn mount_words(line: &[u8]) -> Option<MountWords<'_>> {
     let mut words = Words::new(line);
     let _ = words.next()?;
     let _ = words.next()?;
     let device = words.next()?;
     let _ = words.next()?;
     let point = words.next()?;
-    Some((device, point))
+    for word in words.by_ref() {
+        if word == b"-".as_slice() {
+            break;
+        }
+    }
+    let kind = words.next()?;
+    Some(MountWords {
+        device,
+        point,
+        kind,
+    })
 }
 
 // The mounts that a text tells, in its order: what was mounted later stands later.
 fn read_mounts(alloc: Global, text: &[u8]) -> Result<Vec<Mount<'_>>, AllocError> {
     let mut mounts = Vec::new(alloc);
     for line in Lines::new(text) {
-        if let Some((device, point)) = mount_words(line) {
-            let point = unescaped(alloc, point)?;
-            mounts.push(Mount { device, point })?;
+        if let Some(words) = mount_words(line) {
+            let point = unescaped(alloc, words.point)?;
+            mounts.push(Mount {
+                device: words.device,
+                kind: words.kind,
+                point,
+            })?;
         }
     }
     Ok(mounts)
@@ -71,22 +100,21 @@ fn is_within(path: &[u8], directory: &[u8]) -> bool {
     }
 }
 
-// The file system of a directory: that of the mount that is the nearest to it, and the last of those.
-fn device_of<'a>(mounts: &[Mount<'a>], directory: &[u8]) -> &'a [u8] {
-    let mut device: &'a [u8] = b"";
+// The mount that a directory is in: the nearest to it, and the last of those.
+fn mount_of<'m, 'a>(mounts: &'m [Mount<'a>], directory: &[u8]) -> Option<&'m Mount<'a>> {
+    let mut found = None;
     let mut nearest: usize = 0;
     for mount in mounts {
         if mount.point.len() >= nearest && is_within(directory, &mount.point) {
             nearest = mount.point.len();
-            device = mount.device;
+            found = Some(mount);
         }
     }
-    device
+    found
 }
 
 // The first mount below a directory that is of its file system.
-fn mount_below<'m>(mounts: &'m [Mount<'_>], directory: &[u8]) -> Option<&'m [u8]> {
-    let device = device_of(mounts, directory);
+fn mount_below<'m>(mounts: &'m [Mount<'_>], directory: &[u8], device: &[u8]) -> Option<&'m [u8]> {
     for mount in mounts {
         let is_below = mount.point.len() > directory.len() && is_within(&mount.point, directory);
         if is_below && mount.device == device {
@@ -115,16 +143,25 @@ fn said_of(error: &io::Error) -> Said<'static> {
     }
 }
 
-/// Sees that no mount below a directory is of its file system.
-pub fn see_mounts(rt: &HostRuntime, root: &str) -> Result<(), FileFault> {
+// Whether a file system of this kind has one journal.
+fn has_one_journal(kind: &[u8]) -> bool {
+    WITH_ONE_JOURNAL.iter().any(|known| *known == kind)
+}
+
+/// Sees that no mount below a directory is of its file system, and tells whether that is known to have one journal.
+pub fn see_mounts(rt: &HostRuntime, root: &str) -> Result<bool, FileFault> {
     let path = match fs::canonicalize(rt, root) {
         Ok(path) => path,
         Err(error) => return Err(no_path(rt, root, said_of(&error))),
     };
     let text = read_file(rt, MOUNTS)?;
     let mounts = read_mounts(rt.alloc(), text.bytes())?;
-    match mount_below(&mounts, without_slash(path.as_str().as_bytes())) {
-        None => Ok(()),
+    let directory = without_slash(path.as_str().as_bytes());
+    let Some(mount) = mount_of(&mounts, directory) else {
+        return Ok(false);
+    };
+    match mount_below(&mounts, directory, mount.device) {
+        None => Ok(has_one_journal(mount.kind)),
         Some(point) => Err(mounted_twice(rt, root, point)),
     }
 }
