@@ -2,6 +2,7 @@
 ghost use Rattle.std.specs.Prelude.{◌≡◌, [], IfOk};
 
 use crate::mark_file::MarkFile;
+use crate::modes_file::{ModesFile, has_lost};
 use crate::walk::{Directory, Found, Kind};
 use crate::{Call, Disk, Log, Modes, Trouble};
 use reown_plan::{Owner, PlanMark};
@@ -146,14 +147,14 @@ impl<'w> Below<'w> {
 
 // The calls of a disk.
 impl<'w> Below<'w> {
-    fn meet(&mut self, path: &[u8], after: Owner) -> Result<Owner, Trouble> {
+    fn meet(&mut self, path: &[u8], after: Owner) -> Result<Found, Trouble> {
         let (directory, name) = self.descend(path)?;
         let found = self.find(&directory, name)?;
         self.count_name(&found, after)?;
         if found.owner == after {
             self.sync(&directory, name, &found)?;
         }
-        Ok(found.owner)
+        Ok(found)
     }
 
     fn check_links(&self, path: &[u8]) -> Result<(), Trouble> {
@@ -215,6 +216,7 @@ impl<'w> Below<'w> {
 pub struct Root<'w> {
     below: Below<'w>,
     mark: MarkFile<'w>,
+    modes: ModesFile<'w>,
     log: Log,
 }
 
@@ -240,6 +242,7 @@ impl<'w> Root<'w> {
         Ok(Root {
             below,
             mark: MarkFile::at(rt, mark),
+            modes: ModesFile::beside(rt, mark)?,
             log: Log::new(),
         })
     }
@@ -258,7 +261,13 @@ impl<'w> Disk for Root<'w> {
     ghost calls = { λ root. root.log.calls };
 
     fn meet(&mut self, path: &[u8], after: Owner) -> Result<Option<Owner>, Trouble> {
-        if_there(self.below.meet(path, after))
+        let Some(found) = if_there(self.below.meet(path, after))? else {
+            return Ok(None);
+        };
+        if found.owner != after {
+            self.modes.meet(path, &found)?;
+        }
+        Ok(Some(found.owner))
     }
 
     fn check_links(&mut self, path: &[u8]) -> Result<(), Trouble> {
@@ -313,7 +322,36 @@ impl<'w> Disk for Root<'w> {
         told
     }
 
+    fn read_modes(&mut self, plan: &PlanMark, mark: bool) -> Result<(), Trouble> {
+        self.modes.read(plan, mark)
+    }
+
+    fn lost_mode(
+        &mut self,
+        plan: &PlanMark,
+        path: &[u8],
+        owner: Owner,
+    ) -> Result<Option<u32>, Trouble> {
+        let lost = match self.modes.noted(plan, path) {
+            Some(mode) => {
+                let found = self.below.look(path)?;
+                let is_lost = found.owner == owner && has_lost(&found, mode);
+                if is_lost { Some(mode) } else { None }
+            }
+            None => None,
+        };
+        self.log.note(&Call::LostMode(plan, path, owner, lost));
+        Ok(lost)
+    }
+
+    fn put_modes(&mut self, plan: &PlanMark) -> Result<(), Trouble> {
+        let told = self.modes.put(plan);
+        self.log.note(&Call::PutModes(plan, told.is_ok()));
+        told
+    }
+
     fn keep_mark(&mut self) -> Result<(), Trouble> {
-        self.mark.keep()
+        self.mark.keep()?;
+        self.modes.forget()
     }
 }
