@@ -70,7 +70,8 @@ pub trait Disk: Drop {
     fn put_modes(&mut self, plan: &PlanMark) -> Result<(), Trouble>
         ensures { calls self.new ≡ PutModes plan.now (is_ok result) ∷ calls self.old };
 
-    /// Sees to it that a stop of the machine leaves the mark. What modes this run wrote down are forgotten then.
+    /// Sees to it that a stop of the machine leaves the mark. Where this run has put it, the modes that it wrote down are forgotten
+    /// then.
     fn keep_mark(&mut self) -> Result<(), Trouble>
         ensures { calls self.new ≡ calls self.old };
 }

@@ -217,6 +217,8 @@ pub struct Root<'w> {
     below: Below<'w>,
     mark: MarkFile<'w>,
     modes: ModesFile<'w>,
+    // Whether the mark was put.
+    is_put: bool,
     log: Log,
 }
 
@@ -243,6 +245,7 @@ impl<'w> Root<'w> {
             below,
             mark: MarkFile::at(rt, mark),
             modes: ModesFile::beside(rt, mark)?,
+            is_put: false,
             log: Log::new(),
         })
     }
@@ -318,6 +321,7 @@ impl<'w> Disk for Root<'w> {
 
     fn put_mark(&mut self, plan: &PlanMark) -> Result<(), Trouble> {
         let told = self.mark.put(plan);
+        self.is_put = self.is_put || told.is_ok();
         self.log.note(&Call::PutMark(plan, told.is_ok()));
         told
     }
@@ -352,6 +356,9 @@ impl<'w> Disk for Root<'w> {
 
     fn keep_mark(&mut self) -> Result<(), Trouble> {
         self.mark.keep()?;
-        self.modes.forget()
+        if self.is_put {
+            self.modes.forget()?;
+        }
+        Ok(())
     }
 }
