@@ -6,7 +6,9 @@
 Makes a tree in a new folder below DIR: regular files, links, pipes, sockets, directories, files with the set-user-ID and
 set-group-ID bit, hard links, and names with spaces, newlines and letters beyond ASCII. The plan exchanges two owners. The program
 is killed with SIGKILL after random times and started again until it ends; after each kill every file has to be at its old or
-its new owner. Then the same with --reverse, and what has to be refused. Ends with status 1 where anything was otherwise.
+its new owner. Then the same with --reverse, and what has to be refused. With strace it is also killed between the change of an
+owner, which clears the set-user-ID and set-group-ID bit, and the call that sets the mode back, and these bits are counted.
+Ends with status 1 where anything was otherwise.
 """
 import argparse
 import collections
@@ -14,6 +16,7 @@ import fcntl
 import os
 import pathlib
 import random
+import shutil
 import socket
 import stat
 import subprocess
@@ -23,6 +26,8 @@ import time
 
 TOP = pathlib.Path(__file__).resolve().parent.parent
 ONE, OTHER, THIRD = (41001, 41101), (41002, 41102), (41003, 41103)
+# The calls by which a mode is set.
+SETS_MODE = "chmod,fchmod,fchmodat"
 faults = []
 
 
@@ -179,16 +184,53 @@ class Bench:
             if 0 < counts["old"] < len(self.owners):
                 middle.append(counts["new"])
             thirds += len(third)
-            now = modes(self.root, self.owners)
-            gone = [path for path in self.owners if now[path] != self.modes[path]]
-            lost += len(gone)
-            for path in gone:
-                os.chmod(self.root / path, self.modes[path])
+            lost += len(self.lost())
         say(f"kills {' '.join(flags)}: {stops}, of which {len(middle)} left files on both sides (at new owners: {middle})")
-        say(f"  files at a third owner after any of them: {thirds}; files that had lost a bit of their modes: {lost}", thirds == 0)
+        say(f"  files at a third owner after any of them: {thirds}; files without a bit of their modes at a kill: {lost}", thirds == 0)
         came = self.ran(*flags)
         say(f"  then run to its end: status {came.returncode}, {came.stdout!r} {came.stderr}", came.returncode == 0)
         self.at_end("then", "old" if "--reverse" in flags else "new")
+
+    def lost(self):
+        """The planned files whose mode is not as it was."""
+        now = modes(self.root, self.owners)
+        return [path for path in self.owners if now[path] != self.modes[path]]
+
+    def stopped(self, number, *flags):
+        """Runs the program, and kills it where it is to set a mode for this time; tells whether it was killed."""
+        inject = f"inject={SETS_MODE}:signal=KILL:when={number}"
+        words = ["strace", "-f", "-o", "/dev/null", "-e", f"trace={SETS_MODE}", "-e", inject, *self.words(*flags)]
+        return subprocess.run(words, capture_output=True, text=True).returncode != 0
+
+    def between(self, *flags):
+        """Kills the program between the change of an owner and the call that sets the mode back, as often as there is such a
+        call: first twice before the first, the second time where it is set back anew, and then each time before the next."""
+        modes_file = pathlib.Path(f"{self.plan}.done.modes")
+        stops, left = 0, collections.Counter()
+        while stops < len(self.owners) and self.stopped(2 if stops > 1 else 1, *flags):
+            stops += 1
+            left[len(self.lost())] += 1
+        lost, is_left = len(self.lost()), modes_file.exists()
+        good = stops > 2 and left == {1: stops} and not lost and not is_left
+        say(f"kills between owner and mode {' '.join(flags)}: {stops}; files without a bit after each: {dict(left)}", good)
+        say(f"  once run to its end: files that had lost a bit of their modes: {lost}, modes file left: {is_left}", good)
+        self.at_end("then", "old" if "--reverse" in flags else "new")
+
+    def foreign_modes(self):
+        """Modes files that are cut, no such file, or another plan's; all files are at their old owners before and behind."""
+        modes_file = pathlib.Path(f"{self.plan}.done.modes")
+        self.stopped(1)
+        whole = modes_file.read_bytes()
+        for what, text in (("cut", whole[:-4]), ("empty", b""), ("no mode", whole.replace(b"\n4755 ", b"\n4795 ", 1)), ("no such file", b"end\n")):
+            modes_file.write_bytes(text)
+            self.refused(f"a modes file, {what}", (), 1, f"file {modes_file}: cut, or no modes of a plan")
+        path = self.lost()[0]
+        modes_file.write_bytes(whole.replace(b" bench-host ", b" bench-hose "))
+        came = self.ran()
+        say(f"a modes file of another plan: status {came.returncode}, left without a bit: {self.lost() == [path]}", self.lost() == [path])
+        os.chmod(self.root / path, self.modes[path])
+        self.ran("--reverse")
+        self.at_end("then back", "old")
 
     def refused(self, what, flags, status, told):
         before = seen(self.root, self.owners)[0]
@@ -250,6 +292,12 @@ def main():
         print(f"{len(owners)} planned files")
         bench.refusals()
         took = bench.seconds()
+        if shutil.which("strace"):
+            bench.foreign_modes()
+            bench.between()
+            bench.between("--reverse")
+        else:
+            print("strace is not there: nothing was killed between the change of an owner and that of a mode")
         bench.killed(took * 0.7, args.kills)
         bench.killed(took * 0.7, args.kills, "--reverse")
     sys.exit(f"otherwise: {len(faults)}" if faults else 0)

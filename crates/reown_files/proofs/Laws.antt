@@ -1,18 +1,20 @@
 -- Records of calls that grow.
-use Rattle.std.proofs.Common.{◌≡◌, ◌<◌, ◌==◌, ℕ, zero, suc, Bool, true, false, ◌&&◌, ◌||◌, List, [], ◌∷◌, ◌++◌, ◌+◌, None, Some, get_or, take, length, refl, sym, ◌∙◌, ap, arith}
+use Rattle.std.proofs.Common.{◌≡◌, ◌<◌, ◌==◌, ℕ, zero, suc, Bool, true, false, ◌&&◌, ◌||◌, List, [], ◌∷◌, ◌++◌, ◌+◌, Option, None, Some, Result, Ok, Err, OnOk, get_or, take, map, length, refl, sym, ◌∙◌, ap, arith}
 use Rattle.std.specs.List.{list_any, list_all}
 use Rattle.std.specs.Str.{bytes_eq}
 use Rattle.std.proofs.lemmas.Bool.Decides.{nat_tests}
-use Rattle.std.proofs.lemmas.List.{take_more}
+use Rattle.std.proofs.lemmas.List.{take_more, get_or-map, length-map}
 use Rattle.std.specs.Cmp.Lexicographic.{bytes_decides}
 use Rattle.reown_plan.specs.declared.mark.PlanMark.{PlanMark}
 use Rattle.reown_plan.specs.declared.plan.Owner.{Owner}
 use Rattle.reown_plan.specs.Mark.{mark_eq}
 use Rattle.reown_plan.specs.Owners.{owner_eq}
+use Rattle.reown_plan.specs.declared.plan.Record.{Record}
 use Rattle.reown_plan.specs.PlanData.{PlanRecord}
+use Rattle.reown_plan.specs.Records.{record_of}
 use Rattle.reown_files.specs.declared.answers.Modes.{Modes}
-use Rattle.reown_files.specs.Calls.{Called, Gave, SetMode, Kept, PutMark}
-use Rattle.reown_files.specs.Lawful.{is_planned, gives_by_plan, modes_stay, was_kept, all_kept, marks_last, is_lawful}
+use Rattle.reown_files.specs.Calls.{Called, Gave, SetMode, Kept, PutMark, LostMode, PutModes}
+use Rattle.reown_files.specs.Lawful.{is_planned, is_given, gives_by_plan, modes_stay, was_kept, all_kept, marks_last, is_unchanged, was_asked, all_asked, is_begun, begins_first, is_lawful}
 
 -- ---- tests
 
@@ -41,6 +43,16 @@ owner_same o = and_true (o.uid == o.uid) (o.gid == o.gid) (nat_same o.uid) (nat_
 bytes_same : (path : List ℕ) → bytes_eq path path ≡ true
 bytes_same path = (bytes_decides path path).1 refl
 
+all_one_more : (p : PlanRecord → Bool) (rs : List PlanRecord) (r : PlanRecord) → list_all p rs ≡ true → p r ≡ true → list_all p (rs ++ r ∷ []) ≡ true
+all_one_more p [] r h e = and_true (p r) true e refl
+all_one_more p (x ∷ xs) r h e =
+    let hs = both (p x) (list_all p xs) h in and_true (p x) (list_all p (xs ++ r ∷ [])) hs.0 (all_one_more p xs r hs.1 e)
+
+-- what holds anyway holds where it was done
+pub on_ok_any : {T E P : Type 0} (r : Result T E) → P → OnOk r P
+on_ok_any (Ok x) p = p
+on_ok_any (Err e) p = tt
+
 -- ---- the change of a record
 
 abbrev nobody : Owner
@@ -58,49 +70,120 @@ any_at p (r ∷ rs) (suc i) d h e = or_true (p r) (list_any p rs) (any_at p rs i
 -- ---- lawful records
 
 module _ (mark : PlanMark) (records : List PlanRecord) (calls : List Called) where
-  pub lawful_parts : is_lawful mark records calls ≡ true → (gives_by_plan records calls ≡ true) × (modes_stay calls ≡ true) × (marks_last mark records calls ≡ true)
+  pub lawful_parts : is_lawful mark records calls ≡ true → (gives_by_plan records calls ≡ true) × (modes_stay calls ≡ true) × (marks_last mark records calls ≡ true) × (begins_first mark records calls ≡ true)
   lawful_parts h =
-      let first = both (gives_by_plan records calls) (modes_stay calls && marks_last mark records calls) h in
-      let rest = both (modes_stay calls) (marks_last mark records calls) first.1 in
-      (first.0, rest.0, rest.1)
+      let first = both (gives_by_plan records calls) (modes_stay calls && (marks_last mark records calls && begins_first mark records calls)) h in
+      let rest = both (modes_stay calls) (marks_last mark records calls && begins_first mark records calls) first.1 in
+      let last = both (marks_last mark records calls) (begins_first mark records calls) rest.1 in
+      (first.0, rest.0, last.0, last.1)
 
-  pub lawful_of : gives_by_plan records calls ≡ true → modes_stay calls ≡ true → marks_last mark records calls ≡ true → is_lawful mark records calls ≡ true
-  lawful_of gives modes last =
-      and_true (gives_by_plan records calls) (modes_stay calls && marks_last mark records calls) gives (and_true (modes_stay calls) (marks_last mark records calls) modes last)
+  pub lawful_of : gives_by_plan records calls ≡ true → modes_stay calls ≡ true → marks_last mark records calls ≡ true → begins_first mark records calls ≡ true → is_lawful mark records calls ≡ true
+  lawful_of gives modes last begins =
+      and_true (gives_by_plan records calls) (modes_stay calls && (marks_last mark records calls && begins_first mark records calls)) gives
+      (and_true (modes_stay calls) (marks_last mark records calls && begins_first mark records calls) modes
+      (and_true (marks_last mark records calls) (begins_first mark records calls) last begins))
 
 -- one more file that was kept
 pub lawful_kept : (mark : PlanMark) (records : List PlanRecord) (calls : List Called) (path : List ℕ) (owner : Owner) (done : Bool) → is_lawful mark records calls ≡ true → is_lawful mark records (Kept path owner done ∷ calls) ≡ true
 lawful_kept mark records calls path owner done h = h
 
-module _ (mark : PlanMark) (records : List PlanRecord) (calls : List Called) (path : List ℕ) (before after : Owner) (planned : is_planned records path before after ≡ true) (h : is_lawful mark records calls ≡ true) where
-  abbrev parts : (gives_by_plan records calls ≡ true) × (modes_stay calls ≡ true) × (marks_last mark records calls ≡ true)
+module _ (mark : PlanMark) (records : List PlanRecord) (calls : List Called) (path : List ℕ) (before after : Owner) (planned : is_planned records path before after ≡ true) (begun : is_begun records calls ≡ true) (h : is_lawful mark records calls ≡ true) where
+  abbrev parts : (gives_by_plan records calls ≡ true) × (modes_stay calls ≡ true) × (marks_last mark records calls ≡ true) × (begins_first mark records calls ≡ true)
   parts = lawful_parts mark records calls h
 
   more : gives_by_plan records (Gave path before after None ∷ calls) ≡ true
   more = and_true (is_planned records path before after) (gives_by_plan records calls) planned parts.0
 
+  behind : begins_first mark records (Gave path before after None ∷ calls) ≡ true
+  behind = and_true (is_begun records calls) (begins_first mark records calls) begun parts.3
+
   -- a change that failed
   pub lawful_failed : is_lawful mark records (Gave path before after None ∷ calls) ≡ true
-  lawful_failed = lawful_of mark records (Gave path before after None ∷ calls) more parts.1 parts.2
+  lawful_failed = lawful_of mark records (Gave path before after None ∷ calls) more parts.1 parts.2 behind
 
   -- one that left the mode
   pub lawful_left : (modes : Modes) → modes.before ≡ modes.after → is_lawful mark records (Gave path before after (Some modes) ∷ calls) ≡ true
   lawful_left modes same =
       lawful_of mark records (Gave path before after (Some modes) ∷ calls) more
-      (and_true (modes.before == modes.after) (modes_stay calls) (ap (λ n. modes.before == n) (sym same) ∙ nat_same modes.before) parts.1) parts.2
+      (and_true (modes.before == modes.after) (modes_stay calls) (ap (λ n. modes.before == n) (sym same) ∙ nat_same modes.before) parts.1) parts.2 behind
 
   -- one behind which the mode was set back
   pub lawful_set_back : (modes : Modes) (owner : Owner) (done : Bool) → is_lawful mark records (SetMode path owner modes.before done ∷ Gave path before after (Some modes) ∷ calls) ≡ true
   lawful_set_back modes owner done =
       lawful_of mark records (SetMode path owner modes.before done ∷ Gave path before after (Some modes) ∷ calls) more
-      (and_true (bytes_eq path path && (modes.before == modes.before)) (modes_stay calls) (and_true (bytes_eq path path) (modes.before == modes.before) (bytes_same path) (nat_same modes.before)) parts.1) parts.2
+      (and_true (bytes_eq path path && (modes.before == modes.before)) (modes_stay calls) (and_true (bytes_eq path path) (modes.before == modes.before) (bytes_same path) (nat_same modes.before)) parts.1) parts.2 behind
 
 -- the mark, where each file was kept
 pub lawful_mark : (mark : PlanMark) (records : List PlanRecord) (calls : List Called) (plan : PlanMark) (done : Bool) → mark_eq plan mark ≡ true → all_kept records calls ≡ true → is_lawful mark records calls ≡ true → is_lawful mark records (PutMark plan done ∷ calls) ≡ true
 lawful_mark mark records calls plan done own kept h =
     let parts = lawful_parts mark records calls h in
     lawful_of mark records (PutMark plan done ∷ calls) parts.0 parts.1
-    (and_true (mark_eq plan mark) (all_kept records calls && marks_last mark records calls) own (and_true (all_kept records calls) (marks_last mark records calls) kept parts.2))
+    (and_true (mark_eq plan mark) (all_kept records calls && marks_last mark records calls) own (and_true (all_kept records calls) (marks_last mark records calls) kept parts.2)) parts.3
+
+-- ---- modes that an earlier run had lost
+
+mark_same : (m : PlanMark) → mark_eq m m ≡ true
+mark_same m = rw (bytes_same m.host, nat_same m.length, bytes_same m.digest) refl
+
+module _ (mark : PlanMark) (records : List PlanRecord) (calls : List Called) (unchanged : is_unchanged calls ≡ true) (h : is_lawful mark records calls ≡ true) where
+  abbrev held : (gives_by_plan records calls ≡ true) × (modes_stay calls ≡ true) × (marks_last mark records calls ≡ true) × (begins_first mark records calls ≡ true)
+  held = lawful_parts mark records calls h
+
+  module _ (path : List ℕ) (owner : Owner) (given : list_any (is_given path owner) records ≡ true) where
+    asks : (mode : Option ℕ) → begins_first mark records (LostMode mark path owner mode ∷ calls) ≡ true
+    asks mode =
+        and_true (mark_eq mark mark) (list_any (is_given path owner) records && (is_unchanged calls && begins_first mark records calls)) (mark_same mark)
+        (and_true (list_any (is_given path owner) records) (is_unchanged calls && begins_first mark records calls) given
+        (and_true (is_unchanged calls) (begins_first mark records calls) unchanged held.3))
+
+    -- an answer that none was lost
+    pub lawful_none : is_lawful mark records (LostMode mark path owner None ∷ calls) ≡ true
+    lawful_none = lawful_of mark records (LostMode mark path owner None ∷ calls) held.0 held.1 held.2 (asks None)
+
+    -- one that was lost, and set back
+    pub lawful_found : (mode : ℕ) (done : Bool) → is_lawful mark records (SetMode path owner mode done ∷ LostMode mark path owner (Some mode) ∷ calls) ≡ true
+    lawful_found mode done =
+        lawful_of mark records (SetMode path owner mode done ∷ LostMode mark path owner (Some mode) ∷ calls) held.0
+        (and_true (bytes_eq path path && (mode == mode)) (modes_stay calls) (and_true (bytes_eq path path) (mode == mode) (bytes_same path) (nat_same mode)) held.1) held.2 (asks (Some mode))
+
+  -- those that this run may lose
+  pub lawful_put : (done : Bool) → is_lawful mark records (PutModes mark done ∷ calls) ≡ true
+  lawful_put done =
+      lawful_of mark records (PutModes mark done ∷ calls) held.0 held.1 held.2
+      (and_true (mark_eq mark mark) (is_unchanged calls && begins_first mark records calls) (mark_same mark) (and_true (is_unchanged calls) (begins_first mark records calls) unchanged held.3))
+
+pub begun_put : (records : List PlanRecord) (calls : List Called) (plan : PlanMark) → all_asked records calls ≡ true → is_begun records (PutModes plan true ∷ calls) ≡ true
+begun_put records calls plan h = or_first (all_asked records calls) (is_begun records calls) h
+
+all_also : (p q : PlanRecord → Bool) → ((r : PlanRecord) → p r ≡ true → q r ≡ true) → (rs : List PlanRecord) → list_all p rs ≡ true → list_all q rs ≡ true
+all_also p q each [] h = refl
+all_also p q each (r ∷ rs) h =
+    let hs = both (p r) (list_all p rs) h in and_true (q r) (list_all q rs) (each r hs.0) (all_also p q each rs hs.1)
+
+given_same : (r : PlanRecord) → is_given r.path r.after r ≡ true
+given_same r = and_true (bytes_eq r.path r.path) (owner_eq r.after r.after) (bytes_same r.path) (owner_same r.after)
+
+pub given_at : (rs : List Record) (i : ℕ) (d : Record) → i < length rs → list_any (is_given (record_of (get_or rs i d)).path (record_of (get_or rs i d)).after) (map record_of rs) ≡ true
+given_at rs i d below =
+    let r = record_of (get_or rs i d) in
+    any_at (is_given r.path r.after) (map record_of rs) i nothing (omega (arith, length-map rs record_of))
+    (ap (is_given r.path r.after) (get_or-map record_of rs i d nothing below) ∙ given_same r)
+
+module _ (plan : PlanMark) (calls : List Called) (records : List PlanRecord) (r : PlanRecord) (h : all_asked records calls ≡ true) where
+  asked_before : (mode : Option ℕ) → all_asked records (LostMode plan r.path r.after mode ∷ calls) ≡ true
+  asked_before mode =
+      all_also (was_asked calls) (was_asked (LostMode plan r.path r.after mode ∷ calls)) (λ x e. or_true (is_given r.path r.after x) (was_asked calls x) e) records h
+
+  -- one more file is asked for
+  pub one_more_asked : (mode : Option ℕ) → all_asked (records ++ r ∷ []) (LostMode plan r.path r.after mode ∷ calls) ≡ true
+  one_more_asked mode =
+      all_one_more (was_asked (LostMode plan r.path r.after mode ∷ calls)) records r (asked_before mode)
+      (or_first (is_given r.path r.after r) (was_asked calls r) (given_same r))
+
+  -- and its mode set back and synced
+  pub one_more_found : (mode : Option ℕ) (set : ℕ) (done kept : Bool) → all_asked (records ++ r ∷ []) (Kept r.path r.after kept ∷ SetMode r.path r.after set done ∷ LostMode plan r.path r.after mode ∷ calls) ≡ true
+  one_more_found mode set done kept =
+      all_also (was_asked (LostMode plan r.path r.after mode ∷ calls)) (was_asked (Kept r.path r.after kept ∷ SetMode r.path r.after set done ∷ LostMode plan r.path r.after mode ∷ calls)) (λ x e. e) (records ++ r ∷ []) (one_more_asked mode)
 
 -- ---- files that were kept
 
@@ -124,11 +207,6 @@ now_kept : (r : PlanRecord) (calls : List Called) → was_kept (Kept r.path r.af
 now_kept r calls =
     or_first (bytes_eq r.path r.path && owner_eq r.after r.after) (was_kept calls r)
     (and_true (bytes_eq r.path r.path) (owner_eq r.after r.after) (bytes_same r.path) (owner_same r.after))
-
-all_one_more : (p : PlanRecord → Bool) (rs : List PlanRecord) (r : PlanRecord) → list_all p rs ≡ true → p r ≡ true → list_all p (rs ++ r ∷ []) ≡ true
-all_one_more p [] r h e = and_true (p r) true e refl
-all_one_more p (x ∷ xs) r h e =
-    let hs = both (p x) (list_all p xs) h in and_true (p x) (list_all p (xs ++ r ∷ [])) hs.0 (all_one_more p xs r hs.1 e)
 
 -- one more file is kept
 pub one_more_kept : (calls : List Called) (records : List PlanRecord) (r : PlanRecord) → all_kept records calls ≡ true → all_kept (records ++ r ∷ []) (Kept r.path r.after true ∷ calls) ≡ true

@@ -9,7 +9,7 @@ use Rattle.reown_plan.specs.Mark.{mark_eq}
 use Rattle.reown_plan.specs.Owners.{owner_eq}
 use Rattle.reown_plan.specs.PlanData.{PlanRecord}
 use Rattle.reown_files.specs.declared.answers.Modes.{Modes}
-use Rattle.reown_files.specs.Calls.{Called, Gave, SetMode, Kept, PutMark}
+use Rattle.reown_files.specs.Calls.{Called, Gave, SetMode, Kept, PutMark, LostMode, PutModes}
 
 -- ---- owners
 
@@ -28,6 +28,8 @@ gives_by_plan records (Gave path before after modes ∷ calls) = is_planned reco
 gives_by_plan records (SetMode path owner mode done ∷ calls) = gives_by_plan records calls
 gives_by_plan records (Kept path owner done ∷ calls) = gives_by_plan records calls
 gives_by_plan records (PutMark plan done ∷ calls) = gives_by_plan records calls
+gives_by_plan records (LostMode plan path owner mode ∷ calls) = gives_by_plan records calls
+gives_by_plan records (PutModes plan done ∷ calls) = gives_by_plan records calls
 
 -- ---- modes
 
@@ -43,6 +45,13 @@ leaves_mode path None (Some set) = false
 leaves_mode path (Some modes) None = modes.before == modes.after
 leaves_mode path (Some modes) (Some set) = bytes_eq set.path path && (set.mode == modes.before)
 
+-- a file whose mode an earlier run had lost has the mode that was written down: that was set right behind the answer
+abbrev pub sets_back : List ℕ → Option ℕ → Option ModeSet → Bool
+sets_back path None None = true
+sets_back path None (Some set) = false
+sets_back path (Some mode) None = false
+sets_back path (Some mode) (Some set) = bytes_eq set.path path && (set.mode == mode)
+
 -- where this mode was set right behind the calls
 abbrev pub modes_stay_before : Option ModeSet → List Called → Bool
 modes_stay_before set [] = is_none set
@@ -51,8 +60,11 @@ modes_stay_before set (SetMode path owner mode done ∷ calls) =
     is_none set && modes_stay_before (Some (record { path = path; mode = mode })) calls
 modes_stay_before set (Kept path owner done ∷ calls) = is_none set && modes_stay_before None calls
 modes_stay_before set (PutMark plan done ∷ calls) = is_none set && modes_stay_before None calls
+modes_stay_before set (LostMode plan path owner mode ∷ calls) = sets_back path mode set && modes_stay_before None calls
+modes_stay_before set (PutModes plan done ∷ calls) = is_none set && modes_stay_before None calls
 
--- no file is left with another mode than it had, and no mode is set but right behind the change that cleared it
+-- no file is left with another mode than it had, and no mode is set but right behind the change that cleared it, or behind the
+-- answer that an earlier run had lost it
 abbrev pub modes_stay : List Called → Bool
 modes_stay calls = modes_stay_before None calls
 
@@ -65,6 +77,8 @@ was_kept (Gave path before after modes ∷ calls) r = if bytes_eq path r.path th
 was_kept (SetMode path owner mode done ∷ calls) r = if bytes_eq path r.path then false else was_kept calls r
 was_kept (Kept path owner done ∷ calls) r = (done && (bytes_eq path r.path && owner_eq owner r.after)) || was_kept calls r
 was_kept (PutMark plan done ∷ calls) r = was_kept calls r
+was_kept (LostMode plan path owner mode ∷ calls) r = was_kept calls r
+was_kept (PutModes plan done ∷ calls) r = was_kept calls r
 
 abbrev pub all_kept : List PlanRecord → List Called → Bool
 all_kept records calls = list_all (was_kept calls) records
@@ -76,9 +90,63 @@ marks_last mark records (Gave path before after modes ∷ calls) = marks_last ma
 marks_last mark records (SetMode path owner mode done ∷ calls) = marks_last mark records calls
 marks_last mark records (Kept path owner done ∷ calls) = marks_last mark records calls
 marks_last mark records (PutMark plan done ∷ calls) = mark_eq plan mark && (all_kept records calls && marks_last mark records calls)
+marks_last mark records (LostMode plan path owner mode ∷ calls) = marks_last mark records calls
+marks_last mark records (PutModes plan done ∷ calls) = marks_last mark records calls
+
+-- ---- modes that an earlier run had lost
+
+-- the file is the record's, at its new owner
+abbrev pub is_given : List ℕ → Owner → PlanRecord → Bool
+is_given path owner r = bytes_eq path r.path && owner_eq owner r.after
+
+-- no file was given an owner as yet
+abbrev pub is_unchanged : List Called → Bool
+is_unchanged [] = true
+is_unchanged (Gave path before after modes ∷ calls) = false
+is_unchanged (SetMode path owner mode done ∷ calls) = is_unchanged calls
+is_unchanged (Kept path owner done ∷ calls) = is_unchanged calls
+is_unchanged (PutMark plan done ∷ calls) = is_unchanged calls
+is_unchanged (LostMode plan path owner mode ∷ calls) = is_unchanged calls
+is_unchanged (PutModes plan done ∷ calls) = is_unchanged calls
+
+-- the mode was asked for that an earlier run had lost of the record's file
+abbrev pub was_asked : List Called → PlanRecord → Bool
+was_asked [] r = false
+was_asked (Gave path before after modes ∷ calls) r = was_asked calls r
+was_asked (SetMode path owner mode done ∷ calls) r = was_asked calls r
+was_asked (Kept path owner done ∷ calls) r = was_asked calls r
+was_asked (PutMark plan done ∷ calls) r = was_asked calls r
+was_asked (LostMode plan path owner mode ∷ calls) r = is_given path owner r || was_asked calls r
+was_asked (PutModes plan done ∷ calls) r = was_asked calls r
+
+abbrev pub all_asked : List PlanRecord → List Called → Bool
+all_asked records calls = list_all (was_asked calls) records
+
+-- the modes that this run may lose were written down, behind such a question for each file
+abbrev pub is_begun : List PlanRecord → List Called → Bool
+is_begun records [] = false
+is_begun records (Gave path before after modes ∷ calls) = is_begun records calls
+is_begun records (SetMode path owner mode done ∷ calls) = is_begun records calls
+is_begun records (Kept path owner done ∷ calls) = is_begun records calls
+is_begun records (PutMark plan done ∷ calls) = is_begun records calls
+is_begun records (LostMode plan path owner mode ∷ calls) = is_begun records calls
+is_begun records (PutModes plan done ∷ calls) = (done && all_asked records calls) || is_begun records calls
+
+-- no file is given an owner before that; and modes are asked for and written down for this plan alone, its files at their new
+-- owners, and before any file is given one
+abbrev pub begins_first : PlanMark → List PlanRecord → List Called → Bool
+begins_first mark records [] = true
+begins_first mark records (Gave path before after modes ∷ calls) = is_begun records calls && begins_first mark records calls
+begins_first mark records (SetMode path owner mode done ∷ calls) = begins_first mark records calls
+begins_first mark records (Kept path owner done ∷ calls) = begins_first mark records calls
+begins_first mark records (PutMark plan done ∷ calls) = begins_first mark records calls
+begins_first mark records (LostMode plan path owner mode ∷ calls) =
+    mark_eq plan mark && (list_any (is_given path owner) records && (is_unchanged calls && begins_first mark records calls))
+begins_first mark records (PutModes plan done ∷ calls) = mark_eq plan mark && (is_unchanged calls && begins_first mark records calls)
 
 -- ---- all of it
 
 -- nothing was asked for but what the plan with this mark and these records has, and that in its order
 abbrev pub is_lawful : PlanMark → List PlanRecord → List Called → Bool
-is_lawful mark records calls = gives_by_plan records calls && (modes_stay calls && marks_last mark records calls)
+is_lawful mark records calls =
+    gives_by_plan records calls && (modes_stay calls && (marks_last mark records calls && begins_first mark records calls))

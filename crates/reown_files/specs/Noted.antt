@@ -1,6 +1,6 @@
 -- What a call is in the record of calls.
 -- Values that borrow from the input, without the borrow: words of the code and not of the subject.
-use Rattle.reown_files.specs.Calls.{Called, Gave, SetMode, Kept, PutMark}
+use Rattle.reown_files.specs.Calls.{Called, Gave, SetMode, Kept, PutMark, LostMode, PutModes}
 use Rattle.reown_files.specs.declared.log.Call.{Call}
 use Rattle.reown_files.specs.declared.log.Call.TheVariants as call
 
@@ -9,3 +9,5 @@ noted (call.Gave path before after modes) = Gave path.now before after modes
 noted (call.SetMode path owner mode done) = SetMode path.now owner mode done
 noted (call.Kept path owner done) = Kept path.now owner done
 noted (call.PutMark plan done) = PutMark plan.now done
+noted (call.LostMode plan path owner mode) = LostMode plan.now path.now owner mode
+noted (call.PutModes plan done) = PutModes plan.now done

@@ -36,6 +36,8 @@ pub enum Trouble {
     NoProc,
     /// The file of the mark is not a mark.
     NotMark,
+    /// The file of the modes is cut, or has no modes of a plan.
+    NotModes,
 }
 
 /// The bits of a file's mode around a change of its owner (inode(7)), set-user-ID and set-group-ID among them.
@@ -71,6 +73,8 @@ pub enum OpenFault {
     File(usize, Trouble),
     /// The mark could not be looked at, or the disk not be synced.
     Disk(Trouble),
+    /// The modes that an earlier run wrote down could not be read, or those that this one may lose not be written.
+    Modes(Trouble),
 }
 
 impl From<AllocError> for OpenFault {

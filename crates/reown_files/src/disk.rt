@@ -1,6 +1,6 @@
 //! The calls by which the files of a plan are looked at and changed.
 ghost use Rattle.std.specs.Prelude.{◌≡◌, ◌∷◌, List, None, Some, IfOk, OnErr, is_ok};
-ghost use Rattle.reown_files.specs.Calls.{Called, Gave, SetMode, Kept, PutMark};
+ghost use Rattle.reown_files.specs.Calls.{Called, Gave, SetMode, Kept, PutMark, LostMode, PutModes};
 
 use crate::{Modes, Trouble};
 use reown_plan::{Owner, PlanMark};
@@ -33,11 +33,12 @@ pub trait Disk: Drop {
     fn set_mode(&mut self, path: &[u8], owner: Owner, mode: u32) -> Result<(), Trouble>
         ensures { calls self.new ≡ SetMode path.now owner mode (is_ok result) ∷ calls self.old };
 
-    /// Sees that a file has this owner, and sees to it that a stop of the machine leaves it so.
+    /// Sees that a file has this owner, and sees to it, by itself or with the next `settle`, that a stop of the machine leaves
+    /// it so.
     fn keep(&mut self, path: &[u8], owner: Owner) -> Result<(), Trouble>
         ensures { calls self.new ≡ Kept path.now owner (is_ok result) ∷ calls self.old };
 
-    /// Sees to it for what `keep` does not open: links, sockets, pipes and devices.
+    /// Sees to it for what `keep` has not synced: links, sockets, pipes and devices, and all files where one sync keeps all.
     fn settle(&mut self) -> Result<(), Trouble>
         ensures { calls self.new ≡ calls self.old };
 
@@ -49,7 +50,29 @@ pub trait Disk: Drop {
     fn put_mark(&mut self, plan: &PlanMark) -> Result<(), Trouble>
         ensures { calls self.new ≡ PutMark plan.now (is_ok result) ∷ calls self.old };
 
-    /// Sees to it that a stop of the machine leaves the mark.
+    /// Reads the modes that an earlier run of this plan wrote down, if there is one that did. Where the mark is there, that run
+    /// has lost none.
+    fn read_modes(&mut self, plan: &PlanMark, mark: bool) -> Result<(), Trouble>
+        ensures { calls self.new ≡ calls self.old };
+
+    /// The mode that was read of this plan for a file, where the file has this owner and its mode lacks bits of that one, as a
+    /// change of its owner clears them; none where it has another owner, or another mode.
+    fn lost_mode(
+        &mut self,
+        plan: &PlanMark,
+        path: &[u8],
+        owner: Owner,
+    ) -> Result<Option<u32>, Trouble>
+        ensures told { IfOk result (λ mode. calls self.new ≡ LostMode plan.now path.now owner mode ∷ calls self.old) }
+        ensures failed { OnErr result (calls self.new ≡ calls self.old) };
+
+    /// Writes down for this plan the modes of the files that were met at another owner than their new one and may lose bits of
+    /// them, in place of what was written down before. A stop of the machine leaves that.
+    fn put_modes(&mut self, plan: &PlanMark) -> Result<(), Trouble>
+        ensures { calls self.new ≡ PutModes plan.now (is_ok result) ∷ calls self.old };
+
+    /// Sees to it that a stop of the machine leaves the mark. Where this run has put it, the modes that it wrote down are forgotten
+    /// then.
     fn keep_mark(&mut self) -> Result<(), Trouble>
         ensures { calls self.new ≡ calls self.old };
 }

@@ -3,7 +3,7 @@ ghost use Rattle.std.specs.Prelude.{◌≡◌, true, List, map, OnOk};
 ghost use Rattle.reown_plan.specs.declared.mark.PlanMark.{PlanMark};
 ghost use Rattle.reown_plan.specs.PlanData.{PlanRecord};
 ghost use Rattle.reown_plan.specs.Records.{record_of};
-ghost use Rattle.reown_files.specs.Lawful.{is_of, is_planned, all_kept, is_lawful};
+ghost use Rattle.reown_files.specs.Lawful.{is_of, is_planned, all_kept, is_begun, is_lawful};
 
 use crate::{Disk, Stop, Trouble};
 use reown_plan::{Owner, Record};
@@ -33,8 +33,10 @@ pub fn give_file<D: Disk>(
     before: Owner,
     after: Owner,
 ) -> Result<(), Trouble>
-    ensures { (mark : PlanMark) (records : List PlanRecord) → is_planned records path.now before after ≡ true
+    ensures lawful { (mark : PlanMark) (records : List PlanRecord) → is_planned records path.now before after ≡ true
+        → is_begun records (D.calls disk.old) ≡ true
         → is_lawful mark records (D.calls disk.old) ≡ true → is_lawful mark records (D.calls disk.new) ≡ true }
+    ensures begun { (records : List PlanRecord) → is_begun records (D.calls disk.old) ≡ true → is_begun records (D.calls disk.new) ≡ true }
 {
     let modes = match disk.give(path, before, after) {
         Ok(modes) => modes,
@@ -51,6 +53,7 @@ pub fn keep_all<D: Disk>(disk: &mut D, records: &[Record]) -> Result<(), Stop>
     ensures kept { OnOk result (all_kept (map record_of records.now) (D.calls disk.new) ≡ true) }
     ensures lawful { (mark : PlanMark) (plan : List PlanRecord)
         → is_lawful mark plan (D.calls disk.old) ≡ true → is_lawful mark plan (D.calls disk.new) ≡ true }
+    ensures begun { (plan : List PlanRecord) → is_begun plan (D.calls disk.old) ≡ true → is_begun plan (D.calls disk.new) ≡ true }
 {
     for (i, planned) in records.iter().enumerate() {
         match disk.keep(planned.path, planned.after) {

@@ -9,14 +9,18 @@ mod giving;
 mod log;
 mod looking;
 mod mark_file;
+mod modes_file;
 mod real_tree;
+mod restoring;
 mod root;
 mod walk;
+mod whole_file;
 
 pub use answers::{Modes, OpenFault, Stop, Trouble};
 pub use applying::apply;
 pub use counting::{OwnerCounts, count_owners};
 pub use disk::Disk;
 pub use log::{Call, Log};
+pub use modes_file::MODES_BEHIND;
 pub use real_tree::RealTree;
 pub use root::Root;

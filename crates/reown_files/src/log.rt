@@ -28,6 +28,10 @@ pub enum Call<'a> {
     Kept(&'a [u8], Owner, bool),
     /// The mark of this plan was to be put.
     PutMark(&'a PlanMark, bool),
+    /// The mode was asked for that an earlier run of this plan had lost of a file, which has this owner now.
+    LostMode(&'a PlanMark, &'a [u8], Owner, Option<u32>),
+    /// The modes that this run of the plan may lose were to be written down.
+    PutModes(&'a PlanMark, bool),
 }
 
 impl Log {

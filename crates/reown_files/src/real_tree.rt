@@ -3,6 +3,7 @@ ghost use Rattle.std.specs.Prelude.{◌≡◌, ◌+◌, ◌^◌, ◌<◌, [], tr
 
 use crate::giving::{give_file, has_change, keep_all};
 use crate::looking::{check_all_links, look_at_all, look_at_mark};
+use crate::restoring::begin;
 use crate::{Disk, OpenFault, Stop, Trouble};
 use reown_plan::{Owner, Plan, PlanMark, Record};
 use reown_runner::{DeviceFault, MemTree, Tree};
@@ -29,7 +30,7 @@ pub struct RealTree<'p, 'a, D: Disk> {
 impl<'p, 'a, D: Disk> Model for RealTree<'p, 'a, D> {
     ghost use Rattle.std.specs.Prelude.{◌≡◌, map, true};
     ghost use Rattle.reown_plan.specs.Records.{record_of};
-    ghost use Rattle.reown_files.specs.Lawful.{is_lawful, all_kept};
+    ghost use Rattle.reown_files.specs.Lawful.{is_lawful, is_begun, all_kept};
     ghost use Rattle.reown_files.specs.Real.{RealData};
 
     ghost Value = { RealData };
@@ -47,7 +48,8 @@ impl<'p, 'a, D: Disk> Model for RealTree<'p, 'a, D> {
 
     ghost invariant = { λ r. (r.held.paths ≡ map (λ x. x.path) (map record_of r.records.now))
         × (is_lawful r.mark (map record_of r.records.now) (D.calls r.disk) ≡ true)
-        × (r.is_kept ≡ true → all_kept (map record_of r.records.now) (D.calls r.disk) ≡ true) };
+        × (r.is_kept ≡ true → all_kept (map record_of r.records.now) (D.calls r.disk) ≡ true)
+        × (is_begun (map record_of r.records.now) (D.calls r.disk) ≡ true) };
 }
 
 ghost use Rattle.reown_files.specs.Lawful.{is_lawful, is_planned};
@@ -82,13 +84,14 @@ fn held_tree(
 
 impl<'p, 'a, D: Disk> RealTree<'p, 'a, D> {
     /// Opens the files of a plan on a disk, as an earlier run of the plan may have left them, or none. What such a run did is
-    /// synced first, so that a stop of the machine leaves it. Two passes over the plan.
+    /// synced first, so that a stop of the machine leaves it; what modes it lost are set back; and those that this one may lose
+    /// are written down. Three passes over the plan.
     ///
     /// # Errors
     ///
     /// The first record, in order, whose file is not there, or has neither its old nor its new owner, or its old one where the
-    /// mark is set; then the first whose file has a name that is not in the plan; a call of the disk that failed; or want of
-    /// memory. Nothing is changed then.
+    /// mark is set; then the first whose file has a name that is not in the plan; modes of an earlier run that cannot be read; a
+    /// call of the disk that failed; or want of memory. Nothing is changed then but modes that were set back.
     pub fn open(alloc: Global, plan: &'p Plan<'a>, mut disk: D) -> Result<Self, OpenFault>
         requires { D.calls disk ≡ [] }
         ensures mark { IfOk result (λ tree. tree.mark ≡ mark_of plan.now) }
@@ -108,6 +111,10 @@ impl<'p, 'a, D: Disk> RealTree<'p, 'a, D> {
         };
         if let Err(fault) = check_all_links(&mut disk, records) {
             return Err(fault);
+        }
+        match begin(&mut disk, &mark, records, is_marked) {
+            Ok(()) => {}
+            Err(fault) => return Err(fault),
         }
         if let Err(trouble) = disk.settle() {
             return Err(OpenFault::Disk(trouble));

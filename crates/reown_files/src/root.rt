@@ -2,6 +2,7 @@
 ghost use Rattle.std.specs.Prelude.{◌≡◌, [], IfOk};
 
 use crate::mark_file::MarkFile;
+use crate::modes_file::{ModesFile, has_lost};
 use crate::walk::{Directory, Found, Kind};
 use crate::{Call, Disk, Log, Modes, Trouble};
 use reown_plan::{Owner, PlanMark};
@@ -182,14 +183,14 @@ impl<'w> Below<'w> {
 
 // The calls of a disk.
 impl<'w> Below<'w> {
-    fn meet(&mut self, path: &[u8], after: Owner) -> Result<Owner, Trouble> {
+    fn meet(&mut self, path: &[u8], after: Owner) -> Result<Found, Trouble> {
         let name = self.enter(path)?;
         let found = self.find(name)?;
         self.count_name(&found, after)?;
         if found.owner == after {
             self.sync(name, &found)?;
         }
-        Ok(found.owner)
+        Ok(found)
     }
 
     fn check_links(&mut self, path: &[u8]) -> Result<(), Trouble> {
@@ -251,6 +252,9 @@ impl<'w> Below<'w> {
 pub struct Root<'w> {
     below: Below<'w>,
     mark: MarkFile<'w>,
+    modes: ModesFile<'w>,
+    // Whether the mark was put.
+    is_put: bool,
     log: Log,
 }
 
@@ -278,6 +282,8 @@ impl<'w> Root<'w> {
         Ok(Root {
             below,
             mark: MarkFile::at(rt, mark),
+            modes: ModesFile::beside(rt, mark)?,
+            is_put: false,
             log: Log::new(),
         })
     }
@@ -304,7 +310,13 @@ impl<'w> Disk for Root<'w> {
     ghost calls = { λ root. root.log.calls };
 
     fn meet(&mut self, path: &[u8], after: Owner) -> Result<Option<Owner>, Trouble> {
-        if_there(self.below.meet(path, after))
+        let Some(found) = if_there(self.below.meet(path, after))? else {
+            return Ok(None);
+        };
+        if found.owner != after {
+            self.modes.meet(path, &found)?;
+        }
+        Ok(Some(found.owner))
     }
 
     fn check_links(&mut self, path: &[u8]) -> Result<(), Trouble> {
@@ -355,11 +367,44 @@ impl<'w> Disk for Root<'w> {
 
     fn put_mark(&mut self, plan: &PlanMark) -> Result<(), Trouble> {
         let told = self.mark.put(plan);
+        self.is_put = self.is_put || told.is_ok();
         self.log.note(&Call::PutMark(plan, told.is_ok()));
         told
     }
 
+    fn read_modes(&mut self, plan: &PlanMark, mark: bool) -> Result<(), Trouble> {
+        self.modes.read(plan, mark)
+    }
+
+    fn lost_mode(
+        &mut self,
+        plan: &PlanMark,
+        path: &[u8],
+        owner: Owner,
+    ) -> Result<Option<u32>, Trouble> {
+        let lost = match self.modes.noted(plan, path) {
+            Some(mode) => {
+                let found = self.below.look(path)?;
+                let is_lost = found.owner == owner && has_lost(&found, mode);
+                if is_lost { Some(mode) } else { None }
+            }
+            None => None,
+        };
+        self.log.note(&Call::LostMode(plan, path, owner, lost));
+        Ok(lost)
+    }
+
+    fn put_modes(&mut self, plan: &PlanMark) -> Result<(), Trouble> {
+        let told = self.modes.put(plan);
+        self.log.note(&Call::PutModes(plan, told.is_ok()));
+        told
+    }
+
     fn keep_mark(&mut self) -> Result<(), Trouble> {
-        self.mark.keep()
+        self.mark.keep()?;
+        if self.is_put {
+            self.modes.forget()?;
+        }
+        Ok(())
     }
 }

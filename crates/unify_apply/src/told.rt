@@ -1,7 +1,7 @@
 //! Why a plan is not carried out, or only to a part of it.
 
 use idtext::ByteString;
-use reown_files::{OpenFault, Stop, Trouble};
+use reown_files::{MODES_BEHIND, OpenFault, Stop, Trouble};
 use reown_plan::Record;
 use std::alloc::AllocError;
 use std::io::Write;
@@ -85,6 +85,7 @@ fn said_of(trouble: Trouble) -> Said<'static> {
         Trouble::Busy => "another command is at work there",
         Trouble::NoProc => "files are reached by /proc, which is not there",
         Trouble::NotMark => "no mark of a plan",
+        Trouble::NotModes => "cut, or no modes of a plan",
     })
 }
 
@@ -98,6 +99,7 @@ fn is_refusal(trouble: Trouble) -> bool {
             | Trouble::LinkedElsewhere
             | Trouble::LinkedOtherwise
             | Trouble::NotMark
+            | Trouble::NotModes
     )
 }
 
@@ -118,7 +120,15 @@ pub fn root_refused(rt: &HostRuntime, place: Place<'_>, trouble: Trouble) -> Fil
     tell_of(rt, "root", place.root.as_bytes(), &[said_of(trouble)], 2)
 }
 
-/// Tells why the files of a plan are not begun with. Nothing was changed.
+// Tells what is wrong with the file of the modes beside a mark.
+fn modes_refused(rt: &HostRuntime, mark: &str, trouble: Trouble) -> FileFault {
+    match format!(in rt.alloc(); "{mark}{MODES_BEHIND}") {
+        Ok(path) => file_refused(rt, path.as_str().as_bytes(), trouble),
+        Err(_) => FileFault::Memory,
+    }
+}
+
+/// Tells why the files of a plan are not begun with. Nothing was changed but modes that an earlier run had lost.
 pub fn not_opened(
     rt: &HostRuntime,
     place: Place<'_>,
@@ -132,6 +142,7 @@ pub fn not_opened(
         OpenFault::Unfinished(i) => unfinished(rt, records, i),
         OpenFault::File(i, trouble) => file_refused(rt, path_at(records, i), trouble),
         OpenFault::Disk(trouble) => file_refused(rt, place.mark.as_bytes(), trouble),
+        OpenFault::Modes(trouble) => modes_refused(rt, place.mark, trouble),
     }
 }
 

@@ -4,7 +4,7 @@ use Rattle.std.specs.Result.{is_ok}
 use Rattle.std.proofs.lemmas.List.{get_or-map, length-map}
 use Rattle.reown_plan.specs.Records.{record_of}
 use Rattle.reown_files.specs.Calls.{Kept}
-use Rattle.reown_files.specs.Lawful.{is_lawful}
+use Rattle.reown_files.specs.Lawful.{is_begun, is_lawful}
 use Rattle.reown_files.proofs.Laws.{nothing, keeps_on}
 use Rattle.reown_files.proofs.giving.keep_all.Goals as goal
 
@@ -18,4 +18,5 @@ loop-i-preserved g c =
           (subst (λ (r : PlanRecord). g.D.Disk.calls c.keep.new.self ≡ Kept r.path r.after (is_ok c.keep.result) ∷ g.D.Disk.calls c.loop-i.disk) (sym (get_or-map record_of rs c.loop-i.i _ nothing below)) c.keep.ensures)
           (ap is_ok c.in-Ok.is) c.loop-i.invariant.kept;
       lawful = λ mark plan h. ap (is_lawful mark plan) c.keep.ensures ∙ c.loop-i.invariant.lawful mark plan h;
+      begun = λ plan h. ap (is_begun plan) c.keep.ensures ∙ c.loop-i.invariant.begun plan h;
     }

@@ -4,8 +4,8 @@ use Rattle.reown_files.proofs.real_tree.RealTree.keeps_each.Goals as goal
 
 pub invariant_of-self : goal.invariant_of-self
 invariant_of-self g c =
-    (c.self.invariant.0, c.keep_all.ensures.lawful c.self.inside.mark (map record_of c.self.inside.records.now) c.self.invariant.1, λ e. c.in-Ok.ensures.kept)
+    (c.self.invariant.0, c.keep_all.ensures.lawful c.self.inside.mark (map record_of c.self.inside.records.now) c.self.invariant.1, λ e. c.in-Ok.ensures.kept, c.keep_all.ensures.begun (map record_of c.self.inside.records.now) c.self.invariant.3)
 
 pub invariant_of-self-in-Err : goal.invariant_of-self-in-Err
 invariant_of-self-in-Err g c =
-    (c.self.invariant.0, c.keep_all.ensures.lawful c.self.inside.mark (map record_of c.self.inside.records.now) c.self.invariant.1, λ e. absurd (let h : false ≡ true = e in cc))
+    (c.self.invariant.0, c.keep_all.ensures.lawful c.self.inside.mark (map record_of c.self.inside.records.now) c.self.invariant.1, λ e. absurd (let h : false ≡ true = e in cc), c.keep_all.ensures.begun (map record_of c.self.inside.records.now) c.self.invariant.3)

@@ -5,14 +5,15 @@ use Rattle.reown_plan.specs.Records.{record_of}
 use Rattle.reown_runner.specs.Halfway.{MayGoOn}
 use Rattle.reown_runner.specs.Memory.{known_mem}
 use Rattle.reown_runner.specs.Tree.{cells_of}
-use Rattle.reown_files.specs.Lawful.{is_lawful}
+use Rattle.reown_files.specs.Lawful.{is_begun, is_lawful}
 use Rattle.reown_files.proofs.real_tree.RealTree.open.Goals as goal
 
 pub invariant_of-result : goal.invariant_of-result
 invariant_of-result g c = (
   c.in-Ok-held_tree.ensures.paths,
-  ap (is_lawful c.mark-mark.result (map record_of c.records-records.result.now)) (c.settle.ensures ∙ c.check_all_links.ensures ∙ c.look_at_all.ensures.calls ∙ c.look_at_mark.ensures ∙ c.requires),
+  ap (is_lawful c.mark-mark.result (map record_of c.records-records.result.now)) c.settle.ensures ∙ c.begin.ensures.lawful,
   λ e. absurd (let h : false ≡ true = e in cc),
+  ap (is_begun (map record_of c.records-records.result.now)) c.settle.ensures ∙ c.in-Ok-begin.ensures.begun,
 )
 
 pub returns-clause-safe : goal.returns-clause-safe

@@ -3,7 +3,7 @@ use Rattle.reown_plan.specs.Mark.{mark_eq}
 use Rattle.reown_files.specs.Real.{RealData}
 use Rattle.std.specs.Result.{is_ok}
 use Rattle.reown_plan.specs.Records.{record_of}
-use Rattle.reown_files.specs.Lawful.{is_lawful, all_kept}
+use Rattle.reown_files.specs.Lawful.{is_lawful, is_begun, all_kept}
 use Rattle.reown_files.proofs.Laws.{lawful_mark, kept_behind_mark}
 use Rattle.reown_files.proofs.real_tree.RealTree.put_mark.Goals as goal
 
@@ -16,4 +16,5 @@ invariant_of-self g c =
       c.self.invariant.0,
       ap (is_lawful c.self.inside.mark records) c.put_mark.ensures ∙ lawful_mark c.self.inside.mark records calls c.args.plan.now done own (c.self.invariant.2 c.if-not-self.false) c.self.invariant.1,
       λ kept. ap (all_kept records) c.put_mark.ensures ∙ kept_behind_mark c.args.plan.now done calls records (c.self.invariant.2 kept),
+      ap (is_begun records) c.put_mark.ensures ∙ c.self.invariant.3,
     )

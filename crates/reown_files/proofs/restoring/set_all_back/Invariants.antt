@@ -1,0 +1,12 @@
+use Rattle.std.proofs.Common.{◌≡◌, true, map, take}
+use Rattle.reown_plan.specs.Records.{record_of}
+use Rattle.reown_files.specs.Lawful.{is_unchanged, all_asked, is_lawful}
+use Rattle.reown_files.proofs.restoring.set_all_back.Given as goal
+
+abbrev pub invariant-loop-i : goal.invariant-loop-i
+invariant-loop-i g l =
+    record {
+      asked : all_asked (take l.i (map record_of l.records)) (g.D.Disk.calls l.disk) ≡ true;
+      unchanged : is_unchanged (g.D.Disk.calls l.disk) ≡ true;
+      lawful : is_lawful l.plan (map record_of l.records) (g.D.Disk.calls l.disk) ≡ true;
+    }

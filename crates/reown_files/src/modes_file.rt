@@ -1,0 +1,249 @@
+//! The modes that a run of a plan may lose, as a file beside the mark. A change of its owner clears the set-user-ID and the
+//! set-group-ID bit of a file (chown(2)), and the next call sets them back: this is for a stop between the two.
+ghost use Rattle.std.specs.Prelude.{ℕ, ◌<◌, IfSome};
+
+use crate::Trouble;
+use crate::mark_file::push_plan;
+use crate::walk::{Found, Kind, done, trouble_of};
+use crate::whole_file::{keep_name, path_with, put_whole, read_whole};
+use idtext::{Character, Lines, cut, first_character, push_escaped};
+use reown_plan::PlanMark;
+use std::alloc::{AllocError, Global};
+use std::collections::HashMap;
+use std::fs;
+
+/// What the file of the modes that a run may lose has behind the path of the mark.
+pub const MODES_BEHIND: &str = ".modes";
+
+// How it begins, and its last line.
+const HEAD: &[u8] = b"unify modes 1 ";
+
+const END: &[u8] = b"end\n";
+
+// The most bytes of it that are read.
+const MOST_BYTES: u64 = 1_073_741_824;
+
+// The digits of a mode.
+const DIGITS: &[u8; 8] = b"01234567";
+
+/// The bits that a change of the owner clears (inode(7)): set-user-ID and set-group-ID.
+const SET_ID: u32 = 0o6000;
+
+/// Whether a file lacks bits of this mode that a change of its owner clears. One whose mode differs otherwise was given that by
+/// somebody else.
+pub fn has_lost(found: &Found, mode: u32) -> bool {
+    found.kind == Kind::Regular && found.mode != mode && (found.mode | (mode & SET_ID)) == mode
+}
+
+// ---- what stands in it
+
+// Appends a mode, as four octal digits.
+fn push_mode(text: &mut Vec<u8>, mode: u32) -> Result<(), AllocError> {
+    text.push(DIGITS[(mode / 512 % 8) as usize])?;
+    text.push(DIGITS[(mode / 64 % 8) as usize])?;
+    text.push(DIGITS[(mode / 8 % 8) as usize])?;
+    text.push(DIGITS[(mode % 8) as usize])?;
+    Ok(())
+}
+
+// Appends the line of a file.
+fn push_line(text: &mut Vec<u8>, path: &[u8], mode: u32) -> Result<(), AllocError> {
+    push_mode(text, mode)?;
+    text.push(b' ')?;
+    push_escaped(text, path)?;
+    text.push(b'\n')?;
+    Ok(())
+}
+
+// Its first line.
+fn head_of(alloc: Global, plan: &PlanMark) -> Result<Vec<u8>, AllocError> {
+    let mut text = Vec::from_slice(alloc, HEAD)?;
+    push_plan(&mut text, plan)?;
+    Ok(text)
+}
+
+// All of it, with these lines of files.
+fn modes_text(alloc: Global, plan: &PlanMark, lines: &[u8]) -> Result<Vec<u8>, AllocError> {
+    let mut text = head_of(alloc, plan)?;
+    text.extend_from_slice(lines)?;
+    text.extend_from_slice(END)?;
+    Ok(text)
+}
+
+// The number of an octal digit.
+fn digit_of(byte: u8) -> Option<u32>
+    ensures { IfSome result (λ digit. digit < 8) }
+{
+    if b'0' <= byte && byte <= b'7' {
+        Some(u32::from(byte - b'0'))
+    } else {
+        None
+    }
+}
+
+// The mode that four octal digits are.
+fn mode_of(word: &[u8]) -> Option<u32> {
+    if word.len() != 4 {
+        return None;
+    }
+    let high = digit_of(word[0])? * 8 + digit_of(word[1])?;
+    let low = digit_of(word[2])? * 8 + digit_of(word[3])?;
+    Some(high * 64 + low)
+}
+
+// The path of a line.
+fn path_of(alloc: Global, text: &[u8]) -> Result<Vec<u8>, Trouble> {
+    let mut path = Vec::new(alloc);
+    let mut rest = text;
+    for _ in 0..text.len() {
+        let Some((found, next)) = first_character(rest) else {
+            break;
+        };
+        match found {
+            Character::Plain(byte) | Character::Escape(byte) => path.extend_from_slice(&[byte])?,
+            Character::Bad => return Err(Trouble::NotModes),
+        }
+        rest = next;
+    }
+    Ok(path)
+}
+
+// Notes what the line of a file tells.
+fn read_line(alloc: Global, modes: &mut HashMap<Vec<u8>, u32>, line: &[u8]) -> Result<(), Trouble> {
+    let Some((word, path)) = cut(b' ', line) else {
+        return Err(Trouble::NotModes);
+    };
+    let Some(mode) = mode_of(word) else {
+        return Err(Trouble::NotModes);
+    };
+    let path = path_of(alloc, path)?;
+    match modes.insert(path, mode) {
+        Ok(_) => Ok(()),
+        Err(_) => Err(Trouble::Memory),
+    }
+}
+
+// What the lines of files tell.
+fn read_lines(alloc: Global, lines: &[u8]) -> Result<HashMap<Vec<u8>, u32>, Trouble> {
+    let mut modes = HashMap::new(alloc);
+    for line in Lines::new(lines) {
+        read_line(alloc, &mut modes, line)?;
+    }
+    Ok(modes)
+}
+
+// The lines of files in a text that is whole, where its first line is this one; none where it is another plan's.
+fn lines_of<'t>(text: &'t [u8], head: &[u8]) -> Result<Option<&'t [u8]>, Trouble> {
+    if !text.starts_with(HEAD) {
+        return Err(Trouble::NotModes);
+    }
+    let Some(text) = text.strip_suffix(END) else {
+        return Err(Trouble::NotModes);
+    };
+    if !text.ends_with(b"\n") {
+        return Err(Trouble::NotModes);
+    }
+    Ok(text.strip_prefix(head))
+}
+
+// ---- the file
+
+/// The file of the modes that a run may lose, beside the mark.
+#[derive(Drop)]
+pub struct ModesFile<'w> {
+    rt: &'w HostRuntime,
+    path: String,
+    // The plan that an earlier run of it wrote modes down for, and those.
+    plan: Option<PlanMark>,
+    noted: HashMap<Vec<u8>, u32>,
+    // The lines of the files that this run may lose modes of.
+    lines: Vec<u8>,
+    is_put: bool,
+}
+
+impl<'w> ModesFile<'w> {
+    /// The file beside a mark.
+    pub fn beside(rt: &'w HostRuntime, mark: &str) -> Result<ModesFile<'w>, Trouble> {
+        Ok(ModesFile {
+            rt,
+            path: path_with(rt, mark, MODES_BEHIND)?,
+            plan: None,
+            noted: HashMap::new(rt.alloc()),
+            lines: Vec::new(rt.alloc()),
+            is_put: false,
+        })
+    }
+
+    /// Notes the mode of a file that is to be given an owner, where it is a regular one with a bit that this clears.
+    pub fn meet(&mut self, path: &[u8], found: &Found) -> Result<(), Trouble> {
+        if found.kind == Kind::Regular && found.mode & SET_ID != 0 {
+            push_line(&mut self.lines, path, found.mode)?;
+        }
+        Ok(())
+    }
+
+    // Reads a text that is there.
+    fn read_text(&mut self, plan: &PlanMark, text: &[u8], mark: bool) -> Result<(), Trouble> {
+        let head = head_of(self.rt.alloc(), plan)?;
+        let Some(lines) = lines_of(text, &head)? else {
+            return Ok(());
+        };
+        if !mark {
+            self.noted = read_lines(self.rt.alloc(), lines)?;
+            self.plan = Some(*plan);
+        }
+        Ok(())
+    }
+
+    /// Reads what an earlier run of this plan wrote down, if one did; none is lost where its mark is there. A file that is cut, or
+    /// has no modes, is refused; that of another plan is none of this one's.
+    pub fn read(&mut self, plan: &PlanMark, mark: bool) -> Result<(), Trouble> {
+        match read_whole(self.rt, self.path.as_str(), MOST_BYTES) {
+            Ok(text) => self.read_text(plan, &text, mark),
+            Err(error) => {
+                let trouble = trouble_of(&error);
+                if trouble == Trouble::Gone {
+                    Ok(())
+                } else {
+                    Err(trouble)
+                }
+            }
+        }
+    }
+
+    /// The mode that was read for a file of this plan.
+    pub fn noted(&self, plan: &PlanMark, path: &[u8]) -> Option<u32> {
+        match self.plan {
+            Some(read) if read == *plan => self.noted.get(path).copied(),
+            _ => None,
+        }
+    }
+
+    // Removes the file, if it is there.
+    fn remove(&self) -> Result<(), Trouble> {
+        match done(fs::remove_file(self.rt, self.path.as_str())) {
+            Err(Trouble::Gone) => Ok(()),
+            told => told,
+        }
+    }
+
+    /// Puts there what this run of the plan may lose, whole and synced, or nothing where it may lose none.
+    pub fn put(&mut self, plan: &PlanMark) -> Result<(), Trouble> {
+        if self.lines.is_empty() {
+            return self.remove();
+        }
+        let text = modes_text(self.rt.alloc(), plan, &self.lines)?;
+        self.is_put = true;
+        put_whole(self.rt, self.path.as_str(), &text)?;
+        keep_name(self.rt, self.path.as_str())
+    }
+
+    /// Removes what this run has put there.
+    pub fn forget(&mut self) -> Result<(), Trouble> {
+        if !self.is_put {
+            return Ok(());
+        }
+        self.is_put = false;
+        self.remove()
+    }
+}

@@ -1,0 +1,71 @@
+//! The modes of a plan's files around its run: those that an earlier run lost are set back, and those that this one may lose are
+//! written down.
+ghost use Rattle.std.specs.Prelude.{◌≡◌, ◌∷◌, ◌++◌, [], true, List, map, OnOk};
+ghost use Rattle.std.specs.List.{list_any};
+ghost use Rattle.reown_plan.specs.PlanData.{PlanRecord};
+ghost use Rattle.reown_plan.specs.Records.{record_of};
+ghost use Rattle.reown_files.specs.Lawful.{is_given, is_unchanged, all_asked, is_begun, is_lawful};
+
+use crate::{Disk, OpenFault, Trouble};
+use reown_plan::{PlanMark, Record};
+
+// Sets the mode of a record's file back, where an earlier run had lost it.
+fn set_back<D: Disk>(disk: &mut D, plan: &PlanMark, planned: &Record) -> Result<(), Trouble>
+    ensures asked { OnOk result ((before : List PlanRecord) → all_asked before (D.calls disk.old) ≡ true
+        → all_asked (before ++ record_of planned.now ∷ []) (D.calls disk.new) ≡ true) }
+    ensures unchanged { is_unchanged (D.calls disk.old) ≡ true → is_unchanged (D.calls disk.new) ≡ true }
+    ensures lawful { (records : List PlanRecord) → list_any (is_given (record_of planned.now).path (record_of planned.now).after) records ≡ true
+        → is_unchanged (D.calls disk.old) ≡ true → is_lawful plan.now records (D.calls disk.old) ≡ true → is_lawful plan.now records (D.calls disk.new) ≡ true }
+{
+    let lost = match disk.lost_mode(plan, planned.path, planned.after) {
+        Ok(lost) => lost,
+        Err(trouble) => return Err(trouble),
+    };
+    let Some(mode) = lost else {
+        return Ok(());
+    };
+    match disk.set_mode(planned.path, planned.after, mode) {
+        Ok(()) => disk.keep(planned.path, planned.after),
+        Err(trouble) => Err(trouble),
+    }
+}
+
+// Sets back each mode that an earlier run had lost.
+fn set_all_back<D: Disk>(disk: &mut D, plan: &PlanMark, records: &[Record]) -> Result<(), OpenFault>
+    requires nothing { D.calls disk.old ≡ [] }
+    ensures asked { OnOk result (all_asked (map record_of records.now) (D.calls disk.new) ≡ true) }
+    ensures unchanged { is_unchanged (D.calls disk.new) ≡ true }
+    ensures lawful { is_lawful plan.now (map record_of records.now) (D.calls disk.new) ≡ true }
+{
+    for (i, planned) in records.iter().enumerate() {
+        match set_back(disk, plan, planned) {
+            Ok(()) => {}
+            Err(trouble) => return Err(OpenFault::File(i, trouble)),
+        }
+    }
+    Ok(())
+}
+
+/// Sets back each mode that an earlier run of the plan had lost, if its mark is not there yet, and writes down those that this
+/// one may lose.
+pub fn begin<D: Disk>(
+    disk: &mut D,
+    plan: &PlanMark,
+    records: &[Record],
+    mark: bool,
+) -> Result<(), OpenFault>
+    requires nothing { D.calls disk.old ≡ [] }
+    ensures begun { OnOk result (is_begun (map record_of records.now) (D.calls disk.new) ≡ true) }
+    ensures lawful { is_lawful plan.now (map record_of records.now) (D.calls disk.new) ≡ true }
+{
+    if let Err(trouble) = disk.read_modes(plan, mark) {
+        return Err(OpenFault::Modes(trouble));
+    }
+    if let Err(fault) = set_all_back(disk, plan, records) {
+        return Err(fault);
+    }
+    match disk.put_modes(plan) {
+        Ok(()) => Ok(()),
+        Err(trouble) => Err(OpenFault::Modes(trouble)),
+    }
+}

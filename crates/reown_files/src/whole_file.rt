@@ -1,0 +1,51 @@
+//! Files that are there whole or not at all.
+
+use crate::Trouble;
+use crate::walk::{Directory, done};
+use std::fs::File;
+use std::io::{Read, Write};
+use std::path::Path;
+use std::{fs, io};
+
+// What is behind its name while it is written.
+const NEW: &str = ".new";
+
+/// The bytes of a file, or as many of them as this.
+pub fn read_whole(rt: &HostRuntime, path: &str, most: u64) -> io::Result<Vec<u8>> {
+    let file = File::open(rt, path)?;
+    let mut bytes = Vec::new(rt.alloc());
+    file.take(most).read_to_end(&mut bytes)?;
+    Ok(bytes)
+}
+
+// Writes a new file, synced.
+fn write(rt: &HostRuntime, new: &str, text: &[u8]) -> io::Result<()> {
+    let _ = fs::remove_file(rt, new);
+    let mut file = File::create_new(rt, new)?;
+    file.write_all(text)?;
+    file.sync_all()
+}
+
+/// A path with more behind it.
+pub fn path_with(rt: &HostRuntime, path: &str, behind: &str) -> Result<String, Trouble> {
+    match format!(in rt.alloc(); "{path}{behind}") {
+        Ok(path) => Ok(path),
+        Err(_) => Err(Trouble::Memory),
+    }
+}
+
+/// Puts a text at a path, whole or not at all: it is written under another name, synced, and renamed.
+pub fn put_whole(rt: &HostRuntime, path: &str, text: &[u8]) -> Result<(), Trouble> {
+    let new = path_with(rt, path, NEW)?;
+    done(write(rt, new.as_str(), text))?;
+    done(fs::rename(rt, new.as_str(), path))
+}
+
+/// Waits until the name of a file has reached the device.
+pub fn keep_name(rt: &HostRuntime, path: &str) -> Result<(), Trouble> {
+    let parent = match Path::new(path).parent() {
+        Some(parent) if !parent.as_str().is_empty() => parent.as_str(),
+        _ => ".",
+    };
+    Directory::at(rt, parent)?.sync()
+}
