@@ -1,0 +1,86 @@
+#!/usr/bin/env python3
+"""Times `unify apply`, `inventory` and `verify` on real files, beside find and chown. It needs root.
+
+    bench/apply_time.py [FILES [FOLDER]]
+
+Makes FILES files (200,000) below a new folder in FOLDER, a thousand in a directory, all of one owner, and a plan that gives them
+another. Prints the seconds of each command and its peak memory: find with chown there and back, and then the plan, the plan once
+more, its files counted, the plan taken back, an inventory, and two inventories verified.
+"""
+import os
+import pathlib
+import shutil
+import subprocess
+import sys
+import tempfile
+import time
+
+PROGRAM = pathlib.Path(__file__).resolve().parent.parent / "crates/unify_cli/out/unify_cli"
+OLD, NEW = (41001, 41001), (41002, 41002)
+ACCOUNTS = {"was": (OLD, "passwd.was", "group.was"), "now": (NEW, "passwd.now", "group.now")}
+
+
+def make_tree(root, count):
+    """Makes the files, and hands out their paths in the order of an inventory."""
+    paths = []
+    for first in range(0, count, 1000):
+        folder = f"d{first // 1000}"
+        names = [folder, *(f"{folder}/f{at}" for at in range(min(1000, count - first)))]
+        (root / folder).mkdir(parents=True)
+        for name in names[1:]:
+            os.close(os.open(root / name, os.O_CREAT | os.O_WRONLY))
+        for name in names:
+            os.chown(root / name, *OLD)
+        paths += names
+    return paths
+
+
+def timed(what, words, folder, out=subprocess.DEVNULL):
+    """Runs a command, and prints its seconds and its peak memory."""
+    os.sync()
+    began = time.monotonic()
+    ran = subprocess.Popen(words, cwd=folder, stdin=subprocess.DEVNULL, stdout=out)
+    _, status, used = os.wait4(ran.pid, 0)
+    seconds = time.monotonic() - began
+    print(f"{what:24} {seconds:8.2f} s {used.ru_maxrss // 1024:6} MiB{'' if status == 0 else '  FAILED'}", flush=True)
+
+
+def run(folder, count):
+    """Makes the tree and times each command."""
+    root = folder / "tree"
+    paths = make_tree(root, count)
+    head = f"unify plan 1 timed\n{''.join(f'{OLD[0]} {OLD[1]} {NEW[0]} {NEW[1]} {len(path)} {path}' + chr(10) for path in paths)}end\n"
+    (folder / "plan").write_text(head)
+    for (uid, gid), passwd, group in ACCOUNTS.values():
+        (folder / passwd).write_text(f"root:x:0:0::/:/bin/sh\nalice:x:{uid}:{gid}::/:/bin/sh\n")
+        (folder / group).write_text(f"root:x:0:\nalice:x:{gid}:\n")
+    apply = [PROGRAM, "apply", "-q", "--host", "timed"]
+    chown = ["find", "tree", "-uid", str(OLD[0]), "-exec", "chown", "-h", f"{NEW[0]}:{NEW[1]}", "{}", "+"]
+    back = ["find", "tree", "-uid", str(NEW[0]), "-exec", "chown", "-h", f"{OLD[0]}:{OLD[1]}", "{}", "+"]
+    with open(folder / "before", "wb") as out:
+        timed("inventory", [PROGRAM, "inventory", "-x", "."], root, out)
+    timed("find and chown", chown, folder)
+    timed("find and chown, back", back, folder)
+    timed("apply", [*apply, "plan", "tree"], folder)
+    with open(folder / "after", "wb") as out:
+        timed("inventory, once more", [PROGRAM, "inventory", "-x", "."], root, out)
+    files = [f"{file}.{when}" for when in ("was", "now") for file in ("passwd", "group")]
+    timed("verify", [PROGRAM, "verify", "--was", *files[:2], "--now", *files[2:], "before", "after"], folder)
+    timed("apply, once more", [*apply, "plan", "tree"], folder)
+    timed("apply --check", [PROGRAM, "apply", "--check", "plan", "tree"], folder)
+    timed("apply --reverse", [*apply, "--reverse", "plan", "tree"], folder)
+
+
+def main():
+    if os.geteuid():
+        sys.exit("only root may give files other owners")
+    count = int(sys.argv[1]) if len(sys.argv) > 1 else 200_000
+    folder = pathlib.Path(tempfile.mkdtemp(prefix="unify-time-", dir=sys.argv[2] if len(sys.argv) > 2 else None))
+    try:
+        run(folder, count)
+    finally:
+        shutil.rmtree(folder)
+
+
+if __name__ == "__main__":
+    main()
