@@ -4,8 +4,8 @@
     bench/apply_time.py [FILES [FOLDER]]
 
 Makes FILES files (200,000) below a new folder in FOLDER, a thousand in a directory, all of one owner, and a plan that gives them
-another. Prints the seconds of each command and its peak memory: find with chown there and back, and then the plan, the plan once
-more, its files counted, the plan taken back, an inventory, and two inventories verified.
+another. Prints the seconds of each command: an inventory, find with chown there and back, the plan, a second inventory, the two
+verified, the plan once more, its files counted, and the plan taken back.
 """
 import os
 import pathlib
@@ -36,13 +36,11 @@ def make_tree(root, count):
 
 
 def timed(what, words, folder, out=subprocess.DEVNULL):
-    """Runs a command, and prints its seconds and its peak memory."""
+    """Runs a command, and prints its seconds."""
     os.sync()
     began = time.monotonic()
-    ran = subprocess.Popen(words, cwd=folder, stdin=subprocess.DEVNULL, stdout=out)
-    _, status, used = os.wait4(ran.pid, 0)
-    seconds = time.monotonic() - began
-    print(f"{what:24} {seconds:8.2f} s {used.ru_maxrss // 1024:6} MiB{'' if status == 0 else '  FAILED'}", flush=True)
+    ran = subprocess.run(words, cwd=folder, stdin=subprocess.DEVNULL, stdout=out)
+    print(f"{what:20} {time.monotonic() - began:8.2f} s{'  FAILED' if ran.returncode else ''}", flush=True)
 
 
 def run(folder, count):
