@@ -63,8 +63,7 @@ impl<'r> Listing<'r> {
             }
         }
         self.is_missing = true;
-        tell_trouble(self.rt, shown(&self.path), trouble)?;
-        Ok(())
+        tell_trouble(self.rt, shown(&self.path), trouble)
     }
 
     // Writes the line of the present file.

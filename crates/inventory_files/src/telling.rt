@@ -1,10 +1,7 @@
 //! What is told on standard error of files that are not listed, and of roots that are refused.
 
-use idtext::push_escaped;
-use std::alloc::AllocError;
 use std::io;
-use std::io::Write;
-use unify_io::FileFault;
+use unify_io::{FileFault, Said, tell_of};
 
 /// Why a file, or what is in a directory, is not in an inventory.
 #[derive(Clone, Copy)]
@@ -32,84 +29,40 @@ pub enum RootFault<'a> {
     Inside(&'a str),
 }
 
-// What the system said, without the number that it gives it.
-fn reason_in(told: &str) -> &str {
-    match told.split_once(" (os error ") {
-        Some((reason, _)) => reason,
-        None => told,
-    }
-}
-
-// Appends what the system said.
-fn push_reason(rt: &HostRuntime, line: &mut Vec<u8>, error: &io::Error) -> Result<(), AllocError> {
-    let told = error.to_string(rt.alloc())?;
-    line.extend_from_slice(reason_in(told.as_str()).as_bytes())
-}
-
-// Appends why a file is not listed.
-fn push_trouble(rt: &HostRuntime, line: &mut Vec<u8>, trouble: Trouble) -> Result<(), AllocError> {
-    match trouble {
-        Trouble::System(error) => push_reason(rt, line, &error),
-        Trouble::NotText => line.extend_from_slice(b"a name in it is not text"),
-        Trouble::NotDirectory => line.extend_from_slice(b"not a directory"),
-        Trouble::Exchanged => line.extend_from_slice(b"exchanged while it was opened"),
-        Trouble::TooLong => line.extend_from_slice(b"the path is too long"),
-        Trouble::NoOwner => line.extend_from_slice(b"no number of an owner"),
-    }
-}
-
-// Appends why a root is refused.
-fn push_root_fault(line: &mut Vec<u8>, fault: RootFault<'_>) -> Result<(), AllocError> {
-    match fault {
-        RootFault::Empty => line.extend_from_slice(b"an empty word"),
-        RootFault::HasDotDot => line.extend_from_slice(b"a part of it is .."),
-        RootFault::Inside(other) => {
-            line.extend_from_slice(b"it lies in ")?;
-            push_escaped(line, other.as_bytes())
-        }
-    }
-}
-
-// Appends the line of a file that is not listed.
-fn push_trouble_line(
-    rt: &HostRuntime,
-    line: &mut Vec<u8>,
-    path: &[u8],
-    trouble: Trouble,
-) -> Result<(), AllocError> {
-    line.extend_from_slice(b"unify: file ")?;
-    push_escaped(line, path)?;
-    line.extend_from_slice(b": ")?;
-    push_trouble(rt, line, trouble)?;
-    line.extend_from_slice(b"\n")
-}
-
-// Appends the line of a root that is refused.
-fn push_root_line(line: &mut Vec<u8>, root: &str, fault: RootFault<'_>) -> Result<(), AllocError> {
-    line.extend_from_slice(b"unify: root ")?;
-    let shown = if root.is_empty() { "-" } else { root };
-    push_escaped(line, shown.as_bytes())?;
-    line.extend_from_slice(b": ")?;
-    push_root_fault(line, fault)?;
-    line.extend_from_slice(b"\n")
+// What is said of trouble.
+fn said_of(trouble: Trouble) -> Said<'static> {
+    Said::Text(match trouble {
+        Trouble::System(error) => match error.raw_os_error() {
+            Some(number) => return Said::System(number),
+            None => "it cannot be had",
+        },
+        Trouble::NotText => "a name in it is not text",
+        Trouble::NotDirectory => "not a directory",
+        Trouble::Exchanged => "exchanged while it was opened",
+        Trouble::TooLong => "the path is too long",
+        Trouble::NoOwner => "no number of an owner",
+    })
 }
 
 /// Tells that a file is not listed, and why.
-pub fn tell_trouble(rt: &HostRuntime, path: &[u8], trouble: Trouble) -> Result<(), AllocError> {
-    let mut line = Vec::new(rt.alloc());
-    push_trouble_line(rt, &mut line, path, trouble)?;
-    let _ = rt.stderr().write_all(&line);
-    Ok(())
+///
+/// # Errors
+///
+/// Where memory is refused.
+pub fn tell_trouble(rt: &HostRuntime, path: &[u8], trouble: Trouble) -> Result<(), FileFault> {
+    match tell_of(rt, "file", path, &[said_of(trouble)], 3) {
+        FileFault::Told(_) => Ok(()),
+        fault => Err(fault),
+    }
 }
 
 /// Tells why a root is refused.
 pub fn root_refused(rt: &HostRuntime, root: &str, fault: RootFault<'_>) -> FileFault {
-    let mut line = Vec::new(rt.alloc());
-    match push_root_line(&mut line, root, fault) {
-        Ok(()) => {
-            let _ = rt.stderr().write_all(&line);
-            FileFault::Told(2)
-        }
-        Err(_) => FileFault::Memory,
-    }
+    let (text, other) = match fault {
+        RootFault::Empty => ("an empty word", ""),
+        RootFault::HasDotDot => ("a part of it is ..", ""),
+        RootFault::Inside(other) => ("it lies in ", other),
+    };
+    let parts = [Said::Text(text), Said::Name(other.as_bytes())];
+    tell_of(rt, "root", root.as_bytes(), &parts, 2)
 }
