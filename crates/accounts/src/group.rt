@@ -1,7 +1,7 @@
 //! The file group, after group(5).
 #![tactic(auto)]
 
-ghost use Rattle.std.specs.Prelude.{◌≡◌, ◌≢◌, [], ◌∷◌, ℕ, Some, length, filter, not, ◌==◌, find, option_copied, nat_eq, bytes_eq, List, MatchOption, IfOk};
+ghost use Rattle.std.specs.Prelude.{◌≡◌, ◌≢◌, [], ◌∷◌, ℕ, Some, length, filter, not, ◌==◌, find, position, option_copied, nat_eq, bytes_eq, List, MatchOption, IfOk};
 ghost use Rattle.std.specs.Iterator.{YieldsFirstRef, item_count};
 ghost use Rattle.idtext.specs.Faults.{fault_told};
 ghost use Rattle.idtext.specs.First.{Gives};
@@ -171,8 +171,16 @@ impl<'a> GroupTable<'a> {
     pub fn by_number(&self, gid: u32) -> Option<&GroupRow<'a>>
         ensures { option_copied result ≡ find (λ row. nat_eq gid row.gid) self.now }
     {
-        let place = self.index.index_of_number(gid)?;
+        let place = self.place_of_number(gid)?;
         Some(&self.rows[place])
+    }
+
+    /// The place of the row with this gid among the rows, or none. One hash look-up; takes no memory.
+    pub fn place_of_number(&self, gid: u32) -> Option<usize>
+        ensures place { result ≡ position (λ row. nat_eq gid row.gid) self.now }
+        ensures table { IsGroupTable self.now }
+    {
+        self.index.index_of_number(gid)
     }
 }
 

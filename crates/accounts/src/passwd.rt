@@ -1,7 +1,7 @@
 //! The file passwd, after passwd(5).
 #![tactic(auto)]
 
-ghost use Rattle.std.specs.Prelude.{◌≡◌, ◌≢◌, [], ◌∷◌, Some, length, find, option_copied, nat_eq, bytes_eq, List, MatchOption, IfOk};
+ghost use Rattle.std.specs.Prelude.{◌≡◌, ◌≢◌, [], ◌∷◌, Some, length, find, position, option_copied, nat_eq, bytes_eq, List, MatchOption, IfOk};
 ghost use Rattle.idtext.specs.Faults.{fault_told};
 ghost use Rattle.idtext.specs.First.{Gives};
 ghost use Rattle.idtext.specs.Pieces.{fields_of};
@@ -193,8 +193,16 @@ impl<'a> PasswdTable<'a> {
     pub fn by_number(&self, uid: u32) -> Option<&PasswdRow<'a>>
         ensures { option_copied result ≡ find (λ row. nat_eq uid row.uid) self.now }
     {
-        let place = self.index.index_of_number(uid)?;
+        let place = self.place_of_number(uid)?;
         Some(&self.rows[place])
+    }
+
+    /// The place of the row with this uid among the rows, or none. One hash look-up; takes no memory.
+    pub fn place_of_number(&self, uid: u32) -> Option<usize>
+        ensures place { result ≡ position (λ row. nat_eq uid row.uid) self.now }
+        ensures table { IsPasswdTable self.now }
+    {
+        self.index.index_of_number(uid)
     }
 }
 

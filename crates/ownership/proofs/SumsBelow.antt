@@ -79,7 +79,7 @@ sum_below-pick o f (suc n) h = elim (cases_Bool (n == o)) [
 ]
 
 -- over the indices of a list
-sum_below-taken : {X : Type 0} (f : X → ℕ) (xs : List X) (d : X) (n : ℕ) → n ≤ length xs → sum_below (λ k. f (get_or xs k d)) n ≡ sum_by f (take n xs)
+pub sum_below-taken : {X : Type 0} (f : X → ℕ) (xs : List X) (d : X) (n : ℕ) → n ≤ length xs → sum_below (λ k. f (get_or xs k d)) n ≡ sum_by f (take n xs)
 unfolding sum_below
 sum_below-taken f xs d zero h = refl
 sum_below-taken f xs d (suc n) h =

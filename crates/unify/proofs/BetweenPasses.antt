@@ -1,28 +1,42 @@
--- From the end of a first pass to a second one.
-use Rattle.std.proofs.Common.{◌≡◌, ℕ, zero, suc, true, List, [], ◌∷◌, ◌++◌, length, map, Some, None, refl, sym, ap, subst, ◌∙◌, arith, append-nil}
-use Rattle.std.specs.List.{slice_get}
+-- From the end of a first pass to counters of all hosts, and to a second pass.
+use Rattle.std.proofs.Common.{◌≡◌, ℕ, zero, suc, true, length-append, length-take, ◌+◌, ◌*◌, ◌<◌, ◌≤◌, ◌==◌, List, [], ◌∷◌, ◌++◌, length, map, take, get_or, Some, None, Result, Ok, Err, refl, sym, ap, subst, ◌∙◌, arith}
+use Rattle.std.specs.Prelude.{IfOk}
+use Rattle.std.specs.declared.alloc.AllocError.{AllocError}
+use Rattle.std.specs.List.{All, slice_get}
 use Rattle.std.specs.Option.{option_map}
-use Rattle.std.proofs.lemmas.Option.{slice_get_past}
+use Rattle.std.proofs.lemmas.List.{length-map, take_more}
+use Rattle.std.proofs.lemmas.List.Elements.{All-head, All-map, All-tail}
+use Rattle.std.proofs.lemmas.Option.{slice_get-get_or}
+use Rattle.idtext.specs.First.{first_fault}
 use Rattle.hosts_join.specs.Checks.{is_host_name}
 use Rattle.hosts_join.specs.Hosts.{IsLawfulHost}
+use Rattle.hosts_join.specs.Laws.{KnowsHost}
 use Rattle.hosts_join.specs.Site.{Joined}
 use Rattle.hosts_join.specs.declared.host.Host.{Host}
+use Rattle.hosts_join.proofs.Refusals.{count_by-of-map}
 use Rattle.mergedfiles.specs.ReadBack.{WasRead}
 use Rattle.mergedfiles.specs.Together.{AreJoined}
+use Rattle.mtree_inv.specs.declared.entry.Entry.{Entry}
 use Rattle.ownership.specs.Counts as counts
+use Rattle.ownership.specs.Counts.{Counted}
+use Rattle.ownership.specs.Faults.{unowned}
 use Rattle.ownership.specs.Files.{Added}
 use Rattle.unify.specs.declared.host.Loaded.{Loaded}
 use Rattle.unify.specs.declared.merging.Merged.{Merged}
 use Rattle.unify.specs.declared.plan_turn.PlanTurn.{PlanTurn}
-use Rattle.unify.specs.declared.turn.Turn.{Turn}
+use Rattle.unify.specs.Hosts.{owner_fault}
 use Rattle.unify.specs.Laws.{IsWhole}
 use Rattle.unify.specs.Loading.{HoldsCounted, loaded_from}
 use Rattle.unify.specs.Merging.{IsMerged}
-use Rattle.unify.specs.Passes.{AreCounted, CountingValue, IsCounting, StandBehind, StandsFor, ended_in, fault_met, met_on}
-use Rattle.unify.specs.Reading.{WholeSite, added_from, added_on, files_of_site}
-use Rattle.unify.specs.RowFiles.{rows_among}
+use Rattle.unify.specs.Passes.{AreComing, AreTogether, InventoriesValue, StandsFor}
+use Rattle.unify.specs.Reading.{WholeSite, added_from, added_on}
+use Rattle.unify.specs.RowFiles.{RowFiles, row_files}
 use Rattle.unify.specs.SecondPass as second
-use Rattle.unify.specs.SecondPass.{CountHosts, IsFreshTurn, IsSolvedFrom, IsSolving, SolvedValue}
+use Rattle.unify.specs.SecondPass.{IsFreshTurn, IsSolvedFrom, IsSolving, SolvedValue}
+use Rattle.ownership.specs.HostFiles.{AreOfHost, AreRowCounts}
+use Rattle.unify.proofs.Adding.{added_from-push}
+use Rattle.unify.proofs.Ended.{AreFilesAt, AreOwned, IsOver, all_owned, over_stands, read_length}
+use Rattle.unify.proofs.Owners.{owned-there}
 use Rattle.unify.proofs.Reading.{all-at, all-owned, read-host-of}
 use Rattle.unify.proofs.Whole.{hosts_held}
 
@@ -35,115 +49,164 @@ loaded_host (host ∷ hosts) [] k l at = absurd (cc)
 loaded_host (host ∷ hosts) (text ∷ ended) zero l at = ap (option_map (λ (x : Loaded). x.host)) at
 loaded_host (host ∷ hosts) (text ∷ ended) (suc k) l at = loaded_host hosts ended k l at
 
--- ---- the end of a first pass
-
--- no host is left
-abbrev pub IsOver : CountingValue → Type 0
-IsOver c = ended_in c ≡ length c.hosts
-
--- then it met no fault
-over_unmet : (c : CountingValue) → IsOver c → fault_met c ≡ None
-over_unmet c over = ap (λ o. met_on o c.turn) (slice_get_past c.hosts (ended_in c) (omega (arith, over)))
-
--- then the site that was read is whole
-pub over_whole : (c : CountingValue) (ended : List (List ℕ)) (text : List ℕ) → IsCounting c → IsOver c → (were : StandsFor c ended text) → IsWhole (record { hosts = were.read; joined = c.joined })
-over_whole c ended text counting over were =
+-- the site that was read is whole
+pub over_whole : (c : InventoriesValue) (joined : Joined) (ended : List (List ℕ)) → AreTogether c.hosts joined → IsOver c → (were : StandsFor c ended []) → IsWhole (record { hosts = were.read; joined = joined })
+over_whole c joined ended whole over were =
     let loaded = loaded_from c.hosts ended in
-    let each_host = read-host-of c.joined loaded were.read were.accepted
+    let each_host = read-host-of joined loaded were.read were.accepted
     (λ k l at.
     let here = loaded_host c.hosts ended k l at in (
-      all-at (λ (h : Host). is_host_name h.name ≡ true) c.hosts k l.host counting.whole.named here,
-      all-at WasRead c.hosts k l.host counting.whole.read here,
-      all-at IsLawfulHost c.hosts k l.host counting.whole.lawful here,
-      counting.whole.known k l.host here,
+      all-at (λ (h : Host). is_host_name h.name ≡ true) c.hosts k l.host whole.named here,
+      all-at WasRead c.hosts k l.host whole.read here,
+      all-at IsLawfulHost c.hosts k l.host whole.lawful here,
+      whole.known k l.host here,
     )) in
     record {
-      few_hosts = omega (arith, counting.whole.few, counting.within, were.read_are);
-      together = subst (λ hs. AreJoined hs c.joined) (hosts_held c.hosts ended were.read (were.ended_are ∙ over) were.accepted).0 counting.whole.together;
-      lawful = counting.whole.accounts;
+      few_hosts = omega (arith, whole.few, over, read_length c ended were);
+      together = subst (λ hs. AreJoined hs joined) (hosts_held c.hosts ended were.read (were.ended_are ∙ over) were.accepted).0 whole.together;
+      lawful = whole.accounts;
       each_host = each_host;
-      owned = all-owned c.joined were.read each_host;
+      owned = all-owned joined were.read each_host;
     }
 
--- a turn of which nothing has come
-over_counted : (joined : Joined) (index : ℕ) (earlier : List Added) (turn : Turn) → (turn.reader.files ≡ []) × (turn.unowned ≡ None) → AreCounted joined index earlier turn.counts turn.unowned turn.reader.files → counts.StandsFor joined turn.counts earlier
-over_counted joined index earlier turn fresh counted =
-    let none : StandBehind joined index earlier turn.counts [] = rw (fresh.0, fresh.1) at counted in
-    subst (counts.StandsFor joined turn.counts) (append-nil earlier) none
+-- ---- counters of all hosts
 
-pub over_holds : (c : CountingValue) (ended : List (List ℕ)) (text : List ℕ) → IsCounting c → IsOver c → (were : StandsFor c ended text) → HoldsCounted (record { hosts = were.read; joined = c.joined }) c.hosts c.joined c.turn.counts
-over_holds c ended text counting over were = record {
+-- the files of the first hosts
+abbrev pub files_before : List (Host × List Entry) → ℕ → List Added
+files_before read index = added_from 0 (take index read)
+
+-- there are few
+few_before : (start : ℕ) (read : List (Host × List Entry)) (index : ℕ) → All (λ here. AreOwned here.0 here.1) read → length (added_from start (take index read)) ≤ length read * 16777216
+few_before start [] zero owned = omega arith
+few_before start [] (suc index) owned = omega arith
+few_before start (here ∷ read) zero owned = omega arith
+few_before start (here ∷ read) (suc index) owned = omega (
+  arith,
+  length-append (map (added_on start) here.1) (added_from (start + 1) (take index read)),
+  length-map here.1 (added_on start),
+  (All-head (λ (h : Host × List Entry). AreOwned h.0 h.1) here read owned).few,
+  few_before (start + 1) read index (All-tail (λ (h : Host × List Entry). AreOwned h.0 h.1) here read owned),
+)
+
+pub room_before : (c : InventoriesValue) (joined : Joined) (counted : Counted) (ended : List (List ℕ)) (were : StandsFor c ended []) (index : ℕ) → IsOver c → length c.hosts ≤ 64 → counts.StandsFor joined counted (files_before were.read index) → counted.added ≤ 1073741824
+room_before c joined counted ended were index over few stands =
+    omega (arith, stands.added, few_before 0 were.read index (all_owned (loaded_from c.hosts ended) were.read were.accepted), read_length c ended were, over, few)
+
+module _ (index : ℕ) (host : Host) (rows : RowFiles) (read : List (Host × List Entry)) (at : AreFilesAt read index host rows) where
+  abbrev pub files_here : List Added
+  files_here = map (added_on index) at.files
+
+  pub of_host : (joined : Joined) → KnowsHost joined index host → AreOfHost joined index files_here
+  of_host joined knows = record {
+    there = All-map (λ (f : Added). f.host ≡ index) (added_on index) at.files (λ k d l. refl);
+    owned = All-map (λ (f : Added). unowned joined f.host f.uid f.gid ≡ None) (added_on index) at.files
+        (λ k d l.
+        let f = get_or at.files k d in
+        let has = at.owned.owned k d l in
+        owned-there joined index host f.uid f.gid knows has.user has.group);
+  }
+
+  pub row_counts : (by_users by_groups : List ℕ) → by_users ≡ rows.users → by_groups ≡ rows.groups → AreRowCounts host files_here by_users by_groups
+  row_counts by_users by_groups users groups = record {
+    users = users ∙ ap (λ (r : RowFiles). r.users) at.rows_are ∙ (λ i. map (λ r. sym (count_by-of-map (λ (f : Added). f.uid == r.uid) (added_on index) at.files) i) host.users);
+    groups = groups ∙ ap (λ (r : RowFiles). r.groups) at.rows_are ∙ (λ i. map (λ r. sym (count_by-of-map (λ (f : Added). f.gid == r.gid) (added_on index) at.files) i) host.groups);
+  }
+
+  pub few_here : length files_here ≤ 16777216
+  few_here = omega (arith, length-map at.files (added_on index), at.owned.few)
+
+  pub more_files : files_before read (index + 1) ≡ files_before read index ++ files_here
+  more_files = ap (added_from 0) (take_more read index (host, []) at.within ∙ ap (λ (p : Host × List Entry). take index read ++ p ∷ []) at.here)
+      ∙ added_from-push 0 index (take index read) host at.files (omega (arith, length-take index read, at.within))
+
+-- the host at an index, as the code reads it
+pub host_at : (hosts : List Host) (index : ℕ) (host : Host) → index < length hosts → host ≡ get_or hosts index host → slice_get hosts index ≡ Some host
+host_at hosts index host within is = slice_get-get_or hosts index host within ∙ ap (λ (h : Host). Some h) (sym is)
+
+-- ---- what is held
+
+pub over_holds : (c : InventoriesValue) (joined : Joined) (counted : Counted) (ended : List (List ℕ)) → AreTogether c.hosts joined → IsOver c → counts.IsMadeFor joined counted → (were : StandsFor c ended []) → counts.StandsFor joined counted (added_from 0 were.read)
+    → HoldsCounted (record { hosts = were.read; joined = joined }) c.hosts joined counted
+over_holds c joined counted ended whole over made were stands = record {
   hosts_are = (hosts_held c.hosts ended were.read (were.ended_are ∙ over) were.accepted).0;
   joined_is = refl;
-  together = counting.whole.together;
-  made = were.turns.made;
-  counted_are = over_counted c.joined (ended_in c) (added_from 0 were.read) c.turn (counting.fresh over) were.turns.counted;
-  few = counting.whole.few;
-  lawful = counting.whole.lawful;
+  together = whole.together;
+  made = made;
+  counted_are = stands;
+  few = whole.few;
+  lawful = whole.lawful;
 }
 
--- the site of which the first pass stands for the texts
-pub whole_of : (c : CountingValue) → IsCounting c → IsOver c → (whole : WholeSite) × IsWhole whole × HoldsCounted whole c.hosts c.joined c.turn.counts
-whole_of c counting over =
-    let s = counting.standing (over_unmet c over) in
-    (record { hosts = s.2.read; joined = c.joined }, over_whole c s.0 s.1 counting over s.2, over_holds c s.0 s.1 counting over s.2)
+-- counters that are right for whatever texts it stands for
+abbrev pub AreCountersOf : InventoriesValue → Joined → Counted → Type 0
+AreCountersOf c joined counted = (ended : List (List ℕ)) (were : StandsFor c ended []) → counts.StandsFor joined counted (added_from 0 were.read)
 
--- the counters are those of its files
-pub over_counts : (c : CountingValue) → IsCounting c → IsOver c → counts.IsMadeFor c.joined c.turn.counts × ((files : List Added) × counts.StandsFor c.joined c.turn.counts files)
-over_counts c counting over =
-    let s = counting.standing (over_unmet c over) in
-    let holds = over_holds c s.0 s.1 counting over s.2 in
-    (holds.made, (files_of_site (record { hosts = s.2.read; joined = c.joined }), holds.counted_are))
+-- what is merged is right for whatever texts it stands for
+abbrev pub IsMergedOf : InventoriesValue → Joined → Merged → Type 0
+IsMergedOf c joined merged = (ended : List (List ℕ)) (were : StandsFor c ended []) → IsMerged (record { hosts = were.read; joined = joined }) merged
+
+-- so it is if it is right for what is held
+pub merged_of : (c : InventoriesValue) (joined : Joined) (counted : Counted) (result : Result (Merged × PlanTurn) AllocError) → AreTogether c.hosts joined → IsOver c → counts.IsMadeFor joined counted → AreCountersOf c joined counted
+    → IfOk result (λ solved. (whole : WholeSite) → HoldsCounted whole c.hosts joined counted → IsMerged whole solved.0) → IfOk result (λ solved. IsMergedOf c joined solved.0)
+merged_of c joined counted (Ok solved) whole over made are merged = λ ended were. merged (record { hosts = were.read; joined = joined }) (over_holds c joined counted ended whole over made were (are ended were))
+merged_of c joined counted (Err e) whole over made are merged = tt
+
+-- the site of which the first pass stands for the texts
+pub whole_of : (c : InventoriesValue) (joined : Joined) (counted : Counted) → AreComing c → AreTogether c.hosts joined → IsOver c → counts.IsMadeFor joined counted → AreCountersOf c joined counted → (whole : WholeSite) × IsWhole whole × HoldsCounted whole c.hosts joined counted
+whole_of c joined counted coming whole over made are =
+    let s = over_stands c coming over in
+    (record { hosts = s.1.read; joined = joined }, over_whole c joined s.0 whole over s.1, over_holds c joined counted s.0 whole over made s.1 (are s.0 s.1))
 
 -- ---- the second pass
 
--- the turn of a host of whose second inventory nothing has come, behind those of the hosts before it
-pub fresh_turn : (host : Host) (joined : Joined) (merged : Merged) (index : ℕ) (turn : PlanTurn) (counted : CountHosts joined index turn.counts) → IsFreshTurn turn → turn.before ≡ rows_among joined index host counted.earlier → second.TurnsFor host joined merged index turn [] []
-fresh_turn host joined merged index turn counted fresh before = record {
+-- the turn of a host of whose second inventory nothing has come
+fresh_turn : (host : Host) (joined : Joined) (merged : Merged) (index : ℕ) (turn : PlanTurn) → IsFreshTurn turn → turn.rows ≡ row_files host [] → second.TurnsFor host joined merged index turn [] []
+unfolding first_fault
+fresh_turn host joined merged index turn fresh rows = record {
   goes = fresh.goes;
   reading = fresh.reading;
   most = fresh.most;
   going = fresh.going;
   sound = fresh.sound;
   waiting = fresh.waiting;
-  made = counted.made;
-  earlier = counted.earlier;
-  few = counted.few;
-  before_are = before;
-  counted = subst (counts.StandsFor joined turn.counts) (sym (append-nil counted.earlier) ∙ ap (λ fs. counted.earlier ++ map (added_on index) fs) (sym fresh.none)) counted.stands;
+  owned = ap (first_fault (owner_fault host) []) fresh.none;
+  rows = rows ∙ ap (row_files host) (sym fresh.none);
   none_unbegun = λ no. fresh.none;
   planned_is = rw fresh.unbegun refl;
 }
 
 -- behind a first pass of which no host is left
-abbrev pub solved_value : CountingValue → Merged → PlanTurn → SolvedValue
-solved_value c merged turn = record { hosts = c.hosts; joined = c.joined; passed = c.passed; merged = merged; ended = 0; turn = turn }
+abbrev pub solved_value : InventoriesValue → Joined → Merged → PlanTurn → SolvedValue
+solved_value c joined merged turn = record { hosts = c.hosts; joined = joined; passed = c.passed; merged = merged; ended = 0; turn = turn }
 
 -- the turn of its first host
-abbrev pub IsFirstTurn : CountingValue → PlanTurn → Type 0
-IsFirstTurn c turn = IsFreshTurn turn × counts.IsMadeFor c.joined turn.counts × counts.StandsFor c.joined turn.counts [] × ((host : Host) → slice_get c.hosts 0 ≡ Some host → turn.before ≡ rows_among c.joined 0 host [])
+abbrev pub AreFirstRows : List Host → PlanTurn → Type 0
+AreFirstRows hosts turn = (host : Host) → slice_get hosts 0 ≡ Some host → turn.rows ≡ row_files host []
 
-first_turn : (c : CountingValue) (merged : Merged) (turn : PlanTurn) (host : Host) → IsFirstTurn c turn → slice_get c.hosts 0 ≡ Some host → second.TurnsFor host c.joined merged 0 turn [] []
-first_turn c merged turn host first here = fresh_turn host c.joined merged 0 turn (record { made = first.1; earlier = []; few = omega arith; stands = first.2 }) first.0 (first.3 host here)
+abbrev pub IsFirstTurn : List Host → PlanTurn → Type 0
+IsFirstTurn hosts turn = IsFreshTurn turn × AreFirstRows hosts turn
 
-pub solving_from : (c : CountingValue) (merged : Merged) (turn : PlanTurn) → IsCounting c → IsOver c → ((whole : WholeSite) → HoldsCounted whole c.hosts c.joined c.turn.counts → IsMerged whole merged) → IsFirstTurn c turn → IsSolving (solved_value c merged turn)
-solving_from c merged turn counting over are first =
-    let s = counting.standing (over_unmet c over) in
-    let is = are (record { hosts = s.2.read; joined = c.joined }) (over_holds c s.0 s.1 counting over s.2) in
+first_turn : (c : InventoriesValue) (joined : Joined) (merged : Merged) (turn : PlanTurn) (host : Host) → IsFirstTurn c.hosts turn → slice_get c.hosts 0 ≡ Some host → second.TurnsFor host joined merged 0 turn [] []
+first_turn c joined merged turn host first here = fresh_turn host joined merged 0 turn first.0 (first.1 host here)
+
+pub solving_from : (c : InventoriesValue) (joined : Joined) (merged : Merged) (turn : PlanTurn) → AreComing c → AreTogether c.hosts joined → IsOver c → IsMergedOf c joined merged → IsFirstTurn c.hosts turn → IsSolving (solved_value c joined merged turn)
+solving_from c joined merged turn coming whole over are first =
+    let s = over_stands c coming over in
+    let is = are s.0 s.1 in
     record {
-      whole = counting.whole;
+      whole = whole;
       for_site = record { users_len = is.answered.least.admissible.users.len; groups_len = is.answered.least.admissible.groups.len };
       within = omega arith;
       passed_are = over;
-      standing = λ host here goes. ([], [], first_turn c merged turn host first here);
+      standing = λ host here goes. ([], [], first_turn c joined merged turn host first here);
     }
 
-pub solved_from : (c : CountingValue) (merged : Merged) (turn : PlanTurn) → IsCounting c → IsOver c → ((whole : WholeSite) → HoldsCounted whole c.hosts c.joined c.turn.counts → IsMerged whole merged) → IsFirstTurn c turn → IsSolvedFrom c (solved_value c merged turn)
-solved_from c merged turn counting over are first = record {
+pub solved_from : (c : InventoriesValue) (joined : Joined) (merged : Merged) (turn : PlanTurn) → IsMergedOf c joined merged → IsFirstTurn c.hosts turn → IsSolvedFrom c joined (solved_value c joined merged turn)
+solved_from c joined merged turn are first = record {
   hosts = refl;
-  joined = refl;
+  joined_is = refl;
   passed = refl;
   ended = refl;
-  stands = λ host here. first_turn c merged turn host first here;
-  merged = λ ended text were. are (record { hosts = were.read; joined = c.joined }) (over_holds c ended text counting over were);
+  stands = λ host here. first_turn c joined merged turn host first here;
+  merged = are;
 }

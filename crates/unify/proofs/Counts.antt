@@ -24,7 +24,7 @@ both false x y = refl
 
 module _ {R : Type 0} (number : R → ℕ) where
   -- no later row has the number of an earlier one
-  abbrev AreApart : List R → Type 0
+  abbrev pub AreApart : List R → Type 0
   AreApart [] = Unit {0}
   AreApart (r ∷ rows) = All (λ q. (number r == number q) ≡ false) rows × AreApart rows
 
@@ -73,10 +73,10 @@ module _ {R : Type 0} (number : R → ℕ) where
     ]
 
     module _ {E : Type 0} (of : E → ℕ) where
-      abbrev owned : List E → R → ℕ
+      abbrev pub owned : List E → R → ℕ
       owned files r = count_by (λ e. of e == number r) files
 
-      abbrev passing : List E → R → ℕ
+      abbrev pub passing : List E → R → ℕ
       passing files r = cond {A = ℕ} (P (number r)) (owned files r) 0
 
       nothing : (rows : List R) → sum_by (passing []) rows ≡ 0
@@ -91,7 +91,7 @@ module _ {R : Type 0} (number : R → ℕ) where
           omega (arith, sum_by-cons (passing (e ∷ files)) r rows, sum_by-cons (told (of e)) r rows, sum_by-cons (passing files) r rows, here, one_more e files rows)
 
       -- the files that pass, counted row by row
-      by_rows : (rows : List R) → AreApart rows → (files : List E) → All (λ e. is_some (find (λ r. of e == number r) rows) ≡ true) files → count_by (λ e. P (of e)) files ≡ sum_by (passing files) rows
+      pub by_rows : (rows : List R) → AreApart rows → (files : List E) → All (λ e. is_some (find (λ r. of e == number r) rows) ≡ true) files → count_by (λ e. P (of e)) files ≡ sum_by (passing files) rows
       by_rows rows are [] there = sym (nothing rows)
       by_rows rows are (e ∷ files) there =
           let is = λ (x : E). is_some (find (λ r. of x == number r) rows) ≡ true in

@@ -22,11 +22,12 @@ use Rattle.unify_texts.specs.Told.{told}
 use Rattle.unify.specs.declared.host.Loaded.{Loaded}
 use Rattle.unify.specs.declared.merging.Merged.{Merged}
 use Rattle.unify.specs.declared.outcome.Outcome.{Outcome}
+use Rattle.unify.specs.declared.site.JoinedSite.{JoinedSite}
 use Rattle.unify.specs.Count.{site_of}
 use Rattle.unify.specs.Hosts.{files_of, owner_fault}
 use Rattle.unify.specs.Loading.{loaded_from}
 use Rattle.unify.specs.Merging.{IsMerged}
-use Rattle.unify.specs.Passes.{CountingValue, is_read, lines_of}
+use Rattle.unify.specs.Passes.{is_read, lines_of}
 use Rattle.unify.specs.Reading.{WholeSite}
 use Rattle.unify.specs.RowFiles.{RowFiles, row_files}
 use Rattle.unify.specs.SecondPass.{IsSolvedFrom, SolvedValue, StandsFor, owned_lines, second_lines, whole_plan}
@@ -34,10 +35,9 @@ use Rattle.unify.specs.Texts.{HasCounted, IsOfSite, IsTurnOf, mtrees}
 use Rattle.unify.specs.Told.{in_file}
 use Rattle.unify.specs.TwoPasses.{AreWholePlans}
 use Rattle.unify.proofs.Owners.{files_read}
-use Rattle.unify.proofs.PlanTurns.{lines_with}
+use Rattle.unify.proofs.PlanTurns.{first_none, lines_with}
 use Rattle.unify.proofs.SecondPasses.{lines_known}
 use Rattle.unify.proofs.SiteRuns.{some_same}
-use Rattle.unify.proofs.Turns.{first_none}
 use Rattle.unify.proofs.Whole.{hosts_held}
 
 -- ---- one inventory
@@ -65,8 +65,8 @@ lines_again host text files h =
 
 -- ---- inventory by inventory
 
-read_refused : (r : Result (List Entry) Fault) (f : Fault) → is_read r ≡ Err f → r ≡ Err f
-read_refused (Ok files) f h = absurd (cc)
+pub read_refused : {A : Type 0} (r : Result A Fault) (f : Fault) → is_read r ≡ Err f → r ≡ Err f
+read_refused (Ok x) f h = absurd (cc)
 read_refused (Err e) f h = let same : e ≡ f = cc in ap (λ x. Err x) same
 
 -- the one at an index is refused, behind others that were accepted
@@ -138,22 +138,22 @@ either_right P Q (Err e) none = (none, none)
 
 -- ---- from the first pass to the second
 
-module _ (texts : List HostText) (site : WholeSite) (c : CountingValue) (counted : HasCounted texts site c) (s : SolvedValue) (from : IsSolvedFrom c s) where
+module _ (texts : List HostText) (site : WholeSite) (begun : JoinedSite) (counted : HasCounted texts site begun) (s : SolvedValue) (from : IsSolvedFrom begun.inventories begun.site s) where
   pub of_site : IsOfSite texts site s
   of_site =
-      let paired : length (mtrees texts) ≡ length c.hosts = length-map texts (λ (t : HostText). t.mtree) ∙ sym counted.each_text in
-      let held = hosts_held c.hosts (mtrees texts) counted.stands.read paired counted.stands.accepted in
+      let paired : length (mtrees texts) ≡ length begun.inventories.hosts = length-map texts (λ (t : HostText). t.mtree) ∙ sym counted.each_text in
+      let held = hosts_held begun.inventories.hosts (mtrees texts) counted.stands.read paired counted.stands.accepted in
       record {
         hosts = from.hosts ∙ held.0 ∙ ap (map (λ h. h.0)) counted.hosts;
-        joined = from.joined ∙ counted.joined;
+        joined = from.joined_is ∙ counted.joined;
         passed = from.passed ∙ counted.stands.passed ∙ ap (map (λ here. row_files here.0 here.1)) counted.hosts;
         accepted = ap (λ hs. each site_of (loaded_from hs (mtrees texts))) from.hosts ∙ counted.stands.accepted ∙ ap (λ rs. Ok rs) counted.hosts;
       }
 
   pub merged_for : IsMerged site s.merged
   merged_for =
-      let same : record { hosts = counted.stands.read; joined = c.joined } ≡ site = λ j. record { hosts = counted.hosts j; joined = counted.joined j } in
-      subst (λ (w : WholeSite). IsMerged w s.merged) same (from.merged (mtrees texts) [] counted.stands)
+      let same : record { hosts = counted.stands.read; joined = begun.site } ≡ site = λ j. record { hosts = counted.hosts j; joined = counted.joined j } in
+      subst (λ (w : WholeSite). IsMerged w s.merged) same (from.merged (mtrees texts) counted.stands)
 
   pub each_text_again : length texts ≡ length s.hosts
   each_text_again = sym counted.each_text ∙ ap length (sym from.hosts)

@@ -1,5 +1,5 @@
 -- What a merge gives with each host's own files.
-use Rattle.std.proofs.Common.{◌≡◌, ◌++◌, ◌∷◌, [], ℕ, zero, suc, List, map, take, None, Some, Result, Ok, Err, refl, sym, ap, subst, ◌∙◌}
+use Rattle.std.proofs.Common.{◌≡◌, ◌++◌, ◌∷◌, [], ℕ, zero, suc, List, take, None, Some, Result, Ok, Err, refl, sym, ap, subst, ◌∙◌}
 use Rattle.std.specs.Prelude.{MatchResult}
 use Rattle.std.specs.List.{slice_get}
 use Rattle.idtext.proofs.OkLemmas.{bind_ok, each-ok, ok_same}

@@ -1,13 +1,13 @@
 -- The turn of a host in the second pass.
 use Rattle.std.proofs.Common.{◌≡◌, ◌≢◌, ℕ, ◌+◌, ◌<◌, ◌≤◌, Bool, true, false, not, List, [], ◌∷◌, ◌++◌, length, map, get_or, Option, Some, None, Result, Ok, Err, refl, sym, ap, subst, ◌∙◌, arith, append-nil, append_assoc, inl, inr, length-append}
-use Rattle.std.specs.Prelude.{IfSome, if◌then◌else◌}
+use Rattle.std.specs.Prelude.{IfSome, if◌then◌else◌, is_some}
 use Rattle.std.specs.List.{All, filter}
 use Rattle.std.specs.Result.{MatchResult, OnOk}
 use Rattle.std.proofs.lemmas.Bool.{true≢false}
-use Rattle.std.proofs.lemmas.List.{get_or_append_left, length-map, map-append}
+use Rattle.std.proofs.lemmas.List.{get_or_append_left, map-append}
 use Rattle.std.proofs.lemmas.List.Concat.{flat_map-append}
-use Rattle.std.proofs.lemmas.List.Elements.{All-append, filter-append}
-use Rattle.idtext.specs.First.{◌>>=◌, first_fault, unless}
+use Rattle.std.proofs.lemmas.List.Elements.{All-head, All-tail, filter-append}
+use Rattle.idtext.specs.First.{◌>>=◌, first_fault, or_else, unless}
 use Rattle.idtext.specs.Faults.{fault_told}
 use Rattle.idtext.specs.declared.faults.ReadError.{ReadError}
 use Rattle.idtext.specs.declared.faults.ReadError.TheVariants as read
@@ -20,12 +20,10 @@ use Rattle.mtree_inv.specs.Standing as standing
 use Rattle.mtree_inv.specs.Standing.{ReaderValue}
 use Rattle.mtree_inv.proofs.LawfulLemmas.{reader-files}
 use Rattle.mtree_inv.proofs.ReadLemmas.{Grows, grows-twice}
+use Rattle.hosts_join.specs.Kinds.{user_at, group_at}
 use Rattle.hosts_join.specs.Laws.{KnowsHost}
 use Rattle.hosts_join.specs.Site.{Joined}
 use Rattle.hosts_join.specs.declared.host.Host.{Host}
-use Rattle.ownership.specs.Counts as counts
-use Rattle.ownership.specs.Counts.{Counted}
-use Rattle.ownership.specs.Files.{Added}
 use Rattle.reown_plan.specs.declared.plan.Owner.{Owner}
 use Rattle.reown_plan.specs.Owners.{owner_of, owner_eq}
 use Rattle.reown_plan.specs.Spelling.{head, line, lines}
@@ -38,12 +36,39 @@ use Rattle.unify.specs.declared.plan_turn.PlanTurn.{PlanTurn}
 use Rattle.unify.specs.declared.plan_turn.Stop.{Stop}
 use Rattle.unify.specs.declared.plan_turn.Stop.TheVariants as stop
 use Rattle.unify.specs.Hosts.{owner_fault, files_of}
-use Rattle.unify.specs.Passes.{IsFirstUnowned, StandBehind}
-use Rattle.unify.specs.Reading.{added_on}
-use Rattle.unify.specs.RowFiles.{rows_among}
-use Rattle.unify.specs.SecondPass.{CountHosts, IsUnfinished, TurnsFor, or_changed, owned_lines, plan_before_end, planned_so_far, second_files, stop_of}
+use Rattle.unify.specs.RowFiles.{RowFiles, row_files}
+use Rattle.unify.specs.SecondPass.{IsUnfinished, TurnsFor, or_changed, owned_lines, plan_before_end, planned_so_far, second_files, stop_of}
 use Rattle.unify.proofs.FilesSoFar.{files_first, files_so_far}
-use Rattle.unify.proofs.Turns.{all_here, counted_owned, files_accepted, files_with, first_at, first_none, grown_files, inventory_is, none-owned}
+use Rattle.unify.proofs.Owners.{owned-there, owners-told}
+use Rattle.unify.proofs.Turns.{files_with, grown_files, inventory_is, none_then}
+
+-- ---- files behind files
+
+-- a judge that asks nothing of the items before
+pub first_none : {A F : Type 0} (judge : A → Option F) (seen xs : List A) → All (λ x. judge x ≡ None) xs → first_fault (λ s x. judge x) seen xs ≡ None
+unfolding first_fault
+first_none judge seen [] all = refl
+first_none judge seen (x ∷ xs) all = rw (All-head (λ y. judge y ≡ None) x xs all) (first_none judge (seen ++ x ∷ []) xs (All-tail (λ y. judge y ≡ None) x xs all))
+
+pub first_at : {A F : Type 0} (judge : A → Option F) (seen before : List A) (e : A) (after : List A) (f : F) → All (λ x. judge x ≡ None) before → judge e ≡ Some f → first_fault (λ s x. judge x) seen (before ++ e ∷ after) ≡ Some f
+unfolding first_fault
+first_at judge seen [] e after f all is = rw is refl
+first_at judge seen (x ∷ before) e after f all is =
+    rw (All-head (λ y. judge y ≡ None) x before all) (first_at judge (seen ++ x ∷ []) before e after f (All-tail (λ y. judge y ≡ None) x before all) is)
+
+-- it finds the same behind others
+first_anywhere : {A F : Type 0} (judge : A → Option F) (seen other xs : List A) → first_fault (λ s x. judge x) seen xs ≡ first_fault (λ s x. judge x) other xs
+unfolding first_fault
+first_anywhere judge seen other [] = refl
+first_anywhere judge seen other (x ∷ xs) = ap (or_else (judge x)) (first_anywhere judge (seen ++ x ∷ []) (other ++ x ∷ []) xs)
+
+-- ---- files and their owners
+
+-- a file with owners by its host's own tables has them on the site
+pub owned_on : (joined : Joined) (index : ℕ) (host : Host) (e : Entry) → KnowsHost joined index host → owner_fault host [] e ≡ None → IsOwned joined index e
+owned_on joined index host e knows none =
+    let both = owners-told (is_some (user_at host.users e.uid)) (is_some (group_at host.groups e.gid)) _ _ none in
+    owned-there joined index host e.uid e.gid knows both.0 both.1
 
 -- ---- plans of files behind files
 
@@ -92,11 +117,8 @@ begun_turn host joined merged index old turn text planned turns is =
       going = turns.going;
       sound = turns.sound;
       waiting = turns.waiting;
-      made = turns.made;
-      earlier = turns.earlier;
-      few = turns.few;
-      before_are = turns.before_are;
-      counted = turns.counted;
+      owned = turns.owned;
+      rows = turns.rows;
       none_unbegun = λ e. absurd (true≢false e);
       planned_is = begun_plan host joined merged index old.is_begun old.reader.files planned turns.none_unbegun turns.planned_is;
     })
@@ -147,51 +169,17 @@ lines_with host text files o h is = rw (h, is) refl
 lines_are : (most : ℕ) (text : List ℕ) (files : List Entry) → most ≡ 16777216 → inventory_of_lines most (whole_lines text) ≡ Ok files → inventory_of_lines 16777216 (whole_lines text) ≡ Ok files
 lines_are most text files is h = ap (λ n. inventory_of_lines n (whole_lines text)) (sym is) ∙ h
 
-lines_owned : (joined : Joined) (index : ℕ) (host : Host) (most : ℕ) (text : List ℕ) (files : List Entry) → KnowsHost joined index host → most ≡ 16777216 → inventory_of_lines most (whole_lines text) ≡ Ok files → All (IsOwned joined index) files
-    → owned_lines host text ≡ Ok files
-lines_owned joined index host most text files knows is h owned =
-    lines_with host text files None (lines_are most text files is h) (first_none (owner_fault host []) [] files (all_here joined index host files knows owned))
-
--- the fault of the first file that is not owned
-first_found : (joined : Joined) (index : ℕ) (host : Host) (files : List Entry) (e : Entry) → KnowsHost joined index host → IsFirstUnowned joined index files e → (f : Fault) × (first_fault (owner_fault host) [] files ≡ Some f)
-first_found joined index host files e knows first =
-    let some = none-owned joined index host e first.fault (owner_fault host [] e) knows first.unowned_is refl in (
-      some.0,
-      ap (first_fault (owner_fault host) []) first.stands
-          ∙ first_at (owner_fault host []) [] first.before e first.after some.0 (all_here joined index host first.before knows first.owned) some.1,
-    )
-
-lines_unowned : (joined : Joined) (index : ℕ) (host : Host) (most : ℕ) (text : List ℕ) (files : List Entry) (e : Entry) → KnowsHost joined index host → most ≡ 16777216 → inventory_of_lines most (whole_lines text) ≡ Ok files → IsFirstUnowned joined index files e
-    → (f : Fault) × (owned_lines host text ≡ Err f)
-lines_unowned joined index host most text files e knows is h first =
-    let found = first_found joined index host files e knows first in
-    (found.0, lines_with host text files (Some found.0) (lines_are most text files is h) found.1)
-
--- files that are owned, and behind them the first that is not
-first_more : (joined : Joined) (index : ℕ) (files more : List Entry) (e : Entry) → All (IsOwned joined index) files → IsFirstUnowned joined index more e → IsFirstUnowned joined index (files ++ more) e
-first_more joined index files more e owned first = record {
-  before = files ++ first.before;
-  after = first.after;
-  stands = ap (λ fs. files ++ fs) first.stands ∙ sym (append_assoc files first.before (e ∷ first.after));
-  owned = All-append (IsOwned joined index) files first.before owned first.owned;
-  fault = first.fault;
-  unowned_is = first.unowned_is;
-}
-
 second_faulty : (host : Host) (most : ℕ) (text : List ℕ) (t : TextFault) → most ≡ 16777216 → inventory most text ≡ Err t → second_files host text ≡ Err (InventoryChanged host.name)
 unfolding files_of
 second_faulty host most text t is h =
     let here : inventory 16777216 text ≡ Err t = ap (λ n. inventory n text) (sym is) ∙ h in
     rw here refl
 
-pub second_owned : (joined : Joined) (index : ℕ) (host : Host) (most : ℕ) (text : List ℕ) (files : List Entry) → KnowsHost joined index host → most ≡ 16777216 → inventory most text ≡ Ok files → All (IsOwned joined index) files → second_files host text ≡ Ok files
-second_owned joined index host most text files knows is h owned = ap (or_changed host) (files_accepted joined index host text files knows (inventory_is text most files is h) owned)
+pub second_owned : (host : Host) (most : ℕ) (text : List ℕ) (files : List Entry) → most ≡ 16777216 → inventory most text ≡ Ok files → first_fault (owner_fault host) [] files ≡ None → second_files host text ≡ Ok files
+second_owned host most text files is h none = ap (or_changed host) (files_with host text files None (inventory_is text most files is h) none)
 
-pub second_unowned : (joined : Joined) (index : ℕ) (host : Host) (most : ℕ) (text : List ℕ) (files : List Entry) (e : Entry) → KnowsHost joined index host → most ≡ 16777216 → inventory most text ≡ Ok files → IsFirstUnowned joined index files e
-    → second_files host text ≡ Err (InventoryChanged host.name)
-second_unowned joined index host most text files e knows is h first =
-    let found = first_found joined index host files e knows first in
-    ap (or_changed host) (files_with host text files (Some found.0) (inventory_is text most files is h) found.1)
+pub second_unowned : (host : Host) (most : ℕ) (text : List ℕ) (files : List Entry) (f : Fault) → most ≡ 16777216 → inventory most text ≡ Ok files → first_fault (owner_fault host) [] files ≡ Some f → second_files host text ≡ Err (InventoryChanged host.name)
+second_unowned host most text files f is h some = ap (or_changed host) (files_with host text files (Some f) (inventory_is text most files is h) some)
 
 -- ---- why a reading stopped
 
@@ -215,16 +203,11 @@ not_both r x f e o = absurd (cc)
 -- ---- files that are appended
 
 -- one more of the files that wait was appended
-pub next_stays : (initial turn : PlanTurn) (after : ReaderValue) (c : Counted) → turn ≡ record initial { reader = record initial.reader { waiting = turn.reader.waiting }; counts = turn.counts } → after ≡ record turn.reader { waiting = after.waiting }
-    → record turn { reader = after; counts = c } ≡ record initial { reader = record initial.reader { waiting = after.waiting }; counts = c }
-next_stays initial turn after c stays next =
+pub next_stays : (initial turn : PlanTurn) (after : ReaderValue) (rows : RowFiles) → turn ≡ record initial { reader = record initial.reader { waiting = turn.reader.waiting }; rows = turn.rows } → after ≡ record turn.reader { waiting = after.waiting }
+    → record turn { reader = after; rows = rows } ≡ record initial { reader = record initial.reader { waiting = after.waiting }; rows = rows }
+next_stays initial turn after rows stays next =
     let same : after ≡ record initial.reader { waiting = after.waiting } = next ∙ ap (λ (t : PlanTurn). record t.reader { waiting = after.waiting }) stays in
-    λ i. record { reader = same i; counts = c; before = (stays i).before; is_begun = (stays i).is_begun; stop = (stays i).stop }
-
--- what was told of the rows before stays
-pub rows_before : (joined : Joined) (host : Host) (index : ℕ) (turn new : PlanTurn) (reader : ReaderValue) (earlier : List Added) → new ≡ record turn { reader = reader; counts = new.counts } → turn.before ≡ rows_among joined index host earlier
-    → new.before ≡ rows_among joined index host earlier
-rows_before joined host index turn new reader earlier is before = ap (λ (t : PlanTurn). t.before) is ∙ before
+    λ i. record { reader = same i; rows = rows; is_begun = (stays i).is_begun; stop = (stays i).stop }
 
 -- the plan has its header, and the reader took more, of which the files wait
 -- text: what came before; fed: what came by now
@@ -247,29 +230,15 @@ abbrev pub GoesOn : Host → Joined → Merged → ℕ → PlanTurn → List ℕ
 GoesOn host joined merged index turn text r planned = MatchResult r (λ _. TurnsFor host joined merged index turn text planned) (λ _. IsUnfinished host joined merged index text planned)
 
 module _ (host : Host) (joined : Joined) (merged : Merged) (index : ℕ) (turn : PlanTurn) (after : ReaderValue) (text fed planned : List ℕ) (more : HasMore host joined merged index turn after text fed planned) where
-  -- there is room for them
-  pub room_more : index < 64 → (earlier : List Added) × (files : List Entry) × StandBehind joined index earlier turn.counts files × (length earlier + length files + length after.waiting ≤ 2147483648)
-  room_more there =
-      let most : length after.files ≤ 16777216 = subst (λ n. length after.files ≤ n) (more.most ∙ more.turns.most) (reader-files after fed more.stands).1 in (
-        more.turns.earlier,
-        turn.reader.files,
-        more.turns.counted,
-        omega (
-          arith,
-          there,
-          more.turns.few,
-          most,
-          ap length more.grow.1,
-          length-append turn.reader.files more.grow.0,
-          ap length more.grow.2,
-          length-append turn.reader.waiting more.grow.0,
-          ap length more.turns.waiting,
-        ),
-      )
-
   -- they stand behind those that were appended
-  pub files_more : after.files ≡ turn.reader.files ++ after.waiting
+  files_more : after.files ≡ turn.reader.files ++ after.waiting
   files_more = grown_files turn.reader.files after.files turn.reader.waiting after.waiting more.grow more.turns.waiting
+
+  -- there is room for them
+  pub room_more : (files : List Entry) × (turn.rows ≡ row_files host files) × (length files + length after.waiting ≤ 2147483648)
+  room_more =
+      let most : length after.files ≤ 16777216 = subst (λ n. length after.files ≤ n) (more.most ∙ more.turns.most) (reader-files after fed more.stands).1 in
+      (turn.reader.files, more.turns.rows, omega (arith, most, ap length files_more, length-append turn.reader.files after.waiting))
 
   -- the plan with some of them
   planned_more : (done : List Entry) → planned ++ lines (plan_of joined merged.users merged.groups index done) ≡ plan_before_end host joined merged index (turn.reader.files ++ done)
@@ -287,18 +256,29 @@ module _ (host : Host) (joined : Joined) (merged : Merged) (index : ℕ) (turn :
       let first = grows-twice (turn.reader.files ++ done) after.files (standing.files_before_fault 16777216 fed) (left, parts) (files_so_far after fed (more.most ∙ more.turns.most) sound more.stands) in
       inr (turn.reader.files ++ done, first.0, first.1, files_front (turn.reader.files ++ done) left (subst AreFiles parts (reader-files after fed more.stands).0), planned_more done)
 
+  -- what is found of them is found of all files
+  fault_more : first_fault (owner_fault host) [] after.files ≡ first_fault (owner_fault host) [] after.waiting
+  fault_more =
+      ap (first_fault (owner_fault host) []) files_more
+      ∙ none_then (owner_fault host) [] turn.reader.files after.waiting more.turns.owned
+      ∙ first_anywhere (owner_fault host []) turn.reader.files [] after.waiting
+
   -- all of them are owned
-  pub owned_more : All (IsOwned joined index) after.waiting → All (IsOwned joined index) after.files
-  owned_more owned = subst (All (IsOwned joined index)) (sym files_more) (All-append (IsOwned joined index) turn.reader.files after.waiting (counted_owned joined index more.turns.earlier turn.counts turn.reader.files more.turns.counted) owned)
+  pub owned_more : All (λ f. owner_fault host [] f ≡ None) after.waiting → first_fault (owner_fault host) [] after.files ≡ None
+  owned_more owned = fault_more ∙ first_none (owner_fault host []) [] after.waiting owned
 
   -- one of them is not
-  pub unowned_more : (e : Entry) → IsFirstUnowned joined index after.waiting e → IsFirstUnowned joined index after.files e
-  unowned_more e first = subst (λ fs. IsFirstUnowned joined index fs e) (sym files_more) (first_more joined index turn.reader.files after.waiting e (counted_owned joined index more.turns.earlier turn.counts turn.reader.files more.turns.counted) first)
+  pub unowned_more : (f : Fault) → first_fault (owner_fault host) [] after.waiting ≡ Some f → first_fault (owner_fault host) [] after.files ≡ Some f
+  unowned_more f first = fault_more ∙ first
+
+  -- each of them is counted
+  pub rows_more : (rows : RowFiles) → ((files : List Entry) → turn.rows ≡ row_files host files → rows ≡ row_files host (files ++ after.waiting)) → rows ≡ row_files host after.files
+  rows_more rows counted = counted turn.reader.files more.turns.rows ∙ ap (row_files host) (sym files_more)
 
   -- the turn when all of them were appended
-  turn_more : (new : PlanTurn) → new ≡ record turn { reader = record after { waiting = [] }; counts = new.counts } → after.is_finished ≡ false → after.fault ≡ None → standing.StandsFor new.reader fed → counts.IsMadeFor joined new.counts
-      → StandBehind joined index more.turns.earlier new.counts (turn.reader.files ++ after.waiting) → TurnsFor host joined merged index new fed (planned ++ lines (plan_of joined merged.users merged.groups index after.waiting))
-  turn_more new is going sound stands made counted =
+  turn_more : (new : PlanTurn) → new ≡ record turn { reader = record after { waiting = [] }; rows = new.rows } → after.is_finished ≡ false → after.fault ≡ None → standing.StandsFor new.reader fed → All (λ f. owner_fault host [] f ≡ None) after.waiting
+      → ((files : List Entry) → turn.rows ≡ row_files host files → new.rows ≡ row_files host (files ++ after.waiting)) → TurnsFor host joined merged index new fed (planned ++ lines (plan_of joined merged.users merged.groups index after.waiting))
+  turn_more new is going sound stands owned counted =
       let begun : new.is_begun ≡ true = ap (λ (t : PlanTurn). t.is_begun) is ∙ more.begun in
       let files : new.reader.files ≡ after.files = ap (λ (t : PlanTurn). t.reader.files) is in
       record {
@@ -308,11 +288,8 @@ module _ (host : Host) (joined : Joined) (merged : Merged) (index : ℕ) (turn :
         going = ap (λ (t : PlanTurn). t.reader.is_finished) is ∙ going;
         sound = ap (λ (t : PlanTurn). t.reader.fault) is ∙ sound;
         waiting = ap (λ (t : PlanTurn). t.reader.waiting) is;
-        made = made;
-        earlier = more.turns.earlier;
-        few = more.turns.few;
-        before_are = ap (λ (t : PlanTurn). t.before) is ∙ more.turns.before_are;
-        counted = subst (StandBehind joined index more.turns.earlier new.counts) (sym (files ∙ files_more)) counted;
+        owned = ap (first_fault (owner_fault host) []) files ∙ owned_more owned;
+        rows = rows_more new.rows counted ∙ ap (row_files host) (sym files);
         none_unbegun = λ e. absurd (true≢false (sym begun ∙ e));
         planned_is = planned_all ∙ ap (plan_before_end host joined merged index) (sym files) ∙ ap (λ b. planned_so_far host joined merged index b new.reader.files) (sym begun);
       }
@@ -324,31 +301,19 @@ module _ (host : Host) (joined : Joined) (merged : Merged) (index : ℕ) (turn :
       planned_more done ∙ ap (plan_before_end host joined merged index) (ap (λ ws. turn.reader.files ++ ws) (sym whole) ∙ sym files_more)
 
   -- what is told of whole lines
-  pub told_more : (r : Result (Unit {0}) Stop) → KnowsHost joined index host → inventory_of_lines turn.reader.most (whole_lines fed) ≡ Ok after.files → OnOk r (All (IsOwned joined index) after.waiting)
-      → (r ≡ Err stop.Changed → (e : Entry) × IsFirstUnowned joined index after.waiting e)
+  pub told_more : (r : Result (Unit {0}) Stop) → inventory_of_lines turn.reader.most (whole_lines fed) ≡ Ok after.files → OnOk r (All (λ f. owner_fault host [] f ≡ None) after.waiting)
+      → (r ≡ Err stop.Changed → (f : Fault) × (first_fault (owner_fault host) [] after.waiting ≡ Some f))
       → MatchResult r (λ _. (files : List Entry) × (owned_lines host fed ≡ Ok files)) (λ s. s ≡ stop.Changed → (f : Fault) × (owned_lines host fed ≡ Err f))
-  told_more (Ok u) knows told owned unowned = (after.files, lines_owned joined index host turn.reader.most fed after.files knows more.turns.most told (owned_more owned))
-  told_more (Err s) knows told owned unowned = λ changed.
+  told_more (Ok u) told owned unowned = (after.files, lines_with host fed after.files None (lines_are turn.reader.most fed after.files more.turns.most told) (owned_more owned))
+  told_more (Err s) told owned unowned = λ changed.
       let first = unowned (ap (λ x. Err x) changed) in
-      lines_unowned joined index host turn.reader.most fed after.files first.0 knows more.turns.most told (unowned_more first.0 first.1)
+      (first.0, lines_with host fed after.files (Some first.0) (lines_are turn.reader.most fed after.files more.turns.most told) (unowned_more first.0 first.1))
 
   -- and how the turn and the plan go on
-  pub stands_more : (r : Result (Unit {0}) Stop) (new : PlanTurn) (done left : List Entry) → after.waiting ≡ done ++ left → OnOk r (left ≡ []) → OnOk r (new ≡ record turn { reader = record after { waiting = [] }; counts = new.counts }) → after.is_finished ≡ false → after.fault ≡ None
-      → OnOk r (standing.StandsFor new.reader fed) → counts.IsMadeFor joined new.counts → OnOk r (StandBehind joined index more.turns.earlier new.counts (turn.reader.files ++ after.waiting))
+  pub stands_more : (r : Result (Unit {0}) Stop) (new : PlanTurn) (done left : List Entry) → after.waiting ≡ done ++ left → OnOk r (left ≡ []) → OnOk r (new ≡ record turn { reader = record after { waiting = [] }; rows = new.rows }) → after.is_finished ≡ false → after.fault ≡ None
+      → OnOk r (standing.StandsFor new.reader fed) → OnOk r (All (λ f. owner_fault host [] f ≡ None) after.waiting) → OnOk r ((files : List Entry) → turn.rows ≡ row_files host files → new.rows ≡ row_files host (files ++ after.waiting))
       → GoesOn host joined merged index new fed r (planned ++ lines (plan_of joined merged.users merged.groups index done))
-  stands_more (Ok u) new done left split none is going sound stands made counted =
+  stands_more (Ok u) new done left split none is going sound stands owned counted =
       let whole : after.waiting ≡ done = split ∙ ap (λ ws. done ++ ws) none ∙ append-nil done in
-      subst (λ ws. TurnsFor host joined merged index new fed (planned ++ lines (plan_of joined merged.users merged.groups index ws))) whole (turn_more new is going sound stands made counted)
-  stands_more (Err s) new done left split none is going sound stands made counted = unfinished_more done left split sound
-
-  -- when the inventory ends with them, the files of one host more are counted
-  pub counted_more : (c : Counted) → counts.IsMadeFor joined c → StandBehind joined index more.turns.earlier c (turn.reader.files ++ after.waiting) → CountHosts joined (index + 1) c
-  counted_more c made counted =
-      let most : length after.files ≤ 16777216 = subst (λ n. length after.files ≤ n) (more.most ∙ more.turns.most) (reader-files after fed more.stands).1 in
-      let stands = subst (StandBehind joined index more.turns.earlier c) (sym files_more) counted in
-      record {
-        made = made;
-        earlier = more.turns.earlier ++ map (added_on index) after.files;
-        few = omega (arith, most, more.turns.few, length-append more.turns.earlier (map (added_on index) after.files), length-map after.files (added_on index));
-        stands = stands;
-      }
+      subst (λ ws. TurnsFor host joined merged index new fed (planned ++ lines (plan_of joined merged.users merged.groups index ws))) whole (turn_more new is going sound stands owned counted)
+  stands_more (Err s) new done left split none is going sound stands owned counted = unfinished_more done left split sound

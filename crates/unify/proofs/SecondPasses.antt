@@ -2,14 +2,13 @@
 use Rattle.std.proofs.Common.{◌≡◌, ℕ, ◌+◌, ◌<◌, List, [], ◌++◌, length, Option, Some, None, Result, Ok, Err, refl, sym, ap, subst, ◌∙◌, arith, inr, append-nil, append_assoc}
 use Rattle.std.specs.Prelude.{IfSome}
 use Rattle.std.specs.List.{slice_get}
+use Rattle.idtext.specs.First.{first_fault}
 use Rattle.mtree_inv.specs.declared.entry.Entry.{Entry}
 use Rattle.mtree_inv.specs.Files.{AreFiles}
 use Rattle.mtree_inv.specs.Inventory.{inventory}
 use Rattle.mtree_inv.proofs.LawfulLemmas.{inventory-files}
 use Rattle.hosts_join.specs.Site.{Joined}
 use Rattle.hosts_join.specs.declared.host.Host.{Host}
-use Rattle.ownership.specs.Counts.{Counted, StandsFor}
-use Rattle.ownership.specs.Files.{Added}
 use Rattle.reown_plan.specs.Spelling.{end}
 use Rattle.unify_texts.specs.Told.{told}
 use Rattle.unify_texts.specs.declared.fault.Fault.{Fault}
@@ -19,10 +18,10 @@ use Rattle.unify.specs.declared.merging.Merged.{Merged}
 use Rattle.unify.specs.declared.plan_turn.PlanTurn.{PlanTurn}
 use Rattle.unify.specs.declared.plan_turn.Stop.{Stop}
 use Rattle.unify.specs.declared.plan_turn.Stop.TheVariants as stop
+use Rattle.unify.specs.Hosts.{owner_fault}
 use Rattle.unify.specs.Passes.{is_read}
-use Rattle.unify.specs.RowFiles.{rows_among}
-use Rattle.unify.specs.SecondPass.{CountHosts, IsAccepted, IsFreshTurn, IsSolving, IsUnfinished, SolvedValue, TurnsFor, fault_met, met_on, or_changed, second_files, stop_told, whole_plan}
-use Rattle.unify.proofs.BetweenPasses.{fresh_turn}
+use Rattle.unify.specs.RowFiles.{row_files}
+use Rattle.unify.specs.SecondPass.{IsAccepted, IsFreshTurn, IsSolving, IsUnfinished, SolvedValue, TurnsFor, fault_met, met_on, or_changed, second_files, stop_told, whole_plan}
 use Rattle.unify.proofs.FilesSoFar.{files_all}
 use Rattle.unify.proofs.Owners.{files_read}
 
@@ -117,21 +116,21 @@ solving_fed s host turn bytes old new u A P solving here again stands = record {
 
 -- ---- what it is behind the end of a host
 
--- the files of that host are counted
-pub ended_counts : (s : SolvedValue) (host : Host) (counted : Counted) (u : Unit {0}) (A P : Type 0) → IsSolving s → slice_get s.hosts s.ended ≡ Some host
-    → IfSome s.turn.stop (λ x. (◌≡◌ {A = Result (Unit {0}) Stop} (Ok u) (Err x)) × A × P)
-    → ((text planned : List ℕ) → TurnsFor host s.joined s.merged s.ended s.turn text planned → CountHosts s.joined (s.ended + 1) counted) → CountHosts s.joined (s.ended + 1) counted
-ended_counts s host counted u A P solving here again goes =
-    let stood = solving.standing host here (unstopped s.turn.stop u A P again) in
-    goes stood.0 stood.1 stood.2
-
--- the turn of the next one begins
-pub next_stands : (s : SolvedValue) (old turn : PlanTurn) (host : Host) → CountHosts s.joined (s.ended + 1) old.counts → IsFreshTurn turn → turn.counts ≡ old.counts
-    → ((next : Host) (files : List Added) → slice_get s.hosts (s.ended + 1) ≡ Some next → StandsFor s.joined old.counts files → turn.before ≡ rows_among s.joined (s.ended + 1) next files)
-    → slice_get s.hosts (s.ended + 1) ≡ Some host → TurnsFor host s.joined s.merged (s.ended + 1) turn [] []
-next_stands s old turn host counted fresh same rows here =
-    let now : CountHosts s.joined (s.ended + 1) turn.counts = record { made = rw same counted.made; earlier = counted.earlier; few = counted.few; stands = rw same counted.stands } in
-    fresh_turn host s.joined s.merged (s.ended + 1) turn now fresh (rows host counted.earlier here counted.stands)
+-- the turn of a host of whose second inventory nothing has come
+pub fresh_turn : (host : Host) (joined : Joined) (merged : Merged) (index : ℕ) (turn : PlanTurn) → IsFreshTurn turn → turn.rows ≡ row_files host [] → TurnsFor host joined merged index turn [] []
+unfolding first_fault
+fresh_turn host joined merged index turn fresh rows = record {
+  goes = fresh.goes;
+  reading = fresh.reading;
+  most = fresh.most;
+  going = fresh.going;
+  sound = fresh.sound;
+  waiting = fresh.waiting;
+  owned = ap (first_fault (owner_fault host) []) fresh.none;
+  rows = rows ∙ ap (row_files host) (sym fresh.none);
+  none_unbegun = λ no. fresh.none;
+  planned_is = rw fresh.unbegun refl;
+}
 
 pub solving_next : (s : SolvedValue) (turn : PlanTurn) → IsSolving s → s.ended < length s.hosts → ((host : Host) → slice_get s.hosts (s.ended + 1) ≡ Some host → TurnsFor host s.joined s.merged (s.ended + 1) turn [] [])
     → IsSolving (record s { ended = s.ended + 1; turn = turn })

@@ -1,7 +1,8 @@
--- Inventories that come in pieces, host by host, and of which no text is kept.
+-- Inventories that come in pieces, host by host, and of which no text is kept: what comes before them, and their files
+-- counted by the rows of their host's own tables.
 -- Source: this project's own rule.
-use Rattle.std.specs.Prelude.{◌≡◌, ◌≤◌, ◌*◌, ◌⊎◌, ℕ, Bool, true, false, List, [], ◌∷◌, ◌++◌, map, length, All, Option, Some, None, Result, Ok, Err, slice_get}
-use Rattle.idtext.specs.First.{◌>>=◌, each}
+use Rattle.std.specs.Prelude.{◌≡◌, ◌≤◌, ◌⊎◌, ℕ, Bool, true, false, List, [], map, length, All, Option, Some, None, Result, Ok, Err, slice_get}
+use Rattle.idtext.specs.First.{◌>>=◌, each, first_fault}
 use Rattle.idtext.specs.declared.faults.ReadError.{ReadError}
 use Rattle.idtext.specs.declared.faults.ReadError.TheVariants as read
 use Rattle.mtree_inv.specs.declared.entry.Entry.{Entry}
@@ -17,12 +18,6 @@ use Rattle.hosts_join.specs.declared.host.Host.{Host}
 use Rattle.hosts_join.specs.declared.texts.HostText.{HostText}
 use Rattle.mergedfiles.specs.ReadBack.{WasRead}
 use Rattle.mergedfiles.specs.Together.{AreJoined}
-use Rattle.ownership.specs.Counts as counts
-use Rattle.ownership.specs.Counts.{Counted}
-use Rattle.ownership.specs.Faults.{unowned}
-use Rattle.ownership.specs.Files.{Added}
-use Rattle.ownership.specs.declared.OwnerFault.{OwnerFault}
-use Rattle.reown_plan.specs.Target.{IsOwned}
 use Rattle.unify_texts.specs.declared.bundle_line.FileName.TheVariants as file
 use Rattle.unify_texts.specs.declared.fault.Fault.{Fault}
 use Rattle.unify_texts.specs.declared.fault.Fault.TheVariants.{Line, Memory}
@@ -32,8 +27,7 @@ use Rattle.unify.specs.Told.{in_file, in_site, in_pins}
 use Rattle.unify.specs.Hosts.{host_of, owner_fault, files_of}
 use Rattle.unify.specs.Count.{site_of}
 use Rattle.unify.specs.Loading.{loaded_from}
-use Rattle.unify.specs.Reading.{added_on, added_from}
-use Rattle.unify.specs.RowFiles.{RowFiles, row_files, rows_among}
+use Rattle.unify.specs.RowFiles.{RowFiles, row_files}
 
 -- ---- what is read before the inventories
 
@@ -81,43 +75,26 @@ is_read (Err f) = Err f
 abbrev pub lines_of : Host → List ℕ → Result (List Entry) Fault
 lines_of host text = in_file host.name file.Mtree (inventory_of_lines 16777216 (whole_lines text))
 
--- the first file without an account: its uid or its gid has none on the host with the index
-pub record IsFirstUnowned (joined : Joined) (index : ℕ) (files : List Entry) (e : Entry) : Type 0 where
-  pub before : List Entry
-  pub after : List Entry
-  pub stands : files ≡ before ++ e ∷ after
-  pub owned : All (IsOwned joined index) before
-  pub fault : OwnerFault
-  pub unowned_is : unowned joined index e.uid e.gid ≡ Some fault
+-- each of the files has an account, and so many of them each row owns; or this is the first that has none
+abbrev pub AreCounted : Host → RowFiles → Option Entry → List Entry → Type 0
+AreCounted host rows None files = (first_fault (owner_fault host) [] files ≡ None) × (rows ≡ row_files host files)
+AreCounted host rows (Some e) files = (f : Fault) × (owner_fault host [] e ≡ Some f) × (first_fault (owner_fault host) [] files ≡ Some f)
 
--- these files of the host with the index are counted behind those of the hosts before it
--- earlier: the files of the hosts before it
-abbrev pub StandBehind : Joined → ℕ → List Added → Counted → List Entry → Type 0
-StandBehind joined index earlier c files = counts.StandsFor joined c (earlier ++ map (added_on index) files)
-
--- the files of the host are counted, unless one of them is not owned: then it is the first
-abbrev pub AreCounted : Joined → ℕ → List Added → Counted → Option Entry → List Entry → Type 0
-AreCounted joined index earlier c None files = StandBehind joined index earlier c files
-AreCounted joined index earlier c (Some e) files = IsFirstUnowned joined index files e
-
--- of the inventory of the host with the index this text has come, in which there is no reader fault so far
-pub record TurnsFor (joined : Joined) (index : ℕ) (earlier : List Added) (turn : Turn) (text : List ℕ) : Type 0 where
+-- of the inventory of the host this text has come, in which there is no reader fault so far
+pub record TurnsFor (host : Host) (turn : Turn) (text : List ℕ) : Type 0 where
   pub reading : reader.StandsFor turn.reader text
   pub most : turn.reader.most ≡ 16777216
   pub going : turn.reader.is_finished ≡ false
   pub sound : turn.reader.fault ≡ None
   pub waiting : turn.reader.waiting ≡ []
-  pub made : counts.IsMadeFor joined turn.counts
-  pub counted : AreCounted joined index earlier turn.counts turn.unowned turn.reader.files
+  pub counted : AreCounted host turn.rows turn.unowned turn.reader.files
 
--- the inventory was ended with this text, which was accepted: its files are counted
-pub record IsAccepted (joined : Joined) (index : ℕ) (host : Host) (earlier : List Added) (turn : Turn) (text : List ℕ) : Type 0 where
+-- the inventory was ended with this text, which was accepted: so many of its files each row owns
+pub record IsAccepted (host : Host) (turn : Turn) (text : List ℕ) : Type 0 where
   pub files : List Entry
   pub are : files_of (record { host = host; mtree = text }) ≡ Ok files
   pub few : length files ≤ 16777216
-  pub none : turn.unowned ≡ None
-  pub made : counts.IsMadeFor joined turn.counts
-  pub counted : StandBehind joined index earlier turn.counts files
+  pub rows : turn.rows ≡ row_files host files
 
 -- ---- the fault that ended a reading
 
@@ -155,19 +132,17 @@ TellsFault f (Err e) = IsToldAs f e
 abbrev pub IsFaultOf : Host → List ℕ → Fault → Type 0
 IsFaultOf host text f = (f ≡ Memory) ⊎ (is_read (files_of (record { host = host; mtree = text })) ≡ Err f)
 
--- ---- the first pass
+-- ---- the inventories of all hosts
 
--- what contracts see of a first pass: the hosts, their accounts together, how many files each row owns of each host whose
--- inventory was ended, what was counted of the rows of the next host before its turn, and its turn
-pub record CountingValue : Type 0 where
+-- what contracts see of inventories that come in pieces: the hosts, how many files each row owns of each host whose inventory
+-- was ended, and the turn of the next host
+pub record InventoriesValue : Type 0 where
   pub hosts : List Host
-  pub joined : Joined
   pub passed : List RowFiles
-  pub before : RowFiles
   pub turn : Turn
 
 -- how many inventories were ended; it is as well the index of the next host
-abbrev pub ended_in : CountingValue → ℕ
+abbrev pub ended_in : InventoriesValue → ℕ
 ended_in c = length c.passed
 
 -- of each host, how many of its files each of its rows owns
@@ -176,35 +151,30 @@ ArePassed passed read = passed ≡ map (λ here. row_files here.0 here.1) read
 
 -- the inventories of the first hosts were ended with these texts, each of which was accepted, and of the next host this
 -- text has come
-pub record StandsFor (c : CountingValue) (ended : List (List ℕ)) (text : List ℕ) : Type 0 where
+pub record StandsFor (c : InventoriesValue) (ended : List (List ℕ)) (text : List ℕ) : Type 0 where
   pub read : List (Host × List Entry)
   pub accepted : each site_of (loaded_from c.hosts ended) ≡ Ok read
   pub ended_are : length ended ≡ ended_in c
-  pub read_are : length read ≡ ended_in c
-  pub few : length (added_from 0 read) ≤ 16777216 * ended_in c
   pub passed : ArePassed c.passed read
-  pub before : (host : Host) → slice_get c.hosts (ended_in c) ≡ Some host → c.before ≡ rows_among c.joined (ended_in c) host (added_from 0 read)
-  pub turns : TurnsFor c.joined (ended_in c) (added_from 0 read) c.turn text
+  pub turns : (host : Host) → slice_get c.hosts (ended_in c) ≡ Some host → TurnsFor host c.turn text
 
 -- the fault that it met on the way, if any
 abbrev pub met_on : Option Host → Turn → Option Fault
 met_on None turn = None
 met_on (Some host) turn = met_by host turn
 
-abbrev pub fault_met : CountingValue → Option Fault
+abbrev pub fault_met : InventoriesValue → Option Fault
 fault_met c = met_on (slice_get c.hosts (ended_in c)) c.turn
 
--- what holds of every first pass: unless it met a fault, it stands for some texts
-pub record IsCounting (c : CountingValue) : Type 0 where
-  pub whole : AreTogether c.hosts c.joined
+-- what always holds: unless a fault was met, it stands for some texts
+pub record AreComing (c : InventoriesValue) : Type 0 where
+  pub few : length c.hosts ≤ 64
+  pub lawful : All IsLawfulHost c.hosts
   pub within : ended_in c ≤ length c.hosts
   pub standing : fault_met c ≡ None → (ended : List (List ℕ)) × (text : List ℕ) × StandsFor c ended text
-  -- where no host is left, nothing has come of another
-  pub fresh : ended_in c ≡ length c.hosts → (c.turn.reader.files ≡ []) × (c.turn.unowned ≡ None)
 
--- a first pass of which no inventory has come
-pub record IsAtStart (begun : BegunSite) (c : CountingValue) : Type 0 where
-  pub hosts : c.hosts ≡ begun.hosts
-  pub joined : c.joined ≡ begun.joined
-  pub passed : c.passed ≡ []
+-- inventories of these hosts, of which none has come
+pub record AreAtStart (hosts : List Host) (c : InventoriesValue) : Type 0 where
+  pub hosts_are : c.hosts ≡ hosts
+  pub none : c.passed ≡ []
   pub stands : StandsFor c [] []

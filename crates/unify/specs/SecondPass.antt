@@ -1,6 +1,6 @@
 -- Inventories that come a second time in pieces, host by host, while plans are appended.
 -- Source: this project's own rule.
-use Rattle.std.specs.Prelude.{◌≡◌, ◌≤◌, ◌*◌, ◌⊎◌, ℕ, Bool, true, false, List, [], ◌++◌, length, Option, Some, None, Result, Ok, Err, slice_get}
+use Rattle.std.specs.Prelude.{◌≡◌, ◌≤◌, ◌⊎◌, ℕ, Bool, true, false, List, [], ◌++◌, length, Option, Some, None, Result, Ok, Err, slice_get}
 use Rattle.idtext.specs.First.{◌>>=◌, first_fault, unless}
 use Rattle.idtext.specs.declared.faults.ReadError.{ReadError}
 use Rattle.idtext.specs.declared.faults.ReadError.TheVariants as read
@@ -9,9 +9,6 @@ use Rattle.mtree_inv.specs.Files.{AreFiles}
 use Rattle.mtree_inv.specs.Standing as reader
 use Rattle.hosts_join.specs.Site.{Joined}
 use Rattle.hosts_join.specs.declared.host.Host.{Host}
-use Rattle.ownership.specs.Counts as counts
-use Rattle.ownership.specs.Counts.{Counted}
-use Rattle.ownership.specs.Files.{Added}
 use Rattle.reown_plan.specs.Spelling.{head, lines, spelling}
 use Rattle.reown_plan.specs.Target.{AreForSite, plan_of}
 use Rattle.unify_texts.specs.declared.fault.Fault.{Fault}
@@ -23,8 +20,8 @@ use Rattle.unify.specs.declared.plan_turn.Stop.TheVariants as stop
 use Rattle.unify.specs.Hosts.{owner_fault, files_of}
 use Rattle.unify.specs.Merging.{IsMerged}
 use Rattle.unify.specs.Passes as first
-use Rattle.unify.specs.Passes.{AreTogether, CountingValue, StandBehind, lines_of}
-use Rattle.unify.specs.RowFiles.{RowFiles, row_files, rows_among}
+use Rattle.unify.specs.Passes.{AreTogether, InventoriesValue, lines_of}
+use Rattle.unify.specs.RowFiles.{RowFiles, row_files}
 
 -- ---- what the second text of an inventory says
 
@@ -91,13 +88,6 @@ pub record IsFreshTurn (turn : PlanTurn) : Type 0 where
   pub none : turn.reader.files ≡ []
   pub unbegun : turn.is_begun ≡ false
 
--- the files of as many hosts as the index says are counted
-pub record CountHosts (joined : Joined) (index : ℕ) (counted : Counted) : Type 0 where
-  pub made : counts.IsMadeFor joined counted
-  pub earlier : List Added
-  pub few : length earlier ≤ 16777216 * index
-  pub stands : counts.StandsFor joined counted earlier
-
 -- of the second inventory of the host with the index this text has come, in which there is no fault so far and each file is
 -- owned; and for it this much of a plan was appended
 pub record TurnsFor (host : Host) (joined : Joined) (merged : Merged) (index : ℕ) (turn : PlanTurn) (text planned : List ℕ) : Type 0 where
@@ -107,11 +97,8 @@ pub record TurnsFor (host : Host) (joined : Joined) (merged : Merged) (index : �
   pub going : turn.reader.is_finished ≡ false
   pub sound : turn.reader.fault ≡ None
   pub waiting : turn.reader.waiting ≡ []
-  pub made : counts.IsMadeFor joined turn.counts
-  pub earlier : List Added
-  pub few : length earlier ≤ 16777216 * index
-  pub before_are : turn.before ≡ rows_among joined index host earlier
-  pub counted : StandBehind joined index earlier turn.counts turn.reader.files
+  pub owned : first_fault (owner_fault host) [] turn.reader.files ≡ None
+  pub rows : turn.rows ≡ row_files host turn.reader.files
   pub none_unbegun : turn.is_begun ≡ false → turn.reader.files ≡ []
   pub planned_is : planned ≡ planned_so_far host joined merged index turn.is_begun turn.reader.files
 
@@ -161,10 +148,10 @@ pub record IsSolving (s : SolvedValue) : Type 0 where
 
 -- a second pass of which no inventory has come, behind a first pass of which each was ended: what was merged is right for the
 -- texts of that
-pub record IsSolvedFrom (c : CountingValue) (s : SolvedValue) : Type 0 where
+pub record IsSolvedFrom (c : InventoriesValue) (joined : Joined) (s : SolvedValue) : Type 0 where
   pub hosts : s.hosts ≡ c.hosts
-  pub joined : s.joined ≡ c.joined
+  pub joined_is : s.joined ≡ joined
   pub passed : s.passed ≡ c.passed
   pub ended : s.ended ≡ 0
   pub stands : (host : Host) → slice_get s.hosts 0 ≡ Some host → StandsFor s host [] []
-  pub merged : (ended : List (List ℕ)) (text : List ℕ) → (were : first.StandsFor c ended text) → IsMerged (record { hosts = were.read; joined = c.joined }) s.merged
+  pub merged : (ended : List (List ℕ)) → (were : first.StandsFor c ended []) → IsMerged (record { hosts = were.read; joined = joined }) s.merged

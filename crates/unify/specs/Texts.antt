@@ -7,6 +7,7 @@ use Rattle.hosts_join.specs.declared.host.Host.{Host}
 use Rattle.hosts_join.specs.declared.texts.HostText.{HostText}
 use Rattle.unify.specs.declared.merging.Merged.{Merged}
 use Rattle.unify.specs.declared.outcome.Outcome.{Outcome}
+use Rattle.unify.specs.declared.site.JoinedSite.{JoinedSite}
 use Rattle.unify.specs.declared.site_files.SiteFiles.{SiteFiles}
 use Rattle.unify.specs.Count.{site_of}
 use Rattle.unify.specs.HostTexts.{host_files}
@@ -15,7 +16,7 @@ use Rattle.unify.specs.Loading.{loaded_from}
 use Rattle.unify.specs.Merging.{mappings_in}
 use Rattle.unify.specs.Outcomes.{hosts_in}
 use Rattle.unify.specs.Passes as first
-use Rattle.unify.specs.Passes.{ArePassed, CountingValue, ended_in}
+use Rattle.unify.specs.Passes.{ArePassed, AreTogether, ended_in}
 use Rattle.unify.specs.Reading.{WholeSite}
 use Rattle.unify.specs.RowFiles.{row_files}
 use Rattle.unify.specs.SecondPass as second
@@ -26,12 +27,13 @@ abbrev pub mtrees : List HostText → List (List ℕ)
 mtrees texts = map (λ t. t.mtree) texts
 
 -- the inventories of the site were read, each to its end
-pub record HasCounted (texts : List HostText) (site : WholeSite) (c : CountingValue) : Type 0 where
-  pub stands : first.StandsFor c (mtrees texts) []
+pub record HasCounted (texts : List HostText) (site : WholeSite) (begun : JoinedSite) : Type 0 where
+  pub stands : first.StandsFor begun.inventories (mtrees texts) []
   pub hosts : stands.read ≡ site.hosts
-  pub joined : c.joined ≡ site.joined
-  pub none_left : ended_in c ≡ length c.hosts
-  pub each_text : length c.hosts ≡ length texts
+  pub joined : begun.site ≡ site.joined
+  pub together : AreTogether begun.inventories.hosts begun.site
+  pub none_left : ended_in begun.inventories ≡ length begun.inventories.hosts
+  pub each_text : length begun.inventories.hosts ≡ length texts
 
 -- what was merged is of the site, whose inventories are those of the texts
 pub record IsOfSite (texts : List HostText) (site : WholeSite) (s : SolvedValue) : Type 0 where

@@ -1,29 +1,25 @@
 //! The inventory of one host a second time, in pieces, and its plan.
 
-ghost use Rattle.std.specs.Prelude.{◌≡◌, ◌+◌, ◌<◌, ◌≤◌, ◌++◌, ◌∷◌, ℕ, List, [], length, All, true, if◌then◌else◌, is_ok, slice_get, Some, None, Ok, Err, IfSome, IfErr, OnOk, OnErr, MatchResult};
+ghost use Rattle.std.specs.Prelude.{◌≡◌, ◌+◌, ◌≤◌, ◌++◌, ◌∷◌, ℕ, List, [], length, All, true, if◌then◌else◌, is_ok, slice_get, Some, None, Ok, Err, IfSome, IfErr, OnOk, OnErr, MatchResult};
 ghost use Rattle.mtree_inv.specs.Standing as standing;
 ghost use Rattle.mtree_inv.specs.declared.entry.Entry.{Entry};
-ghost use Rattle.hosts_join.specs.Laws.{HasLawfulAccounts, KnowsHost};
+ghost use Rattle.hosts_join.specs.Laws.{KnowsHost};
 ghost use Rattle.hosts_join.specs.declared.host.Host.{Host};
-ghost use Rattle.ownership.specs.Counts.{IsMadeFor, StandsFor};
-ghost use Rattle.ownership.specs.Faults.{unowned};
-ghost use Rattle.ownership.specs.Files.{Added};
-ghost use Rattle.ownership.specs.declared.OwnerFault.{OwnerFault};
+ghost use Rattle.idtext.specs.First.{first_fault};
 ghost use Rattle.reown_plan.specs.Spelling.{head, lines, end};
-ghost use Rattle.reown_plan.specs.Target.{AreForSite, IsOwned, plan_of};
+ghost use Rattle.reown_plan.specs.Target.{AreForSite, plan_of};
 ghost use Rattle.unify_texts.specs.declared.fault.Fault.{Fault};
 ghost use Rattle.unify.specs.declared.plan_turn.Stop.TheVariants as stop;
-ghost use Rattle.unify.specs.Passes.{IsFirstUnowned, StandBehind};
-ghost use Rattle.unify.specs.RowFiles.{row_files, rows_among};
-ghost use Rattle.unify.specs.SecondPass.{CountHosts, HaveSameCounts, IsAccepted, IsFreshTurn, IsUnfinished, TurnsFor, owned_lines, second_files, stop_of};
+ghost use Rattle.unify.specs.Hosts.{owner_fault};
+ghost use Rattle.unify.specs.RowFiles.{row_files};
+ghost use Rattle.unify.specs.SecondPass.{HaveSameCounts, IsAccepted, IsFreshTurn, IsUnfinished, TurnsFor, owned_lines, second_files, stop_of};
 
 use crate::host::MOST_FILES;
 use crate::merging::Merged;
-use crate::row_files::{RowFiles, are_same, files_before, files_since};
+use crate::row_files::{RowFiles, are_same, count_file, no_files};
 use hosts_join::{Host, Site};
 use idtext::ReadError;
 use mtree_inv::{Entry, Reader};
-use ownership::Counts;
 use reown_plan::{push_plan_end, push_plan_entry, push_plan_head};
 use std::alloc::{AllocError, Global};
 
@@ -55,27 +51,24 @@ impl From<ReadError> for Stop {
     }
 }
 
-/// The reader of a host's inventory, the counters to which its files are added, behind those of the hosts before it, what
-/// these told of its rows, whether its plan has its header, and why the reading ended early, if it did.
+/// The reader of a host's inventory, how many of its files each row of the host's tables owns, whether its plan has its
+/// header, and why the reading ended early, if it did.
 #[derive(Drop)]
 pub struct PlanTurn {
     pub reader: Reader,
-    pub counts: Counts,
-    pub before: RowFiles,
+    pub rows: RowFiles,
     pub is_begun: bool,
     pub stop: Option<Stop>,
 }
 
 /// The turn of a host of whose second inventory nothing has come. Takes no memory.
-pub fn new_turn(alloc: Global, counts: Counts, before: RowFiles) -> PlanTurn
+pub fn new_turn(alloc: Global, rows: RowFiles) -> PlanTurn
     ensures fresh { IsFreshTurn result }
-    ensures counts { result.counts ≡ counts }
-    ensures before { result.before ≡ before }
+    ensures rows { result.rows ≡ rows }
 {
     PlanTurn {
         reader: Reader::new(alloc, MOST_FILES),
-        counts,
-        before,
+        rows,
         is_begun: false,
         stop: None,
     }
@@ -93,52 +86,52 @@ fn begin_plan(turn: &mut PlanTurn, host: &Host<'_>, plan: &mut Vec<u8>) -> Resul
     Ok(())
 }
 
-// Appends the record of a file of the host with the index, and counts the file.
+// Counts a file of the host with the index, and appends its record.
 fn plan_file(
-    counts: &mut Counts,
+    rows: &mut RowFiles,
     site: &Site<'_>,
     merged: &Merged,
     index: u32,
+    host: &Host<'_>,
     file: &Entry,
     plan: &mut Vec<u8>,
 ) -> Result<(), Stop>
-    requires made { IsMadeFor site.now counts.old }
-    requires room { counts.old.added < 2147483648 }
+    requires room { (files : List Entry) × (rows.old ≡ row_files host.now files) × (length files ≤ 2147483648) }
+    requires known { KnowsHost site.now index host.now }
     requires for_site { AreForSite site.now merged.now.users merged.now.groups }
-    ensures made { IsMadeFor site.now counts.new }
-    ensures owned { OnOk result (IsOwned site.now index file.now) }
-    ensures counted { OnOk result ((earlier : List Added) (files : List Entry) → StandBehind site.now index earlier counts.old files → StandBehind site.now index earlier counts.new (files ++ file.now ∷ [])) }
+    ensures owned { OnOk result (owner_fault host.now [] file.now ≡ None) }
+    ensures counted { OnOk result ((files : List Entry) → rows.old ≡ row_files host.now files → rows.new ≡ row_files host.now (files ++ file.now ∷ [])) }
     ensures plan { plan.new.items ≡ (if is_ok result then plan.old.items ++ lines (plan_of site.now merged.now.users merged.now.groups index (file.now ∷ [])) else plan.old.items) }
-    ensures changed { result ≡ Err stop.Changed → (fault : OwnerFault) × (unowned site.now index file.now.uid file.now.gid ≡ Some fault) }
+    ensures changed { result ≡ Err stop.Changed → (fault : Fault) × (owner_fault host.now [] file.now ≡ Some fault) }
 {
-    if let Err(_) = counts.add(site, index, file) {
+    if !count_file(rows, host, file) {
         return Err(Stop::Changed);
     }
     push_plan_entry(plan, index, site, &merged.users, &merged.groups, file)?;
     Ok(())
 }
 
-// Appends the records of the files that wait, and counts them, up to the first without an account.
+// Counts the files that wait, and appends their records, up to the first without an account.
 fn plan_waiting(
     turn: &mut PlanTurn,
     site: &Site<'_>,
     merged: &Merged,
     index: u32,
+    host: &Host<'_>,
     plan: &mut Vec<u8>,
 ) -> Result<(), Stop>
-    requires made { IsMadeFor site.now turn.old.counts }
-    requires room { (earlier : List Added) × (files : List Entry) × StandBehind site.now index earlier turn.old.counts files × (length earlier + length files + length turn.old.reader.waiting ≤ 2147483648) }
+    requires room { (files : List Entry) × (turn.old.rows ≡ row_files host.now files) × (length files + length turn.old.reader.waiting ≤ 2147483648) }
+    requires known { KnowsHost site.now index host.now }
     requires for_site { AreForSite site.now merged.now.users merged.now.groups }
-    ensures made { IsMadeFor site.now turn.new.counts }
-    ensures turn { OnOk result (turn.new ≡ record turn.old { reader = record turn.old.reader { waiting = [] }; counts = turn.new.counts }) }
+    ensures turn { OnOk result (turn.new ≡ record turn.old { reader = record turn.old.reader { waiting = [] }; rows = turn.new.rows }) }
     ensures stands { OnOk result ((text : List ℕ) → standing.StandsFor turn.old.reader text → standing.StandsFor turn.new.reader text) }
-    ensures owned { OnOk result (All (IsOwned site.now index) turn.old.reader.waiting) }
-    ensures counted { OnOk result ((earlier : List Added) (files : List Entry) → StandBehind site.now index earlier turn.old.counts files → StandBehind site.now index earlier turn.new.counts (files ++ turn.old.reader.waiting)) }
+    ensures owned { OnOk result (All (λ f. owner_fault host.now [] f ≡ None) turn.old.reader.waiting) }
+    ensures counted { OnOk result ((files : List Entry) → turn.old.rows ≡ row_files host.now files → turn.new.rows ≡ row_files host.now (files ++ turn.old.reader.waiting)) }
     ensures planned { (done : List Entry) × (left : List Entry) × (turn.old.reader.waiting ≡ done ++ left) × (plan.new.items ≡ plan.old.items ++ lines (plan_of site.now merged.now.users merged.now.groups index done)) × OnOk result (left ≡ []) }
-    ensures changed { result ≡ Err stop.Changed → (file : Entry) × IsFirstUnowned site.now index turn.old.reader.waiting file }
+    ensures changed { result ≡ Err stop.Changed → (fault : Fault) × (first_fault (owner_fault host.now) [] turn.old.reader.waiting ≡ Some fault) }
 {
     while let Some(file) = turn.reader.next_entry() {
-        plan_file(&mut turn.counts, site, merged, index, &file, plan)?;
+        plan_file(&mut turn.rows, site, merged, index, host, &file, plan)?;
     }
     Ok(())
 }
@@ -154,7 +147,6 @@ fn read_on(
     plan: &mut Vec<u8>,
 ) -> Result<(), Stop>
     requires goes { (text : List ℕ) × (planned : List ℕ) × TurnsFor host.now site.now merged.now index turn.old text planned }
-    requires there { index < 64 }
     requires known { KnowsHost site.now index host.now }
     requires for_site { AreForSite site.now merged.now.users merged.now.groups }
     ensures told { (text planned : List ℕ) → TurnsFor host.now site.now merged.now index turn.old text planned → MatchResult result (λ _. (files : List Entry) × (owned_lines host.now (text ++ bytes.now) ≡ Ok files)) (λ s. s ≡ stop.Changed → (f : Fault) × (owned_lines host.now (text ++ bytes.now) ≡ Err f)) }
@@ -163,7 +155,7 @@ fn read_on(
 {
     begin_plan(turn, host, plan)?;
     turn.reader.feed(bytes)?;
-    plan_waiting(turn, site, merged, index, plan)
+    plan_waiting(turn, site, merged, index, host, plan)
 }
 
 /// Takes the next piece of the second inventory of the host with the index, and appends to the host's plan. `Stop::Changed`
@@ -182,7 +174,6 @@ pub fn feed_plan(
     plan: &mut Vec<u8>,
 ) -> Result<(), Stop>
     requires goes { turn.old.stop ≡ None → (text : List ℕ) × (planned : List ℕ) × TurnsFor host.now site.now merged.now index turn.old text planned }
-    requires there { index < 64 }
     requires known { KnowsHost site.now index host.now }
     requires for_site { AreForSite site.now merged.now.users merged.now.groups }
     ensures told { (text planned : List ℕ) → TurnsFor host.now site.now merged.now index turn.old text planned → MatchResult result (λ _. (files : List Entry) × (owned_lines host.now (text ++ bytes.now) ≡ Ok files)) (λ s. s ≡ stop.Changed → (f : Fault) × (owned_lines host.now (text ++ bytes.now) ≡ Err f)) }
@@ -212,20 +203,15 @@ fn read_end(
     plan: &mut Vec<u8>,
 ) -> Result<(), Stop>
     requires goes { (text : List ℕ) × (planned : List ℕ) × TurnsFor host.now site.now merged.now index turn.old text planned }
-    requires there { index < 64 }
     requires known { KnowsHost site.now index host.now }
     requires for_site { AreForSite site.now merged.now.users merged.now.groups }
-    requires lawful { HasLawfulAccounts site.now }
     ensures told { (text planned : List ℕ) (were : List Entry) → TurnsFor host.now site.now merged.now index turn.old text planned → first.now ≡ row_files host.now were → MatchResult result (λ _. (files : List Entry) × (second_files host.now text ≡ Ok files) × HaveSameCounts host.now were files) (λ s. s ≡ stop.Changed → (files : List Entry) → second_files host.now text ≡ Ok files → HaveSameCounts host.now were files → ⊥) }
     ensures stands { (text planned : List ℕ) → TurnsFor host.now site.now merged.now index turn.old text planned → (more : List ℕ) × (plan.new.items ≡ plan.old.items ++ more) × MatchResult result (λ _. IsAccepted host.now site.now merged.now index text (planned ++ more)) (λ _. IsUnfinished host.now site.now merged.now index text (planned ++ more)) }
-    ensures counted { OnOk result ((text planned : List ℕ) → TurnsFor host.now site.now merged.now index turn.old text planned → CountHosts site.now (index + 1) turn.new.counts) }
 {
     begin_plan(turn, host, plan)?;
     turn.reader.finish()?;
-    plan_waiting(turn, site, merged, index, plan)?;
-    let alloc = *plan.allocator();
-    let rows = files_since(alloc, site, index, host, &turn.counts, &turn.before)?;
-    if are_same(first, &rows) {
+    plan_waiting(turn, site, merged, index, host, plan)?;
+    if are_same(first, &turn.rows) {
         Ok(())
     } else {
         Err(Stop::Changed)
@@ -246,13 +232,10 @@ pub fn finish_plan(
     plan: &mut Vec<u8>,
 ) -> Result<(), Stop>
     requires goes { turn.old.stop ≡ None → (text : List ℕ) × (planned : List ℕ) × TurnsFor host.now site.now merged.now index turn.old text planned }
-    requires there { index < 64 }
     requires known { KnowsHost site.now index host.now }
     requires for_site { AreForSite site.now merged.now.users merged.now.groups }
-    requires lawful { HasLawfulAccounts site.now }
     ensures told { (text planned : List ℕ) (were : List Entry) → TurnsFor host.now site.now merged.now index turn.old text planned → first.now ≡ row_files host.now were → MatchResult result (λ _. (files : List Entry) × (second_files host.now text ≡ Ok files) × HaveSameCounts host.now were files) (λ s. s ≡ stop.Changed → (files : List Entry) → second_files host.now text ≡ Ok files → HaveSameCounts host.now were files → ⊥) }
     ensures stands { (text planned : List ℕ) → TurnsFor host.now site.now merged.now index turn.old text planned → (more : List ℕ) × (plan.new.items ≡ plan.old.items ++ more) × MatchResult result (λ _. IsAccepted host.now site.now merged.now index text (planned ++ more)) (λ _. IsUnfinished host.now site.now merged.now index text (planned ++ more)) }
-    ensures counted { OnOk result ((text planned : List ℕ) → TurnsFor host.now site.now merged.now index turn.old text planned → CountHosts site.now (index + 1) turn.new.counts) }
     ensures stopped { IfErr result (λ s. turn.new.stop ≡ Some s) }
     ensures again { IfSome turn.old.stop (λ s. (result ≡ Err s) × (turn.new ≡ turn.old) × (plan.new ≡ plan.old)) }
 {
@@ -271,24 +254,19 @@ pub fn finish_plan(
 pub fn next_turn(
     alloc: Global,
     turn: &mut PlanTurn,
-    site: &Site<'_>,
     hosts: &[Host<'_>],
     next: usize,
     plan: &mut Vec<u8>,
 ) -> Result<(), AllocError>
-    requires lawful { HasLawfulAccounts site.now }
-    requires made { IsMadeFor site.now turn.old.counts }
-    requires few { length hosts.now ≤ 64 }
     ensures fresh { OnOk result (IsFreshTurn turn.new) }
-    ensures counts { OnOk result (turn.new.counts ≡ turn.old.counts) }
-    ensures before { OnOk result ((host : Host) (files : List Added) → slice_get hosts.now next ≡ Some host → StandsFor site.now turn.old.counts files → turn.new.before ≡ rows_among site.now next host files) }
+    ensures rows { OnOk result ((host : Host) → slice_get hosts.now next ≡ Some host → turn.new.rows ≡ row_files host []) }
     ensures failed { OnErr result (turn.new ≡ turn.old) }
     ensures plan { plan.new.items ≡ (if is_ok result then plan.old.items ++ end else plan.old.items) }
 {
-    let before = files_before(alloc, site, hosts, next, &turn.counts)?;
+    let rows = no_files(alloc, hosts, next)?;
     push_plan_end(plan)?;
     turn.reader = Reader::new(alloc, MOST_FILES);
-    turn.before = before;
+    turn.rows = rows;
     turn.is_begun = false;
     turn.stop = None;
     Ok(())

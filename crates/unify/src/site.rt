@@ -8,14 +8,23 @@ ghost use Rattle.hosts_join.specs.PinsText.{pins_of};
 ghost use Rattle.hosts_join.specs.Site.{joined_site};
 ghost use Rattle.unify_texts.specs.Told.{told};
 ghost use Rattle.unify.specs.Told.{in_site, in_pins};
+ghost use Rattle.unify.specs.Begun.{IsBegun};
 ghost use Rattle.unify.specs.Hosts.{host_of};
 ghost use Rattle.unify.specs.Passes.{pinned_site, site_begun, HoldsBegun};
 
 use crate::counting::check_list;
 use crate::host::{load_hosts, site_fault};
+use crate::inventories::Inventories;
 use hosts_join::{Host, HostText, Pins, PinsFault, Site, join};
 use std::alloc::Global;
 use unify_texts::Fault;
+
+/// The inventories of a site's hosts, and the accounts over all hosts. It borrows the texts.
+#[derive(Drop)]
+pub struct JoinedSite<'a> {
+    pub inventories: Inventories<'a>,
+    pub site: Site<'a>,
+}
 
 /// The hosts of a site with their tables, and the accounts over all hosts. It borrows the texts.
 #[derive(Drop)]
@@ -67,12 +76,8 @@ pub fn load_tables<'a>(alloc: Global, texts: &'a [HostText]) -> Result<Vec<Host<
     Ok(all.into_iter().map(|loaded| loaded.host).collect(alloc)?)
 }
 
-/// Reads of a site what comes before the inventories: the files of each host but its inventory, the pins text and the join.
-///
-/// It refuses with the first fault in this order: the host list; host by host login.defs, passwd, group and the primary
-/// groups; the pins text, by line; the join, users before groups. `Fault::Memory` is a growth that was refused. One pass
-/// over each text; the inventories are not read.
-pub fn begin_site<'a>(
+// The tables of the hosts, and the accounts over all of them.
+fn join_tables<'a>(
     alloc: Global,
     host_texts: &'a [HostText],
     pins: &'a [u8],
@@ -84,4 +89,22 @@ pub fn begin_site<'a>(
     let hosts = load_tables(alloc, host_texts)?;
     let site = join_pinned(alloc, &hosts, pins)?;
     Ok(JoinedHosts { hosts, site })
+}
+
+/// Reads of a site what comes before the inventories: the files of each host but its inventory, the pins text and the join.
+///
+/// It refuses with the first fault in this order: the host list; host by host login.defs, passwd, group and the primary
+/// groups; the pins text, by line; the join, users before groups. `Fault::Memory` is a growth that was refused. One pass
+/// over each text; the inventories are not read.
+pub fn begin_site<'a>(
+    alloc: Global,
+    host_texts: &'a [HostText],
+    pins: &'a [u8],
+) -> Result<JoinedSite<'a>, Fault<'a>>
+    ensures begun { Yields IsBegun told result (site_begun host_texts.now pins.now) }
+    ensures hosts { IfOk result (λ begun. length begun.inventories.hosts ≡ length host_texts.now) }
+{
+    let JoinedHosts { hosts, site } = join_tables(alloc, host_texts, pins)?;
+    let inventories = Inventories::of(alloc, hosts)?;
+    Ok(JoinedSite { inventories, site })
 }

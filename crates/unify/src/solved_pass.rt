@@ -15,9 +15,8 @@ use std::marker::Model;
 use unify_texts::Fault;
 
 /// A site that was merged, whose inventories come a second time in pieces, host by host, while plans are appended. It
-/// keeps the tables of the hosts, what was merged, how many files each of their rows owned in the first pass, counters for
-/// all hosts, what these told of the rows of the present host before its turn, and of the present inventory each path
-/// once; no text of an inventory and no plan is kept.
+/// keeps the tables of the hosts, what was merged, how many files each of their rows owned in the first pass and owns so far
+/// in this one, and of the present inventory each path once; no text of an inventory and no plan is kept.
 #[derive(Drop)]
 pub struct Solved<'a> {
     pub(crate) alloc: Global,
@@ -142,7 +141,6 @@ impl<'a> Solved<'a> {
         if let Err(_) = next_turn(
             self.alloc,
             &mut self.turn,
-            &self.site,
             self.hosts.as_slice(),
             next,
             plan,

@@ -1,16 +1,16 @@
 //! The passes over a site whose inventories are among its texts: each of them is one piece.
 
 ghost use Rattle.std.specs.Prelude.{◌≡◌, ◌+◌, ◌<◌, ◌++◌, ◌∷◌, [], ℕ, List, length, Some, None, slice_get, MatchResult, OnOk};
-ghost use Rattle.idtext.specs.First.{Gives, Yields};
+ghost use Rattle.idtext.specs.First.{Gives, Yields, each};
 ghost use Rattle.mtree_inv.specs.declared.entry.Entry.{Entry};
 ghost use Rattle.hosts_join.specs.declared.host.Host.{Host};
 ghost use Rattle.unify_texts.specs.Told.{told};
-ghost use Rattle.unify.specs.Costing as costed;
-ghost use Rattle.unify.specs.Count.{count_of};
+ghost use Rattle.unify.specs.Count.{count_of, site_of};
 ghost use Rattle.unify.specs.Headline.{Headline};
 ghost use Rattle.unify.specs.HostTexts.{AreSiteFiles};
 ghost use Rattle.unify.specs.Hosts.{files_of};
 ghost use Rattle.unify.specs.Laws.{IsWhole};
+ghost use Rattle.unify.specs.Loading.{loaded_from};
 ghost use Rattle.unify.specs.Merging.{IsMerged};
 ghost use Rattle.unify.specs.Outcomes.{IsOutcome};
 ghost use Rattle.unify.specs.Passes as first;
@@ -18,13 +18,14 @@ ghost use Rattle.unify.specs.Passes.{ended_in, is_read};
 ghost use Rattle.unify.specs.Reading.{WholeSite, site_read};
 ghost use Rattle.unify.specs.SecondPass as second;
 ghost use Rattle.unify.specs.SecondPass.{whole_plan};
-ghost use Rattle.unify.specs.Texts.{ArePlannedWithOwn, HasCounted, IsOfSite, IsPlanned, IsTurnOf};
+ghost use Rattle.unify.specs.Texts.{ArePlannedWithOwn, HasCounted, IsOfSite, IsPlanned, IsTurnOf, mtrees};
 ghost use Rattle.unify.specs.TwoPasses.{AreWholePlans};
 
-use crate::costing_pass::Costing;
 use crate::counting::Cost;
-use crate::counting_pass::Counting;
+use crate::inventories::Inventories;
+use crate::map_cost::begin_count;
 use crate::outcome::{Outcome, TextList};
+use crate::site::{JoinedSite, begin_site};
 use crate::site_files::{SiteFiles, own_files};
 use crate::solved_pass::Solved;
 use hosts_join::HostText;
@@ -33,15 +34,30 @@ use std::alloc::Global;
 use unify_texts::Fault;
 
 // Counts the files of the next host, whose inventory is this text.
-fn count_text<'a>(counting: &mut Counting<'a>, text: &[u8]) -> Result<(), Fault<'a>>
-    requires left { ended_in counting.old < length counting.old.hosts }
-    ensures told { (ended : List (List ℕ)) (host : Host) → first.StandsFor counting.old ended [] → slice_get counting.old.hosts (ended_in counting.old) ≡ Some host → Gives (λ _. tt) told result (is_read (files_of (record { host = host; mtree = text.now }))) }
-    ensures stands { OnOk result ((ended : List (List ℕ)) → first.StandsFor counting.old ended [] → first.StandsFor counting.new (ended ++ text.now ∷ []) []) }
-    ensures ended { OnOk result (ended_in counting.new ≡ ended_in counting.old + 1) }
-    ensures site { (counting.new.hosts ≡ counting.old.hosts) × (counting.new.joined ≡ counting.old.joined) }
+fn count_text<'a>(inventories: &mut Inventories<'a>, text: &[u8]) -> Result<(), Fault<'a>>
+    requires left { ended_in inventories.old < length inventories.old.hosts }
+    ensures told { (ended : List (List ℕ)) (host : Host) → first.StandsFor inventories.old ended [] → slice_get inventories.old.hosts (ended_in inventories.old) ≡ Some host → Gives (λ _. tt) told result (is_read (files_of (record { host = host; mtree = text.now }))) }
+    ensures stands { OnOk result ((ended : List (List ℕ)) → first.StandsFor inventories.old ended [] → first.StandsFor inventories.new (ended ++ text.now ∷ []) []) }
+    ensures ended { OnOk result (ended_in inventories.new ≡ ended_in inventories.old + 1) }
+    ensures site { inventories.new.hosts ≡ inventories.old.hosts }
 {
-    counting.piece(text)?;
-    counting.end_host()
+    inventories.piece(text)?;
+    inventories.end_host()
+}
+
+// Counts the files of all hosts, whose inventories are among the texts.
+fn count_texts<'a>(inventories: &mut Inventories<'a>, texts: &[HostText]) -> Result<(), Fault<'a>>
+    requires start { first.StandsFor inventories.old [] [] }
+    requires each { length inventories.old.hosts ≡ length texts.now }
+    ensures told { Gives (λ _. tt) told result (is_read (each site_of (loaded_from inventories.old.hosts (mtrees texts.now)))) }
+    ensures stands { OnOk result (first.StandsFor inventories.new (mtrees texts.now) []) }
+    ensures ended { OnOk result (ended_in inventories.new ≡ length inventories.new.hosts) }
+    ensures site { inventories.new.hosts ≡ inventories.old.hosts }
+{
+    for text in texts {
+        count_text(inventories, text.mtree.bytes())?;
+    }
+    Ok(())
 }
 
 /// Reads a whole site: the files of each host but its inventory, the pins text, the join, and then host by host the
@@ -57,14 +73,12 @@ pub fn read_site<'a>(
     alloc: Global,
     texts: &'a [HostText],
     pins: &'a [u8],
-) -> Result<Counting<'a>, Fault<'a>>
+) -> Result<JoinedSite<'a>, Fault<'a>>
     ensures { Yields (HasCounted texts.now) told result (site_read texts.now pins.now) }
 {
-    let mut counting = Counting::start(alloc, texts, pins)?;
-    for text in texts {
-        count_text(&mut counting, text.mtree.bytes())?;
-    }
-    Ok(counting)
+    let mut begun = begin_site(alloc, texts, pins)?;
+    count_texts(&mut begun.inventories, texts)?;
+    Ok(begun)
 }
 
 // The plan of the next host, whose inventory is the text that was read before. It fails for want of memory alone.
@@ -137,10 +151,10 @@ pub fn consolidate<'a>(
     ensures answers { Yields IsOutcome told result (site_read hosts.now pins.now) }
     ensures believed { Yields Headline told result (site_read hosts.now pins.now) }
 {
-    let counting = read_site(alloc, hosts, pins)?;
-    match counting.solve() {
+    let read = read_site(alloc, hosts, pins)?;
+    match read.solve() {
         Ok(solved) => with_plans(alloc, solved, hosts),
-        Err((_counting, fault)) => Err(fault),
+        Err(_read) => Err(Fault::Memory),
     }
 }
 
@@ -177,23 +191,11 @@ pub fn consolidate_hosts<'a>(
 ) -> Result<SiteFiles, Fault<'a>>
     ensures { Yields (AreSiteFiles hosts.now) told result (site_read hosts.now pins.now) }
 {
-    let counting = read_site(alloc, hosts, pins)?;
-    match counting.solve() {
+    let read = read_site(alloc, hosts, pins)?;
+    match read.solve() {
         Ok(solved) => with_own_files(alloc, solved, hosts),
-        Err((_counting, fault)) => Err(fault),
+        Err(_read) => Err(Fault::Memory),
     }
-}
-
-// Takes the inventory of the next host, which is this text.
-fn cost_text<'a>(costing: &mut Costing<'a>, text: &[u8]) -> Result<(), Fault<'a>>
-    requires left { costing.old.ended < length costing.old.hosts }
-    ensures told { (ended : List (List ℕ)) (host : Host) → costed.StandsFor costing.old ended [] → slice_get costing.old.hosts costing.old.ended ≡ Some host → Gives (λ _. tt) told result (is_read (files_of (record { host = host; mtree = text.now }))) }
-    ensures stands { OnOk result ((ended : List (List ℕ)) → costed.StandsFor costing.old ended [] → costed.StandsFor costing.new (ended ++ text.now ∷ []) []) }
-    ensures ended { OnOk result (costing.new.ended ≡ costing.old.ended + 1) }
-    ensures site { (costing.new.hosts ≡ costing.old.hosts) × (costing.new.names ≡ costing.old.names) }
-{
-    costing.piece(text)?;
-    costing.end_host()
 }
 
 /// How many owner and group fields of the hosts' files the numbers of a map text change, for any map whose names are
@@ -208,9 +210,7 @@ fn cost_text<'a>(costing: &mut Costing<'a>, text: &[u8]) -> Result<(), Fault<'a>
 pub fn count<'a>(alloc: Global, hosts: &'a [HostText], map: &'a [u8]) -> Result<Cost, Fault<'a>>
     ensures { Gives (λ cost. cost) told result (count_of hosts.now map.now) }
 {
-    let mut costing = Costing::start(alloc, hosts, map)?;
-    for text in hosts {
-        cost_text(&mut costing, text.mtree.bytes())?;
-    }
-    Ok(costing.cost())
+    let mut begun = begin_count(alloc, hosts, map)?;
+    count_texts(&mut begun.inventories, hosts)?;
+    Ok(begun.cost())
 }

@@ -4,30 +4,39 @@ ghost use Rattle.std.specs.Prelude.{◌≡◌, ◌+◌, ◌≤◌, ◌++◌, ℕ
 ghost use Rattle.idtext.specs.First.{Gives};
 ghost use Rattle.mtree_inv.specs.Standing as standing;
 ghost use Rattle.mtree_inv.specs.declared.entry.Entry.{Entry};
-ghost use Rattle.hosts_join.specs.Laws.{KnowsHost};
-ghost use Rattle.ownership.specs.Counts.{IsMadeFor};
-ghost use Rattle.ownership.specs.Files.{Added};
 ghost use Rattle.unify_texts.specs.declared.fault.Fault.{Fault};
 ghost use Rattle.unify_texts.specs.declared.fault.Fault.TheVariants.{Memory};
 ghost use Rattle.unify_texts.specs.Told.{told};
 ghost use Rattle.unify.specs.Hosts.{files_of};
-ghost use Rattle.unify.specs.Passes.{is_read, lines_of, AreCounted, StandBehind, TurnsFor, IsAccepted, read_told, owner_told, met_by, IsToldAs, TellsFault, IsFaultOf};
+ghost use Rattle.unify.specs.Passes.{is_read, lines_of, AreCounted, TurnsFor, IsAccepted, read_told, owner_told, met_by, IsToldAs, TellsFault, IsFaultOf};
+ghost use Rattle.unify.specs.RowFiles.{row_files};
 
-use crate::host::{line_fault, ownership_fault};
-use hosts_join::{Host, Site};
+use crate::host::{MOST_FILES, line_fault, ownership_fault};
+use crate::row_files::{RowFiles, count_file};
+use hosts_join::Host;
 use idtext::ReadError;
 use mtree_inv::{Entry, Reader};
-use ownership::Counts;
 use std::alloc::Global;
 use unify_texts::{Fault, FileName};
 
-/// The reader of a host's inventory, the counters to which its files are added, behind those of the hosts before it, and the
-/// first file without an account.
+/// The reader of a host's inventory, how many of its files each row of the host's tables owns, and the first file without
+/// an account.
 #[derive(Drop)]
 pub struct Turn {
     pub reader: Reader,
-    pub counts: Counts,
+    pub rows: RowFiles,
     pub unowned: Option<Entry>,
+}
+
+/// The turn of a host of whose inventory nothing has come. Takes no memory.
+pub fn new_turn(alloc: Global, rows: RowFiles) -> Turn
+    ensures { (host : Host) → rows ≡ row_files host [] → TurnsFor host result [] }
+{
+    Turn {
+        reader: Reader::new(alloc, MOST_FILES),
+        rows,
+        unowned: None,
+    }
 }
 
 /// A fault of the reader, told with its host. Constant time.
@@ -54,8 +63,8 @@ pub fn tell_owner<'a>(alloc: Global, host: &Host<'a>, unowned: &Option<Entry>) -
     }
 }
 
-/// Drops the files that wait.
-pub fn drain(reader: &mut Reader)
+// Drops the files that wait.
+fn drain(reader: &mut Reader)
     ensures stays { reader.new ≡ record reader.old { waiting = [] } }
     ensures stands { (text : List ℕ) → standing.StandsFor reader.old text → standing.StandsFor reader.new text }
 {
@@ -63,21 +72,14 @@ pub fn drain(reader: &mut Reader)
 }
 
 // Counts the files that wait, up to the first without an account.
-fn count_waiting(
-    site: &Site<'_>,
-    index: u32,
-    from: &mut Reader,
-    counts: &mut Counts,
-) -> Option<Entry>
-    requires made { IsMadeFor site.now counts.old }
-    requires room { (earlier : List Added) × (files : List Entry) × StandBehind site.now index earlier counts.old files × (length earlier + length files + length from.old.waiting ≤ 2147483648) }
-    ensures made { IsMadeFor site.now counts.new }
+fn count_waiting(host: &Host<'_>, from: &mut Reader, rows: &mut RowFiles) -> Option<Entry>
+    requires { (files : List Entry) × (rows.old ≡ row_files host.now files) × (length files + length from.old.waiting ≤ 2147483648) }
     ensures stays { from.new ≡ record from.old { waiting = [] } }
     ensures stands { (text : List ℕ) → standing.StandsFor from.old text → standing.StandsFor from.new text }
-    ensures counted { (earlier : List Added) (files : List Entry) → StandBehind site.now index earlier counts.old files → AreCounted site.now index earlier counts.new result (files ++ from.old.waiting) }
+    ensures counted { (files : List Entry) → AreCounted host.now rows.old None files → AreCounted host.now rows.new result (files ++ from.old.waiting) }
 {
     while let Some(entry) = from.next_entry() {
-        if let Err(_) = counts.add(site, index, &entry) {
+        if !count_file(rows, host, &entry) {
             drain(from);
             return Some(entry);
         }
@@ -86,37 +88,33 @@ fn count_waiting(
 }
 
 // Counts the files that wait, unless there was a file without an account before.
-fn count_new(turn: &mut Turn, site: &Site<'_>, index: u32)
-    requires made { IsMadeFor site.now turn.old.counts }
-    requires room { IfNone turn.old.unowned ((earlier : List Added) × (files : List Entry) × StandBehind site.now index earlier turn.old.counts files × (length earlier + length files + length turn.old.reader.waiting ≤ 2147483648)) }
-    ensures made { IsMadeFor site.now turn.new.counts }
+fn count_new(turn: &mut Turn, host: &Host<'_>)
+    requires { IfNone turn.old.unowned ((files : List Entry) × (turn.old.rows ≡ row_files host.now files) × (length files + length turn.old.reader.waiting ≤ 2147483648)) }
     ensures stays { turn.new.reader ≡ record turn.old.reader { waiting = [] } }
     ensures stands { (text : List ℕ) → standing.StandsFor turn.old.reader text → standing.StandsFor turn.new.reader text }
-    ensures counted { (earlier : List Added) (files : List Entry) → AreCounted site.now index earlier turn.old.counts turn.old.unowned files → AreCounted site.now index earlier turn.new.counts turn.new.unowned (files ++ turn.old.reader.waiting) }
+    ensures counted { (files : List Entry) → AreCounted host.now turn.old.rows turn.old.unowned files → AreCounted host.now turn.new.rows turn.new.unowned (files ++ turn.old.reader.waiting) }
 {
     if let Some(_) = &turn.unowned {
         drain(&mut turn.reader);
         return;
     }
-    turn.unowned = count_waiting(site, index, &mut turn.reader, &mut turn.counts);
+    turn.unowned = count_waiting(host, &mut turn.reader, &mut turn.rows);
 }
 
-/// Takes the next piece of the inventory of the host with the index. The answer is the first fault of the whole lines so
-/// far, and no file without an account is told. A new fault is the one that is met. After a fault it is always that one, or
-/// want of memory to tell it.
+/// Takes the next piece of the inventory of the host. The answer is the first fault of the whole lines so far, and no file
+/// without an account is told. A new fault is the one that is met. After a fault it is always that one, or want of memory
+/// to tell it.
 ///
-/// One pass over the piece, with a few look-ups by hash for each file.
+/// One pass over the piece, with two look-ups by hash for each file.
 pub fn feed_turn<'a>(
     alloc: Global,
     turn: &mut Turn,
-    site: &Site<'a>,
-    index: u32,
     host: &Host<'a>,
     bytes: &[u8],
 ) -> Result<(), Fault<'a>>
-    requires going { met_by host.now turn.old ≡ None → (earlier : List Added) × (text : List ℕ) × TurnsFor site.now index earlier turn.old text × (length earlier ≤ 1073741824) }
-    ensures told { (earlier : List Added) (text : List ℕ) → TurnsFor site.now index earlier turn.old text → Gives (λ _. tt) told result (is_read (lines_of host.now (text ++ bytes.now))) }
-    ensures stands { OnOk result ((earlier : List Added) (text : List ℕ) → TurnsFor site.now index earlier turn.old text → TurnsFor site.now index earlier turn.new (text ++ bytes.now)) }
+    requires { met_by host.now turn.old ≡ None → (text : List ℕ) × TurnsFor host.now turn.old text }
+    ensures told { (text : List ℕ) → TurnsFor host.now turn.old text → Gives (λ _. tt) told result (is_read (lines_of host.now (text ++ bytes.now))) }
+    ensures stands { OnOk result ((text : List ℕ) → TurnsFor host.now turn.old text → TurnsFor host.now turn.new (text ++ bytes.now)) }
     ensures met { IfNone (met_by host.now turn.old) (IfErr result (λ e. met_by host.now turn.new ≡ Some e)) }
     ensures failed { IfErr result (λ e. (f : Fault) × (met_by host.now turn.new ≡ Some f) × IsToldAs f e) }
     ensures again { IfSome (met_by host.now turn.old) (λ f. TellsFault f result × (turn.new ≡ turn.old)) }
@@ -127,27 +125,20 @@ pub fn feed_turn<'a>(
     if let Err(fault) = turn.reader.feed(bytes) {
         return Err(read_fault(host, fault));
     }
-    count_new(turn, site, index);
+    count_new(turn, host);
     Ok(())
 }
 
-/// Takes the end of the inventory of the host with the index. The answer is the first fault of the whole text, and else
-/// the first file without an account; one of them, or want of memory, is what is met. After a fault it is always that one,
-/// or want of memory to tell it. After `Ok` the turn is over, and every further call would be answered with want of memory.
-pub fn end_turn<'a>(
-    alloc: Global,
-    turn: &mut Turn,
-    site: &Site<'a>,
-    index: u32,
-    host: &Host<'a>,
-) -> Result<(), Fault<'a>>
-    requires known { KnowsHost site.now index host.now }
-    requires going { met_by host.now turn.old ≡ None → (earlier : List Added) × (text : List ℕ) × TurnsFor site.now index earlier turn.old text × (length earlier ≤ 1073741824) }
-    ensures told { (earlier : List Added) (text : List ℕ) → TurnsFor site.now index earlier turn.old text → Gives (λ _. tt) told result (is_read (files_of (record { host = host.now; mtree = text }))) }
-    ensures accepted { OnOk result ((earlier : List Added) (text : List ℕ) → TurnsFor site.now index earlier turn.old text → IsAccepted site.now index host.now earlier turn.new text) }
+/// Takes the end of the inventory of the host. The answer is the first fault of the whole text, and else the first file
+/// without an account; one of them, or want of memory, is what is met. After a fault it is always that one, or want of
+/// memory to tell it. After `Ok` the turn is over, and every further call would be answered with want of memory.
+pub fn end_turn<'a>(alloc: Global, turn: &mut Turn, host: &Host<'a>) -> Result<(), Fault<'a>>
+    requires { met_by host.now turn.old ≡ None → (text : List ℕ) × TurnsFor host.now turn.old text }
+    ensures told { (text : List ℕ) → TurnsFor host.now turn.old text → Gives (λ _. tt) told result (is_read (files_of (record { host = host.now; mtree = text }))) }
+    ensures accepted { OnOk result ((text : List ℕ) → TurnsFor host.now turn.old text → IsAccepted host.now turn.new text) }
     ensures ended { OnOk result (met_by host.now turn.new ≡ Some Memory) }
     ensures none { OnOk result (turn.new.unowned ≡ None) }
-    ensures met { (earlier : List Added) (text : List ℕ) → TurnsFor site.now index earlier turn.old text → IfErr result (λ _. IfSome (met_by host.now turn.new) (IsFaultOf host.now text)) }
+    ensures met { (text : List ℕ) → TurnsFor host.now turn.old text → IfErr result (λ _. IfSome (met_by host.now turn.new) (IsFaultOf host.now text)) }
     ensures failed { IfErr result (λ e. (f : Fault) × (met_by host.now turn.new ≡ Some f) × IsToldAs f e) }
     ensures again { IfSome (met_by host.now turn.old) (λ f. TellsFault f result × (turn.new ≡ turn.old)) }
 {
@@ -157,7 +148,7 @@ pub fn end_turn<'a>(
     if let Err(fault) = turn.reader.finish() {
         return Err(read_fault(host, fault));
     }
-    count_new(turn, site, index);
+    count_new(turn, host);
     if let Some(_) = &turn.unowned {
         return Err(tell_owner(alloc, host, &turn.unowned));
     }

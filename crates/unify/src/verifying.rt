@@ -100,7 +100,7 @@ pub fn verify<'a>(
     ensures proved { IfOk result (IsVerified hosts.now pins.now certificate.now) }
 {
     match read_site(alloc, hosts, pins) {
-        Ok(counting) => counting.verify(certificate),
+        Ok(read) => read.verify(certificate),
         Err(fault) => Err(fault),
     }
 }

@@ -3,6 +3,7 @@ use Rattle.std.proofs.Common.{◌≡◌, ◌++◌, [], ℕ, Bool, List, length, 
 use Rattle.std.specs.Prelude.{IfSome}
 use Rattle.idtext.specs.First.{each}
 use Rattle.certcheck.specs.Reading.{certificate_in}
+use Rattle.hosts_join.specs.Site.{Joined}
 use Rattle.hosts_join.specs.declared.host.Host.{Host}
 use Rattle.hosts_join.specs.declared.texts.HostText.{HostText}
 use Rattle.unify_texts.specs.Told.{told}
@@ -10,7 +11,7 @@ use Rattle.unify_texts.specs.declared.fault.Fault.{Fault}
 use Rattle.unify.specs.Checking.{checked}
 use Rattle.unify.specs.Count.{site_of}
 use Rattle.unify.specs.Loading.{loaded_from}
-use Rattle.unify.specs.Passes.{BegunSite, CountingValue, IsAtStart, StandsFor, ended_in, site_begun}
+use Rattle.unify.specs.Passes.{BegunSite, InventoriesValue, StandsFor, ended_in, site_begun}
 use Rattle.unify.specs.Reading.{WholeSite, site_read}
 use Rattle.unify.specs.Told.{in_certificate}
 use Rattle.unify.proofs.Verified.{answer_of_site, cost_means}
@@ -30,26 +31,26 @@ check_counted_stopped texts pins certificate begun hosts old new failed TooLarge
 check_counted_stopped texts pins certificate begun hosts old new failed (Refused e) is same stops =
     if_told (told e) _ _ (λ f fault. inr (inl (begun, is, subst (λ (hs : List Host). IsInventoryFault hs old new f) same fault))) stops
 
--- A first pass over the inventories of hosts is over, and its counters stand for these texts.
-pub record IsReadSite (hosts : List HostText) (pins : List ℕ) (old new : Ledger) (over : CountingValue) (texts : List (List ℕ)) (were : StandsFor over texts []) : Type 0 where
+-- The inventories of hosts were read as these texts.
+pub record IsReadSite (hosts : List HostText) (pins : List ℕ) (old new : Ledger) (over : InventoriesValue) (joined : Joined) (texts : List (List ℕ)) (were : StandsFor over texts []) : Type 0 where
   pub were_read : WereEachRead hosts texts old new
-  pub read : site_read (with_inventories hosts texts) pins ≡ Ok (record { hosts = were.read; joined = over.joined })
+  pub read : site_read (with_inventories hosts texts) pins ≡ Ok (record { hosts = were.read; joined = joined })
 
-pub read_site : (hosts : List HostText) (pins : List ℕ) (begun : BegunSite) (start over : CountingValue) (old new : Ledger) (texts : List (List ℕ)) (were : StandsFor over texts []) → site_begun hosts pins ≡ Ok begun → IsAtStart begun start
-    → over.hosts ≡ start.hosts → over.joined ≡ start.joined → ended_in over ≡ length over.hosts → length start.hosts ≡ length hosts → new.read ≡ old.read ++ readings_from 0 texts → IsReadSite hosts pins old new over texts were
-read_site hosts pins begun start over old new texts were is at_start same joined none_left each_text readings =
-    let one_each : length texts ≡ length hosts = were.ended_are ∙ none_left ∙ ap length same ∙ each_text in
-    let accepted : each site_of (loaded_from begun.hosts texts) ≡ Ok were.read = subst (λ (hs : List Host). each site_of (loaded_from hs texts) ≡ Ok were.read) (same ∙ at_start.hosts) were.accepted in
+pub read_site : (hosts : List HostText) (pins : List ℕ) (begun : BegunSite) (over : InventoriesValue) (joined : Joined) (old new : Ledger) (texts : List (List ℕ)) (were : StandsFor over texts []) → site_begun hosts pins ≡ Ok begun → over.hosts ≡ begun.hosts → joined ≡ begun.joined
+    → ended_in over ≡ length over.hosts → length over.hosts ≡ length hosts → new.read ≡ old.read ++ readings_from 0 texts → IsReadSite hosts pins old new over joined texts were
+read_site hosts pins begun over joined old new texts were is same join none_left each_text readings =
+    let one_each : length texts ≡ length hosts = were.ended_are ∙ none_left ∙ each_text in
+    let accepted : each site_of (loaded_from begun.hosts texts) ≡ Ok were.read = subst (λ (hs : List Host). each site_of (loaded_from hs texts) ≡ Ok were.read) same were.accepted in
     record {
       were_read = record { one_each = one_each; readings = readings };
-      read = read-with hosts texts pins begun were.read one_each is accepted ∙ ap (λ j. Ok (record { hosts = were.read; joined = j })) (sym (joined ∙ at_start.joined));
+      read = read-with hosts texts pins begun were.read one_each is accepted ∙ ap (λ j. Ok (record { hosts = were.read; joined = j })) (sym join);
     }
 
-module _ (hosts : List HostText) (pins certificate : List ℕ) (old new : Ledger) (over : CountingValue) (texts : List (List ℕ)) (were : StandsFor over texts []) (site : IsReadSite hosts pins old new over texts were) where
+module _ (hosts : List HostText) (pins certificate : List ℕ) (old new : Ledger) (over : InventoriesValue) (joined : Joined) (texts : List (List ℕ)) (were : StandsFor over texts []) (site : IsReadSite hosts pins old new over joined texts were) where
   -- the answer is that of the counters
-  pub has_checked : (cost : ℕ) → checked (record { hosts = were.read; joined = over.joined }) (in_certificate (certificate_in certificate)) ≡ Ok cost → HasChecked hosts pins certificate old new cost
+  pub has_checked : (cost : ℕ) → checked (record { hosts = were.read; joined = joined }) (in_certificate (certificate_in certificate)) ≡ Ok cost → HasChecked hosts pins certificate old new cost
   has_checked cost is =
-      let whole : WholeSite = record { hosts = were.read; joined = over.joined } in
+      let whole : WholeSite = record { hosts = were.read; joined = joined } in
       record {
         texts = texts;
         were_read = site.were_read;
@@ -58,7 +59,7 @@ module _ (hosts : List HostText) (pins certificate : List ℕ) (old new : Ledger
       }
 
   -- and so is the fault
-  pub check_refused : (failed : Bool) (e : Fault) → IfSome (told e) (λ f. checked (record { hosts = were.read; joined = over.joined }) (in_certificate (certificate_in certificate)) ≡ Err f) → StopsCheck hosts pins certificate old new failed (Refused e)
+  pub check_refused : (failed : Bool) (e : Fault) → IfSome (told e) (λ f. checked (record { hosts = were.read; joined = joined }) (in_certificate (certificate_in certificate)) ≡ Err f) → StopsCheck hosts pins certificate old new failed (Refused e)
   check_refused failed e fault =
-      let whole : WholeSite = record { hosts = were.read; joined = over.joined } in
+      let whole : WholeSite = record { hosts = were.read; joined = joined } in
       if_told (told e) _ _ (λ f is. inr (inr (texts, site.were_read, answer_of_site (with_inventories hosts texts) pins certificate whole site.read ∙ is))) fault

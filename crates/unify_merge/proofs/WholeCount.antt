@@ -1,13 +1,15 @@
 -- What a count of a map answers, and what it stops for.
-use Rattle.std.proofs.Common.{◌≡◌, ◌++◌, [], ℕ, Bool, List, length, Ok, sym, ap, subst, ◌∙◌, inr}
+use Rattle.std.proofs.Common.{◌≡◌, ◌++◌, [], ℕ, Bool, List, length, Ok, sym, subst, ◌∙◌, inr}
 use Rattle.idtext.specs.First.{each}
 use Rattle.hosts_join.specs.declared.host.Host.{Host}
 use Rattle.hosts_join.specs.declared.texts.HostText.{HostText}
 use Rattle.unify_texts.specs.Told.{told}
+use Rattle.unify_texts.specs.declared.map_text.MapText.{MapText}
 use Rattle.unify.specs.declared.counting.Cost.{Cost}
-use Rattle.unify.specs.Costing.{BegunCost, CostingValue, IsAtStart, StandsFor, cost_begun}
+use Rattle.unify.specs.Costing.{BegunCost, cost_begun}
 use Rattle.unify.specs.Count.{site_of, total_of}
 use Rattle.unify.specs.Loading.{loaded_from}
+use Rattle.unify.specs.Passes.{InventoriesValue, StandsFor, ended_in}
 use Rattle.unify.proofs.CountSteps.{count_behind}
 use Rattle.unify_merge.specs.Count.{HasCounted, StopsCount}
 use Rattle.unify_merge.specs.FirstReading.{IsInventoryFault, StopsCounting, readings_from, with_inventories}
@@ -25,17 +27,14 @@ count_stopped texts map_text begun hosts old new failed TooLarge is same stops =
 count_stopped texts map_text begun hosts old new failed (Refused e) is same stops =
     if_told (told e) _ _ (λ f fault. inr (begun, is, subst (λ (hs : List Host). IsInventoryFault hs old new f) same fault)) stops
 
--- the pass is over, and this is its cost
-pub has_counted : (hosts : List HostText) (map_text : List ℕ) (begun : BegunCost) (start over : CostingValue) (old new : Ledger) (texts : List (List ℕ)) (cost : Cost) → StandsFor over texts [] → cost_begun hosts map_text ≡ Ok begun → IsAtStart begun start
-    → over.hosts ≡ start.hosts → over.names ≡ start.names → over.ended ≡ length over.hosts → length start.hosts ≡ length hosts → new.read ≡ old.read ++ readings_from 0 texts
-    → total_of over.names (each site_of (loaded_from over.hosts texts)) ≡ Ok cost → HasCounted hosts map_text old new cost
-has_counted hosts map_text begun start over old new texts cost were is at_start same named none_left each_text readings total =
-    let one_each : length texts ≡ length hosts = were.ended_are ∙ none_left ∙ ap length same ∙ each_text in
-    let hosts_are : begun.hosts ≡ over.hosts = sym (same ∙ at_start.hosts) in
-    let names_are : begun.names ≡ over.names = sym (named ∙ at_start.names) in
+-- the inventories were read, and this is the cost
+pub has_counted : (hosts : List HostText) (map_text : List ℕ) (begun : BegunCost) (over : InventoriesValue) (names : MapText) (old new : Ledger) (texts : List (List ℕ)) (cost : Cost) → StandsFor over texts [] → cost_begun hosts map_text ≡ Ok begun → over.hosts ≡ begun.hosts
+    → names ≡ begun.names → ended_in over ≡ length over.hosts → length over.hosts ≡ length hosts → new.read ≡ old.read ++ readings_from 0 texts → total_of names (each site_of (loaded_from over.hosts texts)) ≡ Ok cost → HasCounted hosts map_text old new cost
+has_counted hosts map_text begun over names old new texts cost were is same named none_left each_text readings total =
+    let one_each : length texts ≡ length hosts = were.ended_are ∙ none_left ∙ each_text in
     record {
       texts = texts;
       were_read = record { one_each = one_each; readings = readings };
       answer = count_behind (with_inventories hosts texts) map_text begun (cost_begun-with hosts texts map_text one_each ∙ is)
-          ∙ (λ j. total_of (names_are j) (each site_of (loaded_from (hosts_are j) (mtrees-with hosts texts one_each j)))) ∙ total;
+          ∙ (λ j. total_of (sym named j) (each site_of (loaded_from (sym same j) (mtrees-with hosts texts one_each j)))) ∙ total;
     }

@@ -21,7 +21,7 @@ use Rattle.unify.specs.Laws.{IsWhole}
 use Rattle.unify.specs.Loading.{loaded_from}
 use Rattle.unify.specs.Merging.{IsMerged, mappings_in}
 use Rattle.unify.specs.Outcomes.{IsOutcome}
-use Rattle.unify.specs.Passes.{BegunSite, CountingValue, IsAtStart, IsCounting, StandsFor, ended_in, site_begun}
+use Rattle.unify.specs.Passes.{AreTogether, BegunSite, InventoriesValue, StandsFor, ended_in, site_begun}
 use Rattle.unify.specs.Reading.{WholeSite}
 use Rattle.unify.specs.SecondPass.{IsSolvedFrom, SolvedValue}
 use Rattle.unify.proofs.BetweenPasses.{over_whole}
@@ -94,10 +94,9 @@ written_stopped texts pins old mid new s failed (Refused e) h stops =
     if_told (told e) _ _ (λ f is. inr (inr (record { begun = h.begun; begun_is = h.begun_is; first = h.first; were = h.were; first_read = h.first_read; change = is }))) from
 
 -- the first pass is over, and the second is at its start
-pub has_solved : (texts : List HostText) (pins : List ℕ) (begun : BegunSite) (start over : CountingValue) (s : SolvedValue) (old new : Ledger) (read : List (List ℕ)) (stands : StandsFor over read []) → site_begun texts pins ≡ Ok begun → IsAtStart begun start
-    → over.hosts ≡ start.hosts → over.joined ≡ start.joined → ended_in over ≡ length over.hosts → length start.hosts ≡ length texts → IsCounting over → IsSolvedFrom over s → new.read ≡ old.read ++ readings_from 0 read → HasSolved texts pins old new s
-has_solved texts pins begun start over s old new read stands is at_start hosts joined none_left each_text counting from readings =
-    let same : over.hosts ≡ begun.hosts = hosts ∙ at_start.hosts in
+pub has_solved : (texts : List HostText) (pins : List ℕ) (begun : BegunSite) (over : InventoriesValue) (site : Joined) (s : SolvedValue) (old new : Ledger) (read : List (List ℕ)) (stands : StandsFor over read []) → site_begun texts pins ≡ Ok begun → over.hosts ≡ begun.hosts
+    → site ≡ begun.joined → ended_in over ≡ length over.hosts → length over.hosts ≡ length texts → AreTogether over.hosts site → IsSolvedFrom over site s → new.read ≡ old.read ++ readings_from 0 read → HasSolved texts pins old new s
+has_solved texts pins begun over site s old new read stands is same joined none_left each_text together from readings =
     let one_each : length read ≡ length over.hosts = stands.ended_are ∙ none_left in
     record {
       begun = begun;
@@ -110,14 +109,14 @@ has_solved texts pins begun start over s old new read stands is at_start hosts j
       };
       readings = readings;
       hosts = from.hosts ∙ same;
-      joined = from.joined ∙ joined ∙ at_start.joined;
-      each_text = sym each_text ∙ ap length (sym hosts) ∙ ap length (sym from.hosts);
+      joined = from.joined_is ∙ joined;
+      each_text = sym each_text ∙ ap length (sym from.hosts);
       was_read = record {
         hosts = sym (hosts_held over.hosts read stands.read one_each stands.accepted).0 ∙ sym from.hosts;
         passed = from.passed ∙ stands.passed;
       };
-      whole = subst (λ (j : Joined). IsWhole (record { hosts = stands.read; joined = j })) (sym from.joined) (over_whole over read [] counting none_left stands);
-      merged = subst (λ (j : Joined). IsMerged (record { hosts = stands.read; joined = j }) s.merged) (sym from.joined) (from.merged read [] stands);
+      whole = subst (λ (j : Joined). IsWhole (record { hosts = stands.read; joined = j })) (sym from.joined_is) (over_whole over site read together none_left stands);
+      merged = subst (λ (j : Joined). IsMerged (record { hosts = stands.read; joined = j }) s.merged) (sym from.joined_is) (from.merged read stands);
       none_ended = from.ended;
       stands = from.stands;
     }

@@ -9,7 +9,7 @@ use crate::files::ReadFiles;
 use crate::first_reading::count_hosts;
 use hosts_join::HostText;
 use std::alloc::Global;
-use unify::Counting;
+use unify::begin_site;
 
 /// How many owner and group fields of files the mappings of a certificate change, where the certificate proves that no
 /// admissible mappings change fewer; it may be written by anybody. The tables of the hosts, the pins and the certificate
@@ -19,7 +19,7 @@ use unify::Counting;
 /// the files fails, where an inventory has more than 4,294,967,295 bytes, at the first fault of what is read, in the
 /// order of `verify`, or where a growth is refused (`Fault::Memory`).
 ///
-/// One pass over each inventory, with a few look-ups by hash for each file; the rest is near linear in the account rows
+/// One pass over each inventory, with two look-ups by hash for each file; the rest is near linear in the account rows
 /// and the certificate's lines.
 pub fn check_files<'a, F: ReadFiles>(
     alloc: Global,
@@ -32,7 +32,7 @@ pub fn check_files<'a, F: ReadFiles>(
     ensures stopped { IfErr result (StopsCheck hosts.now pins.now certificate.now (F.ledger files.old) (F.ledger files.new) (F.has_failed files.new)) }
     ensures reads { ReadsOnly (F.ledger files.old) (F.ledger files.new) }
 {
-    let mut counting = Counting::start(alloc, hosts, pins)?;
-    count_hosts(alloc, files, &mut counting)?;
-    Ok(counting.verify(certificate)?)
+    let mut begun = begin_site(alloc, hosts, pins)?;
+    count_hosts(alloc, files, &mut begun.inventories)?;
+    Ok(begun.verify(certificate)?)
 }

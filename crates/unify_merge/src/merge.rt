@@ -4,7 +4,7 @@ ghost use Rattle.std.specs.Prelude.{◌≡◌, ◌∷◌, [], List, length, true
 ghost use Rattle.mtree_inv.specs.declared.entry.Entry.{Entry};
 ghost use Rattle.hosts_join.specs.declared.host.Host.{Host};
 ghost use Rattle.unify_texts.specs.declared.fault.Fault.TheVariants.{Memory};
-ghost use Rattle.unify.specs.Passes.{ended_in};
+ghost use Rattle.unify.specs.Passes.{AreTogether, ended_in};
 ghost use Rattle.unify.specs.SecondPass.{IsSolvedFrom, StandsFor};
 ghost use Rattle.unify_merge.specs.Ledger.{HasBegun, after_files};
 ghost use Rattle.unify_merge.specs.FirstReading.{ReadsOnly};
@@ -20,7 +20,8 @@ use crate::second_reading::plan_hosts;
 use crate::whole_file::write_file;
 use hosts_join::HostText;
 use std::alloc::Global;
-use unify::{Cost, Counting, Outcome, Solved};
+use unify::{Cost, JoinedSite, Outcome, Solved, begin_site};
+use unify_texts::Fault;
 
 // Writes the files of the whole site that come before those of the hosts.
 fn write_first<F: MergeFiles>(files: &mut F, outcome: &Outcome) -> Result<(), CallFailed>
@@ -35,15 +36,16 @@ fn write_first<F: MergeFiles>(files: &mut F, outcome: &Outcome) -> Result<(), Ca
     write_file(files, b"certificate", outcome.certificate.bytes())
 }
 
-// Merges the hosts whose inventories were counted.
-fn solve<'a>(counting: Counting<'a>) -> Result<Solved<'a>, MergeFault<'a>>
-    requires none_left { ended_in counting ≡ length counting.hosts }
-    ensures solved { IfOk result (IsSolvedFrom counting.entry) }
+// Merges the hosts whose inventories were read.
+fn solve<'a>(read: JoinedSite<'a>) -> Result<Solved<'a>, MergeFault<'a>>
+    requires together { AreTogether read.inventories.hosts read.site }
+    requires none_left { ended_in read.inventories ≡ length read.inventories.hosts }
+    ensures solved { IfOk result (IsSolvedFrom read.entry.inventories read.entry.site) }
     ensures memory { IfErr result (λ fault. fault ≡ Refused Memory) }
 {
-    match counting.solve() {
+    match read.solve() {
         Ok(solved) => Ok(solved),
-        Err((_counting, fault)) => Err(MergeFault::Refused(fault)),
+        Err(_read) => Err(MergeFault::Refused(Fault::Memory)),
     }
 }
 
@@ -58,9 +60,9 @@ fn solve_hosts<'a, F: MergeFiles>(
     ensures stopped { IfErr result (StopsMerge hosts.now pins.now (F.ledger files.old) (F.ledger files.new) (F.has_failed files.new)) }
     ensures reads { ReadsOnly (F.ledger files.old) (F.ledger files.new) }
 {
-    let mut counting = Counting::start(alloc, hosts, pins)?;
-    count_hosts(alloc, files, &mut counting)?;
-    solve(counting)
+    let mut begun = begin_site(alloc, hosts, pins)?;
+    count_hosts(alloc, files, &mut begun.inventories)?;
+    solve(begun)
 }
 
 // Writes what was merged, with the plans, each host's own files and the report, and hands out how many fields of files
@@ -96,7 +98,7 @@ fn write_merged<'a, F: MergeFiles>(
 /// what is read, where an inventory has changed when it is read the second time (`Fault::InventoryChanged`), or where
 /// a growth is refused (`Fault::Memory`); no file was begun then but the first of these, and no report.
 ///
-/// Two passes over each inventory, with a few look-ups by hash for each file; the rest is near linear in the names and
+/// Two passes over each inventory, with two look-ups by hash for each file; the rest is near linear in the names and
 /// account rows, but for the solver, which is near linear where few numbers are contested.
 pub fn merge_files<'a, F: MergeFiles>(
     alloc: Global,

@@ -1,30 +1,58 @@
-use Rattle.std.proofs.Common.{[], ◌∷◌, ◌++◌, sym, ap, subst, ◌∙◌, append_assoc}
+use Rattle.std.proofs.Common.{◌≡◌, [], ◌∷◌, ◌++◌, None, Err, length, sym, ap, ◌∙◌, arith, append_assoc, length-append}
 use Rattle.std.proofs.lemmas.List.Elements.{All-push}
+use Rattle.std.proofs.lemmas.Result.{err_from_is_err_and}
+use Rattle.idtext.specs.First.{first_fault}
 use Rattle.reown_plan.specs.Spelling.{lines}
-use Rattle.reown_plan.specs.Target.{IsOwned, plan_of}
-use Rattle.unify.specs.Passes.{StandBehind}
-use Rattle.unify.proofs.PlanTurns.{lines_both, next_stays}
+use Rattle.reown_plan.specs.Target.{plan_of}
+use Rattle.unify.specs.Hosts.{owner_fault}
+use Rattle.unify.specs.RowFiles.{row_files}
+use Rattle.unify.proofs.PlanTurns.{first_at, lines_both, next_stays}
 use Rattle.unify.proofs.plan_turn.plan_waiting.Goals as goal
+
+pub plan_file-requires-clause-room : goal.plan_file-requires-clause-room
+plan_file-requires-clause-room c =
+    let inv = c.loop-file.invariant in
+    let files = c.requires.room.0 in (
+      files ++ inv.done,
+      inv.counted files c.requires.room.1,
+      omega (
+        arith,
+        c.requires.room.2,
+        length-append files inv.done,
+        ap length inv.so_far,
+        length-append inv.done c.loop-file.turn.reader.waiting,
+      ),
+    )
 
 pub loop-file-preserved : goal.loop-file-preserved
 loop-file-preserved c =
     let inv = c.loop-file.invariant in
     let file = c.in-Some.file in
     let left = c.next_entry.new.self.waiting in
+    let host = c.args.host.now in
     let site = c.args.site.now in
     let merged = c.args.merged.now in
     let index = c.args.index in
     let start = c.args.plan.now.items in
     record {
-      made = c.in_ok-plan_file.ensures.made;
-      stays = next_stays c.args.turn.now c.loop-file.turn c.next_entry.new.self c.plan_file.new.counts inv.stays c.in-Some.ensures.stays;
+      stays = next_stays c.args.turn.now c.loop-file.turn c.next_entry.new.self c.plan_file.new.rows inv.stays c.in-Some.ensures.stays;
       stands = λ text s. c.in-Some.ensures.stands text (inv.stands text s);
       done = inv.done ++ file ∷ [];
       so_far = inv.so_far ∙ ap (λ ws. inv.done ++ ws) c.in-Some.ensures.next ∙ sym (append_assoc inv.done (file ∷ []) left);
-      owned = All-push (IsOwned site index) inv.done file inv.owned c.in_ok-plan_file.ensures.owned;
-      counted = λ earlier files s. subst (StandBehind site index earlier c.plan_file.new.counts) (append_assoc files inv.done (file ∷ [])) (c.in_ok-plan_file.ensures.counted earlier (files ++ inv.done) (inv.counted earlier files s));
+      owned = All-push (λ f. owner_fault host [] f ≡ None) inv.done file inv.owned c.in_ok-plan_file.ensures.owned;
+      counted = λ files s. c.in_ok-plan_file.ensures.counted (files ++ inv.done) (inv.counted files s) ∙ ap (row_files host) (append_assoc files inv.done (file ∷ []));
       planned = c.in_ok-plan_file.ensures.plan
           ∙ ap (λ t. t ++ lines (plan_of site merged.users merged.groups index (file ∷ []))) inv.planned
           ∙ append_assoc start (lines (plan_of site merged.users merged.groups index inv.done)) (lines (plan_of site merged.users merged.groups index (file ∷ [])))
           ∙ ap (λ t. start ++ t) (sym (lines_both site merged.users merged.groups index inv.done (file ∷ [])));
     }
+
+pub returns-in_err-plan_file-clause-changed : goal.returns-in_err-plan_file-clause-changed
+returns-in_err-plan_file-clause-changed c = λ changed.
+    let inv = c.loop-file.invariant in
+    let file = c.in-Some.file in
+    let host = c.args.host.now in
+    let p = err_from_is_err_and c.from_residual.result c.from_residual.ensures.1 in
+    let found = c.in_err-plan_file.ensures.changed (ap (λ s. Err s) (sym p.2) ∙ sym p.1 ∙ changed) in
+    let whole = inv.so_far ∙ ap (λ ws. inv.done ++ ws) c.in-Some.ensures.next in
+    (found.0, ap (first_fault (owner_fault host) []) whole ∙ first_at (owner_fault host []) [] inv.done file c.next_entry.new.self.waiting found.0 inv.owned found.1)

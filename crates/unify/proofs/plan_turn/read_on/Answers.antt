@@ -44,7 +44,7 @@ plan_waiting-requires-clause-room c =
     let host = c.args.host.now in
     let goes = c.requires.goes in
     let more = more_after host c.args.site.now c.args.merged.now c.args.index old turn after goes.0 (goes.0 ++ c.args.bytes.now) goes.1 goes.2 c.in_ok-begin_plan.ensures.turn c.in_ok-feed.ensures.most c.in_ok-feed.ensures.grow (c.in_ok-feed.ensures.stands goes.0) in
-    room_more host c.args.site.now c.args.merged.now c.args.index turn after goes.0 (goes.0 ++ c.args.bytes.now) (goes.1 ++ head_left host old.is_begun) more c.requires.there
+    room_more host c.args.site.now c.args.merged.now c.args.index turn after goes.0 (goes.0 ++ c.args.bytes.now) (goes.1 ++ head_left host old.is_begun) more
 
 pub returns-clause-told : goal.returns-clause-told
 returns-clause-told c = λ text planned turns.
@@ -54,7 +54,7 @@ returns-clause-told c = λ text planned turns.
     let host = c.args.host.now in
     let more = more_after host c.args.site.now c.args.merged.now c.args.index old turn after text (text ++ c.args.bytes.now) planned turns c.in_ok-begin_plan.ensures.turn c.in_ok-feed.ensures.most c.in_ok-feed.ensures.grow (c.in_ok-feed.ensures.stands text) in
     let told = at_none _ more.turns.sound (c.in_ok-feed.ensures.told text more.turns.reading) in
-    told_more host c.args.site.now c.args.merged.now c.args.index turn after text (text ++ c.args.bytes.now) (planned ++ head_left host old.is_begun) more c.plan_waiting.result c.requires.known told c.plan_waiting.ensures.owned c.plan_waiting.ensures.changed
+    told_more host c.args.site.now c.args.merged.now c.args.index turn after text (text ++ c.args.bytes.now) (planned ++ head_left host old.is_begun) more c.plan_waiting.result told c.plan_waiting.ensures.owned c.plan_waiting.ensures.changed
 
 pub returns-clause-stands : goal.returns-clause-stands
 returns-clause-stands c = λ text planned turns.
@@ -78,5 +78,5 @@ returns-clause-stands c = λ text planned turns.
       done.3 ∙ ap (λ t. t ++ added) (c.in_ok-begin_plan.ensures.plan ∙ head_more host old.is_begun start) ∙ append_assoc start heading added,
       subst (GoesOn host site merged index new fed r) (append_assoc planned heading added)
           (stands_more host site merged index turn after text fed (planned ++ heading) more r new done.0 done.1 done.2 done.4 c.plan_waiting.ensures.turn c.in_ok-feed.ensures.going sound
-          (on_ok_weaker r (λ go. go fed more.stands) c.plan_waiting.ensures.stands) c.plan_waiting.ensures.made (on_ok_weaker r (λ go. go more.turns.earlier turn.reader.files more.turns.counted) c.plan_waiting.ensures.counted)),
+          (on_ok_weaker r (λ go. go fed more.stands) c.plan_waiting.ensures.stands) c.plan_waiting.ensures.owned c.plan_waiting.ensures.counted),
     )

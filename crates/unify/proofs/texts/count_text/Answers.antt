@@ -3,7 +3,7 @@ use Rattle.std.specs.List.{slice_get}
 use Rattle.std.proofs.lemmas.Result.{err_from_is_err_and}
 use Rattle.unify_texts.specs.Told.{told}
 use Rattle.unify.specs.Hosts.{files_of}
-use Rattle.unify.specs.Passes.{CountingValue, is_read, lines_of}
+use Rattle.unify.specs.Passes.{InventoriesValue, is_read, lines_of}
 use Rattle.unify.proofs.Faults.{passed_on}
 use Rattle.unify.proofs.OnePiece.{lines_refused}
 use Rattle.unify.proofs.texts.count_text.Goals as goal
@@ -18,6 +18,6 @@ returns-in_err-piece-clause-told c =
 
 pub returns-clause-told : goal.returns-clause-told
 returns-clause-told c = λ ended host stands here.
-    let hosts = ap (λ (v : CountingValue). v.hosts) c.piece.ensures.site in
-    let passed = ap (λ (v : CountingValue). v.passed) c.piece.ensures.site in
+    let hosts = ap (λ (v : InventoriesValue). v.hosts) c.piece.ensures.site in
+    let passed = ap (λ (v : InventoriesValue). v.passed) c.piece.ensures.site in
     c.end_host.ensures.told ended c.args.text.now host (c.in_ok-piece.ensures.stands ended [] stands) ((λ j. slice_get (hosts j) (length (passed j))) ∙ here)

@@ -1,31 +1,37 @@
-use Rattle.std.proofs.Common.{List, [], ◌∷◌, ◌++◌, sym, ap, subst, ◌∙◌, append_assoc}
-use Rattle.std.proofs.lemmas.List.Elements.{All-push}
+use Rattle.std.proofs.Common.{[], ◌∷◌, ◌++◌, None, length, sym, ap, subst, ◌∙◌, arith, append_assoc, length-append}
 use Rattle.mtree_inv.specs.Standing.{ReaderValue}
-use Rattle.reown_plan.specs.Target.{IsOwned}
-use Rattle.mtree_inv.specs.declared.entry.Entry.{Entry}
-use Rattle.unify.specs.Passes.{IsFirstUnowned, StandBehind}
-use Rattle.unify.proofs.Turns.{counted_one, first_behind}
+use Rattle.unify.specs.Passes.{AreCounted}
+use Rattle.unify.specs.Hosts.{owner_fault}
+use Rattle.unify.proofs.Turns.{counted_first, counted_one, is_owned_none}
 use Rattle.unify.proofs.turn.count_waiting.Goals as goal
+
+pub count_file-requires : goal.count_file-requires
+count_file-requires c =
+    let room = c.loop-entry.invariant.room in
+    (room.0, room.1, omega (arith, room.2))
 
 pub loop-entry-preserved : goal.loop-entry-preserved
 loop-entry-preserved c =
     let inv = c.loop-entry.invariant in
     let entry = c.in-Some.entry in
     let left = c.next_entry.new.self.waiting in
+    let host = c.args.host.now in
+    let new = c.count_file.new.rows in
+    let owned = is_owned_none (owner_fault host [] entry) c.count_file.result c.count_file.ensures.owned c.if-not-count_file.false in
+    let more = c.count_file.ensures.counted c.if-not-count_file.false in
+    let come = ap length c.in-Some.ensures.next in
     record {
-      made = c.in_default-add.ensures.made;
       stays = c.in-Some.ensures.stays ∙ ap (λ (r : ReaderValue). record r { waiting = left }) inv.stays;
       stands = λ text s. c.in-Some.ensures.stands text (inv.stands text s);
       done = inv.done ++ entry ∷ [];
       so_far = inv.so_far ∙ ap (λ ws. inv.done ++ ws) c.in-Some.ensures.next ∙ sym (append_assoc inv.done (entry ∷ []) left);
-      owned = All-push (IsOwned c.args.site.now c.args.index) inv.done entry inv.owned c.in_default-add.ensures.owned;
-      counted = λ earlier files s. subst (StandBehind c.args.site.now c.args.index earlier c.add.new.self) (append_assoc files inv.done (entry ∷ [])) (counted_one c.args.site.now c.args.index earlier c.loop-entry.counts c.add.new.self (files ++ inv.done) entry (inv.counted earlier files s) c.in_default-add.ensures.added);
+      counted = λ files s. subst (AreCounted host new None) (append_assoc files inv.done (entry ∷ [])) (counted_one host c.loop-entry.rows new (files ++ inv.done) entry (inv.counted files s) owned (more (files ++ inv.done)));
+      room = (inv.room.0 ++ entry ∷ [], more inv.room.0 inv.room.1, omega (arith, inv.room.2, come, length-append inv.room.0 (entry ∷ [])));
     }
 
-pub returns-in-Err-clause-counted : goal.returns-in-Err-clause-counted
-returns-in-Err-clause-counted c = λ earlier files s.
+pub returns-then-not-count_file-clause-counted : goal.returns-then-not-count_file-clause-counted
+returns-then-not-count_file-clause-counted c = λ files s.
     let inv = c.loop-entry.invariant in
-    let entry = c.in-Some.entry in
     let left = c.next_entry.new.self.waiting in
     let whole = inv.so_far ∙ ap (λ ws. inv.done ++ ws) c.in-Some.ensures.next in
-    subst (λ (ws : List Entry). IsFirstUnowned c.args.site.now c.args.index (files ++ ws) entry) (sym whole) (first_behind c.args.site.now c.args.index earlier c.args.counts.now files inv.done left entry c.in-Err.field-0 s inv.owned c.in-Err.ensures.fault)
+    counted_first c.args.host.now c.loop-entry.rows c.count_file.new.rows files inv.done left _ c.in-Some.entry c.count_file.result whole (inv.counted files s) c.count_file.ensures.owned c.if-not-count_file.true

@@ -12,9 +12,9 @@ returns-in_err-count_host-clause-stopped g c =
     let inv = c.loop-index.invariant in
     let p = err_from_is_err_and c.from_residual.result c.from_residual.ensures.1 in
     let so_far : c.loop-index.index ≡ length inv.texts = sym (inv.stands.ended_are ∙ inv.ended) in
-    let left : c.loop-index.index < length c.loop-index.counting.hosts = omega (arith, c.loop-index-test.true, c.hosts_left-index-end.ensures.left, c.requires.start.ended_are, ap length inv.hosts) in
-    let at = item_at c.loop-index.counting.hosts c.loop-index.index left in
-    let here = subst (λ k. slice_get c.loop-index.counting.hosts k ≡ Some at.0) so_far at.1 in
+    let left : c.loop-index.index < length c.loop-index.inventories.hosts = omega (arith, c.loop-index-test.true, c.hosts_left-index-end.ensures.left, c.requires.start.ended_are, ap length inv.hosts) in
+    let at = item_at c.loop-index.inventories.hosts c.loop-index.index left in
+    let here = subst (λ k. slice_get c.loop-index.inventories.hosts k ≡ Some at.0) so_far at.1 in
     let old = g.F.ReadFiles.ledger c.args.files.now in
     let mid = g.F.ReadFiles.ledger c.loop-index.files in
     let new = g.F.ReadFiles.ledger c.count_host.new.files in
@@ -22,7 +22,7 @@ returns-in_err-count_host-clause-stopped g c =
     let fault = c.in_err-count_host.field-0.0 in
     rw (p.1, p.2)
     (subst (λ (hs : List Host). StopsCounting hs old new failed fault) inv.hosts
-    (counting_stopped c.loop-index.counting.hosts inv.texts inv.stands.read at.0 old mid new failed fault inv.stands.accepted here inv.read
+    (counting_stopped c.loop-index.inventories.hosts inv.texts inv.stands.read at.0 old mid new failed fault inv.stands.accepted here inv.read
     (first_same at.0 _ _ mid.read _ new failed fault so_far refl (c.in_err-count_host.ensures.stopped inv.texts at.0 inv.stands at.1))))
 
 pub loop-index-preserved : goal.loop-index-preserved
@@ -35,6 +35,5 @@ loop-index-preserved g c =
       read = read_more _ _ (g.F.ReadFiles.ledger c.count_host.new.files).read c.loop-index.index inv.texts it.0 (sym (inv.stands.ended_are ∙ inv.ended)) inv.read it.2;
       only = reads_on (g.F.ReadFiles.ledger c.args.files.now) (g.F.ReadFiles.ledger c.loop-index.files) (g.F.ReadFiles.ledger c.count_host.new.files) inv.only c.in_ok-count_host.ensures.reads;
       ended = c.in_ok-count_host.ensures.ended;
-      hosts = c.in_ok-count_host.ensures.site.0 ∙ inv.hosts;
-      joined = c.in_ok-count_host.ensures.site.1 ∙ inv.joined;
+      hosts = c.in_ok-count_host.ensures.site ∙ inv.hosts;
     }

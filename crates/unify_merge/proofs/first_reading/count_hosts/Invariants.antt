@@ -7,10 +7,9 @@ use Rattle.unify_merge.proofs.first_reading.count_hosts.Given as goal
 abbrev pub invariant-loop-index : goal.invariant-loop-index
 invariant-loop-index g l = record {
   texts : List (List ℕ);
-  stands : StandsFor l.counting texts [];
+  stands : StandsFor l.inventories texts [];
   read : (g.F.ReadFiles.ledger l.files).read ≡ (g.F.ReadFiles.ledger l.initial.files).read ++ readings_from 0 texts;
   only : ReadsOnly (g.F.ReadFiles.ledger l.initial.files) (g.F.ReadFiles.ledger l.files);
-  ended : ended_in l.counting ≡ l.index;
-  hosts : l.counting.hosts ≡ l.initial.counting.hosts;
-  joined : l.counting.joined ≡ l.initial.counting.joined;
+  ended : ended_in l.inventories ≡ l.index;
+  hosts : l.inventories.hosts ≡ l.initial.inventories.hosts;
 }

@@ -1,24 +1,36 @@
-use Rattle.std.proofs.Common.{subst}
+use Rattle.std.proofs.Common.{List, length, sym, ap, subst, ◌∙◌}
 use Rattle.std.proofs.lemmas.Result.{err_from_is_err_and}
-use Rattle.unify.specs.Passes.{IsCounting}
+use Rattle.hosts_join.specs.declared.host.Host.{Host}
+use Rattle.unify.specs.Passes.{AreTogether}
 use Rattle.unify_merge.proofs.WholeMerge.{counted_stopped, has_solved, if_ok}
 use Rattle.unify_merge.proofs.merge.solve_hosts.Goals as goal
+
+pub count_hosts-requires : goal.count_hosts-requires
+count_hosts-requires g c = record { start = c.in_ok-begun.ensures.begun.2.start.stands }
 
 pub returns-in_err-count_hosts-clause-stopped : goal.returns-in_err-count_hosts-clause-stopped
 returns-in_err-count_hosts-clause-stopped g c =
     let p = err_from_is_err_and c.from_residual-in_err-count_hosts.result c.from_residual-in_err-count_hosts.ensures.1 in
-    let begun = c.in_ok-counting.ensures.begun in
+    let begun = c.in_ok-begun.ensures.begun in
     let now = c.count_hosts.new.files in
     rw (p.1, p.2)
-    (counted_stopped c.args.hosts.now c.args.pins.now begun.0 c.in_ok-counting.counting.hosts (g.F.ReadFiles.ledger c.args.files.now) (g.F.ReadFiles.ledger now) (g.F.ReadFiles.has_failed now) c.in_err-count_hosts.field-0.0 begun.1 begun.2.hosts c.in_err-count_hosts.ensures.reads
+    (counted_stopped c.args.hosts.now c.args.pins.now begun.0 c.in_ok-begun.begun.inventories.hosts (g.F.ReadFiles.ledger c.args.files.now) (g.F.ReadFiles.ledger now) (g.F.ReadFiles.has_failed now) c.in_err-count_hosts.field-0.0 begun.1 begun.2.start.hosts_are c.in_err-count_hosts.ensures.reads
     c.in_err-count_hosts.ensures.stopped)
+
+pub solve-requires-clause-together : goal.solve-requires-clause-together
+solve-requires-clause-together g c =
+    let begun = c.in_ok-begun.ensures.begun in
+    let hosts = c.in_ok-count_hosts.ensures.site ∙ begun.2.start.hosts_are in
+    subst (λ (hs : List Host). AreTogether hs c.in_ok-begun.begun.site) (sym hosts) (subst (AreTogether begun.0.hosts) (sym begun.2.joined) begun.2.whole)
 
 pub returns-clause-solved : goal.returns-clause-solved
 returns-clause-solved g c =
-    let begun = c.in_ok-counting.ensures.begun in
+    let begun = c.in_ok-begun.ensures.begun in
     let counted = c.in_ok-count_hosts.ensures.counted in
-    let site = c.in_ok-count_hosts.ensures.site in
+    let hosts = c.in_ok-count_hosts.ensures.site ∙ begun.2.start.hosts_are in
+    let each_text = ap length c.in_ok-count_hosts.ensures.site ∙ c.in_ok-begun.ensures.hosts in
+    let site = c.in_ok-begun.begun.site in
+    let together = subst (λ (hs : List Host). AreTogether hs site) (sym hosts) (subst (AreTogether begun.0.hosts) (sym begun.2.joined) begun.2.whole) in
     if_ok c.solve.result _ _ (λ s from.
-    has_solved c.args.hosts.now c.args.pins.now begun.0 c.in_ok-counting.counting c.count_hosts.new.counting s (g.F.ReadFiles.ledger c.args.files.now) (g.F.ReadFiles.ledger c.count_hosts.new.files) counted.0 counted.1 begun.1 begun.2 site.0 site.1
-    c.in_ok-count_hosts.ensures.ended c.in_ok-counting.ensures.hosts (subst IsCounting c.counting.view_is c.counting.invariant) from counted.2)
+    has_solved c.args.hosts.now c.args.pins.now begun.0 c.count_hosts.new.inventories site s (g.F.ReadFiles.ledger c.args.files.now) (g.F.ReadFiles.ledger c.count_hosts.new.files) counted.0 counted.1 begun.1 hosts begun.2.joined c.in_ok-count_hosts.ensures.ended each_text together from counted.2)
     c.solve.ensures.solved

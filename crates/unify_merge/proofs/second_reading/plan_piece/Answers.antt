@@ -1,5 +1,6 @@
-use Rattle.std.proofs.Common.{◌++◌}
+use Rattle.std.proofs.Common.{◌≡◌, ◌++◌, ℕ, List, ap, ◌∙◌}
 use Rattle.std.proofs.lemmas.Result.{err_from_is_err_and}
+use Rattle.unify_merge.specs.Ledger.{with_bytes}
 use Rattle.unify_merge.proofs.Changes.{piece_stopped}
 use Rattle.unify_merge.proofs.second_reading.plan_piece.Goals as goal
 
@@ -8,3 +9,10 @@ returns-in_err-piece-clause-told g c =
     let p = err_from_is_err_and c.from_residual.result c.from_residual.ensures.1 in
     rw (p.1, p.2) (λ host text planned here stands.
     piece_stopped host (text ++ c.args.bytes.now) (g.F.ReadFiles.has_failed c.args.files.now) c.in_err-piece.field-0.0 (c.in_err-piece.ensures.told host text planned here stands))
+
+pub returns-clause-planned : goal.returns-clause-planned
+returns-clause-planned g c = λ host text planned here stands.
+    let p = c.in_ok-piece.ensures.planned host text planned here stands in
+    let more = p.0 in
+    let written : c.deref.result.now ≡ more = c.deref.ensures.value ∙ p.1 ∙ ap (λ (xs : List ℕ). xs ++ more) c.clear.ensures.items in
+    (more, c.in_ok-append.ensures.written ∙ ap (λ bytes. with_bytes bytes (g.F.ReadFiles.ledger c.args.files.now)) written, p.2)

@@ -10,8 +10,8 @@ use Rattle.unify_texts.specs.declared.fault.Fault.{Fault}
 use Rattle.unify_texts.specs.declared.fault.Fault.TheVariants.{InventoryChanged, Memory}
 use Rattle.unify.specs.declared.plan_turn.Stop.TheVariants as stop
 use Rattle.unify.specs.RowFiles.{RowFiles, row_files}
-use Rattle.unify.specs.SecondPass.{HaveSameCounts, IsUnfinished, SolvedValue, StandsFor, TurnsFor, fault_met, second_files, whole_plan}
-use Rattle.unify.proofs.SecondPasses.{accepted_unfinished, accepted_whole, again_stopped, changed_told, ended_counts, next_stands, same_at, solving_next, stop_met}
+use Rattle.unify.specs.SecondPass.{HaveSameCounts, IsUnfinished, SolvedValue, StandsFor, fault_met, second_files, whole_plan}
+use Rattle.unify.proofs.SecondPasses.{accepted_unfinished, accepted_whole, again_stopped, changed_told, fresh_turn, same_at, solving_next, stop_met}
 use Rattle.unify.proofs.solved_pass.Solved.end_host.Goals as goal
 
 pub returns-in-Err-clause-told : goal.returns-in-Err-clause-told
@@ -103,33 +103,17 @@ returns-clause-planned c =
     (so_far.0 ++ end, c.in_default-next_turn.ensures.plan ∙ ap (λ p. p ++ end) so_far.1 ∙ append_assoc c.args.plan.now.items so_far.0 end, (so_far.2.files, so_far.2.are, accepted_whole host v.joined v.merged v.ended text planned so_far.0 so_far.2)))
     turns)
 
-pub next_turn-requires-clause-made : goal.next_turn-requires-clause-made
-next_turn-requires-clause-made c =
-    let v : SolvedValue = record { hosts = c.self.inside.hosts.items; joined = c.self.inside.site; passed = c.self.inside.passed.items; merged = c.self.inside.merged; ended = c.self.inside.ended; turn = c.self.inside.turn } in
-    let host = c.index-host.result.now in
-    let left : v.ended < length v.hosts = rw (← c.self.view_is) at c.requires.left in
-    let here : slice_get v.hosts v.ended ≡ Some host = slice_get-get_or v.hosts v.ended host left ∙ ap (λ (h : Host). Some h) (sym c.index-host.ensures) in
-    let counted = ended_counts v host c.finish_plan.new.turn.counts _ _ _ c.self.invariant here c.in_default.ensures.again c.in_default.ensures.counted in
-    counted.made
-
 pub invariant_of-self-2 : goal.invariant_of-self-2
 invariant_of-self-2 c =
     let v : SolvedValue = record { hosts = c.self.inside.hosts.items; joined = c.self.inside.site; passed = c.self.inside.passed.items; merged = c.self.inside.merged; ended = c.self.inside.ended; turn = c.self.inside.turn } in
-    let host = c.index-host.result.now in
     let left : v.ended < length v.hosts = rw (← c.self.view_is) at c.requires.left in
-    let here : slice_get v.hosts v.ended ≡ Some host = slice_get-get_or v.hosts v.ended host left ∙ ap (λ (h : Host). Some h) (sym c.index-host.ensures) in
-    let counted = ended_counts v host c.finish_plan.new.turn.counts _ _ _ c.self.invariant here c.in_default.ensures.again c.in_default.ensures.counted in
-    let stands : (next : Host) → slice_get v.hosts (v.ended + 1) ≡ Some next → TurnsFor next v.joined v.merged (v.ended + 1) c.next_turn.new.turn [] [] =
-    λ next at. next_stands v c.finish_plan.new.turn c.next_turn.new.turn next counted c.in_default-next_turn.ensures.fresh c.in_default-next_turn.ensures.counts (rw c.as_slice.ensures.value at c.in_default-next_turn.ensures.before) at in
-    solving_next v c.next_turn.new.turn c.self.invariant left stands
+    let turn = c.next_turn.new.turn in
+    let rows : (next : Host) → slice_get v.hosts (v.ended + 1) ≡ Some next → turn.rows ≡ row_files next [] = rw c.as_slice.ensures.value at c.in_default-next_turn.ensures.rows in
+    solving_next v turn c.self.invariant left (λ next at. fresh_turn next v.joined v.merged (v.ended + 1) turn c.in_default-next_turn.ensures.fresh (rows next at))
 
 pub returns-clause-next : goal.returns-clause-next
 returns-clause-next c =
     let v : SolvedValue = record { hosts = c.self.inside.hosts.items; joined = c.self.inside.site; passed = c.self.inside.passed.items; merged = c.self.inside.merged; ended = c.self.inside.ended; turn = c.self.inside.turn } in
-    let host = c.index-host.result.now in
-    let left : v.ended < length v.hosts = rw (← c.self.view_is) at c.requires.left in
-    let here : slice_get v.hosts v.ended ≡ Some host = slice_get-get_or v.hosts v.ended host left ∙ ap (λ (h : Host). Some h) (sym c.index-host.ensures) in
-    let counted = ended_counts v host c.finish_plan.new.turn.counts _ _ _ c.self.invariant here c.in_default.ensures.again c.in_default.ensures.counted in
-    let stands : (next : Host) → slice_get v.hosts (v.ended + 1) ≡ Some next → TurnsFor next v.joined v.merged (v.ended + 1) c.next_turn.new.turn [] [] =
-    λ next at. next_stands v c.finish_plan.new.turn c.next_turn.new.turn next counted c.in_default-next_turn.ensures.fresh c.in_default-next_turn.ensures.counts (rw c.as_slice.ensures.value at c.in_default-next_turn.ensures.before) at in
-    stands
+    let turn = c.next_turn.new.turn in
+    let rows : (next : Host) → slice_get v.hosts (v.ended + 1) ≡ Some next → turn.rows ≡ row_files next [] = rw c.as_slice.ensures.value at c.in_default-next_turn.ensures.rows in
+    λ next at. fresh_turn next v.joined v.merged (v.ended + 1) turn c.in_default-next_turn.ensures.fresh (rows next at)

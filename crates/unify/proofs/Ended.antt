@@ -1,0 +1,144 @@
+-- Inventories of which no host is left.
+use Rattle.std.proofs.Common.{◌≡◌, ℕ, ◌+◌, ◌<◌, ◌≤◌, Bool, true, false, cond, List, [], ◌∷◌, ◌++◌, length, take, get_or, Option, Some, None, Ok, sym, ap, subst, ◌∙◌, arith}
+use Rattle.std.specs.Prelude.{is_some}
+use Rattle.std.specs.List.{All, slice_get}
+use Rattle.std.proofs.lemmas.List.{get_or-map, length-map, take_more}
+use Rattle.std.proofs.lemmas.List.Sums.{sum_by-le, sum_by_more_le}
+use Rattle.std.proofs.lemmas.Option.{slice_get-get_or, slice_get_past}
+use Rattle.idtext.specs.First.{each}
+use Rattle.idtext.proofs.OkLemmas.{bind_ok, each-ok, ok_same}
+use Rattle.mtree_inv.specs.declared.entry.Entry.{Entry}
+use Rattle.mtree_inv.proofs.FewLemmas.{inventory-few}
+use Rattle.hosts_join.specs.Accounts.{Pair}
+use Rattle.hosts_join.specs.Kinds.{group_at, user_at}
+use Rattle.hosts_join.specs.Pairs.{number_of}
+use Rattle.hosts_join.specs.declared.host.Host.{Host}
+use Rattle.unify_texts.specs.declared.map_text.MapText.{MapText}
+use Rattle.unify.specs.declared.counting.Cost.{Cost}
+use Rattle.unify.specs.declared.host.Loaded.{Loaded}
+use Rattle.unify.specs.Cost.{changed, cost_of, groups_changed, host_cost, is_number, users_changed}
+use Rattle.unify.specs.Count.{site_of}
+use Rattle.unify.specs.Hosts.{files_of}
+use Rattle.unify.specs.Laws.{HaveAccounts}
+use Rattle.unify.specs.Loading.{loaded_from}
+use Rattle.unify.specs.Passes.{AreComing, InventoriesValue, StandsFor, ended_in, fault_met, met_on}
+use Rattle.unify.specs.RowFiles.{RowFiles, row_files}
+use Rattle.unify.proofs.Owners.{files_read, owners-told}
+use Rattle.unify.proofs.Sites.{cost_more}
+use Rattle.unify.proofs.Whole.{hosts_held}
+
+abbrev pub IsOver : InventoriesValue → Type 0
+IsOver c = ended_in c ≡ length c.hosts
+
+-- they met no fault
+over_unmet : (c : InventoriesValue) → IsOver c → fault_met c ≡ None
+over_unmet c over = ap (λ o. met_on o c.turn) (slice_get_past c.hosts (ended_in c) (omega (arith, over)))
+
+-- so they stand for some texts
+pub over_stands : (c : InventoriesValue) → AreComing c → IsOver c → (ended : List (List ℕ)) × StandsFor c ended []
+over_stands c coming over =
+    let s = coming.standing (over_unmet c over) in (
+      s.0,
+      record {
+        read = s.2.read;
+        accepted = s.2.accepted;
+        ended_are = s.2.ended_are;
+        passed = s.2.passed;
+        turns = λ host here.
+            let none : slice_get c.hosts (ended_in c) ≡ None = slice_get_past c.hosts (ended_in c) (omega (arith, over)) in
+            absurd (cc);
+      },
+    )
+
+-- ---- the files of each host
+
+pub record AreOwned (host : Host) (files : List Entry) : Type 0 where
+  pub owned : All (λ e. HaveAccounts host e.uid e.gid) files
+  pub few : length files ≤ 16777216
+
+owned_of : (l : Loaded) (files : List Entry) → files_of l ≡ Ok files → AreOwned l.host files
+owned_of l files are =
+    let text = files_read l files are in
+    record {
+      owned = λ k d m.
+          let f = get_or files k d in
+          let told = owners-told (is_some (user_at l.host.users f.uid)) (is_some (group_at l.host.groups f.gid)) _ _ (text.1 k d m) in
+          record { user = told.0; group = told.1 };
+      few = inventory-few 16777216 l.mtree files text.0;
+    }
+
+pub all_owned : (loaded : List Loaded) (read : List (Host × List Entry)) → each site_of loaded ≡ Ok read → All (λ here. AreOwned here.0 here.1) read
+all_owned loaded read are = λ k d within.
+    let here = get_or read k d in
+    let from = each-ok site_of loaded read are k here (slice_get-get_or read k d within) in
+    let l = from.0 in
+    let filed = bind_ok (files_of l) (λ fs. Ok (l.host, fs)) here from.2 in
+    subst (λ (p : Host × List Entry). AreOwned p.0 p.1) (ok_same (l.host, filed.0) here filed.2) (owned_of l filed.0 filed.1)
+
+pub read_length : (c : InventoriesValue) (ended : List (List ℕ)) (were : StandsFor c ended []) → length were.read ≡ ended_in c
+read_length c ended were = sym (ap length were.passed ∙ length-map were.read (λ (here : Host × List Entry). row_files here.0 here.1))
+
+-- the rows of the host at the index count these files of it
+pub record AreFilesAt (read : List (Host × List Entry)) (index : ℕ) (host : Host) (rows : RowFiles) : Type 0 where
+  pub files : List Entry
+  pub within : index < length read
+  pub here : get_or read index (host, []) ≡ (host, files)
+  pub rows_are : rows ≡ row_files host files
+  pub owned : AreOwned host files
+
+pub files_at : (c : InventoriesValue) (ended : List (List ℕ)) → IsOver c → (were : StandsFor c ended []) (index : ℕ) (host : Host) (rows : RowFiles) → index < length c.passed → host ≡ get_or c.hosts index host → rows ≡ get_or c.passed index rows
+    → AreFilesAt were.read index host rows
+files_at c ended over were index host rows left host_is rows_are =
+    let read = were.read in
+    let p = get_or read index (host, []) in
+    let within : index < length read = omega (arith, left, read_length c ended were) in
+    let held = (hosts_held c.hosts ended read (were.ended_are ∙ over) were.accepted).0 in
+    let host_here : host ≡ p.0 = host_is ∙ ap (λ (hs : List Host). get_or hs index host) held ∙ get_or-map (λ (h : Host × List Entry). h.0) read index (host, []) host within in
+    let rows_here : rows ≡ row_files p.0 p.1 = rows_are ∙ ap (λ (rs : List RowFiles). get_or rs index rows) were.passed ∙ get_or-map (λ (here : Host × List Entry). row_files here.0 here.1) read index (host, []) rows within in
+    let all = all_owned (loaded_from c.hosts ended) read were.accepted in
+    record {
+      files = p.1;
+      within = within;
+      here = ap (λ (h : Host). (h, p.1)) (sym host_here);
+      rows_are = rows_here ∙ ap (λ (h : Host). row_files h p.1) (sym host_here);
+      owned = subst (λ (h : Host). AreOwned h p.1) (sym host_here) (all index (host, []) within);
+    }
+
+-- ---- the cost of a map
+
+changed_small : (mapping : List Pair) (o : Option (List ℕ)) (number : ℕ) → changed mapping o number ≤ 1
+changed_small mapping None number = omega arith
+changed_small mapping (Some owner) number = by (is_number (number_of mapping owner) number)
+  where
+    by : (b : Bool) → cond {A = ℕ} b 0 1 ≤ 1
+    by true = omega arith
+    by false = omega arith
+
+users_small : (names : MapText) (host : Host) (files : List Entry) → users_changed names host files ≤ length files
+users_small names host files = omega (arith, sum_by-le (λ (e : Entry). changed names.users (user_at host.users e.uid) e.uid) 1 files (λ k d l. changed_small names.users (user_at host.users (get_or files k d).uid) (get_or files k d).uid))
+
+groups_small : (names : MapText) (host : Host) (files : List Entry) → groups_changed names host files ≤ length files
+groups_small names host files = omega (arith, sum_by-le (λ (e : Entry). changed names.groups (group_at host.groups e.gid) e.gid) 1 files (λ k d l. changed_small names.groups (group_at host.groups (get_or files k d).gid) (get_or files k d).gid))
+
+-- the cost over the hosts before the index
+abbrev pub cost_before : MapText → List (Host × List Entry) → ℕ → Cost
+cost_before names read index = cost_of names (take index read)
+
+module _ (names : MapText) (read : List (Host × List Entry)) (index : ℕ) (host : Host) (rows : RowFiles) (cost here : Cost) (at : AreFilesAt read index host rows) (so_far : cost ≡ cost_before names read index) (is : here ≡ host_cost names host at.files) where
+  pub one_host_more : record { users = cost.users + here.users; groups = cost.groups + here.groups } ≡ cost_before names read (index + 1)
+  one_host_more = cost_more names (take index read) host at.files cost here.users here.groups so_far (ap (λ (k : Cost). k.users) is) (ap (λ (k : Cost). k.groups) is)
+      ∙ ap (λ (p : Host × List Entry). cost_of names (take index read ++ p ∷ [])) (sym at.here) ∙ ap (cost_of names) (sym (take_more read index (host, []) at.within))
+
+  -- there is room for it
+  pub cost_room : (loaded : List Loaded) → each site_of loaded ≡ Ok read → length read ≤ 64 → (cost.users + here.users ≤ 1073741824) × (cost.groups + here.groups ≤ 1073741824)
+  cost_room loaded are few =
+      let users : Host × List Entry → ℕ = λ p. users_changed names p.0 p.1 in
+      let groups : Host × List Entry → ℕ = λ p. groups_changed names p.0 p.1 in
+      let owned = all_owned loaded read are in
+      let most_users = sum_by-le users 16777216 read (λ k d l. omega (arith, users_small names (get_or read k d).0 (get_or read k d).1, (owned k d l).few)) in
+      let most_groups = sum_by-le groups 16777216 read (λ k d l. omega (arith, groups_small names (get_or read k d).0 (get_or read k d).1, (owned k d l).few)) in
+      let one = ap users at.here in
+      let two = ap groups at.here in (
+        omega (arith, sum_by_more_le users read index (host, []) at.within, most_users, one, ap (λ (k : Cost). k.users) is, ap (λ (k : Cost). k.users) so_far, few),
+        omega (arith, sum_by_more_le groups read index (host, []) at.within, most_groups, two, ap (λ (k : Cost). k.groups) is, ap (λ (k : Cost). k.groups) so_far, few),
+      )

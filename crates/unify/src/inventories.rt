@@ -1,0 +1,133 @@
+//! The inventories of a site's hosts, which come in pieces: their files are counted for the rows of their host's tables.
+
+ghost use Rattle.std.specs.Prelude.{◌≡◌, ◌+◌, ◌≤◌, ◌++◌, ◌∷◌, [], length, All, Some, IfOk, OnOk, OnErr, slice_get};
+ghost use Rattle.hosts_join.specs.Hosts.{IsLawfulHost};
+ghost use Rattle.hosts_join.specs.declared.host.Host.{Host};
+ghost use Rattle.unify.specs.Passes.{AreAtStart, TurnsFor};
+
+use crate::host::MOST_FILES;
+use crate::row_files::{RowFiles, no_files};
+use crate::turn::{Turn, end_turn, feed_turn, new_turn};
+use hosts_join::Host;
+use mtree_inv::Reader;
+use std::alloc::{AllocError, Global};
+use std::marker::Model;
+use std::mem;
+use unify_texts::Fault;
+
+/// Inventories that come in pieces, host by host, and whose files are counted. It keeps the tables of the hosts, which
+/// borrow their texts, how many files each row owns of each host that was ended, and of the present inventory each path
+/// once; no text of an inventory is kept.
+#[derive(Drop)]
+pub struct Inventories<'a> {
+    pub(crate) alloc: Global,
+    pub(crate) hosts: Vec<Host<'a>>,
+    pub(crate) passed: Vec<RowFiles>,
+    pub(crate) turn: Turn,
+}
+
+impl<'a> Model for Inventories<'a> {
+    ghost use Rattle.unify.specs.Passes.{InventoriesValue, AreComing};
+
+    ghost Value = { InventoriesValue };
+
+    ghost view = { λ c. record { hosts = c.hosts.items; passed = c.passed.items; turn = c.turn } };
+
+    ghost invariant = { λ c. AreComing (record { hosts = c.hosts.items; passed = c.passed.items; turn = c.turn }) };
+}
+
+// Notes how many files each row of the present host owns, and begins the turn of the host behind it, if there is one.
+fn next_host(
+    alloc: Global,
+    hosts: &[Host<'_>],
+    passed: &mut Vec<RowFiles>,
+    turn: &mut Turn,
+) -> Result<(), AllocError>
+    ensures refused { OnErr result ((passed.new.items ≡ passed.old.items) × (turn.new.reader ≡ turn.old.reader) × (turn.new.unowned ≡ turn.old.unowned)) }
+    ensures passed { OnOk result (passed.new.items ≡ passed.old.items ++ turn.old.rows ∷ []) }
+    ensures next { OnOk result ((host : Host) → slice_get hosts.now (length passed.old.items + 1) ≡ Some host → TurnsFor host turn.new []) }
+{
+    let next = no_files(alloc, hosts, passed.len() + 1)?;
+    let rows = mem::replace(&mut turn.rows, next);
+    passed.push(rows)?;
+    turn.reader = Reader::new(alloc, MOST_FILES);
+    turn.unowned = None;
+    Ok(())
+}
+
+impl<'a> Inventories<'a> {
+    ghost use Rattle.std.specs.Prelude.{◌≡◌, ◌+◌, ◌-◌, ◌<◌, ◌≤◌, ◌++◌, ◌∷◌, [], ℕ, List, length, Some, IfSome, IfNone, IfErr, OnOk, MatchResult, slice_get};
+    ghost use Rattle.idtext.specs.First.{Gives};
+    ghost use Rattle.hosts_join.specs.declared.host.Host.{Host};
+    ghost use Rattle.unify_texts.specs.declared.fault.Fault.{Fault};
+    ghost use Rattle.unify_texts.specs.Told.{told};
+    ghost use Rattle.unify.specs.Hosts.{files_of};
+    ghost use Rattle.unify.specs.Passes.{is_read, lines_of, StandsFor, ended_in, fault_met, IsToldAs, TellsFault, IsFaultOf};
+
+    /// The inventories of these hosts, of which none has come. Memory in step with the rows of a host.
+    pub fn of(alloc: Global, hosts: Vec<Host<'a>>) -> Result<Inventories<'a>, AllocError>
+        requires few { length hosts.items ≤ 64 }
+        requires lawful { All IsLawfulHost hosts.items }
+        ensures { IfOk result (AreAtStart hosts.entry.items) }
+    {
+        let rows = no_files(alloc, &hosts, 0)?;
+        Ok(Inventories {
+            alloc,
+            hosts,
+            passed: Vec::new(alloc),
+            turn: new_turn(alloc, rows),
+        })
+    }
+
+    /// Takes the next bytes of the inventory of the present host. Asked is that a host is left.
+    ///
+    /// The answer is exactly the first reader fault of the whole logical lines so far, or want of memory; a file without
+    /// an account is told by `end_host`. A new fault that it answers is the one that is met. Once a fault is met, of either
+    /// call, the answer is always that one, or want of memory to tell it, and nothing changes.
+    ///
+    /// One pass over the bytes, and two look-ups by hash for each file.
+    pub fn piece(&mut self, bytes: &[u8]) -> Result<(), Fault<'a>>
+        requires left { ended_in self.old < length self.old.hosts }
+        ensures told { (ended : List (List ℕ)) (text : List ℕ) (host : Host) → StandsFor self.old ended text → slice_get self.old.hosts (ended_in self.old) ≡ Some host → Gives (λ _. tt) told result (is_read (lines_of host (text ++ bytes.now))) }
+        ensures stands { OnOk result ((ended : List (List ℕ)) (text : List ℕ) → StandsFor self.old ended text → StandsFor self.new ended (text ++ bytes.now)) }
+        ensures met { IfNone (fault_met self.old) (IfErr result (λ e. fault_met self.new ≡ Some e)) }
+        ensures failed { IfErr result (λ e. (f : Fault) × (fault_met self.new ≡ Some f) × IsToldAs f e) }
+        ensures again { IfSome (fault_met self.old) (λ f. TellsFault f result × (self.new ≡ self.old)) }
+        ensures site { self.new ≡ record self.old { turn = self.new.turn } }
+    {
+        let index = self.passed.len();
+        let host = &self.hosts[index];
+        feed_turn(self.alloc, &mut self.turn, host, bytes)
+    }
+
+    /// Ends the inventory of the present host. Asked is that a host is left.
+    ///
+    /// The answer is exactly the first fault of the whole inventory, and else its first file without an account, uid
+    /// before gid; or want of memory. What is met then is such a fault too, that of the file where memory was wanting only
+    /// to tell it. Once a fault is met, of either call, the answer is always that one, or want of memory to tell it, and
+    /// nothing changes. At most one line is still to be read here.
+    pub fn end_host(&mut self) -> Result<(), Fault<'a>>
+        requires left { ended_in self.old < length self.old.hosts }
+        ensures told { (ended : List (List ℕ)) (text : List ℕ) (host : Host) → StandsFor self.old ended text → slice_get self.old.hosts (ended_in self.old) ≡ Some host → Gives (λ _. tt) told result (is_read (files_of (record { host = host; mtree = text }))) }
+        ensures stands { OnOk result ((ended : List (List ℕ)) (text : List ℕ) → StandsFor self.old ended text → StandsFor self.new (ended ++ text ∷ []) []) }
+        ensures met { (ended : List (List ℕ)) (text : List ℕ) (host : Host) → StandsFor self.old ended text → slice_get self.old.hosts (ended_in self.old) ≡ Some host → IfErr result (λ _. IfSome (fault_met self.new) (IsFaultOf host text)) }
+        ensures failed { IfErr result (λ e. (f : Fault) × (fault_met self.new ≡ Some f) × IsToldAs f e) }
+        ensures again { IfSome (fault_met self.old) (λ f. TellsFault f result × (self.new ≡ self.old)) }
+        ensures left { MatchResult result (λ _. ended_in self.new ≡ ended_in self.old + 1) (λ _. self.new.passed ≡ self.old.passed) }
+        ensures site { self.new.hosts ≡ self.old.hosts }
+    {
+        let index = self.passed.len();
+        let host = &self.hosts[index];
+        end_turn(self.alloc, &mut self.turn, host)?;
+        next_host(self.alloc, &self.hosts, &mut self.passed, &mut self.turn)?;
+        Ok(())
+    }
+
+    /// How many hosts' inventories have not been ended. No cost.
+    pub fn hosts_left(&self) -> usize
+        ensures left { result ≡ length self.now.hosts - ended_in self.now }
+        ensures within { ended_in self.now ≤ length self.now.hosts }
+    {
+        self.hosts.len() - self.passed.len()
+    }
+}

@@ -1,0 +1,150 @@
+//! How many fields of files a map changes.
+
+ghost use Rattle.std.specs.Prelude.{◌≡◌, ◌≤◌, List, length, All, IfOk, not, sum_by};
+ghost use Rattle.idtext.specs.First.{Yields};
+ghost use Rattle.mtree_inv.specs.declared.entry.Entry.{Entry};
+ghost use Rattle.hosts_join.specs.Hosts.{IsLawfulHost};
+ghost use Rattle.hosts_join.specs.Kinds.{group_at, user_at};
+ghost use Rattle.hosts_join.specs.Pairs.{number_of};
+ghost use Rattle.unify_texts.specs.Told.{told};
+ghost use Rattle.unify.specs.Cost.{changed, host_cost, is_number};
+ghost use Rattle.unify.specs.Begun.{IsBegunCost};
+ghost use Rattle.unify.specs.Costing.{cost_begun};
+ghost use Rattle.unify.specs.Laws.{HaveAccounts};
+ghost use Rattle.unify.specs.RowFiles.{row_files};
+
+use crate::counting::{Cost, check_list, check_names};
+use crate::inventories::Inventories;
+use crate::row_files::RowFiles;
+use crate::site::load_tables;
+use hosts_join::{Host, HostText, PairTable};
+use std::alloc::Global;
+use unify_texts::{Fault, MapText, read_map};
+
+/// The inventories of a site's hosts, and a map of exactly the names of these. It borrows the texts.
+#[derive(Drop)]
+pub struct MappedSite<'a> {
+    pub inventories: Inventories<'a>,
+    pub names: MapText<'a>,
+}
+
+// The hosts of a site with their tables, and a map of exactly their names. It borrows the texts.
+#[derive(Drop)]
+struct MappedHosts<'a> {
+    hosts: Vec<Host<'a>>,
+    names: MapText<'a>,
+}
+
+// The tables of the hosts, and the map.
+fn map_tables<'a>(
+    alloc: Global,
+    texts: &'a [HostText],
+    map: &'a [u8],
+) -> Result<MappedHosts<'a>, Fault<'a>>
+    ensures begun { Yields (λ begun held. (held.hosts.items ≡ begun.hosts) × (held.names ≡ begun.names)) told result (cost_begun texts.now map.now) }
+    ensures len { IfOk result (λ held. length held.hosts.items ≡ length texts.now) }
+    ensures few { IfOk result (λ held. length held.hosts.items ≤ 64) }
+    ensures lawful { IfOk result (λ held. All IsLawfulHost held.hosts.items) }
+{
+    check_list(texts)?;
+    let hosts = load_tables(alloc, texts)?;
+    let names = read_map(alloc, map)?;
+    check_names(&names, &hosts)?;
+    Ok(MappedHosts { hosts, names })
+}
+
+/// Reads what comes before the inventories of a site that a map is counted for; the texts of these are not looked at.
+///
+/// It refuses with the first fault in this order: the host list; host by host login.defs, passwd, group and the primary
+/// groups; the map, by line, and then at line 0 where its names are not exactly the hosts' names. `Fault::Memory` is a
+/// growth that was refused. One pass over each text, and the map's names are looked up on each host.
+pub fn begin_count<'a>(
+    alloc: Global,
+    texts: &'a [HostText],
+    map: &'a [u8],
+) -> Result<MappedSite<'a>, Fault<'a>>
+    ensures begun { Yields IsBegunCost told result (cost_begun texts.now map.now) }
+    ensures hosts { IfOk result (λ begun. length begun.inventories.hosts ≡ length texts.now) }
+{
+    let MappedHosts { hosts, names } = map_tables(alloc, texts, map)?;
+    let inventories = Inventories::of(alloc, hosts)?;
+    Ok(MappedSite { inventories, names })
+}
+
+// Whether the map gives another number to a name than it has.
+fn is_changed(names: &PairTable<'_>, name: &[u8], number: u32) -> bool
+    ensures { result ≡ not (is_number (number_of names.now name.now) number) }
+{
+    match names.number(name) {
+        Some(to) => to != number,
+        None => true,
+    }
+}
+
+// How many owner fields of a host's files the map changes, where so many files are owned by each row of its passwd.
+fn owner_fields(names: &PairTable<'_>, host: &Host<'_>, files: &[u64]) -> u64
+    requires lawful { IsLawfulHost host.now }
+    requires counted { (here : List Entry) × (files.now ≡ (row_files host.now here).users) × All (λ e. HaveAccounts host.now e.uid e.gid) here × (length here ≤ 16777216) }
+    ensures { (here : List Entry) → files.now ≡ (row_files host.now here).users → All (λ e. HaveAccounts host.now e.uid e.gid) here → result ≡ sum_by (λ e. changed names.now (user_at host.now.users e.uid) e.uid) here }
+{
+    let mut fields = 0;
+    for (index, row) in host.users.rows().iter().enumerate() {
+        if is_changed(names, row.name, row.uid) {
+            fields += files[index];
+        }
+    }
+    fields
+}
+
+// How many group fields of a host's files the map changes, where so many files are owned by each row of its group.
+fn group_fields(names: &PairTable<'_>, host: &Host<'_>, files: &[u64]) -> u64
+    requires lawful { IsLawfulHost host.now }
+    requires counted { (here : List Entry) × (files.now ≡ (row_files host.now here).groups) × All (λ e. HaveAccounts host.now e.uid e.gid) here × (length here ≤ 16777216) }
+    ensures { (here : List Entry) → files.now ≡ (row_files host.now here).groups → All (λ e. HaveAccounts host.now e.uid e.gid) here → result ≡ sum_by (λ e. changed names.now (group_at host.now.groups e.gid) e.gid) here }
+{
+    let mut fields = 0;
+    for (index, row) in host.groups.rows().iter().enumerate() {
+        if is_changed(names, row.name, row.gid) {
+            fields += files[index];
+        }
+    }
+    fields
+}
+
+// How many fields of a host's files the map changes, where so many files are owned by each of its rows.
+fn fields_on(names: &MapText<'_>, host: &Host<'_>, rows: &RowFiles) -> Cost
+    requires lawful { IsLawfulHost host.now }
+    requires counted { (here : List Entry) × (rows.now ≡ row_files host.now here) × All (λ e. HaveAccounts host.now e.uid e.gid) here × (length here ≤ 16777216) }
+    ensures { (here : List Entry) → rows.now ≡ row_files host.now here → All (λ e. HaveAccounts host.now e.uid e.gid) here → result ≡ host_cost names.now host.now here }
+{
+    Cost {
+        users: owner_fields(&names.users, host, rows.users.as_slice()),
+        groups: group_fields(&names.groups, host, rows.groups.as_slice()),
+    }
+}
+
+impl<'a> MappedSite<'a> {
+    ghost use Rattle.std.specs.Prelude.{◌≡◌, ℕ, List, [], length, Ok};
+    ghost use Rattle.idtext.specs.First.{each};
+    ghost use Rattle.unify.specs.Count.{site_of, total_of};
+    ghost use Rattle.unify.specs.Loading.{loaded_from};
+    ghost use Rattle.unify.specs.Passes.{StandsFor, ended_in};
+
+    /// How many owner and group fields of the files the map changes. Asked is that no host is left. One pass over the
+    /// account rows, with a look-up by hash for each; it takes no memory.
+    pub fn cost(&self) -> Cost
+        requires none_left { ended_in self.now.inventories ≡ length self.now.inventories.hosts }
+        ensures { (ended : List (List ℕ)) → StandsFor self.now.inventories ended [] → total_of self.now.names (each site_of (loaded_from self.now.inventories.hosts ended)) ≡ Ok result }
+    {
+        let mut cost = Cost {
+            users: 0,
+            groups: 0,
+        };
+        for (index, rows) in self.inventories.passed.iter().enumerate() {
+            let here = fields_on(&self.names, &self.inventories.hosts[index], rows);
+            cost.users += here.users;
+            cost.groups += here.groups;
+        }
+        cost
+    }
+}
