@@ -1,7 +1,7 @@
 //! The files below a root.
 
-use crate::output::Output;
 use crate::roots::NamedRoot;
+use crate::sink::FileSink;
 use crate::telling::{Trouble, tell_trouble};
 use crate::walk::{OpenDirectory, kind_of};
 use idtext::LARGEST_ID;
@@ -16,11 +16,11 @@ fn shown(path: &[u8]) -> &[u8] {
     if path.is_empty() { b"." } else { path }
 }
 
-/// An inventory that is being written.
+/// A walk over the files below roots, which go into a sink.
 #[derive(Drop)]
-pub struct Listing<'r> {
-    rt: &'r HostRuntime,
-    output: Output<'r>,
+pub struct Listing<'l, S> {
+    rt: &'l HostRuntime,
+    sink: &'l mut S,
     // Whether what is on another file system than its root is left out.
     stays: bool,
     // The file system of the present root.
@@ -31,28 +31,17 @@ pub struct Listing<'r> {
     is_missing: bool,
 }
 
-impl<'r> Listing<'r> {
+impl<'l, S: FileSink> Listing<'l, S> {
     /// Nothing is listed yet.
-    pub fn new(rt: &'r HostRuntime, stays: bool) -> Result<Listing<'r>, FileFault> {
-        Ok(Listing {
+    fn new(rt: &'l HostRuntime, stays: bool, sink: &'l mut S) -> Listing<'l, S> {
+        Listing {
             rt,
-            output: Output::new(rt)?,
+            sink,
             stays,
             device: 0,
             path: Vec::new(rt.alloc()),
             is_missing: false,
-        })
-    }
-
-    /// Writes the first line.
-    pub fn head(&mut self, host: &[u8]) -> Result<(), FileFault> {
-        self.output.head(host)
-    }
-
-    /// Writes the last line, and hands out the exit status.
-    pub fn end(&mut self) -> Result<u8, FileFault> {
-        self.output.end()?;
-        Ok(if self.is_missing { 3 } else { 0 })
+        }
     }
 
     // Tells why the present file, or what is in it, is not listed.
@@ -66,14 +55,14 @@ impl<'r> Listing<'r> {
         tell_trouble(self.rt, shown(&self.path), trouble)
     }
 
-    // Writes the line of the present file.
+    // Puts the present file into the sink.
     fn put(&mut self, found: &Metadata) -> Result<(), FileFault> {
         if found.uid() > LARGEST_ID || found.gid() > LARGEST_ID {
             return self.trouble(Trouble::NoOwner);
         }
         let kind = kind_of(&found.file_type());
         let (uid, gid) = (found.uid(), found.gid());
-        if self.output.entry(shown(&self.path), uid, gid, kind)? {
+        if self.sink.entry(shown(&self.path), uid, gid, kind)? {
             Ok(())
         } else {
             self.trouble(Trouble::TooLong)
@@ -185,8 +174,8 @@ impl<'r> Listing<'r> {
         self.list_below(&mut open)
     }
 
-    /// Lists a root and all below it.
-    pub fn root(&mut self, root: &NamedRoot<'_>) -> Result<(), FileFault> {
+    // Lists a root and all below it.
+    fn root(&mut self, root: &NamedRoot<'_>) -> Result<(), FileFault> {
         self.path.clear();
         self.path.extend_from_slice(root.written.bytes())?;
         match fs::symlink_metadata(self.rt, root.word) {
@@ -194,4 +183,25 @@ impl<'r> Listing<'r> {
             Err(error) => self.trouble(Trouble::System(error)),
         }
     }
+}
+
+/// Puts the files below each root into a sink, as they are found, and the root itself first. What
+/// is on another file system than its root is left out where the walk `stays`, the directory that
+/// it is mounted on too. Says whether nothing else was left out: what is, is told on standard
+/// error.
+///
+/// # Errors
+///
+/// Those of the sink, and want of memory.
+pub fn list_files<S: FileSink>(
+    rt: &HostRuntime,
+    roots: &[NamedRoot<'_>],
+    stays: bool,
+    sink: &mut S,
+) -> Result<bool, FileFault> {
+    let mut listing = Listing::new(rt, stays, sink);
+    for root in roots {
+        listing.root(root)?;
+    }
+    Ok(!listing.is_missing)
 }

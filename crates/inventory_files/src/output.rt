@@ -1,5 +1,6 @@
 //! The inventory as it goes to standard output.
 
+use crate::sink::FileSink;
 use idtext::MOST_BYTES;
 use inventory_text::{FileKind, push_end, push_entry, push_head};
 use std::io;
@@ -48,8 +49,19 @@ impl<'r> Output<'r> {
         self.put_line()
     }
 
-    /// Writes the line of a file, and says whether it could be: not where it would have more bytes than a line may have.
-    pub fn entry(
+    /// Writes the last line, and all that is still to be written.
+    pub fn end(&mut self) -> Result<(), FileFault> {
+        push_end(&mut self.line, self.count)?;
+        self.put_line()?;
+        match self.writer.flush() {
+            Ok(()) => Ok(()),
+            Err(_) => Err(FileFault::Told(write_failed(self.rt))),
+        }
+    }
+}
+
+impl FileSink for Output<'_> {
+    fn entry(
         &mut self,
         path: &[u8],
         uid: u32,
@@ -64,15 +76,5 @@ impl<'r> Output<'r> {
         self.put_line()?;
         self.count = self.count.saturating_add(1);
         Ok(true)
-    }
-
-    /// Writes the last line, and all that is still to be written.
-    pub fn end(&mut self) -> Result<(), FileFault> {
-        push_end(&mut self.line, self.count)?;
-        self.put_line()?;
-        match self.writer.flush() {
-            Ok(()) => Ok(()),
-            Err(_) => Err(FileFault::Told(write_failed(self.rt))),
-        }
     }
 }

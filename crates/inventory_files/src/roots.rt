@@ -5,7 +5,8 @@ use idtext::ByteString;
 use std::alloc::AllocError;
 use unify_io::FileFault;
 
-/// A root: the word that names it, and the path that its files are written below. That of `/` is empty.
+/// A root: the word that names it, and the path that its files are written below. That of `/` is
+/// empty.
 #[derive(Drop)]
 pub struct NamedRoot<'w> {
     pub word: &'w str,
@@ -25,7 +26,8 @@ fn fault_of(word: &str) -> Option<RootFault<'static>> {
     None
 }
 
-// The names in a word, with slashes between them: without slashes and full stops in front, or between two names.
+// The names in a word, with slashes between them: without slashes and full stops in front, or
+// between two names.
 fn written_path(rt: &HostRuntime, word: &str) -> Result<ByteString, AllocError> {
     let mut path = Vec::new(rt.alloc());
     for part in word.split('/') {
@@ -51,7 +53,8 @@ fn is_inside(path: &[u8], other: &[u8]) -> bool {
     }
 }
 
-// Refuses a root that lies in one of these, or that one of these lies in: a file would be listed twice.
+// Refuses a root that lies in one of these, or that one of these lies in: a file would be listed
+// twice.
 fn see_apart(
     rt: &HostRuntime,
     roots: &[NamedRoot<'_>],
@@ -83,8 +86,8 @@ fn root_of<'w>(
     Ok(NamedRoot { word, written })
 }
 
-/// The roots that words name, in order. One that has `..` in it is refused, since its files have no path below the starting
-/// directory, and so are two of which one lies in the other.
+/// The roots that words name, in order. One that has `..` in it is refused, since its files have
+/// no path below the starting directory, and so are two of which one lies in the other.
 pub fn named_roots<'w>(
     rt: &HostRuntime,
     words: &[&'w str],

@@ -1,6 +1,7 @@
 //! The command.
 
-use crate::listing::Listing;
+use crate::listing::list_files;
+use crate::output::Output;
 use crate::roots::named_roots;
 use clap::ArgMatches;
 use unify_io::{FileFault, read_file};
@@ -16,15 +17,15 @@ fn first_line(text: &[u8]) -> &[u8] {
     }
 }
 
-/// Writes the inventory of the files below each ROOT to standard output, and hands out the exit status: 3 where something was
-/// left out, which is told on standard error.
+/// Writes the inventory of the files below each ROOT to standard output, and hands out the exit
+/// status: 3 where something was left out, which is told on standard error.
 pub fn run_inventory(rt: &HostRuntime, matches: &ArgMatches<'_>) -> Result<u8, FileFault> {
     let roots = named_roots(rt, matches.get_strs("ROOT").unwrap_or(&[]))?;
     let host = read_file(rt, HOST_NAME)?;
-    let mut listing = Listing::new(rt, matches.get_flag("one-file-system"))?;
-    listing.head(first_line(host.bytes()))?;
-    for root in &roots {
-        listing.root(root)?;
-    }
-    listing.end()
+    let mut output = Output::new(rt)?;
+    output.head(first_line(host.bytes()))?;
+    let stays = matches.get_flag("one-file-system");
+    let is_whole = list_files(rt, &roots, stays, &mut output)?;
+    output.end()?;
+    Ok(if is_whole { 0 } else { 3 })
 }

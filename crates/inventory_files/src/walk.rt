@@ -1,5 +1,5 @@
-//! Directories that are open. What is in one is reached by its descriptor, as /proc/self/fd/N/NAME (proc(5)), so that no
-//! directory on the way is looked up again.
+//! Directories that are open. What is in one is reached by its descriptor, as
+//! /proc/self/fd/N/NAME (proc(5)), so that no directory on the way is looked up again.
 
 use crate::telling::Trouble;
 use inventory_text::FileKind;
@@ -37,7 +37,8 @@ pub struct OpenDirectory {
     pub path_len: usize,
 }
 
-// The directory that was seen at a path, opened. A link that came in between is followed, to a directory alone, and then told.
+// The directory that was seen at a path, opened. A link that came in between is followed, to a
+// directory alone, and then told.
 fn opened(rt: &HostRuntime, path: &str, seen: &Metadata) -> io::Result<Option<File>> {
     let inside = format!(in rt.alloc(); "{path}/.")?;
     let file = File::open(rt, inside.as_str())?;

@@ -12,7 +12,8 @@ abbrev pub EntriesReadBack : Type 0
 EntriesReadBack = (before : List Kind) (number : ℕ) (listed : Listed) → IsListed listed
     → said_alone before (kind_of (record { number = number; text = line_of listed; is_cut = false })) ≡ Ok (Some listed.file)
 
--- the inventory of a host's files is exactly these, in their order; `most` is how many files the reader takes
+-- the inventory of a host's files is exactly these, in their order; `most` is how many files the
+-- reader takes
 abbrev pub InventoriesReadBack : Type 0
 InventoriesReadBack = (most : ℕ) (host : List ℕ) (listed : List Listed)
     → AreListed listed → length listed ≤ most → most < 2 ^ 64 → length (head_line host) ≤ most_bytes

@@ -1,6 +1,6 @@
 -- How an inventory is written.
--- Source: mtree(5), full entries, comments, and the keywords `type`, `uid` and `gid`; the first and the last line, and that each
--- path begins with `./`, are this project's own form.
+-- Source: mtree(5), full entries, comments, and the keywords `type`, `uid` and `gid`; the first
+-- and the last line, and that each path begins with `./`, are this project's own form.
 use Rattle.std.specs.Prelude.{ℕ, List, [], ◌∷◌, ◌++◌, codes, decimal}
 use Rattle.idtext.specs.Escapes.{escaped}
 use Rattle.inventory_text.specs.declared.kind.FileKind.{FileKind}

@@ -1,5 +1,6 @@
-//! Inventories of files and their owners as they are written, in this project's profile of mtree(5), so that a reader gets back
-//! exactly the files that were listed: any path that a file can have, whatever bytes its names are of.
+//! Inventories of files and their owners as they are written, in this project's profile of
+//! mtree(5), so that a reader gets back exactly the files that were listed: any path that a file
+//! can have, whatever bytes its names are of.
 #![tactic(auto)]
 
 mod kind;

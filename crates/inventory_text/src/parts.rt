@@ -28,7 +28,8 @@ pub(crate) fn push_parts(out: &mut Vec<u8>, parts: &[&[u8]]) -> Result<(), Alloc
     pushed
 }
 
-// Appends a front, some bytes escaped and the parts behind them, also where memory runs out on the way.
+// Appends a front, some bytes escaped and the parts behind them, also where memory runs out on
+// the way.
 fn push_each(
     out: &mut Vec<u8>,
     front: &[u8],

@@ -7,8 +7,8 @@ use crate::parts::{push_parts, push_with_escaped};
 use itoa::Buffer;
 use std::alloc::AllocError;
 
-/// Appends the first line of a host's inventory, a comment that names the host, with each byte of the name visible. One pass
-/// over the name.
+/// Appends the first line of a host's inventory, a comment that names the host, with each byte of
+/// the name visible. One pass over the name.
 ///
 /// # Errors
 ///
@@ -19,9 +19,10 @@ pub fn push_head(text: &mut Vec<u8>, host: &[u8]) -> Result<(), AllocError>
     push_with_escaped(text, b"# unify inventory 1 ", host, &[b"\n".as_slice()])
 }
 
-/// Appends the line of a file: its path from the starting directory, any bytes, with each of them visible, and its kind and its
-/// owner's numbers. [`inventories_read_back`](crate::inventories_read_back) says of which paths and numbers the line is read
-/// back. One pass over the path.
+/// Appends the line of a file: its path from the starting directory, any bytes, with each of them
+/// visible, and its kind and its owner's numbers.
+/// [`inventories_read_back`](crate::inventories_read_back) says of which paths and numbers the
+/// line is read back. One pass over the path.
 ///
 /// # Errors
 ///

@@ -1,3 +1,3 @@
 pub mod Finds
-pub mod Noted
 pub mod Lost
+pub mod Noted

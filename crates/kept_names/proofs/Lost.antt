@@ -11,11 +11,11 @@ use Rattle.mtree_inv.specs.declared.entry.Entry.{Entry}
 use Rattle.mtree_inv.specs.Files.{HaveDistinctFiles}
 use Rattle.mtree_inv.specs.Inventory.{file_at}
 use Rattle.hosts_join.specs.Kinds.{user_at, group_at}
-use Rattle.kept_names.specs.Kept.{Found, told_of, agree, users_agree, groups_agree, change_by, change_at, loss_of, loss, new_file, unnamed_by, unnamed, findings}
+use Rattle.kept_names.specs.Kept.{Found, told_of, agree, users_agree, groups_agree, change_by, change_at, loss_of, loss, new_file, unnamed_by, unnamed, is_left, left_by, left_file, findings}
 use Rattle.kept_names.specs.Laws.{KeepsName, IsKept, is_loss, NothingLostIsKept}
 use Rattle.kept_names.specs.declared.names.Accounts.{Accounts}
 use Rattle.kept_names.specs.declared.finding.What.{What}
-use Rattle.kept_names.specs.declared.finding.What.TheVariants.{New, Unnamed}
+use Rattle.kept_names.specs.declared.finding.What.TheVariants.{New, Unnamed, Left}
 
 -- ---- lists
 
@@ -169,26 +169,45 @@ module _ (was now : Accounts) (before after : List Entry) (distinct : HaveDistin
       by false true e = told-no-loss file (Unnamed false true) y e refl
       by false false e = absurd (cc)
 
+  left-one : (file : Entry) → Given (left_file was now before) NoLoss file
+  left-one file y e =
+      by (is_left (user_at was.users file.uid) (user_at now.users file.uid)) (is_left (group_at was.groups file.gid) (group_at now.groups file.gid)) (file_at before file.path) e
+    where
+      by : (u g : Bool) (earlier : Option Entry) → told_of file (left_by u g earlier) ≡ Some y → NoLoss y
+      by true g None e = told-no-loss file (Left true g) y e refl
+      by true g (Some there) e = absurd (cc)
+      by false true None e = told-no-loss file (Left false true) y e refl
+      by false true (Some there) e = absurd (cc)
+      by false false earlier e = absurd (cc)
+
   abbrev losses : List Found
   losses = filter_map (loss was now after) before
 
   abbrev news : List Found
   news = filter_map (new_file before) after
 
+  abbrev bare : List Found
+  bare = filter_map (unnamed now) after
+
+  abbrev lefts : List Found
+  lefts = filter_map (left_file was now before) after
+
   pub lost-is-not-kept : All NoLoss (findings was now before after) → All (IsKept was now after) before
   unfolding findings
   lost-is-not-kept h =
       each-all (Given (loss was now after) NoLoss) (IsKept was now after) before kept-one
-      (all-given (loss was now after) NoLoss before (front-all NoLoss losses news (front-all NoLoss (losses ++ news) (filter_map (unnamed now) after) h)))
+      (all-given (loss was now after) NoLoss before (front-all NoLoss losses news (front-all NoLoss (losses ++ news) bare (front-all NoLoss (losses ++ news ++ bare) lefts h))))
 
   pub kept-is-not-lost : All (IsKept was now after) before → All NoLoss (findings was now before after)
   unfolding findings
   kept-is-not-lost h =
-      All-append NoLoss (losses ++ news) (filter_map (unnamed now) after)
+      All-append NoLoss (losses ++ news ++ bare) lefts
+      (All-append NoLoss (losses ++ news) bare
       (All-append NoLoss losses news
       (given-all (loss was now after) NoLoss before (each-all (IsKept was now after) (Given (loss was now after) NoLoss) before lost-one h))
       (given-all (new_file before) NoLoss after (every-all (Given (new_file before) NoLoss) after new-one)))
-      (given-all (unnamed now) NoLoss after (every-all (Given (unnamed now) NoLoss) after unnamed-one))
+      (given-all (unnamed now) NoLoss after (every-all (Given (unnamed now) NoLoss) after unnamed-one)))
+      (given-all (left_file was now before) NoLoss after (every-all (Given (left_file was now before) NoLoss) after left-one))
 
 pub nothing-lost-is-kept : NothingLostIsKept
 nothing-lost-is-kept was now before after distinct = (lost-is-not-kept was now before after distinct, kept-is-not-lost was now before after distinct)

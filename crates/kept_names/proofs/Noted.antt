@@ -1,35 +1,82 @@
--- The paths of files, as a loop notes them.
-use Rattle.std.proofs.Common.{◌≡◌, ◌<◌, ◌+◌, ℕ, suc, Bool, false, ◌||◌, cond, List, [], ◌∷◌, ◌++◌, map, take, get_or, length, refl, sym, ◌∙◌, ap, arith, inl, inr}
-use Rattle.std.specs.List.{list_any}
+-- The files of a search tree, as a loop puts them in.
+use Rattle.std.proofs.Common.{◌≡◌, ◌<◌, ◌+◌, ℕ, Bool, true, false, cond, List, [], ◌∷◌, take, get_or, length, Option, Some, None, refl, sym, ◌∙◌, ap, arith}
+use Rattle.std.specs.Prelude.{option_copied}
+use Rattle.std.specs.Borrow.{Bor}
+use Rattle.std.specs.Cmp.Lexicographic.{slice_cmp}
+use Rattle.std.specs.Map.{lookup}
+use Rattle.std.specs.Option.{option_or}
+use Rattle.std.specs.Ordering.{is_eq, nat_cmp}
 use Rattle.std.specs.Str.{bytes_eq}
-use Rattle.std.proofs.lemmas.Bool.{cases_Bool}
-use Rattle.std.proofs.lemmas.List.{length-map, length-take-le, get_or-map, get_or-take, map-append, take_more}
+use Rattle.std.proofs.lemmas.Bool.{true≢false}
+use Rattle.std.proofs.lemmas.List.{get_or-take, get_or_default, length-take-le, take_more}
+use Rattle.std.proofs.lemmas.List.Folds.{find-append}
+use Rattle.std.proofs.lemmas.Map.Text.{is_eq-slice_cmp}
 use Rattle.std.proofs.lemmas.Slice.Eq.{bytes_eq-Decides}
-use Rattle.accounts.proofs.ListLemmas.{list_any-map}
 use Rattle.mtree_inv.specs.declared.entry.Entry.{Entry}
 use Rattle.mtree_inv.specs.Files.{HaveDistinctFiles}
+use Rattle.mtree_inv.specs.Inventory.{file_at}
+use Rattle.kept_names.specs.Found.{Rows, FindsFiles}
+use Rattle.kept_names.proofs.Lost.{file-there}
 
-any-none : {Y : Type 0} (q : Y → Bool) (ys : List Y) → ((k : ℕ) (d : Y) → k < length ys → q (get_or ys k d) ≡ false) → list_any q ys ≡ false
-any-none q [] h = refl
-any-none q (y ∷ ys) h = ap (λ b. b || list_any q ys) (h 0 y (omega arith)) ∙ any-none q ys (λ k d below. h (suc k) d (omega arith))
+or-none : (o : Option Entry) → option_or o None ≡ o
+or-none None = refl
+or-none (Some x) = refl
 
 -- one more file
-module _ {K : Type 0} (f : K → List ℕ) (keys after : List K) (files : List Entry) (i : ℕ) (x : Entry) (v : K) where
-  fresh_path : HaveDistinctFiles files → i < length files → map f keys ≡ map (λ e. e.path) (take i files) → f v ≡ (get_or files i x).path → list_any (λ y. bytes_eq (f v) (f y)) keys ≡ false
-  fresh_path distinct below same at =
-      sym (list_any-map (bytes_eq (f v)) f keys) ∙ ap (list_any (bytes_eq (f v))) same
-      ∙ any-none (bytes_eq (f v)) (map (λ e. e.path) (take i files)) (λ k p within.
-      let less : k < i = omega (arith, length-map (take i files) (λ (e : Entry). e.path), length-take-le i files (omega arith)) in
-      let there : get_or (map (λ e. e.path) (take i files)) k p ≡ (get_or files k x).path =
-      get_or-map (λ (e : Entry). e.path) (take i files) k x p (omega (arith, length-take-le i files (omega arith))) ∙ ap (λ e. e.path) (get_or-take i files k x less) in
-      elim (cases_Bool (bytes_eq (f v) (get_or (map (λ e. e.path) (take i files)) k p))) [
-        | inl equal ↦ absurd (distinct k i x less below (sym there ∙ sym ((bytes_eq-Decides (f v) (get_or (map (λ e. e.path) (take i files)) k p)).0 equal) ∙ at))
-        | inr other ↦ other
-      ])
+module _ (files : List Entry) (i : ℕ) (x : Entry) (distinct : HaveDistinctFiles files) (below : i < length files) (at : x ≡ get_or files i x) where
+  more : (path : List ℕ) → file_at (take (i + 1) files) path ≡ option_or (file_at (take i files) path) (cond (bytes_eq path x.path) (Some x) None)
+  more path =
+      ap (λ (fs : List Entry). file_at fs path) (take_more files i x below)
+      ∙ find-append (λ (file : Entry). bytes_eq path file.path) (take i files) (get_or files i x ∷ [])
+      ∙ ap (λ (e : Entry). option_or (file_at (take i files) path) (cond (bytes_eq path e.path) (Some e) None)) (sym at)
 
-  pub one_more_path : HaveDistinctFiles files → i < length files → map f keys ≡ map (λ e. e.path) (take i files) → x ≡ get_or files i x → f v ≡ x.path
-      → after ≡ cond (list_any (λ y. bytes_eq (f v) (f y)) keys) keys (keys ++ v ∷ []) → map f after ≡ map (λ e. e.path) (take (i + 1) files)
-  one_more_path distinct below same item is grown =
-      let at : f v ≡ (get_or files i x).path = is ∙ ap (λ (e : Entry). e.path) item in
-      ap (map f) (grown ∙ ap (λ b. cond b keys (keys ++ v ∷ [])) (fresh_path distinct below same at)) ∙ map-append f keys (v ∷ [])
-      ∙ (λ j. same j ++ at j ∷ []) ∙ sym (ap (map (λ e. e.path)) (take_more files i x below) ∙ map-append (λ (e : Entry). e.path) (take i files) (get_or files i x ∷ []))
+  fresh : (path : List ℕ) → path ≡ x.path → file_at (take i files) path ≡ None
+  fresh path same = by (file_at (take i files) path) refl
+    where
+      by : (o : Option Entry) → file_at (take i files) path ≡ o → o ≡ None
+      by None e = refl
+      by (Some y) e =
+          let there = file-there (take i files) path y e in
+          let k = there.0.0 in
+          let less : k < i = omega (arith, there.0.1, length-take-le i files (omega arith)) in
+          let first : get_or files k y ≡ y = sym (get_or-take i files k y less) ∙ there.0.2 in
+          let second : get_or files i y ≡ x = get_or_default files i y x below ∙ sym at in
+          absurd (distinct k i y less below (ap (λ (e : Entry). e.path) first ∙ there.1 ∙ same ∙ ap (λ (e : Entry). e.path) (sym second)))
+
+  module _ (before after : Rows) (key : Bor (List ℕ)) (file : Bor Entry) (key-is : key.now ≡ x.path) (file-is : file.now ≡ x)
+      (updates : (q : Bor (List ℕ)) → lookup (λ k. is_eq (slice_cmp nat_cmp q.now k.now)) after ≡ cond (is_eq (slice_cmp nat_cmp key.now q.now)) (Some file) (lookup (λ k. is_eq (slice_cmp nat_cmp q.now k.now)) before))
+      (path : List ℕ) where
+    abbrev at_path : Rows → Option (Bor Entry)
+    at_path rows = lookup (λ k. is_eq (slice_cmp nat_cmp path k.now)) rows
+
+    abbrev is_key : Bool
+    is_key = is_eq (slice_cmp nat_cmp key.now path)
+
+    now-found : (b : Bool) → is_key ≡ b → option_copied (at_path after) ≡ option_copied (cond b (Some file) (at_path before))
+    now-found b e = ap option_copied (updates (record { ref_ptr = (0, 0); now = path }) ∙ ap (λ (c : Bool). cond c (Some file) (at_path before)) e)
+
+    same_key : path ≡ x.path → is_key ≡ true
+    same_key e = is_eq-slice_cmp key.now path ∙ (bytes_eq-Decides key.now path).1 (key-is ∙ sym e)
+
+    other_key : bytes_eq path x.path ≡ false → (b : Bool) → is_key ≡ b → b ≡ false
+    other_key other false e = refl
+    other_key other true e =
+        let alike : path ≡ x.path = sym ((bytes_eq-Decides key.now path).0 (sym (is_eq-slice_cmp key.now path) ∙ e)) ∙ key-is in
+        absurd (true≢false (sym ((bytes_eq-Decides path x.path).1 alike) ∙ other))
+
+    found_there : (b : Bool) → bytes_eq path x.path ≡ b → option_copied (at_path before) ≡ file_at (take i files) path → option_copied (at_path after) ≡ file_at (take (i + 1) files) path
+    found_there true e found =
+        let alike : path ≡ x.path = (bytes_eq-Decides path x.path).0 e in
+        now-found true (same_key alike) ∙ ap Some file-is
+        ∙ sym (more path ∙ ap (λ (o : Option Entry). option_or o (cond (bytes_eq path x.path) (Some x) None)) (fresh path alike) ∙ ap (λ (b : Bool). cond b (Some x) None) e)
+    found_there false e found =
+        let other : is_key ≡ false = other_key e is_key refl in
+        now-found false other ∙ found
+        ∙ sym (more path ∙ ap (λ (b : Bool). option_or (file_at (take i files) path) (cond b (Some x) None)) e ∙ or-none (file_at (take i files) path))
+
+  pub one_more_file : (before after : Rows) (key : Bor (List ℕ)) (file : Bor Entry) → key.now ≡ x.path → file.now ≡ x
+      → FindsFiles before (take i files)
+      → ((q : Bor (List ℕ)) → lookup (λ k. is_eq (slice_cmp nat_cmp q.now k.now)) after ≡ cond (is_eq (slice_cmp nat_cmp key.now q.now)) (Some file) (lookup (λ k. is_eq (slice_cmp nat_cmp q.now k.now)) before))
+      → FindsFiles after (take (i + 1) files)
+  one_more_file before after key file key-is file-is found updates path =
+      found_there before after key file key-is file-is updates path (bytes_eq path x.path) refl (found path)

@@ -1,14 +1,15 @@
 -- Whether files have the names of their owners still, by new account files.
--- Sources: passwd(5) and group(5) (a number's name is that of its row); chown(2) (a file has a uid and a gid, and no name).
+-- Sources: passwd(5) and group(5) (a number's name is that of its row); chown(2) (a file has a uid
+-- and a gid, and no name).
 -- That a number without a name has to stay as it is, is this project's own rule.
-use Rattle.std.specs.Prelude.{ℕ, Bool, true, false, ◌==◌, ◌||◌, ◌++◌, List, Option, Some, None, option_map, filter_map, is_none, if◌then◌else◌}
+use Rattle.std.specs.Prelude.{ℕ, Bool, true, false, not, ◌==◌, ◌||◌, ◌++◌, List, Option, Some, None, option_map, filter_map, is_none, if◌then◌else◌}
 use Rattle.std.specs.Str.{bytes_eq}
 use Rattle.hosts_join.specs.Kinds.{user_at, group_at}
 use Rattle.mtree_inv.specs.declared.entry.Entry.{Entry}
 use Rattle.mtree_inv.specs.Inventory.{file_at}
 use Rattle.kept_names.specs.declared.names.Accounts.{Accounts}
 use Rattle.kept_names.specs.declared.finding.What.{What}
-use Rattle.kept_names.specs.declared.finding.What.TheVariants.{Missing, Changed, New, Unnamed}
+use Rattle.kept_names.specs.declared.finding.What.TheVariants.{Missing, Changed, New, Unnamed, Left}
 
 -- a file, and what is found of it
 pub record Found : Type 0 where
@@ -73,7 +74,26 @@ unnamed_of now file = unnamed_by (is_none (user_at now.users file.uid)) (is_none
 abbrev pub unnamed : Accounts → Entry → Option Found
 unnamed now file = told_of file (unnamed_of now file)
 
+-- Whether a number that was a name's is this name's no more.
+abbrev pub is_left : Option (List ℕ) → Option (List ℕ) → Bool
+is_left None now = false
+is_left (Some was) None = true
+is_left (Some was) (Some now) = not (bytes_eq was now)
+
+-- of a file of the second inventory that the first has not: that it has such a number
+abbrev pub left_by : Bool → Bool → Option Entry → Option What
+left_by user group earlier = if user || group then (if is_none earlier then Some (Left user group) else None) else None
+
+abbrev pub left_of : Accounts → Accounts → List Entry → Entry → Option What
+left_of was now before file =
+    left_by (is_left (user_at was.users file.uid) (user_at now.users file.uid))
+    (is_left (group_at was.groups file.gid) (group_at now.groups file.gid)) (file_at before file.path)
+
+abbrev pub left_file : Accounts → Accounts → List Entry → Entry → Option Found
+left_file was now before file = told_of file (left_of was now before file)
+
 -- what is found of the files of two inventories, by the old and by the new account files
 unfoldable pub findings : Accounts → Accounts → List Entry → List Entry → List Found
 findings was now before after =
     filter_map (loss was now after) before ++ filter_map (new_file before) after ++ filter_map (unnamed now) after
+    ++ filter_map (left_file was now before) after

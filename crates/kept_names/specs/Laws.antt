@@ -7,7 +7,7 @@ use Rattle.mtree_inv.specs.Files.{HaveDistinctFiles}
 use Rattle.kept_names.specs.Kept.{findings}
 use Rattle.kept_names.specs.declared.names.Accounts.{Accounts}
 use Rattle.kept_names.specs.declared.finding.What.{What}
-use Rattle.kept_names.specs.declared.finding.What.TheVariants.{Missing, Changed, New, Unnamed}
+use Rattle.kept_names.specs.declared.finding.What.TheVariants.{Missing, Changed, New, Unnamed, Left}
 
 -- an owner has the name that it had; one that had no name has its number still, and no name
 pub record KeepsName (was now : Option (List ℕ)) (old new : ℕ) : Type 0 where
@@ -30,6 +30,7 @@ is_loss Missing = true
 is_loss (Changed uid gid) = true
 is_loss New = false
 is_loss (Unnamed user group) = false
+is_loss (Left user group) = false
 
 -- nothing is found missing or changed exactly where each file of the first inventory is kept
 abbrev pub NothingLostIsKept : Type 0

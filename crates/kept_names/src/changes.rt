@@ -1,8 +1,8 @@
 //! What is found of all files.
 ghost use Rattle.std.specs.Prelude.{◌≡◌, ◌++◌, filter_map, IfOk};
-ghost use Rattle.kept_names.specs.Kept.{findings, loss, new_file, unnamed};
+ghost use Rattle.kept_names.specs.Kept.{findings, left_file, loss, new_file, unnamed};
 
-use crate::finding::{Finding, lack_of_name, newness};
+use crate::finding::{Finding, lack_of_name, newness, number_left};
 use crate::names::Accounts;
 use crate::paths::Paths;
 use mtree_inv::{Entry, Inventory};
@@ -58,14 +58,36 @@ fn push_unnamed<'f>(
     Ok(())
 }
 
-/// What is found of the files of two inventories, of which the first was made under the account files `was` and the second
-/// under `now`: first each file of the first inventory that the second has not, or that is owned under another name there,
-/// then each file that only the second has, and then each file of the second with a number that no new account has, each time
-/// in the order of its inventory.
+// Appends the files that are new and have a number that a name has left.
+fn push_left<'f>(
+    found: &mut Vec<Finding<'f>>,
+    was: &Accounts<'_>,
+    now: &Accounts<'_>,
+    before: &Paths<'_>,
+    files: &'f [Entry],
+) -> Result<(), AllocError>
+    ensures { IfOk result (λ _. found.new.items ≡ found.old.items ++ filter_map (left_file was.now now.now before.now) files.now) }
+{
+    for file in files {
+        if let Some(what) = number_left(was, now, before, file) {
+            found.push(Finding { file, what })?;
+        }
+    }
+    Ok(())
+}
+
+/// What is found of the files of two inventories, of which the first was made under the account
+/// files `was` and the second under `now`: first each file of the first inventory that the second
+/// has not, or that is owned under another name there, then each file that only the second has,
+/// then each file of the second with a number that no new account has, and then each file that
+/// only the second has with a number that was a name's and is this name's no more, each time in
+/// the order of its inventory.
 ///
-/// Two passes over each inventory, with a look-up by hash of each path in the other inventory, and of each number: time in
-/// step with the bytes of all paths, as long as their hashes differ. Whoever names files can choose names whose hashes do
-/// not, and then the time grows as their square. It keeps a reference to each path and one to each file that it tells of.
+/// Each path is put into a search tree once and looked up in the other's at most twice, with one
+/// or two comparisons for each binary digit of the number of files, none of more bytes than the
+/// path has, whatever the paths are: so time grows with the bytes of all paths, times that. Each
+/// number is looked up by hash. It keeps references to each path and each file, and what it
+/// tells.
 ///
 /// # Errors
 ///
@@ -84,7 +106,9 @@ pub fn find_changes<'f>(
     let second = after.entries();
     let mut found = Vec::new(alloc);
     push_losses(&mut found, was, now, first, &Paths::new(alloc, second)?)?;
-    push_new(&mut found, &Paths::new(alloc, first)?, second)?;
+    let known = Paths::new(alloc, first)?;
+    push_new(&mut found, &known, second)?;
     push_unnamed(&mut found, now, second)?;
+    push_left(&mut found, was, now, &known, second)?;
     Ok(found)
 }

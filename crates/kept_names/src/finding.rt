@@ -1,7 +1,7 @@
 //! What is found of one file.
-ghost use Rattle.std.specs.Prelude.{◌≡◌, option_map};
+ghost use Rattle.std.specs.Prelude.{◌≡◌, option_copied, option_map};
 ghost use Rattle.kept_names.specs.Kept as kept;
-ghost use Rattle.kept_names.specs.Kept.{loss_of, unnamed_of, is_new};
+ghost use Rattle.kept_names.specs.Kept.{left_of, loss_of, unnamed_of, is_new};
 
 use crate::names::{Accounts, group_name, names_agree, user_name};
 use crate::paths::Paths;
@@ -13,19 +13,25 @@ use std::marker::Model;
 pub enum What {
     /// Of a file of the first inventory: the second has it not.
     Missing,
-    /// Of a file of the first inventory: in the second its user or its group is another by name. Of each that is, the number
-    /// there; where neither name is known, the number is another.
+    /// Of a file of the first inventory: in the second its user or its group is another by name.
+    /// Of each that is, the number there; where neither name is known, the number is another.
     Changed(Option<u32>, Option<u32>),
     /// Of a file of the second inventory: the first has it not.
     New,
-    /// Of a file of the second inventory: whether no user, and whether no group, has its number by the new account files.
+    /// Of a file of the second inventory: whether no user, and whether no group, has its number
+    /// by the new account files.
     Unnamed(bool, bool),
+    /// Of a file of the second inventory that the first has not: whether its user's number, and
+    /// whether its group's, was a name's by the old account files and is this name's no more by
+    /// the new ones.
+    Left(bool, bool),
 }
 
 /// A file of which something is found.
 #[derive(Drop)]
 pub struct Finding<'f> {
-    /// The file, as the first inventory has it where it is missing or changed, and else as the second has it.
+    /// The file, as the first inventory has it where it is missing or changed, and else as the
+    /// second has it.
     pub file: &'f Entry,
     /// What is found of it.
     pub what: What,
@@ -71,7 +77,8 @@ fn change(was: &Accounts<'_>, now: &Accounts<'_>, file: &Entry, there: &Entry) -
     ))
 }
 
-/// Whether a file of the first inventory is missing or changed. Four look-ups by hash, and one of its path.
+/// Whether a file of the first inventory is missing or changed. Four look-ups of numbers by hash,
+/// and one of its path in a search tree.
 pub(crate) fn loss(
     was: &Accounts<'_>,
     now: &Accounts<'_>,
@@ -86,7 +93,7 @@ pub(crate) fn loss(
     }
 }
 
-/// Whether a file of the second inventory is new. A look-up of its path by hash.
+/// Whether a file of the second inventory is new. A look-up of its path in a search tree.
 pub(crate) fn newness(before: &Paths<'_>, file: &Entry) -> Option<What>
     ensures { result ≡ is_new before.now file.now }
 {
@@ -96,7 +103,8 @@ pub(crate) fn newness(before: &Paths<'_>, file: &Entry) -> Option<What>
     }
 }
 
-/// Whether a file has a number that no account has. Two look-ups by hash.
+/// Whether a file has a number that no account has. Two look-ups of numbers by
+/// hash.
 pub(crate) fn lack_of_name(now: &Accounts<'_>, file: &Entry) -> Option<What>
     ensures { result ≡ unnamed_of now.now file.now }
 {
@@ -106,4 +114,36 @@ pub(crate) fn lack_of_name(now: &Accounts<'_>, file: &Entry) -> Option<What>
         return Some(What::Unnamed(user, group));
     }
     None
+}
+
+// Whether a number that was a name's is this name's no more.
+fn is_left(was: Option<&[u8]>, now: Option<&[u8]>) -> bool
+    ensures { result ≡ kept.is_left (option_copied was.entry) (option_copied now.entry) }
+{
+    match (was, now) {
+        (Some(was), Some(now)) => was != now,
+        (Some(_), None) => true,
+        (None, _) => false,
+    }
+}
+
+/// Whether a file of the second inventory is new and has a number that was a name's and is this
+/// name's no more. Four look-ups of numbers by hash, and one of its path in a search tree.
+pub(crate) fn number_left(
+    was: &Accounts<'_>,
+    now: &Accounts<'_>,
+    before: &Paths<'_>,
+    file: &Entry,
+) -> Option<What>
+    ensures { result ≡ left_of was.now now.now before.now file.now }
+{
+    let user = is_left(user_name(was, file.uid), user_name(now, file.uid));
+    let group = is_left(group_name(was, file.gid), group_name(now, file.gid));
+    if !user && !group {
+        return None;
+    }
+    match before.file(file.path.bytes()) {
+        None => Some(What::Left(user, group)),
+        Some(_) => None,
+    }
 }

@@ -1,8 +1,10 @@
-//! Whether files still have the user and group names that they had, once a host's accounts have got new numbers.
+//! Whether files still have the user and group names that they had, once a host's accounts have
+//! got new numbers.
 //!
-//! A first inventory was made under the old passwd and group, a second under the new ones. [`find_changes`] tells which files
-//! of the first are not in the second, which have another user or group by name, which files are new, and which have a number
-//! that no new account has.
+//! A first inventory was made under the old passwd and group, a second under the new ones.
+//! [`find_changes`] tells which files of the first are not in the second, which have another user
+//! or group by name, which files are new, and which have a number that no new account has, or one
+//! that a name has left.
 #![tactic(auto)]
 
 mod changes;

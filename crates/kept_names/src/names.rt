@@ -28,7 +28,8 @@ pub fn group_name<'t, 'a>(accounts: &'t Accounts<'a>, gid: u32) -> Option<&'t [u
     Some(row.name)
 }
 
-/// Whether an owner has the name that it had. One without a name has to keep its number, and to have no name still.
+/// Whether an owner has the name that it had. One without a name has to keep its number, and to
+/// have no name still.
 pub(crate) fn names_agree(was: Option<&[u8]>, now: Option<&[u8]>, old: u32, new: u32) -> bool
     ensures { result ≡ agree (option_copied was.entry) (option_copied now.entry) old new }
 {

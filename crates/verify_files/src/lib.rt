@@ -1,14 +1,16 @@
-//! The command `verify`: whether the files of a first inventory have the owners by name that they had, in a second one that
-//! was made once the host's account files had new numbers. What is found is proved in `kept_names`; here files are read, and
-//! lines are told.
+//! The command `verify`: whether the files of a first inventory have the owners by name that they
+//! had, in a second one or in the tree that is there, once the host's account files have new
+//! numbers. What is found is proved in `kept_names`; here files are read, and lines are told.
 #![tactic(auto)]
 
+mod later;
 mod lines;
 mod reading;
 mod refused;
 
 use clap::ArgMatches;
 use kept_names::{Accounts, Finding, find_changes};
+use later::later_files;
 use lines::{Tally, answer_text, found_lines};
 use mtree_inv::Inventory;
 use reading::{AccountTexts, read_account_texts, read_accounts, read_mtree};
@@ -46,7 +48,8 @@ fn compare(
     tell_found(rt, was, now, before.entries().len(), &found)
 }
 
-// Reads the second inventory, and compares the first with it.
+// Reads the second inventory, or walks the tree that is there in its place, and compares the first
+// with it. Where a part of the tree could not be read, that is the status.
 fn compare_with(
     rt: &HostRuntime,
     was: &Accounts<'_>,
@@ -54,8 +57,9 @@ fn compare_with(
     before: &Inventory,
     path: &str,
 ) -> Result<u8, FileFault> {
-    let after = read_mtree(rt, path)?;
-    compare(rt, was, now, before, &after)
+    let after = later_files(rt, path)?;
+    let status = compare(rt, was, now, before, &after.inventory)?;
+    Ok(if after.is_whole { status } else { 3 })
 }
 
 // Reads the account files under the new numbers, and both inventories.
@@ -89,11 +93,14 @@ fn verify_texts(
 
 /// verify --was PASSWD GROUP --now PASSWD GROUP BEFORE AFTER
 ///
-/// Answers the exit status: 0 where no file is missing, changed or unnamed, and else 1; 3 where standard output takes no more.
+/// Answers the exit status: 0 where no file is missing, changed, unnamed or left an old number,
+/// and else 1; 3 where a part of the tree could not be read, which is told, or standard output
+/// takes no more.
 ///
 /// # Errors
 ///
-/// A `FileFault` where a file cannot be read or is refused, which is told, or where memory is refused.
+/// A `FileFault` where a file cannot be read or is refused, which is told, or where memory is
+/// refused.
 pub fn run_verify(rt: &HostRuntime, matches: &ArgMatches<'_>) -> Result<u8, FileFault> {
     let was = read_account_texts(rt, matches.get_strs("was").unwrap_or(&[]))?;
     let now = read_account_texts(rt, matches.get_strs("now").unwrap_or(&[]))?;

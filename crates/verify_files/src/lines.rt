@@ -13,6 +13,7 @@ pub(crate) struct Tally {
     changed: usize,
     new: usize,
     unnamed: usize,
+    left: usize,
 }
 
 impl Tally {
@@ -24,6 +25,7 @@ impl Tally {
             changed: 0,
             new: 0,
             unnamed: 0,
+            left: 0,
         }
     }
 
@@ -34,6 +36,7 @@ impl Tally {
             What::Changed(_, _) => &mut self.changed,
             What::New => &mut self.new,
             What::Unnamed(_, _) => &mut self.unnamed,
+            What::Left(_, _) => &mut self.left,
         };
         *count = count.saturating_add(1);
         *count
@@ -48,15 +51,13 @@ impl Tally {
 
     /// The exit status: new files alone are no fault.
     pub(crate) fn status(&self) -> u8 {
-        if self.missing == 0 && self.changed == 0 && self.unnamed == 0 {
-            0
-        } else {
-            1
-        }
+        let told = [self.missing, self.changed, self.unnamed, self.left];
+        if told == [0; 4] { 0 } else { 1 }
     }
 }
 
-// Appends ` NAME NUMBER`, with a hyphen for a name that is not there. No account has a name that begins with one.
+// Appends ` NAME NUMBER`, with a hyphen for a name that is not there. No account has a name that
+// begins with one.
 fn push_owner(line: &mut Vec<u8>, name: Option<&[u8]>, number: u32) -> Result<(), AllocError> {
     line.push(b' ')?;
     match name {
@@ -116,6 +117,17 @@ fn push_details(
             }
             Ok(())
         }
+        What::Left(user, group) => {
+            if user {
+                line.extend_from_slice(b" user")?;
+                push_user(line, was, file.uid)?;
+            }
+            if group {
+                line.extend_from_slice(b" group")?;
+                push_group(line, was, file.gid)?;
+            }
+            Ok(())
+        }
     }
 }
 
@@ -126,6 +138,7 @@ fn word_of(what: What) -> &'static str {
         What::Changed(_, _) => "changed",
         What::New => "new",
         What::Unnamed(_, _) => "unnamed",
+        What::Left(_, _) => "left",
     }
 }
 
@@ -162,7 +175,8 @@ fn push_more(lines: &mut Vec<u8>, words: &str, count: usize) -> Result<(), Alloc
     push_count(lines, words, count - MOST_LINES)
 }
 
-/// The lines of the first few files of each kind, and how many more there are of it. All are counted.
+/// The lines of the first few files of each kind, and how many more there are of it. All are
+/// counted.
 pub(crate) fn found_lines(
     alloc: Global,
     was: &Accounts<'_>,
@@ -180,6 +194,7 @@ pub(crate) fn found_lines(
     push_more(&mut lines, "unify: more changed:", tally.changed)?;
     push_more(&mut lines, "unify: more new:", tally.new)?;
     push_more(&mut lines, "unify: more unnamed:", tally.unnamed)?;
+    push_more(&mut lines, "unify: more left:", tally.left)?;
     Ok(lines)
 }
 
@@ -191,5 +206,6 @@ pub(crate) fn answer_text(alloc: Global, tally: &Tally) -> Result<Vec<u8>, Alloc
     push_count(&mut text, "changed", tally.changed)?;
     push_count(&mut text, "new", tally.new)?;
     push_count(&mut text, "unnamed", tally.unnamed)?;
+    push_count(&mut text, "left", tally.left)?;
     Ok(text)
 }

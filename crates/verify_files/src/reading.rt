@@ -68,12 +68,21 @@ pub(crate) fn read_accounts<'t>(
     Ok(Accounts { users, groups })
 }
 
+/// The inventory that a text is, which is told by a path where it is refused.
+pub(crate) fn inventory_of(
+    rt: &HostRuntime,
+    path: &str,
+    text: &[u8],
+) -> Result<Inventory, FileFault> {
+    match read_inventory(rt.alloc(), text, MOST_FILES) {
+        Ok(inventory) => Ok(inventory),
+        Err(error) => Err(refused(rt, path, error)),
+    }
+}
+
 /// The inventory at a path.
 pub(crate) fn read_mtree(rt: &HostRuntime, path: &str) -> Result<Inventory, FileFault> {
     let text = read_file(rt, path)?;
     see_whole(rt, path, text.bytes())?;
-    match read_inventory(rt.alloc(), text.bytes(), MOST_FILES) {
-        Ok(inventory) => Ok(inventory),
-        Err(error) => Err(refused(rt, path, error)),
-    }
+    inventory_of(rt, path, text.bytes())
 }

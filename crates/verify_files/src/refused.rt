@@ -5,7 +5,8 @@ use std::alloc::AllocError;
 use std::io::Write;
 use unify_io::FileFault;
 
-// Appends the line of a fault: as fault lines of hosts' files have it, with the path that was given in place of the host.
+// Appends the line of a fault: as fault lines of hosts' files have it, with the path that was
+// given in place of the host.
 fn push_refusal(line: &mut Vec<u8>, path: &str, fault: TextFault) -> Result<(), AllocError> {
     line.extend_from_slice(b"unify: ")?;
     push_number(line, u128::from(fault.code.number()))?;
@@ -19,7 +20,8 @@ fn push_refusal(line: &mut Vec<u8>, path: &str, fault: TextFault) -> Result<(), 
     Ok(())
 }
 
-/// Tells why the text of a file was not taken, unless it was for want of memory, which is told later.
+/// Tells why the text of a file was not taken, unless it was for want of memory, which is told
+/// later.
 pub(crate) fn refused(rt: &HostRuntime, path: &str, error: ReadError) -> FileFault {
     let ReadError::Fault(fault) = error else {
         return FileFault::Memory;
