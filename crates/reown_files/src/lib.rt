@@ -14,6 +14,7 @@ mod real_tree;
 mod restoring;
 mod root;
 mod walk;
+mod way;
 mod whole_file;
 
 pub use answers::{Modes, OpenFault, Stop, Trouble};

@@ -1,4 +1,6 @@
 //! The mark of a plan, as a file.
+ghost use Rattle.std.specs.Prelude.{◌≡◌, ◌++◌, ◌<◌, IfOk, OnOk};
+ghost use Rattle.reown_files.specs.MarkText as spec;
 
 use crate::Trouble;
 use crate::walk::trouble_of;
@@ -10,14 +12,13 @@ use std::alloc::{AllocError, Global};
 // How it begins.
 const HEAD: &[u8] = b"unify applied 1 ";
 
-// The digits of a digest.
-const DIGITS: &[u8; 16] = b"0123456789abcdef";
-
 // The most bytes of it that are read.
 const MOST_BYTES: u64 = 4096;
 
 // Appends the name of a host that has zero bytes behind it.
-fn push_host(text: &mut Vec<u8>, host: &[u8; 64]) -> Result<(), AllocError> {
+fn push_host(text: &mut Vec<u8>, host: &[u8; 64]) -> Result<(), AllocError>
+    ensures { OnOk result (text.new.items ≡ text.old.items ++ spec.host_text host.now) }
+{
     for byte in host {
         if *byte != 0 {
             text.push(*byte)?;
@@ -26,29 +27,45 @@ fn push_host(text: &mut Vec<u8>, host: &[u8; 64]) -> Result<(), AllocError> {
     Ok(())
 }
 
+// A digit to the base 16.
+fn digit(value: u8) -> u8
+    requires { value < 16 }
+    ensures { result ≡ spec.hex_digit value }
+{
+    if value < 10 {
+        b'0' + value
+    } else {
+        b'a' + (value - 10)
+    }
+}
+
 // Appends the bytes of a digest, two digits each.
-fn push_digest(text: &mut Vec<u8>, digest: &[u8; 32]) -> Result<(), AllocError> {
+fn push_digest(text: &mut Vec<u8>, digest: &[u8; 32]) -> Result<(), AllocError>
+    ensures { OnOk result (text.new.items ≡ text.old.items ++ spec.hex_text digest.now) }
+{
     for byte in digest {
-        text.push(DIGITS[usize::from(*byte / 16)])?;
-        text.push(DIGITS[usize::from(*byte % 16)])?;
+        text.extend_from_slice(&[digit(*byte / 16), digit(*byte % 16)])?;
     }
     Ok(())
 }
 
 /// Appends what a plan is known by, to the end of a line: its host, the length of its text, and the digest of that.
-pub fn push_plan(text: &mut Vec<u8>, plan: &PlanMark) -> Result<(), AllocError> {
+pub fn push_plan(text: &mut Vec<u8>, plan: &PlanMark) -> Result<(), AllocError>
+    ensures { OnOk result (text.new.items ≡ text.old.items ++ spec.plan_text plan.now) }
+{
     push_host(text, &plan.host)?;
-    text.extend_from_slice(b" ")?;
+    text.push(b' ')?;
     push_number(text, u128::from(plan.length))?;
-    text.extend_from_slice(b" ")?;
+    text.push(b' ')?;
     push_digest(text, &plan.digest)?;
     text.extend_from_slice(b"\n")
 }
 
 // What stands in it.
-fn mark_text(alloc: Global, plan: &PlanMark) -> Result<Vec<u8>, AllocError> {
-    let mut text = Vec::new(alloc);
-    text.extend_from_slice(HEAD)?;
+fn mark_text(alloc: Global, plan: &PlanMark) -> Result<Vec<u8>, AllocError>
+    ensures { IfOk result (λ text. text.items ≡ spec.mark_text plan.now) }
+{
+    let mut text = Vec::from_slice(alloc, HEAD)?;
     push_plan(&mut text, plan)?;
     Ok(text)
 }
@@ -57,19 +74,19 @@ fn mark_text(alloc: Global, plan: &PlanMark) -> Result<Vec<u8>, AllocError> {
 #[derive(Drop)]
 pub struct MarkFile<'w> {
     rt: &'w HostRuntime,
-    path: &'w str,
+    path: String,
 }
 
 impl<'w> MarkFile<'w> {
     /// The file at a path.
-    pub fn at(rt: &'w HostRuntime, path: &'w str) -> MarkFile<'w> {
+    pub fn at(rt: &'w HostRuntime, path: String) -> MarkFile<'w> {
         MarkFile { rt, path }
     }
 
     /// Whether it is there, and this plan's. A file that is no mark is refused; that of another plan is none of this one.
     pub fn is_there(&self, plan: &PlanMark) -> Result<bool, Trouble> {
         let text = mark_text(self.rt.alloc(), plan)?;
-        match read_whole(self.rt, self.path, MOST_BYTES) {
+        match read_whole(self.rt, self.path.as_str(), MOST_BYTES) {
             Ok(bytes) => {
                 if bytes.starts_with(HEAD) {
                     Ok(bytes.as_slice() == text.as_slice())
@@ -91,11 +108,11 @@ impl<'w> MarkFile<'w> {
     /// Puts this plan's there, whole or not at all.
     pub fn put(&self, plan: &PlanMark) -> Result<(), Trouble> {
         let text = mark_text(self.rt.alloc(), plan)?;
-        put_whole(self.rt, self.path, &text)
+        put_whole(self.rt, self.path.as_str(), &text)
     }
 
     /// Waits until its name has reached the device.
     pub fn keep(&self) -> Result<(), Trouble> {
-        keep_name(self.rt, self.path)
+        keep_name(self.rt, self.path.as_str())
     }
 }

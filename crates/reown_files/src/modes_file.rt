@@ -1,6 +1,9 @@
 //! The modes that a run of a plan may lose, as a file beside the mark. A change of its owner clears the set-user-ID and the
 //! set-group-ID bit of a file (chown(2)), and the next call sets them back: this is for a stop between the two.
-ghost use Rattle.std.specs.Prelude.{ℕ, ◌<◌, IfSome};
+ghost use Rattle.std.specs.Prelude.{ℕ, ◌≡◌, ◌<◌, ◌+◌, ◌++◌, ◌↔◌, IfOk, IfSome, IsTrue, OnOk, false};
+ghost use Rattle.reown_files.specs.OneFile.{HasLost};
+ghost use Rattle.idtext.specs.Escapes.{unescaped, has_bad_escape};
+ghost use Rattle.reown_files.specs.MarkText as spec;
 
 use crate::Trouble;
 use crate::mark_file::push_plan;
@@ -23,47 +26,62 @@ const END: &[u8] = b"end\n";
 // The most bytes of it that are read.
 const MOST_BYTES: u64 = 1_073_741_824;
 
-// The digits of a mode.
-const DIGITS: &[u8; 8] = b"01234567";
-
 /// The bits that a change of the owner clears (inode(7)): set-user-ID and set-group-ID.
 const SET_ID: u32 = 0o6000;
 
 /// Whether a file lacks bits of this mode that a change of its owner clears. One whose mode differs otherwise was given that by
 /// somebody else.
-pub fn has_lost(found: &Found, mode: u32) -> bool {
+pub fn has_lost(found: &Found, mode: u32) -> bool
+    ensures { IsTrue result ↔ HasLost found.now mode }
+{
     found.kind == Kind::Regular && found.mode != mode && (found.mode | (mode & SET_ID)) == mode
 }
 
 // ---- what stands in it
 
+// An octal digit of a mode.
+fn digit(value: u32) -> u8
+    requires { value < 8 }
+    ensures { result ≡ 48 + value }
+{
+    b'0' + value as u8
+}
+
 // Appends a mode, as four octal digits.
-fn push_mode(text: &mut Vec<u8>, mode: u32) -> Result<(), AllocError> {
-    text.push(DIGITS[(mode / 512 % 8) as usize])?;
-    text.push(DIGITS[(mode / 64 % 8) as usize])?;
-    text.push(DIGITS[(mode / 8 % 8) as usize])?;
-    text.push(DIGITS[(mode % 8) as usize])?;
-    Ok(())
+fn push_mode(text: &mut Vec<u8>, mode: u32) -> Result<(), AllocError>
+    ensures { OnOk result (text.new.items ≡ text.old.items ++ spec.mode_text mode) }
+{
+    text.extend_from_slice(&[
+        digit(mode / 512 % 8),
+        digit(mode / 64 % 8),
+        digit(mode / 8 % 8),
+        digit(mode % 8),
+    ])
 }
 
 // Appends the line of a file.
-fn push_line(text: &mut Vec<u8>, path: &[u8], mode: u32) -> Result<(), AllocError> {
+fn push_line(text: &mut Vec<u8>, path: &[u8], mode: u32) -> Result<(), AllocError>
+    ensures { OnOk result (text.new.items ≡ text.old.items ++ spec.line_text path.now mode) }
+{
     push_mode(text, mode)?;
     text.push(b' ')?;
     push_escaped(text, path)?;
-    text.push(b'\n')?;
-    Ok(())
+    text.extend_from_slice(b"\n")
 }
 
 // Its first line.
-fn head_of(alloc: Global, plan: &PlanMark) -> Result<Vec<u8>, AllocError> {
+fn head_of(alloc: Global, plan: &PlanMark) -> Result<Vec<u8>, AllocError>
+    ensures { IfOk result (λ text. text.items ≡ spec.head_text plan.now) }
+{
     let mut text = Vec::from_slice(alloc, HEAD)?;
     push_plan(&mut text, plan)?;
     Ok(text)
 }
 
 // All of it, with these lines of files.
-fn modes_text(alloc: Global, plan: &PlanMark, lines: &[u8]) -> Result<Vec<u8>, AllocError> {
+fn modes_text(alloc: Global, plan: &PlanMark, lines: &[u8]) -> Result<Vec<u8>, AllocError>
+    ensures { IfOk result (λ text. text.items ≡ spec.modes_text plan.now lines.now) }
+{
     let mut text = head_of(alloc, plan)?;
     text.extend_from_slice(lines)?;
     text.extend_from_slice(END)?;
@@ -72,7 +90,8 @@ fn modes_text(alloc: Global, plan: &PlanMark, lines: &[u8]) -> Result<Vec<u8>, A
 
 // The number of an octal digit.
 fn digit_of(byte: u8) -> Option<u32>
-    ensures { IfSome result (λ digit. digit < 8) }
+    ensures value { result ≡ spec.octal_digit byte }
+    ensures small { IfSome result (λ digit. digit < 8) }
 {
     if b'0' <= byte && byte <= b'7' {
         Some(u32::from(byte - b'0'))
@@ -82,23 +101,24 @@ fn digit_of(byte: u8) -> Option<u32>
 }
 
 // The mode that four octal digits are.
-fn mode_of(word: &[u8]) -> Option<u32> {
-    if word.len() != 4 {
+fn mode_of(word: &[u8]) -> Option<u32>
+    ensures { result ≡ spec.mode_read word.now }
+{
+    let [first, second, third, fourth] = word else {
         return None;
-    }
-    let high = digit_of(word[0])? * 8 + digit_of(word[1])?;
-    let low = digit_of(word[2])? * 8 + digit_of(word[3])?;
+    };
+    let high = digit_of(*first)? * 8 + digit_of(*second)?;
+    let low = digit_of(*third)? * 8 + digit_of(*fourth)?;
     Some(high * 64 + low)
 }
 
 // The path of a line.
-fn path_of(alloc: Global, text: &[u8]) -> Result<Vec<u8>, Trouble> {
+fn path_of(alloc: Global, text: &[u8]) -> Result<Vec<u8>, Trouble>
+    ensures { IfOk result (λ path. (path.items ≡ unescaped text.now) × (has_bad_escape text.now ≡ false)) }
+{
     let mut path = Vec::new(alloc);
     let mut rest = text;
-    for _ in 0..text.len() {
-        let Some((found, next)) = first_character(rest) else {
-            break;
-        };
+    while let Some((found, next)) = first_character(rest) {
         match found {
             Character::Plain(byte) | Character::Escape(byte) => path.extend_from_slice(&[byte])?,
             Character::Bad => return Err(Trouble::NotModes),

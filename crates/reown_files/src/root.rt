@@ -1,12 +1,15 @@
 //! The files below a directory.
-ghost use Rattle.std.specs.Prelude.{◌≡◌, [], IfOk};
+ghost use Rattle.std.specs.Prelude.{◌≡◌, ◌≢◌, ◌<◌, ◌↔◌, [], IfOk, IsTrue};
+ghost use Rattle.reown_files.specs.declared.walk.Kind.TheVariants as kinds;
 
 use crate::mark_file::MarkFile;
 use crate::modes_file::{ModesFile, has_lost};
-use crate::walk::{Directory, Found, Kind};
+use crate::walk::{Directory, Found, Kind, find, give_by_name, open};
+use crate::way::Way;
+use crate::whole_file::path_from;
 use crate::{Call, Disk, Log, Modes, Trouble};
 use reown_plan::{Owner, PlanMark};
-use std::collections::HashMap;
+use std::collections::{HashMap, HashSet};
 
 // The names of a file that has several.
 #[derive(Clone, Copy, Debug)]
@@ -19,95 +22,39 @@ struct Names {
     after: Owner,
 }
 
-// The directory that was opened last, and its path.
-#[derive(Drop)]
-struct Entered {
-    path: Vec<u8>,
-    directory: Directory,
-}
-
-// The files below a directory. A path goes down from it by descriptors, part by part, and no link is followed.
+// The files below a directory.
 #[derive(Drop)]
 struct Below<'w> {
     rt: &'w HostRuntime,
-    root: Directory,
+    way: Way<'w>,
     // Whether a sync of the root keeps all that was changed before.
     has_one_journal: bool,
     names: HashMap<(u64, u64), Names>,
-    entered: Option<Entered>,
-}
-
-// Whether a part of a path is the name of a file.
-fn is_name(part: &[u8]) -> bool {
-    !part.is_empty() && part != b".".as_slice() && part != b"..".as_slice()
-}
-
-// The directory part of a path, and the name in it: an empty one and `.` for the root itself.
-fn split_name(path: &[u8]) -> (&[u8], &[u8]) {
-    match path.iter().rposition(|byte| *byte == b'/') {
-        Some(slash) => (&path[..slash], &path[slash + 1..]),
-        None => (b"", path),
-    }
+    // The paths of the files that have several names.
+    linked: HashSet<Vec<u8>>,
 }
 
 // Whether a file may have several names that are given.
-fn has_names(found: &Found) -> bool {
+fn has_names(found: &Found) -> bool
+    ensures { IsTrue result ↔ ((found.now.kind ≢ kinds.Directory) × (1 < found.now.links)) }
+{
     found.kind != Kind::Directory && found.links > 1
 }
 
 impl<'w> Below<'w> {
-    // Opens a directory, part by part.
-    fn descend(&self, path: &[u8]) -> Result<Directory, Trouble> {
-        let mut directory = self.root.below(self.rt, b".")?;
-        if path.is_empty() {
-            return Ok(directory);
-        }
-        for part in path.split(|byte| *byte == b'/') {
-            if !is_name(part) {
-                return Err(Trouble::BadPath);
-            }
-            directory = directory.below(self.rt, part)?;
-        }
-        Ok(directory)
-    }
-
-    // Enters the directory that a path's last part is in, unless it was the last to be entered, and hands out that part.
-    fn enter<'b>(&mut self, path: &'b [u8]) -> Result<&'b [u8], Trouble> {
-        let (parent, name) = split_name(path);
-        if !is_name(name) && path != b".".as_slice() {
-            return Err(Trouble::BadPath);
-        }
-        if let Some(entered) = &self.entered {
-            if entered.path.as_slice() == parent {
-                return Ok(name);
-            }
-        }
-        self.entered = None;
-        let directory = self.descend(parent)?;
-        let path = Vec::from_slice(self.rt.alloc(), parent)?;
-        self.entered = Some(Entered { path, directory });
-        Ok(name)
-    }
-
-    // The directory that was entered last.
-    fn directory(&self) -> Result<&Directory, Trouble> {
-        match &self.entered {
-            Some(entered) => Ok(&entered.directory),
-            None => Err(Trouble::Gone),
-        }
-    }
-
-    // What a name of that directory stands for, on the root's file system.
+    // What a name in the working directory stands for, on the root's file system.
     fn find(&self, name: &[u8]) -> Result<Found, Trouble> {
-        let found = self.directory()?.find(self.rt, name)?;
-        if found.device != self.root.found().device {
+        let found = find(self.rt, name)?;
+        if found.device != self.way.root().found().device {
             return Err(Trouble::OtherMount);
         }
         Ok(found)
     }
 
     // The same, where it has this owner.
-    fn expect(&self, name: &[u8], owner: Owner) -> Result<Found, Trouble> {
+    fn expect(&self, name: &[u8], owner: Owner) -> Result<Found, Trouble>
+        ensures { IfOk result (λ found. found.owner ≡ owner) }
+    {
         let found = self.find(name)?;
         if found.owner != owner {
             return Err(Trouble::Foreign(found.owner));
@@ -117,14 +64,17 @@ impl<'w> Below<'w> {
 
     // What is at a path.
     fn look(&mut self, path: &[u8]) -> Result<Found, Trouble> {
-        let name = self.enter(path)?;
+        let name = self.way.enter(path)?;
         self.find(name)
     }
 
     // Counts a name of a file that has several.
-    fn count_name(&mut self, found: &Found, after: Owner) -> Result<(), Trouble> {
+    fn count_name(&mut self, path: &[u8], found: &Found, after: Owner) -> Result<(), Trouble> {
         if !has_names(found) {
             return Ok(());
+        }
+        if self.linked.insert(path.to_vec(self.rt.alloc())?).is_err() {
+            return Err(Trouble::Memory);
         }
         let key = (found.device, found.inode);
         let met = match self.names.get(&key).copied() {
@@ -163,30 +113,24 @@ impl<'w> Below<'w> {
         if self.has_one_journal || found.kind == Kind::Other {
             return Ok(());
         }
-        self.directory()?.open(self.rt, name, found)?.sync()
+        open(self.rt, name, found)?.sync()
     }
 
     // Gives what a name stands for another owner. A regular file or a directory is looked at again when it is open.
     fn give_found(&self, name: &[u8], found: &Found, after: Owner) -> Result<(), Trouble> {
-        let directory = self.directory()?;
         if found.kind == Kind::Other {
-            return directory.give_by_name(self.rt, name, after);
+            return give_by_name(self.rt, name, after);
         }
-        let file = directory.open(self.rt, name, found)?;
-        let now = file.itself()?;
-        if now.owner != found.owner {
-            return Err(Trouble::Foreign(now.owner));
-        }
-        file.give(after)
+        open(self.rt, name, found)?.give(after)
     }
 }
 
 // The calls of a disk.
 impl<'w> Below<'w> {
     fn meet(&mut self, path: &[u8], after: Owner) -> Result<Found, Trouble> {
-        let name = self.enter(path)?;
+        let name = self.way.enter(path)?;
         let found = self.find(name)?;
-        self.count_name(&found, after)?;
+        self.count_name(path, &found, after)?;
         if found.owner == after {
             self.sync(name, &found)?;
         }
@@ -194,7 +138,7 @@ impl<'w> Below<'w> {
     }
 
     fn check_links(&mut self, path: &[u8]) -> Result<(), Trouble> {
-        if self.names.is_empty() {
+        if !self.linked.contains(path) {
             return Ok(());
         }
         let found = self.look(path)?;
@@ -205,7 +149,7 @@ impl<'w> Below<'w> {
     }
 
     fn give(&mut self, path: &[u8], before: Owner, after: Owner) -> Result<Modes, Trouble> {
-        let name = self.enter(path)?;
+        let name = self.way.enter(path)?;
         let found = self.expect(name, before)?;
         if self.waits_for_names(&found) {
             return Ok(Modes {
@@ -225,12 +169,12 @@ impl<'w> Below<'w> {
     }
 
     fn set_mode(&mut self, path: &[u8], owner: Owner, mode: u32) -> Result<(), Trouble> {
-        let name = self.enter(path)?;
+        let name = self.way.enter(path)?;
         let found = self.expect(name, owner)?;
         if found.kind == Kind::Other {
             return Err(Trouble::NotDone);
         }
-        let file = self.directory()?.open(self.rt, name, &found)?;
+        let file = open(self.rt, name, &found)?;
         file.set_mode(mode)?;
         if file.itself()?.mode != mode {
             return Err(Trouble::NotDone);
@@ -239,18 +183,20 @@ impl<'w> Below<'w> {
     }
 
     fn keep(&mut self, path: &[u8], owner: Owner) -> Result<(), Trouble> {
-        let name = self.enter(path)?;
+        let name = self.way.enter(path)?;
         let found = self.expect(name, owner)?;
         self.sync(name, &found)
     }
 }
 
-/// The files below a directory of the system, with the mark in a file of its own. A path goes down from the directory by
-/// descriptors, part by part: no link is followed, no other file system entered, and no link, socket, pipe or device opened.
-/// Other processes that open the same directory so are kept from it while this one has it.
+/// The files below a directory of the system, with the mark in a file of its own. A path goes down from the directory part by
+/// part, with the working directory of the process: no link is followed, no other file system entered, and no link, socket, pipe
+/// or device opened. Other processes that open the same directory so are kept from it while this one has it.
 #[derive(Drop)]
 pub struct Root<'w> {
     below: Below<'w>,
+    // The directory that was the working directory, which the path of the mark begins at.
+    _home: Directory,
     mark: MarkFile<'w>,
     modes: ModesFile<'w>,
     // Whether the mark was put.
@@ -264,25 +210,25 @@ impl<'w> Root<'w> {
     /// # Errors
     ///
     /// What is in the way: a directory that is none or cannot be opened, or is another process's; or no /proc.
-    pub fn open(rt: &'w HostRuntime, path: &str, mark: &'w str) -> Result<Root<'w>, Trouble>
+    pub fn open(rt: &'w HostRuntime, path: &str, mark: &str) -> Result<Root<'w>, Trouble>
         ensures { IfOk result (λ root. root.log.calls ≡ []) }
     {
         let root = Directory::at(rt, path)?;
-        if !root.is_reached(rt) {
-            return Err(Trouble::NoProc);
-        }
         root.lock()?;
+        let home = Directory::at(rt, ".")?;
+        let mark = path_from(rt, &home, mark)?;
         let below = Below {
             rt,
-            root,
+            way: Way::from(rt, root)?,
             has_one_journal: false,
             names: HashMap::new(rt.alloc()),
-            entered: None,
+            linked: HashSet::new(rt.alloc()),
         };
         Ok(Root {
             below,
+            modes: ModesFile::beside(rt, mark.as_str())?,
             mark: MarkFile::at(rt, mark),
-            modes: ModesFile::beside(rt, mark)?,
+            _home: home,
             is_put: false,
             log: Log::new(),
         })
@@ -297,8 +243,12 @@ impl<'w> Root<'w> {
     }
 }
 
+ghost use Rattle.reown_files.specs.OneFile.{seen_if_there};
+
 // A file that may not be there.
-fn if_there<T: Drop>(looked: Result<T, Trouble>) -> Result<Option<T>, Trouble> {
+fn if_there<T: Drop>(looked: Result<T, Trouble>) -> Result<Option<T>, Trouble>
+    ensures { result ≡ seen_if_there looked }
+{
     match looked {
         Ok(found) => Ok(Some(found)),
         Err(Trouble::Gone) => Ok(None),
@@ -358,7 +308,7 @@ impl<'w> Disk for Root<'w> {
     }
 
     fn settle(&mut self) -> Result<(), Trouble> {
-        self.below.root.settle()
+        self.below.way.root().settle()
     }
 
     fn is_marked(&mut self, plan: &PlanMark) -> Result<bool, Trouble> {

@@ -1,8 +1,12 @@
-//! Directories and files that are open, and what a name in an open directory stands for. A name is reached by the directory's
-//! descriptor, as /proc/self/fd/N/NAME (proc(5)), so that no directory on the way is looked up again.
+//! Directories and files that are open, and what a name in the working directory stands for.
+
+ghost use Rattle.std.specs.Prelude.{◌≡◌, ◌↔◌, IsTrue, IfOk};
+ghost use Rattle.reown_files.specs.OneFile.{AreOneFile};
 
 use crate::Trouble;
+use crate::whole_file::path_with;
 use reown_plan::Owner;
+use std::env::set_current_dir;
 use std::fs::{File, Metadata, Permissions, TryLockError};
 use std::os::fd::AsRawFd;
 use std::os::unix::fs::{MetadataExt, PermissionsExt, fchown, lchown};
@@ -68,7 +72,9 @@ impl Found {
     }
 
     /// Whether this is one file, seen twice.
-    pub fn is_same_file(&self, other: &Found) -> bool {
+    pub fn is_same_file(&self, other: &Found) -> bool
+        ensures { IsTrue result ↔ AreOneFile self.now other.now }
+    {
         self.device == other.device && self.inode == other.inode && self.kind == other.kind
     }
 }
@@ -168,69 +174,18 @@ impl Directory {
         self.found
     }
 
-    // The path by which a name in it is reached, with something behind the name.
-    fn path_to(&self, rt: &HostRuntime, name: &[u8], behind: &str) -> Result<String, Trouble> {
-        let Ok(name) = str::from_utf8(name) else {
-            return Err(Trouble::NotText);
-        };
+    /// The path by which it is reached wherever it is moved, by its descriptor (proc(5)).
+    pub fn way_to(&self, rt: &HostRuntime) -> Result<String, Trouble> {
         let descriptor = self.file.file.as_raw_fd();
-        match format!(in rt.alloc(); "/proc/self/fd/{descriptor}/{name}{behind}") {
+        match format!(in rt.alloc(); "/proc/self/fd/{descriptor}") {
             Ok(path) => Ok(path),
             Err(_) => Err(Trouble::Memory),
         }
     }
 
-    /// What a name stands for. A link is not followed.
-    pub fn find(&self, rt: &HostRuntime, name: &[u8]) -> Result<Found, Trouble> {
-        let path = self.path_to(rt, name, "")?;
-        found_in(fs::symlink_metadata(rt, path.as_str()))
-    }
-
-    /// The directory of a name, on the same file system. A link is refused. What is opened is what was seen: a link that came
-    /// in between is followed, to a directory alone, and then told and refused.
-    pub fn below(&self, rt: &HostRuntime, name: &[u8]) -> Result<Directory, Trouble> {
-        let seen = self.find(rt, name)?;
-        if seen.kind != Kind::Directory {
-            return Err(Trouble::Gone);
-        }
-        if seen.device != self.found.device {
-            return Err(Trouble::OtherMount);
-        }
-        let path = self.path_to(rt, name, "/.")?;
-        let directory = Directory::of(opened(File::open(rt, path.as_str()))?)?;
-        if !directory.found.is_same_file(&seen) {
-            return Err(Trouble::Exchanged);
-        }
-        Ok(directory)
-    }
-
-    /// Opens the regular file or the directory that was seen under a name, for reading. A link that came in between is
-    /// followed, and then told and refused.
-    pub fn open(&self, rt: &HostRuntime, name: &[u8], seen: &Found) -> Result<OpenFile, Trouble> {
-        let behind = if seen.kind == Kind::Directory {
-            "/."
-        } else {
-            ""
-        };
-        let path = self.path_to(rt, name, behind)?;
-        let file = OpenFile {
-            file: opened(File::open(rt, path.as_str()))?,
-        };
-        if !file.itself()?.is_same_file(seen) {
-            return Err(Trouble::Exchanged);
-        }
-        Ok(file)
-    }
-
-    /// Gives what has a name an owner. A link is not followed.
-    pub fn give_by_name(&self, rt: &HostRuntime, name: &[u8], owner: Owner) -> Result<(), Trouble> {
-        let path = self.path_to(rt, name, "")?;
-        done(lchown(rt, path.as_str(), Some(owner.uid), Some(owner.gid)))
-    }
-
-    /// Whether it is reached by its descriptor, which needs /proc.
-    pub fn is_reached(&self, rt: &HostRuntime) -> bool {
-        match self.find(rt, b".") {
+    /// Whether this path leads to it.
+    pub fn is_at(&self, rt: &HostRuntime, path: &str) -> bool {
+        match found_in(fs::metadata(rt, path)) {
             Ok(found) => found.is_same_file(&self.found),
             Err(_) => false,
         }
@@ -256,4 +211,72 @@ impl Directory {
     pub fn sync(&self) -> Result<(), Trouble> {
         self.file.sync()
     }
+}
+
+// ---- names in the working directory, which have no slash
+
+// The text of a name.
+fn text_of(name: &[u8]) -> Result<&str, Trouble> {
+    match str::from_utf8(name) {
+        Ok(text) => Ok(text),
+        Err(_) => Err(Trouble::NotText),
+    }
+}
+
+/// What a name stands for. A link is not followed.
+pub fn find(rt: &HostRuntime, name: &[u8]) -> Result<Found, Trouble> {
+    found_in(fs::symlink_metadata(rt, text_of(name)?))
+}
+
+/// Makes the directory at a path the working directory.
+pub fn go_to(rt: &HostRuntime, path: &str, wanted: &Found) -> Result<(), Trouble> {
+    done(set_current_dir(rt, path))?;
+    if !find(rt, b".")?.is_same_file(wanted) {
+        return Err(Trouble::Exchanged);
+    }
+    Ok(())
+}
+
+/// Makes the directory of a name the working directory, if it is on this device. A link is refused: one that came behind the
+/// look is followed, to a directory alone, and then told and refused.
+pub fn go_below(rt: &HostRuntime, name: &[u8], device: u64) -> Result<(), Trouble> {
+    let seen = find(rt, name)?;
+    if seen.kind != Kind::Directory {
+        return Err(Trouble::Gone);
+    }
+    if seen.device != device {
+        return Err(Trouble::OtherMount);
+    }
+    go_to(rt, text_of(name)?, &seen)
+}
+
+// Opens what has a name: what is to be a directory only if it is one.
+fn open_as(rt: &HostRuntime, name: &str, kind: Kind) -> Result<OpenFile, Trouble> {
+    if kind != Kind::Directory {
+        let file = opened(File::open(rt, name))?;
+        return Ok(OpenFile { file });
+    }
+    let inside = path_with(rt, name, "/.")?;
+    let file = opened(File::open(rt, inside.as_str()))?;
+    Ok(OpenFile { file })
+}
+
+/// Opens the regular file or the directory that was seen under a name, for reading, where it has the owner that was seen. A link
+/// that came in between is followed, and then told and refused.
+pub fn open(rt: &HostRuntime, name: &[u8], seen: &Found) -> Result<OpenFile, Trouble> {
+    let file = open_as(rt, text_of(name)?, seen.kind)?;
+    let now = file.itself()?;
+    if !now.is_same_file(seen) {
+        return Err(Trouble::Exchanged);
+    }
+    if now.owner != seen.owner {
+        return Err(Trouble::Foreign(now.owner));
+    }
+    Ok(file)
+}
+
+/// Gives what has a name an owner. A link is not followed.
+pub fn give_by_name(rt: &HostRuntime, name: &[u8], owner: Owner) -> Result<(), Trouble> {
+    let name = text_of(name)?;
+    done(lchown(rt, name, Some(owner.uid), Some(owner.gid)))
 }

@@ -34,6 +34,17 @@ pub fn path_with(rt: &HostRuntime, path: &str, behind: &str) -> Result<String, T
     }
 }
 
+/// A path that leads from anywhere to where another leads from a directory.
+pub fn path_from(rt: &HostRuntime, from: &Directory, path: &str) -> Result<String, Trouble> {
+    if path.starts_with("/") {
+        return path_with(rt, path, "");
+    }
+    let mut whole = from.way_to(rt)?;
+    whole.push_str("/")?;
+    whole.push_str(path)?;
+    Ok(whole)
+}
+
 /// Puts a text at a path, whole or not at all: it is written under another name, synced, and renamed.
 pub fn put_whole(rt: &HostRuntime, path: &str, text: &[u8]) -> Result<(), Trouble> {
     let new = path_with(rt, path, NEW)?;

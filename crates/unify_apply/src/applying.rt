@@ -4,6 +4,7 @@ ghost use Rattle.std.specs.Prelude.{◌≡◌, [], IfOk};
 use crate::checking::check_below;
 use crate::machine::{see_caller, see_host};
 use crate::mounts::see_mounts;
+use crate::staying::warn_of_staying;
 use crate::told::{Place, fault_told, not_opened, root_refused, stopped};
 use clap::ArgMatches;
 use idtext::push_number;
@@ -93,13 +94,16 @@ fn run_plan(
     place: Place<'_>,
     plan: &Plan<'_>,
 ) -> Result<u8, FileFault> {
-    if matches.get_flag("check") {
-        return check_below(rt, place, plan);
-    }
     let quiet = matches.get_flag("quiet");
+    if matches.get_flag("check") {
+        return check_below(rt, place, plan, quiet);
+    }
     see_host(rt, plan.host(), matches.get_str("host"), quiet)?;
     see_caller(rt)?;
     let has_one_journal = see_mounts(rt, place.root)?;
+    if !quiet {
+        warn_of_staying(rt, plan)?;
+    }
     apply_below(rt, place, plan, has_one_journal)
 }
 

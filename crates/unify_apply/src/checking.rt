@@ -1,5 +1,6 @@
 //! The files of a plan, counted by their owners, with nothing changed.
 
+use crate::staying::warn_of_staying;
 use crate::told::{Place, file_refused, foreign, missing, root_refused};
 use idtext::push_number;
 use reown_files::{Disk, OpenFault, OwnerCounts, Root, count_owners};
@@ -75,12 +76,20 @@ fn count_files(
 }
 
 /// Counts the files of a plan by their owners, and tells the first that is not there or has neither of its two.
-pub fn check_below(rt: &HostRuntime, place: Place<'_>, plan: &Plan<'_>) -> Result<u8, FileFault> {
+pub fn check_below(
+    rt: &HostRuntime,
+    place: Place<'_>,
+    plan: &Plan<'_>,
+    quiet: bool,
+) -> Result<u8, FileFault> {
     let mut root = match Root::open(rt, place.root, place.mark) {
         Ok(root) => root,
         Err(trouble) => return Err(root_refused(rt, place, trouble)),
     };
     let counts = count_files(rt, &mut root, plan.records())?;
+    if !quiet {
+        warn_of_staying(rt, plan)?;
+    }
     if counts.missing == 0 && counts.foreign == 0 {
         return Ok(0);
     }

@@ -6,6 +6,7 @@ mod applying;
 mod checking;
 mod machine;
 mod mounts;
+mod staying;
 mod told;
 
 pub use applying::run_apply;

@@ -1,0 +1,62 @@
+-- The file of the mark of a plan, and that of the modes that a run may lose.
+-- Source: this project's own formats; for the bits of a mode inode(7).
+use Rattle.std.specs.Prelude.{ℕ, List, [], ◌∷◌, ◌++◌, ◌+◌, ◌-◌, ◌*◌, ◌/◌, ◌%◌, ◌==◌, ◌&&◌, nat_lt, if◌then◌else◌, flat_map, codes, decimal, Option, None, Some}
+use Rattle.idtext.specs.Escapes.{escaped, is_octal}
+use Rattle.reown_plan.specs.declared.mark.PlanMark.{PlanMark}
+
+-- ---- what a plan is known by
+
+-- a digit to the base 16
+abbrev pub hex_digit : ℕ → ℕ
+hex_digit n = if nat_lt n 10 then 48 + n else 87 + n
+
+-- two digits
+abbrev pub hex_byte : ℕ → List ℕ
+hex_byte byte = hex_digit (byte / 16) ∷ hex_digit (byte % 16) ∷ []
+
+-- the bytes of a digest, two digits each
+abbrev pub hex_text : List ℕ → List ℕ
+hex_text digest = flat_map hex_byte digest
+
+abbrev pub name_byte : ℕ → List ℕ
+name_byte byte = if byte == 0 then [] else byte ∷ []
+
+-- the name of a host, without the zero bytes behind it
+abbrev pub host_text : List ℕ → List ℕ
+host_text host = flat_map name_byte host
+
+-- its host, the length of its text, and the digest of that, to the end of a line
+abbrev pub plan_text : PlanMark → List ℕ
+plan_text plan = host_text plan.host ++ 32 ∷ decimal plan.length ++ 32 ∷ hex_text plan.digest ++ 10 ∷ []
+
+-- ---- the mark
+
+abbrev pub mark_text : PlanMark → List ℕ
+mark_text plan = codes "unify applied 1 " ++ plan_text plan
+
+-- ---- modes
+
+-- a mode as four octal digits
+abbrev pub mode_text : ℕ → List ℕ
+mode_text mode = (48 + mode / 512 % 8) ∷ (48 + mode / 64 % 8) ∷ (48 + mode / 8 % 8) ∷ (48 + mode % 8) ∷ []
+
+-- the line of a file
+abbrev pub line_text : List ℕ → ℕ → List ℕ
+line_text path mode = mode_text mode ++ 32 ∷ escaped path ++ 10 ∷ []
+
+abbrev pub head_text : PlanMark → List ℕ
+head_text plan = codes "unify modes 1 " ++ plan_text plan
+
+-- the whole file, with these lines
+abbrev pub modes_text : PlanMark → List ℕ → List ℕ
+modes_text plan lines = head_text plan ++ lines ++ codes "end\n"
+
+-- an octal digit as it is read
+abbrev pub octal_digit : ℕ → Option ℕ
+octal_digit c = if is_octal c then Some (c - 48) else None
+
+-- a mode as it is read: four octal digits
+abbrev pub mode_read : List ℕ → Option ℕ
+mode_read (a ∷ b ∷ c ∷ d ∷ []) =
+    if is_octal a && (is_octal b && (is_octal c && is_octal d)) then Some (((a - 48) * 8 + (b - 48)) * 64 + ((c - 48) * 8 + (d - 48))) else None
+mode_read _ = None
