@@ -22,6 +22,7 @@ DEMO = build/office
 TOLD = build/told
 STORED = examples/stored-count
 HOSTS = a=$(STORED)/a b=$(STORED)/b
+TABLES = $(STORED)/b/passwd $(STORED)/b/group
 REFUSED = build/refused
 
 # As many proofs side by side as there are processors, and as memory has room for at 3 GB each.
@@ -95,6 +96,7 @@ refused: program
 	@bench/refused.py words merge $(REFUSED) $(HOSTS)
 	@bench/refused.py words check $(REFUSED)/certificate $(HOSTS)
 	@bench/refused.py words rehearse $(REFUSED)/plan.b $(STORED)/b/mtree
+	@bench/refused.py words verify --was $(TABLES) --now $(TABLES) $(STORED)/b/mtree $(STORED)/b
 	@bench/refused.py words --help
 	@bench/refused.py tests 1 4 layer_tests::tests::readers
 

@@ -5,7 +5,7 @@
 
 Makes FILES files (200,000) below a new folder in FOLDER, a thousand in a directory, all of one owner, and a plan that gives them
 another. Prints the seconds of each command: an inventory, find with chown there and back, the plan, a second inventory, the two
-verified, the plan once more, its files counted, and the plan taken back.
+verified, the first verified with the tree that is there, the plan once more, its files counted, and the plan taken back.
 """
 import os
 import pathlib
@@ -64,6 +64,8 @@ def run(folder, count):
         timed("inventory, once more", [PROGRAM, "inventory", "-x", "."], root, out)
     files = [f"{file}.{when}" for when in ("was", "now") for file in ("passwd", "group")]
     timed("verify", [PROGRAM, "verify", "--was", *files[:2], "--now", *files[2:], "before", "after"], folder)
+    above = [f"../{file}" for file in files]
+    timed("verify, the tree", [PROGRAM, "verify", "--was", *above[:2], "--now", *above[2:], "../before", "."], root)
     timed("apply, once more", [*apply, "plan", "tree"], folder)
     timed("apply --check", [PROGRAM, "apply", "--check", "plan", "tree"], folder)
     timed("apply --reverse", [*apply, "--reverse", "plan", "tree"], folder)

@@ -1,11 +1,12 @@
 #!/usr/bin/env python3
-"""Times merges of inventories whose paths somebody chose to make them slow, beside as many paths at random.
+"""Times merges and verifies of inventories whose paths somebody chose to make them slow, beside as many paths at random.
 
     bench/flood.py [PROGRAM [PATHS]]
 
 PROGRAM is the one that `make program` built unless it is given; PATHS is a million unless it is given. Anybody who may make a file
-chooses its path. Each kind of paths is merged as one host by words, and so is a set of as many random paths of the same
-lengths; the ratio of the two is printed, of processor seconds, since other work on the machine changes these least.
+chooses its path. Each kind of paths is merged as one host by words, and verified against the same paths in another order, and so
+is a set of as many random paths of the same lengths; the ratio of the two is printed, of processor seconds, since other work on
+the machine changes these least.
 
     one digest      all end in the eight bytes that bring the hash of std, whose seed is fixed, to zero, whatever stands before
                     them: a table of such hashes looks through all of them for each. The hash is followed over `folded` below,
@@ -30,6 +31,12 @@ MULTIPLIER = 0x9E37_79B9_7F4A_7C15
 ZERO = MULTIPLIER.to_bytes(8, "little")
 WORD = 2**64 - 1
 PREFIX = 200
+TABLES = "host/passwd", "host/group"
+# The words of each command, in the folder that is laid out.
+COMMANDS = {
+    "merge": ["merge", "out", "host=host"],
+    "verify": ["verify", "--was", *TABLES, "--now", *TABLES, "host/mtree", "host/after"],
+}
 
 
 def folded(path):
@@ -71,19 +78,25 @@ def kinds(rng, count):
     yield "falling", numbered(count)[::-1], plain
 
 
-def seconds(program, folder, names):
-    """The processor seconds of a merge of one host with these files, and its peak memory in MiB."""
-    host, out = os.path.join(folder, "host"), os.path.join(folder, "out")
+def lay_out(folder, names):
+    """Makes a host with these files, and a second inventory that has them in another order."""
     shutil.rmtree(folder, ignore_errors=True)
+    os.makedirs(os.path.join(folder, "out"))
+    host = os.path.join(folder, "host")
     os.makedirs(host)
-    os.makedirs(out)
     for file, text in (("passwd", b"m:x:1001:100::/:/bin/sh\n"), ("group", b"users:x:100:\n")):
         with open(os.path.join(host, file), "wb") as written:
             written.write(text)
-    with open(os.path.join(host, "mtree"), "wb") as written:
-        written.write(b"/set uid=1001 gid=100\n")
-        written.writelines(escaped(name) + b" type=file\n" for name in names)
-    child = subprocess.Popen([program, "merge", out, f"host={host}"], stdout=subprocess.DEVNULL)
+    for file, order in (("mtree", 1), ("after", -1)):
+        with open(os.path.join(host, file), "wb") as written:
+            written.write(b"/set uid=1001 gid=100\n")
+            written.writelines(escaped(name) + b" type=file\n" for name in names[::order])
+
+
+def seconds(program, folder, command, names):
+    """The processor seconds of a command on one host with these files, and its peak memory in MiB."""
+    lay_out(folder, names)
+    child = subprocess.Popen([program, *COMMANDS[command]], cwd=folder, stdout=subprocess.DEVNULL)
     _, status, usage = os.wait4(child.pid, 0)
     if status != 0:
         sys.exit(f"{program} ended with {os.waitstatus_to_exitcode(status)}")
@@ -92,16 +105,18 @@ def seconds(program, folder, names):
 
 
 def main():
-    program = sys.argv[1] if len(sys.argv) > 1 else UNIFY
+    program = os.path.abspath(sys.argv[1] if len(sys.argv) > 1 else UNIFY)
     count = int(sys.argv[2]) if len(sys.argv) > 2 else 1_000_000
     folder = os.path.join(HERE, "work", "flood")
     rng = random.Random(count)
-    print("kind          paths      chosen    random  ratio  exponent  peak MiB")
+    print("command kind          paths      chosen    random  ratio  exponent  peak MiB")
     for kind, chosen, plain in kinds(rng, count):
-        half, _ = seconds(program, folder, chosen[: len(chosen) // 2])
-        whole, peak = seconds(program, folder, chosen)
-        other, _ = seconds(program, folder, plain)
-        print(f"{kind:12} {len(chosen):9,} {whole:8.2f} s {other:7.2f} s {whole / other:6.2f} {math.log2(whole / half):9.2f} {peak:9.0f}", flush=True)
+        for command in COMMANDS:
+            half, _ = seconds(program, folder, command, chosen[: len(chosen) // 2])
+            whole, peak = seconds(program, folder, command, chosen)
+            other, _ = seconds(program, folder, command, plain)
+            times = f"{whole:8.2f} s {other:7.2f} s {whole / other:6.2f} {math.log2(whole / half):9.2f} {peak:9.0f}"
+            print(f"{command:7} {kind:12} {len(chosen):9,} {times}", flush=True)
 
 
 if __name__ == "__main__":

@@ -5,7 +5,8 @@ three and four bytes, in the five places of escapes.py, in a folder and as the n
     bench/inventory.py [PROGRAM]
 
 PROGRAM is what `make program` built, if none is named. A path is right if the plan of a merge has it, and os.walk too. Then it
-tells what is said of names that are no text, and lists /usr, which it times.
+tells what `unify verify` finds of the inventory and the tree, and what is said of names that are no text, and lists /usr, which it
+times.
 """
 import os
 import pathlib
@@ -41,6 +42,13 @@ def paths_below(folder, root):
     return found
 
 
+def verify(program, room, listed, tree):
+    """What the program tells of an inventory and the tree that is there."""
+    (room / "listed").write_bytes(listed)
+    tables = [room / "passwd", room / "group"]
+    return subprocess.run([program, "verify", "--was", *tables, "--now", *tables, room / "listed", tree], capture_output=True, text=True)
+
+
 def main():
     program = pathlib.Path(*sys.argv[1:2] or [UNIFY]).resolve()
     room, tree = fresh(pathlib.Path(HERE, "work", "inventory"))
@@ -52,6 +60,8 @@ def main():
     there = {root + path[len(b"tree") :] for path in paths_below(folder, b"tree")}
     came, refused = read_back(program, room, listed.stdout)
     print(f"{len(there)} paths: {len(there & came)} right, {refused} refused, {len(came - there)} other paths, {len(listed.stderr)} bytes told")
+    verified = verify(program, room, listed.stdout, tree)
+    print(f"verified with the tree: status {verified.returncode}, {', '.join(verified.stdout.splitlines())}")
     for name in NO_TEXT:
         open(os.fsencode(tree) + b"/folders/" + name, "w").close()
     again = subprocess.run(words, capture_output=True)

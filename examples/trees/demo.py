@@ -107,10 +107,10 @@ class Demo:
         before = names_of(self.folder / tree, self.folder / host / "passwd", self.folder / host / "group")
         self.unify("apply", "--check", plan, tree)
         self.unify("apply", "-q", "--host", host, plan, tree)
-        self.unify("inventory", "-x", ".", into=self.folder / host / "after", below=self.folder / tree)
         own = [f"{host}/passwd", f"{host}/group"]
         new = [f"out/passwd.{host}", f"out/group.{host}"]
-        self.unify("verify", "--was", *own, "--now", *new, f"{host}/mtree", f"{host}/after")
+        above = [f"../../{file}" for file in (*own, *new)]
+        self.unify("verify", "--was", *above[:2], "--now", *above[2:], "../mtree", ".", below=self.folder / tree)
         if names_of(self.folder / tree, *(self.folder / file for file in new)) != before:
             sys.exit(f"a file of {host} has another mode, or an owner of another name")
 

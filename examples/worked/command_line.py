@@ -51,11 +51,21 @@ GETS = "unify: warning: group {} on host {} has {} and gets {}\n".format
 TREE = ["tree", "tree/new\nline", "tree/new\nline/a b\\#\u00e9\\"]
 LINKED = "linked/to nothing"
 OWNED = f"uid={os.getuid()} gid={os.getgid()}"
+# Who owns them, and another name that has got the number of this user.
+OWN_TEXTS = {
+    "own-passwd": f"me:x:{os.getuid()}:{os.getgid()}::/:/bin/sh\n",
+    "own-group": f"mine:x:{os.getgid()}:\n",
+    "other-passwd": f"other:x:{os.getuid()}:{os.getgid()}::/:/bin/sh\nme:x:4000000001:{os.getgid()}::/:/bin/sh\n",
+}
 MACHINE = f"# unify inventory 1 {os.uname().nodename}\n"
 TREE_LINES = (
     f"./tree type=dir {OWNED}\n./tree/new\\012line type=dir {OWNED}\n"
     f"./tree/new\\012line/a\\040b\\134#\\303\\251\\134 type=file {OWNED}\n"
 )
+# The tree as files that are new, with their owners, and with a number that the user me has left.
+TREE_PATHS = ["tree", "tree/new\\012line", "tree/new\\012line/a\\040b\\134#\\303\\251\\134"]
+TREE_NEW = "".join(f"unify: new {path} user {{0}} {os.getuid()} group mine {os.getgid()}\n" for path in TREE_PATHS).format
+TREE_LEFT = "".join(f"unify: left {path} user me {os.getuid()}\n" for path in TREE_PATHS)
 LINKED_LINES = f"./linked type=dir {OWNED}\n./linked/to\\040nothing type=link {OWNED}\n"
 COMMENTS = "unify: warning: user {} has another comment on host {} than on {}\n".format
 # An inventory with three files, of which one stands on three lines; the second of these lines is joined of two.
@@ -86,9 +96,27 @@ VERIFIED = {
     "moved": "./a uid=2001 gid=100\n./b uid=2002 gid=100\n./c uid=2001 gid=51\n./new\\040one uid=2002 gid=51\n",
     "named": "./a uid=1001 gid=100\n./b uid=1002 gid=100\n./c uid=1001 gid=50\n",
     "none-left": "# no file\n",
+    "left-over": "./fresh uid=2001 gid=100\n./late uid=1002 gid=50\n",
+    "known-late": "./late uid=1002 gid=100\n",
     "many-left": "".join(f"./f{number} uid=1001 gid=100\n" for number in range(12)),
 }
 VERIFY = "verify --was old-passwd old-group --now new-passwd new-group {} {}".format
+VERIFY_OWN = "verify --was own-passwd own-group --now own-passwd own-group {} {}".format
+VERIFY_OTHER = "verify --was own-passwd own-group --now other-passwd own-group {} {}".format
+FOUND = "kept {}\nmissing {}\nchanged {}\nnew {}\nunnamed {}\nleft {}\n".format
+# Inventories of the files of the room: as they are; with a file that is gone, and without one that has come; and of the folder
+# with a name that is no text.
+VERIFIED |= OWN_TEXTS | {
+    "tree-before": TREE_LINES,
+    "tree-once": TREE_LINES.splitlines(True)[0] + f"./tree/gone {OWNED}\n./tree/other uid=4000000001 gid=4000000001\n",
+    "odd-before": f"./odd-name {OWNED}\n./odd-name/gone {OWNED}\n",
+    "linked-before": LINKED_LINES,
+}
+LATE = (
+    "unify: changed late user bob 1002 - 1002 group users 100 - 50\n"
+    "unify: new fresh user alice 2001 group users 100\n"
+    "unify: unnamed late uid 1002 gid 50\n"
+)
 # Words; the exit status; what is on standard output; and what on standard error. What the crate clap words is a tuple of what
 # it has to hold.
 TABLE = [
@@ -174,15 +202,15 @@ TABLE = [
     ("inventory tree linked ./tree/none", 2, "", "unify: root ./tree/none: it lies in tree\n"),
     ("inventory linked . tree", 2, "", "unify: root linked: it lies in .\n"),
     ("inventory tree treehouse", 3, MACHINE + TREE_LINES + "# end 3\n", "unify: file treehouse: No such file or directory\n"),
-    ("apply --check own-plan .", 0, "before 1\nafter 1\nmissing 0\nforeign 0\n", ""),
-    ("apply --check near-plan .", 0, "before 1\nafter 0\nmissing 0\nforeign 0\n", ""),
-    ("apply --check --reverse near-plan .", 0, "before 0\nafter 1\nmissing 0\nforeign 0\n", ""),
+    ("apply --check -q own-plan .", 0, "before 1\nafter 1\nmissing 0\nforeign 0\n", ""),
+    ("apply --check -q near-plan .", 0, "before 1\nafter 0\nmissing 0\nforeign 0\n", ""),
+    ("apply --check -q --reverse near-plan .", 0, "before 0\nafter 1\nmissing 0\nforeign 0\n", ""),
     # Which files have other owners by name.
-    (VERIFY("named", "moved"), 0, "kept 3\nmissing 0\nchanged 0\nnew 1\nunnamed 0\n", "unify: new new\\040one user bob 2002 group staff 51\n"),
+    (VERIFY("named", "moved"), 0, FOUND(3, 0, 0, 1, 0, 0), "unify: new new\\040one user bob 2002 group staff 51\n"),
     (
         VERIFY("first", "second"),
         1,
-        "kept 2\nmissing 1\nchanged 2\nnew 1\nunnamed 2\n",
+        FOUND(2, 1, 2, 1, 2, 0),
         "unify: changed b user bob 1002 alice 2001\n"
         "unify: changed c group staff 50 - 50\n"
         "unify: missing gone\n"
@@ -193,9 +221,48 @@ TABLE = [
     (
         VERIFY("many-left", "none-left"),
         1,
-        "kept 0\nmissing 12\nchanged 0\nnew 0\nunnamed 0\n",
+        FOUND(0, 12, 0, 0, 0, 0),
         "".join(f"unify: missing f{number}\n" for number in range(10)) + "unify: more missing: 2\n",
     ),
+    # New files, of which one has numbers that names have left.
+    (
+        VERIFY("none-left", "left-over"),
+        1,
+        FOUND(0, 0, 0, 2, 1, 1),
+        "unify: new fresh user alice 2001 group users 100\n"
+        "unify: new late user - 1002 group - 50\n"
+        "unify: unnamed late uid 1002 gid 50\n"
+        "unify: left late user bob 1002 group staff 50\n",
+    ),
+    (VERIFY("known-late", "left-over"), 1, FOUND(0, 0, 1, 1, 1, 0), LATE),
+    # The tree that is there, in place of an inventory.
+    (VERIFY_OWN("tree-before", "tree"), 0, FOUND(3, 0, 0, 0, 0, 0), ""),
+    (VERIFY_OWN("tree-before", "./tree//"), 0, FOUND(3, 0, 0, 0, 0, 0), ""),
+    (VERIFY_OWN("linked-before", "linked"), 0, FOUND(2, 0, 0, 0, 0, 0), ""),
+    (VERIFY_OWN("none-left", "tree"), 0, FOUND(0, 0, 0, 3, 0, 0), TREE_NEW("me")),
+    (VERIFY_OTHER("none-left", "tree"), 1, FOUND(0, 0, 0, 3, 0, 3), TREE_NEW("other") + TREE_LEFT),
+    (
+        VERIFY_OTHER("tree-before", "tree"),
+        1,
+        FOUND(0, 0, 3, 0, 0, 0),
+        "".join(f"unify: changed {path} user me {os.getuid()} other {os.getuid()}\n" for path in TREE_PATHS),
+    ),
+    (
+        VERIFY_OWN("tree-once", "tree"),
+        1,
+        FOUND(1, 2, 0, 2, 0, 0),
+        "unify: missing tree/gone\nunify: missing tree/other\n" + "".join(TREE_NEW("me").splitlines(True)[1:]),
+    ),
+    # A part that cannot be read is told, and so is the rest.
+    (
+        VERIFY_OWN("odd-before", "odd-name"),
+        3,
+        FOUND(1, 1, 0, 0, 0, 0),
+        "unify: file odd-name: a name in it is not text\nunify: missing odd-name/gone\n",
+    ),
+    (VERIFY_OWN("tree-before", "tree/../tree"), 2, "", "unify: root tree/../tree: a part of it is ..\n"),
+    (VERIFY_OWN("tree-before", "to-tree"), 3, "", "unify: file to-tree: Is a directory\n"),
+    (VERIFY_OWN("bad", "tree"), 1, "", "unify: 11 NoUid file bad line 1\n"),
     ("verify --was old-passwd bad --now new-passwd new-group first second", 1, "", "unify: 1 BadFields file bad line 1\n"),
     (VERIFY("first", "bad"), 1, "", "unify: 11 NoUid file bad line 1\n"),
     (VERIFY("first", "none"), 3, "", "unify: file none: No such file or directory\n"),
@@ -280,8 +347,8 @@ TABLE = [
     ("rehearse plan a/mtree", 1, "", "unify: 37 Missing bob1\n"),
     ("apply bad b", 1, "", "unify: 35 BadPlan byte 0\n"),
     ("apply --host a plan b", 1, "", "unify: host a: the plan is of host b\n"),
-    ("apply --check plan b", 1, "before 0\nafter 0\nmissing 2\nforeign 0\n", "unify: 37 Missing bob1\n"),
-    ("apply --check far-plan .", 1, "before 0\nafter 0\nmissing 0\nforeign 1\n", "unify: 38 Foreign map\n"),
+    ("apply --check -q plan b", 1, "before 0\nafter 0\nmissing 2\nforeign 0\n", "unify: 37 Missing bob1\n"),
+    ("apply --check -q far-plan .", 1, "before 0\nafter 0\nmissing 0\nforeign 1\n", "unify: 38 Foreign map\n"),
     # Files that are not there, or cannot be read or written.
     ("count none a b", 3, "", "unify: file none: No such file or directory\n"),
     (["count", "", "a"], 3, "", "unify: file -: No such file or directory\n"),
@@ -367,6 +434,7 @@ def lay_out(room):
     (room / TREE[2]).touch()
     (room / LINKED).parent.mkdir()
     (room / LINKED).symlink_to("nothing")
+    (room / "to-tree").symlink_to("tree")
     (room / "odd-name").mkdir()
     open(os.fsencode(room) + b"/odd-name/\xff", "w").close()
     (room / "bare").mkdir()
