@@ -18,6 +18,7 @@ mod pair_lines;
 mod pairs;
 mod pins;
 mod pool;
+mod reserving;
 mod texts;
 
 pub use checks::{check_hosts, check_primary, is_host_name};
@@ -32,6 +33,7 @@ pub use pair_lines::{PairLine, pair_line};
 pub use pairs::PairTable;
 pub use pins::Pins;
 pub use pool::Pool;
+pub use reserving::{Reserved, Reserver};
 pub use texts::HostText;
 
 /// Users or groups.
