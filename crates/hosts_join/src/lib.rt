@@ -26,7 +26,10 @@ pub use fault::{PinsFault, PoolClass, SiteFault};
 pub use host::Host;
 pub use joining::{Site, join, join_kind};
 pub use kind::{Groups, Kind, Users};
-pub use laws::{a_site_has_lawful_accounts, a_site_knows_its_hosts, pins_are_lawful};
+pub use laws::{
+    a_site_has_lawful_accounts, a_site_knows_its_hosts, a_site_leaves_reserved_numbers,
+    nothing_reserved_changes_nothing, pins_are_lawful, read_pins_reserve_nothing,
+};
 use logindefs::IdRange;
 pub use names::Names;
 pub use pair_lines::{PairLine, pair_line};
