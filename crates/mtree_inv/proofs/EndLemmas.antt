@@ -14,7 +14,7 @@ use Rattle.mtree_inv.specs.declared.open_line.Ends.TheVariants.{Nothing, Joined,
 use Rattle.mtree_inv.specs.Looking.{all_but_last}
 use Rattle.mtree_inv.specs.Logical.{next_number, ended_lines, logical_lines}
 use Rattle.mtree_inv.specs.Inventory.{kinds, end_fault}
-use Rattle.mtree_inv.specs.Machine.{Kept, is_unended, step}
+use Rattle.mtree_inv.specs.Machine.{Kept, step}
 use Rattle.mtree_inv.specs.Reading.{Open, with_plain, with_backslash, with_join, is_joining, fresh, clipped_kind, Reading, after_step, with_line, with_newline, unless_ended, read_byte, read_bytes, at_end, unless_ended_at_end, last_read, end_lacking, start}
 use Rattle.mtree_inv.specs.Whole.{is_cut}
 use Rattle.mtree_inv.proofs.ReadLemmas.{failed-more}

@@ -1,13 +1,13 @@
 -- The files of an inventory are lawful, and each has a path of its own.
-use Rattle.std.proofs.Common.{◌≡◌, ◌≢◌, ℕ, ◌<◌, ◌≤◌, Bool, true, false, cond, not, List, [], ◌∷◌, ◌++◌, length, get_or, All, nat_lt, ◌==◌, ◌||◌, ◌&&◌, leb, refl, sym, ap, ◌∙◌, arith, codes, ◌⊎◌, inl, inr, subst, append-nil, append_assoc, length-append}
+use Rattle.std.proofs.Common.{◌≡◌, ◌≢◌, ℕ, ◌<◌, ◌≤◌, Bool, true, false, cond, not, List, [], ◌∷◌, ◌++◌, length, get_or, All, nat_lt, ◌==◌, ◌||◌, refl, sym, ap, ◌∙◌, arith, codes, ◌⊎◌, inl, inr, subst, append-nil, append_assoc, length-append}
 use Rattle.std.specs.Prelude.{Option, Some, None, Result, Ok, Err, IfSome, is_none, option_and_then}
-use Rattle.std.proofs.lemmas.Bool.{or_parts, or_left, or_right, and_parts, cond_both, ltb-false, leb-true, eq-eqb, true≢false}
+use Rattle.std.proofs.lemmas.Bool.{or_parts, or_left, or_right, cond_both, ltb-false, eq-eqb, true≢false}
 use Rattle.std.proofs.lemmas.List.Folds.{list_any_at}
 use Rattle.std.proofs.lemmas.List.{get_or_append_left}
 use Rattle.std.proofs.lemmas.List.Elements.{All-nil, All-cons, All-push}
 use Rattle.std.proofs.lemmas.List.Quantifiers.{all_pairs_push}
 use Rattle.std.proofs.lemmas.Slice.Eq.{bytes_eq-Decides}
-use Rattle.std.specs.List.{list_all, list_any}
+use Rattle.std.specs.List.{list_any}
 use Rattle.std.specs.Str.{bytes_eq}
 use Rattle.idtext.specs.Numbers.{id_of, greatest_id}
 use Rattle.idtext.specs.First.{first_fault, unless}
