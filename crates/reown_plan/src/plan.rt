@@ -82,14 +82,16 @@ impl<T: Drop> From<AllocFailed<T>> for PlanFault {
 }
 
 impl<'a> Plan<'a> {
-    /// Reads a plan, whose paths are slices of its text. A text that is no plan is `BadPlan` with the byte at which the
-    /// first header, record or end that is not lawful begins, or what stands behind the end. One pass over the text, and for
-    /// each record a look-up of its path in a search tree, since whoever names files chooses their paths: one or two comparisons
-    /// of paths for each binary digit of the number of records.
+    /// Reads a plan, whose paths are slices of its text. A text that is no plan is `BadPlan` with
+    /// the byte at which the first header, record or end that is not lawful begins, or what stands
+    /// behind the end. One pass over the text, and for each record a look-up in a search tree of
+    /// the paths before it, since whoever names files chooses their paths: a few comparisons for
+    /// each binary digit of the number of records.
     ///
     /// # Errors
     ///
-    /// `BadPlan`; or `Memory` where a growth is refused. Of memory a record takes 32 bytes, and its path a place in a set.
+    /// `BadPlan`; or `Memory` where a growth is refused. Of memory a record takes 32 bytes, and
+    /// its path a place in the tree.
     pub fn read(alloc: Global, text: &'a [u8]) -> Result<Plan<'a>, PlanFault>
         ensures spelled { IfOk result (λ plan. text.now ≡ spelling plan) }
         ensures lawful { IfOk result (λ plan. IsLawful plan) }

@@ -1,6 +1,7 @@
--- Words of private contracts: paths in one buffer, and their places in the byte order of the paths.
+-- Words of private contracts: paths in one buffer, and their places in the order of their bytes.
 -- Source: this project's own rule.
-use Rattle.std.specs.Prelude.{◌≢◌, ◌≤◌, ℕ, List, [], length, slice_range, slice_index_or, AllPairs, IsPermutation}
+use Rattle.std.specs.Prelude.{◌≢◌, ◌≤◌, ℕ, List, [], length, slice_range, slice_index_or}
+use Rattle.std.specs.Prelude.{AllPairs, IsPermutation}
 use Rattle.std.specs.List.{range_with_len}
 use Rattle.std.specs.List.Sorted.{IsSortedByKey}
 use Rattle.std.specs.Ordering.{nat_cmp}

@@ -30,9 +30,9 @@ pub struct FileCell {
     now: Owner,
 }
 
-/// A tree in memory. A path is found by bisection, whatever the names are: a call with one takes at most as many comparisons
-/// of paths as the files' number has binary digits. A sync and a stop take one pass over the files. No call but `new` and
-/// `of_records` takes memory.
+/// A tree in memory. A path is found by bisection: a call with one takes a comparison of paths for
+/// each binary digit of the number of files, whatever their names are. A sync and a stop take one
+/// pass over the files. No call but `new` and `of_records` takes memory.
 #[derive(Drop)]
 pub struct MemTree {
     paths: PathIndex,
@@ -49,7 +49,14 @@ impl Model for MemTree {
 
     ghost Value = { Mem };
 
-    ghost view = { λ m. record { paths = m.paths; cells = m.cells.items; mark_synced = m.mark_synced; mark_now = m.mark_now; keep = m.keep; asked = m.asked } };
+    ghost view = { λ m. record {
+      paths = m.paths;
+      cells = m.cells.items;
+      mark_synced = m.mark_synced;
+      mark_now = m.mark_now;
+      keep = m.keep;
+      asked = m.asked;
+    } };
 
     ghost invariant = { λ m. length m.paths ≡ length m.cells.items };
 }
@@ -89,7 +96,8 @@ fn paths_of(alloc: Global, records: &[Record]) -> Result<PathList, AllocError>
 
 // A cell at the owner of each file, with nothing pending.
 fn cells_in(alloc: Global, entries: &[Entry]) -> Result<Vec<FileCell>, AllocError>
-    ensures { IfOk result (λ cells. cells.items ≡ map (λ e. settled_cell (owner_of e)) entries.now) }
+    ensures { IfOk result (λ cells.
+        cells.items ≡ map (λ e. settled_cell (owner_of e)) entries.now) }
 {
     let mut cells = Vec::with_capacity(alloc, entries.len())?;
     for entry in entries {
@@ -152,8 +160,9 @@ fn leave_cells(cells: &mut [FileCell], keep: Keep) -> bool
 }
 
 impl MemTree {
-    /// A tree as its inventory, marked for no plan, with nothing pending. A stop keeps all, until `on_reopen` chooses
-    /// otherwise. One pass over the inventory, with a copy of each path.
+    /// A tree as its inventory, marked for no plan, with nothing pending. A stop keeps all, until
+    /// `on_reopen` chooses otherwise. One pass over the inventory, with a copy of each path, and
+    /// one sort of these.
     ///
     /// # Errors
     ///
@@ -175,9 +184,10 @@ impl MemTree {
         })
     }
 
-    /// A tree that has just the files of records, at these owners, with the mark as told and nothing pending. Where each
-    /// owner is the old or the new one, as an earlier run may have left it, the plan may go on from there. A stop keeps
-    /// all, until `on_reopen` chooses otherwise. One pass, with a copy of each path.
+    /// A tree that has just the files of records, at these owners, with the mark as told and
+    /// nothing pending. Where each owner is the old or the new one, as an earlier run may have
+    /// left it, the plan may go on from there. A stop keeps all, until `on_reopen` chooses
+    /// otherwise. One pass, with a copy of each path, and one sort of these.
     ///
     /// # Errors
     ///
@@ -214,8 +224,8 @@ impl MemTree {
         self.keep = keep;
     }
 
-    /// The place of a path among the paths, if it is one of them: at most as many comparisons of paths as their number has
-    /// binary digits.
+    /// The place of a path among the paths, if it is one of them. It takes a comparison of paths
+    /// for each binary digit of their number.
     pub fn index_of(&self, path: &[u8]) -> Option<usize>
         ensures place { result ≡ position (bytes_eq path.now) self.now.paths }
         ensures within { IfSome result (λ i. i < length self.now.cells) }

@@ -124,9 +124,9 @@ fn place_of(paths: &PathList, places: &[usize], path: &[u8]) -> Option<usize>
     None
 }
 
-/// Paths in their order, each of them found by bisection. Whoever names files chooses their paths, so
-/// no look-up may cost more than a few comparisons, whatever the names are: that is why no table of
-/// hashes is used here.
+/// Paths in their order, each found by bisection. Whoever names files chooses their paths, so that
+/// no look-up may cost more than a few comparisons, whatever the names are: that is why no table
+/// of hashes is used here. Beside the list it keeps 8 bytes a path.
 #[derive(Drop)]
 pub(crate) struct PathIndex {
     paths: PathList,
@@ -145,8 +145,8 @@ impl Model for PathIndex {
 }
 
 impl PathIndex {
-    /// Makes paths found, which differ. One sort of them: at most as many comparisons for each as
-    /// their number has binary digits, and few where they come almost in order.
+    /// Paths that differ, to be found. One sort of their places: for each a comparison of paths
+    /// for each binary digit of their number, and fewer where they come almost in order.
     pub(crate) fn new(alloc: Global, paths: PathList) -> Result<Self, AllocError>
         requires { AreDistinctPaths paths }
         ensures { IfOk result (λ index. index ≡ paths) }
@@ -155,8 +155,8 @@ impl PathIndex {
         Ok(PathIndex { paths, places })
     }
 
-    /// The place of a path, if it is one of these: as many comparisons as their number has binary
-    /// digits. Takes no memory.
+    /// The place of a path, if it is one of these. At most a comparison of paths for each binary
+    /// digit of their number; it takes no memory.
     pub(crate) fn find(&self, path: &[u8]) -> Option<usize>
         ensures { result ≡ position (bytes_eq path.now) self.now }
     {
