@@ -167,11 +167,16 @@ fn inventory<'a>(alloc: Global) -> Result<Command<'a>, AllocError> {
         .arg(roots(alloc))
 }
 
-// apply [--quiet] [--check] [--reverse] [--mark FILE] [--host NAME] PLAN ROOT
+// apply [--quiet] [--progress] [--check] [--reverse] [--mark FILE] [--host NAME] PLAN ROOT
 fn apply<'a>(alloc: Global) -> Result<Command<'a>, AllocError> {
     Command::new(alloc, "apply")
         .about("Carries a plan out on the files below a directory, from wherever it was stopped")
         .arg(quiet(alloc))?
+        .arg(flag(
+            alloc,
+            "progress",
+            "tells how far it is where standard error is no terminal too",
+        ))?
         .arg(flag(
             alloc,
             "check",
@@ -223,7 +228,11 @@ fn verify<'a>(alloc: Global) -> Result<Command<'a>, AllocError> {
         .arg(was)?
         .arg(now)?
         .arg(word(alloc, "BEFORE", "the inventory made under the first files"))?
-        .arg(word(alloc, "AFTER", "the inventory made under the second files"))
+        .arg(word(
+            alloc,
+            "AFTER",
+            "the inventory made under the second files, or the directory that is there now",
+        ))
 }
 
 // A command with one subcommand more.
