@@ -2,7 +2,7 @@
 -- that keep theirs.
 use Rattle.std.proofs.Common.{◌≡◌, ℕ, ◌+◌, ◌-◌, ◌<◌, ◌≤◌, ◌==◌, ◌&&◌, Bool, true, false, not, cond, List, [], ◌∷◌, length, Option, Some, None, refl, ap, ◌∙◌, arith, inl, inr}
 use Rattle.std.specs.Prelude.{is_some}
-use Rattle.std.specs.List.{All, count_by, sum_by}
+use Rattle.std.specs.List.{count_by, sum_by}
 use Rattle.std.proofs.lemmas.List.Elements.{All-head, All-tail}
 use Rattle.std.proofs.lemmas.List.Sums.{sum_by-cons}
 use Rattle.std.proofs.lemmas.Bool.{cases_Bool, eqb-true}
@@ -13,7 +13,7 @@ use Rattle.hosts_join.proofs.Pairing.{place-holds}
 use Rattle.hosts_join.proofs.Once.{number-once}
 use Rattle.ownership.specs.Sums.{sum_below}
 use Rattle.ownership.specs.Faults.{unowned, uid_fault, gid_fault, OwnedFilesAreAll}
-use Rattle.ownership.specs.Files.{File, Added, by_user, by_group, owned_files, owns, has_there, is_number, is_place, kept, total}
+use Rattle.ownership.specs.Files.{File, by_user, by_group, owned_files, owns, has_there, is_number, is_place, kept, total}
 use Rattle.ownership.specs.Mappings.{number_at}
 use Rattle.ownership.specs.Costs.{changes, cost_of, changed_rows}
 use Rattle.ownership.proofs.SumsBelow.{sum_below-same, sum_below-add, sum_below-pick, sum_below-zero, sum_below-places}

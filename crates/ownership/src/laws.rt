@@ -16,8 +16,8 @@ pub fn certified_is_tight()
     ensures { CertifiedIsTight }
 {}
 
-/// Where each file of a site has its user and its group, the files that have a user are all files, and so are those that have
-/// a group.
+/// Where each file of a site has its user and its group, the files that have a user are all files,
+/// and so are those that have a group.
 pub fn owned_files_are_all()
     ensures { OwnedFilesAreAll }
 {}

@@ -10,7 +10,7 @@ use Rattle.reown_plan.specs.declared.plan.Owner.{Owner}
 use Rattle.reown_plan.specs.Owners.{owner_of, owner_eq}
 use Rattle.reown_plan.specs.PlanData.{PlanRecord, PlanData}
 
--- the new number of the name that has the number on the host; where no name has it the number stays
+-- the new number of the name that has the number on the host; it stays where no name has it
 abbrev pub renumbered : Accounts → List ℕ → ℕ → ℕ → ℕ
 renumbered a m host v = number_under m (owner a.names host v) v
 

@@ -33,9 +33,10 @@ fn target_of(site: &Site<'_>, users: &Mapping, groups: &Mapping, host: u32, entr
     }
 }
 
-/// Appends the record of a file of the host at an index where the mappings give the file another owner, and nothing for another
-/// file; true exactly where a record was appended. A uid or a gid that no name of the site has there stays as it is. Asked is
-/// that the mappings have one number for each name of the site.
+/// Appends the record of a file of the host at an index where the mappings give the file another
+/// owner, and nothing for another file; true exactly where a record was appended. A uid or a gid that
+/// no name of the site has there stays as it is. Asked is that the mappings have one number for each
+/// name of the site.
 ///
 /// Refused where memory is; the text is then as before. Two look-ups by hash, and one pass over the path where a record is
 /// appended.
@@ -72,8 +73,8 @@ pub fn push_plan_entry(
 }
 
 /// The text of the plan of the host at an index: a record for each file of its inventory that gets another owner, in the order
-/// of the inventory. It is `push_plan_head`, `push_plan_entry` for each file, and `push_plan_end`. Asked is that the host is
-/// there and that the mappings have one number for each name of the site.
+/// of the inventory. It is `push_plan_head`, `push_plan_entry` for each file, and `push_plan_end`.
+/// Asked is that the host is there and that the mappings have one number for each name of the site.
 ///
 /// `AllocError` where memory is refused. Two look-ups by hash for each file, and memory in step with the text.
 pub fn plan_text(

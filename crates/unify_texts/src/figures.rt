@@ -97,9 +97,10 @@ fn staying_rows(names: &Names<'_>, mapping: &Mapping) -> u64
     staying
 }
 
-/// The figures of a mapping of the names; `files` is how many of the counted files have one of the names as their owner.
-/// Asked is that there is a number for each name, and that the counters were made for the names; where they count files, of
-/// which so many have an owner, the figures are those of the files.
+/// The figures of a mapping of the names; `files` is how many of the counted files have one of the
+/// names as their owner. Asked is that there is a number for each name, and that the counters were
+/// made for the names; where they count files, of which so many have an owner, the figures are those
+/// of the files.
 ///
 /// One pass over the names, with two scans of a name's rows and one of its counters, each at most 64. It takes no memory.
 pub fn figures_under(

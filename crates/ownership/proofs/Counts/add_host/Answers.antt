@@ -1,10 +1,9 @@
-use Rattle.std.proofs.Common.{◌≡◌, ◌≤◌, ◌+◌, length, List, map, sym, ap, subst, ◌∙◌, arith}
-use Rattle.std.specs.Prelude.{is_some}
+use Rattle.std.proofs.Common.{◌≡◌, ◌≤◌, ◌+◌, length, sym, ap, subst, arith}
 use Rattle.std.specs.List.{sum}
-use Rattle.hosts_join.specs.Accounts.{Accounts, owner}
+use Rattle.hosts_join.specs.Accounts.{Accounts}
 use Rattle.hosts_join.specs.Kinds.{user_rows, group_rows}
 use Rattle.ownership.specs.Counts.{AreWithin, CountFiles, Counted}
-use Rattle.ownership.specs.Files.{by_user, by_group, owned_files}
+use Rattle.ownership.specs.Files.{by_user, by_group}
 use Rattle.ownership.specs.HostFiles.{CountsRows}
 use Rattle.ownership.proofs.HostFiles.{users-all, users-by_rows, users-few, groups-all, groups-by_rows, groups-few, owned_both, counts_here, within_rows}
 use Rattle.ownership.proofs.Counts.add_host.Goals as goal
