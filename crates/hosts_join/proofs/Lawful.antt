@@ -13,7 +13,7 @@ use Rattle.logindefs.specs.declared.ranges.IdRange.{IdRange}
 use Rattle.logindefs.specs.declared.ranges.HostRanges.{HostRanges}
 use Rattle.idtext.specs.Names.{is_lawful_name}
 use Rattle.hosts_join.specs.Accounts.{Account, Accounts, Pair, Row, grouped, first_appearances, spot_of, spots_of, nobody, all_lines, AreNamedApart, IsOnceEach, IsSpotAmong}
-use Rattle.hosts_join.specs.Rules.{sources, sources_among, class_by, is_pinning, is_regular, joined, refusal, Clash, repeats, repeat_of, least, clash_of, claims, pinned_names, pinned_to, reserved, class_of, account}
+use Rattle.hosts_join.specs.Rules.{sources, sources_among, class_by, is_pinning, is_regular, joined, refusal, Clash, repeats, repeat_of, least, clash_of, claims, pinned_names, pinned_to, absent_pins, class_of, account}
 use Rattle.hosts_join.specs.Lawful.{AreLawfulAccounts}
 use Rattle.idtext.specs.First.{Gives, unless}
 use Rattle.hosts_join.specs.Site.{entry_on}
@@ -74,7 +74,7 @@ count-once v before (p ∷ ps) e h =
 claims-once : (v : ℕ) (a : Accounts) → clash_of (claims a) ≡ None → count v (pinned_names a.pins a.names) ≤ 1
 claims-once v a e =
     let all = count-once v [] (claims a) (least-none (repeats [] (claims a)) e) (omega arith) in
-    omega (arith, all, sum_by-append (λ (q : Pair). cond (q.number == v) 1 0) (pinned_names a.pins a.names) (reserved a.names a.pins))
+    omega (arith, all, sum_by-append (λ (q : Pair). cond (q.number == v) 1 0) (pinned_names a.pins a.names) (absent_pins a.names a.pins))
 
 module _ (pins : List Pair) (v : ℕ) where
   count-names : (n : Account) (ns : List Account) → count v (pinned_names pins (n ∷ ns)) ≡ count v (pinned_to (class_of pins n) n.name) + count v (pinned_names pins ns)

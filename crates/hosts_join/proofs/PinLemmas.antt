@@ -112,8 +112,8 @@ pub record Reading (text : List ℕ) (seen rest : List (List ℕ)) (number : ℕ
   pub few : number ≤ 1048576
   pub sound : IsDraft draft
 
-same_pins : (a b : PinPairs) → a.users ≡ b.users → a.groups ≡ b.groups → a ≡ b
-same_pins a b p q = λ i. record { users = p i; groups = q i }
+same_pins : (a b : PinPairs) → a.users ≡ b.users → a.groups ≡ b.groups → a.reserved_users ≡ b.reserved_users → a.reserved_groups ≡ b.reserved_groups → a ≡ b
+same_pins a b p q r s = λ i. record { users = p i; groups = q i; reserved_users = r i; reserved_groups = s i }
 
 pub more : {X A : Type 0} (f : X → List A) (xs : List X) (x : X) → flat_map f xs ++ f x ≡ flat_map f (xs ++ x ∷ [])
 more f xs x = sym (flat_map-append f xs (x ∷ []) ∙ ap (λ ys. flat_map f xs ++ ys) (append-nil (f x)))
@@ -158,7 +158,7 @@ module _ {text : List ℕ} {seen left rest : List (List ℕ)} {number next : ℕ
         reads = reads_more pins_fault pins_on (lines text) seen left (drafted draft) line rest (drafted after) so_far.reads is judged
             (same_pins (drafted after) (pins_on (seen ++ line ∷ []))
             (users ∙ ap (λ m. m.users ++ user_pair (pair_line_of line)) so_far.reads.made_is ∙ more (λ l. user_pair (pair_line_of l)) seen line)
-            (groups ∙ ap (λ m. m.groups ++ group_pair (pair_line_of line)) so_far.reads.made_is ∙ more (λ l. group_pair (pair_line_of l)) seen line));
+            (groups ∙ ap (λ m. m.groups ++ group_pair (pair_line_of line)) so_far.reads.made_is ∙ more (λ l. group_pair (pair_line_of l)) seen line) refl refl);
         counted = rw length-append (let c = so_far.counted in omega (arith, c, counts));
         few = few;
         sound = sound;

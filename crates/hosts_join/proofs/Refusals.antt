@@ -4,20 +4,22 @@ use Rattle.std.specs.List.{count_by}
 use Rattle.std.proofs.lemmas.Bool.{ltb-false}
 use Rattle.logindefs.specs.declared.ranges.IdRange.{IdRange}
 use Rattle.std.proofs.lemmas.List.Folds.{fold-map}
-use Rattle.std.specs.Option.{option_map}
 use Rattle.hosts_join.proofs.Counting.{count_below-same}
+use Rattle.hosts_join.proofs.Sources.{none-mapped}
+use Rattle.hosts_join.specs.declared.reserving.Reserved.{Reserved}
 use Rattle.hosts_join.specs.Count.{count_below}
 use Rattle.hosts_join.specs.Accounts.{Accounts, Pair}
 use Rattle.hosts_join.specs.declared.fault.PoolClass.TheVariants as pool
 use Rattle.hosts_join.specs.declared.fault.PoolClass.{PoolClass}
 use Rattle.hosts_join.specs.declared.fault.SiteFault.{SiteFault}
-use Rattle.hosts_join.specs.declared.fault.SiteFault.TheVariants.{BadHostName, HostTwice, HostCount, NoPrimaryGroup, PinDisagrees, PinClash, PoolTooSmall, Memory}
+use Rattle.hosts_join.specs.declared.fault.SiteFault.TheVariants.{BadHostName, HostTwice, HostCount, NoPrimaryGroup, PinDisagrees, PinReserved, PinClash, PoolTooSmall, Memory}
 use Rattle.hosts_join.specs.Told.{told}
 use Rattle.hosts_join.specs.declared.names.PoolPair.{PoolPair}
 use Rattle.hosts_join.specs.Settled.{ArePools, small_among}
 use Rattle.idtext.specs.First.{or_else}
+use Rattle.idtext.proofs.FirstLemmas.{none_of_both}
 use Rattle.hosts_join.specs.Pool.{in_runs, run_size}
-use Rattle.hosts_join.specs.Rules.{Clash, joined, first_some, disagrees, clash, clash_of, claims, too_small, names_in, pool_size, in_pool, same_class, class_of, class_served}
+use Rattle.hosts_join.specs.Rules.{Clash, joined, first_some, disagrees, pin_reserved, clash, clash_of, claim_fault, claims, too_small, names_in, pool_size, in_pool, same_class, class_of, class_served}
 use Rattle.hosts_join.specs.declared.Class.{Class}
 use Rattle.hosts_join.specs.declared.Class.TheVariants.{Regular, System}
 use Rattle.hosts_join.specs.declared.Which.{Which}
@@ -31,16 +33,18 @@ names-size a c classes n e h = sym (h ∙ ap (count_by (same_class c)) e ∙ cou
 pub pool-size : (a : Accounts) (c : Class) (runs : List IdRange) (n : ℕ) → ((v : ℕ) → in_runs runs v ≡ in_pool a c v) → n ≡ count_below (in_runs runs) (2 ^ 32) → pool_size a c ≡ n
 pool-size a c runs n e h = sym (h ∙ count_below-same (in_runs runs) (in_pool a c) (2 ^ 32) (λ v _. e v))
 
-pub no-clash : (kind : Which) (given : List Pair) → clash_of given ≡ None → clash kind given ≡ None
-no-clash kind given e = ap (option_map (λ (d : Clash). PinClash kind d.number d.first d.second)) e
+-- claims with which nothing is wrong do not clash
+pub not-clashing : (kind : Which) (reserved : List Reserved) (given : List Pair) → claim_fault kind reserved given ≡ None → clash_of given ≡ None
+not-clashing kind reserved given e = none-mapped (λ (d : Clash). PinClash kind d.number d.first d.second) (clash_of given) (none_of_both (first_some (pin_reserved kind reserved) given) (clash kind given) e).1
 
 -- a fault, or want of memory, of which nothing is said
-of-told : (Is : SiteFault → Type 0) (fault : SiteFault) → Is fault → IfSome (told fault) Is
+pub of-told : (Is : SiteFault → Type 0) (fault : SiteFault) → Is fault → IfSome (told fault) Is
 of-told Is (BadHostName name) h = h
 of-told Is (HostTwice name) h = h
 of-told Is (HostCount count) h = h
 of-told Is (NoPrimaryGroup host user) h = h
 of-told Is (PinDisagrees kind name first second) h = h
+of-told Is (PinReserved kind number name by) h = h
 of-told Is (PinClash kind number first second) h = h
 of-told Is (PoolTooSmall kind class names numbers) h = h
 of-told Is Memory h = tt
@@ -65,13 +69,13 @@ small-same kind a classes p e pools =
     rw (rn, rm, sn, sm) refl
 
 module _ (kind : Which) (a : Accounts) (agreed : first_some (disagrees kind a.hosts a.pins) a.names ≡ None) where
-  pub joined-clash : (told : Option SiteFault) → IfSome told (λ f. clash kind (claims a) ≡ Some f) → IfSome told (λ f. joined kind a ≡ Err f)
-  joined-clash None h = tt
-  joined-clash (Some f) h = rw (agreed, h) refl
+  pub joined-claim : (told : Option SiteFault) → IfSome told (λ f. claim_fault kind a.reserved (claims a) ≡ Some f) → IfSome told (λ f. joined kind a ≡ Err f)
+  joined-claim None h = tt
+  joined-claim (Some f) h = rw (agreed, h) refl
 
-  module _ (apart : clash_of (claims a) ≡ None) where
+  module _ (good : claim_fault kind a.reserved (claims a) ≡ None) where
     pub joined-small : (fault : SiteFault) → or_else (too_small kind a pool.Regular) (too_small kind a pool.System) ≡ Some fault → IfSome (told fault) (λ f. joined kind a ≡ Err f)
-    joined-small fault h = of-told (λ f. joined kind a ≡ Err f) fault (rw (agreed, no-clash kind (claims a) apart, h) refl)
+    joined-small fault h = of-told (λ f. joined kind a ≡ Err f) fault (rw (agreed, good, h) refl)
 
     pub accepted : or_else (too_small kind a pool.Regular) (too_small kind a pool.System) ≡ None → joined kind a ≡ Ok a
-    accepted h = rw (agreed, no-clash kind (claims a) apart, h) refl
+    accepted h = rw (agreed, good, h) refl

@@ -23,12 +23,13 @@ use Rattle.hosts_join.specs.Pairs.{number_of}
 use Rattle.hosts_join.specs.PinPairs.{PinPairs, ArePins, ArePinPairs}
 use Rattle.hosts_join.specs.PinsInside.{IsIdLine}
 use Rattle.hosts_join.specs.PinsText.{is_new_pin, may_stand, pins_fault, pins_of, pins_on}
-use Rattle.hosts_join.specs.Rules.{claims, clash, clash_of, joined, refusal, first_some, disagrees}
+use Rattle.hosts_join.specs.Rules.{claims, claim_fault, joined, refusal, first_some, disagrees}
 use Rattle.hosts_join.specs.Site.{accounts_of, entry_on, users_of, groups_of}
 use Rattle.hosts_join.specs.declared.Which.{Which}
 use Rattle.hosts_join.specs.declared.Which.TheVariants.{User, Group}
 use Rattle.hosts_join.specs.declared.host.Host.{Host}
 use Rattle.hosts_join.specs.declared.pair_lines.PairLine.{PairLine}
+use Rattle.hosts_join.specs.declared.reserving.Reserved.{Reserved}
 use Rattle.hosts_join.specs.declared.pair_lines.PairLine.TheVariants.{Skipped, Wrong, Given}
 use Rattle.hosts_join.proofs.Grouping.{grouped-nil, grouped-push, all_lines-with_row}
 use Rattle.hosts_join.proofs.KindLemmas.{length-rows_from}
@@ -36,7 +37,7 @@ use Rattle.hosts_join.proofs.Knowing.{site-is}
 use Rattle.hosts_join.proofs.Lawful.{lawful, no-hosts}
 use Rattle.hosts_join.proofs.Once.{rows_from-named}
 use Rattle.hosts_join.proofs.PinLemmas.{more, pair_line-id, pins-push, used-is}
-use Rattle.hosts_join.proofs.Sources.{none-mapped}
+use Rattle.hosts_join.proofs.Refusals.{not-clashing}
 use Rattle.hosts_join.proofs.Spots.{rows_from-among, rows_from-lawful, few-spots}
 
 -- ---- the accounts of a kind
@@ -52,17 +53,17 @@ lines-all : (rows : List Row) → all_lines (grouped rows) ≡ length rows
 lines-all rows = let all = lines-rest [] rows in omega (arith, all, ap all_lines grouped-nil)
 
 accounts-lawful : (kind : Which) (regular system : HostRanges → IdRange) (listed : Host → List (List ℕ × ℕ)) → ((h : Host) → IsLawfulHost h → IsTable (map (λ p. p.0) (listed h)) (map (λ p. p.1) (listed h))) → ((h : Host) → IsLawfulHost h → AreApart (regular h.ranges) (system h.ranges))
-    → (hosts : List Host) (pins : List Pair) (b : Accounts) → length hosts ≤ 64 → All IsLawfulHost hosts → ArePins pins → joined kind (accounts_of regular system listed hosts pins) ≡ Ok b → AreLawfulAccounts (accounts_of regular system listed hosts pins)
-accounts-lawful kind regular system listed table apart hosts pins b few all are is =
+    → (hosts : List Host) (pins : List Pair) (reserved : List Reserved) (b : Accounts) → length hosts ≤ 64 → All IsLawfulHost hosts → ArePins pins → joined kind (accounts_of regular system listed hosts pins reserved) ≡ Ok b → AreLawfulAccounts (accounts_of regular system listed hosts pins reserved)
+accounts-lawful kind regular system listed table apart hosts pins reserved b few all are is =
     let r = λ (h : Host). regular h.ranges in
     let s = λ (h : Host). system h.ranges in
-    let a = accounts_of regular system listed hosts pins in
+    let a = accounts_of regular system listed hosts pins reserved in
     let rows = rows_from r s listed 0 hosts in
     let none = (unless_ok (refusal kind a) a b is).0 in
     let agreed = none_of_both (first_some (disagrees kind a.hosts a.pins) a.names) _ none in
-    let unclashed = none_of_both (clash kind (claims a)) _ agreed.1 in
+    let good = none_of_both (claim_fault kind a.reserved (claims a)) _ agreed.1 in
     let len : length a.hosts ≡ length hosts = length-map hosts (entry_on regular system) in
-    lawful a rows refl (none-mapped _ (clash_of (claims a)) unclashed.0)
+    lawful a rows refl (not-clashing kind a.reserved (claims a) good.0)
     (rows_from-named r s listed IsLawfulHost table 0 hosts all)
     (rows_from-lawful r s listed IsLawfulHost table 0 hosts all)
     (omega (arith, length-rows_from r s listed IsLawfulHost table 0 hosts all, few))
@@ -78,8 +79,8 @@ sites_are_lawful hosts pins site few all are is =
     let groups = bind_ok (joined Group (groups_of hosts pins)) _ site users.2 in
     subst HasLawfulAccounts (site-is hosts pins site is)
     (record {
-      users = accounts-lawful User (λ (r : HostRanges). r.uid) (λ (r : HostRanges). r.sys_uid) (λ (h : Host). user_rows h.users) (λ h l. user_rows-table h.users l.users) (λ h l. l.ranges.uids_apart) hosts pins.users users.0 few all are.user_pins users.1;
-      groups = accounts-lawful Group (λ (r : HostRanges). r.gid) (λ (r : HostRanges). r.sys_gid) (λ (h : Host). group_rows h.groups) (λ h l. group_rows-table h.groups l.groups) (λ h l. l.ranges.gids_apart) hosts pins.groups groups.0 few all are.group_pins groups.1;
+      users = accounts-lawful User (λ (r : HostRanges). r.uid) (λ (r : HostRanges). r.sys_uid) (λ (h : Host). user_rows h.users) (λ h l. user_rows-table h.users l.users) (λ h l. l.ranges.uids_apart) hosts pins.users pins.reserved_users users.0 few all are.user_pins users.1;
+      groups = accounts-lawful Group (λ (r : HostRanges). r.gid) (λ (r : HostRanges). r.sys_gid) (λ (h : Host). group_rows h.groups) (λ h l. group_rows-table h.groups l.groups) (λ h l. l.ranges.gids_apart) hosts pins.groups pins.reserved_groups groups.0 few all are.group_pins groups.1;
     })
 
 -- ---- the pins of a text

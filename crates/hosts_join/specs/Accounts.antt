@@ -9,6 +9,7 @@ use Rattle.logindefs.specs.Ranges.{in_range}
 use Rattle.hosts_join.specs.declared.Standing.{Standing}
 use Rattle.hosts_join.specs.declared.Standing.TheVariants.{Regular, System, Pinning}
 use Rattle.hosts_join.specs.declared.Spot.{Spot}
+use Rattle.hosts_join.specs.declared.reserving.Reserved.{Reserved}
 
 -- a host: its name, and its regular and its system range for the kind
 pub record HostEntry : Type 0 where
@@ -34,11 +35,13 @@ pub record Pair : Type 0 where
   pub name : List ℕ
   pub number : ℕ
 
--- The accounts of one kind. The names stand in order of first appearance: hosts in order, and on a host its rows in order.
+-- The accounts of one kind, the pins of the kind, and which numbers no name is to be given.
+-- The names stand in order of first appearance: hosts in order, and on a host its rows in order.
 pub record Accounts : Type 0 where
   pub hosts : List HostEntry
   pub names : List Account
   pub pins : List Pair
+  pub reserved : List Reserved
 
 -- On its own host a number is regular if it is in the regular range, system if it is in the system range, else pinning.
 abbrev pub standing_on : IdRange → IdRange → ℕ → Standing

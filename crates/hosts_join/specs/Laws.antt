@@ -1,15 +1,23 @@
 -- What holds of a site that was joined.
 -- Source: this project's own rule.
-use Rattle.std.specs.Prelude.{◌≡◌, ℕ, ◌≤◌, List, length, Option, Some, None, Ok, slice_get}
-use Rattle.std.specs.List.{All}
-use Rattle.hosts_join.specs.Accounts.{Account, owner, place_of}
+use Rattle.std.specs.Prelude.{◌≡◌, ℕ, ◌<◌, ◌≤◌, true, false, not, ◌&&◌, List, [], length, Option, Some, None, Ok, slice_get}
+use Rattle.std.specs.List.{All, list_all}
+use Rattle.idtext.specs.First.{or_else}
+use Rattle.logindefs.specs.Ranges.{in_range}
+use Rattle.hosts_join.specs.Accounts.{Account, Accounts, owner, place_of}
 use Rattle.hosts_join.specs.Hosts.{IsLawfulHost}
 use Rattle.hosts_join.specs.Kinds.{user_at, group_at}
 use Rattle.hosts_join.specs.Lawful.{AreLawfulAccounts}
 use Rattle.hosts_join.specs.PinPairs.{PinPairs, ArePinPairs}
 use Rattle.hosts_join.specs.PinsText.{pins_of}
+use Rattle.hosts_join.specs.Rules.{account, claims, clash, class_of, disagrees, first_some, in_pool, is_id, is_reserved, is_taken, refusal, too_small}
 use Rattle.hosts_join.specs.Site.{Joined, joined_site}
+use Rattle.hosts_join.specs.declared.Class.{Class}
+use Rattle.hosts_join.specs.declared.Class.TheVariants.{Pinned, Regular, System}
+use Rattle.hosts_join.specs.declared.Which.{Which}
+use Rattle.hosts_join.specs.declared.fault.PoolClass.TheVariants as pool
 use Rattle.hosts_join.specs.declared.host.Host.{Host}
+use Rattle.hosts_join.specs.declared.reserving.Reserved.{Reserved}
 
 -- Who has a number on a host: the account of the name that the host's own table gives the number, or none where it gives none.
 -- told: what the table gives
@@ -41,3 +49,39 @@ JoinedSitesAreLawful = (hosts : List Host) (pins : PinPairs) (site : Joined) →
 -- the pins that a text gives are pins
 abbrev pub ReadPinsArePins : Type 0
 ReadPinsArePins = (text : List ℕ) (pins : PinPairs) → pins_of text ≡ Ok pins → ArePinPairs pins
+
+-- No name may be given a reserved number: none is pinned to one, no pool has one, and none is
+-- given away to a name that no host has.
+pub record LeavesReserved (a : Accounts) (reserved : List Reserved) : Type 0 where
+  pub pins : (i v : ℕ) → i < length a.names → class_of a.pins (account a i) ≡ Pinned v
+      → is_reserved reserved v ≡ false
+  pub pools : (c : Class) (v : ℕ) → in_pool a c v ≡ true → is_reserved reserved v ≡ false
+  pub given_away : All (λ p. is_reserved reserved p.number ≡ false) (claims a)
+
+-- a joined site leaves what was reserved of each kind
+abbrev pub JoinedSitesLeaveReserved : Type 0
+JoinedSitesLeaveReserved =
+    (hosts : List Host) (pins : PinPairs) (site : Joined) → joined_site hosts pins ≡ Ok site
+    → LeavesReserved site.users pins.reserved_users × LeavesReserved site.groups pins.reserved_groups
+
+-- The pools lack only the numbers that names are given, and no name is refused for a reserved one.
+pub record IsWithoutReserving (kind : Which) (a : Accounts) : Type 0 where
+  pub regular : (v : ℕ) → in_pool a Regular v
+      ≡ ((is_id v && list_all (λ h. in_range h.regular v) a.hosts) && not (is_taken (claims a) v))
+  pub system : (v : ℕ) → in_pool a System v
+      ≡ ((is_id v && list_all (λ h. in_range h.system v) a.hosts) && not (is_taken (claims a) v))
+  pub refused : refusal kind a
+      ≡ or_else (first_some (disagrees kind a.hosts a.pins) a.names)
+      (or_else (clash kind (claims a))
+      (or_else (too_small kind a pool.Regular) (too_small kind a pool.System)))
+
+-- where nothing is reserved, a join is as if nothing could be
+abbrev pub NothingReservedChangesNothing : Type 0
+NothingReservedChangesNothing =
+    (kind : Which) (a : Accounts) → a.reserved ≡ [] → IsWithoutReserving kind a
+
+-- a pins text reserves nothing
+abbrev pub ReadPinsReserveNothing : Type 0
+ReadPinsReserveNothing =
+    (text : List ℕ) (pins : PinPairs) → pins_of text ≡ Ok pins
+    → (pins.reserved_users ≡ []) × (pins.reserved_groups ≡ [])

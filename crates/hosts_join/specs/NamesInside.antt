@@ -11,7 +11,12 @@ use Rattle.hosts_join.specs.declared.Class.TheVariants.{Regular, System}
 use Rattle.hosts_join.specs.declared.names.Names.TheInside.{Inside}
 
 abbrev pub accounts_of : Inside → Accounts
-accounts_of n = record { hosts = map entry_of n.hosts.items; names = accounts_in n.index; pins = pairs_of n.pins.items }
+accounts_of n = record {
+  hosts = map entry_of n.hosts.items;
+  names = accounts_in n.index;
+  pins = pairs_of n.given.pins.items;
+  reserved = n.given.reserved.items;
+}
 
 pub record IsNames (n : Inside) : Type 0 where
   pub index : IsIndex n.index
@@ -19,7 +24,7 @@ pub record IsNames (n : Inside) : Type 0 where
   pub once : (i : ℕ) → IsOnceEach (slice_index_or (accounts_in n.index) i nobody).spots
   pub lines : n.all_lines ≡ all_lines (accounts_in n.index)
   pub few_lines : n.all_lines ≤ 4194304
-  pub classes : n.classes.items ≡ map (class_of (pairs_of n.pins.items)) (accounts_in n.index)
+  pub classes : n.classes.items ≡ map (class_of (pairs_of n.given.pins.items)) (accounts_in n.index)
   pub regular : (v : ℕ) → in_runs n.regular v ≡ in_pool (accounts_of n) Regular v
   pub system : (v : ℕ) → in_runs n.system v ≡ in_pool (accounts_of n) System v
   pub none : (v : ℕ) → in_runs n.none v ≡ false

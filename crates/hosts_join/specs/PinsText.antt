@@ -20,9 +20,14 @@ abbrev pub pins_told : PinsFault → Option PinsFault
 pins_told Memory = None
 pins_told f = Some f
 
--- the pairs of each kind that these lines give, in the order of the lines
+-- the pairs of each kind that these lines give, in the order of the lines; they reserve nothing
 abbrev pub pins_on : List (List ℕ) → PinPairs
-pins_on lines = record { users = flat_map (λ line. user_pair (pair_line_of line)) lines; groups = flat_map (λ line. group_pair (pair_line_of line)) lines }
+pins_on lines = record {
+  users = flat_map (λ line. user_pair (pair_line_of line)) lines;
+  groups = flat_map (λ line. group_pair (pair_line_of line)) lines;
+  reserved_users = [];
+  reserved_groups = [];
+}
 
 -- neither the name nor the number stands in a pair
 abbrev pub is_new_pin : List Pair → List ℕ → ℕ → Bool

@@ -1,6 +1,6 @@
 -- The rules of a site, for the accounts of one kind: which names are pinned, to what, and which numbers a free name may get.
 -- Source: this project's own rule.
-use Rattle.std.specs.Prelude.{ℕ, ◌^◌, Bool, true, false, not, ◌&&◌, ◌==◌, nat_le, nat_lt, slice_get, if◌then◌else◌, List, [], ◌∷◌, ◌++◌, map, filter, count_by, find, Option, Some, None, Result, slice_index_or}
+use Rattle.std.specs.Prelude.{ℕ, ◌^◌, Bool, true, false, not, ◌&&◌, ◌||◌, ◌==◌, nat_le, nat_lt, slice_get, if◌then◌else◌, List, [], ◌∷◌, ◌++◌, map, filter, count_by, find, Option, Some, None, Result, slice_index_or}
 use Rattle.std.specs.Option.{option_map, option_to_list, option_and_then}
 use Rattle.std.specs.List.{list_any, list_all, flat_map}
 use Rattle.std.specs.Str.{bytes_eq}
@@ -13,13 +13,14 @@ use Rattle.hosts_join.specs.Count.{count_below}
 use Rattle.hosts_join.specs.declared.fault.PoolClass.{PoolClass}
 use Rattle.hosts_join.specs.declared.fault.PoolClass.TheVariants as pool
 use Rattle.hosts_join.specs.declared.fault.SiteFault.{SiteFault}
-use Rattle.hosts_join.specs.declared.fault.SiteFault.TheVariants.{PinDisagrees, PinClash, PoolTooSmall}
+use Rattle.hosts_join.specs.declared.fault.SiteFault.TheVariants.{PinDisagrees, PinReserved, PinClash, PoolTooSmall}
 use Rattle.hosts_join.specs.declared.Standing.{Standing}
 use Rattle.hosts_join.specs.declared.Standing.TheVariants as on
 use Rattle.hosts_join.specs.declared.Class.{Class}
 use Rattle.hosts_join.specs.declared.Class.TheVariants.{Pinned, Regular, System}
 use Rattle.hosts_join.specs.declared.Which.{Which}
 use Rattle.hosts_join.specs.declared.Source.{Source}
+use Rattle.hosts_join.specs.declared.reserving.Reserved.{Reserved}
 
 abbrev pub is_pinning : Standing → Bool
 is_pinning on.Pinning = true
@@ -78,20 +79,29 @@ abbrev pub is_name : List Account → List ℕ → Bool
 is_name names n = list_any (λ a. bytes_eq n a.name) names
 
 -- the pairs of the pins text whose name is on no host
-abbrev pub reserved : List Account → List Pair → List Pair
-reserved names pins = filter (λ p. not (is_name names p.name)) pins
+abbrev pub absent_pins : List Account → List Pair → List Pair
+absent_pins names pins = filter (λ p. not (is_name names p.name)) pins
 
 -- the pinned names, each with its pin
 abbrev pub pinned_names : List Pair → List Account → List Pair
 pinned_names pins names = flat_map (λ n. pinned_to (class_of pins n) n.name) names
 
--- the numbers that are given away: those of the pinned names, and then those of names in the pins text that no host has
+-- the names that are given a number before all others: the pinned names, and then those in the
+-- pins text that no host has
 abbrev pub claims : Accounts → List Pair
-claims a = pinned_names a.pins a.names ++ reserved a.names a.pins
+claims a = pinned_names a.pins a.names ++ absent_pins a.names a.pins
 
 -- some name is given the number
 abbrev pub is_taken : List Pair → ℕ → Bool
 is_taken given v = list_any (λ p. p.number == v) given
+
+-- no name is to be given the number
+abbrev pub is_reserved : List Reserved → ℕ → Bool
+is_reserved reserved v = list_any (λ r. in_range r.numbers v) reserved
+
+-- a name without a pin cannot get the number: it is taken, or reserved
+abbrev pub is_given_away : Accounts → ℕ → Bool
+is_given_away a v = is_taken (claims a) v || is_reserved a.reserved v
 
 -- the number may have an account
 abbrev pub is_id : ℕ → Bool
@@ -101,8 +111,8 @@ is_id v = nat_le v 4294967294
 -- pool. (The test `is_id` is for ranges made by hand: those of a login.defs hold no other number.)
 abbrev pub in_pool : Accounts → Class → ℕ → Bool
 in_pool a (Pinned v) w = false
-in_pool a Regular w = (is_id w && list_all (λ h. in_range h.regular w) a.hosts) && not (is_taken (claims a) w)
-in_pool a System w = (is_id w && list_all (λ h. in_range h.system w) a.hosts) && not (is_taken (claims a) w)
+in_pool a Regular w = (is_id w && list_all (λ h. in_range h.regular w) a.hosts) && not (is_given_away a w)
+in_pool a System w = (is_id w && list_all (λ h. in_range h.system w) a.hosts) && not (is_given_away a w)
 
 -- a name of the class has no pin
 abbrev pub is_free_class : Class → Bool
@@ -129,13 +139,21 @@ same_class System System = true
 abbrev pub names_in : Accounts → Class → ℕ
 names_in a c = count_by (λ n. same_class c (class_of a.pins n)) a.names
 
--- The three refusals.
+-- The four refusals.
 
 abbrev pub host_name : List HostEntry → Source → Option (List ℕ)
 host_name hosts s = option_and_then (λ h. option_map (λ e. e.name) (slice_get hosts h)) s.host
 
 abbrev pub disagrees : Which → List HostEntry → List Pair → Account → Option SiteFault
 disagrees kind hosts pins n = option_map (λ d. PinDisagrees kind n.name (host_name hosts d.0) (host_name hosts d.1)) (disagreement (sources pins n))
+
+-- the first that reserves the number
+abbrev pub reserver : List Reserved → ℕ → Option Reserved
+reserver reserved v = find (λ r. in_range r.numbers v) reserved
+
+abbrev pub pin_reserved : Which → List Reserved → Pair → Option SiteFault
+pin_reserved kind reserved p =
+    option_map (λ r. PinReserved kind p.number p.name r) (reserver reserved p.number)
 
 -- a number with two names
 pub record Clash : Type 0 where
@@ -167,6 +185,12 @@ clash_of given = least (repeats [] given)
 abbrev pub clash : Which → List Pair → Option SiteFault
 clash kind given = option_map (λ d. PinClash kind d.number d.first d.second) (clash_of given)
 
+-- what is wrong with numbers that are given to names: the first that is reserved, or else the
+-- least that two names are given
+abbrev pub claim_fault : Which → List Reserved → List Pair → Option SiteFault
+claim_fault kind reserved given =
+    or_else (first_some (pin_reserved kind reserved) given) (clash kind given)
+
 -- the class of the names that a pool serves
 abbrev pub class_served : PoolClass → Class
 class_served pool.Regular = Regular
@@ -175,9 +199,13 @@ class_served pool.System = System
 abbrev pub too_small : Which → Accounts → PoolClass → Option SiteFault
 too_small kind a c = if nat_lt (pool_size a (class_served c)) (names_in a (class_served c)) then Some (PoolTooSmall kind c (names_in a (class_served c)) (pool_size a (class_served c))) else None
 
--- the first refusal: a name whose pins disagree, then a number with two names, then a pool with fewer numbers than names
+-- the first refusal: a name whose pins disagree, then a pin at a reserved number, then a number
+-- with two names, then a pool with fewer numbers than names
 abbrev pub refusal : Which → Accounts → Option SiteFault
-refusal kind a = or_else (first_some (disagrees kind a.hosts a.pins) a.names) (or_else (clash kind (claims a)) (or_else (too_small kind a pool.Regular) (too_small kind a pool.System)))
+refusal kind a =
+    or_else (first_some (disagrees kind a.hosts a.pins) a.names)
+    (or_else (claim_fault kind a.reserved (claims a))
+    (or_else (too_small kind a pool.Regular) (too_small kind a pool.System)))
 
 -- the accounts, where nothing is refused
 abbrev pub joined : Which → Accounts → Result Accounts SiteFault

@@ -13,6 +13,7 @@ use Rattle.hosts_join.specs.declared.fault.SiteFault.TheVariants.{PoolTooSmall}
 use Rattle.hosts_join.specs.declared.index.Index.{Index}
 use Rattle.hosts_join.specs.declared.names.PoolPair.{PoolPair}
 use Rattle.hosts_join.specs.declared.names.Settled.{Settled}
+use Rattle.hosts_join.specs.declared.reserving.Reserved.{Reserved}
 use Rattle.hosts_join.specs.Accounts.{Accounts, Pair}
 use Rattle.hosts_join.specs.Index.{accounts_in}
 use Rattle.hosts_join.specs.Pool.{in_runs, run_size}
@@ -20,8 +21,13 @@ use Rattle.hosts_join.specs.Rules.{class_of, clash_of, claims, in_pool, names_in
 use Rattle.hosts_join.specs.Views.{entry_of}
 
 -- the accounts that the tables of a join stand for
-abbrev pub joined_from : List HostEntry → Index → List Pair → Accounts
-joined_from hosts index pins = record { hosts = map entry_of hosts; names = accounts_in index; pins = pins }
+abbrev pub joined_from : List HostEntry → Index → List Pair → List Reserved → Accounts
+joined_from hosts index pins reserved = record {
+  hosts = map entry_of hosts;
+  names = accounts_in index;
+  pins = pins;
+  reserved = reserved;
+}
 
 pub record ArePools (a : Accounts) (p : PoolPair) : Type 0 where
   pub regular : (v : ℕ) → in_runs p.regular v ≡ in_pool a Regular v

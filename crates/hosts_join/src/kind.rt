@@ -1,5 +1,5 @@
 //! Users and groups.
-use crate::{Host, Pair, PairTable, Pins, Which};
+use crate::{Host, Pair, PairTable, Pins, Reserved, Which};
 use logindefs::{HostRanges, IdRange};
 
 /// Users or groups: what a host, its ranges and the pins have of the kind. No call takes memory, and
@@ -12,6 +12,7 @@ pub trait Kind {
     ghost use Rattle.logindefs.specs.declared.ranges.HostRanges.{HostRanges};
     ghost use Rattle.hosts_join.specs.declared.Which.{Which};
     ghost use Rattle.hosts_join.specs.declared.host.Host.{Host};
+    ghost use Rattle.hosts_join.specs.declared.reserving.Reserved.{Reserved};
     ghost use Rattle.hosts_join.specs.PinPairs.{PinPairs, ArePins};
     ghost use Rattle.hosts_join.specs.Hosts.{IsLawfulHost};
     ghost use Rattle.hosts_join.specs.Accounts as spec;
@@ -28,6 +29,9 @@ pub trait Kind {
 
     // The pins of the kind, in order of their lines.
     ghost pinned: { PinPairs → List spec.Pair };
+
+    // What is reserved of the kind.
+    ghost reserved_of: { PinPairs → List Reserved };
 
     // The number of the kind among an owner's two.
     ghost number_of: { ℕ → ℕ → ℕ };
@@ -63,6 +67,10 @@ pub trait Kind {
         ensures pairs { result.now ≡ pinned pins.now }
         ensures lawful { ArePins result.now };
 
+    /// The numbers of the kind that no name is to be given.
+    fn reserved<'p, 'a>(pins: &'p Pins<'a>) -> &'p [Reserved<'a>]
+        ensures { result.now ≡ reserved_of pins.now };
+
     /// The number of the kind among an owner's two.
     fn pick(uid: u32, gid: u32) -> u32
         ensures { result ≡ number_of uid gid };
@@ -93,6 +101,8 @@ impl Kind for Users {
     ghost system_range = { λ r. r.sys_uid };
 
     ghost pinned = { λ p. p.users };
+
+    ghost reserved_of = { λ p. p.reserved_users };
 
     ghost number_of = { λ uid gid. uid };
 
@@ -126,6 +136,10 @@ impl Kind for Users {
         pins.user_pins()
     }
 
+    fn reserved<'p, 'a>(pins: &'p Pins<'a>) -> &'p [Reserved<'a>] {
+        pins.reserved_users()
+    }
+
     fn pick(uid: u32, _gid: u32) -> u32 {
         uid
     }
@@ -148,6 +162,8 @@ impl Kind for Groups {
     ghost system_range = { λ r. r.sys_gid };
 
     ghost pinned = { λ p. p.groups };
+
+    ghost reserved_of = { λ p. p.reserved_groups };
 
     ghost number_of = { λ uid gid. gid };
 
@@ -179,6 +195,10 @@ impl Kind for Groups {
 
     fn pins<'p, 'a>(pins: &'p Pins<'a>) -> &'p PairTable<'a> {
         pins.group_pins()
+    }
+
+    fn reserved<'p, 'a>(pins: &'p Pins<'a>) -> &'p [Reserved<'a>] {
+        pins.reserved_groups()
     }
 
     fn pick(_uid: u32, gid: u32) -> u32 {

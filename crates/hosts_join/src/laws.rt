@@ -1,5 +1,5 @@
 //! Laws of the join, each the contract of a call that does nothing.
-ghost use Rattle.hosts_join.specs.Laws.{JoinedSitesAreLawful, JoinedSitesKnowTheirHosts, ReadPinsArePins};
+ghost use Rattle.hosts_join.specs.Laws.{JoinedSitesAreLawful, JoinedSitesKnowTheirHosts, JoinedSitesLeaveReserved, NothingReservedChangesNothing, ReadPinsArePins, ReadPinsReserveNothing};
 
 /// A site knows the accounts of each of its hosts: who has a number there is the account of the name that the host's own
 /// passwd, or group, gives that number, and where it gives it to no name no account has it.
@@ -15,4 +15,20 @@ pub fn a_site_has_lawful_accounts()
 /// In the pins that a text gives, names differ and numbers differ, in each kind, and an account may have each number.
 pub fn pins_are_lawful()
     ensures { ReadPinsArePins }
+{}
+
+/// No name of a joined site may be given a reserved number: none is pinned to one, no pool has one,
+/// and the pins text keeps none for a name that no host has.
+pub fn a_site_leaves_reserved_numbers()
+    ensures { JoinedSitesLeaveReserved }
+{}
+
+/// Where nothing is reserved, pools and refusals are as if nothing could be.
+pub fn nothing_reserved_changes_nothing()
+    ensures { NothingReservedChangesNothing }
+{}
+
+/// The pins that a text gives reserve nothing.
+pub fn read_pins_reserve_nothing()
+    ensures { ReadPinsReserveNothing }
 {}

@@ -18,6 +18,7 @@ mod pair_lines;
 mod pairs;
 mod pins;
 mod pool;
+mod reserving;
 mod texts;
 
 pub use checks::{check_hosts, check_primary, is_host_name};
@@ -25,13 +26,17 @@ pub use fault::{PinsFault, PoolClass, SiteFault};
 pub use host::Host;
 pub use joining::{Site, join, join_kind};
 pub use kind::{Groups, Kind, Users};
-pub use laws::{a_site_has_lawful_accounts, a_site_knows_its_hosts, pins_are_lawful};
+pub use laws::{
+    a_site_has_lawful_accounts, a_site_knows_its_hosts, a_site_leaves_reserved_numbers,
+    nothing_reserved_changes_nothing, pins_are_lawful, read_pins_reserve_nothing,
+};
 use logindefs::IdRange;
 pub use names::Names;
 pub use pair_lines::{PairLine, pair_line};
 pub use pairs::PairTable;
 pub use pins::Pins;
 pub use pool::Pool;
+pub use reserving::{Reserved, Reserver};
 pub use texts::HostText;
 
 /// Users or groups.

@@ -96,7 +96,7 @@ pub fn claims<'a>(
 ) -> Result<Vec<Pair<'a>>, AllocError>
     requires paired { ArePaired index.now }
     requires classes { classes.now ≡ map (rules.class_of pins.now) (accounts_in index.now) }
-    ensures { IfOk result (λ claims. pairs_of claims.items ≡ rules.pinned_names pins.now (accounts_in index.now) ++ rules.reserved (accounts_in index.now) pins.now) }
+    ensures { IfOk result (λ claims. pairs_of claims.items ≡ rules.pinned_names pins.now (accounts_in index.now) ++ rules.absent_pins (accounts_in index.now) pins.now) }
 {
     let mut claims = pinned_names(alloc, index, classes, pins)?;
     for place in 0..pins.len() {

@@ -1,13 +1,13 @@
 //! The names of one kind over all hosts.
-ghost use Rattle.std.specs.Prelude.{◌≡◌, ℕ, List, ◌<◌, ◌≤◌, ◌&&◌, ◌==◌, not, map, length, OnOk, IfOk, IfErr, IfSome, Some, None, count_by};
-ghost use Rattle.std.specs.List.{All, list_all, list_any, find};
+ghost use Rattle.std.specs.Prelude.{◌≡◌, ℕ, List, ◌<◌, ◌≤◌, ◌&&◌, ◌||◌, ◌==◌, not, map, length, OnOk, IfOk, IfErr, IfSome, Some, None, count_by};
+ghost use Rattle.std.specs.List.{All, list_all, find};
 ghost use Rattle.std.specs.Option.{option_map};
 ghost use Rattle.idtext.specs.First.{Gives};
 ghost use Rattle.idtext.specs.Names.{is_lawful_name};
-ghost use Rattle.hosts_join.specs.Pool.{AreAscending, in_runs, run_size};
+ghost use Rattle.hosts_join.specs.Pool.{in_runs, run_size};
 ghost use Rattle.hosts_join.specs.Index.{accounts_in, ArePaired};
 ghost use Rattle.hosts_join.specs.Rules as rules;
-ghost use Rattle.hosts_join.specs.Rules.{clash_of, is_taken, is_id, joined};
+ghost use Rattle.hosts_join.specs.Rules.{claim_fault, is_taken, is_reserved, is_id, joined};
 ghost use Rattle.hosts_join.specs.Settled.{ArePools, IsSettled, joined_from, lacking, small_among};
 ghost use Rattle.hosts_join.specs.Accounts.{AreNumberedApart, AreNamedApart, IsSpotAmong, grouped, spot_of, spots_of};
 ghost use Rattle.hosts_join.specs.PinPairs.{ArePins};
@@ -20,19 +20,20 @@ ghost use Rattle.logindefs.specs.Ranges.{in_range};
 use crate::clash::{Clash, find_clash};
 use crate::index::Index;
 use crate::members::{claims, classes, common_regular, common_system, names_in};
+use crate::reserving::{check_reserved, copy_reserved, given_away};
 use crate::{
-    Class, HostEntry, Pair, PairTable, Pool, PoolClass, Row, Seat, SiteFault, Spot, Which,
+    Class, HostEntry, Pair, PairTable, Pool, PoolClass, Reserved, Row, Seat, SiteFault, Spot, Which,
 };
 use idtext::Name;
 use std::alloc::{AllocError, Global};
 use std::marker::Model;
 
 /// The names of one kind, by index in order of first appearance: hosts in order, and on a host its rows in order. A
-/// contract sees the accounts that they were joined from: for its sake alone the hosts and a copy of the pins of the kind
-/// are kept. No call takes memory.
+/// contract sees the accounts that they were joined from: for its sake alone the hosts are kept, and
+/// a copy of the pins of the kind and of what is reserved. No call takes memory.
 pub struct Names<'a> {
     hosts: Vec<HostEntry<'a>>,
-    pins: Vec<Pair<'a>>,
+    given: Given<'a>,
     index: Index<'a>,
     all_lines: u64,
     classes: Vec<Class>,
@@ -46,7 +47,7 @@ impl Drop for Names<'_> {
     fn drop(self) {
         let Names {
             hosts,
-            pins,
+            given,
             index,
             all_lines: _,
             classes,
@@ -55,7 +56,7 @@ impl Drop for Names<'_> {
             none,
         } = self;
         drop(hosts);
-        drop(pins);
+        drop(given);
         drop(index);
         drop(classes);
         drop(regular);
@@ -76,21 +77,11 @@ impl<'a> Model for Names<'a> {
     ghost invariant = { IsNames };
 }
 
-/// The numbers of claims, in their order.
-fn claimed(alloc: Global, claims: &[Pair<'_>]) -> Result<Vec<u32>, AllocError>
-    ensures { IfOk result (λ ns. ns.items ≡ map (λ p. p.number) claims.now) }
-{
-    claims.iter().map(|claim| claim.number).collect(alloc)
-}
-
-/// The numbers of claims, ascending.
-fn numbers(alloc: Global, claims: &[Pair<'_>]) -> Result<Vec<u32>, AllocError>
-    ensures ascending { IfOk result (λ ns. AreAscending ns.items) }
-    ensures numbers { IfOk result (λ ns. (v : ℕ) → list_any (λ t. t == v) ns.items ≡ is_taken (pairs_of claims.now) v) }
-{
-    let mut numbers = claimed(alloc, claims)?;
-    numbers.sort_unstable();
-    Ok(numbers)
+/// What was given beside the hosts: the pins of the kind, and what is reserved.
+#[derive(Drop)]
+struct Given<'a> {
+    pins: Vec<Pair<'a>>,
+    reserved: Vec<Reserved<'a>>,
 }
 
 /// The pools of regular and of system names.
@@ -100,18 +91,19 @@ struct PoolPair {
     system: Pool,
 }
 
-/// The pools of regular and of system names, where the claims are given away.
+/// The pools of regular and of system names, where the claims and what is reserved are given away.
 fn pools(
     alloc: Global,
     hosts: &[HostEntry<'_>],
     claims: &[Pair<'_>],
+    reserved: &[Reserved<'_>],
 ) -> Result<PoolPair, AllocError>
-    ensures regular { IfOk result (λ p. (v : ℕ) → in_runs p.regular v ≡ ((is_id v && list_all (λ h. in_range h.regular v) (map entry_of hosts.now)) && not (is_taken (pairs_of claims.now) v))) }
-    ensures system { IfOk result (λ p. (v : ℕ) → in_runs p.system v ≡ ((is_id v && list_all (λ h. in_range h.system v) (map entry_of hosts.now)) && not (is_taken (pairs_of claims.now) v))) }
+    ensures regular { IfOk result (λ p. (v : ℕ) → in_runs p.regular v ≡ ((is_id v && list_all (λ h. in_range h.regular v) (map entry_of hosts.now)) && not (is_taken (pairs_of claims.now) v || is_reserved reserved.now v))) }
+    ensures system { IfOk result (λ p. (v : ℕ) → in_runs p.system v ≡ ((is_id v && list_all (λ h. in_range h.system v) (map entry_of hosts.now)) && not (is_taken (pairs_of claims.now) v || is_reserved reserved.now v))) }
 {
-    let taken = numbers(alloc, claims)?;
-    let regular = Pool::of(alloc, common_regular(hosts), taken.as_slice())?;
-    let system = Pool::of(alloc, common_system(hosts), taken.as_slice())?;
+    let away = given_away(alloc, claims, reserved)?;
+    let regular = Pool::of(alloc, common_regular(hosts), away.as_slice())?;
+    let system = Pool::of(alloc, common_system(hosts), away.as_slice())?;
     Ok(PoolPair { regular, system })
 }
 
@@ -126,6 +118,20 @@ fn copy_pins<'a>(alloc: Global, pins: &PairTable<'a>) -> Result<Vec<Pair<'a>>, A
     Ok(copy)
 }
 
+/// A copy of the pins and of what is reserved.
+fn copy_given<'a>(
+    alloc: Global,
+    pins: &PairTable<'a>,
+    reserved: &[Reserved<'a>],
+) -> Result<Given<'a>, AllocError>
+    ensures pins { IfOk result (λ given. pairs_of given.pins.items ≡ pins.now) }
+    ensures reserved { IfOk result (λ given. given.reserved.items ≡ reserved.now) }
+{
+    let pins = copy_pins(alloc, pins)?;
+    let reserved = copy_reserved(alloc, reserved)?;
+    Ok(Given { pins, reserved })
+}
+
 /// The refusal of a number that two names are pinned to.
 fn clash_fault<'a>(kind: Which, clash: Clash<'a>) -> SiteFault<'a>
     ensures { result ≡ refusal.PinClash kind clash.entry.number clash.entry.first.now clash.entry.second.now }
@@ -138,18 +144,24 @@ fn clash_fault<'a>(kind: Which, clash: Clash<'a>) -> SiteFault<'a>
     }
 }
 
-/// Sees that no number is given to two names.
-fn check_claims<'a>(alloc: Global, kind: Which, claims: &[Pair<'a>]) -> Result<(), SiteFault<'a>>
-    ensures apart { OnOk result (clash_of (pairs_of claims.now) ≡ None) }
-    ensures clash { IfErr result (λ e. IfSome (told e) (λ f. rules.clash kind (pairs_of claims.now) ≡ Some f)) }
+/// Sees that no number is given to a name that is reserved, nor to two names.
+fn check_claims<'a>(
+    alloc: Global,
+    kind: Which,
+    claims: &[Pair<'a>],
+    reserved: &[Reserved<'a>],
+) -> Result<(), SiteFault<'a>>
+    ensures good { OnOk result (claim_fault kind reserved.now (pairs_of claims.now) ≡ None) }
+    ensures fault { IfErr result (λ e. IfSome (told e) (λ f. claim_fault kind reserved.now (pairs_of claims.now) ≡ Some f)) }
 {
+    check_reserved(alloc, kind, claims, reserved)?;
     match find_clash(alloc, claims)? {
         Some(clash) => Err(clash_fault(kind, clash)),
         None => Ok(()),
     }
 }
 
-/// The pools of names that have these classes, or the number that is given to two of them.
+/// The pools of names that have these classes, or what is wrong with the numbers of some of them.
 fn pools_beside<'a>(
     alloc: Global,
     kind: Which,
@@ -157,16 +169,17 @@ fn pools_beside<'a>(
     index: &Index<'a>,
     classes: &[Class],
     pins: &PairTable<'a>,
+    reserved: &[Reserved<'a>],
 ) -> Result<PoolPair, SiteFault<'a>>
     requires paired { ArePaired index.now }
     requires classes { classes.now ≡ map (rules.class_of pins.now) (accounts_in index.now) }
-    ensures pools { IfOk result (ArePools (joined_from hosts.now index.now pins.now)) }
-    ensures apart { OnOk result (clash_of (rules.claims (joined_from hosts.now index.now pins.now)) ≡ None) }
-    ensures clash { IfErr result (λ e. IfSome (told e) (λ f. rules.clash kind (rules.claims (joined_from hosts.now index.now pins.now)) ≡ Some f)) }
+    ensures pools { IfOk result (ArePools (joined_from hosts.now index.now pins.now reserved.now)) }
+    ensures good { OnOk result (claim_fault kind reserved.now (rules.claims (joined_from hosts.now index.now pins.now reserved.now)) ≡ None) }
+    ensures fault { IfErr result (λ e. IfSome (told e) (λ f. claim_fault kind reserved.now (rules.claims (joined_from hosts.now index.now pins.now reserved.now)) ≡ Some f)) }
 {
     let claims = claims(alloc, index, classes, pins)?;
-    check_claims(alloc, kind, claims.as_slice())?;
-    Ok(pools(alloc, hosts, claims.as_slice())?)
+    check_claims(alloc, kind, claims.as_slice(), reserved)?;
+    Ok(pools(alloc, hosts, claims.as_slice(), reserved)?)
 }
 
 /// What is wrong with a pool of so many numbers, whose class has so many names.
@@ -212,13 +225,22 @@ fn settle<'a>(
     hosts: &[HostEntry<'a>],
     index: &Index<'a>,
     pins: &PairTable<'a>,
+    reserved: &[Reserved<'a>],
 ) -> Result<Settled, SiteFault<'a>>
     requires { ArePaired index.now }
-    ensures exact { Gives (λ _. joined_from hosts.now index.now pins.now) told result (joined kind (joined_from hosts.now index.now pins.now)) }
-    ensures settled { IfOk result (IsSettled (joined_from hosts.now index.now pins.now)) }
+    ensures exact { Gives (λ _. joined_from hosts.now index.now pins.now reserved.now) told result (joined kind (joined_from hosts.now index.now pins.now reserved.now)) }
+    ensures settled { IfOk result (IsSettled (joined_from hosts.now index.now pins.now reserved.now)) }
 {
     let classes = classes(alloc, kind, hosts, index, pins)?;
-    let pools = pools_beside(alloc, kind, hosts, index, classes.as_slice(), pins)?;
+    let pools = pools_beside(
+        alloc,
+        kind,
+        hosts,
+        index,
+        classes.as_slice(),
+        pins,
+        reserved,
+    )?;
     if let Some(fault) = small_pool(kind, classes.as_slice(), &pools) {
         return Err(fault);
     }
@@ -232,6 +254,7 @@ pub fn join_rows<'a>(
     hosts: Vec<HostEntry<'a>>,
     rows: &[Row<'a>],
     pins: &PairTable<'a>,
+    reserved: &[Reserved<'a>],
 ) -> Result<Names<'a>, SiteFault<'a>>
     requires apart { AreNumberedApart (rows_of rows.now) }
     requires named { AreNamedApart (rows_of rows.now) }
@@ -241,16 +264,16 @@ pub fn join_rows<'a>(
     requires spots { (n : List ℕ) → length (spots_of (rows_of rows.now) n) ≤ 64 }
     requires pins { ArePins pins.now }
     requires ranges { (v : ℕ) → list_all (λ h. in_range h.regular v) (map entry_of hosts.items) ≡ true → list_all (λ h. in_range h.system v) (map entry_of hosts.items) ≡ true → length rows.now ≡ 0 }
-    ensures { Gives (λ names. names) told result (joined kind (record { hosts = map entry_of hosts.entry.items; names = grouped (rows_of rows.now); pins = pins.now })) }
+    ensures { Gives (λ names. names) told result (joined kind (record { hosts = map entry_of hosts.entry.items; names = grouped (rows_of rows.now); pins = pins.now; reserved = reserved.now })) }
 {
     let index = Index::of(alloc, rows)?;
-    let pin_list = copy_pins(alloc, pins)?;
-    let settled = settle(alloc, kind, hosts.as_slice(), &index, pins)?;
+    let given = copy_given(alloc, pins, reserved)?;
+    let settled = settle(alloc, kind, hosts.as_slice(), &index, pins, reserved)?;
     let Settled { classes, pools } = settled;
     let PoolPair { regular, system } = pools;
     Ok(Names {
         hosts,
-        pins: pin_list,
+        given,
         index,
         all_lines: rows.len() as u64,
         classes,
@@ -325,8 +348,9 @@ impl<'a> Names<'a> {
         }
     }
 
-    /// The numbers that a name of the class may get: those of its range on every host, less the pins and the numbers
-    /// that the pins text keeps for names on no host. None for a pinned name. No cost.
+    /// The numbers that a name of the class may get: those of its range on every host, less the
+    /// pins, the numbers that the pins text keeps for names on no host, and the reserved ones. None
+    /// for a pinned name. No cost.
     pub fn pool(&self, class: Class) -> &Pool
         ensures members { (v : ℕ) → in_runs result.now v ≡ rules.in_pool self.now class v }
         ensures size { run_size result.now ≡ rules.pool_size self.now class }

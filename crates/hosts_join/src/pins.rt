@@ -7,7 +7,7 @@ ghost use Rattle.hosts_join.specs.PinsText.{pins_of, pins_on, pins_told, is_new_
 ghost use Rattle.hosts_join.specs.PinsInside.{IsPinTable, IsDraft, IsIdLine, drafted};
 
 use crate::fault::PinsFault;
-use crate::{PairLine, PairTable, Which, pair_line};
+use crate::{PairLine, PairTable, Reserved, Which, pair_line};
 use idtext::Lines;
 use indexmap::IndexSet;
 use std::alloc::{AllocError, Global};
@@ -17,11 +17,14 @@ use std::marker::Model;
 const MOST_LINES: u64 = 1048576;
 
 /// The pins of both kinds: names, of the site or not, with the numbers that they are to have. Names are slices of the
-/// pins text. In each kind names differ and numbers differ, and no number is above 4294967294.
+/// pins text. In each kind names differ and numbers differ, and no number is above 4294967294. Beside
+/// them stand, for each kind, the numbers that no name is to be given.
 #[derive(Drop)]
 pub struct Pins<'a> {
     users: PairTable<'a>,
     groups: PairTable<'a>,
+    reserved_users: Vec<Reserved<'a>>,
+    reserved_groups: Vec<Reserved<'a>>,
 }
 
 impl<'a> Model for Pins<'a> {
@@ -144,6 +147,7 @@ impl<'a> Pins<'a> {
 
     /// Reads a pins text: lines `user NAME NUMBER` and `group NAME NUMBER`, where NAME is what stands between the first
     /// and the last space, blank lines, and lines that begin with `#`. The empty text has no pins.
+    /// No text reserves numbers.
     ///
     /// Refused with `BadPins`, at its line, counted from 1, is the first line that is none of these, that gives a name or a
     /// number a second time in its kind, or that is past the 1,048,576th; `Memory` where a growth was refused. One pass over
@@ -160,7 +164,28 @@ impl<'a> Pins<'a> {
         Ok(Pins {
             users: users.into_pairs(),
             groups: groups.into_pairs(),
+            reserved_users: Vec::new(alloc),
+            reserved_groups: Vec::new(alloc),
         })
+    }
+
+    /// The same pins, with these numbers reserved of each kind, in place of those that were: a join
+    /// gives them to no name, and refuses a pin at one. The ranges may share numbers. No cost.
+    pub fn with_reserved(self, users: Vec<Reserved<'a>>, groups: Vec<Reserved<'a>>) -> Pins<'a>
+        ensures { result ≡ record self.entry { reserved_users = users.entry.items; reserved_groups = groups.entry.items } }
+    {
+        let Pins {
+            users: user_pins,
+            groups: group_pins,
+            reserved_users: _,
+            reserved_groups: _,
+        } = self;
+        Pins {
+            users: user_pins,
+            groups: group_pins,
+            reserved_users: users,
+            reserved_groups: groups,
+        }
     }
 
     /// The pins of users, in the order of their lines.
@@ -177,5 +202,19 @@ impl<'a> Pins<'a> {
         ensures lawful { ArePins self.now.groups }
     {
         &self.groups
+    }
+
+    /// The reserved numbers of users.
+    pub(crate) fn reserved_users(&self) -> &[Reserved<'a>]
+        ensures { result.now ≡ self.now.reserved_users }
+    {
+        self.reserved_users.as_slice()
+    }
+
+    /// The reserved numbers of groups.
+    pub(crate) fn reserved_groups(&self) -> &[Reserved<'a>]
+        ensures { result.now ≡ self.now.reserved_groups }
+    {
+        self.reserved_groups.as_slice()
     }
 }

@@ -18,13 +18,13 @@ loop-place-preserved c =
     let here : k < length pins = omega (arith, c.len-place-end.ensures, c.loop-place-test.true) in
     let read : get_or pins k p ≡ p = got pins k p p c.at-pin.ensures in
     let more = filter-more (λ p. not (rules.is_name names p.name)) pins k p here in
-    let more' : rules.reserved names (take (k + 1) pins) ≡ rules.reserved names (take k pins) ++ cond (not (rules.is_name names p.name)) (p ∷ []) [] = rw read at more in
+    let more' : rules.absent_pins names (take (k + 1) pins) ≡ rules.absent_pins names (take k pins) ++ cond (not (rules.is_name names p.name)) (p ∷ []) [] = rw read at more in
     let before = rules.pinned_names pins names in
     rw more' (elim c.if-not-has_name.branch [
       | then-not-has_name+in_ok-push w ↦
           let out : rules.is_name names p.name ≡ false = sym c.has_name.ensures ∙ w.if-not-has_name.true in
-          rw (out, w.claims-is) (ap pairs_of w.in_ok-push.ensures.items ∙ map-append pair_of c.loop-place.claims.items (c.at-pin.result ∷ []) ∙ ap (λ (ps : List spec.Pair). ps ++ p ∷ []) c.loop-place.invariant ∙ append_assoc before (rules.reserved names (take k pins)) (p ∷ []))
+          rw (out, w.claims-is) (ap pairs_of w.in_ok-push.ensures.items ∙ map-append pair_of c.loop-place.claims.items (c.at-pin.result ∷ []) ∙ ap (λ (ps : List spec.Pair). ps ++ p ∷ []) c.loop-place.invariant ∙ append_assoc before (rules.absent_pins names (take k pins)) (p ∷ []))
       | else-not-has_name w ↦
           let there : rules.is_name names p.name ≡ true = sym c.has_name.ensures ∙ w.if-not-has_name.false in
-          rw (there, w.claims-is) (c.loop-place.invariant ∙ ap (λ ps. before ++ ps) (sym (append-nil (rules.reserved names (take k pins)))))
+          rw (there, w.claims-is) (c.loop-place.invariant ∙ ap (λ ps. before ++ ps) (sym (append-nil (rules.absent_pins names (take k pins)))))
     ])

@@ -14,12 +14,12 @@ length-rows rows = length-map rows row_of
 
 pub returns : goal.returns
 returns c =
-    let exact : joined c.args.kind (joined_from c.args.hosts.items c.in_ok-index.index c.args.pins.now) ≡ Ok (joined_from c.args.hosts.items c.in_ok-index.index c.args.pins.now) = rw c.as_slice.ensures.value at c.in_ok-settled.ensures.exact in
-    rw (← c.in_ok-index.ensures.accounts, c.in_ok-pin_list.ensures) exact
+    let exact : joined c.args.kind (joined_from c.args.hosts.items c.in_ok-index.index c.args.pins.now c.args.reserved.now) ≡ Ok (joined_from c.args.hosts.items c.in_ok-index.index c.args.pins.now c.args.reserved.now) = rw c.as_slice.ensures.value at c.in_ok-settled.ensures.exact in
+    rw (← c.in_ok-index.ensures.accounts, c.in_ok-given.ensures.pins, c.in_ok-given.ensures.reserved) exact
 
 pub invariant_of-result : goal.invariant_of-result
 invariant_of-result c =
-    let a = joined_from c.args.hosts.items c.in_ok-index.index c.args.pins.now in
+    let a = joined_from c.args.hosts.items c.in_ok-index.index c.args.pins.now c.args.reserved.now in
     let settled : IsSettled a c.in_ok-settled.settled = rw c.as_slice.ensures.value at c.in_ok-settled.ensures.settled in
     record {
       index = c.in_ok-index.ensures.sound;
@@ -27,12 +27,12 @@ invariant_of-result c =
       once = λ i. rw c.in_ok-index.ensures.accounts (grouped-once (rows_of c.args.rows.now) i c.requires.named);
       lines = sym c.in_ok-index.ensures.lines;
       few_lines = c.requires.few;
-      classes = rw c.in_ok-pin_list.ensures settled.classes;
-      regular = rw c.in_ok-pin_list.ensures settled.pools.regular;
-      system = rw c.in_ok-pin_list.ensures settled.pools.system;
+      classes = rw c.in_ok-given.ensures.pins settled.classes;
+      regular = rw (c.in_ok-given.ensures.pins, c.in_ok-given.ensures.reserved) settled.pools.regular;
+      system = rw (c.in_ok-given.ensures.pins, c.in_ok-given.ensures.reserved) settled.pools.system;
       none = c.new.ensures;
-      enough_regular = rw c.in_ok-pin_list.ensures settled.enough_regular;
-      enough_system = rw c.in_ok-pin_list.ensures settled.enough_system;
-      lawful = rw c.in_ok-pin_list.ensures (lawful a (rows_of c.args.rows.now) c.in_ok-index.ensures.accounts settled.apart
+      enough_regular = rw (c.in_ok-given.ensures.pins, c.in_ok-given.ensures.reserved) settled.enough_regular;
+      enough_system = rw (c.in_ok-given.ensures.pins, c.in_ok-given.ensures.reserved) settled.enough_system;
+      lawful = rw (c.in_ok-given.ensures.pins, c.in_ok-given.ensures.reserved) (lawful a (rows_of c.args.rows.now) c.in_ok-index.ensures.accounts settled.apart
           c.requires.named c.requires.lawful (omega (arith, c.requires.few, length-rows c.args.rows.now)) (c.in_ok-index.ensures.lines ∙ sym (length-rows c.args.rows.now)) (rw (length-map c.args.hosts.items entry_of) c.requires.among) c.requires.spots c.requires.pins (λ v r s. omega (arith, c.requires.ranges v r s, length-rows c.args.rows.now)));
     }
