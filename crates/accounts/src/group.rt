@@ -194,9 +194,10 @@ impl<'a> GroupTable<'a> {
         self.index.index_of_number(gid)
     }
 
-    /// The table of those rows whose flag is set, in their order and with the numbers of their lines: flags stand in the
-    /// order of the rows, and a row beyond them counts as not set. One pass, with two hash look-ups for each row that is
-    /// taken; no text is copied. `AllocError` where a growth was refused.
+    /// The table of those rows whose flag is set, in their order and with the numbers of their
+    /// lines: flags stand in the order of the rows, and a row beyond them counts as not set. One
+    /// pass, with two hash look-ups for each row that is taken; no text is copied. `AllocError`
+    /// where a growth was refused.
     pub fn selected(&self, alloc: Global, flags: &[bool]) -> Result<GroupTable<'a>, AllocError>
         ensures those { IfOk result (λ table. table ≡ those flags.now self.now) }
         ensures table { IfOk result (λ table. IsGroupTable table) }
