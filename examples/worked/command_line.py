@@ -80,7 +80,7 @@ WRITTEN = {
     "lost": HEAD + BOBS.splitlines(True)[0] + END,
     "cut-before": HEAD + HEAD + BOBS + END,
 }
-WAS_CUT = "unify: file {}: cut: the last line that unify inventory writes is not there\n".format
+WAS_CUT = "unify: 45 CutInventory host b mtree line {}\n".format
 # Hosts that are a without a file, and one whose passwd is refused and that has no inventory.
 LACKING = {"lacks-passwd": "passwd", "lacks-group": "group", "lacks-mtree": "mtree", "refused": "mtree"}
 
@@ -338,11 +338,11 @@ TABLE = [
     ("check bad a b", 1, "", "unify: 28 BadCertificate line 1\n"),
     ("check --pins pins good a b", 4, "", "unify: 32 PinBroken user bob\n"),
     ("check wrong a b", 4, "", "unify: 34 SumsDiffer user 11 10\n"),
-    *((f"count map a b={host}", 1, "", WAS_CUT(f"{host}/mtree")) for host in ("cut", "lost", "cut-before")),
-    ("check good a b=cut", 1, "", WAS_CUT("cut/mtree")),
-    ("merge out a b=cut", 1, "", WAS_CUT("cut/mtree")),
-    ("rehearse plan cut/mtree", 1, "", WAS_CUT("cut/mtree")),
-    (VERIFY("cut/mtree", "whole/mtree"), 1, "", WAS_CUT("cut/mtree")),
+    *((f"count map a b={host}", 1, "", WAS_CUT(line)) for host, line in {"cut": 4, "lost": 4, "cut-before": 2}.items()),
+    ("check good a b=cut", 1, "", WAS_CUT(4)),
+    ("merge out a b=cut", 1, "", WAS_CUT(4)),
+    ("rehearse plan cut/mtree", 1, "", WAS_CUT(4)),
+    (VERIFY("cut/mtree", "whole/mtree"), 1, "", "unify: 45 CutInventory file cut/mtree line 4\n"),
     ("rehearse bad b/mtree", 1, "", "unify: 35 BadPlan byte 0\n"),
     ("rehearse plan a/mtree", 1, "", "unify: 37 Missing bob1\n"),
     ("apply bad b", 1, "", "unify: 35 BadPlan byte 0\n"),

@@ -4,8 +4,8 @@
     examples/worked/compare.py PROGRAM
 
 README.md beside this file has the form of the examples. Also compared: examples that are too large to be kept as files,
-each prefix of merge/root-only.bundle, the whole one byte a read, inputs and outputs that fail, the command line, certificates
-and plans that end too early, each merge with the hosts' own files, and by words with directories, inventories of many pieces and
+each prefix of merge/root-only.bundle, the whole one byte a read, inputs and outputs that fail, the command line, certificates,
+plans and inventories that end too early, each merge with the hosts' own files, and by words with directories, inventories of many pieces and
 one that changes or goes while it is read twice, the texts and the inventories of texts.py, and the merges of 300 small generated
 sites, of 40 contested ones and of all triples of users with few files, whose cost has to be the least of all admissible mappings,
 and what the check of the printed certificate answers.
@@ -373,12 +373,12 @@ def main(words):
     want_at_least(LEAST_FILES, len(files), "examples that are files")
     want_at_least(LEAST_BY_WORDS, by_words, "merges by words")
     want_at_least(LEAST_BY_LINE, by_line, "command lines")
-    want_at_least(LEAST_CUT, cut, "cut certificates and plans")
+    want_at_least(LEAST_CUT, cut, "cut certificates, plans and inventories")
     want("generated sites, more than half merged, but not all", True, SITES // 2 < merged < SITES)
     print(f"generated sites: {merged} merged at the least cost, {SITES - merged} refused for two pins or a small pool")
     print(f"contested sites: {contested} merged at the least cost")
     print(f"small sites: {small} triples of users merged at the least cost")
-    print(f"cut certificates and plans: {cut} as the definitions say")
+    print(f"cut certificates, plans and inventories: {cut} as the definitions say")
     print(f"command lines: {by_line} as in the table")
     print(f"merges by words: {by_words} as by bundle")
     print(f"worked examples: {len(files) + len(made)} as committed")

@@ -1,4 +1,4 @@
-"""Certificates and plans that end too early, or have a line out of its place: where the fault is told.
+"""Certificates, plans and inventories that end too early, or have a line out of its place: where the fault is told.
 
 A text that ends within a line stands in no bundle, so these texts are files, which words name."""
 import pathlib
@@ -70,8 +70,24 @@ def cut_plans(program, room):
         yield f"every-plan-prefix, {length} bytes", wanted, ran(program, ["rehearse", "plan", "mtree"], room)
 
 
+def cut_inventories(program, room):
+    """The inventory of the swap's a as `unify inventory` writes it, cut behind each of its lines and within the last one."""
+    texts = bundle_of("rehearse/swap-rehearsed").texts
+    (room / "plan").write_text(texts["plan"])
+    files = texts["mtree"].splitlines(True)
+    lines = ["# unify inventory 1 a\n", *files, f"# end {len(files)}\n"]
+    fronts = ["".join(lines[:count]) for count in range(1, len(lines))]
+    for front in [*fronts, fronts[-1] + "# end", fronts[-1] + "# end ", *(fronts[-1] + f"# end {it}\n" for it in ("", 5, 60, 606))]:
+        (room / "mtree").write_text(front)
+        told = 1, "", "unify: 45 CutInventory host a mtree line {}\n".format(front.count("\n") + 1)
+        yield f"cut-inventory, {len(front)} bytes", told, ran(program, ["rehearse", "plan", "mtree"], room)
+    for whole in ("".join(lines), "".join(lines)[:-1]):
+        (room / "mtree").write_text(whole)
+        yield f"cut-inventory, {len(whole)} bytes", (0, "records 6\ndone\n", ""), ran(program, ["rehearse", "plan", "mtree"], room)
+
+
 def cut_texts(program):
     """For each text: a name, what is wanted, and what came."""
-    for texts in (cut_certificates, certificates_out_of_place, cut_plans):
+    for texts in (cut_certificates, certificates_out_of_place, cut_plans, cut_inventories):
         with tempfile.TemporaryDirectory() as name:
             yield from texts(program, pathlib.Path(name))

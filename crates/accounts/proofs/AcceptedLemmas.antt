@@ -83,7 +83,7 @@ module _ {Row : Type 0} (line_of : ℕ → List ℕ → Result (Option Row) Text
   rows_from-cons n line more = refl
 
   -- a row shares nothing with those before it in a list without repeats
-  shares_nothing : (rows : List Row) (row : Row) (more : List Row) → AreDistinct (map name (rows ++ row ∷ more)) → AreDistinct (map number (rows ++ row ∷ more)) → shared line_of name number rows row ≡ None
+  pub shares_nothing : (rows : List Row) (row : Row) (more : List Row) → AreDistinct (map name (rows ++ row ∷ more)) → AreDistinct (map number (rows ++ row ∷ more)) → shared line_of name number rows row ≡ None
   shares_nothing rows row more names numbers =
       let no_name : list_any (bytes_eq (name row)) (map name rows) ≡ false = not_before bytes_eq bytes_exact (map name rows) (name row) (map name more) (subst (λ (ks : List (List ℕ)). AreDistinct ks) (map-append name rows (row ∷ more)) names) in
       let no_number : list_any (nat_eq (number row)) (map number rows) ≡ false = not_before nat_eq eqb-true (map number rows) (number row) (map number more) (subst (λ (ks : List ℕ). AreDistinct ks) (map-append number rows (row ∷ more)) numbers) in

@@ -8,14 +8,15 @@ ghost use Rattle.idtext.specs.First.{Gives};
 ghost use Rattle.idtext.specs.Pieces.{fields_of};
 ghost use Rattle.accounts.specs.Known.{known_of};
 ghost use Rattle.accounts.specs.Laws.{IsGroupTable};
+ghost use Rattle.accounts.specs.Selected.{those};
 ghost use Rattle.accounts.specs.Tables.{group_table};
 ghost use Rattle.accounts.specs.Rows.{Group, group_from, group_line, members_of};
 
 use crate::index::Index;
 use crate::lines::keeps;
-use crate::table::{Row, Rows, read_rows};
+use crate::table::{Row, Rows, read_rows, select_rows};
 use idtext::{Pieces, ReadError, TextCode, TextFault, decimal, fields, is_lawful_name};
-use std::alloc::Global;
+use std::alloc::{AllocError, Global};
 use std::marker::Model;
 
 /// A row of group: the four fields of one line, after group(5). Its texts are slices of the file, with no copy.
@@ -62,6 +63,16 @@ impl<'a> Row<'a> for GroupRow<'a> {
 
     fn number(&self) -> u32 {
         self.gid
+    }
+
+    fn copied(&self) -> Self {
+        GroupRow {
+            line: self.line,
+            name: self.name,
+            password: self.password,
+            gid: self.gid,
+            members: self.members,
+        }
     }
 }
 
@@ -181,6 +192,18 @@ impl<'a> GroupTable<'a> {
         ensures table { IsGroupTable self.now }
     {
         self.index.index_of_number(gid)
+    }
+
+    /// The table of those rows whose flag is set, in their order and with the numbers of their lines: flags stand in the
+    /// order of the rows, and a row beyond them counts as not set. One pass, with two hash look-ups for each row that is
+    /// taken; no text is copied. `AllocError` where a growth was refused.
+    pub fn selected(&self, alloc: Global, flags: &[bool]) -> Result<GroupTable<'a>, AllocError>
+        ensures those { IfOk result (λ table. table ≡ those flags.now self.now) }
+        ensures table { IfOk result (λ table. IsGroupTable table) }
+    {
+        let rows = select_rows(alloc, self.rows.as_slice(), flags)?;
+        let Rows { list, index } = rows;
+        Ok(GroupTable { rows: list, index })
     }
 }
 

@@ -7,14 +7,15 @@ ghost use Rattle.idtext.specs.First.{Gives};
 ghost use Rattle.idtext.specs.Pieces.{fields_of};
 ghost use Rattle.accounts.specs.Known.{known_of};
 ghost use Rattle.accounts.specs.Laws.{IsPasswdTable, HaveLawfulGids};
+ghost use Rattle.accounts.specs.Selected.{those};
 ghost use Rattle.accounts.specs.Tables.{passwd_table};
 ghost use Rattle.accounts.specs.Rows.{Passwd, passwd_from, passwd_line};
 
 use crate::index::Index;
 use crate::lines::keeps;
-use crate::table::{Row, Rows, read_rows};
+use crate::table::{Row, Rows, read_rows, select_rows};
 use idtext::{ReadError, TextCode, TextFault, decimal, fields, is_lawful_name};
-use std::alloc::Global;
+use std::alloc::{AllocError, Global};
 use std::marker::Model;
 
 /// A row of passwd: the seven fields of one line, after passwd(5). Its texts are slices of the file, with no copy.
@@ -70,6 +71,19 @@ impl<'a> Row<'a> for PasswdRow<'a> {
 
     fn number(&self) -> u32 {
         self.uid
+    }
+
+    fn copied(&self) -> Self {
+        PasswdRow {
+            line: self.line,
+            name: self.name,
+            password: self.password,
+            uid: self.uid,
+            gid: self.gid,
+            comment: self.comment,
+            home: self.home,
+            shell: self.shell,
+        }
     }
 }
 
@@ -203,6 +217,19 @@ impl<'a> PasswdTable<'a> {
         ensures table { IsPasswdTable self.now }
     {
         self.index.index_of_number(uid)
+    }
+
+    /// The table of those rows whose flag is set, in their order and with the numbers of their lines: flags stand in the
+    /// order of the rows, and a row beyond them counts as not set. One pass, with two hash look-ups for each row that is
+    /// taken; no text is copied. `AllocError` where a growth was refused.
+    pub fn selected(&self, alloc: Global, flags: &[bool]) -> Result<PasswdTable<'a>, AllocError>
+        ensures those { IfOk result (λ table. table ≡ those flags.now self.now) }
+        ensures table { IfOk result (λ table. IsPasswdTable table) }
+        ensures primary_groups { IfOk result (λ table. HaveLawfulGids table) }
+    {
+        let rows = select_rows(alloc, self.rows.as_slice(), flags)?;
+        let Rows { list, index } = rows;
+        Ok(PasswdTable { rows: list, index })
     }
 }
 

@@ -17,7 +17,7 @@ use Rattle.mtree_inv.specs.declared.entry.Entry.{Entry}
 use Rattle.mtree_inv.specs.Files.{IsLawfulFile}
 use Rattle.mtree_inv.specs.Inventory.{named_file, owned_file, path_of, said_alone, flattened}
 use Rattle.mtree_inv.specs.Keywords.{has_lawful_numbers, is_number_or_absent, number_in_force}
-use Rattle.mtree_inv.specs.Kinds.{Kind, TooLong, Names, kind_of, kind_of_words}
+use Rattle.mtree_inv.specs.Kinds.{Kind, TooLong, Names, kind_of, kind_of_text, kind_of_words}
 use Rattle.mtree_inv.specs.Open.{is_full, marks, open_names}
 use Rattle.mtree_inv.specs.Paths.{components, has_bad_component, is_bad_component, is_kept, is_slash, parts, path_of_components}
 use Rattle.inventory_text.specs.declared.kind.FileKind.{FileKind}
@@ -54,7 +54,7 @@ pub line-kind : (number : ℕ) (path : List ℕ) (uid gid : ℕ) (kind : FileKin
     → kind_of (record { number = number; text = entry_line path uid gid kind; is_cut = false }) ≡ Names (name_word path) (keywords uid gid kind)
 unfolding kind_of
 line-kind number path uid gid kind u g short =
-    ap (λ (long : Bool). cond long TooLong (kind_of_words (words (entry_line path uid gid kind)))) (le-ltb most_bytes (length (entry_line path uid gid kind)) short)
+    ap (λ (long : Bool). cond long TooLong (kind_of_text (entry_line path uid gid kind))) (le-ltb most_bytes (length (entry_line path uid gid kind)) short)
     ∙ ap kind_of_words (line-words path uid gid kind u g)
 
 -- ---- its path
@@ -120,7 +120,7 @@ numbers-lawful uid gid kind u g =
 
 -- ---- the entry
 
-entry-named : (before : List Kind) (file : Entry) (kind : FileKind) → IsLawfulFile file → All (λ b. b < 256) file.path → IsPath file.path
+pub entry-named : (before : List Kind) (file : Entry) (kind : FileKind) → IsLawfulFile file → All (λ b. b < 256) file.path → IsPath file.path
     → named_file before (name_word file.path) (keywords file.uid file.gid kind) ≡ Ok (Some file)
 entry-named before file kind lawful bytes is =
     let word = name_word file.path in

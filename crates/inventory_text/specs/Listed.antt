@@ -20,9 +20,16 @@ line_of listed = entry_line listed.file.path listed.file.uid listed.file.gid lis
 abbrev pub files_of : List Listed → List Entry
 files_of listed = map (λ (l : Listed). l.file) listed
 
+abbrev pub entries_text : List Listed → List ℕ
+entries_text listed = flat_map (λ (l : Listed). ended (line_of l)) listed
+
 -- the inventory of a host's files
 abbrev pub inventory_text : List ℕ → List Listed → List ℕ
-inventory_text host listed = ended (head_line host) ++ (flat_map (λ (l : Listed). ended (line_of l)) listed ++ ended (end_line (length listed)))
+inventory_text host listed = ended (head_line host) ++ (entries_text listed ++ ended (end_line (length listed)))
+
+-- the same, cut behind these files: its last line lacks
+abbrev pub cut_text : List ℕ → List Listed → List ℕ
+cut_text host listed = ended (head_line host) ++ entries_text listed
 
 -- a name of a path: not empty, neither `.` nor `..`, without a slash and a NUL byte
 pub record IsName (name : List ℕ) : Type 0 where

@@ -1,6 +1,6 @@
 //! Laws over what this crate writes, by the definitions by which inventories are read. The
 //! functions do nothing: what they ensure is known wherever one is called.
-ghost use Rattle.inventory_text.specs.ReadBack.{EntriesReadBack, InventoriesReadBack};
+ghost use Rattle.inventory_text.specs.ReadBack.{CutInventoriesAreRefused, EntriesReadBack, InventoriesReadBack};
 
 /// The line of a file is read as an entry of this file, with its path and its owner's numbers,
 /// whatever lines stand before it.
@@ -11,4 +11,10 @@ pub fn entries_read_back()
 /// The inventory of files, as this crate writes it, is read as exactly these files in this order.
 pub fn inventories_read_back()
     ensures { InventoriesReadBack }
+{}
+
+/// Cut behind its first line or behind the line of a file, before its end, it is refused, at the
+/// line that lacks.
+pub fn cut_inventories_are_refused()
+    ensures { CutInventoriesAreRefused }
 {}

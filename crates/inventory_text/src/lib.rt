@@ -1,6 +1,6 @@
 //! Inventories of files and their owners as they are written, in this project's profile of
 //! mtree(5), so that a reader gets back exactly the files that were listed: any path that a file
-//! can have, whatever bytes its names are of.
+//! can have, whatever bytes its names are of. One that was cut between two lines is refused.
 #![tactic(auto)]
 
 mod kind;
@@ -9,5 +9,5 @@ mod parts;
 mod writing;
 
 pub use kind::FileKind;
-pub use laws::{entries_read_back, inventories_read_back};
+pub use laws::{cut_inventories_are_refused, entries_read_back, inventories_read_back};
 pub use writing::{push_end, push_entry, push_head};

@@ -1,50 +1,43 @@
 -- The files of an inventory are lawful, and each has a path of its own.
-use Rattle.std.proofs.Common.{◌≡◌, ◌≢◌, ℕ, ◌<◌, ◌≤◌, Bool, true, false, cond, not, List, [], ◌∷◌, ◌++◌, length, get_or, All, nat_lt, ◌==◌, ◌||◌, ◌&&◌, leb, refl, sym, ap, ◌∙◌, arith, codes, ◌⊎◌, inl, inr, subst, append-nil, append_assoc, length-append}
+use Rattle.std.proofs.Common.{◌≡◌, ◌≢◌, ℕ, ◌<◌, ◌≤◌, Bool, true, false, cond, not, List, [], ◌∷◌, ◌++◌, length, get_or, All, nat_lt, ◌==◌, ◌||◌, refl, sym, ap, ◌∙◌, arith, codes, ◌⊎◌, inl, inr, subst, append-nil, append_assoc, length-append}
 use Rattle.std.specs.Prelude.{Option, Some, None, Result, Ok, Err, IfSome, is_none, option_and_then}
-use Rattle.std.proofs.lemmas.Bool.{or_parts, or_left, or_right, and_parts, cond_both, ltb-false, leb-true, eq-eqb, true≢false}
+use Rattle.std.proofs.lemmas.Bool.{or_parts, or_left, or_right, cond_both, ltb-false, eq-eqb, true≢false}
 use Rattle.std.proofs.lemmas.List.Folds.{list_any_at}
 use Rattle.std.proofs.lemmas.List.{get_or_append_left}
 use Rattle.std.proofs.lemmas.List.Elements.{All-nil, All-cons, All-push}
 use Rattle.std.proofs.lemmas.List.Quantifiers.{all_pairs_push}
 use Rattle.std.proofs.lemmas.Slice.Eq.{bytes_eq-Decides}
-use Rattle.std.specs.List.{list_all, list_any}
-use Rattle.std.specs.Char.{digit_value}
-use Rattle.std.specs.Str.Parse.{digits_value}
+use Rattle.std.specs.List.{list_any}
 use Rattle.std.specs.Str.{bytes_eq}
-use Rattle.idtext.specs.Numbers.{numeral, id_of, greatest_id}
-use Rattle.idtext.specs.First.{first_fault}
+use Rattle.idtext.specs.Numbers.{id_of, greatest_id}
+use Rattle.idtext.specs.First.{first_fault, unless}
 use Rattle.idtext.proofs.FirstLemmas.{none_of_both}
+use Rattle.idtext.proofs.OkLemmas.{bind_ok, unless_ok}
 use Rattle.idtext.specs.declared.faults.TextCode.{TextCode}
-use Rattle.idtext.specs.declared.faults.TextCode.TheVariants.{BadPath, BadNumber, DotDotAbove}
+use Rattle.idtext.specs.declared.faults.TextCode.TheVariants.{BadPath, BadNumber, CutInventory, DotDotAbove}
 use Rattle.idtext.specs.declared.faults.ReadError.{ReadError}
 use Rattle.idtext.specs.declared.faults.ReadError.TheVariants.{Memory, Fault}
 use Rattle.mtree_inv.specs.declared.entry.Entry.{Entry}
 use Rattle.mtree_inv.specs.Files.{IsLawfulPath, IsLawfulFile, AreFiles}
 use Rattle.mtree_inv.specs.Laws.{BadEscapesAreRefused, SeparatorsAreRefused, InventoriesAreFiles, ReadersHaveFiles}
 use Rattle.mtree_inv.specs.Logical.{LogicalLine, logical_lines}
-use Rattle.mtree_inv.specs.Kinds.{Kind, TooLong, Cut, Ignored, Sets, Unsets, Unknown, Up, Names, kind_of}
+use Rattle.mtree_inv.specs.Kinds.{Kind, TooLong, Cut, Ignored, Begins, Counts, Sets, Unsets, Unknown, Up, Names, kind_of}
 use Rattle.mtree_inv.specs.Keywords.{has_lawful_numbers, number_in_force, in_force, is_directory}
 use Rattle.mtree_inv.specs.Open.{Mark, Opens, Stays, is_full, mark_of, marks, open_names}
 use Rattle.idtext.specs.Escapes.{has_bad_escape}
 use Rattle.mtree_inv.specs.Paths.{parts, components, is_bad_component, has_bad_component}
-use Rattle.mtree_inv.specs.Inventory.{kinds, files_of, named, first_appearances, fault_of, fault_said, file_said, file_at, said_alone, owned_file, named_file, is_bad_path, path_of, numbered_fault, inventory_of_lines, inventory, accepted, accepted_from}
+use Rattle.mtree_inv.specs.Inventory.{kinds, files_of, named, first_appearances, fault_of, fault_said, file_said, file_at, said_alone, owned_file, named_file, is_bad_path, path_of, numbered_fault, inventory_of_lines, inventory, accepted, accepted_from, end_fault}
 use Rattle.mtree_inv.specs.Machine.{with_new_file}
+use Rattle.mtree_inv.specs.Whole.{is_cut}
 use Rattle.mtree_inv.specs.Standing.{ReaderValue, StandsAt, files}
 use Rattle.mtree_inv.proofs.LookingLemmas.{looking_back-snoc}
+use Rattle.mtree_inv.proofs.WholeLemmas.{id_small}
 use Rattle.mtree_inv.proofs.FileLemmas.{after_said, files_of-snoc}
 use Rattle.mtree_inv.proofs.RunLemmas.{kinds-snoc}
 use Rattle.mtree_inv.proofs.CleanLemmas.{IsClean, OpensClean, components_clean, entry_clean}
 use Rattle.mtree_inv.proofs.RoomLemmas.{one_more, no_fault, told_ok}
 
 -- ---- one line
-
-numeral_small : (b : Bool) (n : ℕ) → IfSome (cond (b && leb n greatest_id) (Some n) None) (λ m. m ≤ greatest_id)
-numeral_small b n = cond_both (b && leb n greatest_id) (Some n) None (λ o. IfSome o (λ m. m ≤ greatest_id)) (λ e. leb-true n greatest_id (and_parts b (leb n greatest_id) e).1) (λ e. tt)
-
-id_small : (text : List ℕ) → IfSome (id_of text) (λ n. n ≤ greatest_id)
-unfolding numeral
-id_small [] = tt
-id_small (c ∷ cs) = numeral_small (list_all (λ d. nat_lt (digit_value d) 10) (c ∷ cs)) (digits_value 10 (c ∷ cs))
 
 value_small : (value : Option (List ℕ)) → IfSome (option_and_then id_of value) (λ n. n ≤ greatest_id)
 value_small None = tt
@@ -78,6 +71,8 @@ said_lawful : (before : List Kind) (line : Kind) → All OpensClean (marks befor
 said_lawful before TooLong h = tt
 said_lawful before Cut h = tt
 said_lawful before Ignored h = tt
+said_lawful before Begins h = cond_both (is_cut before) (Err CutInventory) (Ok None) (Says IsLawfulFile) (λ e. tt) (λ e. tt)
+said_lawful before (Counts text) h = tt
 said_lawful before (Sets keywords) h = cond_both (has_lawful_numbers keywords) _ _ (Says IsLawfulFile) (λ e. tt) (λ e. tt)
 said_lawful before (Unsets keywords) h = tt
 said_lawful before Unknown h = tt
@@ -98,6 +93,8 @@ opens_clean : (before : List Kind) (most : ℕ) (fs : List Entry) (line : Kind) 
 opens_clean before most fs TooLong e = tt
 opens_clean before most fs Cut e = tt
 opens_clean before most fs Ignored e = tt
+opens_clean before most fs Begins e = tt
+opens_clean before most fs (Counts text) e = tt
 opens_clean before most fs (Sets keywords) e = tt
 opens_clean before most fs (Unsets keywords) e = tt
 opens_clean before most fs Unknown e = tt
@@ -202,7 +199,9 @@ lines-files most lines fs e =
 -- the files of an inventory
 pub inventory-files : InventoriesAreFiles
 unfolding inventory
-inventory-files most text fs e = lines-files most (logical_lines text) fs e
+inventory-files most text fs e =
+    let read = bind_ok (inventory_of_lines most (logical_lines text)) (λ files. unless (end_fault text) files) fs e in
+    lines-files most (logical_lines text) fs (read.1 ∙ ap (λ files. Ok files) (unless_ok (end_fault text) read.0 fs read.2).1)
 
 -- the first of some files
 front_files : (most : ℕ) (fs more : List Entry) → AreFound most (fs ++ more) → AreFound most fs

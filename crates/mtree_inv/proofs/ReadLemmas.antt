@@ -2,18 +2,18 @@
 use Rattle.std.proofs.Common.{◌≡◌, ℕ, zero, suc, ◌<◌, ◌≤◌, Bool, true, false, cond, List, [], ◌∷◌, ◌++◌, length, take, drop, get_or, refl, sym, ap, ◌∙◌, append-nil, append_assoc, subst, arith}
 use Rattle.std.proofs.lemmas.Bool.{false≢true, and_parts, and_from, not-true, not_from_false, ne_eqb}
 use Rattle.std.specs.Prelude.{Option, Some, None, Result, Ok, Err, MatchResult, fold, if◌then◌else◌, ◌==◌, not, is_none, is_ok, OnErr}
-use Rattle.idtext.specs.First.{◌>>=◌, Gives}
+use Rattle.idtext.specs.First.{◌>>=◌, Gives, or_else}
 use Rattle.idtext.specs.declared.faults.TextCode.{TextCode}
-use Rattle.idtext.specs.declared.faults.TextCode.TheVariants.{BadPath}
+use Rattle.idtext.specs.declared.faults.TextCode.TheVariants.{BadPath, CutInventory}
 use Rattle.idtext.specs.declared.faults.TextFault.{TextFault}
 use Rattle.mtree_inv.specs.declared.entry.Entry.{Entry}
 use Rattle.mtree_inv.specs.declared.defaults.Defaults.{Defaults}
 use Rattle.mtree_inv.specs.declared.open_line.Ends.{Ends}
 use Rattle.mtree_inv.specs.declared.open_line.Ends.TheVariants.{Nothing, Joined, Byte, Backslash}
-use Rattle.mtree_inv.specs.Kinds.{Kind, TooLong, Cut, Ignored, Sets, Unsets, Unknown, Up, Names}
+use Rattle.mtree_inv.specs.Kinds.{Kind, TooLong, Cut, Ignored, Begins, Counts, Sets, Unsets, Unknown, Up, Names}
 use Rattle.mtree_inv.specs.Inventory.{file_at, clash}
-use Rattle.mtree_inv.specs.Machine.{Kept, effective, owned, or_dot, path_below, is_bad_entry, with_file, with_new_file, unless_fault, entry_kept, with_opened, opens_directory, entry_step, closed, step}
-use Rattle.mtree_inv.specs.Reading.{Open, clip, grown, held, with_plain, with_backslash, with_join, is_joining, fresh, clipped_kind, Reading, after_step, with_line, with_newline, unless_ended, read_byte, read_bytes, at_end, finished}
+use Rattle.mtree_inv.specs.Machine.{Kept, effective, owned, or_dot, path_below, is_bad_entry, with_file, with_new_file, unless_fault, entry_kept, with_opened, opens_directory, entry_step, closed, step, with_file_given, is_unended, begun_now}
+use Rattle.mtree_inv.specs.Reading.{Open, clip, grown, held, with_plain, with_backslash, with_join, is_joining, fresh, clipped_kind, Reading, after_step, with_line, with_newline, unless_ended, read_byte, read_bytes, at_end, last_read, finished, end_lacking, with_end_seen}
 use Rattle.idtext.specs.Faults.{fault_told}
 use Rattle.mtree_inv.specs.Parts.{is_plain, at_line, TakenTo, FailedTo}
 use Rattle.idtext.specs.declared.faults.ReadError.{ReadError}
@@ -68,6 +68,12 @@ unfolding step
 step-grows most kept TooLong = tt
 step-grows most kept Cut = tt
 step-grows most kept Ignored = grows-not kept.files
+step-grows most kept Begins = by (is_unended kept.begun)
+  where
+    by : (b : Bool) → StepGrows kept (cond b (Err CutInventory) (Ok (record kept { begun = Some begun_now })))
+    by true = tt
+    by false = grows-not kept.files
+step-grows most kept (Counts text) = grows-not kept.files
 step-grows most kept (Sets keywords) = bind-grows kept (effective kept.defaults keywords) (λ now. Ok (record kept { defaults = now })) (λ now. grows-not kept.files)
 step-grows most kept (Unsets keywords) = grows-not kept.files
 step-grows most kept Unknown = tt
@@ -76,7 +82,7 @@ step-grows most kept Up = by kept.starts
     by : (starts : List ℕ) → StepGrows kept (closed kept starts)
     by [] = tt
     by (s ∷ starts) = grows-not kept.files
-step-grows most kept (Names word keywords) = entry-grows most kept word keywords
+step-grows most kept (Names word keywords) = entry-grows most (record kept { begun = with_file_given kept.begun }) word keywords
 
 pub after-grows : (found : Result Kept TextCode) (reading : Reading) (number : ℕ) (next : Open) → StepGrows reading.kept found → Grows reading.kept.files (after_step found reading number next).kept.files
 after-grows (Ok new) reading number next g = g
@@ -202,31 +208,51 @@ pub taken-err : (files : List Entry) (left other target : Reading) (result : Res
 taken-err files left other target (Ok u) e h = absurd (false≢true (sym e))
 taken-err files left other target (Err f) e h = h
 
-pub end-nothing : (most : ℕ) (kept : Kept) (line : Open) → line.ends ≡ Nothing → finished most (reading_at kept line) ≡ reading_at kept line
-unfolding finished
+pub end-nothing : (most : ℕ) (kept : Kept) (line : Open) → line.ends ≡ Nothing → last_read most (reading_at kept line) ≡ reading_at kept line
+unfolding last_read
 end-nothing most kept line e = ap (λ (x : Ends). at_end x most (reading_at kept line)) e
 
-pub end-byte : (most : ℕ) (kept : Kept) (line : Open) → line.ends ≡ Byte → finished most (reading_at kept line) ≡ after_step (step most kept (clipped_kind line.joined false)) (reading_at kept line) line.first line
-unfolding finished
+pub end-byte : (most : ℕ) (kept : Kept) (line : Open) → line.ends ≡ Byte → last_read most (reading_at kept line) ≡ after_step (step most kept (clipped_kind line.joined false)) (reading_at kept line) line.first line
+unfolding last_read
 end-byte most kept line e = ap (λ (x : Ends). at_end x most (reading_at kept line)) e
 
-pub end-joined : (most : ℕ) (kept : Kept) (line : Open) → line.ends ≡ Joined → finished most (reading_at kept line) ≡ after_step (step most kept (clipped_kind line.joined true)) (reading_at kept line) line.first line
-unfolding finished
+pub end-joined : (most : ℕ) (kept : Kept) (line : Open) → line.ends ≡ Joined → last_read most (reading_at kept line) ≡ after_step (step most kept (clipped_kind line.joined true)) (reading_at kept line) line.first line
+unfolding last_read
 end-joined most kept line e = ap (λ (x : Ends). at_end x most (reading_at kept line)) e
 
-pub end-backslash : (most : ℕ) (kept : Kept) (line : Open) → line.ends ≡ Backslash → finished most (reading_at kept line) ≡ after_step (step most kept (clipped_kind line.joined true)) (reading_at kept line) line.first line
-unfolding finished
+pub end-backslash : (most : ℕ) (kept : Kept) (line : Open) → line.ends ≡ Backslash → last_read most (reading_at kept line) ≡ after_step (step most kept (clipped_kind line.joined true)) (reading_at kept line) line.first line
+unfolding last_read
 end-backslash most kept line e = ap (λ (x : Ends). at_end x most (reading_at kept line)) e
 
--- the end of a text where a line is taken
+-- the last line, where one is taken
 pub end-result : (most : ℕ) (kept new : Kept) (line after : Open) (cut : Bool) (result : Result (Unit {0}) ReadError)
-    → finished most (reading_at kept line) ≡ after_step (step most kept (clipped_kind line.joined cut)) (reading_at kept line) line.first line
+    → last_read most (reading_at kept line) ≡ after_step (step most kept (clipped_kind line.joined cut)) (reading_at kept line) line.first line
     → Gives (λ _. new) fault_told result (at_line line.first (step most kept (clipped_kind line.joined cut))) → OnErr result (new.files ≡ kept.files) → after ≡ line
-    → TakenTo new.files (reading_at new after) result (finished most (reading_at kept line))
+    → TakenTo new.files (reading_at new after) result (last_read most (reading_at kept line))
 end-result most kept new line after cut result e h same stays =
     subst (TakenTo new.files (reading_at new after) result) (sym e)
     (subst (λ (o : Open). TakenTo new.files (reading_at new o) result (after_step (step most kept (clipped_kind line.joined cut)) (reading_at kept line) line.first line)) (sym stays)
     (line-result kept new line line line.first (step most kept (clipped_kind line.joined cut)) (step-grows most kept (clipped_kind line.joined cut)) result h same))
+
+-- ---- whether the inventory that was begun last is ended
+
+pub end-whole : (most : ℕ) (reading : Reading) (kept : Kept) (line : Open) → last_read most reading ≡ reading_at kept line → is_unended kept.begun ≡ false → finished most reading ≡ reading_at kept line
+unfolding finished
+end-whole most reading kept line e ended =
+    ap with_end_seen e ∙ ap (λ (b : Bool). (let m : Reading = record { kept = kept; open_line = line; fault = cond b (Some (record { code = CutInventory; line = line.current })) None } in m)) ended
+
+pub end-lacks : (most : ℕ) (reading : Reading) (kept : Kept) (line : Open) → last_read most reading ≡ reading_at kept line → is_unended kept.begun ≡ true
+    → FailedTo kept.files (Fault (record { code = CutInventory; line = line.current })) (finished most reading)
+unfolding finished
+end-lacks most reading kept line e unended = (
+  ap (λ (m : Reading). (with_end_seen m).fault) e ∙ ap (λ (b : Bool). cond b (Some (record { code = CutInventory; line = line.current })) None) unended,
+  ap (λ (m : Reading). m.kept.files) e,
+)
+
+pub end-failed : (most : ℕ) (reading : Reading) (files : List Entry) (fault : ReadError) → FailedTo files fault (last_read most reading) → FailedTo files fault (finished most reading)
+unfolding finished
+end-failed most reading files Memory h = h
+end-failed most reading files (Fault f) h = (ap (λ (o : Option TextFault). or_else o (end_lacking (last_read most reading))) h.0, h.1)
 
 pub read-none : (most : ℕ) (reading : Reading) (rest : List ℕ) → length rest ≡ 0 → read_bytes most reading rest ≡ reading
 unfolding read_bytes

@@ -1,7 +1,7 @@
 -- A reader stands for the text so far.
 use Rattle.std.proofs.Common.{◌≡◌, ℕ, Bool, true, false, List, [], ◌∷◌, ◌++◌, refl, sym, ap, ◌∙◌, append-nil, append_assoc, subst}
 use Rattle.std.specs.Prelude.{Option, Some, None, Result, Ok, Err, IfSome, IfNone}
-use Rattle.idtext.specs.First.{first_fault, unless}
+use Rattle.idtext.specs.First.{first_fault, unless, or_else, ◌>>=◌}
 use Rattle.idtext.specs.declared.faults.TextFault.{TextFault}
 use Rattle.idtext.proofs.OkLemmas.{unless_ok}
 use Rattle.idtext.specs.declared.faults.ReadError.{ReadError}
@@ -11,20 +11,21 @@ use Rattle.mtree_inv.specs.declared.open_line.Ends.{Ends}
 use Rattle.mtree_inv.specs.declared.open_line.Ends.TheVariants.{Nothing, Joined, Byte, Backslash}
 use Rattle.idtext.specs.Pieces.{pieces}
 use Rattle.mtree_inv.specs.Logical.{LogicalLine, logical_lines, whole_lines}
-use Rattle.mtree_inv.specs.Inventory.{kinds, files_of, named, first_appearances, inventory_of_lines, inventory}
+use Rattle.mtree_inv.specs.Inventory.{kinds, files_of, named, first_appearances, inventory_of_lines, inventory, end_fault}
 use Rattle.mtree_inv.specs.Machine.{Kept, step}
-use Rattle.mtree_inv.specs.Reading.{Reading, clipped_kind, read_byte, read_bytes, at_end, unless_ended_at_end, finished, start}
+use Rattle.mtree_inv.specs.Reading.{Reading, clipped_kind, read_byte, read_bytes, at_end, unless_ended_at_end, last_read, finished, end_lacking, with_end_seen, start}
 use Rattle.mtree_inv.specs.Standing.{ReaderValue, GrowAlike, files, files_before_fault, IsMidText, StandsAt, StandsFor}
 use Rattle.idtext.specs.Faults.{fault_told}
 use Rattle.mtree_inv.specs.Parts.{FailedTo}
 use Rattle.mtree_inv.proofs.StepLemmas.{Follows}
 use Rattle.mtree_inv.proofs.RunLemmas.{RunIs, run_is}
 use Rattle.mtree_inv.proofs.RestLemmas.{read_whole_lines, read_all_lines}
+use Rattle.mtree_inv.proofs.EndLemmas.{end-lacking}
 use Rattle.mtree_inv.proofs.ReadLemmas.{Grows, grows-not, grows-twice, step-grows, after-grows, failed-more}
 
 follows_start : Follows start.kept []
 unfolding files_of named first_appearances
-follows_start = record { uid = refl; gid = refl; is_dir = refl; path = refl; starts = refl; files = refl }
+follows_start = record { begun = refl; uid = refl; gid = refl; is_dir = refl; path = refl; starts = refl; files = refl }
 
 inventory_of_run : (most : ℕ) (lines : List LogicalLine) (k : Kept) (f : Option TextFault) → RunIs most [] lines (k, f) → inventory_of_lines most lines ≡ unless f k.files
 unfolding inventory_of_lines
@@ -40,27 +41,50 @@ whole_inventory most text =
 abbrev at_finish : ℕ → List ℕ → Reading
 at_finish most text = finished most (read_bytes most start text)
 
-run_all : (most : ℕ) (text : List ℕ) → RunIs most [] (logical_lines text) ((at_finish most text).kept, (at_finish most text).fault)
+abbrev at_last : ℕ → List ℕ → Reading
+at_last most text = last_read most (read_bytes most start text)
+
+run_all : (most : ℕ) (text : List ℕ) → RunIs most [] (logical_lines text) ((at_last most text).kept, (at_last most text).fault)
 run_all most text = subst (RunIs most [] (logical_lines text)) (sym (read_all_lines most text)) (run_is most start.kept [] (logical_lines text) follows_start)
 
 pub all_inventory : (most : ℕ) (text : List ℕ) → inventory most text ≡ unless (at_finish most text).fault (at_finish most text).kept.files
-unfolding inventory
-all_inventory most text = inventory_of_run most (logical_lines text) (at_finish most text).kept (at_finish most text).fault (run_all most text)
+unfolding inventory finished
+all_inventory most text = by last.fault refl
+  where
+    last : Reading
+    last = at_last most text
 
-files_at_finish : (most : ℕ) (text : List ℕ) → files_before_fault most text ≡ (at_finish most text).kept.files
+    lines_are : inventory_of_lines most (logical_lines text) ≡ unless last.fault last.kept.files
+    lines_are = inventory_of_run most (logical_lines text) last.kept last.fault (run_all most text)
+
+    by : (o : Option TextFault) → last.fault ≡ o
+        → (inventory_of_lines most (logical_lines text) >>= λ files. unless (end_fault text) files) ≡ unless (or_else last.fault (end_lacking last)) last.kept.files
+    by None e =
+        ap (λ (r : Result (List Entry) TextFault). r >>= λ files. unless (end_fault text) files) (lines_are ∙ ap (λ (o : Option TextFault). unless o last.kept.files) e)
+        ∙ ap (λ (o : Option TextFault). unless o last.kept.files) (sym (end-lacking most text e ((run_all most text).follows e)))
+        ∙ ap (λ (o : Option TextFault). unless (or_else o (end_lacking last)) last.kept.files) (sym e)
+    by (Some f) e =
+        ap (λ (r : Result (List Entry) TextFault). r >>= λ files. unless (end_fault text) files) (lines_are ∙ ap (λ (o : Option TextFault). unless o last.kept.files) e)
+        ∙ ap (λ (o : Option TextFault). unless (or_else o (end_lacking last)) last.kept.files) (sym e)
+
+pub files_at_finish : (most : ℕ) (text : List ℕ) → files_before_fault most text ≡ (at_finish most text).kept.files
+unfolding finished
 files_at_finish most text = sym (run_all most text).files
 
-read-append : (most : ℕ) (reading : Reading) (a b : List ℕ) → read_bytes most (read_bytes most reading a) b ≡ read_bytes most reading (a ++ b)
+pub read-append : (most : ℕ) (reading : Reading) (a b : List ℕ) → read_bytes most (read_bytes most reading a) b ≡ read_bytes most reading (a ++ b)
 unfolding read_bytes
 read-append most reading [] b = refl
 read-append most reading (x ∷ a) b = read-append most (read_byte most reading x) a b
 
 finished-failed : (most : ℕ) (reading : Reading) (f : TextFault) → reading.fault ≡ Some f → finished most reading ≡ reading
-unfolding finished
-finished-failed most reading f e = ap (λ (o : Option TextFault). unless_ended_at_end o most reading) e
+unfolding finished last_read
+finished-failed most reading f e =
+    ap (λ (o : Option TextFault). with_end_seen (unless_ended_at_end o most reading)) e
+    ∙ ap (λ (o : Option TextFault). record reading { fault = or_else o (end_lacking reading) }) e
+    ∙ ap (λ (o : Option TextFault). record reading { fault = o }) (sym e)
 
-finished-grows : (most : ℕ) (reading : Reading) → Grows reading.kept.files (finished most reading).kept.files
-unfolding finished
+pub finished-grows : (most : ℕ) (reading : Reading) → Grows reading.kept.files (finished most reading).kept.files
+unfolding finished last_read
 finished-grows most reading = by reading.fault
   where
     ended : (ends : Ends) → Grows reading.kept.files (at_end ends most reading).kept.files

@@ -61,9 +61,9 @@ fn all_entries(alloc: Global, reader: Reader) -> Result<Vec<Entry>, ReadError>
 /// states.
 ///
 /// The answer is `ReadError::Fault` exactly where the text has a fault, with the first: by line, and on one line `LineTooLong`,
-/// `CutContinuation`, `BadCommand`, `DotDotAbove`, `BadPath`, `BadNumber`, `NoUid`, `NoGid`, `OwnersDiffer`, `TooManyEntries`,
-/// in this order. The line is counted from 1, and of lines that are joined it is the first. `ReadError::Memory` says that
-/// memory was refused.
+/// `CutContinuation`, `CutInventory`, `BadCommand`, `DotDotAbove`, `BadPath`, `BadNumber`, `NoUid`, `NoGid`, `OwnersDiffer`,
+/// `TooManyEntries`, in this order; and behind all lines `CutInventory`, at the line behind the last newline. The line is
+/// counted from 1, and of lines that are joined it is the first. `ReadError::Memory` says that memory was refused.
 ///
 /// It takes the time of one `Reader::feed`. Each path stands in memory whole, and there may be far more of them than of the
 /// text, where directories stand in directories; until the call returns, there is also what a `Reader` keeps.

@@ -17,8 +17,13 @@
 //!   byte are in none. Where no component is left the path is `.`. It has at most 65,535 bytes.
 //! - Escapes are those of [`idtext::first_character`], those of vis(3) among them; a word with a bad one names no file.
 //! - A path that comes twice with one owner is one file; with two owners it is a fault.
+//! - A comment that begins with `# unify inventory ` begins an inventory that tells its end: a comment `# end ` with the number,
+//!   decimal, of the entries between the two, behind which no entry stands. Where that is not so before the next that begins, or
+//!   before the text ends, the text is refused (`CutInventory`). A text may have several, one behind the other. A `# end ` where
+//!   none was begun says nothing.
 #![tactic(auto)]
 
+mod begun;
 mod defaults;
 mod entry;
 mod fault;

@@ -34,7 +34,7 @@ impl Parts {
     ghost use Rattle.std.specs.Prelude.{◌≡◌, [], ◌∷◌, ◌<◌, ◌≤◌, drop, length, OnErr, IfOk, MatchResult, MatchOption};
     ghost use Rattle.idtext.specs.First.{Gives};
     ghost use Rattle.mtree_inv.specs.Machine.{step};
-    ghost use Rattle.mtree_inv.specs.Reading.{clipped_kind, with_newline, read_bytes, finished, start};
+    ghost use Rattle.mtree_inv.specs.Reading.{clipped_kind, with_newline, read_bytes, last_read, finished, start};
     ghost use Rattle.mtree_inv.specs.Standing.{GrowAlike};
     ghost use Rattle.mtree_inv.specs.Walked.{kept_of};
     ghost use Rattle.idtext.specs.Faults.{fault_told};
@@ -145,9 +145,9 @@ impl Parts {
         Ok(())
     }
 
-    /// Takes the end of the text.
-    pub(crate) fn take_end(&mut self) -> Result<(), ReadError>
-        ensures taken { TakenTo (files_of_parts self.new) (reading_of self.new) result (finished (most_of self.old) (reading_of self.old)) }
+    // Takes the line in progress where the text ends.
+    fn take_last(&mut self) -> Result<(), ReadError>
+        ensures taken { TakenTo (files_of_parts self.new) (reading_of self.new) result (last_read (most_of self.old) (reading_of self.old)) }
         ensures grow { GrowAlike (files_of_parts self.old) (files_of_parts self.new) (waiting_in self.old) (waiting_in self.new) }
         ensures most { most_of self.new ≡ most_of self.old }
     {
@@ -157,6 +157,22 @@ impl Parts {
             Ends::Joined => self.take_line(true),
             Ends::Backslash => self.take_line(true),
         }
+    }
+
+    /// Takes the end of the text.
+    pub(crate) fn take_end(&mut self) -> Result<(), ReadError>
+        ensures taken { TakenTo (files_of_parts self.new) (reading_of self.new) result (finished (most_of self.old) (reading_of self.old)) }
+        ensures grow { GrowAlike (files_of_parts self.old) (files_of_parts self.new) (waiting_in self.old) (waiting_in self.new) }
+        ensures most { most_of self.new ≡ most_of self.old }
+    {
+        self.take_last()?;
+        if self.walk.lacks_end() {
+            return Err(ReadError::Fault(TextFault {
+                code: TextCode::CutInventory,
+                line: self.in_progress.current,
+            }));
+        }
+        Ok(())
     }
 
     /// The next file to hand out.

@@ -10,7 +10,7 @@ use std::marker::Model;
 /// page states. Files can be taken while it reads.
 ///
 /// It keeps the files, the line in progress, of which it keeps 65,535 bytes at most, the current directory's path and a number
-/// for each open directory, and not the text. Of the paths it keeps what many begin with once, and at most 256 bytes more of
+/// for each open directory, a count of files where the text is to tell one, and not the text. Of the paths it keeps what many begin with once, and at most 256 bytes more of
 /// each, so its memory is in step with the text that came, whoever named the files. Only a file that waits to be taken has
 /// its whole path.
 #[derive(Drop)]

@@ -2,26 +2,21 @@
 -- that keep theirs.
 use Rattle.std.proofs.Common.{◌≡◌, ℕ, ◌+◌, ◌-◌, ◌<◌, ◌≤◌, ◌==◌, ◌&&◌, Bool, true, false, not, cond, List, [], ◌∷◌, length, Option, Some, None, refl, ap, ◌∙◌, arith, inl, inr}
 use Rattle.std.specs.Prelude.{is_some}
-use Rattle.std.specs.List.{All, count_by, sum_by}
+use Rattle.std.specs.List.{count_by, sum_by}
 use Rattle.std.proofs.lemmas.List.Elements.{All-head, All-tail}
 use Rattle.std.proofs.lemmas.List.Sums.{sum_by-cons}
 use Rattle.std.proofs.lemmas.Bool.{cases_Bool, eqb-true}
 use Rattle.hosts_join.specs.Accounts.{Account, Accounts, lines, all_lines, nobody, owner, number_on, has_number}
 use Rattle.hosts_join.specs.Rules.{account}
 use Rattle.hosts_join.specs.Lawful.{AreLawfulAccounts}
-use Rattle.hosts_join.specs.Site.{Joined}
 use Rattle.hosts_join.proofs.Pairing.{place-holds}
 use Rattle.hosts_join.proofs.Once.{number-once}
 use Rattle.ownership.specs.Sums.{sum_below}
-use Rattle.ownership.specs.Faults.{unowned, uid_fault, gid_fault}
-use Rattle.ownership.specs.Files.{File, Added, by_user, by_group, owns, has_there, is_number, is_place, kept, total}
+use Rattle.ownership.specs.Faults.{unowned, uid_fault, gid_fault, OwnedFilesAreAll}
+use Rattle.ownership.specs.Files.{File, by_user, by_group, owned_files, owns, has_there, is_number, is_place, kept, total}
 use Rattle.ownership.specs.Mappings.{number_at}
 use Rattle.ownership.specs.Costs.{changes, cost_of, changed_rows}
 use Rattle.ownership.proofs.SumsBelow.{sum_below-same, sum_below-add, sum_below-pick, sum_below-zero, sum_below-places}
-
--- how many files have an owner
-abbrev pub owned_files : Accounts → List File → ℕ
-owned_files a files = count_by (λ f. is_some (owner a.names f.host f.number)) files
 
 -- how many files keep their number, over all names
 abbrev pub all_kept : Accounts → List File → List ℕ → ℕ
@@ -86,7 +81,7 @@ module _ (a : Accounts) (lawful : AreLawfulAccounts a) (files : List File) where
           nest true c = refl
           nest false c = refl
 
-  changed-or-kept : (m : List ℕ) (fs : List File) → cost_of a fs m + count_by (λ f. stays m (owner a.names f.host f.number) f.number) fs ≡ owned_files a fs
+  changed-or-kept : (m : List ℕ) (fs : List File) → cost_of a fs m + count_by (λ f. stays m (owner a.names f.host f.number) f.number) fs ≡ owned_files a.names fs
   changed-or-kept m [] = refl
   changed-or-kept m (f ∷ fs) =
       let rest = changed-or-kept m fs in
@@ -104,11 +99,11 @@ module _ (a : Accounts) (lawful : AreLawfulAccounts a) (files : List File) where
       either (Some k) = both (f.number == number_at m k)
 
   -- the files that change, and those that keep their number, are all that have an owner
-  pub cost_and_kept : (m : List ℕ) → cost_of a files m + all_kept a files m ≡ owned_files a files
+  pub cost_and_kept : (m : List ℕ) → cost_of a files m + all_kept a files m ≡ owned_files a.names files
   cost_and_kept m = omega (arith, changed-or-kept m files, kept-stays m)
 
   -- the files of each name together are all that have an owner
-  pub totals-owned : sum_below (total a.names files) (length a.names) ≡ owned_files a files
+  pub totals-owned : sum_below (total a.names files) (length a.names) ≡ owned_files a.names files
   totals-owned = over_indices (length a.names) (λ i f. owns a.names i f) (λ f. is_some (owner a.names f.host f.number)) (λ f. at f (owner a.names f.host f.number) refl) files
     where
       at : (f : File) (o : Option ℕ) → owner a.names f.host f.number ≡ o → sum_below (λ i. cond (is_place i o) 1 0) (length a.names) ≡ cond (is_some o) 1 0
@@ -168,7 +163,7 @@ rows_and_lines a m =
     omega (arith, sums, same, all, all_lines-sum a.names)
 
 -- where no file is without an account, each file has an owner of each kind
-pub all-owned : (site : Joined) (files : List Added) → All (λ f. unowned site f.host f.uid f.gid ≡ None) files → (owned_files site.users (by_user files) ≡ length files) × (owned_files site.groups (by_group files) ≡ length files)
+pub all-owned : OwnedFilesAreAll
 all-owned site [] owned = (refl, refl)
 all-owned site (f ∷ fs) owned =
     let rest = all-owned site fs (All-tail (λ f. unowned site f.host f.uid f.gid ≡ None) f fs owned) in

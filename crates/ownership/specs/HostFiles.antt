@@ -1,20 +1,17 @@
 -- The files of one host, and how many of them each row of its tables owns.
 -- Source: passwd(5) and group(5) (a row gives its name one number, which the name's files have); that files are counted by
 -- rows is this project's own rule.
-use Rattle.std.specs.Prelude.{◌≡◌, ℕ, ◌+◌, ◌==◌, ◌&&◌, Bool, if◌then◌else◌, List, map, length, count_by, slice_index_or, None}
+use Rattle.std.specs.Prelude.{◌≡◌, ℕ, ◌+◌, ◌==◌, ◌&&◌, Bool, if◌then◌else◌, List, map, length, count_by, slice_index_or}
 use Rattle.std.specs.List.{All}
 use Rattle.hosts_join.specs.Accounts.{Account, owner, no_row}
-use Rattle.hosts_join.specs.Site.{Joined}
 use Rattle.hosts_join.specs.declared.host.Host.{Host}
 use Rattle.ownership.specs.Counts.{Tally, has_cell, tally_at, told_kept, told_total}
-use Rattle.ownership.specs.Faults.{unowned}
 use Rattle.ownership.specs.Files.{Added, is_place}
 use Rattle.ownership.specs.Sums.{sum_below}
 
--- the files are on the host with the index, and each has its owners there
-pub record AreOfHost (site : Joined) (index : ℕ) (here : List Added) : Type 0 where
-  pub there : All (λ f. f.host ≡ index) here
-  pub owned : All (λ f. unowned site f.host f.uid f.gid ≡ None) here
+-- the files are on the host with the index
+abbrev pub AreOfHost : ℕ → List Added → Type 0
+AreOfHost index here = All (λ f. f.host ≡ index) here
 
 -- for each row of passwd and of group, in their order, how many of the files have its number
 pub record AreRowCounts (host : Host) (here : List Added) (by_users by_groups : List ℕ) : Type 0 where

@@ -1,4 +1,5 @@
-//! Laws of certifying potentials, each the contract of a call that does nothing.
+//! Laws of certifying potentials and of owners, each the contract of a call that does nothing.
+ghost use Rattle.ownership.specs.Faults.{OwnedFilesAreAll};
 ghost use Rattle.ownership.specs.Potentials.{CertifiedIsOptimal, CertifiedIsTight};
 
 /// An admissible mapping with certifying potentials is optimal, over lawful accounts: no admissible mapping costs less, and
@@ -13,4 +14,10 @@ pub fn certified_is_optimal()
 /// has are at 0. (Complementary slackness.)
 pub fn certified_is_tight()
     ensures { CertifiedIsTight }
+{}
+
+/// Where each file of a site has its user and its group, the files that have a user are all files,
+/// and so are those that have a group.
+pub fn owned_files_are_all()
+    ensures { OwnedFilesAreAll }
 {}

@@ -12,8 +12,8 @@ use std::marker::Model;
 
 /// The files of a plan on a disk, held against what the run of the plan must have made of them: a call that finds anything
 /// else fails. Each read looks at the disk. Nothing is written but what the plan has, and the mark is set only where each file
-/// was seen at its new owner and synced behind the last write. A call takes a look-up by hash and the calls of its disk; a sync
-/// is one pass over the plan.
+/// was seen at its new owner and synced behind the last write. A call takes a look-up by bisection and the calls of its disk; a
+/// sync is one pass over the plan.
 #[derive(Drop)]
 pub struct RealTree<'p, 'a, D: Disk> {
     mark: PlanMark,

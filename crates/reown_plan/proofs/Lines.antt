@@ -2,7 +2,9 @@
 use Rattle.std.proofs.Common.{◌≡◌, ◌≢◌, ◌<◌, ◌≤◌, ℕ, zero, suc, Bool, true, false, cond, not, ◌||◌, List, [], ◌∷◌, ◌++◌, All, map, length, take, drop, get_or, take-append-drop, inl, inr, refl, sym, ◌∙◌, ap, subst, arith, append_assoc, length-append}
 use Rattle.std.specs.List.{list_any}
 use Rattle.std.specs.Borrow.{Bor}
-use Rattle.std.specs.HashSet.{HashSet, contains}
+use Rattle.std.specs.BTreeSet.{BTreeSet, contains}
+use Rattle.std.specs.Ordering.{nat_cmp}
+use Rattle.std.specs.Cmp.Lexicographic.{slice_cmp}
 use Rattle.std.specs.Prelude.{codes}
 use Rattle.std.specs.Str.{bytes_eq}
 use Rattle.std.specs.Cmp.Lexicographic.{bytes_decides}
@@ -56,8 +58,8 @@ spelled_head text after host rest is from cut =
     sym (take-append-drop 13 text) ∙ (λ i. (bytes_decides (take 13 text) (codes "unify plan 1 ")).0 is i ++ (sym from ∙ cut) i) ∙ simp append_assoc
 
 -- the set has the path
-abbrev pub has : {S : Type 0} → HashSet (Bor (List ℕ)) S → Bor (List ℕ) → Bool
-has paths k = contains (λ (x : Bor (List ℕ)) (y : Bor (List ℕ)). bytes_eq x.now y.now) paths k
+abbrev pub has : BTreeSet (Bor (List ℕ)) → Bor (List ℕ) → Bool
+has paths k = contains (λ (x : Bor (List ℕ)) (y : Bor (List ℕ)). slice_cmp nat_cmp x.now y.now) paths k
 
 -- the paths of records
 abbrev pub paths_of : List Record → List (List ℕ)

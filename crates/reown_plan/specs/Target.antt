@@ -5,13 +5,12 @@ use Rattle.hosts_join.specs.Accounts.{Accounts, owner}
 use Rattle.hosts_join.specs.Site.{Joined}
 use Rattle.hosts_join.specs.declared.host.Host.{Host}
 use Rattle.mtree_inv.specs.declared.entry.Entry.{Entry}
-use Rattle.ownership.specs.Faults.{unowned}
 use Rattle.ownership.specs.Mappings.{number_under}
 use Rattle.reown_plan.specs.declared.plan.Owner.{Owner}
 use Rattle.reown_plan.specs.Owners.{owner_of, owner_eq}
 use Rattle.reown_plan.specs.PlanData.{PlanRecord, PlanData}
 
--- the new number of the name that has the number on the host
+-- the new number of the name that has the number on the host; it stays where no name has it
 abbrev pub renumbered : Accounts → List ℕ → ℕ → ℕ → ℕ
 renumbered a m host v = number_under m (owner a.names host v) v
 
@@ -46,10 +45,6 @@ after_record (Some r) has = r.after
 
 abbrev pub owner_after : List PlanRecord → Entry → Owner
 owner_after records file = after_record (find (λ r. bytes_eq file.path r.path) records) (owner_of file)
-
--- the file's uid and gid have accounts on the host
-abbrev pub IsOwned : Joined → ℕ → Entry → Type 0
-IsOwned site host file = unowned site host file.uid file.gid ≡ None
 
 -- the mappings have one number for each name of the site
 pub record AreForSite (site : Joined) (users groups : List ℕ) : Type 0 where

@@ -5,7 +5,7 @@ ghost use Rattle.reown_plan.specs.declared.plan.PlanFault.TheVariants.{BadPlan, 
 use crate::mark::PlanMark;
 use crate::read::{read_head, read_record};
 use std::alloc::{AllocError, AllocFailed, Global};
-use std::collections::HashSet;
+use std::collections::BTreeSet;
 use std::marker::Model;
 
 /// The numbers of a file's user and group (chown(2)).
@@ -82,13 +82,16 @@ impl<T: Drop> From<AllocFailed<T>> for PlanFault {
 }
 
 impl<'a> Plan<'a> {
-    /// Reads a plan, whose paths are slices of its text. A text that is no plan is `BadPlan` with the byte at which the
-    /// first header, record or end that is not lawful begins, or what stands behind the end. One pass over the text, one
-    /// look-up a record.
+    /// Reads a plan, whose paths are slices of its text. A text that is no plan is `BadPlan` with
+    /// the byte at which the first header, record or end that is not lawful begins, or what stands
+    /// behind the end. One pass over the text, and for each record a look-up in a search tree of
+    /// the paths before it, since whoever names files chooses their paths: a few comparisons for
+    /// each binary digit of the number of records.
     ///
     /// # Errors
     ///
-    /// `BadPlan`; or `Memory` where a growth is refused. Of memory a record takes 32 bytes, and its path a place in a set.
+    /// `BadPlan`; or `Memory` where a growth is refused. Of memory a record takes 32 bytes, and
+    /// its path a place in the tree.
     pub fn read(alloc: Global, text: &'a [u8]) -> Result<Plan<'a>, PlanFault>
         ensures spelled { IfOk result (λ plan. text.now ≡ spelling plan) }
         ensures lawful { IfOk result (λ plan. IsLawful plan) }
@@ -99,7 +102,7 @@ impl<'a> Plan<'a> {
             return Err(PlanFault::BadPlan(0));
         };
         let mut records = Vec::new(alloc);
-        let mut paths: HashSet<&[u8]> = HashSet::new(alloc);
+        let mut paths: BTreeSet<&[u8]> = BTreeSet::new(alloc);
         'records: while let Some((planned, after)) = read_record(rest) {
             if !paths.insert(planned.path)? {
                 return Err(PlanFault::BadPlan(text.len() - rest.len()));

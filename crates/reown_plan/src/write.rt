@@ -1,8 +1,8 @@
 //! A plan from an inventory.
-ghost use Rattle.std.specs.Prelude.{◌≡◌, ◌++◌, ◌<◌, All, false, not, length, if◌then◌else◌, IfOk};
+ghost use Rattle.std.specs.Prelude.{◌≡◌, ◌++◌, ◌<◌, false, not, length, if◌then◌else◌, IfOk};
 ghost use Rattle.std.specs.Result.{result_unwrap_or};
 ghost use Rattle.reown_plan.specs.Owners.{owner_of, owner_eq};
-ghost use Rattle.reown_plan.specs.Target.{renumbered, target, record_to, host_plan, IsOwned, AreForSite};
+ghost use Rattle.reown_plan.specs.Target.{renumbered, target, record_to, host_plan, AreForSite};
 ghost use Rattle.reown_plan.specs.Spelling.{line, spelling};
 
 use crate::{Owner, Record, push_plan_end, push_plan_head, push_record};
@@ -33,9 +33,10 @@ fn target_of(site: &Site<'_>, users: &Mapping, groups: &Mapping, host: u32, entr
     }
 }
 
-/// Appends the record of a file of the host at an index where the mappings give the file another owner, and nothing for another
-/// file; true exactly where a record was appended. Asked is that the mappings have one number for each name of the site, and
-/// that the file's uid and gid have accounts on the host.
+/// Appends the record of a file of the host at an index where the mappings give the file another
+/// owner, and nothing for another file; true exactly where a record was appended. A uid or a gid that
+/// no name of the site has there stays as it is. Asked is that the mappings have one number for each
+/// name of the site.
 ///
 /// Refused where memory is; the text is then as before. Two look-ups by hash, and one pass over the path where a record is
 /// appended.
@@ -47,8 +48,7 @@ pub fn push_plan_entry(
     groups: &Mapping,
     entry: &Entry,
 ) -> Result<bool, AllocError>
-    requires for_site { AreForSite site.now users.now groups.now }
-    requires owned { IsOwned site.now host entry.now }
+    requires { AreForSite site.now users.now groups.now }
     ensures appended { IfOk result (λ appended. appended ≡ not (owner_eq (owner_of entry.now) (target site.now users.now groups.now host entry.now))) }
     ensures text { text.new.items ≡ (if result_unwrap_or result false then text.old.items ++ line (record_to (target site.now users.now groups.now host) entry.now) else text.old.items) }
 {
@@ -73,8 +73,8 @@ pub fn push_plan_entry(
 }
 
 /// The text of the plan of the host at an index: a record for each file of its inventory that gets another owner, in the order
-/// of the inventory. It is `push_plan_head`, `push_plan_entry` for each file, and `push_plan_end`. Asked is that the mappings
-/// have one number for each name of the site, and that each file's uid and gid have accounts on the host.
+/// of the inventory. It is `push_plan_head`, `push_plan_entry` for each file, and `push_plan_end`.
+/// Asked is that the host is there and that the mappings have one number for each name of the site.
 ///
 /// `AllocError` where memory is refused. Two look-ups by hash for each file, and memory in step with the text.
 pub fn plan_text(
@@ -88,7 +88,6 @@ pub fn plan_text(
 ) -> Result<Vec<u8>, AllocError>
     requires here { host < length hosts.now }
     requires for_site { AreForSite site.now users.now groups.now }
-    requires owned { All (IsOwned site.now host) inventory.now }
     ensures { IfOk result (λ text. text.items ≡ spelling (host_plan hosts.now site.now users.now groups.now host inventory.now)) }
 {
     let mut text = Vec::new(alloc);

@@ -1,13 +1,11 @@
 -- The files of a plan, as an earlier run may have left them.
-use Rattle.std.proofs.Common.{◌≡◌, ◌≢◌, ◌⊎◌, inl, inr, ◌<◌, ◌≤◌, ◌+◌, ℕ, zero, suc, Bool, true, false, cond, nat_lt, List, [], ◌∷◌, ◌++◌, Option, None, Some, Contains, All, map, take, get_or, length, slice_get, find, refl, sym, ◌∙◌, ap, subst, arith}
-use Rattle.std.specs.List.{position_or_len, position, list_any}
+use Rattle.std.proofs.Common.{◌≡◌, ◌≢◌, inl, inr, ◌<◌, ℕ, zero, suc, Bool, false, List, [], ◌∷◌, Option, None, Some, Contains, All, map, get_or, length, slice_get, sym, ◌∙◌, ap, subst, arith}
+use Rattle.std.specs.List.{position}
 use Rattle.std.specs.Option.{option_map, option_and_then}
 use Rattle.std.specs.Str.{bytes_eq}
 use Rattle.std.specs.Cmp.Lexicographic.{bytes_decides}
-use Rattle.std.proofs.lemmas.Bool.Decides.{nat_tests}
-use Rattle.std.proofs.lemmas.List.{length-map, length-take-le, get_or-map, get_or-take, map-append, take_more}
+use Rattle.std.proofs.lemmas.List.{length-map, get_or-map}
 use Rattle.std.proofs.lemmas.List.Folds.{find_at}
-use Rattle.std.proofs.lemmas.List.Sums.{position_or_len_is}
 use Rattle.reown_plan.specs.declared.mark.PlanMark.{PlanMark}
 use Rattle.reown_plan.specs.declared.plan.Owner.{Owner}
 use Rattle.reown_plan.specs.Mark.{is_marked_for}
@@ -15,12 +13,12 @@ use Rattle.reown_plan.specs.PlanData.{PlanRecord, HaveDistinctPaths}
 use Rattle.reown_runner.specs.declared.memory.FileCell.{FileCell}
 use Rattle.reown_runner.specs.declared.runner.Place.TheVariants.{Start}
 use Rattle.reown_runner.specs.Tree.{IsSettled, cells_of}
-use Rattle.reown_runner.specs.Memory.{Mem, known_mem, cell_of, values_of, settled_cell}
+use Rattle.reown_runner.specs.Memory.{Mem, known_mem, values_of, settled_cell}
 use Rattle.reown_runner.specs.Safe.{IsSafeInStep}
 use Rattle.reown_runner.specs.Halfway.{planned_in, mem_of_records, AreHalfway}
 use Rattle.reown_runner.proofs.Cellwise.{either}
 use Rattle.reown_runner.proofs.Memories.{one_of_two}
-use Rattle.reown_runner.proofs.Lists.{any-map, any-none, position_or_len-map, slice_get-map, slice_get-read, slice_get-past}
+use Rattle.reown_runner.proofs.Lists.{position_or_len-map, position_or_len_nowhere, position_at, position_nowhere, slice_get-map, slice_get-read, slice_get-past}
 
 abbrev pub nobody : Owner
 nobody = record { uid = 0; gid = 0 }
@@ -45,23 +43,6 @@ cell_values : (o : Option Owner) (x : Option Owner) → Contains (values_of (opt
 cell_values None x h = one_of_one None x h
 cell_values (Some o) x h = elim (one_of_two (Some o) (Some o) x h) [ inl e ↦ e | inr e ↦ e ]
 
--- one more path
-module _ {K : Type 0} (f : K → List ℕ) (keys after : List K) (records : List PlanRecord) (i : ℕ) (v : K) where
-  new_path : HaveDistinctPaths records → i < length records → map f keys ≡ map path_in (take i records) → f v ≡ (get_or records i nothing).path → list_any (λ y. bytes_eq (f v) (f y)) keys ≡ false
-  new_path distinct below same at =
-      any-map (bytes_eq (f v)) f keys ∙ ap (list_any (bytes_eq (f v))) same
-      ∙ any-none (bytes_eq (f v)) (map path_in (take i records)) (λ k p within.
-      let less : k < i = omega (arith, length-map (take i records) path_in, length-take-le i records (omega arith)) in
-      let there : get_or (map path_in (take i records)) k p ≡ (get_or records k nothing).path =
-      get_or-map path_in (take i records) k nothing p (omega (arith, length-take-le i records (omega arith))) ∙ ap path_in (get_or-take i records k nothing less) in
-      differ (f v) (get_or (map path_in (take i records)) k p) (λ e. distinct k i nothing less below (sym there ∙ sym e ∙ at)))
-
-  pub one_more_key : HaveDistinctPaths records → i < length records → map f keys ≡ map path_in (take i records) → f v ≡ (get_or records i nothing).path
-      → after ≡ cond (list_any (λ y. bytes_eq (f v) (f y)) keys) keys (keys ++ v ∷ []) → map f after ≡ map path_in (take (i + 1) records)
-  one_more_key distinct below same at is =
-      ap (map f) (is ∙ ap (λ b. cond b keys (keys ++ v ∷ [])) (new_path distinct below same at)) ∙ map-append f keys (v ∷ [])
-      ∙ (λ j. same j ++ at j ∷ []) ∙ sym (ap (map path_in) (take_more records i nothing below) ∙ map-append path_in (take i records) (get_or records i nothing ∷ []))
-
 module _ (records : List PlanRecord) where
   abbrev paths : List (List ℕ)
   paths = map path_in records
@@ -72,29 +53,23 @@ module _ (records : List PlanRecord) where
   pub place_of_path : HaveDistinctPaths records → (k : ℕ) (d : PlanRecord) → k < length records → position (bytes_eq (get_or records k d).path) paths ≡ Some k
   place_of_path distinct k d h =
       let path = (get_or records k d).path in
-      let first : position_or_len (bytes_eq path) paths ≡ k =
-      position_or_len_is (bytes_eq path) paths k [] (omega (arith, length-map records path_in))
+      position_at (bytes_eq path) paths k [] (omega (arith, length-map records path_in))
       (λ j less. differ path (get_or paths j []) (λ e. distinct j k d less h (sym (path_at j d (omega arith)) ∙ sym e)))
-      (λ _. (bytes_decides path (get_or paths k [])).1 (sym (path_at k d h))) in
-      let less : nat_lt k (length records) ≡ true = grind (arith, nat_tests) in
-      (λ i. cond (nat_lt (first i) (length-map records path_in i)) (Some (first i)) None) ∙ ap (λ b. cond b (Some k) None) less
+      ((bytes_decides path (get_or paths k [])).1 (sym (path_at k d h)))
 
   module _ (path : List ℕ) (absent : All (λ r. r.path ≢ path) records) where
-    no_place_or_len : position_or_len (bytes_eq path) paths ≡ length records
-    no_place_or_len =
-        position_or_len_is (bytes_eq path) paths (length records) [] (omega (arith, length-map records path_in))
-        (λ k less. differ path (get_or paths k []) (λ e. absent k nothing less (sym (path_at k nothing less) ∙ sym e)))
-        (λ below. absurd (omega (arith, length-map records path_in)))
+    other_paths : (k : ℕ) → k < length paths → bytes_eq path (get_or paths k []) ≡ false
+    other_paths k less =
+        let within : k < length records = omega (arith, length-map records path_in) in
+        differ path (get_or paths k []) (λ e. absent k nothing within (sym (path_at k nothing within) ∙ sym e))
 
     no_place : position (bytes_eq path) paths ≡ None
-    no_place =
-        let less : nat_lt (length records) (length records) ≡ false = grind (arith, nat_tests) in
-        (λ i. cond (nat_lt (no_place_or_len i) (length-map records path_in i)) (Some (no_place_or_len i)) None) ∙ ap (λ b. cond b (Some (length records)) None) less
+    no_place = position_nowhere (bytes_eq path) paths [] other_paths
 
     not_planned : planned_in records path ≡ None
     not_planned =
         ap (option_map (λ r. r.before))
-        (find_at (λ (r : PlanRecord). bytes_eq path r.path) records ∙ ap (slice_get records) (sym (position_or_len-map (bytes_eq path) path_in records) ∙ no_place_or_len) ∙ slice_get-past records (length records) (omega arith))
+        (find_at (λ (r : PlanRecord). bytes_eq path r.path) records ∙ ap (slice_get records) (sym (position_or_len-map (bytes_eq path) path_in records) ∙ position_or_len_nowhere (bytes_eq path) paths [] other_paths ∙ length-map records path_in) ∙ slice_get-past records (length records) (omega arith))
 
   module _ (owners : List Owner) (has : Option PlanMark) (plan : PlanMark) (distinct : HaveDistinctPaths records) (as_many : length owners ≡ length records) where
     abbrev tree : Mem

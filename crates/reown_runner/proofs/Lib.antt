@@ -5,6 +5,7 @@ pub mod Histories
 pub mod Count
 pub mod Runs
 pub mod Lists
+pub mod Places
 pub mod Memories
 pub mod Campaigns
 pub mod Finishing

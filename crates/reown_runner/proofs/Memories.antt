@@ -1,15 +1,14 @@
 -- What is done to a tree in memory.
-use Rattle.std.proofs.Common.{◌≡◌, ◌≢◌, ◌⊎◌, inl, inr, ◌<◌, ◌≤◌, ◌+◌, ℕ, zero, suc, Bool, true, false, cond, nat_lt, List, [], ◌∷◌, ◌++◌, Option, None, Some, Contains, map, take, set, get_or, length, slice_get, refl, sym, ◌∙◌, ap, subst, arith}
-use Rattle.std.specs.List.{position_or_len, position, list_any}
+use Rattle.std.proofs.Common.{◌≡◌, ◌≢◌, ◌⊎◌, inl, inr, ◌<◌, ◌≤◌, ℕ, zero, suc, Bool, true, false, cond, nat_lt, List, [], ◌∷◌, Option, None, Some, Contains, map, take, set, get_or, length, slice_get, refl, sym, ◌∙◌, ap, subst, arith}
+use Rattle.std.specs.List.{position_or_len, position}
 use Rattle.std.specs.Option.{option_map, option_and_then}
 use Rattle.std.specs.Str.{bytes_eq}
 use Rattle.std.specs.Cmp.Lexicographic.{bytes_decides}
 use Rattle.std.proofs.lemmas.Bool.Decides.{nat_tests}
-use Rattle.std.proofs.lemmas.List.{length-map, length-take-le, get_or-map, get_or-take, map-append, take_more}
+use Rattle.std.proofs.lemmas.List.{length-map}
 use Rattle.std.proofs.lemmas.List.Folds.{find_at}
 use Rattle.std.proofs.lemmas.List.Quantifiers.{position-Some}
 use Rattle.mtree_inv.specs.declared.entry.Entry.{Entry}
-use Rattle.mtree_inv.specs.Files.{HaveDistinctFiles}
 use Rattle.reown_plan.specs.declared.mark.PlanMark.{PlanMark}
 use Rattle.reown_plan.specs.declared.plan.Owner.{Owner}
 use Rattle.reown_plan.specs.Mark.{is_marked_for}
@@ -20,7 +19,7 @@ use Rattle.reown_runner.specs.Memory.{Mem, known_mem, cell_of, values_of, keeps_
 use Rattle.reown_runner.specs.Finished.{IsFresh}
 use Rattle.reown_runner.specs.MemoryReads.{first_of_two, last_of_two, now_left}
 use Rattle.reown_runner.proofs.Cellwise.{either}
-use Rattle.reown_runner.proofs.Lists.{any-map, any-none, position_or_len-map, slice_get-map, slice_get-read, slice_get-past, slice_get-set, slice_get-set_other}
+use Rattle.reown_runner.proofs.Lists.{position_or_len-map, slice_get-map, slice_get-read, slice_get-past, slice_get-set, slice_get-set_other}
 
 pub one_of_two : {X : Type 0} (a b x : X) → Contains (a ∷ b ∷ []) x → (x ≡ a) ⊎ (x ≡ b)
 one_of_two a b x (zero, h, e) = inl (sym e)
@@ -205,27 +204,3 @@ new_settled files plan =
 
 pub new_fresh : (files : List Entry) (plan : PlanMark) → IsFresh (owner_in files) (cells_of plan (known_mem (new_mem files)))
 new_fresh files plan = record { owner = new_owner files; mark = refl; settled = new_settled files plan }
-
--- one more file
-module _ {K : Type 0} (f : K → List ℕ) (keys after : List K) (files : List Entry) (i : ℕ) (d : Entry) (v : K) where
-  fresh_path : HaveDistinctFiles files → i < length files → map f keys ≡ map (λ e. e.path) (take i files) → f v ≡ (get_or files i d).path → list_any (λ y. bytes_eq (f v) (f y)) keys ≡ false
-  fresh_path distinct below same at =
-      any-map (bytes_eq (f v)) f keys ∙ ap (list_any (bytes_eq (f v))) same
-      ∙ any-none (bytes_eq (f v)) (map (λ e. e.path) (take i files)) (λ k p within.
-      let less : k < i = omega (arith, length-map (take i files) (λ (e : Entry). e.path), length-take-le i files (omega arith)) in
-      let there : get_or (map (λ e. e.path) (take i files)) k p ≡ (get_or files k d).path =
-      get_or-map (λ (e : Entry). e.path) (take i files) k d p (omega (arith, length-take-le i files (omega arith))) ∙ ap (λ e. e.path) (get_or-take i files k d less) in
-      elim (either (bytes_eq (f v) (get_or (map (λ e. e.path) (take i files)) k p))) [
-        | inl equal ↦ absurd (distinct k i d less below (sym there ∙ sym ((bytes_decides (f v) (get_or (map (λ e. e.path) (take i files)) k p)).0 equal) ∙ at))
-        | inr other ↦ other
-      ])
-
-  pub one_more_path : HaveDistinctFiles files → i < length files → map f keys ≡ map (λ e. e.path) (take i files) → f v ≡ (get_or files i d).path
-      → after ≡ cond (list_any (λ y. bytes_eq (f v) (f y)) keys) keys (keys ++ v ∷ []) → map f after ≡ map (λ e. e.path) (take (i + 1) files)
-  one_more_path distinct below same at is =
-      ap (map f) (is ∙ ap (λ b. cond b keys (keys ++ v ∷ [])) (fresh_path distinct below same at)) ∙ map-append f keys (v ∷ [])
-      ∙ (λ j. same j ++ at j ∷ []) ∙ sym (ap (map (λ e. e.path)) (take_more files i d below) ∙ map-append (λ (e : Entry). e.path) (take i files) (get_or files i d ∷ []))
-
-pub one_more_owner : (owners after : List FileCell) (files : List Entry) (i : ℕ) (e : Entry) → i < length files → owners ≡ map owner_by (take i files) → e ≡ get_or files i e → after ≡ owners ++ owner_by e ∷ [] → after ≡ map owner_by (take (i + 1) files)
-one_more_owner owners after files i e below same at is =
-    is ∙ (λ j. same j ++ owner_by (at j) ∷ []) ∙ sym (ap (map owner_by) (take_more files i e below) ∙ map-append owner_by (take i files) (get_or files i e ∷ []))

@@ -5,6 +5,7 @@ pub mod Step
 pub mod RunnerData
 pub mod World
 pub mod Run
+pub mod Paths
 pub mod Memory
 pub mod MemoryReads
 pub mod Failing

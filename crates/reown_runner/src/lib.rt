@@ -5,6 +5,7 @@ mod campaign;
 mod failing;
 mod laws;
 mod memory;
+mod paths;
 mod runner;
 mod tree;
 

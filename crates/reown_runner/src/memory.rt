@@ -3,9 +3,9 @@ ghost use Rattle.std.specs.Prelude.{◌≡◌, ◌<◌, ℕ, map, take, length, 
 ghost use Rattle.std.specs.Option.{option_map};
 ghost use Rattle.std.specs.Str.{bytes_eq};
 
+use crate::paths::{PathIndex, PathList};
 use crate::{DeviceFault, Tree};
-use indexmap::IndexSet;
-use mtree_inv::Inventory;
+use mtree_inv::{Entry, Inventory};
 use reown_plan::{Owner, PlanMark, Record};
 use std::alloc::{AllocError, Global};
 use std::marker::Model;
@@ -30,11 +30,12 @@ pub struct FileCell {
     now: Owner,
 }
 
-/// A tree in memory. A path is found by hash; a sync and a stop take one pass over the files. No call
-/// but `new` and `of_records` takes memory.
+/// A tree in memory. A path is found by bisection: a call with one takes a comparison of paths for
+/// each binary digit of the number of files, whatever their names are. A sync and a stop take one
+/// pass over the files. No call but `new` and `of_records` takes memory.
 #[derive(Drop)]
 pub struct MemTree {
-    paths: IndexSet<Vec<u8>>,
+    paths: PathIndex,
     cells: Vec<FileCell>,
     mark_synced: Option<PlanMark>,
     mark_now: Option<PlanMark>,
@@ -43,14 +44,21 @@ pub struct MemTree {
 }
 
 impl Model for MemTree {
-    ghost use Rattle.std.specs.Prelude.{◌≡◌, map, length};
+    ghost use Rattle.std.specs.Prelude.{◌≡◌, length};
     ghost use Rattle.reown_runner.specs.Memory.{Mem};
 
     ghost Value = { Mem };
 
-    ghost view = { λ m. record { paths = map (λ k. k.items) m.paths.keys; cells = m.cells.items; mark_synced = m.mark_synced; mark_now = m.mark_now; keep = m.keep; asked = m.asked } };
+    ghost view = { λ m. record {
+      paths = m.paths;
+      cells = m.cells.items;
+      mark_synced = m.mark_synced;
+      mark_now = m.mark_now;
+      keep = m.keep;
+      asked = m.asked;
+    } };
 
-    ghost invariant = { λ m. length m.paths.keys ≡ length m.cells.items };
+    ghost invariant = { λ m. length m.paths ≡ length m.cells.items };
 }
 
 ghost use Rattle.reown_runner.specs.Memory.{known_mem, keeps_file, is_odd_one, settled_cell, left_cell, owner_in, new_mem, IsWritten, marked, settled, IsReopened};
@@ -61,18 +69,48 @@ ghost use Rattle.reown_plan.specs.declared.mark.PlanMark.{PlanMark};
 ghost use Rattle.reown_runner.specs.Finished.{IsFresh};
 ghost use Rattle.reown_runner.specs.Halfway.{mem_of_records, AreHalfway, MayGoOn};
 ghost use Rattle.reown_plan.specs.PlanData.{HaveDistinctPaths};
+ghost use Rattle.reown_plan.specs.Owners.{owner_of};
 ghost use Rattle.reown_plan.specs.Records.{record_of};
 
-// The paths of records, which differ.
-fn paths_of(alloc: Global, records: &[Record]) -> Result<IndexSet<Vec<u8>>, AllocError>
-    requires { HaveDistinctPaths (map record_of records.now) }
-    ensures { IfOk result (λ paths. map (λ k. k.items) paths.keys ≡ map (λ r. r.path) (map record_of records.now)) }
+// The paths of files.
+fn paths_in(alloc: Global, entries: &[Entry]) -> Result<PathList, AllocError>
+    ensures { IfOk result (λ paths. paths ≡ map (λ e. e.path) entries.now) }
 {
-    let mut paths = IndexSet::with_capacity(alloc, records.len())?;
-    for planned in records {
-        paths.insert(planned.path.to_vec(alloc)?)?;
+    let mut paths = PathList::with_capacity(alloc, entries.len())?;
+    for entry in entries {
+        paths.push(entry.path.bytes())?;
     }
     Ok(paths)
+}
+
+// The paths of records.
+fn paths_of(alloc: Global, records: &[Record]) -> Result<PathList, AllocError>
+    ensures { IfOk result (λ paths. paths ≡ map (λ r. r.path) (map record_of records.now)) }
+{
+    let mut paths = PathList::with_capacity(alloc, records.len())?;
+    for planned in records {
+        paths.push(planned.path)?;
+    }
+    Ok(paths)
+}
+
+// A cell at the owner of each file, with nothing pending.
+fn cells_in(alloc: Global, entries: &[Entry]) -> Result<Vec<FileCell>, AllocError>
+    ensures { IfOk result (λ cells.
+        cells.items ≡ map (λ e. settled_cell (owner_of e)) entries.now) }
+{
+    let mut cells = Vec::with_capacity(alloc, entries.len())?;
+    for entry in entries {
+        let owner = Owner {
+            uid: entry.uid,
+            gid: entry.gid,
+        };
+        cells.push(FileCell {
+            synced: owner,
+            now: owner,
+        })?;
+    }
+    Ok(cells)
 }
 
 // A cell at each owner, with nothing pending.
@@ -122,8 +160,9 @@ fn leave_cells(cells: &mut [FileCell], keep: Keep) -> bool
 }
 
 impl MemTree {
-    /// A tree as its inventory, marked for no plan, with nothing pending. A stop keeps all, until `on_reopen` chooses
-    /// otherwise. One pass over the inventory, with a copy of each path.
+    /// A tree as its inventory, marked for no plan, with nothing pending. A stop keeps all, until
+    /// `on_reopen` chooses otherwise. One pass over the inventory, with a copy of each path, and
+    /// one sort of these.
     ///
     /// # Errors
     ///
@@ -133,19 +172,8 @@ impl MemTree {
         ensures fresh { IfOk result (λ tree. (plan : PlanMark) → IsFresh (owner_in inventory.now) (cells_of plan (known_mem tree))) }
     {
         let entries = inventory.entries();
-        let mut paths = IndexSet::with_capacity(alloc, entries.len())?;
-        let mut cells = Vec::with_capacity(alloc, entries.len())?;
-        for entry in entries {
-            paths.insert(entry.path.bytes().to_vec(alloc)?)?;
-            let owner = Owner {
-                uid: entry.uid,
-                gid: entry.gid,
-            };
-            cells.push(FileCell {
-                synced: owner,
-                now: owner,
-            })?;
-        }
+        let paths = PathIndex::new(alloc, paths_in(alloc, entries)?)?;
+        let cells = cells_in(alloc, entries)?;
         Ok(MemTree {
             paths,
             cells,
@@ -156,9 +184,10 @@ impl MemTree {
         })
     }
 
-    /// A tree that has just the files of records, at these owners, with the mark as told and nothing pending. Where each
-    /// owner is the old or the new one, as an earlier run may have left it, the plan may go on from there. A stop keeps
-    /// all, until `on_reopen` chooses otherwise. One pass, with a copy of each path.
+    /// A tree that has just the files of records, at these owners, with the mark as told and
+    /// nothing pending. Where each owner is the old or the new one, as an earlier run may have
+    /// left it, the plan may go on from there. A stop keeps all, until `on_reopen` chooses
+    /// otherwise. One pass, with a copy of each path, and one sort of these.
     ///
     /// # Errors
     ///
@@ -175,7 +204,7 @@ impl MemTree {
         ensures safe { IfOk result (λ tree. (plan : PlanMark) → AreHalfway (map record_of records.now) owners.now (is_marked_for plan mark)
             → MayGoOn (map record_of records.now) (cells_of plan (known_mem tree))) }
     {
-        let paths = paths_of(alloc, records)?;
+        let paths = PathIndex::new(alloc, paths_of(alloc, records)?)?;
         let cells = cells_at(alloc, owners)?;
         Ok(MemTree {
             paths,
@@ -195,12 +224,13 @@ impl MemTree {
         self.keep = keep;
     }
 
-    /// The place of a path among the paths, if it is one of them. A look-up by hash.
+    /// The place of a path among the paths, if it is one of them. It takes a comparison of paths
+    /// for each binary digit of their number.
     pub fn index_of(&self, path: &[u8]) -> Option<usize>
         ensures place { result ≡ position (bytes_eq path.now) self.now.paths }
         ensures within { IfSome result (λ i. i < length self.now.cells) }
     {
-        self.paths.get_index_of(path)
+        self.paths.find(path)
     }
 
     fn owner_at(&self, i: usize) -> Owner

@@ -1,16 +1,14 @@
 -- From the end of a first pass to counters of all hosts, and to a second pass.
-use Rattle.std.proofs.Common.{◌≡◌, ℕ, zero, suc, true, length-append, length-take, ◌+◌, ◌*◌, ◌<◌, ◌≤◌, ◌==◌, List, [], ◌∷◌, ◌++◌, length, map, take, get_or, Some, None, Result, Ok, Err, refl, sym, ap, subst, ◌∙◌, arith}
+use Rattle.std.proofs.Common.{◌≡◌, ℕ, zero, suc, true, length-append, length-take, ◌+◌, ◌*◌, ◌<◌, ◌≤◌, ◌==◌, List, [], ◌∷◌, ◌++◌, length, map, take, Some, Result, Ok, Err, refl, sym, ap, subst, ◌∙◌, arith}
 use Rattle.std.specs.Prelude.{IfOk}
 use Rattle.std.specs.declared.alloc.AllocError.{AllocError}
 use Rattle.std.specs.List.{All, slice_get}
 use Rattle.std.specs.Option.{option_map}
 use Rattle.std.proofs.lemmas.List.{length-map, take_more}
 use Rattle.std.proofs.lemmas.List.Elements.{All-head, All-map, All-tail}
-use Rattle.std.proofs.lemmas.Option.{slice_get-get_or}
 use Rattle.idtext.specs.First.{first_fault}
 use Rattle.hosts_join.specs.Checks.{is_host_name}
 use Rattle.hosts_join.specs.Hosts.{IsLawfulHost}
-use Rattle.hosts_join.specs.Laws.{KnowsHost}
 use Rattle.hosts_join.specs.Site.{Joined}
 use Rattle.hosts_join.specs.declared.host.Host.{Host}
 use Rattle.hosts_join.proofs.Refusals.{count_by-of-map}
@@ -19,7 +17,6 @@ use Rattle.mergedfiles.specs.Together.{AreJoined}
 use Rattle.mtree_inv.specs.declared.entry.Entry.{Entry}
 use Rattle.ownership.specs.Counts as counts
 use Rattle.ownership.specs.Counts.{Counted}
-use Rattle.ownership.specs.Faults.{unowned}
 use Rattle.ownership.specs.Files.{Added}
 use Rattle.unify.specs.declared.host.Loaded.{Loaded}
 use Rattle.unify.specs.declared.merging.Merged.{Merged}
@@ -34,9 +31,9 @@ use Rattle.unify.specs.RowFiles.{RowFiles, row_files}
 use Rattle.unify.specs.SecondPass as second
 use Rattle.unify.specs.SecondPass.{IsFreshTurn, IsSolvedFrom, IsSolving, SolvedValue}
 use Rattle.ownership.specs.HostFiles.{AreOfHost, AreRowCounts}
+use Rattle.ownership.proofs.HostFiles.{owned_few}
 use Rattle.unify.proofs.Adding.{added_from-push}
 use Rattle.unify.proofs.Ended.{AreFilesAt, AreOwned, IsOver, all_owned, over_stands, read_length}
-use Rattle.unify.proofs.Owners.{owned-there}
 use Rattle.unify.proofs.Reading.{all-at, all-owned, read-host-of}
 use Rattle.unify.proofs.Whole.{hosts_held}
 
@@ -88,23 +85,21 @@ few_before start (here ∷ read) (suc index) owned = omega (
   few_before (start + 1) read index (All-tail (λ (h : Host × List Entry). AreOwned h.0 h.1) here read owned),
 )
 
-pub room_before : (c : InventoriesValue) (joined : Joined) (counted : Counted) (ended : List (List ℕ)) (were : StandsFor c ended []) (index : ℕ) → IsOver c → length c.hosts ≤ 64 → counts.StandsFor joined counted (files_before were.read index) → counted.added ≤ 1073741824
+pub room_before : (c : InventoriesValue) (joined : Joined) (counted : Counted) (ended : List (List ℕ)) (were : StandsFor c ended []) (index : ℕ) → IsOver c → length c.hosts ≤ 64 → counts.StandsFor joined counted (files_before were.read index)
+    → (counted.user_files ≤ 1073741824) × (counted.group_files ≤ 1073741824)
 room_before c joined counted ended were index over few stands =
-    omega (arith, stands.added, few_before 0 were.read index (all_owned (loaded_from c.hosts ended) were.read were.accepted), read_length c ended were, over, few)
+    let files = files_before were.read index in
+    let all : length files ≤ 1073741824 = omega (arith, few_before 0 were.read index (all_owned (loaded_from c.hosts ended) were.read were.accepted), read_length c ended were, over, few) in (
+      omega (arith, stands.user_files, owned_few joined.users.names (λ f. f.uid) files, all),
+      omega (arith, stands.group_files, owned_few joined.groups.names (λ f. f.gid) files, all),
+    )
 
 module _ (index : ℕ) (host : Host) (rows : RowFiles) (read : List (Host × List Entry)) (at : AreFilesAt read index host rows) where
   abbrev pub files_here : List Added
   files_here = map (added_on index) at.files
 
-  pub of_host : (joined : Joined) → KnowsHost joined index host → AreOfHost joined index files_here
-  of_host joined knows = record {
-    there = All-map (λ (f : Added). f.host ≡ index) (added_on index) at.files (λ k d l. refl);
-    owned = All-map (λ (f : Added). unowned joined f.host f.uid f.gid ≡ None) (added_on index) at.files
-        (λ k d l.
-        let f = get_or at.files k d in
-        let has = at.owned.owned k d l in
-        owned-there joined index host f.uid f.gid knows has.user has.group);
-  }
+  pub of_host : AreOfHost index files_here
+  of_host = All-map (λ (f : Added). f.host ≡ index) (added_on index) at.files (λ k d l. refl)
 
   pub row_counts : (by_users by_groups : List ℕ) → by_users ≡ rows.users → by_groups ≡ rows.groups → AreRowCounts host files_here by_users by_groups
   row_counts by_users by_groups users groups = record {
@@ -118,10 +113,6 @@ module _ (index : ℕ) (host : Host) (rows : RowFiles) (read : List (Host × Lis
   pub more_files : files_before read (index + 1) ≡ files_before read index ++ files_here
   more_files = ap (added_from 0) (take_more read index (host, []) at.within ∙ ap (λ (p : Host × List Entry). take index read ++ p ∷ []) at.here)
       ∙ added_from-push 0 index (take index read) host at.files (omega (arith, length-take index read, at.within))
-
--- the host at an index, as the code reads it
-pub host_at : (hosts : List Host) (index : ℕ) (host : Host) → index < length hosts → host ≡ get_or hosts index host → slice_get hosts index ≡ Some host
-host_at hosts index host within is = slice_get-get_or hosts index host within ∙ ap (λ (h : Host). Some h) (sym is)
 
 -- ---- what is held
 

@@ -1,6 +1,6 @@
 -- The turn of a host in the second pass.
 use Rattle.std.proofs.Common.{◌≡◌, ◌≢◌, ℕ, ◌+◌, ◌<◌, ◌≤◌, Bool, true, false, not, List, [], ◌∷◌, ◌++◌, length, map, get_or, Option, Some, None, Result, Ok, Err, refl, sym, ap, subst, ◌∙◌, arith, append-nil, append_assoc, inl, inr, length-append}
-use Rattle.std.specs.Prelude.{IfSome, if◌then◌else◌, is_some}
+use Rattle.std.specs.Prelude.{IfSome, if◌then◌else◌}
 use Rattle.std.specs.List.{All, filter}
 use Rattle.std.specs.Result.{MatchResult, OnOk}
 use Rattle.std.proofs.lemmas.Bool.{true≢false}
@@ -20,14 +20,12 @@ use Rattle.mtree_inv.specs.Standing as standing
 use Rattle.mtree_inv.specs.Standing.{ReaderValue}
 use Rattle.mtree_inv.proofs.LawfulLemmas.{reader-files}
 use Rattle.mtree_inv.proofs.ReadLemmas.{Grows, grows-twice}
-use Rattle.hosts_join.specs.Kinds.{user_at, group_at}
-use Rattle.hosts_join.specs.Laws.{KnowsHost}
 use Rattle.hosts_join.specs.Site.{Joined}
 use Rattle.hosts_join.specs.declared.host.Host.{Host}
 use Rattle.reown_plan.specs.declared.plan.Owner.{Owner}
 use Rattle.reown_plan.specs.Owners.{owner_of, owner_eq}
 use Rattle.reown_plan.specs.Spelling.{head, line, lines}
-use Rattle.reown_plan.specs.Target.{IsOwned, plan_of, record_to, records_to, target}
+use Rattle.reown_plan.specs.Target.{plan_of, record_to, records_to, target}
 use Rattle.unify_texts.specs.declared.bundle_line.FileName.TheVariants as file
 use Rattle.unify_texts.specs.declared.fault.Fault.{Fault}
 use Rattle.unify_texts.specs.declared.fault.Fault.TheVariants.{InventoryChanged, Line}
@@ -39,7 +37,6 @@ use Rattle.unify.specs.Hosts.{owner_fault, files_of}
 use Rattle.unify.specs.RowFiles.{RowFiles, row_files}
 use Rattle.unify.specs.SecondPass.{IsUnfinished, TurnsFor, or_changed, owned_lines, plan_before_end, planned_so_far, second_files, stop_of}
 use Rattle.unify.proofs.FilesSoFar.{files_first, files_so_far}
-use Rattle.unify.proofs.Owners.{owned-there, owners-told}
 use Rattle.unify.proofs.Turns.{files_with, grown_files, inventory_is, none_then}
 
 -- ---- files behind files
@@ -61,14 +58,6 @@ first_anywhere : {A F : Type 0} (judge : A → Option F) (seen other xs : List A
 unfolding first_fault
 first_anywhere judge seen other [] = refl
 first_anywhere judge seen other (x ∷ xs) = ap (or_else (judge x)) (first_anywhere judge (seen ++ x ∷ []) (other ++ x ∷ []) xs)
-
--- ---- files and their owners
-
--- a file with owners by its host's own tables has them on the site
-pub owned_on : (joined : Joined) (index : ℕ) (host : Host) (e : Entry) → KnowsHost joined index host → owner_fault host [] e ≡ None → IsOwned joined index e
-owned_on joined index host e knows none =
-    let both = owners-told (is_some (user_at host.users e.uid)) (is_some (group_at host.groups e.gid)) _ _ none in
-    owned-there joined index host e.uid e.gid knows both.0 both.1
 
 -- ---- plans of files behind files
 

@@ -1,6 +1,6 @@
 -- What a merge may answer for a site. Several mappings may cost the least, so it is a relation.
 -- Source: the assignment problem (least cost); what is written is this project's own rule.
-use Rattle.std.specs.Prelude.{◌≡◌, ℕ, ◌+◌, List, [], ◌∷◌, map, All}
+use Rattle.std.specs.Prelude.{◌≡◌, ℕ, ◌+◌, List, [], ◌∷◌, map}
 use Rattle.mtree_inv.specs.declared.entry.Entry.{Entry}
 use Rattle.hosts_join.specs.Site.{Joined}
 use Rattle.hosts_join.specs.declared.host.Host.{Host}
@@ -15,7 +15,7 @@ use Rattle.certcheck.specs.Spelling as certificates
 use Rattle.certcheck.specs.declared.certificate.Certificate.{Certificate}
 use Rattle.mergedfiles.specs.Texts.{merged_users, merged_groups}
 use Rattle.reown_plan.specs.Spelling as plan
-use Rattle.reown_plan.specs.Target.{host_plan, IsOwned}
+use Rattle.reown_plan.specs.Target.{host_plan}
 use Rattle.unify_texts.specs.Report.{report_of}
 use Rattle.unify_texts.specs.WrittenMap.{map_text}
 use Rattle.unify.specs.declared.counting.Cost.{Cost}
@@ -40,11 +40,6 @@ cost_in site m = record { users = cost_of site.joined.users (user_files site) m.
 abbrev pub plan_texts_from : List Host → Joined → Mappings → ℕ → List (List Entry) → List (List ℕ)
 plan_texts_from hosts site m index [] = []
 plan_texts_from hosts site m index (files ∷ more) = plan.spelling (host_plan hosts site m.users m.groups index files) ∷ plan_texts_from hosts site m (index + 1) more
-
--- each file of these hosts has its owners on its host, where the first host stands at the index
-abbrev pub AreOwnedFrom : Joined → ℕ → List (List Entry) → Type 0
-AreOwnedFrom site index [] = Unit {0}
-AreOwnedFrom site index (files ∷ more) = All (IsOwned site index) files × AreOwnedFrom site (index + 1) more
 
 abbrev pub plan_texts : WholeSite → Mappings → List (List ℕ)
 plan_texts site m = plan_texts_from (hosts_in site) site.joined m 0 (map (λ h. h.1) site.hosts)

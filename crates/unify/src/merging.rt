@@ -51,9 +51,8 @@ fn cost_under(site: &Site<'_>, counts: &Counts, users: &Mapping, groups: &Mappin
     requires groups { length groups.now ≡ length site.now.groups.names }
     ensures { (files : List Added) → StandsFor site.now counts.now files → result ≡ record { users = cost_of site.now.users (by_user files) users.now; groups = cost_of site.now.groups (by_group files) groups.now } }
 {
-    let files = counts.added();
-    let user_figures = figures_under(site.users(), counts.users(), files, users);
-    let group_figures = figures_under(site.groups(), counts.groups(), files, groups);
+    let user_figures = figures_under(site.users(), counts.users(), counts.user_files(), users);
+    let group_figures = figures_under(site.groups(), counts.groups(), counts.group_files(), groups);
     Cost {
         users: user_figures.changed_files,
         groups: group_figures.changed_files,

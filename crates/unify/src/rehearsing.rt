@@ -78,7 +78,9 @@ fn rehearse_plan<'a>(alloc: Global, plan: &Plan<'a>, mtree: &'a [u8]) -> Result<
 /// of the plan; and the first record whose file is absent or is at neither of its two owners. `Fault::Memory` is a growth
 /// that was refused.
 ///
-/// It reads each text once, and takes a copy of the path of each file and at most two look-ups for each record.
+/// It reads each text once, sorts a copy of the paths of the files, and looks the path of each
+/// record up at most twice. A look-up takes a comparison of paths for each binary digit of the
+/// number of files, whatever their names are.
 pub fn rehearse<'a>(alloc: Global, plan: &'a [u8], mtree: &'a [u8]) -> Result<u32, Fault<'a>>
     ensures { Rehearses told plan.now mtree.now result }
 {

@@ -12,8 +12,8 @@ use unify::{Reply, accepted_reply, cost_reply, refused, rehearse_reply};
 use unify_apply::run_apply;
 use unify_io::{
     FileFault, command_line, file_fault_told, memory_refused, no_host, open_output, print_answer,
-    read_file, read_hosts_tables, see_hosts, see_whole, warn_of_end, warn_of_hosts_tables,
-    warn_of_merge, warn_of_seen, write_failed, wrong_words,
+    read_file, read_hosts_tables, see_hosts, warn_of_end, warn_of_hosts_tables, warn_of_merge,
+    warn_of_seen, write_failed, wrong_words,
 };
 use unify_merge::{MergeFault, check_files, count_files, merge_files};
 use verify_files::run_verify;
@@ -117,9 +117,7 @@ fn run_check(rt: &HostRuntime, matches: &ArgMatches<'_>) -> Result<u8, FileFault
 // rehearse PLAN MTREE
 fn run_rehearse(rt: &HostRuntime, matches: &ArgMatches<'_>) -> Result<u8, FileFault> {
     let plan = read_file(rt, matches.get_str("PLAN").unwrap_or(""))?;
-    let path = matches.get_str("MTREE").unwrap_or("");
-    let mtree = read_file(rt, path)?;
-    see_whole(rt, path, mtree.bytes())?;
+    let mtree = read_file(rt, matches.get_str("MTREE").unwrap_or(""))?;
     let reply = rehearse_reply(rt.alloc(), plan.bytes(), mtree.bytes())?;
     Ok(print_reply(rt, &reply))
 }

@@ -1,9 +1,9 @@
 //! Inventories that are read in pieces.
 
 use crate::files::{FileFault, MOST_BYTES, host_directory, too_large};
-use crate::report::{Said, file_failed, tell_of};
+use crate::report::file_failed;
 use crate::warnings::is_of_file;
-use idtext::{decimal, first_word};
+use idtext::first_word;
 use std::fs::File;
 use std::io::{self, BufRead, BufReader, Read};
 use std::path::{Path, PathBuf};
@@ -15,31 +15,12 @@ const BUFFER_BYTES: usize = 65536;
 // whole paths, and a path may be that of 30,000 directories: so they are few.
 const PIECE_BYTES: usize = 1024;
 
-// How the first line of an inventory begins that `unify inventory` wrote, and its last, behind which the number of its files
-// stands.
-const OWN_HEAD: &[u8] = b"# unify inventory ";
-
-const OWN_END: &[u8] = b"# end ";
-
-/// An inventory that `unify inventory` wrote, as far as it was read.
-#[derive(Clone, Copy)]
-struct OwnInventory {
-    // How many lines of files there are behind its first line.
-    files: u64,
-    // Whether the line that was read last is its last one, with this number.
-    is_ended: bool,
-}
-
-/// How many lines of an inventory are of files, as far as it was read, and whether it is whole, where that can be told.
+/// How many lines of an inventory are of files, as far as it was read.
 #[derive(Drop)]
 struct FileLines {
     count: u64,
     // Whether a part of the line was counted, or is of no file.
     is_decided: bool,
-    // The last of those that `unify inventory` wrote: a text may have several, one behind the other.
-    own: Option<OwnInventory>,
-    // Whether one before the last has not its own last line.
-    is_cut: bool,
 }
 
 impl FileLines {
@@ -47,8 +28,6 @@ impl FileLines {
         FileLines {
             count: 0,
             is_decided: false,
-            own: None,
-            is_cut: false,
         }
     }
 
@@ -57,73 +36,13 @@ impl FileLines {
         let line = part.strip_suffix(b"\n").unwrap_or(part);
         if !self.is_decided && first_word(line).is_some() {
             self.is_decided = true;
-            self.begin_line(line);
+            if is_of_file(line) {
+                self.count = self.count.saturating_add(1);
+            }
         }
         if line.len() < part.len() && !line.ends_with(b"\\") {
             self.is_decided = false;
         }
-    }
-
-    // Takes the beginning of a line, by which it is told what the line is.
-    fn begin_line(&mut self, line: &[u8]) {
-        if line.starts_with(OWN_HEAD) {
-            self.is_cut = !self.is_whole();
-            self.own = Some(OwnInventory {
-                files: 0,
-                is_ended: false,
-            });
-        } else if let Some(number) = line.strip_prefix(OWN_END) {
-            self.end_own(decimal(number));
-        } else if is_of_file(line) {
-            self.count = self.count.saturating_add(1);
-            self.count_own();
-        }
-    }
-
-    // Takes the last line of an inventory that `unify inventory` wrote, with its number.
-    fn end_own(&mut self, number: Option<u32>) {
-        if let Some(own) = self.own {
-            let is_ended = number.is_some_and(|number| u64::from(number) == own.files);
-            self.own = Some(OwnInventory {
-                files: own.files,
-                is_ended,
-            });
-        }
-    }
-
-    // Counts a file of it.
-    fn count_own(&mut self) {
-        if let Some(own) = self.own {
-            self.own = Some(OwnInventory {
-                files: own.files.saturating_add(1),
-                is_ended: false,
-            });
-        }
-    }
-
-    // Whether each that `unify inventory` wrote has its last line. Of another inventory that cannot be told.
-    fn is_whole(&self) -> bool {
-        !self.is_cut && self.own.map_or(true, |own| own.is_ended)
-    }
-}
-
-// Tells that an inventory that `unify inventory` wrote has been cut.
-fn was_cut(rt: &HostRuntime, path: &str) -> FileFault {
-    let why = Said::Text("cut: the last line that unify inventory writes is not there");
-    tell_of(rt, "file", path.as_bytes(), &[why], 1)
-}
-
-/// Sees that the text of an inventory, from the file at a path, has not been cut, where it is one that `unify inventory` wrote. One
-/// pass over the text.
-pub fn see_whole(rt: &HostRuntime, path: &str, text: &[u8]) -> Result<(), FileFault> {
-    let mut lines = FileLines::new();
-    for line in text.split_inclusive(|byte| *byte == b'\n') {
-        lines.take(line);
-    }
-    if lines.is_whole() {
-        Ok(())
-    } else {
-        Err(was_cut(rt, path))
     }
 }
 
@@ -173,15 +92,11 @@ impl InventoryFile {
         Ok(())
     }
 
-    /// Replaces the bytes by the next ones: none only at its end. One that `unify inventory` wrote is refused there if it has
-    /// been cut.
+    /// Replaces the bytes by the next ones: none only at its end.
     pub fn next_piece(&mut self, rt: &HostRuntime, bytes: &mut Vec<u8>) -> Result<(), FileFault> {
         bytes.clear();
         if let Err(error) = self.append_lines(bytes) {
             return Err(file_failed(rt, self.path.as_str(), &error));
-        }
-        if bytes.is_empty() && !self.lines.is_whole() {
-            return Err(was_cut(rt, self.path.as_str()));
         }
         Ok(())
     }

@@ -13,7 +13,7 @@ mod writing;
 
 pub use commands::command_line;
 pub use files::{FileFault, SeenHosts, host_name, read_file, read_hosts_tables, see_hosts};
-pub use inventory::{InventoryFile, see_whole};
+pub use inventory::InventoryFile;
 pub use merge_warnings::warn_of_merge;
 pub use output::open_output;
 pub use report::{

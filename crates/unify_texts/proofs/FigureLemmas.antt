@@ -1,24 +1,22 @@
 -- Counts and sums over the names of a kind.
-use Rattle.std.proofs.Common.{◌≡◌, ℕ, zero, suc, ◌+◌, ◌-◌, ◌*◌, ◌≤◌, ◌==◌, ◌&&◌, nat_lt, nat_le, nat_eq, not, Bool, true, false, cond, List, [], ◌∷◌, All, length, refl, sym, ap, ◌∙◌, add-one, arith, inl, inr}
-use Rattle.std.specs.Prelude.{is_some}
-use Rattle.std.specs.List.{count_by, find, AllByRecursion}
+use Rattle.std.proofs.Common.{◌≡◌, ℕ, zero, suc, ◌+◌, ◌-◌, ◌*◌, ◌≤◌, ◌==◌, ◌&&◌, nat_lt, nat_le, nat_eq, not, Bool, true, false, cond, List, [], ◌∷◌, length, refl, sym, ap, ◌∙◌, add-one, arith, inl, inr}
+use Rattle.std.specs.List.{count_by, find}
 use Rattle.std.specs.Option.{option_map}
 use Rattle.std.proofs.lemmas.Bool.{cases_Bool, cases_lt, lt-ltb, le-ltb, le-leb, lt-leb, eq-eqb, ne_eqb}
-use Rattle.std.proofs.lemmas.List.Elements.{recursion_from_All}
 use Rattle.std.proofs.lemmas.List.Sums.{sum_by-cons, count_by-le-length}
 use Rattle.hosts_join.specs.declared.Spot.{Spot}
-use Rattle.hosts_join.specs.Accounts.{Accounts, lines, owner}
+use Rattle.hosts_join.specs.Accounts.{Accounts, lines}
 use Rattle.hosts_join.specs.Count.{count_below}
 use Rattle.hosts_join.specs.Lawful.{AreLawfulAccounts}
 use Rattle.hosts_join.specs.Rules.{account, class_at, is_free_class}
 use Rattle.hosts_join.proofs.Counting.{count_below-suc, count_below-same}
 use Rattle.ownership.specs.Counts.{Tally, CountFiles, told_kept}
 use Rattle.ownership.specs.Costs.{cost_of}
-use Rattle.ownership.specs.Files.{File, kept, owns, has_there, is_number}
+use Rattle.ownership.specs.Files.{File, kept, owned_files, owns, has_there, is_number}
 use Rattle.ownership.specs.Mappings.{number_at}
 use Rattle.ownership.specs.Sums.{sum_below}
 use Rattle.ownership.specs.Weights.{weight, file_weight}
-use Rattle.ownership.proofs.CostLemmas.{owned_files, cost_and_kept}
+use Rattle.ownership.proofs.CostLemmas.{cost_and_kept}
 use Rattle.ownership.proofs.SumsBelow.{sum_below_more, sum_below-same}
 use Rattle.unify_texts.specs.Figures.{pinned_names, kept_names, fresh_names}
 use Rattle.unify_texts.specs.Staying.{told_names, told_files}
@@ -106,18 +104,9 @@ all_names a files m = thirds (λ i. is_free_class (class_at a i)) (λ i. nat_le 
       | inr l ↦ eq-eqb w 0 (omega (arith, l)) ∙ ap not (sym (lt-leb 1 w (omega (arith, l))))
     ]
 
-owned_all : (a : Accounts) (files : List File) → AllByRecursion (λ f. is_some (owner a.names f.host f.number) ≡ true) files → owned_files a files ≡ length files
-owned_all a [] owned = refl
-owned_all a (f ∷ fs) owned =
-    let all = sum_by-cons (λ g. cond (is_some (owner a.names g.host g.number)) 1 0) f fs in
-    let one : cond {A = ℕ} (is_some (owner a.names f.host f.number)) 1 0 ≡ 1 = ap (λ b. cond {A = ℕ} b 1 0) owned.0 in
-    omega (arith, all, one, owned_all a fs owned.1)
-
--- the cost: all files less those that keep their number
-pub cost_told : (a : Accounts) (tallies : List Tally) (files : List File) (m : List ℕ) → AreLawfulAccounts a → CountFiles a.names tallies files → All (λ f. is_some (owner a.names f.host f.number) ≡ true) files
-    → length files - told_files tallies m (length a.names) ≡ cost_of a files m
-cost_told a tallies files m lawful counted owned =
+-- the cost: the files that have an owner less those that keep their number
+pub cost_told : (a : Accounts) (tallies : List Tally) (files : List File) (m : List ℕ) → AreLawfulAccounts a → CountFiles a.names tallies files → owned_files a.names files - told_files tallies m (length a.names) ≡ cost_of a files m
+cost_told a tallies files m lawful counted =
     let all = cost_and_kept a lawful files m in
     let told = sum_below-same (λ i. told_kept tallies i (number_at m i)) (λ i. kept a.names files i (number_at m i)) (length a.names) (λ i h. counted.kept_is i (number_at m i) h) in
-    let have = owned_all a files (recursion_from_All (λ f. is_some (owner a.names f.host f.number) ≡ true) files owned) in
-    omega (arith, all, told, have)
+    omega (arith, all, told)

@@ -5,7 +5,7 @@ use Rattle.hosts_join.specs.Accounts.{Accounts, all_lines}
 use Rattle.hosts_join.specs.Count.{count_below}
 use Rattle.hosts_join.specs.Rules.{class_at, is_free_class}
 use Rattle.ownership.specs.Costs.{cost_of, changed_rows}
-use Rattle.ownership.specs.Files.{File}
+use Rattle.ownership.specs.Files.{File, owned_files}
 use Rattle.ownership.specs.Mappings.{number_at}
 use Rattle.ownership.specs.Weights.{weight}
 use Rattle.unify_texts.specs.declared.figures.Figures.{Figures}
@@ -28,7 +28,7 @@ figures_of a files m = record {
   pinned = pinned_names a;
   kept = kept_names a files m;
   fresh = fresh_names a files m;
-  files = length files;
+  files = owned_files a.names files;
   changed_files = cost_of a files m;
   rows = all_lines a.names;
   changed_rows = changed_rows a m;

@@ -1,10 +1,9 @@
 //! What a mapping of one kind keeps and changes.
 
-ghost use Rattle.std.specs.Prelude.{◌≡◌, List, length, is_some, All, true};
-ghost use Rattle.hosts_join.specs.Accounts.{owner};
+ghost use Rattle.std.specs.Prelude.{◌≡◌, List, length};
 ghost use Rattle.hosts_join.specs.Rules.{is_free_class};
 ghost use Rattle.ownership.specs.Counts.{AreMadeFor, AreWithin, CountFiles};
-ghost use Rattle.ownership.specs.Files.{File};
+ghost use Rattle.ownership.specs.Files.{File, owned_files};
 ghost use Rattle.unify_texts.specs.Figures.{figures_of, pinned_names as pinned_among};
 ghost use Rattle.unify_texts.specs.Staying.{told_names, told_files, told_rows};
 
@@ -22,7 +21,7 @@ pub struct Figures {
     pub kept: u32,
     /// How many free names have another number.
     pub fresh: u32,
-    /// How many files there are, over all hosts.
+    /// How many files have one of the names as their owner, over all hosts.
     pub files: u64,
     /// How many files change.
     pub changed_files: u64,
@@ -98,9 +97,10 @@ fn staying_rows(names: &Names<'_>, mapping: &Mapping) -> u64
     staying
 }
 
-/// The figures of a mapping of the names; `files` is how many files the counters count. Asked is that there is a number
-/// for each name, and that the counters were made for the names; where they count files, of which each has its owner,
-/// the figures are those of the files.
+/// The figures of a mapping of the names; `files` is how many of the counted files have one of the
+/// names as their owner. Asked is that there is a number for each name, and that the counters were
+/// made for the names; where they count files, of which so many have an owner, the figures are those
+/// of the files.
 ///
 /// One pass over the names, with two scans of a name's rows and one of its counters, each at most 64. It takes no memory.
 pub fn figures_under(
@@ -112,7 +112,7 @@ pub fn figures_under(
     requires made { AreMadeFor names.now.names counts.now }
     requires few { AreWithin counts.now 2147483648 }
     requires numbers { length mapping.now ≡ length names.now.names }
-    ensures { (added : List File) → CountFiles names.now.names counts.now added → All (λ f. is_some (owner names.now.names f.host f.number) ≡ true) added → files ≡ length added → result ≡ figures_of names.now added mapping.now }
+    ensures { (added : List File) → CountFiles names.now.names counts.now added → files ≡ owned_files names.now.names added → result ≡ figures_of names.now added mapping.now }
 {
     let pinned = pinned_names(names);
     let kept = kept_names(names, mapping);

@@ -129,9 +129,8 @@ pub fn report_text(
     requires groups { length groups.now ≡ length site.now.groups.names }
     ensures { IfOk result (λ text. (files : List Added) → StandsFor site.now counts.now files → text.items ≡ report.report_of hosts.now site.now files (record { users = users.now; groups = groups.now })) }
 {
-    let files = counts.added();
-    let user_figures = figures_under(site.users(), counts.users(), files, users);
-    let group_figures = figures_under(site.groups(), counts.groups(), files, groups);
+    let user_figures = figures_under(site.users(), counts.users(), counts.user_files(), users);
+    let group_figures = figures_under(site.groups(), counts.groups(), counts.group_files(), groups);
     let told = differences(alloc, hosts, site)?;
     report_lines(alloc, hosts.len(), &user_figures, &group_figures, &told)
 }

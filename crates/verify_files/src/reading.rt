@@ -5,7 +5,7 @@ use accounts::{GroupTable, PasswdTable, read_group, read_passwd};
 use idtext::ByteString;
 use kept_names::Accounts;
 use mtree_inv::{Inventory, read_inventory};
-use unify_io::{FileFault, read_file, see_whole};
+use unify_io::{FileFault, read_file};
 
 /// How many files an inventory may have, as for the other commands.
 const MOST_FILES: u32 = 16777216;
@@ -83,6 +83,5 @@ pub(crate) fn inventory_of(
 /// The inventory at a path.
 pub(crate) fn read_mtree(rt: &HostRuntime, path: &str) -> Result<Inventory, FileFault> {
     let text = read_file(rt, path)?;
-    see_whole(rt, path, text.bytes())?;
     inventory_of(rt, path, text.bytes())
 }

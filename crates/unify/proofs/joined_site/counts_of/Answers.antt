@@ -8,7 +8,7 @@ use Rattle.ownership.specs.Counts.{Counted}
 use Rattle.unify.specs.Passes.{AreTogether, InventoriesValue, StandsFor}
 use Rattle.unify.specs.Reading.{added_from}
 use Rattle.unify.specs.RowFiles.{RowFiles}
-use Rattle.unify.proofs.BetweenPasses.{few_here, files_before, files_here, host_at, more_files, of_host, room_before, row_counts}
+use Rattle.unify.proofs.BetweenPasses.{few_here, files_before, files_here, more_files, of_host, room_before, row_counts}
 use Rattle.unify.proofs.Ended.{IsOver, files_at, over_stands, read_length}
 use Rattle.unify.proofs.joined_site.counts_of.Goals as goal
 
@@ -22,18 +22,16 @@ add_host-requires-clause-counted c =
     let over : IsOver v = rw (← c.inventories.view_is) at c.requires.none_left in
     let site = c.args.site.now in
     let index = c.loop-index.index in
-    let together : AreTogether v.hosts site = rw (← c.inventories.view_is) at c.requires.together in
     let host = c.index-host.result.now in
     let rows = c.rows-item.result in
     let rows_are = c.rows-item.is ∙ ap (λ (rs : List RowFiles). get_or rs index rows) c.deref-rows-items.ensures.value in
     let left : index < length v.passed = omega (arith, c.loop-index-test.true, ap length c.deref-rows-items.ensures.value) in
-    let knows = together.known index host (host_at v.hosts index host (omega (arith, left, over)) c.index-host.ensures) in
     let users = c.as_slice.ensures.value ∙ ap (λ (r : RowFiles). r.users) c.rows.view_is in
     let groups = c.as_slice-in-loop-index.ensures.value ∙ ap (λ (r : RowFiles). r.groups) c.rows.view_is in
     let s = over_stands v c.inventories.invariant over in
     let read = s.1.read in
     let at = files_at v s.0 over s.1 index host rows left c.index-host.ensures rows_are in
-    (files_here index host rows read at, of_host index host rows read at site knows, row_counts index host rows read at c.as_slice.result.now c.as_slice-in-loop-index.result.now users groups, few_here index host rows read at)
+    (files_here index host rows read at, of_host index host rows read at, row_counts index host rows read at c.as_slice.result.now c.as_slice-in-loop-index.result.now users groups, few_here index host rows read at)
 
 pub add_host-requires-clause-room : goal.add_host-requires-clause-room
 add_host-requires-clause-room c =
@@ -53,12 +51,10 @@ loop-index-preserved c =
     let site = c.args.site.now in
     let index = c.loop-index.index in
     let so_far : AreCountersBefore v site c.loop-index.counts index = rw (← c.inventories.view_is) at c.loop-index.invariant.counted in
-    let together : AreTogether v.hosts site = rw (← c.inventories.view_is) at c.requires.together in
     let host = c.index-host.result.now in
     let rows = c.rows-item.result in
     let rows_are = c.rows-item.is ∙ ap (λ (rs : List RowFiles). get_or rs index rows) c.deref-rows-items.ensures.value in
     let left : index < length v.passed = omega (arith, c.loop-index-test.true, ap length c.deref-rows-items.ensures.value) in
-    let knows = together.known index host (host_at v.hosts index host (omega (arith, left, over)) c.index-host.ensures) in
     let users = c.as_slice.ensures.value ∙ ap (λ (r : RowFiles). r.users) c.rows.view_is in
     let groups = c.as_slice-in-loop-index.ensures.value ∙ ap (λ (r : RowFiles). r.groups) c.rows.view_is in
     record {
@@ -67,7 +63,7 @@ loop-index-preserved c =
           let read = were.read in
           let at = files_at v ended over were index host rows left c.index-host.ensures rows_are in
           subst (counters.StandsFor site c.add_host.new.self) (sym (more_files index host rows read at))
-          (c.add_host.ensures.added (files_before read index) (files_here index host rows read at) (so_far ended were) (of_host index host rows read at site knows) (row_counts index host rows read at c.as_slice.result.now c.as_slice-in-loop-index.result.now users groups)));
+          (c.add_host.ensures.added (files_before read index) (files_here index host rows read at) (so_far ended were) (of_host index host rows read at) (row_counts index host rows read at c.as_slice.result.now c.as_slice-in-loop-index.result.now users groups)));
     }
 
 pub returns-clause-counted : goal.returns-clause-counted

@@ -1,18 +1,13 @@
 use Rattle.std.proofs.Common.{[]}
 use Rattle.std.proofs.lemmas.Result.{err_from_is_err_and}
 use Rattle.unify.specs.Hosts.{owner_fault}
-use Rattle.unify.proofs.PlanTurns.{never-changed, owned_on}
+use Rattle.unify.proofs.PlanTurns.{never-changed}
 use Rattle.unify.proofs.Turns.{is_owned_none, unowned_some}
 use Rattle.unify.proofs.plan_turn.plan_file.Goals as goal
 
 pub returns-then-not-count_file-clause-changed : goal.returns-then-not-count_file-clause-changed
 returns-then-not-count_file-clause-changed c = λ changed.
     unowned_some (owner_fault c.args.host.now [] c.args.file.now) c.count_file.result c.count_file.ensures.owned c.if-not-count_file.true
-
-pub push_plan_entry-requires-clause-owned : goal.push_plan_entry-requires-clause-owned
-push_plan_entry-requires-clause-owned c =
-    let none = is_owned_none (owner_fault c.args.host.now [] c.args.file.now) c.count_file.result c.count_file.ensures.owned c.if-not-count_file.false in
-    owned_on c.args.site.now c.args.index c.args.host.now c.args.file.now c.requires.known none
 
 pub returns-in_err-push_plan_entry-clause-changed : goal.returns-in_err-push_plan_entry-clause-changed
 returns-in_err-push_plan_entry-clause-changed c = λ changed.

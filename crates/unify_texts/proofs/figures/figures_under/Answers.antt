@@ -29,11 +29,11 @@ pub returns : goal.returns
 returns c =
     let a = c.args.names.now in
     let m = c.args.mapping.now in
-    λ (added : List File) counted owned files.
+    λ (added : List File) counted files.
     let kept : c.kept_names-kept.result ≡ kept_names a added m = c.kept_names-kept.ensures ∙ kept_told a added m in
     let all = all_names a added m in
     let staying : c.staying_files-staying.result ≡ told_files c.args.counts.now m (length a.names) = c.staying_files-staying.ensures ∙ ap (told_files c.args.counts.now m) c.len.ensures.len in
-    let changed = cost_told a c.args.counts.now added m c.len.ensures.lawful counted owned in
+    let changed = cost_told a c.args.counts.now added m c.len.ensures.lawful counted in
     let rows = rows_and_lines a m in
     let fresh : (c.len-3.result - c.pinned_names-pinned.result) - c.kept_names-kept.result ≡ fresh_names a added m = omega (arith, all, kept) in
     let cost : c.saturating_sub.result ≡ cost_of a added m = omega (arith, changed, staying, files) in

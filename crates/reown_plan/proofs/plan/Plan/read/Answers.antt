@@ -1,11 +1,13 @@
-use Rattle.std.proofs.Common.{◌≡◌, ◌++◌, ◌∷◌, [], ℕ, List, Bor, map, All, sym, ap, subst, arith, length, ◌-◌, ◌+◌, ◌∙◌, true, false}
+use Rattle.std.proofs.Common.{◌≡◌, ◌++◌, ◌∷◌, [], ℕ, List, Bor, map, All, sym, ap, subst, arith, length, ◌-◌, ◌+◌, ◌∙◌, true, false, cond}
 use Rattle.reown_plan.specs.PlanData.{HaveDistinctPaths}
 use Rattle.reown_plan.specs.Records.{record_of}
 use Rattle.reown_plan.specs.Spelling.{head, lines, end, IsLawfulRecord}
 use Rattle.reown_plan.proofs.Wholes.{Left, left_more, left_all, no_twice, at_end, only_end, spelling_parts, twice, was_there}
 use Rattle.std.proofs.lemmas.List.{map-append, append-nil}
 use Rattle.std.specs.Str.{bytes_eq}
-use Rattle.std.specs.Cmp.Lexicographic.{bytes_decides}
+use Rattle.std.specs.Cmp.Lexicographic.{bytes_decides, slice_cmp}
+use Rattle.std.specs.Ordering.{nat_cmp, is_eq}
+use Rattle.std.proofs.lemmas.Map.Text.{is_eq-slice_cmp}
 use Rattle.reown_plan.proofs.Lines.{records_more, lawful_more, distinct_more, paths_more, is_new, has, paths_of}
 use Rattle.reown_plan.specs.Spelling.{no_head, IsFaultAt}
 use Rattle.std.specs.List.{list_any, starts_with}
@@ -29,7 +31,8 @@ records-preserved c =
       distinct = subst (λ rs. HaveDistinctPaths (map record_of rs)) (sym pushed) (distinct_more old planned (sym (c.records.invariant.keys planned.path) ∙ new) c.records.invariant.distinct);
       keys = λ k.
           subst (λ rs. has c.insert.new.self k ≡ list_any (bytes_eq k.now) (paths_of rs)) (sym pushed)
-          (paths_more old planned k.now (has c.records.paths k) (has c.insert.new.self k) (c.records.invariant.keys k) (c.in_ok-insert.ensures.updates.0 k));
+          (paths_more old planned k.now (has c.records.paths k) (has c.insert.new.self k) (c.records.invariant.keys k)
+          (c.in_ok-insert.ensures.updates.0 k ∙ ap (λ b. cond b true (has c.records.paths k)) (is_eq-slice_cmp planned.path.now k.now)));
       whole = λ plan lawful e.
           subst (λ cs. Left plan c.in-Some.host.now cs c.in-Some-read_record.after.now) (sym (map-append record_of old (planned ∷ [])) ∙ ap (map record_of) (sym pushed))
           (left_more plan lawful c.in-Some.host.now (map record_of old) c.records.rest.now (record_of planned) c.in-Some-read_record.after.now (c.records.invariant.whole plan lawful e) c.in-Some-read_record.ensures.lawful c.in-Some-read_record.ensures.spelled c.in-Some-read_record.ensures.complete);
@@ -45,7 +48,7 @@ records-init c =
       read = subst (λ rs. c.args.text.now ≡ head c.in-Some.host.now ++ lines (map record_of rs) ++ c.in-Some.rest.now) (sym none) (c.in-Some.ensures.spelled ∙ ap (λ l. l ++ c.in-Some.rest.now) (sym (append-nil (head c.in-Some.host.now))));
       lawful = subst (λ rs. All IsLawfulRecord (map record_of rs)) (sym none) (λ k d h. absurd (omega arith));
       distinct = subst (λ rs. HaveDistinctPaths (map record_of rs)) (sym none) (λ i j d h below. absurd (omega arith));
-      keys = λ k. ap (list_any (λ (y : Bor (List ℕ)). bytes_eq k.now y.now)) c.new-paths.ensures.empty ∙ ap (λ rs. list_any (bytes_eq k.now) (paths_of rs)) (sym none);
+      keys = λ k. ap (list_any (λ (y : Bor (List ℕ)). is_eq (slice_cmp nat_cmp k.now y.now))) c.new-paths.ensures.empty ∙ ap (λ rs. list_any (bytes_eq k.now) (paths_of rs)) (sym none);
       whole = λ plan lawful e.
           (let u = c.in-Some.ensures.complete plan.host (lines plan.records ++ end) lawful.host (e ∙ spelling_parts plan) in
           subst (λ rs. Left plan c.in-Some.host.now (map record_of rs) c.in-Some.rest.now) (sym none) (left_all plan c.in-Some.host.now c.in-Some.rest.now u.0 u.1));

@@ -1,22 +1,19 @@
-use Rattle.std.proofs.Common.{◌∙◌, ap, sym, subst, arith, ◌<◌, ℕ, Vec, Global, length}
+use Rattle.std.proofs.Common.{[], sym, subst}
 use Rattle.std.proofs.lemmas.Grind.{common_steps}
+use Rattle.std.proofs.Common.{arith}
 use Rattle.mtree_inv.specs.declared.entry.Entry.{Entry}
 use Rattle.mtree_inv.specs.Files.{HaveDistinctFiles}
 use Rattle.reown_runner.specs.Memory.{Mem, known_mem, owner_in}
 use Rattle.reown_runner.specs.Tree.{cells_of}
 use Rattle.reown_runner.specs.Finished.{IsFresh}
-use Rattle.reown_runner.proofs.Memories.{new_fresh, one_more_path, one_more_owner}
+use Rattle.reown_runner.proofs.Memories.{new_fresh}
+use Rattle.reown_runner.proofs.Places.{distinct-map}
 use Rattle.reown_runner.proofs.memory.MemTree.new.Goals as goal
 
-pub loop-entry-preserved : goal.loop-entry-preserved
-loop-entry-preserved c =
-    let below : c.loop-entry.entry-index < length c.entries-entries.result.now = omega arith in
+pub new-requires : goal.new-requires
+new-requires c =
     let distinct = subst HaveDistinctFiles (sym c.entries-entries.ensures.files) c.entries-entries.ensures.lawful.distinct in
-    let copied = c.in_ok-to_vec.ensures.items_if_clones_equal (λ x y h. h) ∙ c.bytes.ensures ∙ ap (λ (e : Entry). e.path) c.entry-item.is in
-    record {
-      keys = one_more_path (λ (k : Vec ℕ Global). k.items) c.loop-entry.paths.keys c.insert.new.self.keys c.entries-entries.result.now c.loop-entry.entry-index c.entry-item.result c.in_ok-to_vec.field-0 distinct below c.loop-entry.invariant.keys copied c.in_ok-insert.ensures.keys;
-      owners = one_more_owner c.loop-entry.cells.items c.push.new.self.items c.entries-entries.result.now c.loop-entry.entry-index c.entry-item.result below c.loop-entry.invariant.owners c.entry-item.is c.in_ok-push.ensures.items;
-    }
+    distinct-map (λ (e : Entry). e.path) (record { path = []; uid = 0; gid = 0 }) c.entries-entries.result.now c.in_ok-paths_in.field-0 distinct c.in_ok-paths_in.ensures
 
 pub returns-clause-starts : goal.returns-clause-starts
 returns-clause-starts c = grind (arith, common_steps)

@@ -1,0 +1,5 @@
+use Rattle.inventory_text.proofs.Texts.{cut-refused}
+use Rattle.inventory_text.proofs.laws.cut_inventories_are_refused.Goals as goal
+
+pub returns : goal.returns
+returns c = cut-refused

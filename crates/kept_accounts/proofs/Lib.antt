@@ -1,0 +1,4 @@
+pub mod RunLemmas
+pub mod PickedLemmas
+pub mod OtherLemmas
+pub mod ReservedLemmas

@@ -1,0 +1,69 @@
+-- Which names of a site stay as they are, and which numbers need no account.
+-- Source: this product's own rule. Rows are names with their numbers, those of all hosts one
+-- behind the other.
+use Rattle.std.specs.Prelude.{◌≡◌, ℕ, Bool, false, ◌||◌, List, [], ◌∷◌, map, filter, flat_map}
+use Rattle.std.specs.Prelude.{bytes_eq}
+use Rattle.std.specs.List.{list_all, list_any}
+use Rattle.logindefs.specs.declared.ranges.IdRange.{IdRange}
+use Rattle.hosts_join.specs.Kinds.{user_rows, group_rows}
+use Rattle.hosts_join.specs.declared.host.Host.{Host}
+use Rattle.keep_text.specs.RangeLists.{lies_in_some}
+use Rattle.keep_text.specs.declared.keep_text.Kept.{Kept}
+use Rattle.keep_text.specs.declared.keep_text.KeepText.{KeepText}
+
+-- the name is one of these
+abbrev pub is_among : List (List ℕ) → List ℕ → Bool
+is_among names name = list_any (bytes_eq name) names
+
+-- the numbers that a name has, over all hosts
+abbrev pub numbers_of : List (List ℕ × ℕ) → List ℕ → List ℕ
+numbers_of rows name = map (λ row. row.1) (filter (λ row. bytes_eq name row.0) rows)
+
+-- A name with these numbers stays as it is where it is listed, and where each of its numbers lies
+-- in a listed range. A name without a number is no host's, and listing it says nothing.
+abbrev pub stays : Kept → List ℕ → List ℕ → Bool
+stays keep name [] = false
+stays keep name (number ∷ numbers) =
+    is_among keep.names name || list_all (lies_in_some keep.ranges) (number ∷ numbers)
+
+-- the name is kept
+abbrev pub is_kept : Kept → List (List ℕ × ℕ) → List ℕ → Bool
+is_kept keep rows name = stays keep name (numbers_of rows name)
+
+-- a file may have the number without an account
+abbrev pub needs_no_account : Kept → ℕ → Bool
+needs_no_account keep number = keep.unowned || lies_in_some keep.ranges number
+
+-- ---- what stays of one kind
+
+-- names that keep their numbers, ranges of numbers, and whether numbers without an account stay
+pub record Keeping : Type 0 where
+  pub names : List (List ℕ)
+  pub ranges : List IdRange
+  pub unowned : Bool
+
+abbrev pub keeps : Keeping → List ℕ → Bool
+keeps keeping name = is_among keeping.names name
+
+-- a file may have the number without an account
+abbrev pub spares : Keeping → ℕ → Bool
+spares keeping number = keeping.unowned || lies_in_some keeping.ranges number
+
+-- it keeps the names that are kept, and spares the numbers that need no account
+pub record IsKeeping (keep : Kept) (rows : List (List ℕ × ℕ)) (keeping : Keeping) : Type 0 where
+  pub names_are : (name : List ℕ) → keeps keeping name ≡ is_kept keep rows name
+  pub numbers_are : (number : ℕ) → spares keeping number ≡ needs_no_account keep number
+
+-- ---- on the hosts of a site
+
+abbrev pub users_on : List Host → List (List ℕ × ℕ)
+users_on hosts = flat_map (λ host. user_rows host.users) hosts
+
+abbrev pub groups_on : List Host → List (List ℕ × ℕ)
+groups_on hosts = flat_map (λ host. group_rows host.groups) hosts
+
+abbrev pub is_kept_user : KeepText → List Host → List ℕ → Bool
+is_kept_user keep hosts = is_kept keep.users (users_on hosts)
+
+abbrev pub is_kept_group : KeepText → List Host → List ℕ → Bool
+is_kept_group keep hosts = is_kept keep.groups (groups_on hosts)

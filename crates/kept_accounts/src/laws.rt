@@ -1,0 +1,45 @@
+//! Laws of what is kept, each the contract of a call that does nothing.
+
+ghost use Rattle.kept_accounts.specs.Laws.{EmptyTextKeepsNothing, KeepingDecides, NumbersDecide};
+ghost use Rattle.kept_accounts.specs.Laws.{KeptNumbersAreReserved};
+ghost use Rattle.kept_accounts.specs.Laws.{UsersAreParted, GroupsAreParted, OthersAreLawful};
+ghost use Rattle.kept_accounts.specs.Laws.{OtherUsersAgree, OtherGroupsAgree};
+
+/// By an empty keep text no name is kept and no number is reserved, and each host is as it was.
+pub fn an_empty_text_keeps_nothing()
+    ensures { EmptyTextKeepsNothing }
+{}
+
+/// What keeps the names that are kept of both kinds leaves of each host what the definition leaves,
+/// and has the same numbers reserved.
+pub fn keeping_decides_what_is_left()
+    ensures { KeepingDecides }
+{}
+
+/// Whether a name is kept depends on the numbers that it has and on the text, and on nothing else.
+pub fn numbers_decide_what_is_kept()
+    ensures { NumbersDecide }
+{}
+
+/// The number that a kept name has on a host is reserved, by that name there.
+pub fn kept_numbers_are_reserved()
+    ensures { KeptNumbersAreReserved }
+{}
+
+/// The kept rows of a table and the others are together its rows, each once.
+pub fn rows_are_kept_or_others()
+    ensures users { UsersAreParted }
+    ensures groups { GroupsAreParted }
+{}
+
+/// A number that the table without its kept rows names is named the same by the full table. One
+/// that the full table names is named so by the other one too, or its name is kept.
+pub fn others_name_as_the_table()
+    ensures users { OtherUsersAgree }
+    ensures groups { OtherGroupsAgree }
+{}
+
+/// A host without its kept rows is lawful where the host is.
+pub fn others_are_lawful()
+    ensures { OthersAreLawful }
+{}

@@ -1,0 +1,19 @@
+//! Which accounts and numbers of a site stay as they are: what a keep text lists, on the hosts that
+//! share a server.
+#![tactic(auto)]
+
+mod kept_accounts;
+mod kept_kind;
+mod kept_names;
+mod laws;
+mod reserving;
+mod runs;
+
+pub use kept_accounts::KeptAccounts;
+pub use kept_kind::KeptKind;
+pub use laws::{
+    an_empty_text_keeps_nothing, keeping_decides_what_is_left, kept_numbers_are_reserved,
+    numbers_decide_what_is_kept, others_are_lawful, others_name_as_the_table,
+    rows_are_kept_or_others,
+};
+pub use reserving::UnownedNumber;
