@@ -1,20 +1,20 @@
 -- A pool with as many numbers as its class has names: while one of them waits, a number is left.
 use Rattle.std.proofs.Common.{◌≡◌, ℕ, zero, suc, ◌+◌, ◌<◌, ◌≤◌, ◌^◌, ◌==◌, ◌&&◌, ◌||◌, ◌⊎◌, Bool, true, false, not, cond, List, [], ◌∷◌, length, get_or, Option, None, Some, refl, sym, ◌∙◌, ap, arith, inl, inr, take}
 use Rattle.std.specs.List.{count_by}
-use Rattle.std.proofs.Math.Bool.{or-true, and-false, and-true}
-use Rattle.std.proofs.lemmas.Bool.{cases_Bool, cases_lt, cases_eq, eq-eqb, ne_eqb, and_parts, false≢true, true≢false, both_ways, not-true, leb-true}
-use Rattle.std.proofs.lemmas.List.Folds.{list_any-append}
+use Rattle.std.proofs.Math.Bool.{and-false, and-true}
+use Rattle.std.proofs.lemmas.Bool.{cases_Bool, cases_lt, cases_eq, ne_eqb, and_parts, false≢true, true≢false, both_ways, not-true, leb-true}
 use Rattle.std.proofs.lemmas.List.Sums.{sum_by-cons}
 use Rattle.logindefs.specs.declared.ranges.IdRange.{IdRange}
-use Rattle.hosts_join.specs.Accounts.{Accounts, Account, Pair, nobody}
+use Rattle.hosts_join.specs.Accounts.{Accounts, Account, nobody}
 use Rattle.hosts_join.specs.Count.{count_below}
 use Rattle.hosts_join.specs.Lawful.{AreLawfulAccounts}
 use Rattle.hosts_join.specs.Pool.{in_runs}
-use Rattle.hosts_join.specs.Rules.{in_pool, is_free_class, is_taken, claims, pinned_names, pinned_to, reserved, class_of, same_class, names_in, pool_size, class_at}
+use Rattle.hosts_join.specs.Rules.{in_pool, is_free_class, is_given_away, is_reserved, class_of, same_class, names_in, pool_size, class_at}
 use Rattle.hosts_join.specs.declared.Class.{Class}
 use Rattle.hosts_join.specs.declared.Class.TheVariants.{Pinned, Regular, System}
 use Rattle.candidates.specs.Fill.{gift}
 use Rattle.candidates.specs.Settled.{is_had, times, IsStart, IsLeft}
+use Rattle.hosts_join.proofs.ReservedLaws.{pin-taken}
 use Rattle.candidates.proofs.FillLemmas.{IsFillSoFar, cursor_of, some-none, some-same}
 
 pub search-below : (p : ℕ → Bool) (n : ℕ) → ((v : ℕ) × (v < n) × (p v ≡ true)) ⊎ ((v : ℕ) → v < n → p v ≡ false)
@@ -116,18 +116,10 @@ module _ {A B : Type 0} (p : A → Bool) (q : B → Bool) (da : A) (db : B) wher
       ]
 
 -- a pin is in no pool
-pin-among : (pins : List Pair) (ns : List Account) (j v : ℕ) → j < length ns → class_of pins (get_or ns j nobody) ≡ Pinned v → is_taken (pinned_names pins ns) v ≡ true
-pin-among pins [] j v h e = absurd (omega arith)
-pin-among pins (n ∷ ns) zero v h e = list_any-append (λ (p : Pair). p.number == v) (pinned_to (class_of pins n) n.name) (pinned_names pins ns) ∙ ap (λ b. b || is_taken (pinned_names pins ns) v) (one (class_of pins n) e)
-  where
-    one : (c : Class) → c ≡ Pinned v → is_taken (pinned_to c n.name) v ≡ true
-    one c e = rw (e, eq-eqb v v refl) refl
-pin-among pins (n ∷ ns) (suc j) v h e = list_any-append (λ (p : Pair). p.number == v) (pinned_to (class_of pins n) n.name) (pinned_names pins ns) ∙ ap (λ b. is_taken (pinned_to (class_of pins n) n.name) v || b) (pin-among pins ns j v (omega arith) e) ∙ or-true _
-
 pub pin-away : (a : Accounts) (j v : ℕ) (c : Class) → j < length a.names → class_at a j ≡ Pinned v → in_pool a c v ≡ false
-pin-away a j v c h e = none c (list_any-append (λ (p : Pair). p.number == v) (pinned_names a.pins a.names) (reserved a.names a.pins) ∙ ap (λ b. b || is_taken (reserved a.names a.pins) v) (pin-among a.pins a.names j v h e))
+pin-away a j v c h e = none c (ap (λ b. b || is_reserved a.reserved v) (pin-taken a j v h e))
   where
-    none : (c : Class) → is_taken (claims a) v ≡ true → in_pool a c v ≡ false
+    none : (c : Class) → is_given_away a v ≡ true → in_pool a c v ≡ false
     none (Pinned w) t = refl
     none Regular t = rw t (and-false _)
     none System t = rw t (and-false _)

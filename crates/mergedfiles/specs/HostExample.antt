@@ -18,6 +18,7 @@ named first second = record {
   hosts = [];
   names = record { name = first; spots = [] } ∷ record { name = second; spots = [] } ∷ [];
   pins = [];
+  reserved = [];
 }
 
 abbrev pub site : Joined

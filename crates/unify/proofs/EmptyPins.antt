@@ -2,6 +2,7 @@
 use Rattle.std.proofs.Common.{◌≡◌, [], None, Ok, refl, ap, ◌∙◌}
 use Rattle.idtext.specs.First.{first_fault, unless}
 use Rattle.idtext.proofs.PieceLemmas.{lines-empty}
+use Rattle.hosts_join.specs.PinPairs.{no_pins}
 use Rattle.hosts_join.specs.PinsText.{pins_of, pins_on, pins_fault}
 use Rattle.unify.specs.Laws.{EmptyPinsAreNone}
 use Rattle.unify.specs.Reading.{site_read}
@@ -10,10 +11,10 @@ no_fault : first_fault pins_fault [] [] ≡ None
 unfolding first_fault
 no_fault = refl
 
-no_pins : pins_of [] ≡ Ok (record { users = []; groups = [] })
+none_read : pins_of [] ≡ Ok no_pins
 unfolding pins_of
-no_pins = ap (λ ls. unless (first_fault pins_fault [] ls) (pins_on ls)) lines-empty ∙ ap (λ f. unless f (pins_on [])) no_fault
+none_read = ap (λ ls. unless (first_fault pins_fault [] ls) (pins_on ls)) lines-empty ∙ ap (λ f. unless f (pins_on [])) no_fault
 
 pub empty_pins_are_none : EmptyPinsAreNone
 unfolding site_read
-empty_pins_are_none texts = rw no_pins refl
+empty_pins_are_none texts = rw none_read refl

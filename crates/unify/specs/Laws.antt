@@ -5,6 +5,7 @@ use Rattle.std.specs.List.{All}
 use Rattle.idtext.specs.First.{◌>>=◌, each}
 use Rattle.mtree_inv.specs.declared.entry.Entry.{Entry}
 use Rattle.mtree_inv.specs.Files.{AreFiles}
+use Rattle.hosts_join.specs.PinPairs.{no_pins}
 use Rattle.hosts_join.specs.Checks.{hosts_checked, is_host_name}
 use Rattle.hosts_join.specs.Hosts.{IsLawfulHost}
 use Rattle.hosts_join.specs.Kinds.{user_at, group_at}
@@ -66,7 +67,7 @@ abbrev pub site_without_pins : List HostText → Result WholeSite Fault
 site_without_pins texts = do
   listed ← in_site (hosts_checked texts)
   loaded ← each host_of texts
-  joined ← in_site (joined_site (map (λ l. l.host) loaded) (record { users = []; groups = [] }))
+  joined ← in_site (joined_site (map (λ l. l.host) loaded) no_pins)
   hosts ← each site_of loaded
   Ok (record { hosts = hosts; joined = joined })
 

@@ -65,6 +65,17 @@ pub fn site_fault(fault: SiteFault<'_>) -> Fault<'_>
             first,
             second: second.unwrap_or(Name::new(b"")),
         },
+        SiteFault::PinReserved {
+            kind,
+            number,
+            name,
+            by,
+        } => Fault::PinReserved {
+            kind,
+            number,
+            name,
+            by,
+        },
         SiteFault::PinClash {
             kind,
             number,

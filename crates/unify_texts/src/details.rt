@@ -3,13 +3,14 @@
 ghost use Rattle.std.specs.Prelude.{◌≡◌, ◌++◌, ◌∷◌, [], OnOk, codes, decimal};
 ghost use Rattle.unify_texts.specs.Words.{which_word, spaced, shown};
 ghost use Rattle.unify_texts.specs.BundleLines.{file_word};
-ghost use Rattle.unify_texts.specs.Faults.{class_word, details, joining_details, place_shown};
+ghost use Rattle.unify_texts.specs.Faults.{class_word, details, joining_details, place_shown, reserver_words};
 
 use crate::bundle_line::FileName;
 use crate::fault::Fault;
 use crate::words::{Word, kind_word, push_words};
-use hosts_join::{PoolClass, Which};
+use hosts_join::{PoolClass, Reserved, Reserver, Which};
 use idtext::Name;
+use logindefs::IdRange;
 use std::alloc::AllocError;
 
 /// The host, or the empty name, which is shown as a hyphen, for the pins text.
@@ -47,9 +48,10 @@ pub fn push_details(out: &mut Vec<u8>, fault: &Fault<'_>) -> Result<(), AllocErr
         Fault::BadHostName(name) | Fault::HostTwice(name) => push_name(out, name.bytes()),
         Fault::HostCount(count) => push_words(out, &[Word::Number(u128::from(*count))]),
         Fault::NoPrimaryGroup { host, user } => push_user(out, host.bytes(), user.bytes()),
-        Fault::PinDisagrees { .. } | Fault::PinClash { .. } | Fault::PoolTooSmall { .. } => {
-            push_joining_details(out, fault)
-        }
+        Fault::PinDisagrees { .. }
+        | Fault::PinReserved { .. }
+        | Fault::PinClash { .. }
+        | Fault::PoolTooSmall { .. } => push_joining_details(out, fault),
         Fault::UnownedUid { host, uid, path } => {
             push_unowned(out, host.bytes(), "uid", *uid, path.bytes())
         }
@@ -72,7 +74,8 @@ pub fn push_details(out: &mut Vec<u8>, fault: &Fault<'_>) -> Result<(), AllocErr
         Fault::BadCertificate(line)
         | Fault::BadMap(line)
         | Fault::BadBundle(line)
-        | Fault::BadPins(line) => push_labelled(out, "line", *line),
+        | Fault::BadPins(line)
+        | Fault::BadKeep(line) => push_labelled(out, "line", *line),
     }
 }
 
@@ -93,6 +96,12 @@ fn push_joining_details(out: &mut Vec<u8>, fault: &Fault<'_>) -> Result<(), Allo
             pinning_place(first),
             second.bytes(),
         ),
+        Fault::PinReserved {
+            kind,
+            number,
+            name,
+            by,
+        } => push_reserved(out, *kind, *number, name.bytes(), by),
         Fault::PinClash {
             kind,
             number,
@@ -187,6 +196,64 @@ fn push_disagreement<'x>(
             Word::Shown(first),
             Word::Shown(second),
         ],
+    )
+}
+
+/// A name that is pinned to a reserved number, and who reserves it.
+fn push_reserved(
+    out: &mut Vec<u8>,
+    kind: Which,
+    number: u32,
+    name: &[u8],
+    by: &Reserved<'_>,
+) -> Result<(), AllocError>
+    ensures { OnOk result (out.new.items ≡ out.old.items ++ spaced (which_word kind ∷ decimal number ∷ shown name.now ∷ reserver_words by.now.numbers by.now.by)) }
+{
+    push_words(
+        out,
+        &[
+            Word::Text(kind_word(kind)),
+            Word::Number(u128::from(number)),
+            Word::Shown(name),
+        ],
+    )?;
+    push_reserver(out, by)
+}
+
+/// Who keeps numbers from being given: a range with its ends, a name that a host keeps, or a host.
+fn push_reserver(out: &mut Vec<u8>, reserved: &Reserved<'_>) -> Result<(), AllocError>
+    ensures { OnOk result (out.new.items ≡ out.old.items ++ spaced (reserver_words reserved.now.numbers reserved.now.by)) }
+{
+    match &reserved.by {
+        Reserver::Range => push_range(out, &reserved.numbers),
+        Reserver::Name { host, name } => push_kept_name(out, host.bytes(), name.bytes()),
+        Reserver::Unowned { host } => {
+            push_words(out, &[Word::Text("unowned"), Word::Shown(host.bytes())])
+        }
+    }
+}
+
+/// A range with its ends.
+fn push_range(out: &mut Vec<u8>, range: &IdRange) -> Result<(), AllocError>
+    ensures { OnOk result (out.new.items ≡ out.old.items ++ spaced (codes "range" ∷ decimal range.now.low ∷ decimal range.now.high ∷ [])) }
+{
+    push_words(
+        out,
+        &[
+            Word::Text("range"),
+            Word::Number(u128::from(range.low)),
+            Word::Number(u128::from(range.high)),
+        ],
+    )
+}
+
+/// A name that is kept on a host.
+fn push_kept_name<'x>(out: &mut Vec<u8>, host: &'x [u8], name: &'x [u8]) -> Result<(), AllocError>
+    ensures { OnOk result (out.new.items ≡ out.old.items ++ spaced (codes "name" ∷ shown host.now ∷ shown name.now ∷ [])) }
+{
+    push_words(
+        out,
+        &[Word::Text("name"), Word::Shown(host), Word::Shown(name)],
     )
 }
 
