@@ -1,7 +1,6 @@
 -- A whole inventory is read as the files that were listed, and one that was cut is refused.
 use Rattle.std.proofs.Common.{◌≡◌, ◌≢◌, ℕ, suc, ◌+◌, ◌<◌, ◌≤◌, ◌^◌, Bool, true, false, not, cond, ◌==◌, All, List, [], ◌∷◌, ◌++◌, length, get_or, refl, sym, ap, ◌∙◌, subst, arith, append-nil, append_assoc, length-append}
 use Rattle.std.specs.Prelude.{nat_le, nat_lt, codes, count_by, decimal, map, flat_map, Option, Some, None, Result, Ok, Err, option_map, is_none}
-use Rattle.std.specs.List.{slice_split}
 use Rattle.std.specs.Option.{option_or, option_flatten}
 use Rattle.std.specs.Str.{bytes_eq}
 use Rattle.std.proofs.Math.Seq.{get_or-append_seam}
