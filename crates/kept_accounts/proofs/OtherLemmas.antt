@@ -100,13 +100,13 @@ module _ {Row : Type 0} (name : Row → List ℕ) (number : Row → ℕ) (kept :
       by false false is e later = later (sym (ap (λ b. option_map name (cond b (Some row) (find has_it (others rows)))) is) ∙ e)
 
 pub other_users_agree : OtherUsersAgree
-other_users_agree kept rows n named table = (
-  named-too (λ (row : Passwd). row.name) (λ (row : Passwd). row.uid) kept n named rows table.numbers_differ,
+other_users_agree kept rows n named = (
+  λ table. named-too (λ (row : Passwd). row.name) (λ (row : Passwd). row.uid) kept n named rows table.numbers_differ,
   named-or-kept (λ (row : Passwd). row.name) (λ (row : Passwd). row.uid) kept n named rows,
 )
 
 pub other_groups_agree : OtherGroupsAgree
-other_groups_agree kept rows n named table = (
-  named-too (λ (row : Group). row.name) (λ (row : Group). row.gid) kept n named rows table.numbers_differ,
+other_groups_agree kept rows n named = (
+  λ table. named-too (λ (row : Group). row.name) (λ (row : Group). row.gid) kept n named rows table.numbers_differ,
   named-or-kept (λ (row : Group). row.name) (λ (row : Group). row.gid) kept n named rows,
 )

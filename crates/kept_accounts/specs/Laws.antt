@@ -11,7 +11,8 @@ use Rattle.hosts_join.specs.declared.host.Host.{Host}
 use Rattle.keep_text.specs.KeepTexts.{keep_of}
 use Rattle.keep_text.specs.declared.keep_text.Kept.{Kept}
 use Rattle.keep_text.specs.declared.keep_text.KeepText.{KeepText}
-use Rattle.kept_accounts.specs.Keeping.{Keeping, IsKeeping, keeps, is_kept, is_kept_user, is_kept_group, numbers_of, users_on, groups_on}
+use Rattle.kept_accounts.specs.Keeping.{is_kept, is_kept_user, is_kept_group, numbers_of}
+use Rattle.kept_accounts.specs.Keeping.{Keeping, IsKeeping, keeps, users_on, groups_on}
 use Rattle.kept_accounts.specs.Others.{kept_rows, other_rows, without, without_kept}
 use Rattle.kept_accounts.specs.Reserving.{by_name, reserved_by, reserved_users, reserved_groups}
 use Rattle.kept_accounts.specs.declared.reserving.UnownedNumber.{UnownedNumber}
@@ -25,15 +26,20 @@ pub record KeepsNothing (keep : KeepText) (hosts : List Host) : Type 0 where
   pub others : (host : Host) → without_kept keep hosts host ≡ host
 
 abbrev pub EmptyTextKeepsNothing : Type 0
-EmptyTextKeepsNothing = (keep : KeepText) (hosts : List Host) → keep_of [] ≡ Ok keep → KeepsNothing keep hosts
+EmptyTextKeepsNothing = (keep : KeepText) (hosts : List Host)
+    → keep_of [] ≡ Ok keep → KeepsNothing keep hosts
 
 -- what keeps the names that are kept leaves the same of each host, and reserves the same numbers
-pub record LeavesTheSame (keep : KeepText) (hosts : List Host) (users groups : Keeping) : Type 0 where
-  pub others : (host : Host) → without (keeps users) (keeps groups) host ≡ without_kept keep hosts host
+pub record LeavesTheSame (keep : KeepText) (hosts : List Host) (users groups : Keeping)
+    : Type 0 where
+  pub others : (host : Host)
+      → without (keeps users) (keeps groups) host ≡ without_kept keep hosts host
   pub uids : (unowned : List UnownedNumber)
-      → reserved_by (keeps users) (λ host. user_rows host.users) keep.users hosts unowned ≡ reserved_users keep hosts unowned
+      → reserved_by (keeps users) (λ host. user_rows host.users) keep.users hosts unowned
+      ≡ reserved_users keep hosts unowned
   pub gids : (unowned : List UnownedNumber)
-      → reserved_by (keeps groups) (λ host. group_rows host.groups) keep.groups hosts unowned ≡ reserved_groups keep hosts unowned
+      → reserved_by (keeps groups) (λ host. group_rows host.groups) keep.groups hosts unowned
+      ≡ reserved_groups keep hosts unowned
 
 abbrev pub KeepingDecides : Type 0
 KeepingDecides = (keep : KeepText) (hosts : List Host) (users groups : Keeping)
@@ -43,7 +49,8 @@ KeepingDecides = (keep : KeepText) (hosts : List Host) (users groups : Keeping)
 -- whether a name is kept depends on its numbers and the text alone
 abbrev pub NumbersDecide : Type 0
 NumbersDecide = (keep : Kept) (rows others : List (List ℕ × ℕ)) (name : List ℕ)
-    → numbers_of rows name ≡ numbers_of others name → is_kept keep rows name ≡ is_kept keep others name
+    → numbers_of rows name ≡ numbers_of others name
+    → is_kept keep rows name ≡ is_kept keep others name
 
 -- the number that a kept name has on a host is reserved, by that name there
 abbrev pub KeptNumbersAreReserved : Type 0
@@ -59,17 +66,22 @@ abbrev pub RowsAreParted : {Row : Type 0} → (Row → List ℕ) → Type 0
 RowsAreParted {Row} name = (kept : List ℕ → Bool) (rows : List Row)
     → IsPermutation rows (kept_rows name kept rows ++ other_rows name kept rows)
 
--- What the table without its kept rows says of a number the full table says too; what the full
--- table says of it the other says too, or the name is kept.
+-- What a table without its kept rows says of a number the full table says too; what the full table
+-- says of it the other says too, or the name is kept.
 -- at: the name that a table gives a number
-abbrev pub OthersAgree : {Row : Type 0} → (Row → List ℕ) → (List Row → ℕ → Option (List ℕ)) → (List Row → Type 0) → Type 0
-OthersAgree {Row} name at IsTable = (kept : List ℕ → Bool) (rows : List Row) (number : ℕ) (named : List ℕ) → IsTable rows
-    → (at (other_rows name kept rows) number ≡ Some named → at rows number ≡ Some named)
-    × (at rows number ≡ Some named → (at (other_rows name kept rows) number ≡ Some named) ⊎ (kept named ≡ true))
+abbrev pub OthersAgree : {Row : Type 0} → (Row → List ℕ) → (List Row → ℕ → Option (List ℕ))
+    → (List Row → Type 0) → Type 0
+OthersAgree {Row} name at IsTable =
+    (kept : List ℕ → Bool) (rows : List Row) (number : ℕ) (named : List ℕ)
+    → (IsTable rows → at (other_rows name kept rows) number ≡ Some named
+    → at rows number ≡ Some named)
+    × (at rows number ≡ Some named
+    → (at (other_rows name kept rows) number ≡ Some named) ⊎ (kept named ≡ true))
 
 -- a host without its kept rows is lawful where the host is
 abbrev pub OthersAreLawful : Type 0
-OthersAreLawful = (user group : List ℕ → Bool) (host : Host) → IsLawfulHost host → IsLawfulHost (without user group host)
+OthersAreLawful = (user group : List ℕ → Bool) (host : Host)
+    → IsLawfulHost host → IsLawfulHost (without user group host)
 
 -- ---- of both kinds
 

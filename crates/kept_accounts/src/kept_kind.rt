@@ -40,8 +40,7 @@ impl<'a> KeptKind<'a> {
         keep: &Kept<'_>,
         hosts: &[Host<'a>],
     ) -> Result<Self, AllocError>
-        ensures { IfOk result
-            (IsKeeping keep.now (flat_map K.listed hosts.now)) }
+        ensures { IfOk result (IsKeeping keep.now (flat_map K.listed hosts.now)) }
     {
         let runs = Runs::of(alloc, keep.ranges.ranges())?;
         let names = kept_names::<K>(alloc, keep, &runs, hosts)?;
