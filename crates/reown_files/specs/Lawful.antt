@@ -9,7 +9,7 @@ use Rattle.reown_plan.specs.Mark.{mark_eq}
 use Rattle.reown_plan.specs.Owners.{owner_eq}
 use Rattle.reown_plan.specs.PlanData.{PlanRecord}
 use Rattle.reown_files.specs.declared.answers.Modes.{Modes}
-use Rattle.reown_files.specs.Calls.{Called, Gave, SetMode, Kept, PutMark, LostMode, PutModes}
+use Rattle.reown_files.specs.Calls.{Called, Looked, Met, MetMark, Gave, SetMode, Kept, PutMark, LostMode, PutModes}
 
 -- ---- owners
 
@@ -24,6 +24,9 @@ is_planned records path before after = list_any (is_of path before after) record
 -- no file is given an owner but as a record has it
 abbrev pub gives_by_plan : List PlanRecord → List Called → Bool
 gives_by_plan records [] = true
+gives_by_plan records (Looked path seen ∷ calls) = gives_by_plan records calls
+gives_by_plan records (Met path found ∷ calls) = gives_by_plan records calls
+gives_by_plan records (MetMark plan set ∷ calls) = gives_by_plan records calls
 gives_by_plan records (Gave path before after modes ∷ calls) = is_planned records path before after && gives_by_plan records calls
 gives_by_plan records (SetMode path owner mode done ∷ calls) = gives_by_plan records calls
 gives_by_plan records (Kept path owner done ∷ calls) = gives_by_plan records calls
@@ -55,6 +58,9 @@ sets_back path (Some mode) (Some set) = bytes_eq set.path path && (set.mode == m
 -- where this mode was set right behind the calls
 abbrev pub modes_stay_before : Option ModeSet → List Called → Bool
 modes_stay_before set [] = is_none set
+modes_stay_before set (Looked path seen ∷ calls) = is_none set && modes_stay_before None calls
+modes_stay_before set (Met path found ∷ calls) = is_none set && modes_stay_before None calls
+modes_stay_before set (MetMark plan there ∷ calls) = is_none set && modes_stay_before None calls
 modes_stay_before set (Gave path before after modes ∷ calls) = leaves_mode path modes set && modes_stay_before None calls
 modes_stay_before set (SetMode path owner mode done ∷ calls) =
     is_none set && modes_stay_before (Some (record { path = path; mode = mode })) calls
@@ -73,6 +79,9 @@ modes_stay calls = modes_stay_before None calls
 -- the record's file was seen at its new owner and synced, and not changed since
 abbrev pub was_kept : List Called → PlanRecord → Bool
 was_kept [] r = false
+was_kept (Looked path seen ∷ calls) r = was_kept calls r
+was_kept (Met path found ∷ calls) r = was_kept calls r
+was_kept (MetMark plan set ∷ calls) r = was_kept calls r
 was_kept (Gave path before after modes ∷ calls) r = if bytes_eq path r.path then false else was_kept calls r
 was_kept (SetMode path owner mode done ∷ calls) r = if bytes_eq path r.path then false else was_kept calls r
 was_kept (Kept path owner done ∷ calls) r = (done && (bytes_eq path r.path && owner_eq owner r.after)) || was_kept calls r
@@ -86,6 +95,9 @@ all_kept records calls = list_all (was_kept calls) records
 -- no mark is put but this one, and that only where each file was kept
 abbrev pub marks_last : PlanMark → List PlanRecord → List Called → Bool
 marks_last mark records [] = true
+marks_last mark records (Looked path seen ∷ calls) = marks_last mark records calls
+marks_last mark records (Met path found ∷ calls) = marks_last mark records calls
+marks_last mark records (MetMark plan set ∷ calls) = marks_last mark records calls
 marks_last mark records (Gave path before after modes ∷ calls) = marks_last mark records calls
 marks_last mark records (SetMode path owner mode done ∷ calls) = marks_last mark records calls
 marks_last mark records (Kept path owner done ∷ calls) = marks_last mark records calls
@@ -102,6 +114,9 @@ is_given path owner r = bytes_eq path r.path && owner_eq owner r.after
 -- no file was given an owner as yet
 abbrev pub is_unchanged : List Called → Bool
 is_unchanged [] = true
+is_unchanged (Looked path seen ∷ calls) = is_unchanged calls
+is_unchanged (Met path found ∷ calls) = is_unchanged calls
+is_unchanged (MetMark plan set ∷ calls) = is_unchanged calls
 is_unchanged (Gave path before after modes ∷ calls) = false
 is_unchanged (SetMode path owner mode done ∷ calls) = is_unchanged calls
 is_unchanged (Kept path owner done ∷ calls) = is_unchanged calls
@@ -112,6 +127,9 @@ is_unchanged (PutModes plan done ∷ calls) = is_unchanged calls
 -- the mode was asked for that an earlier run had lost of the record's file
 abbrev pub was_asked : List Called → PlanRecord → Bool
 was_asked [] r = false
+was_asked (Looked path seen ∷ calls) r = was_asked calls r
+was_asked (Met path found ∷ calls) r = was_asked calls r
+was_asked (MetMark plan set ∷ calls) r = was_asked calls r
 was_asked (Gave path before after modes ∷ calls) r = was_asked calls r
 was_asked (SetMode path owner mode done ∷ calls) r = was_asked calls r
 was_asked (Kept path owner done ∷ calls) r = was_asked calls r
@@ -125,6 +143,9 @@ all_asked records calls = list_all (was_asked calls) records
 -- the modes that this run may lose were written down, behind such a question for each file
 abbrev pub is_begun : List PlanRecord → List Called → Bool
 is_begun records [] = false
+is_begun records (Looked path seen ∷ calls) = is_begun records calls
+is_begun records (Met path found ∷ calls) = is_begun records calls
+is_begun records (MetMark plan set ∷ calls) = is_begun records calls
 is_begun records (Gave path before after modes ∷ calls) = is_begun records calls
 is_begun records (SetMode path owner mode done ∷ calls) = is_begun records calls
 is_begun records (Kept path owner done ∷ calls) = is_begun records calls
@@ -136,6 +157,9 @@ is_begun records (PutModes plan done ∷ calls) = (done && all_asked records cal
 -- owners, and before any file is given one
 abbrev pub begins_first : PlanMark → List PlanRecord → List Called → Bool
 begins_first mark records [] = true
+begins_first mark records (Looked path seen ∷ calls) = begins_first mark records calls
+begins_first mark records (Met path found ∷ calls) = begins_first mark records calls
+begins_first mark records (MetMark plan set ∷ calls) = begins_first mark records calls
 begins_first mark records (Gave path before after modes ∷ calls) = is_begun records calls && begins_first mark records calls
 begins_first mark records (SetMode path owner mode done ∷ calls) = begins_first mark records calls
 begins_first mark records (Kept path owner done ∷ calls) = begins_first mark records calls

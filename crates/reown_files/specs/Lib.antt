@@ -1,7 +1,10 @@
 pub mod Calls
 pub mod Noted
 pub mod Lawful
+pub mod Replay
 pub mod Real
 pub mod Counting
 pub mod MarkText
+pub mod Laws
+pub mod ModesNoted
 pub mod OneFile

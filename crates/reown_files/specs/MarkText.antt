@@ -1,7 +1,8 @@
 -- The file of the mark of a plan, and that of the modes that a run may lose.
 -- Source: this project's own formats; for the bits of a mode inode(7).
-use Rattle.std.specs.Prelude.{ℕ, List, [], ◌∷◌, ◌++◌, ◌+◌, ◌-◌, ◌*◌, ◌/◌, ◌%◌, ◌==◌, ◌&&◌, nat_lt, if◌then◌else◌, flat_map, codes, decimal, Option, None, Some}
-use Rattle.idtext.specs.Escapes.{escaped, is_octal}
+use Rattle.std.specs.Prelude.{ℕ, List, [], ◌∷◌, ◌++◌, ◌+◌, ◌-◌, ◌*◌, ◌/◌, ◌%◌, ◌==◌, ◌&&◌, not, nat_lt, if◌then◌else◌, flat_map, codes, decimal, take, drop, slice_index, Option, None, Some, option_map}
+use Rattle.std.specs.Option.{option_and_then}
+use Rattle.idtext.specs.Escapes.{escaped, unescaped, has_bad_escape, is_octal}
 use Rattle.reown_plan.specs.declared.mark.PlanMark.{PlanMark}
 
 -- ---- what a plan is known by
@@ -40,9 +41,22 @@ mark_text plan = codes "unify applied 1 " ++ plan_text plan
 abbrev pub mode_text : ℕ → List ℕ
 mode_text mode = (48 + mode / 512 % 8) ∷ (48 + mode / 64 % 8) ∷ (48 + mode / 8 % 8) ∷ (48 + mode % 8) ∷ []
 
--- the line of a file
+-- a file of a plan, and the mode that is written down for it
+abbrev pub Entry : Type 0
+Entry = List ℕ × ℕ
+
+abbrev pub entry : List ℕ → ℕ → Entry
+entry path mode = (path, mode)
+
+-- what its line says
+abbrev pub line_said : List ℕ → ℕ → List ℕ
+line_said path mode = mode_text mode ++ 32 ∷ escaped path
+
 abbrev pub line_text : List ℕ → ℕ → List ℕ
-line_text path mode = mode_text mode ++ 32 ∷ escaped path ++ 10 ∷ []
+line_text path mode = line_said path mode ++ 10 ∷ []
+
+abbrev pub lines_text : List Entry → List ℕ
+lines_text entries = flat_map (λ e. line_text e.0 e.1) entries
 
 abbrev pub head_text : PlanMark → List ℕ
 head_text plan = codes "unify modes 1 " ++ plan_text plan
@@ -60,3 +74,13 @@ abbrev pub mode_read : List ℕ → Option ℕ
 mode_read (a ∷ b ∷ c ∷ d ∷ []) =
     if is_octal a && (is_octal b && (is_octal c && is_octal d)) then Some (((a - 48) * 8 + (b - 48)) * 64 + ((c - 48) * 8 + (d - 48))) else None
 mode_read _ = None
+
+-- what a line says as it is read: four octal digits, a space, and a path with escapes of which none is bad
+abbrev pub line_read : List ℕ → Option Entry
+line_read line =
+    if slice_index line 4 == 32 && not (has_bad_escape (drop 5 line)) then option_map (entry (unescaped (drop 5 line))) (mode_read (take 4 line)) else None
+
+-- and lines, each of which has to say something
+abbrev pub lines_read : List (List ℕ) → Option (List Entry)
+lines_read [] = Some []
+lines_read (line ∷ more) = option_and_then (λ (e : Entry). option_map (λ (es : List Entry). e ∷ es) (lines_read more)) (line_read line)

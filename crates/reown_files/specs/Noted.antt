@@ -1,10 +1,13 @@
 -- What a call is in the record of calls.
 -- Values that borrow from the input, without the borrow: words of the code and not of the subject.
-use Rattle.reown_files.specs.Calls.{Called, Gave, SetMode, Kept, PutMark, LostMode, PutModes}
+use Rattle.reown_files.specs.Calls.{Called, Looked, Met, MetMark, Gave, SetMode, Kept, PutMark, LostMode, PutModes}
 use Rattle.reown_files.specs.declared.log.Call.{Call}
 use Rattle.reown_files.specs.declared.log.Call.TheVariants as call
 
 abbrev pub noted : Call → Called
+noted (call.Looked path seen) = Looked path.now seen
+noted (call.Met path found) = Met path.now found
+noted (call.MetMark plan set) = MetMark plan.now set
 noted (call.Gave path before after modes) = Gave path.now before after modes
 noted (call.SetMode path owner mode done) = SetMode path.now owner mode done
 noted (call.Kept path owner done) = Kept path.now owner done

@@ -1,12 +1,13 @@
 -- A tree of real files, as its user sees it.
 -- Source: this project's own rule.
-use Rattle.std.specs.Prelude.{ℕ, Bool, List}
+use Rattle.std.specs.Prelude.{◌≡◌, ◌<◌, ◌+◌, ◌^◌, ℕ, Bool, List}
 use Rattle.reown_plan.specs.declared.mark.PlanMark.{PlanMark}
 use Rattle.reown_plan.specs.PlanData.{PlanRecord}
 use Rattle.reown_runner.specs.Tree.{TreeData, IsReadable, cells_of}
 use Rattle.reown_runner.specs.Memory.{Mem, known_mem}
 use Rattle.reown_runner.specs.MemoryReads.{readable_mem}
 use Rattle.reown_files.specs.Calls.{Called}
+use Rattle.reown_files.specs.Replay.{replay}
 
 -- the mark and the records of its plan; what it holds their files to be, with which each read is compared; whether each file was kept since
 -- the last write; whether it was stopped; how often a call has failed, and how many writes and syncs were asked of it; and what
@@ -31,6 +32,15 @@ known_real r =
       faults = r.faults;
       asked = r.asked;
     }
+
+-- what is held is what the calls have made of the files and the mark
+pub record IsReplay (calls : List Called) (tree : Mem) : Type 0 where
+  pub owner : (path : List ℕ) → (known_mem tree).owner path ≡ (replay calls).owner path
+  pub mark : (known_mem tree).mark ≡ (replay calls).mark
+
+-- and so it is while fewer than 2 ^ 64 - 1 calls have failed: by the contract of a tree no call fails after that
+abbrev pub HoldsReplay : ℕ → List Called → Mem → Type 0
+HoldsReplay faults calls tree = faults + 1 < 2 ^ 64 → IsReplay calls tree
 
 -- a stop may leave what is read
 pub readable_real : (r : RealData) (plan : PlanMark) → IsReadable (cells_of plan (known_real r))

@@ -49,6 +49,16 @@ pub struct Modes {
     pub after: u32,
 }
 
+/// What a look at a file tells of it (inode(7)).
+#[derive(Clone, Copy, Debug, PartialEq, Eq)]
+pub struct Seen {
+    pub owner: Owner,
+    /// Whether it is a regular file that has the set-user-ID or the set-group-ID bit.
+    pub has_set_id: bool,
+    /// Whether it has several names. A directory has one.
+    pub has_names: bool,
+}
+
 /// Where the last call on a tree failed, and why.
 #[derive(Clone, Copy, Debug, PartialEq, Eq)]
 pub struct Stop {
@@ -86,6 +96,12 @@ impl From<AllocError> for OpenFault {
 impl<T: Drop> From<AllocFailed<T>> for OpenFault {
     fn from(_: AllocFailed<T>) -> Self {
         OpenFault::Memory
+    }
+}
+
+impl<T: Drop> From<AllocFailed<T>> for Trouble {
+    fn from(_: AllocFailed<T>) -> Self {
+        Trouble::Memory
     }
 }
 

@@ -6,7 +6,7 @@ ghost use Rattle.reown_runner.specs.Safe.{IsSafe};
 ghost use Rattle.reown_runner.specs.Halfway.{planned_in, MayGoOn};
 ghost use Rattle.reown_runner.specs.Finished.{owner_after_plan};
 ghost use Rattle.reown_plan.specs.Mark.{mark_of};
-ghost use Rattle.reown_files.specs.Real.{known_real};
+ghost use Rattle.reown_files.specs.Real.{known_real, HoldsReplay};
 ghost use Rattle.reown_files.specs.Lawful.{is_lawful};
 
 use crate::{Disk, RealTree};
@@ -32,6 +32,7 @@ pub fn apply<'p, 'a, D: Disk>(
     ensures device { IfErr result (λ fault. fault ≡ Device) }
     ensures finishes { tree.new.faults ≡ tree.old.faults → IsOk result }
     ensures lawful { is_lawful tree.new.mark tree.new.records tree.new.calls ≡ true }
+    ensures replayed { HoldsReplay tree.new.faults tree.new.calls tree.new.tree }
 {
     done_means_done();
     let done = Runner::new(plan).run(tree);

@@ -1,8 +1,8 @@
 //! The calls by which the files of a plan are looked at and changed.
 ghost use Rattle.std.specs.Prelude.{◌≡◌, ◌∷◌, List, None, Some, IfOk, OnErr, is_ok};
-ghost use Rattle.reown_files.specs.Calls.{Called, Gave, SetMode, Kept, PutMark, LostMode, PutModes};
+ghost use Rattle.reown_files.specs.Calls.{Called, Looked, Met, MetMark, Gave, SetMode, Kept, PutMark, LostMode, PutModes};
 
-use crate::{Modes, Trouble};
+use crate::{Modes, Seen, Trouble};
 use reown_plan::{Owner, PlanMark};
 
 /// A disk with the files of a plan and the plan's mark. What a call finds or does there, no contract says; what was asked of
@@ -11,10 +11,21 @@ pub trait Disk: Drop {
     // What was asked for so far, the newest first.
     ghost calls: { Self → List Called };
 
+    /// What a file is, if it is there. No link is followed.
+    fn look(&mut self, path: &[u8]) -> Result<Option<Seen>, Trouble>
+        ensures looked { IfOk result (λ seen. calls self.new ≡ Looked path.now seen ∷ calls self.old) }
+        ensures failed { OnErr result (calls self.new ≡ calls self.old) };
+
     /// The owner of a file of the plan, if it is there. Each is met once, before any other call is made for it. Its names are
     /// counted, and where it has its new owner already, which an earlier run gave it, that is synced.
     fn meet(&mut self, path: &[u8], after: Owner) -> Result<Option<Owner>, Trouble>
-        ensures { calls self.new ≡ calls self.old };
+        ensures met { IfOk result (λ found. calls self.new ≡ Met path.now found ∷ calls self.old) }
+        ensures failed { OnErr result (calls self.new ≡ calls self.old) };
+
+    /// Whether the mark of this plan is there, before anything is changed. One that is, is synced.
+    fn meet_mark(&mut self, plan: &PlanMark) -> Result<bool, Trouble>
+        ensures met { IfOk result (λ set. calls self.new ≡ MetMark plan.now set ∷ calls self.old) }
+        ensures failed { OnErr result (calls self.new ≡ calls self.old) };
 
     /// Sees that all names of a file were met.
     fn check_links(&mut self, path: &[u8]) -> Result<(), Trouble>

@@ -1,9 +1,10 @@
 //! The changes of a plan, made on a disk.
-ghost use Rattle.std.specs.Prelude.{◌≡◌, true, List, map, OnOk};
+ghost use Rattle.std.specs.Prelude.{◌≡◌, true, List, Some, map, OnOk, if◌then◌else◌};
 ghost use Rattle.reown_plan.specs.declared.mark.PlanMark.{PlanMark};
 ghost use Rattle.reown_plan.specs.PlanData.{PlanRecord};
 ghost use Rattle.reown_plan.specs.Records.{record_of};
 ghost use Rattle.reown_files.specs.Lawful.{is_of, is_planned, all_kept, is_begun, is_lawful};
+ghost use Rattle.reown_files.specs.Replay.{replay, with_owner};
 
 use crate::{Disk, Stop, Trouble};
 use reown_plan::{Owner, Record};
@@ -26,26 +27,42 @@ pub fn has_change(records: &[Record], i: usize, path: &[u8], before: Owner, afte
     }
 }
 
+/// What came of a change.
+#[derive(Clone, Copy, Debug)]
+pub struct Change {
+    /// Whether the file was given its new owner.
+    pub is_made: bool,
+    /// Whether it has its mode too.
+    pub told: Result<(), Trouble>,
+}
+
 /// Gives a file that has one owner another, and sets its mode back where that has changed with it.
-pub fn give_file<D: Disk>(
-    disk: &mut D,
-    path: &[u8],
-    before: Owner,
-    after: Owner,
-) -> Result<(), Trouble>
+pub fn give_file<D: Disk>(disk: &mut D, path: &[u8], before: Owner, after: Owner) -> Change
     ensures lawful { (mark : PlanMark) (records : List PlanRecord) → is_planned records path.now before after ≡ true
         → is_begun records (D.calls disk.old) ≡ true
         → is_lawful mark records (D.calls disk.old) ≡ true → is_lawful mark records (D.calls disk.new) ≡ true }
     ensures begun { (records : List PlanRecord) → is_begun records (D.calls disk.old) ≡ true → is_begun records (D.calls disk.new) ≡ true }
+    ensures replayed { replay (D.calls disk.new) ≡ (if result.is_made then with_owner path.now (Some after) (replay (D.calls disk.old)) else replay (D.calls disk.old)) }
+    ensures whole { OnOk result.told (result.is_made ≡ true) }
 {
     let modes = match disk.give(path, before, after) {
         Ok(modes) => modes,
-        Err(trouble) => return Err(trouble),
+        Err(trouble) => {
+            return Change {
+                is_made: false,
+                told: Err(trouble),
+            };
+        }
     };
-    if modes.before == modes.after {
-        return Ok(());
+    let told = if modes.before == modes.after {
+        Ok(())
+    } else {
+        disk.set_mode(path, after, modes.before)
+    };
+    Change {
+        is_made: true,
+        told,
     }
-    disk.set_mode(path, after, modes.before)
 }
 
 /// Sees that each record's file has its new owner, and sees to it that a stop of the machine leaves it so.
@@ -54,6 +71,7 @@ pub fn keep_all<D: Disk>(disk: &mut D, records: &[Record]) -> Result<(), Stop>
     ensures lawful { (mark : PlanMark) (plan : List PlanRecord)
         → is_lawful mark plan (D.calls disk.old) ≡ true → is_lawful mark plan (D.calls disk.new) ≡ true }
     ensures begun { (plan : List PlanRecord) → is_begun plan (D.calls disk.old) ≡ true → is_begun plan (D.calls disk.new) ≡ true }
+    ensures replayed { replay (D.calls disk.new) ≡ replay (D.calls disk.old) }
 {
     for (i, planned) in records.iter().enumerate() {
         match disk.keep(planned.path, planned.after) {

@@ -3,7 +3,7 @@ ghost use Rattle.std.specs.Prelude.{◌≡◌, List, [], ◌∷◌};
 ghost use Rattle.std.specs.Borrow.{ftrue};
 ghost use Rattle.reown_files.specs.Calls.{Called};
 
-use crate::Modes;
+use crate::{Modes, Seen};
 use reown_plan::{Owner, PlanMark};
 use std::marker::Model;
 
@@ -20,6 +20,12 @@ impl Model for Log {
 /// A call that was made, with what it was given; what it answered, or whether it succeeded, comes last.
 #[derive(Clone, Copy)]
 pub enum Call<'a> {
+    /// The file of this path was looked at, and this was seen of it, if it is there.
+    Looked(&'a [u8], Option<Seen>),
+    /// The file of this path was met, with this owner or not there.
+    Met(&'a [u8], Option<Owner>),
+    /// The mark of this plan was met, there or not.
+    MetMark(&'a PlanMark, bool),
     /// The file of this path was to be given an owner in place of another.
     Gave(&'a [u8], Owner, Owner, Option<Modes>),
     /// The bits of its mode were to be set, where it has this owner.

@@ -1,10 +1,15 @@
 //! The files of a plan as they lie on a disk, before anything is changed.
-ghost use Rattle.std.specs.Prelude.{◌≡◌, ◌⊎◌, true, map, length, IfOk};
+ghost use Rattle.std.specs.Prelude.{◌≡◌, ◌⊎◌, ◌∷◌, ℕ, true, List, Some, None, map, length, IfOk, OnOk};
+ghost use Rattle.reown_plan.specs.declared.mark.PlanMark.{PlanMark};
+ghost use Rattle.reown_plan.specs.PlanData.{PlanRecord, HaveDistinctPaths};
 ghost use Rattle.reown_plan.specs.Records.{record_of};
+ghost use Rattle.reown_files.specs.Calls.{Met};
+ghost use Rattle.reown_files.specs.Lawful.{is_unchanged, is_lawful};
+ghost use Rattle.reown_files.specs.Replay.{replay, found_of};
 ghost use Rattle.reown_runner.specs.Halfway.{AreHalfway};
 
 use crate::{Disk, OpenFault, Trouble};
-use reown_plan::{Owner, PlanMark, Record};
+use reown_plan::{Owner, Record};
 use std::alloc::Global;
 
 // The owner of a record's file, where it is one that a run of the plan can have left.
@@ -16,6 +21,7 @@ fn check_left(
 ) -> Result<Owner, OpenFault>
     ensures either { IfOk result (λ owner. (owner ≡ planned.now.before) ⊎ (owner ≡ planned.now.after)) }
     ensures finished { IfOk result (λ owner. mark ≡ true → owner ≡ planned.now.after) }
+    ensures found { IfOk result (λ owner. found ≡ Some owner) }
 {
     let Some(owner) = found else {
         return Err(OpenFault::Missing(i));
@@ -41,7 +47,7 @@ fn look_at<D: Disk>(
 ) -> Result<Owner, OpenFault>
     ensures either { IfOk result (λ owner. (owner ≡ planned.now.before) ⊎ (owner ≡ planned.now.after)) }
     ensures finished { IfOk result (λ owner. mark ≡ true → owner ≡ planned.now.after) }
-    ensures calls { D.calls disk.new ≡ D.calls disk.old }
+    ensures met { IfOk result (λ owner. D.calls disk.new ≡ Met planned.now.path.now (Some owner) ∷ D.calls disk.old) }
 {
     match disk.meet(planned.path, planned.after) {
         Ok(found) => check_left(i, planned, found, mark),
@@ -49,16 +55,22 @@ fn look_at<D: Disk>(
     }
 }
 
-/// The owners of the records' files on the disk.
+/// The owners of the records' files on the disk, of which none was met before.
 pub fn look_at_all<D: Disk>(
     alloc: Global,
     disk: &mut D,
     records: &[Record],
     mark: bool,
 ) -> Result<Vec<Owner>, OpenFault>
+    requires distinct { HaveDistinctPaths (map record_of records.now) }
+    requires unmet { (path : List ℕ) → (replay (D.calls disk.old)).owner path ≡ None }
     ensures as_many { IfOk result (λ owners. length owners.items ≡ length records.now) }
     ensures halfway { IfOk result (λ owners. AreHalfway (map record_of records.now) owners.items mark) }
-    ensures calls { D.calls disk.new ≡ D.calls disk.old }
+    ensures met { IfOk result (λ owners. (path : List ℕ) → (replay (D.calls disk.new)).owner path ≡ found_of (map record_of records.now) owners.items path) }
+    ensures mark { OnOk result ((replay (D.calls disk.new)).mark ≡ (replay (D.calls disk.old)).mark) }
+    ensures unchanged { OnOk result (is_unchanged (D.calls disk.old) ≡ true → is_unchanged (D.calls disk.new) ≡ true) }
+    ensures lawful { OnOk result ((mark : PlanMark) (plan : List PlanRecord)
+        → is_lawful mark plan (D.calls disk.old) ≡ true → is_lawful mark plan (D.calls disk.new) ≡ true) }
 {
     let mut owners = match Vec::with_capacity(alloc, records.len()) {
         Ok(owners) => owners,
@@ -83,20 +95,4 @@ pub fn check_all_links<D: Disk>(disk: &mut D, records: &[Record]) -> Result<(), 
         }
     }
     Ok(())
-}
-
-/// Whether the mark of this plan is there. One that is, is synced.
-pub fn look_at_mark<D: Disk>(disk: &mut D, plan: &PlanMark) -> Result<bool, Trouble>
-    ensures { D.calls disk.new ≡ D.calls disk.old }
-{
-    let mark = match disk.is_marked(plan) {
-        Ok(mark) => mark,
-        Err(trouble) => return Err(trouble),
-    };
-    if mark {
-        if let Err(trouble) = disk.keep_mark() {
-            return Err(trouble);
-        }
-    }
-    Ok(mark)
 }

@@ -1,18 +1,20 @@
 //! The modes that a run of a plan may lose, as a file beside the mark. A change of its owner clears the set-user-ID and the
 //! set-group-ID bit of a file (chown(2)), and the next call sets them back: this is for a stop between the two.
-ghost use Rattle.std.specs.Prelude.{ℕ, ◌≡◌, ◌<◌, ◌+◌, ◌++◌, ◌↔◌, IfOk, IfSome, IsTrue, OnOk, false};
+ghost use Rattle.std.specs.Prelude.{ℕ, ◌≡◌, ◌<◌, ◌+◌, ◌++◌, ◌↔◌, Some, IfOk, IfSome, IsTrue, OnOk, false, map};
 ghost use Rattle.reown_files.specs.OneFile.{HasLost};
 ghost use Rattle.idtext.specs.Escapes.{unescaped, has_bad_escape};
+ghost use Rattle.idtext.specs.Pieces.{lines as lines_of_text};
 ghost use Rattle.reown_files.specs.MarkText as spec;
+ghost use Rattle.reown_files.specs.ModesNoted.{entry_of};
 
 use crate::Trouble;
 use crate::mark_file::push_plan;
 use crate::walk::{Found, Kind, done, trouble_of};
 use crate::whole_file::{keep_name, path_with, put_whole, read_whole};
-use idtext::{Character, Lines, cut, first_character, push_escaped};
+use idtext::{Character, Lines, first_character, push_escaped};
 use reown_plan::PlanMark;
 use std::alloc::{AllocError, Global};
-use std::collections::HashMap;
+use std::collections::BTreeMap;
 use std::fs;
 
 /// What the file of the modes that a run may lose has behind the path of the mark.
@@ -28,6 +30,11 @@ const MOST_BYTES: u64 = 1_073_741_824;
 
 /// The bits that a change of the owner clears (inode(7)): set-user-ID and set-group-ID.
 const SET_ID: u32 = 0o6000;
+
+/// Whether a file is a regular one that has such a bit.
+pub fn has_set_id(found: &Found) -> bool {
+    found.kind == Kind::Regular && found.mode & SET_ID != 0
+}
 
 /// Whether a file lacks bits of this mode that a change of its owner clears. One whose mode differs otherwise was given that by
 /// somebody else.
@@ -128,26 +135,47 @@ fn path_of(alloc: Global, text: &[u8]) -> Result<Vec<u8>, Trouble>
     Ok(path)
 }
 
-// Notes what the line of a file tells.
-fn read_line(alloc: Global, modes: &mut HashMap<Vec<u8>, u32>, line: &[u8]) -> Result<(), Trouble> {
-    let Some((word, path)) = cut(b' ', line) else {
-        return Err(Trouble::NotModes);
-    };
-    let Some(mode) = mode_of(word) else {
-        return Err(Trouble::NotModes);
-    };
-    let path = path_of(alloc, path)?;
-    match modes.insert(path, mode) {
-        Ok(_) => Ok(()),
-        Err(_) => Err(Trouble::Memory),
-    }
+// The mode of a file, as a run wrote it down.
+#[derive(Drop)]
+struct Noted {
+    path: Vec<u8>,
+    mode: u32,
 }
 
-// What the lines of files tell.
-fn read_lines(alloc: Global, lines: &[u8]) -> Result<HashMap<Vec<u8>, u32>, Trouble> {
-    let mut modes = HashMap::new(alloc);
-    for line in Lines::new(lines) {
-        read_line(alloc, &mut modes, line)?;
+// What the line of a file says.
+fn read_line(alloc: Global, line: &[u8]) -> Result<Noted, Trouble>
+    ensures { IfOk result (λ noted. spec.line_read line.now ≡ Some (entry_of noted)) }
+{
+    if line.len() < 5 || line[4] != b' ' {
+        return Err(Trouble::NotModes);
+    }
+    let Some(mode) = mode_of(&line[..4]) else {
+        return Err(Trouble::NotModes);
+    };
+    let path = path_of(alloc, &line[5..])?;
+    Ok(Noted { path, mode })
+}
+
+// What the lines of files say.
+fn read_lines(alloc: Global, text: &[u8]) -> Result<Vec<Noted>, Trouble>
+    ensures { IfOk result (λ all. spec.lines_read (lines_of_text text.now) ≡ Some (map entry_of all.items)) }
+{
+    let mut all = Vec::new(alloc);
+    for line in Lines::new(text) {
+        all.push(read_line(alloc, line)?)?;
+    }
+    Ok(all)
+}
+
+// The modes by path. Whoever names files may choose the paths, so they stand in a search tree: no
+// look-up takes more than a few comparisons, whatever the names are.
+fn tree_of(alloc: Global, all: Vec<Noted>) -> Result<BTreeMap<Vec<u8>, u32>, Trouble> {
+    let mut modes = BTreeMap::new(alloc);
+    for noted in all {
+        let Noted { path, mode } = noted;
+        if modes.insert(path, mode).is_err() {
+            return Err(Trouble::Memory);
+        }
     }
     Ok(modes)
 }
@@ -175,7 +203,7 @@ pub struct ModesFile<'w> {
     path: String,
     // The plan that an earlier run of it wrote modes down for, and those.
     plan: Option<PlanMark>,
-    noted: HashMap<Vec<u8>, u32>,
+    noted: BTreeMap<Vec<u8>, u32>,
     // The lines of the files that this run may lose modes of.
     lines: Vec<u8>,
     is_put: bool,
@@ -188,7 +216,7 @@ impl<'w> ModesFile<'w> {
             rt,
             path: path_with(rt, mark, MODES_BEHIND)?,
             plan: None,
-            noted: HashMap::new(rt.alloc()),
+            noted: BTreeMap::new(rt.alloc()),
             lines: Vec::new(rt.alloc()),
             is_put: false,
         })
@@ -196,7 +224,7 @@ impl<'w> ModesFile<'w> {
 
     /// Notes the mode of a file that is to be given an owner, where it is a regular one with a bit that this clears.
     pub fn meet(&mut self, path: &[u8], found: &Found) -> Result<(), Trouble> {
-        if found.kind == Kind::Regular && found.mode & SET_ID != 0 {
+        if has_set_id(found) {
             push_line(&mut self.lines, path, found.mode)?;
         }
         Ok(())
@@ -209,7 +237,8 @@ impl<'w> ModesFile<'w> {
             return Ok(());
         };
         if !mark {
-            self.noted = read_lines(self.rt.alloc(), lines)?;
+            let all = read_lines(self.rt.alloc(), lines)?;
+            self.noted = tree_of(self.rt.alloc(), all)?;
             self.plan = Some(*plan);
         }
         Ok(())

@@ -1,8 +1,8 @@
 //! A tree of real files, held against what the run of its plan must have made of it.
-ghost use Rattle.std.specs.Prelude.{◌≡◌, ◌+◌, ◌^◌, ◌<◌, [], true, IfOk, OnOk, OnErr, IsSome, is_ok, map, length};
+ghost use Rattle.std.specs.Prelude.{◌≡◌, ◌+◌, ◌^◌, ◌<◌, ◌≤◌, [], true, false, Some, None, IfOk, OnOk, OnErr, IsSome, is_ok, map, length, if◌then◌else◌};
 
 use crate::giving::{give_file, has_change, keep_all};
-use crate::looking::{check_all_links, look_at_all, look_at_mark};
+use crate::looking::{check_all_links, look_at_all};
 use crate::restoring::begin;
 use crate::{Disk, OpenFault, Stop, Trouble};
 use reown_plan::{Owner, Plan, PlanMark, Record};
@@ -31,7 +31,7 @@ impl<'p, 'a, D: Disk> Model for RealTree<'p, 'a, D> {
     ghost use Rattle.std.specs.Prelude.{◌≡◌, map, true};
     ghost use Rattle.reown_plan.specs.Records.{record_of};
     ghost use Rattle.reown_files.specs.Lawful.{is_lawful, is_begun, all_kept};
-    ghost use Rattle.reown_files.specs.Real.{RealData};
+    ghost use Rattle.reown_files.specs.Real.{RealData, HoldsReplay};
 
     ghost Value = { RealData };
 
@@ -49,13 +49,14 @@ impl<'p, 'a, D: Disk> Model for RealTree<'p, 'a, D> {
     ghost invariant = { λ r. (r.held.paths ≡ map (λ x. x.path) (map record_of r.records.now))
         × (is_lawful r.mark (map record_of r.records.now) (D.calls r.disk) ≡ true)
         × (r.is_kept ≡ true → all_kept (map record_of r.records.now) (D.calls r.disk) ≡ true)
-        × (is_begun (map record_of r.records.now) (D.calls r.disk) ≡ true) };
+        × (is_begun (map record_of r.records.now) (D.calls r.disk) ≡ true)
+        × HoldsReplay r.faults (D.calls r.disk) r.held };
 }
 
 ghost use Rattle.reown_files.specs.Lawful.{is_lawful, is_planned};
-ghost use Rattle.reown_files.specs.Real.{RealData, known_real, readable_real};
+ghost use Rattle.reown_files.specs.Real.{RealData, HoldsReplay, known_real, readable_real};
 ghost use Rattle.reown_runner.specs.Memory.{known_mem, marked, settled};
-ghost use Rattle.reown_runner.specs.Halfway.{AreHalfway, MayGoOn};
+ghost use Rattle.reown_runner.specs.Halfway.{AreHalfway, MayGoOn, mem_of_records};
 ghost use Rattle.reown_plan.specs.PlanData.{HaveDistinctPaths};
 ghost use Rattle.reown_plan.specs.Records.{record_of};
 ghost use Rattle.reown_plan.specs.Mark.{mark_of, mark_eq, is_marked_for};
@@ -73,6 +74,7 @@ fn held_tree(
     requires as_many { length owners.now ≡ length records.now }
     requires halfway { AreHalfway (map record_of records.now) owners.now is_marked }
     ensures paths { IfOk result (λ held. held.paths ≡ map (λ r. r.path) (map record_of records.now)) }
+    ensures starts { IfOk result (λ held. held ≡ mem_of_records (map record_of records.now) owners.now (if is_marked then Some mark else None)) }
     ensures safe { IfOk result (λ held. MayGoOn (map record_of records.now) (cells_of mark (known_mem held))) }
 {
     if is_marked {
@@ -100,7 +102,7 @@ impl<'p, 'a, D: Disk> RealTree<'p, 'a, D> {
         ensures none_failed { IfOk result (λ tree. (tree.faults ≡ 0) × (tree.asked ≡ 0)) }
     {
         let mark = plan.mark();
-        let is_marked = match look_at_mark(&mut disk, &mark) {
+        let is_marked = match disk.meet_mark(&mark) {
             Ok(is_marked) => is_marked,
             Err(trouble) => return Err(OpenFault::Disk(trouble)),
         };
@@ -136,9 +138,12 @@ impl<'p, 'a, D: Disk> RealTree<'p, 'a, D> {
         })
     }
 
-    /// Nothing was asked of the disk but what the plan has, and that in its order. It is a law, and does nothing.
+    /// Nothing was asked of the disk but what the plan has, and that in its order; and what is held
+    /// of each file and of the mark is what that has made of them, beginning with what `open`
+    /// found. It is a law, and does nothing.
     pub fn asks_only_the_plan(&self)
-        ensures { is_lawful self.now.mark self.now.records self.now.calls ≡ true }
+        ensures lawful { is_lawful self.now.mark self.now.records self.now.calls ≡ true }
+        ensures replayed { HoldsReplay self.now.faults self.now.calls self.now.tree }
     {
         let _kept = self.is_kept;
     }
@@ -164,7 +169,8 @@ impl<'p, 'a, D: Disk> RealTree<'p, 'a, D> {
 
     // Whether a call may fail: not at the last count of failures.
     fn may_fail(&self) -> bool
-        ensures { result ≡ true → self.now.faults + 1 < 2 ^ 64 }
+        ensures may { result ≡ true → self.now.faults + 1 < 2 ^ 64 }
+        ensures may_not { result ≡ false → 2 ^ 64 ≤ self.now.faults + 1 }
     {
         self.faults < u64::MAX
     }
@@ -186,15 +192,19 @@ impl<'p, 'a, D: Disk> RealTree<'p, 'a, D> {
         self.held.is_marked(plan).unwrap()
     }
 
+    // Holds an owner that no call has given, where no call may fail any more.
     fn write(&mut self, path: &[u8], owner: Owner)
-        requires { IsSome ((known_mem self.old.tree).owner path.now) }
+        requires there { IsSome ((known_mem self.old.tree).owner path.now) }
+        requires last { 2 ^ 64 ≤ self.old.faults + 1 }
         ensures done { ForEachPlan (Writes path.now owner) (known_mem self.old.tree) (known_mem self.new.tree) }
         ensures rest { self.new ≡ record self.old { tree = self.new.tree } }
     {
         self.held.set_owner(path, owner).unwrap()
     }
 
+    // Holds the mark where no call has put it, in the same case.
     fn write_mark(&mut self, plan: &PlanMark)
+        requires { 2 ^ 64 ≤ self.old.faults + 1 }
         ensures done { SetsMark (cells_of plan.now (known_mem self.old.tree)) (cells_of plan.now (known_mem self.new.tree)) }
         ensures rest { self.new ≡ record self.old { tree = marked plan.now self.old.tree } }
     {
@@ -208,12 +218,13 @@ impl<'p, 'a, D: Disk> RealTree<'p, 'a, D> {
         self.held.sync().unwrap()
     }
 
+    // What a stop has left is for the next `open` to find: what was held is among it.
     fn leave(&mut self)
         ensures left { ForEachPlan Stops (known_mem self.old.tree) (known_mem self.new.tree) }
         ensures rest { self.new ≡ record self.old { tree = self.new.tree; is_stopped = true } }
     {
         self.is_stopped = true;
-        self.held.reopen();
+        self.settle();
     }
 }
 
@@ -263,18 +274,29 @@ impl<'p, 'a, D: Disk> RealTree<'p, 'a, D> {
         }
     }
 
-    // Makes a change that the plan has.
+    // Makes a change that the plan has. What was given is held, also where its mode was not set
+    // back.
     fn give_planned(&mut self, path: &[u8], before: Owner, after: Owner) -> Result<(), Trouble>
-        requires { is_planned self.old.records path.now before after ≡ true }
-        ensures { self.new ≡ record self.old { is_kept = self.new.is_kept; calls = self.new.calls } }
+        requires planned { is_planned self.old.records path.now before after ≡ true }
+        requires there { IsSome ((known_mem self.old.tree).owner path.now) }
+        ensures done { OnOk result (ForEachPlan (Writes path.now after) (known_mem self.old.tree) (known_mem self.new.tree)) }
+        ensures failed { OnErr result (ForEachPlan (MayDo (Write path.now after)) (known_mem self.old.tree) (known_mem self.new.tree)) }
+        ensures rest { self.new ≡ record self.old { tree = self.new.tree; is_kept = self.new.is_kept; calls = self.new.calls } }
     {
         self.is_kept = false;
-        give_file(&mut self.disk, path, before, after)
+        let change = give_file(&mut self.disk, path, before, after);
+        if change.is_made {
+            self.held.set_owner(path, after).unwrap();
+        }
+        change.told
     }
 
     // Makes a change, where the plan has it.
     fn give(&mut self, path: &[u8], before: Option<Owner>, after: Owner) -> Result<(), Trouble>
-        ensures { self.new ≡ record self.old { is_kept = self.new.is_kept; calls = self.new.calls } }
+        requires { before ≡ (known_mem self.old.tree).owner path.now }
+        ensures done { OnOk result (ForEachPlan (Writes path.now after) (known_mem self.old.tree) (known_mem self.new.tree)) }
+        ensures failed { OnErr result (ForEachPlan (MayDo (Write path.now after)) (known_mem self.old.tree) (known_mem self.new.tree)) }
+        ensures rest { self.new ≡ record self.old { tree = self.new.tree; is_kept = self.new.is_kept; calls = self.new.calls } }
     {
         let Some(before) = before else {
             return Err(Trouble::Gone);
@@ -289,7 +311,10 @@ impl<'p, 'a, D: Disk> RealTree<'p, 'a, D> {
     }
 
     fn gives(&mut self, path: &[u8], before: Option<Owner>, after: Owner) -> bool
-        ensures { self.new ≡ record self.old { is_kept = self.new.is_kept; calls = self.new.calls } }
+        requires { before ≡ (known_mem self.old.tree).owner path.now }
+        ensures done { result ≡ true → ForEachPlan (Writes path.now after) (known_mem self.old.tree) (known_mem self.new.tree) }
+        ensures failed { result ≡ false → ForEachPlan (MayDo (Write path.now after)) (known_mem self.old.tree) (known_mem self.new.tree) }
+        ensures rest { self.new ≡ record self.old { tree = self.new.tree; is_kept = self.new.is_kept; calls = self.new.calls } }
     {
         let told = self.give(path, before, after);
         let place = self.held.index_of(path);
@@ -358,9 +383,12 @@ impl<'p, 'a, D: Disk> RealTree<'p, 'a, D> {
         *plan == self.mark
     }
 
-    // Puts the mark of the plan, where each file was kept behind the last write.
+    // Puts the mark of the plan, where each file was kept behind the last write. One that was put
+    // is held.
     fn put_mark(&mut self, plan: &PlanMark) -> Result<(), Trouble>
-        ensures { self.new ≡ record self.old { calls = self.new.calls } }
+        ensures done { OnOk result (SetsMark (cells_of plan.now (known_mem self.old.tree)) (cells_of plan.now (known_mem self.new.tree))) }
+        ensures failed { OnErr result (self.new.tree ≡ self.old.tree) }
+        ensures rest { self.new ≡ record self.old { tree = self.new.tree; calls = self.new.calls } }
     {
         if self.is_stopped {
             return Err(Trouble::NotDone);
@@ -371,11 +399,19 @@ impl<'p, 'a, D: Disk> RealTree<'p, 'a, D> {
         if !self.is_own(plan) {
             return Err(Trouble::NotDone);
         }
-        self.disk.put_mark(plan)
+        match self.disk.put_mark(plan) {
+            Ok(()) => {
+                self.held.set_mark(plan).unwrap();
+                Ok(())
+            }
+            Err(trouble) => Err(trouble),
+        }
     }
 
     fn puts_mark(&mut self, plan: &PlanMark) -> bool
-        ensures { self.new ≡ record self.old { calls = self.new.calls } }
+        ensures done { result ≡ true → SetsMark (cells_of plan.now (known_mem self.old.tree)) (cells_of plan.now (known_mem self.new.tree)) }
+        ensures failed { result ≡ false → self.new.tree ≡ self.old.tree }
+        ensures rest { self.new ≡ record self.old { tree = self.new.tree; calls = self.new.calls } }
     {
         let told = self.put_mark(plan);
         self.note(None, told)
@@ -417,8 +453,10 @@ impl<'p, 'a, D: Disk> Tree for RealTree<'p, 'a, D> {
     {
         self.count();
         let held = self.held_owner(path);
-        let is_given = self.gives(path, held, owner);
-        if !is_given && self.may_fail() {
+        if self.gives(path, held, owner) {
+            return Ok(());
+        }
+        if self.may_fail() {
             return Err(self.fail());
         }
         self.write(path, owner);
@@ -448,8 +486,10 @@ impl<'p, 'a, D: Disk> Tree for RealTree<'p, 'a, D> {
         ensures records { self.new.records ≡ self.old.records }
     {
         self.count();
-        let is_put = self.puts_mark(plan);
-        if !is_put && self.may_fail() {
+        if self.puts_mark(plan) {
+            return Ok(());
+        }
+        if self.may_fail() {
             return Err(self.fail());
         }
         self.write_mark(plan);

@@ -5,6 +5,7 @@ ghost use Rattle.std.specs.List.{list_any};
 ghost use Rattle.reown_plan.specs.PlanData.{PlanRecord};
 ghost use Rattle.reown_plan.specs.Records.{record_of};
 ghost use Rattle.reown_files.specs.Lawful.{is_given, is_unchanged, all_asked, is_begun, is_lawful};
+ghost use Rattle.reown_files.specs.Replay.{replay};
 
 use crate::{Disk, OpenFault, Trouble};
 use reown_plan::{PlanMark, Record};
@@ -16,6 +17,7 @@ fn set_back<D: Disk>(disk: &mut D, plan: &PlanMark, planned: &Record) -> Result<
     ensures unchanged { is_unchanged (D.calls disk.old) ≡ true → is_unchanged (D.calls disk.new) ≡ true }
     ensures lawful { (records : List PlanRecord) → list_any (is_given (record_of planned.now).path (record_of planned.now).after) records ≡ true
         → is_unchanged (D.calls disk.old) ≡ true → is_lawful plan.now records (D.calls disk.old) ≡ true → is_lawful plan.now records (D.calls disk.new) ≡ true }
+    ensures replayed { replay (D.calls disk.new) ≡ replay (D.calls disk.old) }
 {
     let lost = match disk.lost_mode(plan, planned.path, planned.after) {
         Ok(lost) => lost,
@@ -32,10 +34,12 @@ fn set_back<D: Disk>(disk: &mut D, plan: &PlanMark, planned: &Record) -> Result<
 
 // Sets back each mode that an earlier run had lost.
 fn set_all_back<D: Disk>(disk: &mut D, plan: &PlanMark, records: &[Record]) -> Result<(), OpenFault>
-    requires nothing { D.calls disk.old ≡ [] }
+    requires unchanged { is_unchanged (D.calls disk.old) ≡ true }
+    requires lawful { is_lawful plan.now (map record_of records.now) (D.calls disk.old) ≡ true }
     ensures asked { OnOk result (all_asked (map record_of records.now) (D.calls disk.new) ≡ true) }
     ensures unchanged { is_unchanged (D.calls disk.new) ≡ true }
     ensures lawful { is_lawful plan.now (map record_of records.now) (D.calls disk.new) ≡ true }
+    ensures replayed { replay (D.calls disk.new) ≡ replay (D.calls disk.old) }
 {
     for (i, planned) in records.iter().enumerate() {
         match set_back(disk, plan, planned) {
@@ -54,9 +58,11 @@ pub fn begin<D: Disk>(
     records: &[Record],
     mark: bool,
 ) -> Result<(), OpenFault>
-    requires nothing { D.calls disk.old ≡ [] }
+    requires unchanged { is_unchanged (D.calls disk.old) ≡ true }
+    requires lawful { is_lawful plan.now (map record_of records.now) (D.calls disk.old) ≡ true }
     ensures begun { OnOk result (is_begun (map record_of records.now) (D.calls disk.new) ≡ true) }
     ensures lawful { is_lawful plan.now (map record_of records.now) (D.calls disk.new) ≡ true }
+    ensures replayed { replay (D.calls disk.new) ≡ replay (D.calls disk.old) }
 {
     if let Err(trouble) = disk.read_modes(plan, mark) {
         return Err(OpenFault::Modes(trouble));

@@ -3,11 +3,11 @@ ghost use Rattle.std.specs.Prelude.{◌≡◌, ◌≢◌, ◌<◌, ◌↔◌, []
 ghost use Rattle.reown_files.specs.declared.walk.Kind.TheVariants as kinds;
 
 use crate::mark_file::MarkFile;
-use crate::modes_file::{ModesFile, has_lost};
+use crate::modes_file::{ModesFile, has_lost, has_set_id};
 use crate::walk::{Directory, Found, Kind, find, give_by_name, open};
 use crate::way::Way;
 use crate::whole_file::path_from;
-use crate::{Call, Disk, Log, Modes, Trouble};
+use crate::{Call, Disk, Log, Modes, Seen, Trouble};
 use reown_plan::{Owner, PlanMark};
 use std::collections::{HashMap, HashSet};
 
@@ -245,6 +245,15 @@ impl<'w> Root<'w> {
 
 ghost use Rattle.reown_files.specs.OneFile.{seen_if_there};
 
+// What is told of a file.
+fn seen_in(found: &Found) -> Seen {
+    Seen {
+        owner: found.owner,
+        has_set_id: has_set_id(found),
+        has_names: has_names(found),
+    }
+}
+
 // A file that may not be there.
 fn if_there<T: Drop>(looked: Result<T, Trouble>) -> Result<Option<T>, Trouble>
     ensures { result ≡ seen_if_there looked }
@@ -259,14 +268,31 @@ fn if_there<T: Drop>(looked: Result<T, Trouble>) -> Result<Option<T>, Trouble>
 impl<'w> Disk for Root<'w> {
     ghost calls = { λ root. root.log.calls };
 
+    fn look(&mut self, path: &[u8]) -> Result<Option<Seen>, Trouble> {
+        let seen = if_there(self.below.look(path))?.map(|found| seen_in(&found));
+        self.log.note(&Call::Looked(path, seen));
+        Ok(seen)
+    }
+
     fn meet(&mut self, path: &[u8], after: Owner) -> Result<Option<Owner>, Trouble> {
-        let Some(found) = if_there(self.below.meet(path, after))? else {
-            return Ok(None);
-        };
-        if found.owner != after {
-            self.modes.meet(path, &found)?;
+        let found = if_there(self.below.meet(path, after))?;
+        if let Some(found) = &found {
+            if found.owner != after {
+                self.modes.meet(path, found)?;
+            }
         }
-        Ok(Some(found.owner))
+        let owner = found.map(|found| found.owner);
+        self.log.note(&Call::Met(path, owner));
+        Ok(owner)
+    }
+
+    fn meet_mark(&mut self, plan: &PlanMark) -> Result<bool, Trouble> {
+        let is_there = self.mark.is_there(plan)?;
+        if is_there {
+            self.mark.keep()?;
+        }
+        self.log.note(&Call::MetMark(plan, is_there));
+        Ok(is_there)
     }
 
     fn check_links(&mut self, path: &[u8]) -> Result<(), Trouble> {

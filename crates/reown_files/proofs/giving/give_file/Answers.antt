@@ -13,7 +13,7 @@ pub returns-then-modes-clause-lawful : goal.returns-then-modes-clause-lawful
 returns-then-modes-clause-lawful g c = λ mark records planned begun h.
     ap (is_lawful mark records) c.in-Ok.ensures.gave ∙ lawful_left mark records (g.D.Disk.calls c.args.disk.now) c.args.path.now c.args.before c.args.after planned begun h c.in-Ok.modes c.if-modes.true
 
-pub returns-clause-lawful : goal.returns-clause-lawful
-returns-clause-lawful g c = λ mark records planned begun h.
-    ap (is_lawful mark records) (c.set_mode.ensures ∙ ap (λ (cs : List Called). SetMode c.args.path.now c.args.after c.in-Ok.modes.before (is_ok c.set_mode.result) ∷ cs) c.in-Ok.ensures.gave)
-    ∙ lawful_set_back mark records (g.D.Disk.calls c.args.disk.now) c.args.path.now c.args.before c.args.after planned begun h c.in-Ok.modes c.args.after (is_ok c.set_mode.result)
+pub returns-else-modes-clause-lawful : goal.returns-else-modes-clause-lawful
+returns-else-modes-clause-lawful g c = λ mark records planned begun h.
+    ap (is_lawful mark records) (c.set_mode-told.ensures ∙ ap (λ (cs : List Called). SetMode c.args.path.now c.args.after c.in-Ok.modes.before (is_ok c.set_mode-told.result) ∷ cs) c.in-Ok.ensures.gave)
+    ∙ lawful_set_back mark records (g.D.Disk.calls c.args.disk.now) c.args.path.now c.args.before c.args.after planned begun h c.in-Ok.modes c.args.after (is_ok c.set_mode-told.result)

@@ -5,6 +5,7 @@ use Rattle.std.proofs.lemmas.List.{get_or-map, length-map}
 use Rattle.reown_plan.specs.Records.{record_of}
 use Rattle.reown_files.specs.Calls.{Kept}
 use Rattle.reown_files.specs.Lawful.{is_begun, is_lawful}
+use Rattle.reown_files.specs.Replay.{replay}
 use Rattle.reown_files.proofs.Laws.{nothing, keeps_on}
 use Rattle.reown_files.proofs.giving.keep_all.Goals as goal
 
@@ -19,4 +20,5 @@ loop-i-preserved g c =
           (ap is_ok c.in-Ok.is) c.loop-i.invariant.kept;
       lawful = λ mark plan h. ap (is_lawful mark plan) c.keep.ensures ∙ c.loop-i.invariant.lawful mark plan h;
       begun = λ plan h. ap (is_begun plan) c.keep.ensures ∙ c.loop-i.invariant.begun plan h;
+      replayed = ap replay c.keep.ensures ∙ c.loop-i.invariant.replayed;
     }

@@ -3,6 +3,7 @@ use Rattle.reown_plan.specs.declared.mark.PlanMark.{PlanMark}
 use Rattle.reown_plan.specs.PlanData.{PlanRecord}
 use Rattle.reown_plan.specs.Records.{record_of}
 use Rattle.reown_files.specs.Lawful.{all_kept, is_begun, is_lawful}
+use Rattle.reown_files.specs.Replay.{replay}
 use Rattle.reown_files.proofs.giving.keep_all.Given as goal
 
 abbrev pub invariant-loop-i : goal.invariant-loop-i
@@ -11,4 +12,5 @@ invariant-loop-i g l =
       kept : all_kept (take l.i (map record_of l.records)) (g.D.Disk.calls l.disk) ≡ true;
       lawful : (mark : PlanMark) (plan : List PlanRecord) → is_lawful mark plan (g.D.Disk.calls l.fn.disk) ≡ true → is_lawful mark plan (g.D.Disk.calls l.disk) ≡ true;
       begun : (plan : List PlanRecord) → is_begun plan (g.D.Disk.calls l.fn.disk) ≡ true → is_begun plan (g.D.Disk.calls l.disk) ≡ true;
+      replayed : replay (g.D.Disk.calls l.disk) ≡ replay (g.D.Disk.calls l.fn.disk);
     }

@@ -1,5 +1,9 @@
-use Rattle.std.proofs.Common.{◌≡◌, length, map}
+use Rattle.std.proofs.Common.{◌≡◌, true, ℕ, List, length, map, take}
+use Rattle.reown_plan.specs.declared.mark.PlanMark.{PlanMark}
+use Rattle.reown_plan.specs.PlanData.{PlanRecord}
 use Rattle.reown_plan.specs.Records.{record_of}
+use Rattle.reown_files.specs.Lawful.{is_unchanged, is_lawful}
+use Rattle.reown_files.specs.Replay.{replay, found_of}
 use Rattle.reown_files.proofs.Halves.{AreHalfwayTo}
 use Rattle.reown_files.proofs.looking.look_at_all.Given as goal
 
@@ -8,5 +12,8 @@ invariant-loop-i g l =
     record {
       as_many : length l.owners.items ≡ l.i;
       halfway : AreHalfwayTo (map record_of l.records) l.owners.items l.mark l.i;
-      calls : g.D.Disk.calls l.disk ≡ g.D.Disk.calls l.fn.disk;
+      met : (path : List ℕ) → (replay (g.D.Disk.calls l.disk)).owner path ≡ found_of (take l.i (map record_of l.records)) l.owners.items path;
+      mark : (replay (g.D.Disk.calls l.disk)).mark ≡ (replay (g.D.Disk.calls l.fn.disk)).mark;
+      unchanged : is_unchanged (g.D.Disk.calls l.fn.disk) ≡ true → is_unchanged (g.D.Disk.calls l.disk) ≡ true;
+      lawful : (mark : PlanMark) (plan : List PlanRecord) → is_lawful mark plan (g.D.Disk.calls l.fn.disk) ≡ true → is_lawful mark plan (g.D.Disk.calls l.disk) ≡ true;
     }

@@ -17,6 +17,7 @@ loop-i-preserved g c =
       asked = ap (λ xs. all_asked xs (g.D.Disk.calls c.set_back.new.disk)) more ∙ c.in-Ok.ensures.asked (take i (map record_of rs)) c.loop-i.invariant.asked;
       unchanged = c.set_back.ensures.unchanged c.loop-i.invariant.unchanged;
       lawful = c.set_back.ensures.lawful (map record_of rs) (given_at rs i _ below) c.loop-i.invariant.unchanged c.loop-i.invariant.lawful;
+      replayed = c.set_back.ensures.replayed ∙ c.loop-i.invariant.replayed;
     }
 
 pub returns-in-Err-clause-lawful : goal.returns-in-Err-clause-lawful

@@ -1,6 +1,7 @@
 use Rattle.std.proofs.Common.{◌≡◌, true, map, take}
 use Rattle.reown_plan.specs.Records.{record_of}
 use Rattle.reown_files.specs.Lawful.{is_unchanged, all_asked, is_lawful}
+use Rattle.reown_files.specs.Replay.{replay}
 use Rattle.reown_files.proofs.restoring.set_all_back.Given as goal
 
 abbrev pub invariant-loop-i : goal.invariant-loop-i
@@ -9,4 +10,5 @@ invariant-loop-i g l =
       asked : all_asked (take l.i (map record_of l.records)) (g.D.Disk.calls l.disk) ≡ true;
       unchanged : is_unchanged (g.D.Disk.calls l.disk) ≡ true;
       lawful : is_lawful l.plan (map record_of l.records) (g.D.Disk.calls l.disk) ≡ true;
+      replayed : replay (g.D.Disk.calls l.disk) ≡ replay (g.D.Disk.calls l.fn.disk);
     }

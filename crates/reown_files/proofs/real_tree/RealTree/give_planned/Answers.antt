@@ -1,16 +1,39 @@
-use Rattle.std.proofs.Common.{◌≡◌, ◌∙◌, ap, true, false, map, List}
+use Rattle.std.proofs.Common.{◌≡◌, ◌∙◌, ap, true, false, cond, map, Bool, List, Some}
 use Rattle.reown_plan.specs.PlanData.{PlanRecord}
 use Rattle.reown_plan.specs.Records.{record_of}
+use Rattle.reown_runner.specs.Memory.{Mem}
 use Rattle.reown_files.specs.Real.{RealData}
 use Rattle.reown_files.specs.Lawful.{is_planned}
+use Rattle.reown_files.specs.Replay.{replay, with_owner}
+use Rattle.reown_files.proofs.Replays.{done_of, same_replay, written_replay}
 use Rattle.reown_files.proofs.real_tree.RealTree.give_planned.Goals as goal
 
 pub invariant_of-self : goal.invariant_of-self
 invariant_of-self g c =
     let records = map record_of c.self.inside.records.now in
-    let same : records ≡ c.args.self.now.records = ap (λ (r : RealData). r.records) c.self.view_is in (
-      c.self.invariant.0,
-      c.give_file.ensures.lawful c.self.inside.mark records (ap (λ (rs : List PlanRecord). is_planned rs c.args.path.now c.args.before c.args.after) same ∙ c.requires) c.self.invariant.3 c.self.invariant.1,
+    let old = g.D.Disk.calls c.self.inside.disk in
+    let new = g.D.Disk.calls c.give_file-change.new.disk in
+    let same : records ≡ c.args.self.now.records = ap (λ (r : RealData). r.records) c.self.view_is in
+    let is = c.set_owner.ensures.written.2.2 in
+    let writes = done_of c.set_owner.result c.set_owner.ensures.faults c.set_owner.ensures.done c.self.inside.mark in
+    let made = c.give_file-change.ensures.replayed ∙ ap (λ (b : Bool). cond b (with_owner c.args.path.now (Some c.args.after) (replay old)) (replay old)) c.if-change.true in (
+      ap (λ (m : Mem). m.paths) is ∙ c.self.invariant.0,
+      c.give_file-change.ensures.lawful c.self.inside.mark records (ap (λ (rs : List PlanRecord). is_planned rs c.args.path.now c.args.before c.args.after) same ∙ c.requires.planned) c.self.invariant.3 c.self.invariant.1,
       λ e. absurd (let h : false ≡ true = e in cc),
-      c.give_file.ensures.begun records c.self.invariant.3,
+      c.give_file-change.ensures.begun records c.self.invariant.3,
+      λ h. written_replay old new c.self.inside.held c.set_owner.new.self c.args.path.now c.args.after c.self.inside.mark writes (ap (λ (m : Mem). m.mark_now) is) made (c.self.invariant.4 h),
+    )
+
+pub invariant_of-self-else-change : goal.invariant_of-self-else-change
+invariant_of-self-else-change g c =
+    let records = map record_of c.self.inside.records.now in
+    let old = g.D.Disk.calls c.self.inside.disk in
+    let new = g.D.Disk.calls c.give_file-change.new.disk in
+    let same : records ≡ c.args.self.now.records = ap (λ (r : RealData). r.records) c.self.view_is in
+    let left = c.give_file-change.ensures.replayed ∙ ap (λ (b : Bool). cond b (with_owner c.args.path.now (Some c.args.after) (replay old)) (replay old)) c.if-change.false in (
+      c.self.invariant.0,
+      c.give_file-change.ensures.lawful c.self.inside.mark records (ap (λ (rs : List PlanRecord). is_planned rs c.args.path.now c.args.before c.args.after) same ∙ c.requires.planned) c.self.invariant.3 c.self.invariant.1,
+      λ e. absurd (let h : false ≡ true = e in cc),
+      c.give_file-change.ensures.begun records c.self.invariant.3,
+      λ h. same_replay old new c.self.inside.held left (c.self.invariant.4 h),
     )
