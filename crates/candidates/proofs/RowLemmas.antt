@@ -5,7 +5,8 @@ use Rattle.std.proofs.Math.Bool.{or-false, or-true}
 use Rattle.std.proofs.lemmas.Bool.{cases_Bool, cases_lt, cases_eq, eqb-true, eq-eqb, false≢true, true≢false}
 use Rattle.std.proofs.lemmas.List.Elements.{All-nil, All-head, All-tail, All-push, All-weaker}
 use Rattle.logindefs.specs.declared.ranges.IdRange.{IdRange}
-use Rattle.hosts_join.specs.Pool.{in_runs, AreAscending}
+use Rattle.candidates.specs.Ascending.{AreAscending}
+use Rattle.hosts_join.specs.Pool.{in_runs}
 use Rattle.candidates.specs.declared.Candidate.{Candidate}
 use Rattle.std.proofs.lemmas.List.Folds.{list_any_more}
 use Rattle.hosts_join.specs.Accounts.{Accounts, Account, lines, all_lines, nobody}

@@ -4,7 +4,8 @@
 
 ghost use Rattle.std.specs.Prelude.{◌≡◌, ℕ, ◌<◌, ◌≤◌, ◌↔◌, ◌==◌, ◌&&◌, length, List, IfOk, Some};
 ghost use Rattle.std.specs.List.{list_any};
-ghost use Rattle.hosts_join.specs.Pool.{AreAscending, in_runs};
+ghost use Rattle.candidates.specs.Ascending.{AreAscending};
+ghost use Rattle.hosts_join.specs.Pool.{in_runs};
 ghost use Rattle.hosts_join.specs.Rules.{class_at, in_pool};
 ghost use Rattle.ownership.specs.Counts.{AreMadeFor, AreWithin, CountFiles};
 ghost use Rattle.ownership.specs.Files.{File};

@@ -3,7 +3,7 @@ use Rattle.std.specs.List.{list_any}
 use Rattle.std.proofs.lemmas.Bool.{and_parts}
 use Rattle.hosts_join.specs.declared.Spot.{Spot}
 use Rattle.hosts_join.specs.declared.Class.{Class}
-use Rattle.hosts_join.specs.Pool.{AreAscending}
+use Rattle.candidates.specs.Ascending.{AreAscending}
 use Rattle.hosts_join.specs.Rules.{account, in_pool, class_at}
 use Rattle.ownership.specs.Weights.{told_weight}
 use Rattle.candidates.proofs.RowLemmas.{so-far-push, so-far-skip, so-far-end, lines-some, lines-few, weight-fits, any-here}
