@@ -19,6 +19,7 @@ TEXTS = {
     "plan": "unify plan 1 b\n1001 100 1000 100 4 bob1\n1001 100 1000 100 4 bob2\nend\n",
     "own-plan": f"unify plan 1 b\n{OWN} {FAR} 3 map\n{FAR} {OWN} 4 pins\nend\n",
     "near-plan": f"unify plan 1 b\n{OWN} {FAR} 3 map\nend\n",
+    "more-plan": f"unify plan 1 b\n{OWN} {FAR} 3 two\n{OWN} {FAR} 5 names\n{OWN} {FAR} 6 set-id\nend\n",
     "far-plan": f"unify plan 1 b\n{FAR} 4000000002 4000000002 3 map\nend\n",
     "pins": "user bob 1005\n",
     "bad": "no line of any text\n",
@@ -103,6 +104,8 @@ VERIFIED = {
 VERIFY = "verify --was old-passwd old-group --now new-passwd new-group {} {}".format
 VERIFY_OWN = "verify --was own-passwd own-group --now own-passwd own-group {} {}".format
 VERIFY_OTHER = "verify --was own-passwd own-group --now other-passwd own-group {} {}".format
+# What is counted of the files of a plan: with the old owners, with the new ones, not there, with others.
+SEEN = "before {}\nafter {}\nmissing {}\nforeign {}\nset-id {}\nlinked {}\nmounts 0\n".format
 FOUND = "kept {}\nmissing {}\nchanged {}\nnew {}\nunnamed {}\nleft {}\n".format
 # Inventories of the files of the room: as they are; with a file that is gone, and without one that has come; and of the folder
 # with a name that is no text.
@@ -132,8 +135,13 @@ TABLE = [
     ("check --help", 0, ("--pins", "CERTIFICATE", "HOST"), ""),
     ("rehearse --help", 0, ("PLAN", "MTREE"), ""),
     ("inventory --help", 0, ("ROOT", "-x", "--one-file-system"), ""),
-    ("apply --help", 0, ("--check", "--reverse", "--mark", "--host", "--quiet", "PLAN", "ROOT"), ""),
-    ("verify --help", 0, ("--was <PASSWD> <GROUP>", "--now <PASSWD> <GROUP>", "<BEFORE>", "<AFTER>"), ""),
+    ("apply --help", 0, ("--check", "--reverse", "--mark", "--host", "--quiet", "--progress", "PLAN", "ROOT"), ""),
+    (
+        "verify --help",
+        0,
+        ("--was <PASSWD> <GROUP>", "--now <PASSWD> <GROUP>", "<BEFORE>", "<AFTER>", "or the directory that is there now"),
+        "",
+    ),
     ("--version", 0, "unify 0.1.0\n", ""),
     # Wrong words.
     ("recount", 2, "", ("recount",)),
@@ -202,9 +210,12 @@ TABLE = [
     ("inventory tree linked ./tree/none", 2, "", "unify: root ./tree/none: it lies in tree\n"),
     ("inventory linked . tree", 2, "", "unify: root linked: it lies in .\n"),
     ("inventory tree treehouse", 3, MACHINE + TREE_LINES + "# end 3\n", "unify: file treehouse: No such file or directory\n"),
-    ("apply --check -q own-plan .", 0, "before 1\nafter 1\nmissing 0\nforeign 0\n", ""),
-    ("apply --check -q near-plan .", 0, "before 1\nafter 0\nmissing 0\nforeign 0\n", ""),
-    ("apply --check -q --reverse near-plan .", 0, "before 0\nafter 1\nmissing 0\nforeign 0\n", ""),
+    ("apply --check -q own-plan .", 0, SEEN(1, 1, 0, 0, 0, 0), ""),
+    ("apply --check -q near-plan .", 0, SEEN(1, 0, 0, 0, 0, 0), ""),
+    ("apply --check -q --reverse near-plan .", 0, SEEN(0, 1, 0, 0, 0, 0), ""),
+    ("apply --check -q more-plan .", 0, SEEN(3, 0, 0, 0, 1, 2), ""),
+    ("apply --check --progress own-plan .", 0, SEEN(1, 1, 0, 0, 0, 0), ("unify: progress: looked at 2 of 2\n",)),
+    ("apply --check -q --progress own-plan .", 0, SEEN(1, 1, 0, 0, 0, 0), ""),
     # Which files have other owners by name.
     (VERIFY("named", "moved"), 0, FOUND(3, 0, 0, 1, 0, 0), "unify: new new\\040one user bob 2002 group staff 51\n"),
     (
@@ -347,8 +358,8 @@ TABLE = [
     ("rehearse plan a/mtree", 1, "", "unify: 37 Missing bob1\n"),
     ("apply bad b", 1, "", "unify: 35 BadPlan byte 0\n"),
     ("apply --host a plan b", 1, "", "unify: host a: the plan is of host b\n"),
-    ("apply --check -q plan b", 1, "before 0\nafter 0\nmissing 2\nforeign 0\n", "unify: 37 Missing bob1\n"),
-    ("apply --check -q far-plan .", 1, "before 0\nafter 0\nmissing 0\nforeign 1\n", "unify: 38 Foreign map\n"),
+    ("apply --check -q plan b", 1, SEEN(0, 0, 2, 0, 0, 0), "unify: 37 Missing bob1\n"),
+    ("apply --check -q far-plan .", 1, SEEN(0, 0, 0, 1, 0, 0), "unify: 38 Foreign map\n"),
     # Files that are not there, or cannot be read or written.
     ("count none a b", 3, "", "unify: file none: No such file or directory\n"),
     (["count", "", "a"], 3, "", "unify: file -: No such file or directory\n"),
@@ -435,6 +446,10 @@ def lay_out(room):
     (room / LINKED).parent.mkdir()
     (room / LINKED).symlink_to("nothing")
     (room / "to-tree").symlink_to("tree")
+    (room / "two").touch()
+    (room / "names").hardlink_to(room / "two")
+    (room / "set-id").touch()
+    (room / "set-id").chmod(0o4755)
     (room / "odd-name").mkdir()
     open(os.fsencode(room) + b"/odd-name/\xff", "w").close()
     (room / "bare").mkdir()

@@ -4,6 +4,7 @@ ghost use Rattle.std.specs.Prelude.{◌≡◌, [], IfOk};
 use crate::checking::check_below;
 use crate::machine::{see_caller, see_host};
 use crate::mounts::see_mounts;
+use crate::progress::{Progress, Telling};
 use crate::staying::warn_of_staying;
 use crate::told::{Place, fault_told, not_opened, root_refused, stopped};
 use clap::ArgMatches;
@@ -36,20 +37,27 @@ fn records_text(rt: &HostRuntime, records: usize) -> Result<Vec<u8>, AllocError>
     Ok(text)
 }
 
-// Carries a plan out on the files of a disk, from wherever an earlier run left them.
+// Carries a plan out on the files of a disk, from wherever an earlier run left them, and tells how
+// far it is.
 fn carry_out<'w>(
     rt: &'w HostRuntime,
+    progress: Progress,
     place: Place<'_>,
     plan: &Plan<'_>,
     root: Root<'w>,
 ) -> Result<(), FileFault>
     requires { root.log.calls ≡ [] }
 {
-    let mut tree = match RealTree::open(rt.alloc(), plan, root) {
+    let disk = Telling::of(rt, progress, plan.records().len(), root);
+    let found = RealTree::open(rt.alloc(), plan, disk);
+    progress.clear(rt);
+    let mut tree = match found {
         Ok(tree) => tree,
         Err(fault) => return Err(not_opened(rt, place, plan.records(), fault)),
     };
-    match apply(plan, &mut tree) {
+    let done = apply(plan, &mut tree);
+    progress.clear(rt);
+    match done {
         Ok(()) => Ok(()),
         Err(_) => Err(stopped(rt, place, plan.records(), tree.stop())),
     }
@@ -77,12 +85,13 @@ fn opened<'w>(
 // Carries a plan out below a directory.
 fn apply_below(
     rt: &HostRuntime,
+    progress: Progress,
     place: Place<'_>,
     plan: &Plan<'_>,
     has_one_journal: bool,
 ) -> Result<u8, FileFault> {
     let root = opened(rt, place, has_one_journal)?;
-    carry_out(rt, place, plan, root)?;
+    carry_out(rt, progress, place, plan, root)?;
     let text = records_text(rt, plan.records().len())?;
     Ok(print_answer(rt, 0, &text))
 }
@@ -95,8 +104,9 @@ fn run_plan(
     plan: &Plan<'_>,
 ) -> Result<u8, FileFault> {
     let quiet = matches.get_flag("quiet");
+    let progress = Progress::wanted(rt, quiet, matches.get_flag("progress"));
     if matches.get_flag("check") {
-        return check_below(rt, place, plan, quiet);
+        return check_below(rt, progress, place, plan, quiet);
     }
     see_host(rt, plan.host(), matches.get_str("host"), quiet)?;
     see_caller(rt)?;
@@ -104,7 +114,7 @@ fn run_plan(
     if !quiet {
         warn_of_staying(rt, plan)?;
     }
-    apply_below(rt, place, plan, has_one_journal)
+    apply_below(rt, progress, place, plan, has_one_journal)
 }
 
 // Why a text is no plan.

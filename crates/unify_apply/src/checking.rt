@@ -1,5 +1,7 @@
-//! The files of a plan, counted by their owners, with nothing changed.
+//! The files of a plan, counted by what is seen of them, with nothing changed.
 
+use crate::mounts::count_mounts;
+use crate::progress::{Progress, Telling};
 use crate::staying::warn_of_staying;
 use crate::told::{Place, file_refused, foreign, missing, root_refused};
 use idtext::push_number;
@@ -17,13 +19,20 @@ fn push_count(text: &mut Vec<u8>, word: &str, count: u64) -> Result<(), AllocErr
     text.extend_from_slice(b"\n")
 }
 
-// The four lines of a count.
-fn counts_text(rt: &HostRuntime, counts: OwnerCounts) -> Result<Vec<u8>, AllocError> {
+// The seven lines of a count.
+fn counts_text(
+    rt: &HostRuntime,
+    counts: OwnerCounts,
+    mounts: usize,
+) -> Result<Vec<u8>, AllocError> {
     let mut text = Vec::new(rt.alloc());
     push_count(&mut text, "before", counts.before)?;
     push_count(&mut text, "after", counts.after)?;
     push_count(&mut text, "missing", counts.missing)?;
     push_count(&mut text, "foreign", counts.foreign)?;
+    push_count(&mut text, "set-id", counts.set_id)?;
+    push_count(&mut text, "linked", counts.linked)?;
+    push_count(&mut text, "mounts", mounts as u64)?;
     Ok(text)
 }
 
@@ -39,13 +48,13 @@ fn not_counted(rt: &HostRuntime, records: &[Record<'_>], fault: OpenFault) -> Fi
 }
 
 // Tells the first file that is not there, or has neither of its owners.
-fn tell_first(
+fn tell_first<D: Disk>(
     rt: &HostRuntime,
-    root: &mut Root<'_>,
+    disk: &mut D,
     records: &[Record<'_>],
 ) -> Result<(), FileFault> {
     for (i, planned) in records.iter().enumerate() {
-        match root.owner(planned.path) {
+        match disk.owner(planned.path) {
             Ok(None) => return Err(missing(rt, records, i)),
             Ok(Some(owner)) => {
                 if owner != planned.before && owner != planned.after {
@@ -58,41 +67,53 @@ fn tell_first(
     Ok(())
 }
 
-// Prints how many files there are by their owners.
-fn count_files(
-    rt: &HostRuntime,
-    root: &mut Root<'_>,
-    records: &[Record<'_>],
-) -> Result<OwnerCounts, FileFault> {
-    let counts = match count_owners(root, records) {
-        Ok(counts) => counts,
-        Err(fault) => return Err(not_counted(rt, records, fault)),
-    };
-    let text = counts_text(rt, counts)?;
+// Prints how many files there are by what is seen of them, and how many mounts.
+fn print_counts(rt: &HostRuntime, counts: OwnerCounts, mounts: usize) -> Result<(), FileFault> {
+    let text = counts_text(rt, counts, mounts)?;
     if io::writer(rt).write_all(&text).is_err() {
         return Err(FileFault::Told(write_failed(rt)));
     }
-    Ok(counts)
+    Ok(())
 }
 
-/// Counts the files of a plan by their owners, and tells the first that is not there or has neither of its two.
+// Counts the files of a plan.
+fn count_files<D: Disk>(
+    rt: &HostRuntime,
+    progress: Progress,
+    disk: &mut D,
+    records: &[Record<'_>],
+) -> Result<OwnerCounts, FileFault> {
+    let counted = count_owners(disk, records);
+    progress.clear(rt);
+    match counted {
+        Ok(counts) => Ok(counts),
+        Err(fault) => Err(not_counted(rt, records, fault)),
+    }
+}
+
+/// Counts the files of a plan by their owners and what else a change of it touches, and tells the
+/// first that is not there or has neither of its two.
 pub fn check_below(
     rt: &HostRuntime,
+    progress: Progress,
     place: Place<'_>,
     plan: &Plan<'_>,
     quiet: bool,
 ) -> Result<u8, FileFault> {
-    let mut root = match Root::open(rt, place.root, place.mark) {
+    let root = match Root::open(rt, place.root, place.mark) {
         Ok(root) => root,
         Err(trouble) => return Err(root_refused(rt, place, trouble)),
     };
-    let counts = count_files(rt, &mut root, plan.records())?;
+    let mounts = count_mounts(rt, place.root, quiet)?;
+    let mut disk = Telling::of(rt, progress, plan.records().len(), root);
+    let counts = count_files(rt, progress, &mut disk, plan.records())?;
+    print_counts(rt, counts, mounts)?;
     if !quiet {
         warn_of_staying(rt, plan)?;
     }
     if counts.missing == 0 && counts.foreign == 0 {
         return Ok(0);
     }
-    tell_first(rt, &mut root, plan.records())?;
+    tell_first(rt, &mut disk, plan.records())?;
     Ok(1)
 }

@@ -6,6 +6,7 @@ mod applying;
 mod checking;
 mod machine;
 mod mounts;
+mod progress;
 mod staying;
 mod told;
 

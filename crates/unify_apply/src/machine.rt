@@ -1,4 +1,6 @@
 //! The machine that a plan is carried out on, and who does so.
+ghost use Rattle.std.specs.Prelude.{◌≡◌};
+ghost use Rattle.unify_apply.specs.Machine.{short_of, is_called, tells_root};
 
 use idtext::{Lines, Words, cut};
 use std::alloc::AllocError;
@@ -11,7 +13,9 @@ const NAME: &str = "/proc/sys/kernel/hostname";
 const STATUS: &str = "/proc/self/status";
 
 // The name of a machine without what stands behind its first dot.
-fn short_name(name: &[u8]) -> &[u8] {
+fn short_name(name: &[u8]) -> &[u8]
+    ensures { result.now ≡ short_of name.now }
+{
     match cut(b'.', name) {
         Some((short, _)) => short,
         None => name,
@@ -19,7 +23,9 @@ fn short_name(name: &[u8]) -> &[u8] {
 }
 
 // Whether a machine of this name is the host of a plan.
-fn is_host(machine: &[u8], host: &[u8]) -> bool {
+fn is_host(machine: &[u8], host: &[u8]) -> bool
+    ensures { result ≡ is_called host.now machine.now }
+{
     machine == host || short_name(machine) == host
 }
 
@@ -70,11 +76,20 @@ pub fn see_host(
 }
 
 // Whether a line of the status tells that the effective user is 0. It is the second of four.
-fn is_of_root(line: &[u8]) -> bool {
+fn is_of_root(line: &[u8]) -> bool
+    ensures { result ≡ tells_root line.now }
+{
     let mut words = Words::new(line);
-    words.next() == Some(b"Uid:".as_slice())
-        && words.next().is_some()
-        && words.next() == Some(b"0".as_slice())
+    let Some(head) = words.next() else {
+        return false;
+    };
+    let Some(_) = words.next() else {
+        return false;
+    };
+    let Some(effective) = words.next() else {
+        return false;
+    };
+    head == b"Uid:".as_slice() && effective == b"0".as_slice()
 }
 
 /// Sees that whoever calls may give files away.

@@ -1,9 +1,14 @@
-//! Mounts below the directory that a plan is carried out in, of its own file system: a second way to its files.
+//! Mounts below the directory that a plan is carried out in. One of its own file system is a second
+//! way to its files.
+ghost use Rattle.std.specs.Prelude.{◌≡◌, option_map, option_copied};
+ghost use Rattle.idtext.specs.Words.{words};
+ghost use Rattle.unify_apply.specs.Mounts.{text_of, kind_in, mount_in, is_in, is_under};
 
 use idtext::{Character, Lines, Words, first_character};
 use std::alloc::{AllocError, Global};
+use std::path::PathBuf;
 use std::{fs, io};
-use unify_io::{FileFault, Said, read_file, tell_of};
+use unify_io::{FileFault, Part, Said, read_file, tell_of, warn};
 
 // Where the system tells the mounts that this process sees (proc(5)).
 const MOUNTS: &str = "/proc/self/mountinfo";
@@ -55,20 +60,29 @@ struct MountWords<'a> {
     kind: &'a [u8],
 }
 
+// The first word behind the word `-`.
+fn kind_behind<'a>(mut words: Words<'a>) -> Option<&'a [u8]>
+    ensures { option_copied result ≡ kind_in words.entry }
+{
+    while let Some(word) = words.next() {
+        if word == b"-".as_slice() {
+            return words.next();
+        }
+    }
+    None
+}
+
 // The words of a line.
-fn mount_words(line: &[u8]) -> Option<MountWords<'_>> {
+fn mount_words(line: &[u8]) -> Option<MountWords<'_>>
+    ensures { option_map text_of result ≡ mount_in (words line.now) }
+{
     let mut words = Words::new(line);
     let _ = words.next()?;
     let _ = words.next()?;
     let device = words.next()?;
     let _ = words.next()?;
     let point = words.next()?;
-    for word in words.by_ref() {
-        if word == b"-".as_slice() {
-            break;
-        }
-    }
-    let kind = words.next()?;
+    let kind = kind_behind(words)?;
     Some(MountWords {
         device,
         point,
@@ -92,8 +106,11 @@ fn read_mounts(alloc: Global, text: &[u8]) -> Result<Vec<Mount<'_>>, AllocError>
     Ok(mounts)
 }
 
-// Whether a path is that of a directory, or of something below it.
-fn is_within(path: &[u8], directory: &[u8]) -> bool {
+// Whether a path is that of a directory, or of something below it. The path of the root of all is
+// empty.
+fn is_within(path: &[u8], directory: &[u8]) -> bool
+    ensures { result ≡ is_in directory.now path.now }
+{
     match path.strip_prefix(directory) {
         Some(rest) => rest.is_empty() || rest.starts_with(b"/"),
         None => false,
@@ -113,15 +130,29 @@ fn mount_of<'m, 'a>(mounts: &'m [Mount<'a>], directory: &[u8]) -> Option<&'m Mou
     found
 }
 
+// Whether a path is below a directory.
+fn is_below(path: &[u8], directory: &[u8]) -> bool
+    ensures { result ≡ is_under directory.now path.now }
+{
+    path.len() > directory.len() && is_within(path, directory)
+}
+
 // The first mount below a directory that is of its file system.
 fn mount_below<'m>(mounts: &'m [Mount<'_>], directory: &[u8], device: &[u8]) -> Option<&'m [u8]> {
     for mount in mounts {
-        let is_below = mount.point.len() > directory.len() && is_within(&mount.point, directory);
-        if is_below && mount.device == device {
+        if is_below(&mount.point, directory) && mount.device == device {
             return Some(&mount.point);
         }
     }
     None
+}
+
+// How many mounts are below a directory.
+fn count_below(mounts: &[Mount<'_>], directory: &[u8]) -> usize {
+    mounts
+        .iter()
+        .filter(|mount| is_below(&mount.point, directory))
+        .count()
 }
 
 // Tells that a directory has no path.
@@ -148,12 +179,58 @@ fn has_one_journal(kind: &[u8]) -> bool {
     WITH_ONE_JOURNAL.iter().any(|known| *known == kind)
 }
 
+// The path of a directory from the root of all.
+fn path_of(rt: &HostRuntime, root: &str) -> Result<PathBuf, FileFault> {
+    match fs::canonicalize(rt, root) {
+        Ok(path) => Ok(path),
+        Err(error) => Err(no_path(rt, root, said_of(&error))),
+    }
+}
+
+// Warns of the first mount below a directory, and tells how many there are.
+fn warn_of_mounts(
+    rt: &HostRuntime,
+    mounts: &[Mount<'_>],
+    directory: &[u8],
+    count: usize,
+) -> Result<(), AllocError> {
+    let Some(first) = mounts
+        .iter()
+        .find(|mount| is_below(&mount.point, directory))
+    else {
+        return Ok(());
+    };
+    let below = Part::Text(
+        "file systems are mounted below the directory (findmnt -R), the first of",
+    );
+    warn(
+        rt,
+        &[
+            below,
+            Part::Count(count),
+            Part::Text("at"),
+            Part::Name(&first.point),
+        ],
+    )
+}
+
+/// How many file systems are mounted below a directory, whose files no plan of it has. Where there
+/// are any, the first is warned of.
+pub fn count_mounts(rt: &HostRuntime, root: &str, quiet: bool) -> Result<usize, FileFault> {
+    let path = path_of(rt, root)?;
+    let text = read_file(rt, MOUNTS)?;
+    let mounts = read_mounts(rt.alloc(), text.bytes())?;
+    let directory = without_slash(path.as_str().as_bytes());
+    let count = count_below(&mounts, directory);
+    if !quiet {
+        warn_of_mounts(rt, &mounts, directory, count)?;
+    }
+    Ok(count)
+}
+
 /// Sees that no mount below a directory is of its file system, and tells whether that is known to have one journal.
 pub fn see_mounts(rt: &HostRuntime, root: &str) -> Result<bool, FileFault> {
-    let path = match fs::canonicalize(rt, root) {
-        Ok(path) => path,
-        Err(error) => return Err(no_path(rt, root, said_of(&error))),
-    };
+    let path = path_of(rt, root)?;
     let text = read_file(rt, MOUNTS)?;
     let mounts = read_mounts(rt.alloc(), text.bytes())?;
     let directory = without_slash(path.as_str().as_bytes());

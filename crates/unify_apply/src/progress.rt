@@ -1,0 +1,225 @@
+//! How far a command is with the files of a plan, told on standard error while it goes on.
+ghost use Rattle.std.specs.Prelude.{◌≡◌};
+
+use reown_files::{Disk, Modes, Seen, Trouble};
+use reown_plan::{Owner, PlanMark};
+use std::io::IsTerminal;
+
+// After how many files it is told again.
+const EACH: usize = 10_000;
+
+/// How it is told.
+#[derive(Clone, Copy, Debug, PartialEq, Eq)]
+pub enum Progress {
+    /// Not at all.
+    Never,
+    /// By a line each time.
+    Lines,
+    /// By one line of a terminal, which is written anew.
+    OneLine,
+}
+
+// What is done with files, one after the other.
+#[derive(Clone, Copy)]
+enum Step {
+    Looked,
+    Changed,
+    Synced,
+}
+
+impl Step {
+    fn word(self) -> &'static str {
+        match self {
+            Step::Looked => "looked at",
+            Step::Changed => "changed",
+            Step::Synced => "synced",
+        }
+    }
+}
+
+impl Progress {
+    /// As these words want it: one line on a terminal, lines elsewhere if they are asked for.
+    pub fn wanted(rt: &HostRuntime, quiet: bool, asked: bool) -> Progress {
+        if quiet {
+            Progress::Never
+        } else if rt.stderr().is_terminal() {
+            Progress::OneLine
+        } else if asked {
+            Progress::Lines
+        } else {
+            Progress::Never
+        }
+    }
+
+    // Tells how many of the files a step was done with, now and then and behind the last. What
+    // cannot be told is not.
+    fn tell(self, rt: &HostRuntime, step: Step, done: usize, files: usize) {
+        if done % EACH != 0 && done != files {
+            return;
+        }
+        let word = step.word();
+        let _ = match self {
+            Progress::Never => Ok(()),
+            Progress::Lines => eprintln!(rt; "unify: progress: {word} {done} of {files}"),
+            Progress::OneLine => eprint!(rt; "\r\x1b[Kunify: {word} {done} of {files}"),
+        };
+    }
+
+    /// Clears the line, so that something else may be told.
+    pub fn clear(self, rt: &HostRuntime) {
+        if self == Progress::OneLine {
+            let _ = eprint!(rt; "\r\x1b[K");
+        }
+    }
+}
+
+/// A disk that tells how far a command is with its files. What it is asked for it asks another.
+#[derive(Drop)]
+pub struct Telling<'w, D: Disk> {
+    rt: &'w HostRuntime,
+    progress: Progress,
+    disk: D,
+    // How many files the plan has, how many were looked at, how many of those are to be changed,
+    // and how many were.
+    files: usize,
+    looked: usize,
+    to_change: usize,
+    changed: usize,
+    synced: usize,
+}
+
+impl<'w, D: Disk> Telling<'w, D> {
+    /// Tells of a disk with so many files of a plan.
+    pub fn of(rt: &'w HostRuntime, progress: Progress, files: usize, disk: D) -> Telling<'w, D>
+        ensures { D.calls result.disk ≡ D.calls disk }
+    {
+        Telling {
+            rt,
+            progress,
+            disk,
+            files,
+            looked: 0,
+            to_change: 0,
+            changed: 0,
+            synced: 0,
+        }
+    }
+
+    // One more file was looked at.
+    fn count_look(&mut self)
+        ensures { self.new.disk ≡ self.old.disk }
+    {
+        self.looked = self.looked.saturating_add(1);
+        self.progress
+            .tell(self.rt, Step::Looked, self.looked, self.files);
+    }
+
+    // One more was met, and is to be changed or has its new owner.
+    fn count_met(&mut self, found: Option<Owner>, after: Owner)
+        ensures { self.new.disk ≡ self.old.disk }
+    {
+        if found != Some(after) {
+            self.to_change = self.to_change.saturating_add(1);
+        }
+        self.count_look();
+    }
+
+    // One more was changed.
+    fn count_change(&mut self)
+        ensures { self.new.disk ≡ self.old.disk }
+    {
+        self.changed = self.changed.saturating_add(1);
+        self.progress
+            .tell(self.rt, Step::Changed, self.changed, self.to_change);
+    }
+
+    // One more was synced.
+    fn count_sync(&mut self)
+        ensures { self.new.disk ≡ self.old.disk }
+    {
+        self.synced = self.synced.saturating_add(1);
+        self.progress
+            .tell(self.rt, Step::Synced, self.synced, self.files);
+    }
+}
+
+impl<'w, D: Disk> Disk for Telling<'w, D> {
+    ghost calls = { λ telling. D.calls telling.disk };
+
+    fn look(&mut self, path: &[u8]) -> Result<Option<Seen>, Trouble> {
+        let seen = self.disk.look(path);
+        self.count_look();
+        seen
+    }
+
+    fn meet(&mut self, path: &[u8], after: Owner) -> Result<Option<Owner>, Trouble> {
+        let met = self.disk.meet(path, after);
+        if let Ok(found) = met {
+            self.count_met(found, after);
+        }
+        met
+    }
+
+    fn meet_mark(&mut self, plan: &PlanMark) -> Result<bool, Trouble> {
+        self.disk.meet_mark(plan)
+    }
+
+    fn check_links(&mut self, path: &[u8]) -> Result<(), Trouble> {
+        self.disk.check_links(path)
+    }
+
+    fn owner(&mut self, path: &[u8]) -> Result<Option<Owner>, Trouble> {
+        self.disk.owner(path)
+    }
+
+    fn give(&mut self, path: &[u8], before: Owner, after: Owner) -> Result<Modes, Trouble> {
+        let given = self.disk.give(path, before, after);
+        self.count_change();
+        given
+    }
+
+    fn set_mode(&mut self, path: &[u8], owner: Owner, mode: u32) -> Result<(), Trouble> {
+        self.disk.set_mode(path, owner, mode)
+    }
+
+    fn keep(&mut self, path: &[u8], owner: Owner) -> Result<(), Trouble> {
+        let kept = self.disk.keep(path, owner);
+        self.count_sync();
+        kept
+    }
+
+    fn settle(&mut self) -> Result<(), Trouble> {
+        self.disk.settle()
+    }
+
+    fn is_marked(&mut self, plan: &PlanMark) -> Result<bool, Trouble> {
+        self.disk.is_marked(plan)
+    }
+
+    fn put_mark(&mut self, plan: &PlanMark) -> Result<(), Trouble> {
+        self.disk.put_mark(plan)
+    }
+
+    fn read_modes(&mut self, plan: &PlanMark, mark: bool) -> Result<(), Trouble> {
+        self.disk.read_modes(plan, mark)
+    }
+
+    fn lost_mode(
+        &mut self,
+        plan: &PlanMark,
+        path: &[u8],
+        owner: Owner,
+    ) -> Result<Option<u32>, Trouble> {
+        self.disk.lost_mode(plan, path, owner)
+    }
+
+    // What was synced before is not of this run.
+    fn put_modes(&mut self, plan: &PlanMark) -> Result<(), Trouble> {
+        self.synced = 0;
+        self.disk.put_modes(plan)
+    }
+
+    fn keep_mark(&mut self) -> Result<(), Trouble> {
+        self.disk.keep_mark()
+    }
+}
