@@ -5,7 +5,6 @@ mod failures;
 mod keep_texts;
 mod marks;
 mod readers;
-mod reserved_numbers;
 mod stops;
 
 use mtree_inv::read_inventory;

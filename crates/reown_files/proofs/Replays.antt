@@ -15,11 +15,21 @@ use Rattle.reown_runner.specs.Memory.{Mem, known_mem, settled_cell, marked}
 use Rattle.reown_runner.specs.MemoryReads.{readable_mem}
 use Rattle.reown_runner.specs.Halfway.{mem_of_records}
 use Rattle.reown_runner.proofs.Cellwise.{either}
-use Rattle.reown_runner.proofs.Lists.{any-map, any-none, position_or_len-map, slice_get-map, slice_get-past}
+use Rattle.reown_runner.proofs.Lists.{position_or_len-map, slice_get-map, slice_get-past}
 use Rattle.reown_files.specs.Calls.{Called, PutMark}
 use Rattle.reown_files.specs.Real.{IsReplay}
 use Rattle.reown_files.specs.Replay.{Held, with_owner, replay, found_of}
 use Rattle.reown_files.proofs.Laws.{nothing}
+
+-- ---- tests of lists
+
+any-map : {K Y : Type 0} (q : Y → Bool) (f : K → Y) (ks : List K) → list_any (λ k. q (f k)) ks ≡ list_any q (map f ks)
+any-map q f [] = refl
+any-map q f (k ∷ ks) = ap (λ b. q (f k) || b) (any-map q f ks)
+
+any-none : {Y : Type 0} (q : Y → Bool) (ys : List Y) → ((k : ℕ) (d : Y) → k < length ys → q (get_or ys k d) ≡ false) → list_any q ys ≡ false
+any-none q [] h = refl
+any-none q (y ∷ ys) h = ap (λ b. b || list_any q ys) (h 0 y (omega arith)) ∙ any-none q ys (λ k d below. h (suc k) d (omega arith))
 
 -- ---- files that were met
 
