@@ -14,7 +14,7 @@ use Rattle.hosts_join.specs.declared.host.Host.{Host}
 use Rattle.hosts_join.proofs.Refusals.{count_by-of-map}
 use Rattle.mtree_inv.specs.declared.entry.Entry.{Entry}
 use Rattle.ownership.specs.Costs.{AreLeast, ChangesFewestRows, changes, cost_of}
-use Rattle.ownership.specs.Files.{Added, File, has_there, owns}
+use Rattle.ownership.specs.Files.{Added, File, has_there, owned_files, owns}
 use Rattle.ownership.specs.Mappings.{Mappings, number_at}
 use Rattle.ownership.specs.Sums.{sum_below}
 use Rattle.ownership.specs.Weights.{IsFilled, IsFresh, file_weight, free_weight, weight}
@@ -48,10 +48,6 @@ use Rattle.unify.proofs.SiteRuns.{some_same}
 
 abbrev AreAlike : List File → List File → Type 0
 AreAlike files others = (Q : File → Bool) → count_by Q files ≡ count_by Q others
-
-all_counted : (files : List File) → count_by (λ f. true) files ≡ length files
-all_counted [] = refl
-all_counted (f ∷ files) = omega (arith, sum_by-cons (λ (x : File). cond {A = ℕ} true 1 0) f files, all_counted files)
 
 module _ (a : Accounts) (files others : List File) (alike : AreAlike files others) where
   same_cost : (m : List ℕ) → cost_of a files m ≡ cost_of a others m
@@ -93,7 +89,7 @@ module _ (a : Accounts) (files others : List File) (alike : AreAlike files other
   same_figures m =
       let kept_is = ap (λ (w : ℕ → ℕ → ℕ). count_below (λ i. is_free_class (class_at a i) && nat_le 1 (w i (number_at m i))) (length a.names)) same_weights in
       let fresh_is = ap (λ (w : ℕ → ℕ → ℕ). count_below (λ i. is_free_class (class_at a i) && nat_eq (w i (number_at m i)) 0) (length a.names)) same_weights in
-      let files_are : length files ≡ length others = sym (all_counted files) ∙ alike (λ f. true) ∙ all_counted others in
+      let files_are : owned_files a.names files ≡ owned_files a.names others = alike (λ f. is_some (owner a.names f.host f.number)) in
       let cost_is = same_cost m in
       let f = figures_of a files m in
       λ j. record { names = f.names; pinned = f.pinned; kept = kept_is j; fresh = fresh_is j; files = files_are j; changed_files = cost_is j; rows = f.rows; changed_rows = f.changed_rows }
