@@ -1,7 +1,9 @@
 -- What a line of an account file is, before its fields are looked at.
--- Sources: nsswitch.conf(5), compat mode (a line with a plus or a minus in front takes in or leaves out accounts of NIS).
--- That such a line is refused, which lines are skipped, and both limits, are rules of this product.
-use Rattle.std.specs.Prelude.{ℕ, Bool, true, false, List, length, Result, Ok, ◌==◌, ◌||◌, nat_lt, slice_index, if◌then◌else◌}
+-- Sources: nsswitch.conf(5), compat mode (a line with a plus or a minus in front takes in or leaves
+-- out accounts of NIS). That such a line is refused, which lines are skipped, and both limits, are
+-- rules of this product.
+use Rattle.std.specs.Prelude.{ℕ, Bool, true, false, List, length, Result, Ok, ◌==◌, ◌||◌, nat_lt}
+use Rattle.std.specs.Prelude.{slice_index, if◌then◌else◌}
 use Rattle.idtext.specs.declared.faults.TextCode.TheVariants.{TooManyLines, LineTooLong, CompatLine}
 use Rattle.idtext.specs.declared.faults.TextFault.{TextFault}
 use Rattle.idtext.specs.Faults.{refused}

@@ -1,8 +1,9 @@
 -- The rows of passwd and of group, each as its line gives it.
--- Sources: passwd(5), DESCRIPTION (name, password, UID, GID, comment, home directory, shell, between colons); group(5),
--- DESCRIPTION (name, password, GID, user list, between colons, the users between commas). The order of checks is a rule
--- of this product.
-use Rattle.std.specs.Prelude.{ℕ, List, [], ◌∷◌, Option, Some, None, Result, Ok, not, if◌then◌else◌, filter, length, ◌==◌}
+-- Sources: passwd(5), DESCRIPTION (name, password, UID, GID, comment, home directory, shell,
+-- between colons); group(5), DESCRIPTION (name, password, GID, user list, between colons, the users
+-- between commas). The order of checks is a rule of this product.
+use Rattle.std.specs.Prelude.{ℕ, List, [], ◌∷◌, Option, Some, None, Result, Ok, not, if◌then◌else◌}
+use Rattle.std.specs.Prelude.{filter, length, ◌==◌}
 use Rattle.idtext.specs.declared.faults.TextCode.TheVariants.{BadFields, BadName, BadNumber}
 use Rattle.idtext.specs.declared.faults.TextFault.{TextFault}
 use Rattle.idtext.specs.Faults.{refused}
@@ -41,7 +42,16 @@ numbered line (Some id) rest = rest id
 abbrev pub passwd_from : ℕ → List (List ℕ) → Result Passwd TextFault
 passwd_from line (name ∷ password ∷ uid ∷ gid ∷ comment ∷ home ∷ shell ∷ []) =
     named line name (numbered line (id_of uid) (λ user. numbered line (id_of gid) (λ group.
-    Ok (record { line = line; name = name; password = password; uid = user; gid = group; comment = comment; home = home; shell = shell }))))
+    Ok (record {
+      line = line;
+      name = name;
+      password = password;
+      uid = user;
+      gid = group;
+      comment = comment;
+      home = home;
+      shell = shell;
+    }))))
 passwd_from line _ = refused line BadFields
 
 -- the row that four fields make

@@ -1,7 +1,9 @@
 //! The file group, after group(5).
 #![tactic(auto)]
 
-ghost use Rattle.std.specs.Prelude.{◌≡◌, ◌≢◌, [], ◌∷◌, ℕ, Some, length, filter, not, ◌==◌, find, position, option_copied, nat_eq, bytes_eq, List, MatchOption, IfOk};
+ghost use Rattle.std.specs.Prelude.{◌≡◌, ◌≢◌, [], ◌∷◌, ℕ, Some, length, filter, not, ◌==◌, find};
+ghost use Rattle.std.specs.Prelude.{position, option_copied, nat_eq, bytes_eq, List, MatchOption};
+ghost use Rattle.std.specs.Prelude.{IfOk};
 ghost use Rattle.std.specs.Iterator.{YieldsFirstRef, item_count};
 ghost use Rattle.idtext.specs.Faults.{fault_told};
 ghost use Rattle.idtext.specs.First.{Gives};
@@ -19,7 +21,8 @@ use idtext::{Pieces, ReadError, TextCode, TextFault, decimal, fields, is_lawful_
 use std::alloc::{AllocError, Global};
 use std::marker::Model;
 
-/// A row of group: the four fields of one line, after group(5). Its texts are slices of the file, with no copy.
+/// A row of group: the four fields of one line, after group(5). Its texts are slices of the file,
+/// with no copy.
 #[derive(Drop)]
 pub struct GroupRow<'a> {
     /// The number of the line, counted from 1; skipped lines count too.
@@ -105,7 +108,8 @@ fn four_fields(line: &[u8]) -> Option<GroupFields<'_>>
 
 // The row of a line that is kept.
 fn row_of(number: u64, line: &[u8]) -> Result<GroupRow<'_>, TextFault>
-    ensures { Gives (λ row. row) (λ fault. Some fault) result (group_from number (fields_of line.now)) }
+    ensures { Gives (λ row. row) (λ fault. Some fault) result
+        (group_from number (fields_of line.now)) }
 {
     let refused = |code| TextFault { code, line: number };
     let Some(found) = four_fields(line) else {
@@ -137,8 +141,9 @@ fn line_of(number: u64, line: &[u8]) -> Result<Option<GroupRow<'_>>, TextFault>
     Ok(Some(row_of(number, line)?))
 }
 
-/// The rows of group. Names are lawful and distinct; gids are distinct and at most 4294967294; there are at most 65,536
-/// rows. It keeps an entry in each of two hash sets for each row, and no text.
+/// The rows of group. Names are lawful and distinct; gids are distinct and at most 4294967294;
+/// there are at most 65,536 rows. It keeps an entry in each of two hash sets for each row, and no
+/// text.
 pub struct GroupTable<'a> {
     rows: Vec<GroupRow<'a>>,
     index: Index<'a>,
@@ -158,7 +163,8 @@ impl<'a> Model for GroupTable<'a> {
 
     ghost view = { λ it. it.rows.items };
 
-    ghost invariant = { λ it. (it.index ≡ known_of (λ row. row.name) (λ row. row.gid) it.rows.items) × IsGroupTable it.rows.items };
+    ghost invariant = { λ it. (it.index ≡ known_of (λ row. row.name) (λ row. row.gid) it.rows.items)
+        × IsGroupTable it.rows.items };
 }
 
 impl<'a> GroupTable<'a> {
@@ -186,7 +192,8 @@ impl<'a> GroupTable<'a> {
         Some(&self.rows[place])
     }
 
-    /// The place of the row with this gid among the rows, or none. One hash look-up; takes no memory.
+    /// The place of the row with this gid among the rows, or none. One hash look-up; takes no
+    /// memory.
     pub fn place_of_number(&self, gid: u32) -> Option<usize>
         ensures place { result ≡ position (λ row. nat_eq gid row.gid) self.now }
         ensures table { IsGroupTable self.now }
@@ -194,9 +201,10 @@ impl<'a> GroupTable<'a> {
         self.index.index_of_number(gid)
     }
 
-    /// The table of those rows whose flag is set, in their order and with the numbers of their lines: flags stand in the
-    /// order of the rows, and a row beyond them counts as not set. One pass, with two hash look-ups for each row that is
-    /// taken; no text is copied. `AllocError` where a growth was refused.
+    /// The table of those rows whose flag is set, in their order and with the numbers of their
+    /// lines: flags stand in the order of the rows, and a row beyond them counts as not set. One
+    /// pass, with two hash look-ups for each row that is taken; no text is copied. `AllocError`
+    /// where a growth was refused.
     pub fn selected(&self, alloc: Global, flags: &[bool]) -> Result<GroupTable<'a>, AllocError>
         ensures those { IfOk result (λ table. table ≡ those flags.now self.now) }
         ensures table { IfOk result (λ table. IsGroupTable table) }
@@ -209,7 +217,8 @@ impl<'a> GroupTable<'a> {
 
 /// Reads group, after group(5): the rows of its lines, or its first fault.
 ///
-/// Lines that are empty, only white space, or begin with `#` are skipped. The checks of a line, in order:
+/// Lines that are empty, only white space, or begin with `#` are skipped. The checks of a line, in
+/// order:
 ///
 /// - `TooManyLines`: it is line 65,537.
 /// - `LineTooLong`: it has over 65,535 bytes, also where it would be skipped.
@@ -220,8 +229,9 @@ impl<'a> GroupTable<'a> {
 /// - `NameTwice`: an earlier row has the name.
 /// - `SharedNumber`: an earlier row has the gid.
 ///
-/// The fault is that of the first line that fails, with the line's number. `Memory` is answered only where a growth was
-/// refused. One pass over the text with two hash look-ups a row; the rows are slices of the text, which is not copied.
+/// The fault is that of the first line that fails, with the line's number. `Memory` is answered
+/// only where a growth was refused. One pass over the text with two hash look-ups a row; the rows
+/// are slices of the text, which is not copied.
 #[tactic(auto, unfolding(crate::specs::Tables::group_table))]
 pub fn read_group(alloc: Global, text: &[u8]) -> Result<GroupTable<'_>, ReadError>
     ensures exact { Gives (λ table. table) fault_told result (group_table text.now) }
@@ -233,9 +243,10 @@ pub fn read_group(alloc: Global, text: &[u8]) -> Result<GroupTable<'_>, ReadErro
 }
 
 impl<'a> GroupRow<'a> {
-    /// The users of the group, as its list names them, in order: what stands between the commas, without empty items.
-    /// Source: group(5). A name may stand twice, and need not be in passwd. Takes no memory; going over all of them is
-    /// one pass over the list.
+    /// The users of the group, as its list names them, in order: what stands between the commas,
+    /// without empty items.
+    /// Source: group(5). A name may stand twice, and need not be in passwd. Takes no memory; going
+    /// over all of them is one pass over the list.
     #[tactic(auto, unfolding(crate::specs::Rows::members_of))]
     pub fn members_of(&self) -> Members<'a>
         ensures { result ≡ members_of self.now.members }

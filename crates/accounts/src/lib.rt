@@ -1,7 +1,8 @@
 //! The account files passwd and group of a host, after passwd(5) and group(5).
 //!
-//! A file is read in one pass to a table of its rows, or refused with its first fault: a code and a line number. In a
-//! table neither a name nor a number stands twice, since two accounts under one number own each other's files.
+//! A file is read in one pass to a table of its rows, or refused with its first fault: a code and a
+//! line number. In a table neither a name nor a number stands twice, since two accounts under one
+//! number own each other's files.
 #![tactic(auto)]
 
 mod group;

@@ -10,8 +10,8 @@ use idtext::{MOST_BYTES, TextCode, TextFault, is_skipped};
 /// How many lines an account file may have, skipped ones among them.
 pub const MOST_LINES: u64 = 65536;
 
-/// Whether a line has a row, or what is wrong with it as a whole: `TooManyLines`, `LineTooLong` or `CompatLine`, in this
-/// order.
+/// Whether a line has a row, or what is wrong with it as a whole: `TooManyLines`, `LineTooLong` or
+/// `CompatLine`, in this order.
 pub fn keeps(number: u64, line: &[u8]) -> Result<bool, TextFault>
     ensures { Gives (λ kept. kept) (λ fault. Some fault) result (is_kept number line.now) }
 {

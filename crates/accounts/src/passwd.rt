@@ -1,7 +1,8 @@
 //! The file passwd, after passwd(5).
 #![tactic(auto)]
 
-ghost use Rattle.std.specs.Prelude.{◌≡◌, ◌≢◌, [], ◌∷◌, Some, length, find, position, option_copied, nat_eq, bytes_eq, List, MatchOption, IfOk};
+ghost use Rattle.std.specs.Prelude.{◌≡◌, ◌≢◌, [], ◌∷◌, Some, length, find, position, option_copied};
+ghost use Rattle.std.specs.Prelude.{nat_eq, bytes_eq, List, MatchOption, IfOk};
 ghost use Rattle.idtext.specs.Faults.{fault_told};
 ghost use Rattle.idtext.specs.First.{Gives};
 ghost use Rattle.idtext.specs.Pieces.{fields_of};
@@ -18,7 +19,8 @@ use idtext::{ReadError, TextCode, TextFault, decimal, fields, is_lawful_name};
 use std::alloc::{AllocError, Global};
 use std::marker::Model;
 
-/// A row of passwd: the seven fields of one line, after passwd(5). Its texts are slices of the file, with no copy.
+/// A row of passwd: the seven fields of one line, after passwd(5). Its texts are slices of the
+/// file, with no copy.
 #[derive(Drop)]
 pub struct PasswdRow<'a> {
     /// The number of the line, counted from 1; skipped lines count too.
@@ -102,7 +104,8 @@ struct PasswdFields<'a> {
 // The seven fields of a line.
 fn seven_fields(line: &[u8]) -> Option<PasswdFields<'_>>
     ensures { MatchOption result (length (fields_of line.now) ≢ 7) (λ found. fields_of line.now ≡
-        found.name.now ∷ found.password.now ∷ found.uid.now ∷ found.gid.now ∷ found.comment.now ∷ found.home.now ∷ found.shell.now ∷ []) }
+        found.name.now ∷ found.password.now ∷ found.uid.now ∷ found.gid.now ∷ found.comment.now
+        ∷ found.home.now ∷ found.shell.now ∷ []) }
 {
     let mut rest = fields(line);
     let found = PasswdFields {
@@ -122,7 +125,8 @@ fn seven_fields(line: &[u8]) -> Option<PasswdFields<'_>>
 
 // The row of a line that is kept.
 fn row_of(number: u64, line: &[u8]) -> Result<PasswdRow<'_>, TextFault>
-    ensures { Gives (λ row. row) (λ fault. Some fault) result (passwd_from number (fields_of line.now)) }
+    ensures { Gives (λ row. row) (λ fault. Some fault) result
+        (passwd_from number (fields_of line.now)) }
 {
     let refused = |code| TextFault { code, line: number };
     let Some(found) = seven_fields(line) else {
@@ -160,8 +164,9 @@ fn line_of(number: u64, line: &[u8]) -> Result<Option<PasswdRow<'_>>, TextFault>
     Ok(Some(row_of(number, line)?))
 }
 
-/// The rows of passwd. Names are lawful and distinct; uids are distinct; uids and gids are at most 4294967294;
-/// there are at most 65,536 rows. It keeps an entry in each of two hash sets for each row, and no text.
+/// The rows of passwd. Names are lawful and distinct; uids are distinct; uids and gids are at most
+/// 4294967294; there are at most 65,536 rows. It keeps an entry in each of two hash sets for each
+/// row, and no text.
 pub struct PasswdTable<'a> {
     rows: Vec<PasswdRow<'a>>,
     index: Index<'a>,
@@ -211,7 +216,8 @@ impl<'a> PasswdTable<'a> {
         Some(&self.rows[place])
     }
 
-    /// The place of the row with this uid among the rows, or none. One hash look-up; takes no memory.
+    /// The place of the row with this uid among the rows, or none. One hash look-up; takes no
+    /// memory.
     pub fn place_of_number(&self, uid: u32) -> Option<usize>
         ensures place { result ≡ position (λ row. nat_eq uid row.uid) self.now }
         ensures table { IsPasswdTable self.now }
@@ -219,9 +225,10 @@ impl<'a> PasswdTable<'a> {
         self.index.index_of_number(uid)
     }
 
-    /// The table of those rows whose flag is set, in their order and with the numbers of their lines: flags stand in the
-    /// order of the rows, and a row beyond them counts as not set. One pass, with two hash look-ups for each row that is
-    /// taken; no text is copied. `AllocError` where a growth was refused.
+    /// The table of those rows whose flag is set, in their order and with the numbers of their
+    /// lines: flags stand in the order of the rows, and a row beyond them counts as not set. One
+    /// pass, with two hash look-ups for each row that is taken; no text is copied. `AllocError`
+    /// where a growth was refused.
     pub fn selected(&self, alloc: Global, flags: &[bool]) -> Result<PasswdTable<'a>, AllocError>
         ensures those { IfOk result (λ table. table ≡ those flags.now self.now) }
         ensures table { IfOk result (λ table. IsPasswdTable table) }
@@ -235,19 +242,22 @@ impl<'a> PasswdTable<'a> {
 
 /// Reads passwd, after passwd(5): the rows of its lines, or its first fault.
 ///
-/// Lines that are empty, only white space, or begin with `#` are skipped. The checks of a line, in order:
+/// Lines that are empty, only white space, or begin with `#` are skipped. The checks of a line, in
+/// order:
 ///
 /// - `TooManyLines`: it is line 65,537.
 /// - `LineTooLong`: it has over 65,535 bytes, also where it would be skipped.
 /// - `CompatLine`: it begins with `+` or `-`.
 /// - `BadFields`: it has not exactly seven fields between colons.
 /// - `BadName`: the name is not lawful.
-/// - `BadNumber`: the uid or the gid is not one or more decimal digits of a value of at most 4294967294.
+/// - `BadNumber`: the uid or the gid is not one or more decimal digits of a value of at most
+///   4294967294.
 /// - `NameTwice`: an earlier row has the name.
 /// - `SharedNumber`: an earlier row has the uid.
 ///
-/// The fault is that of the first line that fails, with the line's number. `Memory` is answered only where a growth was
-/// refused. One pass over the text with two hash look-ups a row; the rows are slices of the text, which is not copied.
+/// The fault is that of the first line that fails, with the line's number. `Memory` is answered
+/// only where a growth was refused. One pass over the text with two hash look-ups a row; the rows
+/// are slices of the text, which is not copied.
 #[tactic(auto, unfolding(crate::specs::Tables::passwd_table))]
 pub fn read_passwd(alloc: Global, text: &[u8]) -> Result<PasswdTable<'_>, ReadError>
     ensures exact { Gives (λ table. table) fault_told result (passwd_table text.now) }

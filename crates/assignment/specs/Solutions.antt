@@ -20,7 +20,8 @@ total_weight c m = sum_below (λ i. row_weight c i (number_at m i)) (length c.ro
 abbrev pub Cover : Choices → List ℕ → List (ℕ × ℕ) → Type 0
 Cover c y z = (i v : ℕ) → i < length c.rows → row_weight c i v ≤ potential_at y i + value_at z v
 
--- The potentials certify the mapping in the rows: they cover, and all of them together are what the mapping weighs.
+-- The potentials certify the mapping in the rows: they cover, and all of them together are what the
+-- mapping weighs.
 pub record Proves (c : Choices) (m y : List ℕ) (z : List (ℕ × ℕ)) : Type 0 where
   pub len : length y ≡ length c.rows
   pub fits : All (λ x. x < 2 ^ 64) y
@@ -36,9 +37,12 @@ pub record IsFreshIn (c : Choices) (m : List ℕ) (i : ℕ) : Type 0 where
 
 -- no admissible mapping weighs more in the rows
 abbrev pub IsGreatest : Choices → List ℕ → Type 0
-IsGreatest c m = (other : List ℕ) → IsAdmissible c.accounts other → total_weight c other ≤ total_weight c m
+IsGreatest c m =
+    (other : List ℕ) → IsAdmissible c.accounts other → total_weight c other ≤ total_weight c m
 
--- Weak duality: potentials that cover, and that together are what a mapping weighs, prove that no admissible mapping weighs
--- more.
+-- Weak duality: potentials that cover, and that together are what a mapping weighs, prove that no
+-- admissible mapping weighs more.
 abbrev pub WeakDuality : Type 0
-WeakDuality = (c : Choices) (m y : List ℕ) (z : List (ℕ × ℕ)) → length c.rows ≡ length c.accounts.names → length y ≡ length c.rows → Cover c y z → potential_sum y z ≡ total_weight c m → IsGreatest c m
+WeakDuality =
+    (c : Choices) (m y : List ℕ) (z : List (ℕ × ℕ)) → length c.rows ≡ length c.accounts.names
+    → length y ≡ length c.rows → Cover c y z → potential_sum y z ≡ total_weight c m → IsGreatest c m

@@ -1,6 +1,7 @@
 -- What the solver's fields stand for.
 -- Words of the code and not of the subject: only private contracts, views and invariants cite them.
-use Rattle.std.specs.Prelude.{◌≡◌, ℕ, ◌≤◌, length, slice_index, slice_index_or, Some, None, unwrap_or}
+use Rattle.std.specs.Prelude.{◌≡◌, ℕ, ◌≤◌, length, slice_index, slice_index_or, Some, None}
+use Rattle.std.specs.Prelude.{unwrap_or}
 use Rattle.std.specs.BTreeMap as btree
 use Rattle.std.specs.Ordering.{nat_cmp}
 use Rattle.candidates.specs.Rows.{AreRows}
@@ -12,7 +13,13 @@ use Rattle.assignment.specs.declared.solver.Solver.{Solver}
 use Rattle.assignment.specs.Standing.{Standing, IsFair, IsTree, IsLoose}
 
 abbrev pub standing : Duals → Pairs → Standing
-standing d p = record { y = λ n. slice_index d.y.items n; z = λ v. unwrap_or (btree.get nat_cmp d.z v) 0; given = λ n. slice_index_or p.given.items n None; owner = λ v. btree.get nat_cmp p.owner v }
+standing d p =
+    record {
+      y = λ n. slice_index d.y.items n;
+      z = λ v. unwrap_or (btree.get nat_cmp d.z v) 0;
+      given = λ n. slice_index_or p.given.items n None;
+      owner = λ v. btree.get nat_cmp p.owner v;
+    }
 
 -- each name has its y, and its number or none
 pub record FitsNames (d : Duals) (p : Pairs) (size : ℕ) : Type 0 where
@@ -41,11 +48,13 @@ root_of t = slice_index t.names.items 0
 
 pub record IsSearching (s : Solver) (t : Tree) : Type 0 where
   pub serving : IsServing s (root_of t)
-  pub grown : IsGrown (row_weight s.rows.now) (standing s.duals s.pairs) t (length s.rows.now.rows) (root_of t)
+  pub grown : IsGrown (row_weight s.rows.now) (standing s.duals s.pairs) t (length s.rows.now.rows)
+      (root_of t)
 
 -- in the midst of a flip: the number v is to go to the name at the position i of the tree
 pub record IsFlipping (s : Solver) (t : Tree) (i : ℕ) (v : ℕ) : Type 0 where
   pub lawful : AreRows s.rows.now
   pub fits : FitsNames s.duals s.pairs (length s.rows.now.rows)
-  pub loose : IsLoose (row_weight s.rows.now) (standing s.duals s.pairs) (length s.rows.now.rows) (root_of t) t.position.items t.names.items t.parents.items i v
+  pub loose : IsLoose (row_weight s.rows.now) (standing s.duals s.pairs) (length s.rows.now.rows)
+      (root_of t) t.position.items t.names.items t.parents.items i v
   pub positive : HasNoZero s.duals

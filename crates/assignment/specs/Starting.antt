@@ -10,16 +10,20 @@ use Rattle.assignment.specs.declared.solver.Solver.{Solver}
 use Rattle.assignment.specs.Standing.{IsTightPair}
 use Rattle.assignment.specs.Solving.{standing, FitsNames}
 
--- The potentials cover, and what names below next have is theirs by tight pairs; the others have nothing. A number
--- that nobody has may have a potential.
+-- The potentials cover, and what names below next have is theirs by tight pairs; the others have
+-- nothing. A number that nobody has may have a potential.
 pub record IsStarted (s : Solver) (next : ℕ) : Type 0 where
   pub lawful : AreRows s.rows.now
   pub fits : FitsNames s.duals s.pairs (length s.rows.now.rows)
-  pub cover : (n v : ℕ) → row_weight s.rows.now n v ≤ (standing s.duals s.pairs).y n + (standing s.duals s.pairs).z v
+  pub cover : (n v : ℕ) → row_weight s.rows.now n v
+      ≤ (standing s.duals s.pairs).y n + (standing s.duals s.pairs).z v
   pub small : (n : ℕ) → (standing s.duals s.pairs).y n < 2 ^ 63
-  pub tight : (n v : ℕ) → (standing s.duals s.pairs).given n ≡ Some v → IsTightPair (row_weight s.rows.now) (standing s.duals s.pairs) n v
-  pub owned : (n v : ℕ) → (standing s.duals s.pairs).given n ≡ Some v → (standing s.duals s.pairs).owner v ≡ Some n
-  pub has : (n v : ℕ) → (standing s.duals s.pairs).owner v ≡ Some n → (standing s.duals s.pairs).given n ≡ Some v
+  pub tight : (n v : ℕ) → (standing s.duals s.pairs).given n ≡ Some v
+      → IsTightPair (row_weight s.rows.now) (standing s.duals s.pairs) n v
+  pub owned : (n v : ℕ) → (standing s.duals s.pairs).given n ≡ Some v
+      → (standing s.duals s.pairs).owner v ≡ Some n
+  pub has : (n v : ℕ) → (standing s.duals s.pairs).owner v ≡ Some n
+      → (standing s.duals s.pairs).given n ≡ Some v
   pub later : (n : ℕ) → next ≤ n → (standing s.duals s.pairs).given n ≡ None
 
 -- the number's potential is not 0, and somebody has the number

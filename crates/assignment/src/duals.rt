@@ -1,5 +1,6 @@
 //! The potentials of names and of numbers.
-ghost use Rattle.std.specs.Prelude.{◌≡◌, ◌≢◌, ℕ, ◌+◌, ◌-◌, ◌<◌, ◌≤◌, ◌^◌, length, IfOk, OnOk, unwrap_or, slice_index, slice_index_or, Some};
+ghost use Rattle.std.specs.Prelude.{◌≡◌, ◌≢◌, ℕ, ◌+◌, ◌-◌, ◌<◌, ◌≤◌, ◌^◌, length, IfOk, OnOk};
+ghost use Rattle.std.specs.Prelude.{unwrap_or, slice_index, slice_index_or, Some};
 ghost use Rattle.std.specs.BTreeMap as btree;
 ghost use Rattle.std.specs.Ordering.{nat_cmp};
 ghost use Rattle.std.specs.List.{All};
@@ -31,7 +32,8 @@ fn value_in(z: &BTreeMap<u32, u64>, number: u32) -> u64
 /// The least y with which a row is covered.
 fn least_y(row: &[Candidate], z: &BTreeMap<u32, u64>) -> u64
     requires { All IsWeighed row.now }
-    ensures covers { (v : ℕ) → weight_in row.now v ≤ result + unwrap_or (btree.get nat_cmp z.now v) 0 }
+    ensures covers { (v : ℕ) → weight_in row.now v
+        ≤ result + unwrap_or (btree.get nat_cmp z.now v) 0 }
     ensures small { result < 2 ^ 63 }
 {
     let mut least = 0;
@@ -53,7 +55,9 @@ pub fn first_y(
     z: &BTreeMap<u32, u64>,
 ) -> Result<Vec<u64>, AllocError>
     ensures long { IfOk result (λ y. length y.items ≡ length rows.now.rows) }
-    ensures covers { IfOk result (λ y. (n v : ℕ) → row_weight rows.now n v ≤ slice_index y.items n + unwrap_or (btree.get nat_cmp z.now v) 0) }
+    ensures covers { IfOk result
+        (λ y. (n v : ℕ) → row_weight rows.now n v
+        ≤ slice_index y.items n + unwrap_or (btree.get nat_cmp z.now v) 0) }
     ensures small { IfOk result (λ y. (n : ℕ) → slice_index y.items n < 2 ^ 63) }
 {
     let mut y = Vec::new(alloc);
@@ -87,12 +91,17 @@ impl Duals {
         requires has_y { name < length self.old.y.items }
         requires has_given { name < length pairs.now.given.items }
         requires room { by ≤ y_in self.old name }
-        requires fits { (v : ℕ) → slice_index_or pairs.now.given.items name None ≡ Some v → z_in self.old v + by < 2 ^ 64 }
+        requires fits { (v : ℕ) → slice_index_or pairs.now.given.items name None ≡ Some v
+            → z_in self.old v + by < 2 ^ 64 }
         ensures here { y_in self.new name ≡ y_in self.old name - by }
         ensures others { (n : ℕ) → n ≢ name → y_in self.new n ≡ y_in self.old n }
         ensures long { length self.new.y.items ≡ length self.old.y.items }
-        ensures held { OnOk result ((v : ℕ) → slice_index_or pairs.now.given.items name None ≡ Some v → z_in self.new v ≡ z_in self.old v + by) }
-        ensures rest { OnOk result ((v : ℕ) → (slice_index_or pairs.now.given.items name None ≡ Some v → ⊥) → z_in self.new v ≡ z_in self.old v) }
+        ensures held { OnOk result
+            ((v : ℕ) → slice_index_or pairs.now.given.items name None ≡ Some v
+            → z_in self.new v ≡ z_in self.old v + by) }
+        ensures rest { OnOk result
+            ((v : ℕ) → (slice_index_or pairs.now.given.items name None ≡ Some v → ⊥)
+            → z_in self.new v ≡ z_in self.old v) }
         ensures positive { OnOk result (HasNoZero self.old → HasNoZero self.new) }
     {
         if by == 0 {
@@ -112,7 +121,8 @@ impl Duals {
     pub fn settle(&mut self, pairs: &Pairs, tree: &Tree, now: u64) -> Result<(), AllocError>
         requires can { CanSettle self.old pairs.now tree.now now }
         requires positive { HasNoZero self.old }
-        ensures settled { OnOk result (IsSettled self.old self.new pairs.now tree.now now (length tree.now.names.items)) }
+        ensures settled { OnOk result
+            (IsSettled self.old self.new pairs.now tree.now now (length tree.now.names.items)) }
         ensures long { length self.new.y.items ≡ length self.old.y.items }
         ensures positive { OnOk result (HasNoZero self.new) }
     {

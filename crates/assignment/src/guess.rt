@@ -1,19 +1,21 @@
-//! A guess at the whole solution, in flat lists. Nothing is claimed of it and nothing rests on it: `Solver::begun`
-//! takes over what it sees to be right, and searches serve the names that are left. So a guess only saves time.
+//! A guess at the whole solution, in flat lists. Nothing is claimed of it and nothing rests on it:
+//! `Solver::begun` takes over what it sees to be right, and searches serve the names that are left.
+//! So a guess only saves time.
 //!
-//! It serves many names in one turn: all their potentials fall at one rate until one of them has a way out, as in
-//! the primal-dual method (Kuhn 1955), and then each takes a path over tight pairs, if there is one left that
-//! shares no name with the paths before it, as in the phases of Hopcroft and Karp 1973. Where weights differ much,
-//! few names find a path in a turn; then names are served alone, one after the other. The way that is taken next is
-//! the one that was last the cheaper.
+//! It serves many names in one turn: all their potentials fall at one rate until one of them has a
+//! way out, as in the primal-dual method (Kuhn 1955), and then each takes a path over tight pairs,
+//! if there is one left that shares no name with the paths before it, as in the phases of Hopcroft
+//! and Karp 1973. Where weights differ much, few names find a path in a turn; then names are served
+//! alone, one after the other. The way that is taken next is the one that was last the cheaper.
 use crate::graph::{Graph, Pair};
 use candidates::Rows;
 use std::alloc::{AllocError, Global};
 use std::cmp::Reverse;
 use std::collections::{BTreeMap, BinaryHeap};
 
-/// A name: its potential and the place of its number; and in which turn it was last visited, how many of its pairs
-/// were tried then, and the place that it takes if it is on the path that is found.
+/// A name: its potential and the place of its number; and in which turn it was last visited, how
+/// many of its pairs were tried then, and the place that it takes if it is on the path that is
+/// found.
 #[derive(Clone, Copy, Debug)]
 struct GuessedName {
     y: u64,
@@ -23,7 +25,8 @@ struct GuessedName {
     next: Option<usize>,
 }
 
-/// A number: the name that has it and its potential; and in which turn it was last reached, at which level.
+/// A number: the name that has it and its potential; and in which turn it was last reached, at
+/// which level.
 #[derive(Clone, Copy, Debug)]
 struct GuessedNumber {
     owner: Option<u32>,
@@ -49,8 +52,8 @@ pub struct Guess {
     path: Vec<u32>,
 }
 
-/// How many pairs were read for each name that was served when names were last served together, and when they were
-/// last served alone; and how many in all by the last turn together.
+/// How many pairs were read for each name that was served when names were last served together, and
+/// when they were last served alone; and how many in all by the last turn together.
 #[derive(Drop)]
 struct Pace {
     together: u64,
@@ -59,8 +62,8 @@ struct Pace {
 }
 
 impl Pace {
-    /// Keeps what was read for the names that were served. The other way is tried again in time, since what it took
-    /// is halved.
+    /// Keeps what was read for the names that were served. The other way is tried again in time,
+    /// since what it took is halved.
     fn keep(&mut self, together: bool, work: u64, served: u64) {
         let cost = work.checked_div(served).unwrap_or(u64::MAX);
         if together {
@@ -161,8 +164,8 @@ impl Guess {
         }
     }
 
-    /// Reaches the numbers of a name's pairs that are tight below the level of the exit, and tells the exit that is
-    /// left: the least level at which a number that nobody has was reached.
+    /// Reaches the numbers of a name's pairs that are tight below the level of the exit, and tells
+    /// the exit that is left: the least level at which a number that nobody has was reached.
     fn reach(
         &mut self,
         graph: &Graph,
@@ -188,7 +191,8 @@ impl Guess {
         Ok(exit)
     }
 
-    /// Whether the level is below the one at which the turn has reached the number; it is that from now on.
+    /// Whether the level is below the one at which the turn has reached the number; it is that from
+    /// now on.
     fn is_nearer(&mut self, place: usize, level: u64) -> bool {
         if place >= self.numbers.len() {
             return false;
@@ -220,8 +224,8 @@ impl Guess {
         None
     }
 
-    /// Lowers the roots and the names that they reach over tight pairs, all at one rate, until one of them has a
-    /// way out.
+    /// Lowers the roots and the names that they reach over tight pairs, all at one rate, until one
+    /// of them has a way out.
     fn lower(&mut self, graph: &Graph, roots: &[u32]) -> Result<(), AllocError> {
         self.turn = self.turn.saturating_add(1);
         self.ready.clear();
@@ -243,7 +247,8 @@ impl Guess {
         Ok(())
     }
 
-    /// Reaches names in the order of their levels, up to the level of the exit that is left in the end.
+    /// Reaches names in the order of their levels, up to the level of the exit that is left in the
+    /// end.
     fn reach_all(&mut self, graph: &Graph, mut exit: u64) -> Result<u64, AllocError> {
         let mut now = 0;
         for _ in 0..self.numbers.len() {
@@ -279,8 +284,8 @@ impl Guess {
         }
     }
 
-    /// Visits a name of a path, and tells whether it is a way out: nobody has the number of a tight pair of it, or
-    /// its y is 0.
+    /// Visits a name of a path, and tells whether it is a way out: nobody has the number of a tight
+    /// pair of it, or its y is 0.
     fn visit(&mut self, graph: &Graph, name: u32) -> Result<bool, AllocError> {
         self.path.push(name)?;
         let mut now = self.name(name);
@@ -358,7 +363,8 @@ impl Guess {
         }
     }
 
-    /// One turn: serves as many of the roots as then have paths, and adds the others to those that are left.
+    /// One turn: serves as many of the roots as then have paths, and adds the others to those that
+    /// are left.
     fn serve(
         &mut self,
         graph: &Graph,
@@ -376,7 +382,8 @@ impl Guess {
         Ok(())
     }
 
-    /// Serves waiting names alone, each in a turn of its own: so many at most, and until so many pairs were read.
+    /// Serves waiting names alone, each in a turn of its own: so many at most, and until so many
+    /// pairs were read.
     fn serve_alone(
         &mut self,
         graph: &Graph,
@@ -408,7 +415,8 @@ impl Guess {
         Ok(waiting)
     }
 
-    /// Serves the waiting names together or some of them alone, whichever was cheaper for each name that was served.
+    /// Serves the waiting names together or some of them alone, whichever was cheaper for each name
+    /// that was served.
     fn serve_some(
         &mut self,
         graph: &Graph,

@@ -1,8 +1,8 @@
-//! The least re-owning as an assignment problem: which number each name keeps so that the weights add up to the
-//! most, with potentials that certify it. Successive shortest augmenting paths with dual potentials (Kuhn 1955,
-//! Munkres 1957; the search with reduced weights is that of Edmonds and Karp 1972 and of Tomizawa 1971) over sparse
-//! rows. They begin with a guess, which is checked (certifying algorithms: McConnell, Mehlhorn, Naeher and
-//! Schweitzer 2011).
+//! The least re-owning as an assignment problem: which number each name keeps so that the weights
+//! add up to the most, with potentials that certify it. Successive shortest augmenting paths with
+//! dual potentials (Kuhn 1955, Munkres 1957; the search with reduced weights is that of Edmonds and
+//! Karp 1972 and of Tomizawa 1971) over sparse rows. They begin with a guess, which is checked
+//! (certifying algorithms: McConnell, Mehlhorn, Naeher and Schweitzer 2011).
 #![tactic(auto)]
 
 ghost use Rattle.std.specs.Prelude.{IfOk, List};
@@ -31,7 +31,8 @@ use ownership::Mapping;
 use std::alloc::{AllocError, Global};
 use thiserror::Error;
 
-/// A mapping of the greatest weight, and potentials that certify it. Potentials are in the unit of the rows' weights.
+/// A mapping of the greatest weight, and potentials that certify it. Potentials are in the unit of
+/// the rows' weights.
 #[derive(Drop)]
 pub struct Solution {
     /// The number of each name.
@@ -55,26 +56,36 @@ impl From<AllocError> for SolveFault {
     }
 }
 
-/// The mapping that leaves the most weight as it is, with potentials that certify it. Names that keep no candidate have, in
-/// byte order, the smallest numbers of their pools that no name had before. It fails for want of memory alone.
+/// The mapping that leaves the most weight as it is, with potentials that certify it. Names that
+/// keep no candidate have, in byte order, the smallest numbers of their pools that no name had
+/// before. It fails for want of memory alone.
 ///
-/// It begins with a guess, made in flat lists: names are served many in one turn, or alone where that is cheaper.
-/// What of the guess is seen to be right is kept, and names that are left are served one by one, each by a search
-/// for a shortest augmenting path, which ends once nothing is nearer than the nearest way out that it saw: a number
-/// that nobody has, or a name that leaves. A turn or a search that reaches names with E candidates takes E log E
-/// steps. A turn of all names serves at least one of them and mostly many; a search reaches a further name only
-/// over a number that this name was given, and no table of the site's size is cleared or read for it. So the time
-/// is near linear where few names want one number, where most names find one that is free, and where many weights
-/// are equal; at worst it is all names times all candidates times a logarithm. Of memory the guess takes at most 40
-/// bytes a candidate, some 100 a name and 40 a number, beside what its lists have to spare; then a name takes 24
-/// bytes and a number that was given some 80, beside one search's names and candidates and the memory of the fill.
+/// It begins with a guess, made in flat lists: names are served many in one turn, or alone where
+/// that is cheaper. What of the guess is seen to be right is kept, and names that are left are
+/// served one by one, each by a search for a shortest augmenting path, which ends once nothing is
+/// nearer than the nearest way out that it saw: a number that nobody has, or a name that leaves. A
+/// turn or a search that reaches names with E candidates takes E log E steps. A turn of all names
+/// serves at least one of them and mostly many; a search reaches a further name only over a number
+/// that this name was given, and no table of the site's size is cleared or read for it. So the time
+/// is near linear where few names want one number, where most names find one that is free, and
+/// where many weights are equal; at worst it is all names times all candidates times a logarithm.
+/// Of memory the guess takes at most 40 bytes a candidate, some 100 a name and 40 a number, beside
+/// what its lists have to spare; then a name takes 24 bytes and a number that was given some 80,
+/// beside one search's names and candidates and the memory of the fill.
 pub fn solve(alloc: Global, rows: &Rows<'_, '_>) -> Result<Solution, SolveFault>
     ensures admissible { IfOk result (λ s. IsAdmissible rows.now.accounts s.mapping) }
     ensures proves { IfOk result (λ s. Proves rows.now s.mapping s.y.items s.z.items) }
-    ensures filled { IfOk result (λ s. IsFilled rows.now.accounts (IsFreshIn rows.now s.mapping) s.mapping) }
-    ensures certifies { IfOk result (λ s. (files : List File) → AreRowsOf rows.now files → AreCertifying rows.now.accounts files s.mapping s.y.items s.z.items) }
-    ensures optimal { IfOk result (λ s. (files : List File) → AreRowsOf rows.now files → IsOptimal rows.now.accounts files s.mapping) }
-    ensures fresh { IfOk result (λ s. (files : List File) → AreRowsOf rows.now files → IsFilled rows.now.accounts (IsFresh rows.now.accounts files s.mapping) s.mapping) }
+    ensures filled { IfOk result
+        (λ s. IsFilled rows.now.accounts (IsFreshIn rows.now s.mapping) s.mapping) }
+    ensures certifies { IfOk result
+        (λ s. (files : List File) → AreRowsOf rows.now files
+        → AreCertifying rows.now.accounts files s.mapping s.y.items s.z.items) }
+    ensures optimal { IfOk result
+        (λ s. (files : List File) → AreRowsOf rows.now files
+        → IsOptimal rows.now.accounts files s.mapping) }
+    ensures fresh { IfOk result
+        (λ s. (files : List File) → AreRowsOf rows.now files
+        → IsFilled rows.now.accounts (IsFresh rows.now.accounts files s.mapping) s.mapping) }
 {
     let solver = Solver::solved(alloc, rows)?;
     let mapping = rows.fill_fresh(alloc, solver.pairs.given.as_slice())?;
@@ -86,8 +97,8 @@ pub fn solve(alloc: Global, rows: &Rows<'_, '_>) -> Result<Solution, SolveFault>
     })
 }
 
-/// Weak duality over rows: potentials that cover, and that together are what a mapping weighs, prove that no admissible mapping
-/// weighs more.
+/// Weak duality over rows: potentials that cover, and that together are what a mapping weighs,
+/// prove that no admissible mapping weighs more.
 pub fn weak_duality()
     ensures { WeakDuality }
 {}

@@ -1,5 +1,6 @@
 //! Which number each name was given, and which name each number.
-ghost use Rattle.std.specs.Prelude.{◌≡◌, ◌≢◌, ℕ, ◌<◌, length, IfOk, OnOk, cond, nat_eq, slice_index_or, Some, None};
+ghost use Rattle.std.specs.Prelude.{◌≡◌, ◌≢◌, ℕ, ◌<◌, length, IfOk, OnOk, cond, nat_eq};
+ghost use Rattle.std.specs.Prelude.{slice_index_or, Some, None};
 ghost use Rattle.std.specs.BTreeMap as btree;
 ghost use Rattle.std.specs.Ordering.{nat_cmp};
 ghost use Rattle.assignment.specs.Standing.{holds};
@@ -16,7 +17,9 @@ pub struct Pairs {
 }
 
 pub fn put<V: Drop>(map: &mut BTreeMap<u32, V>, number: u32, value: V) -> Result<(), AllocError>
-    ensures { OnOk result ((v : ℕ) → btree.get nat_cmp map.new v ≡ cond (nat_eq number v) (Some value) (btree.get nat_cmp map.old v)) }
+    ensures { OnOk result
+        ((v : ℕ) → btree.get nat_cmp map.new v
+        ≡ cond (nat_eq number v) (Some value) (btree.get nat_cmp map.old v)) }
 {
     map.insert(number, value)?;
     Ok(())
@@ -39,8 +42,10 @@ impl Pairs {
 
     /// Whether the number's owner is in the tree.
     pub fn holds(&self, tree: &Tree, number: u32) -> bool
-        requires { (n : ℕ) → btree.get nat_cmp self.now.owner number ≡ Some n → n < length tree.now.position.items }
-        ensures { result ≡ holds tree.now.position.items tree.now.names.items (length tree.now.names.items) (btree.get nat_cmp self.now.owner number) }
+        requires { (n : ℕ) → btree.get nat_cmp self.now.owner number ≡ Some n
+            → n < length tree.now.position.items }
+        ensures { result ≡ holds tree.now.position.items tree.now.names.items
+            (length tree.now.names.items) (btree.get nat_cmp self.now.owner number) }
     {
         match self.owner_of(number) {
             None => false,
@@ -53,10 +58,14 @@ impl Pairs {
         requires { name < length self.old.given.items }
         ensures held { IfOk result (λ held. held ≡ slice_index_or self.old.given.items name None) }
         ensures there { slice_index_or self.new.given.items name None ≡ Some number }
-        ensures others { (n : ℕ) → n ≢ name → slice_index_or self.new.given.items n None ≡ slice_index_or self.old.given.items n None }
+        ensures others { (n : ℕ) → n ≢ name
+            → slice_index_or self.new.given.items n None
+            ≡ slice_index_or self.old.given.items n None }
         ensures long { length self.new.given.items ≡ length self.old.given.items }
         ensures owns { OnOk result (btree.get nat_cmp self.new.owner number ≡ Some name) }
-        ensures other_owners { OnOk result ((v : ℕ) → v ≢ number → btree.get nat_cmp self.new.owner v ≡ btree.get nat_cmp self.old.owner v) }
+        ensures other_owners { OnOk result
+            ((v : ℕ) → v ≢ number → btree.get nat_cmp self.new.owner v
+            ≡ btree.get nat_cmp self.old.owner v) }
     {
         let held = self.given[name as usize];
         self.given[name as usize] = Some(number);
@@ -69,7 +78,9 @@ impl Pairs {
         requires { name < length self.old.given.items }
         ensures held { result ≡ slice_index_or self.old.given.items name None }
         ensures gone { slice_index_or self.new.given.items name None ≡ None }
-        ensures others { (n : ℕ) → n ≢ name → slice_index_or self.new.given.items n None ≡ slice_index_or self.old.given.items n None }
+        ensures others { (n : ℕ) → n ≢ name
+            → slice_index_or self.new.given.items n None
+            ≡ slice_index_or self.old.given.items n None }
         ensures long { length self.new.given.items ≡ length self.old.given.items }
         ensures owner { self.new.owner ≡ self.old.owner }
     {

@@ -1,12 +1,14 @@
 //! One search: from a waiting name to a number that nobody has, or to a name that leaves.
-ghost use Rattle.std.specs.Prelude.{◌≡◌, ℕ, ◌+◌, ◌-◌, ◌<◌, ◌≤◌, length, IfOk, OnOk, IfSome, ◌⊎◌, slice_index, slice_index_or, Some, None};
+ghost use Rattle.std.specs.Prelude.{◌≡◌, ℕ, ◌+◌, ◌-◌, ◌<◌, ◌≤◌, length, IfOk, OnOk, IfSome, ◌⊎◌};
+ghost use Rattle.std.specs.Prelude.{slice_index, slice_index_or, Some, None};
 ghost use Rattle.std.specs.BTreeMap as btree;
 ghost use Rattle.std.specs.Ordering.{nat_cmp};
 ghost use Rattle.std.specs.BinaryHeap.{heap_items};
 ghost use Rattle.assignment.specs.Solutions.{row_weight};
 ghost use Rattle.assignment.specs.Standing.{IsSlack, IsMet};
 ghost use Rattle.assignment.specs.Solving.{IsServing, IsSearching, IsFlipping, root_of};
-ghost use Rattle.assignment.specs.Lazy.{level_of, lowered_to, IsLazy, IsExit, IsFollowed, HasEdges, HasOtherEdges};
+ghost use Rattle.assignment.specs.Lazy.{level_of, lowered_to, IsLazy, IsExit, IsFollowed, HasEdges};
+ghost use Rattle.assignment.specs.Lazy.{HasOtherEdges};
 
 use crate::queue::{Edge, Queue};
 use crate::solver::Solver;
@@ -38,8 +40,8 @@ impl Nearest {
 }
 
 impl Solver<'_, '_, '_> {
-    /// Follows an edge, and tells the exit that is left: the edge's, if it is nearer and nobody has its number. If somebody
-    /// has it, who is not in the tree yet, the edge waits in the queue.
+    /// Follows an edge, and tells the exit that is left: the edge's, if it is nearer and nobody has
+    /// its number. If somebody has it, who is not in the tree yet, the edge waits in the queue.
     fn follow(
         &self,
         tree: &Tree,
@@ -47,8 +49,11 @@ impl Solver<'_, '_, '_> {
         edge: Edge,
         exit: Nearest,
     ) -> Result<Nearest, AllocError>
-        requires { (n : ℕ) → btree.get nat_cmp self.now.pairs.owner edge.2 ≡ Some n → n < length tree.now.position.items }
-        ensures { IfOk result (λ after. IsFollowed self.now tree.now (heap_items queue.old.heap) (heap_items queue.new.heap) edge exit after) }
+        requires { (n : ℕ) → btree.get nat_cmp self.now.pairs.owner edge.2 ≡ Some n
+            → n < length tree.now.position.items }
+        ensures { IfOk result
+            (λ after. IsFollowed self.now tree.now (heap_items queue.old.heap)
+            (heap_items queue.new.heap) edge exit after) }
     {
         let (Reverse(level), Reverse(at), number) = edge;
         if level >= exit.level {
@@ -84,7 +89,9 @@ impl Solver<'_, '_, '_> {
         requires edges { HasEdges self.now tree.now now exit.level (heap_items queue.old.heap) at }
         ensures exit { IfOk result (λ e. IsExit self.now tree.now e) }
         ensures later { IfOk result (λ e. now ≤ e.level) }
-        ensures edges { IfOk result (λ e. HasEdges self.now tree.now now e.level (heap_items queue.new.heap) (length tree.now.names.items)) }
+        ensures edges { IfOk result
+            (λ e. HasEdges self.now tree.now now e.level (heap_items queue.new.heap)
+            (length tree.now.names.items)) }
     {
         let name = tree.names[at];
         let high = self.duals.y[name as usize];
@@ -103,18 +110,27 @@ impl Solver<'_, '_, '_> {
         Ok(exit)
     }
 
-    /// The nearest edge of the queue to a number that the tree does not hold, or the exit, if that is no farther.
+    /// The nearest edge of the queue to a number that the tree does not hold, or the exit, if that
+    /// is no farther.
     fn next(&self, tree: &Tree, queue: &mut Queue, now: u64, exit: Nearest) -> Nearest
         requires searching { IsLazy self.now tree.now now }
         requires exit { IsExit self.now tree.now exit }
         requires later { now ≤ exit.level }
-        requires edges { HasEdges self.now tree.now now exit.level (heap_items queue.old.heap) (length tree.now.names.items) }
+        requires edges { HasEdges self.now tree.now now exit.level (heap_items queue.old.heap)
+            (length tree.now.names.items) }
         ensures later { now ≤ result.level }
         ensures below { result.level ≤ exit.level }
-        ensures slack { IsSlack (row_weight self.now.rows.now) (lowered_to self.now.duals self.now.pairs tree.now now) tree.now.position.items tree.now.names.items (result.level - now) }
+        ensures slack { IsSlack (row_weight self.now.rows.now)
+            (lowered_to self.now.duals self.now.pairs tree.now now) tree.now.position.items
+            tree.now.names.items (result.level - now) }
         ensures within { result.at < length tree.now.names.items }
-        ensures met { IsMet (row_weight self.now.rows.now) (lowered_to self.now.duals self.now.pairs tree.now now) tree.now.position.items tree.now.names.items (result.level - now) result.at result.number }
-        ensures rest { IfSome result.number (λ v. (n : ℕ) → btree.get nat_cmp self.now.pairs.owner v ≡ Some n → HasOtherEdges self.now tree.now result.level exit.level (heap_items queue.new.heap) v) }
+        ensures met { IsMet (row_weight self.now.rows.now)
+            (lowered_to self.now.duals self.now.pairs tree.now now) tree.now.position.items
+            tree.now.names.items (result.level - now) result.at result.number }
+        ensures rest { IfSome result.number
+            (λ v. (n : ℕ) → btree.get nat_cmp self.now.pairs.owner v ≡ Some n
+            → HasOtherEdges self.now tree.now result.level exit.level (heap_items queue.new.heap)
+            v) }
     {
         while let Some((Reverse(level), Reverse(at), number)) = queue.pop() {
             if exit.level <= level {
@@ -131,7 +147,8 @@ impl Solver<'_, '_, '_> {
         exit
     }
 
-    /// Gives the number to the name at a position of the tree, its number to the one before it, and so on to the first.
+    /// Gives the number to the name at a position of the tree, its number to the one before it, and
+    /// so on to the first.
     fn flip(&mut self, tree: &Tree, mut at: usize, mut number: u32) -> Result<(), AllocError>
         requires { IsFlipping self.old tree.now at number }
         ensures rows { self.new.rows.now ≡ self.old.rows.now }
@@ -147,11 +164,13 @@ impl Solver<'_, '_, '_> {
         }
     }
 
-    /// The name at a position of the tree leaves, since its y is 0, and its number goes to the name before it.
+    /// The name at a position of the tree leaves, since its y is 0, and its number goes to the name
+    /// before it.
     fn leave(&mut self, tree: &Tree, at: usize) -> Result<(), AllocError>
         requires searching { IsSearching self.old tree.now }
         requires at { at < length tree.now.names.items }
-        requires zero { slice_index self.old.duals.y.items (slice_index tree.now.names.items at) ≡ 0 }
+        requires zero { slice_index self.old.duals.y.items (slice_index tree.now.names.items at)
+            ≡ 0 }
         ensures rows { self.new.rows.now ≡ self.old.rows.now }
         ensures served { OnOk result (IsServing self.new (root_of tree.now + 1)) }
     {
@@ -163,7 +182,8 @@ impl Solver<'_, '_, '_> {
         self.flip(tree, parent, number)
     }
 
-    /// Serves the next name: it has a number afterwards, or its y is 0. Others may have another number, or leave.
+    /// Serves the next name: it has a number afterwards, or its y is 0. Others may have another
+    /// number, or leave.
     pub fn search(
         &mut self,
         tree: &mut Tree,

@@ -27,8 +27,8 @@ fn has_weight(row: &[Candidate], number: u32, weight: u64) -> bool
 }
 
 impl<'r, 'n, 'a> Solver<'r, 'n, 'a> {
-    /// With these potentials of the numbers, and the least of the names that cover all with them. Nobody has a
-    /// number yet.
+    /// With these potentials of the numbers, and the least of the names that cover all with them.
+    /// Nobody has a number yet.
     fn new(alloc: Global, rows: &'r Rows<'n, 'a>, z: BTreeMap<u32, u64>) -> Result<Self, AllocError>
         ensures rows { IfOk result (λ s. s.rows.now ≡ rows.now) }
         ensures z { IfOk result (λ s. s.duals.z ≡ z) }

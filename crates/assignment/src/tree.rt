@@ -4,9 +4,10 @@ ghost use Rattle.assignment.specs.Standing.{among};
 
 use std::alloc::{AllocError, Global};
 
-/// The names that a search has reached, in the order in which it did: each with the index in this tree of the one that it was
-/// reached from, and the level at which it was. A name is in the tree where its `position` is an index that has the name; so
-/// nothing needs to be cleared for the next search.
+/// The names that a search has reached, in the order in which it did: each with the index in this
+/// tree of the one that it was reached from, and the level at which it was. A name is in the tree
+/// where its `position` is an index that has the name; so nothing needs to be cleared for the next
+/// search.
 #[derive(Drop)]
 pub struct Tree {
     pub position: Vec<usize>,
@@ -31,7 +32,8 @@ impl Tree {
     /// Whether a name is in the tree.
     pub fn has(&self, name: u32) -> bool
         requires { name < length self.now.position.items }
-        ensures { result ≡ among self.now.position.items self.now.names.items (length self.now.names.items) name }
+        ensures { result ≡ among self.now.position.items self.now.names.items
+            (length self.now.names.items) name }
     {
         let at = self.position[name as usize];
         at < self.names.len() && self.names[at] == name
@@ -41,7 +43,8 @@ impl Tree {
     pub fn start(&mut self, root: u32) -> Result<(), AllocError>
         requires { root < length self.old.position.items }
         ensures long { length self.new.position.items ≡ length self.old.position.items }
-        ensures position { OnOk result (self.new.position.items ≡ slice_set self.old.position.items root 0) }
+        ensures position { OnOk result
+            (self.new.position.items ≡ slice_set self.old.position.items root 0) }
         ensures names { OnOk result (self.new.names.items ≡ root ∷ []) }
         ensures parents { OnOk result (self.new.parents.items ≡ 0 ∷ []) }
         ensures levels { OnOk result (self.new.levels.items ≡ 0 ∷ []) }
@@ -60,9 +63,12 @@ impl Tree {
     pub fn push(&mut self, name: u32, parent: usize, level: u64) -> Result<(), AllocError>
         requires { name < length self.old.position.items }
         ensures long { length self.new.position.items ≡ length self.old.position.items }
-        ensures position { OnOk result (self.new.position.items ≡ slice_set self.old.position.items name (length self.old.names.items)) }
+        ensures position { OnOk result
+            (self.new.position.items
+            ≡ slice_set self.old.position.items name (length self.old.names.items)) }
         ensures names { OnOk result (self.new.names.items ≡ self.old.names.items ++ name ∷ []) }
-        ensures parents { OnOk result (self.new.parents.items ≡ self.old.parents.items ++ parent ∷ []) }
+        ensures parents { OnOk result
+            (self.new.parents.items ≡ self.old.parents.items ++ parent ∷ []) }
         ensures levels { OnOk result (self.new.levels.items ≡ self.old.levels.items ++ level ∷ []) }
     {
         self.position[name as usize] = self.names.len();

@@ -1,6 +1,8 @@
 -- Rows: the candidates of each name, with their weights.
--- Source: the assignment problem (a matrix of weights); which numbers are candidates is this project's own rule.
-use Rattle.std.specs.Prelude.{◌≡◌, ℕ, ◌<◌, ◌≤◌, ◌^◌, ◌==◌, if◌then◌else◌, true, List, [], ◌∷◌, length, slice_index_or}
+-- Source: the assignment problem (a matrix of weights); which numbers are candidates is this
+-- project's own rule.
+use Rattle.std.specs.Prelude.{◌≡◌, ℕ, ◌<◌, ◌≤◌, ◌^◌, ◌==◌, if◌then◌else◌, true, List, [], ◌∷◌}
+use Rattle.std.specs.Prelude.{length, slice_index_or}
 use Rattle.std.specs.List.{All}
 use Rattle.hosts_join.specs.Accounts.{Accounts}
 use Rattle.hosts_join.specs.Lawful.{AreLawfulAccounts}
@@ -29,12 +31,14 @@ abbrev pub weight_in : List Candidate → ℕ → ℕ
 weight_in [] v = 0
 weight_in (c ∷ row) v = if c.number == v then c.weight else weight_in row v
 
--- The row of the name at an index: ascending, nothing of weight 0, and each number of the pool has its weight there, where a
--- number that does not stand in the row has 0. So the row has exactly the candidates. (A pinned name has the empty pool.)
+-- The row of the name at an index: ascending, nothing of weight 0, and each number of the pool has
+-- its weight there, where a number that does not stand in the row has 0. So the row has exactly the
+-- candidates. (A pinned name has the empty pool.)
 pub record IsRow (a : Accounts) (files : List File) (i : ℕ) (row : List Candidate) : Type 0 where
   pub ascending : IsAscending row
   pub weighed : All IsWeighed row
-  pub weights : (v : ℕ) → weight_in row v ≡ (if in_pool a (class_at a i) v then weight a files i v else 0)
+  pub weights : (v : ℕ) → weight_in row v
+      ≡ (if in_pool a (class_at a i) v then weight a files i v else 0)
 
 -- the rows of all names, and the accounts that they are of
 pub record Choices : Type 0 where
@@ -47,7 +51,8 @@ row_at rows i = slice_index_or rows i []
 
 -- each name has its row for the files
 abbrev pub AreRowsOf : Choices → List File → Type 0
-AreRowsOf c files = (i : ℕ) → i < length c.accounts.names → IsRow c.accounts files i (row_at c.rows i)
+AreRowsOf c files =
+    (i : ℕ) → i < length c.accounts.names → IsRow c.accounts files i (row_at c.rows i)
 
 -- what a row is, whatever the files are
 pub record IsLawfulRow (a : Accounts) (i : ℕ) (row : List Candidate) : Type 0 where

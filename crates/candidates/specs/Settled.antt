@@ -1,6 +1,8 @@
 -- The numbers of names while the fill goes on.
 -- Words of the code and not of the subject: only private contracts, views and invariants cite them.
-use Rattle.std.specs.Prelude.{◌≡◌, ◌≢◌, ℕ, ◌+◌, ◌<◌, ◌≤◌, ◌==◌, ◌&&◌, nat_lt, if◌then◌else◌, Bool, true, false, List, [], length, slice_index_or, slice_set, Option, Some, None}
+use Rattle.std.specs.Prelude.{◌≡◌, ◌≢◌, ℕ, ◌+◌, ◌<◌, ◌≤◌, ◌==◌, ◌&&◌, nat_lt, if◌then◌else◌, Bool}
+use Rattle.std.specs.Prelude.{true, false, List, [], length, slice_index_or, slice_set, Option}
+use Rattle.std.specs.Prelude.{Some, None}
 use Rattle.std.specs.List.{list_any, count_by, All}
 use Rattle.std.specs.Option.{is_none}
 use Rattle.std.specs.Cmp.Lexicographic.{slice_cmp}
@@ -37,7 +39,8 @@ abbrev pub KnowsNumbers : Inside → Type 0
 KnowsNumbers f = (v : ℕ) → contains nat_eq f.had v ≡ is_had f.numbers.items v
 
 -- one more name has the least number of its pool, from the cursor on, that no name has
-pub record IsGiven (pool : List IdRange) (old new : List (Option ℕ)) (i from next : ℕ) : Type 0 where
+pub record IsGiven (pool : List IdRange) (old new : List (Option ℕ)) (i from next : ℕ) :
+    Type 0 where
   pub number : ℕ
   pub next_is : next ≡ number + 1
   pub member : in_runs pool number ≡ true
@@ -65,16 +68,22 @@ abbrev pub times : ℕ → List (List ℕ × ℕ) → ℕ
 times i waiting = count_by (λ w. w.1 == i) waiting
 
 -- The list has each name without a number once, and its names do not descend in byte order.
-pub record AreWaiting (a : Accounts) (numbers : List (Option ℕ)) (waiting : List (List ℕ × ℕ)) : Type 0 where
-  pub once : (i : ℕ) → times i waiting ≡ (if nat_lt i (length a.names) && is_none (gift numbers i) then 1 else 0)
+pub record AreWaiting (a : Accounts) (numbers : List (Option ℕ)) (waiting : List (List ℕ × ℕ)) :
+    Type 0 where
+  pub once : (i : ℕ) → times i waiting
+      ≡ (if nat_lt i (length a.names) && is_none (gift numbers i) then 1 else 0)
   pub named : All (λ w. w.0 ≡ (account a w.1).name) waiting
-  pub ordered : (j k : ℕ) → j < k → k < length waiting → slice_cmp nat_cmp (slice_index_or waiting k no_waiting).0 (slice_index_or waiting j no_waiting).0 ≢ Less
+  pub ordered : (j k : ℕ) → j < k → k < length waiting
+      → slice_cmp nat_cmp (slice_index_or waiting k no_waiting).0
+      (slice_index_or waiting j no_waiting).0 ≢ Less
 
--- Before the fill: a number for each pinned name, numbers of their pools for some free ones, and no number twice.
+-- Before the fill: a number for each pinned name, numbers of their pools for some free ones, and no
+-- number twice.
 pub record IsStart (a : Accounts) (numbers : List (Option ℕ)) : Type 0 where
   pub len : length numbers ≡ length a.names
   pub pinned : (i v : ℕ) → i < length numbers → class_at a i ≡ Pinned v → gift numbers i ≡ Some v
-  pub pooled : (i v : ℕ) → is_free_class (class_at a i) ≡ true → gift numbers i ≡ Some v → in_pool a (class_at a i) v ≡ true
+  pub pooled : (i v : ℕ) → is_free_class (class_at a i) ≡ true → gift numbers i ≡ Some v
+      → in_pool a (class_at a i) v ≡ true
   pub distinct : (i j v : ℕ) → gift numbers i ≡ Some v → gift numbers j ≡ Some v → i ≡ j
 
 -- a name has the number, and one that has waited stands before the name at i
@@ -88,7 +97,8 @@ pub record HasLeast (a : Accounts) (start numbers : List (Option ℕ)) (i : ℕ)
   pub number : ℕ
   pub has : gift numbers i ≡ Some number
   pub member : in_pool a (class_at a i) number ≡ true
-  pub least : (u : ℕ) → in_pool a (class_at a i) u ≡ true → u < number → HadBefore a start numbers i u
+  pub least : (u : ℕ) → in_pool a (class_at a i) u ≡ true → u < number
+      → HadBefore a start numbers i u
 
 -- After the fill.
 pub record IsDone (a : Accounts) (start numbers : List (Option ℕ)) : Type 0 where

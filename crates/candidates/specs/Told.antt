@@ -8,6 +8,8 @@ use Rattle.candidates.specs.declared.Candidate.{Candidate}
 use Rattle.ownership.specs.Weights.{told_weight}
 use Rattle.candidates.specs.Rows.{IsLawfulRow, weight_in}
 
-pub record IsToldRow (a : Accounts) (tallies : List Tally) (i : ℕ) (row : List Candidate) : Type 0 where
+pub record IsToldRow (a : Accounts) (tallies : List Tally) (i : ℕ) (row : List Candidate) :
+    Type 0 where
   pub lawful : IsLawfulRow a i row
-  pub weights : (v : ℕ) → weight_in row v ≡ (if in_pool a (class_at a i) v then told_weight a tallies i v else 0)
+  pub weights : (v : ℕ) → weight_in row v
+      ≡ (if in_pool a (class_at a i) v then told_weight a tallies i v else 0)

@@ -29,7 +29,9 @@ pub fn settle(
 ) -> Result<Vec<Option<u32>>, AllocError>
     requires { length given.now ≡ length names.now.names }
     ensures len { IfOk result (λ ns. length ns.items ≡ length names.now.names) }
-    ensures numbers { IfOk result (λ ns. (i : ℕ) → i < length names.now.names → gift ns.items i ≡ settled names.now given.now i) }
+    ensures numbers { IfOk result
+        (λ ns. (i : ℕ) → i < length names.now.names
+        → gift ns.items i ≡ settled names.now given.now i) }
 {
     let mut numbers = Vec::with_capacity(alloc, given.len())?;
     for index in 0..names.len() {
@@ -45,7 +47,8 @@ pub fn waiting<'a>(
     numbers: &[Option<u32>],
 ) -> Result<Vec<Waiting<'a>>, AllocError>
     requires { length numbers.now ≡ length names.now.names }
-    ensures { IfOk result (λ ws. AreWaiting names.now numbers.now (map (λ w. (w.0.now, w.1)) ws.items)) }
+    ensures { IfOk result
+        (λ ws. AreWaiting names.now numbers.now (map (λ w. (w.0.now, w.1)) ws.items)) }
 {
     let mut waiting: Vec<Waiting<'a>> = Vec::new(alloc);
     for index in 0..names.len() {

@@ -1,5 +1,6 @@
 //! The numbers of names while the fill goes on.
-ghost use Rattle.std.specs.Prelude.{◌≡◌, ℕ, ◌<◌, ◌≤◌, true, false, length, OnOk, IfOk, IfSome, IfNone, None, Some, nat_eq, slice_index_or, slice_set};
+ghost use Rattle.std.specs.Prelude.{◌≡◌, ℕ, ◌<◌, ◌≤◌, true, false, length, OnOk, IfOk, IfSome};
+ghost use Rattle.std.specs.Prelude.{IfNone, None, Some, nat_eq, slice_index_or, slice_set};
 ghost use Rattle.std.specs.HashSet.{contains};
 ghost use Rattle.hosts_join.specs.Pool.{in_runs};
 ghost use Rattle.candidates.specs.Fill.{gift};
@@ -76,8 +77,11 @@ impl Filling {
         requires ids { AreIds pool.now }
         ensures member { IfSome result (λ v. in_runs pool.now v ≡ true) }
         ensures fresh { IfSome result (λ v. is_had self.now v ≡ false) }
-        ensures least { IfSome result (λ v. (u : ℕ) → from ≤ u → u < v → in_runs pool.now u ≡ true → is_had self.now u ≡ true) }
-        ensures none { IfNone result ((u : ℕ) → from ≤ u → in_runs pool.now u ≡ true → is_had self.now u ≡ true) }
+        ensures least { IfSome result
+            (λ v. (u : ℕ) → from ≤ u → u < v → in_runs pool.now u ≡ true
+            → is_had self.now u ≡ true) }
+        ensures none { IfNone result
+            ((u : ℕ) → from ≤ u → in_runs pool.now u ≡ true → is_had self.now u ≡ true) }
     {
         let mut cursor = from;
         while let Some(number) = pool.next_from(cursor) {
@@ -89,8 +93,8 @@ impl Filling {
         None
     }
 
-    /// Gives to the name at an index the least number of the pool, from a cursor on, that no name has; and answers the next
-    /// cursor.
+    /// Gives to the name at an index the least number of the pool, from a cursor on, that no name
+    /// has; and answers the next cursor.
     pub fn give(&mut self, pool: &Pool, index: u32, from: u32) -> Result<u32, AllocError>
         requires within { index < length self.old }
         requires none { gift self.old index ≡ None }
@@ -111,7 +115,9 @@ impl Filling {
     pub fn finish(&self, alloc: Global) -> Result<Vec<u32>, AllocError>
         requires { (i : ℕ) → i < length self.now → gift self.now i ≡ None → ⊥ }
         ensures len { IfOk result (λ m. length m.items ≡ length self.now) }
-        ensures numbers { IfOk result (λ m. (i : ℕ) → i < length self.now → gift self.now i ≡ Some (slice_index_or m.items i 0)) }
+        ensures numbers { IfOk result
+            (λ m. (i : ℕ) → i < length self.now
+            → gift self.now i ≡ Some (slice_index_or m.items i 0)) }
     {
         let mut finished = Vec::with_capacity(alloc, self.numbers.len())?;
         for number in self.numbers.as_slice() {

@@ -1,5 +1,5 @@
-//! Candidates: the numbers that a free name may keep, with their weights; and the fill, which gives fresh numbers to the names
-//! that keep none.
+//! Candidates: the numbers that a free name may keep, with their weights; and the fill, which gives
+//! fresh numbers to the names that keep none.
 #![tactic(auto)]
 
 ghost use Rattle.std.specs.Prelude.{◌≡◌, ℕ, ◌<◌, ◌≤◌, ◌↔◌, ◌==◌, ◌&&◌, length, List, IfOk, Some};
@@ -26,15 +26,17 @@ use smallvec::SmallVec;
 use std::alloc::{AllocError, Global};
 use std::marker::Model;
 
-/// A number that a name may keep, with its weight: `B * kept + lines`, where B is one more than all account rows of the
-/// kind, `kept` counts the files of the name on the hosts where it has the number, and `lines` those hosts.
+/// A number that a name may keep, with its weight: `B * kept + lines`, where B is one more than all
+/// account rows of the kind, `kept` counts the files of the name on the hosts where it has the
+/// number, and `lines` those hosts.
 #[derive(Clone, Copy, Debug, Default, PartialEq, Eq)]
 pub struct Candidate {
     pub number: u32,
     pub weight: u64,
 }
 
-/// The candidates of each name, by the name's index. A contract sees the accounts of the names, and the rows.
+/// The candidates of each name, by the name's index. A contract sees the accounts of the names, and
+/// the rows.
 #[derive(Drop)]
 pub struct Rows<'n, 'a> {
     names: &'n Names<'a>,
@@ -55,7 +57,9 @@ impl<'n, 'a> Model for Rows<'n, 'a> {
 /// The numbers of spots that are in the pool, ascending.
 fn pooled(alloc: Global, spots: &[Spot], pool: &Pool) -> Result<Vec<u32>, AllocError>
     ensures ascending { IfOk result (λ ns. AreAscending ns.items) }
-    ensures numbers { IfOk result (λ ns. (v : ℕ) → list_any (λ t. t == v) ns.items ≡ (in_runs pool.now v && list_any (λ s. s.number == v) spots.now)) }
+    ensures numbers { IfOk result
+        (λ ns. (v : ℕ) → list_any (λ t. t == v) ns.items
+        ≡ (in_runs pool.now v && list_any (λ s. s.number == v) spots.now)) }
 {
     let mut numbers = Vec::new(alloc);
     for spot in spots {
@@ -96,13 +100,15 @@ fn candidates_of(
 }
 
 impl<'n, 'a> Rows<'n, 'a> {
-    /// The candidates of each name, weighed by the files that were counted. Asked is that the counters were made for these
-    /// names, and that none is above 2147483648, as those that `Counts::users` and `Counts::groups` lend.
+    /// The candidates of each name, weighed by the files that were counted. Asked is that the
+    /// counters were made for these names, and that none is above 2147483648, as those that
+    /// `Counts::users` and `Counts::groups` lend.
     ///
-    /// Near linear in the account rows: the numbers of a name, at most 64, are sorted, each is sought in the pool by a
-    /// binary search, and its files and rows by a scan of the name's. A name takes 80 bytes, and with more than four
-    /// candidates up to 32 more for each; so an account row takes at most 80 bytes, and 64 hosts of 65,536 rows some
-    /// 336 MB. `AllocError` where memory is refused.
+    /// Near linear in the account rows: the numbers of a name, at most 64, are sorted, each is
+    /// sought in the pool by a binary search, and its files and rows by a scan of the name's. A
+    /// name takes 80 bytes, and with more than four candidates up to 32 more for each; so an
+    /// account row takes at most 80 bytes, and 64 hosts of 65,536 rows some 336 MB. `AllocError`
+    /// where memory is refused.
     pub fn build(
         alloc: Global,
         names: &'n Names<'a>,
@@ -111,8 +117,13 @@ impl<'n, 'a> Rows<'n, 'a> {
         requires made { AreMadeFor names.now.names counts.now }
         requires few { AreWithin counts.now 2147483648 }
         ensures accounts { IfOk result (λ r. r.accounts ≡ names.now) }
-        ensures rows { IfOk result (λ r. (files : List File) → CountFiles names.now.names counts.now files → AreRowsOf r files) }
-        ensures candidates { IfOk result (λ r. (files : List File) → CountFiles names.now.names counts.now files → (i v : ℕ) → i < length names.now.names → IsCandidate names.now files i v ↔ (1 ≤ weight_in (row_at r.rows i) v)) }
+        ensures rows { IfOk result
+            (λ r. (files : List File) → CountFiles names.now.names counts.now files
+            → AreRowsOf r files) }
+        ensures candidates { IfOk result
+            (λ r. (files : List File) → CountFiles names.now.names counts.now files → (i v : ℕ)
+            → i < length names.now.names → IsCandidate names.now files i v
+            ↔ (1 ≤ weight_in (row_at r.rows i) v)) }
     {
         let mut rows = Vec::with_capacity(alloc, names.len() as usize)?;
         for index in 0..names.len() {
@@ -129,7 +140,8 @@ impl<'n, 'a> Rows<'n, 'a> {
         self.names.len()
     }
 
-    /// The candidates of the name at an index, ascending by number; none for a pinned name. No cost.
+    /// The candidates of the name at an index, ascending by number; none for a pinned name. No
+    /// cost.
     pub fn row(&self, index: u32) -> &[Candidate]
         requires { index < length self.now.rows }
         ensures { result.now ≡ row_at self.now.rows index }
@@ -140,23 +152,27 @@ impl<'n, 'a> Rows<'n, 'a> {
     /// The pool of the name at an index; it has no number for a pinned name. No cost.
     pub fn pool_of(&self, index: u32) -> &Pool
         requires { index < length self.now.rows }
-        ensures { (v : ℕ) → in_runs result.now v ≡ in_pool self.now.accounts (class_at self.now.accounts index) v }
+        ensures { (v : ℕ) → in_runs result.now v
+            ≡ in_pool self.now.accounts (class_at self.now.accounts index) v }
     {
         self.names.pool(self.names.class(index))
     }
 
-    /// The mapping in which pinned names have their pins, the given numbers stay, and every other name, in byte order, has
-    /// the smallest number of its pool that no name had before. Asked is one item for each name, in which a number is a
-    /// candidate of the name, and no number twice.
+    /// The mapping in which pinned names have their pins, the given numbers stay, and every other
+    /// name, in byte order, has the smallest number of its pool that no name had before. Asked is
+    /// one item for each name, in which a number is a candidate of the name, and no number twice.
     ///
-    /// Near linear in the names, but for one sort of those that wait: each class has a cursor that walks its pool once, by
-    /// a binary search and a look-up by hash for each number. It takes some 60 to 100 bytes a name while it runs, and
-    /// leaves the mapping. `AllocError` where memory is refused.
+    /// Near linear in the names, but for one sort of those that wait: each class has a cursor that
+    /// walks its pool once, by a binary search and a look-up by hash for each number. It takes some
+    /// 60 to 100 bytes a name while it runs, and leaves the mapping. `AllocError` where memory is
+    /// refused.
     pub fn fill_fresh(&self, alloc: Global, given: &[Option<u32>]) -> Result<Mapping, AllocError>
         requires { IsPartial self.now given.now }
         ensures admissible { IfOk result (IsAdmissible self.now.accounts) }
-        ensures given_stay { IfOk result (λ m. (i v : ℕ) → gift given.now i ≡ Some v → number_at m i ≡ v) }
-        ensures filled { IfOk result (IsFilled self.now.accounts (Waits self.now.accounts given.now)) }
+        ensures given_stay { IfOk result
+            (λ m. (i v : ℕ) → gift given.now i ≡ Some v → number_at m i ≡ v) }
+        ensures filled { IfOk result
+            (IsFilled self.now.accounts (Waits self.now.accounts given.now)) }
     {
         let settled = settle(alloc, self.names, given)?;
         let waiting = waiting(alloc, self.names, settled.as_slice())?;

@@ -23,7 +23,9 @@ abbrev pub ComesBefore : List ℕ → List ℕ → Type 0
 ComesBefore n m = slice_cmp nat_cmp n m ≡ Less
 
 abbrev pub AreAscending : List Row → Type 0
-AreAscending rows = (i j : ℕ) (d : Row) → i < j → j < length rows → ComesBefore (slice_index_or rows i d).name (slice_index_or rows j d).name
+AreAscending rows =
+    (i j : ℕ) (d : Row) → i < j → j < length rows
+    → ComesBefore (slice_index_or rows i d).name (slice_index_or rows j d).name
 
 pub record IsRow (r : Row) : Type 0 where
   pub lawful : is_lawful_name r.name ≡ true

@@ -1,7 +1,10 @@
--- Why a certificate is refused: the first fault of a kind by what numbers weigh, and the answer for files.
--- Source: the assignment problem (coverage and equal sums: Kuhn 1955, Munkres 1957); the order of faults is this project's
--- own rule.
-use Rattle.std.specs.Prelude.{ℕ, zero, suc, ◌+◌, ◌^◌, Bool, false, not, ◌&&◌, ◌==◌, nat_lt, if◌then◌else◌, List, [], ◌∷◌, ◌++◌, length, map, filter, find, count_by, Option, Some, None, Result}
+-- Why a certificate is refused: the first fault of a kind by what numbers weigh, and the answer for
+-- files.
+-- Source: the assignment problem (coverage and equal sums: Kuhn 1955, Munkres 1957); the order of
+-- faults is this project's own rule.
+use Rattle.std.specs.Prelude.{ℕ, zero, suc, ◌+◌, ◌^◌, Bool, false, not, ◌&&◌, ◌==◌, nat_lt}
+use Rattle.std.specs.Prelude.{if◌then◌else◌, List, [], ◌∷◌, ◌++◌, length, map, filter, find}
+use Rattle.std.specs.Prelude.{count_by, Option, Some, None, Result}
 use Rattle.std.specs.Option.{option_map, option_map_or}
 use Rattle.std.specs.Ordering.{nat_cmp, is_lt}
 use Rattle.std.specs.Cmp.Lexicographic.{slice_cmp}
@@ -24,7 +27,9 @@ use Rattle.ownership.specs.Weights.{weight}
 use Rattle.certcheck.specs.Certificate.{Row, Side}
 use Rattle.certcheck.specs.declared.certificate.Certificate.{Certificate}
 use Rattle.certcheck.specs.declared.fault.CheckFault.{CheckFault}
-use Rattle.certcheck.specs.declared.fault.CheckFault.TheVariants.{NameMissing, NumberTwice, OutsidePool, PinBroken, NotCovered, SumsDiffer}
+use Rattle.certcheck.specs.declared.fault.CheckFault.TheVariants.{NameMissing, NumberTwice}
+use Rattle.certcheck.specs.declared.fault.CheckFault.TheVariants.{OutsidePool, PinBroken}
+use Rattle.certcheck.specs.declared.fault.CheckFault.TheVariants.{NotCovered, SumsDiffer}
 
 -- the lesser of two names, in byte order
 abbrev pub lesser : Option (List ℕ) → Option (List ℕ) → Option (List ℕ)
@@ -63,11 +68,17 @@ potentials_of a rows = map (λ x. y_named rows x.name) a.names
 
 -- the mappings that a certificate gives
 abbrev pub mappings_of : Joined → Certificate → Mappings
-mappings_of site c = record { users = mapping_of site.users c.users.rows; groups = mapping_of site.groups c.groups.rows }
+mappings_of site c =
+    record {
+      users = mapping_of site.users c.users.rows;
+      groups = mapping_of site.groups c.groups.rows;
+    }
 
 -- the least name that stands in exactly one of site and certificate
 abbrev pub missing : Accounts → List Row → Option (List ℕ)
-missing a rows = least_name (filter (λ n. not (is_name a.names n)) (map (λ r. r.name) rows) ++ filter (λ n. not (is_listed rows n)) (map (λ x. x.name) a.names))
+missing a rows =
+    least_name (filter (λ n. not (is_name a.names n)) (map (λ r. r.name) rows)
+    ++ filter (λ n. not (is_listed rows n)) (map (λ x. x.name) a.names))
 
 -- the least number that two rows have
 abbrev pub repeated : List Row → Option ℕ
@@ -111,7 +122,8 @@ is_uncovered a w z i y v = in_pool a (class_at a i) v && nat_lt (y + value_at z 
 unfoldable pub uncovered_at : Accounts → (ℕ → ℕ → ℕ) → List (ℕ × ℕ) → ℕ → ℕ → Option ℕ
 uncovered_at a w z i y = least_below (is_uncovered a w z i y) (2 ^ 32)
 
-abbrev pub uncovered_in : Accounts → (ℕ → ℕ → ℕ) → List (ℕ × ℕ) → Row → Option ℕ → Option (List ℕ × ℕ)
+abbrev pub uncovered_in : Accounts → (ℕ → ℕ → ℕ) → List (ℕ × ℕ) → Row → Option ℕ
+    → Option (List ℕ × ℕ)
 uncovered_in a w z r None = None
 uncovered_in a w z r (Some i) = option_map (λ v. (r.name, v)) (uncovered_at a w z i r.y)
 
@@ -121,13 +133,16 @@ uncovered a w s = first_some (λ r. uncovered_in a w s.z r (place_of a.names r.n
 
 -- what the numbers of the free names weigh together
 abbrev pub weight_by : Accounts → (ℕ → ℕ → ℕ) → List ℕ → ℕ
-weight_by a w m = sum_below (λ i. if is_free_class (class_at a i) then w i (number_at m i) else 0) (length a.names)
+weight_by a w m =
+    sum_below (λ i. if is_free_class (class_at a i) then w i (number_at m i) else 0)
+    (length a.names)
 
 abbrev pub differ : Which → ℕ → ℕ → Option CheckFault
 differ kind total weighs = if total == weighs then None else Some (SumsDiffer kind total weighs)
 
 abbrev pub sums_differ : Which → Accounts → (ℕ → ℕ → ℕ) → Side → Option CheckFault
-sums_differ kind a w s = differ kind (potential_sum (potentials_of a s.rows) s.z) (weight_by a w (mapping_of a s.rows))
+sums_differ kind a w s =
+    differ kind (potential_sum (potentials_of a s.rows) s.z) (weight_by a w (mapping_of a s.rows))
 
 -- the first fault of a kind
 unfoldable pub kind_fault : Which → Accounts → (ℕ → ℕ → ℕ) → Side → Option CheckFault
@@ -141,4 +156,7 @@ kind_fault kind a w s =
 
 -- What the check answers for these files: the cost, or the first fault, users first.
 abbrev pub answer : Joined → List Added → Certificate → Result ℕ CheckFault
-answer site files c = unless (or_else (kind_fault User site.users (weight site.users (by_user files)) c.users) (kind_fault Group site.groups (weight site.groups (by_group files)) c.groups)) (site_cost site files (mappings_of site c))
+answer site files c =
+    unless (or_else (kind_fault User site.users (weight site.users (by_user files)) c.users)
+    (kind_fault Group site.groups (weight site.groups (by_group files)) c.groups))
+    (site_cost site files (mappings_of site c))

@@ -13,7 +13,9 @@ pub record IsCertificate (c : Certificate) : Type 0 where
 
 -- what is read from a text is spelled by it
 abbrev pub ReadsWhatIsSpelled : Type 0
-ReadsWhatIsSpelled = (text : List ℕ) (c : Certificate) → certificate_in text ≡ Ok c → IsCertificate c × (text ≡ spelling c)
+ReadsWhatIsSpelled =
+    (text : List ℕ) (c : Certificate) → certificate_in text ≡ Ok c → IsCertificate c
+    × (text ≡ spelling c)
 
 -- and what is spelled is read
 abbrev pub SpelledIsRead : Type 0
@@ -21,4 +23,6 @@ SpelledIsRead = (c : Certificate) → IsCertificate c → certificate_in (spelli
 
 -- no certificate begins another
 abbrev pub NoneBeginsAnother : Type 0
-NoneBeginsAnother = (one other : Certificate) (rest : List ℕ) → IsCertificate one → IsCertificate other → spelling other ≡ spelling one ++ rest → (one ≡ other) × (rest ≡ [])
+NoneBeginsAnother =
+    (one other : Certificate) (rest : List ℕ) → IsCertificate one → IsCertificate other
+    → spelling other ≡ spelling one ++ rest → (one ≡ other) × (rest ≡ [])

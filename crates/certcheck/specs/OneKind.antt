@@ -14,11 +14,13 @@ use Rattle.certcheck.specs.declared.fault.CheckFault.{CheckFault}
 
 -- the files that do not keep their number
 abbrev pub told_cost : Accounts → List Tally → List ℕ → ℕ
-told_cost a tallies m = sum_below (λ i. told_total tallies i - told_kept tallies i (number_at m i)) (length a.names)
+told_cost a tallies m =
+    sum_below (λ i. told_total tallies i - told_kept tallies i (number_at m i)) (length a.names)
 
 -- the cost of the mapping, or the first fault
 abbrev pub kind_answer : Which → Accounts → List Tally → Side → Result ℕ CheckFault
-kind_answer kind a tallies s = unless (kind_fault kind a (told_weight a tallies) s) (told_cost a tallies (mapping_of a s.rows))
+kind_answer kind a tallies s =
+    unless (kind_fault kind a (told_weight a tallies) s) (told_cost a tallies (mapping_of a s.rows))
 
 -- no counter of a name is above its files, and those are few
 pub record AreBounded (a : Accounts) (tallies : List Tally) : Type 0 where

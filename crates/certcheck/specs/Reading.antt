@@ -1,6 +1,8 @@
 -- What a certificate text says, line by line. Each line is judged by the line before it.
 -- Source: this project's own format.
-use Rattle.std.specs.Prelude.{ℕ, ◌-◌, Bool, true, false, not, ◌&&◌, ◌==◌, nat_lt, nat_le, min, if◌then◌else◌, List, [], ◌∷◌, length, slice_index, drop, codes, decimal, flat_map, Option, Some, None, Result}
+use Rattle.std.specs.Prelude.{ℕ, ◌-◌, Bool, true, false, not, ◌&&◌, ◌==◌, nat_lt, nat_le, min}
+use Rattle.std.specs.Prelude.{if◌then◌else◌, List, [], ◌∷◌, length, slice_index, drop, codes}
+use Rattle.std.specs.Prelude.{decimal, flat_map, Option, Some, None, Result}
 use Rattle.std.specs.Option.{option_and_then, option_map}
 use Rattle.std.specs.Ordering.{nat_cmp, is_lt}
 use Rattle.std.specs.Cmp.Lexicographic.{slice_cmp}
@@ -18,7 +20,9 @@ use Rattle.certcheck.specs.declared.certificate.Certificate.{Certificate}
 
 -- the number of at most so much whose decimal digits the text is, without leading zeros
 unfoldable pub spelled_number : ℕ → List ℕ → Option ℕ
-spelled_number most text = if nat_le (digits_value 10 text) most && bytes_eq (decimal (digits_value 10 text)) text then Some (digits_value 10 text) else None
+spelled_number most text =
+    if nat_le (digits_value 10 text) most && bytes_eq (decimal (digits_value 10 text)) text
+    then Some (digits_value 10 text) else None
 
 -- what a line is
 pub data Item : Type 0 where
@@ -28,13 +32,18 @@ pub data Item : Type 0 where
   End : Item
 
 abbrev pub row_of_parts : List ℕ → Option ℕ → Option ℕ → Option Row
-row_of_parts name (Some v) (Some y) = if is_lawful_name name then Some (record { name = name; number = v; y = y }) else None
+row_of_parts name (Some v) (Some y) =
+    if is_lawful_name name then Some (record { name = name; number = v; y = y }) else None
 row_of_parts name (Some v) None = None
 row_of_parts name None y = None
 
 -- NAME NUMBER Y, where the name may hold spaces
 abbrev pub row_in : List ℕ → Option Row
-row_in text = option_and_then (λ (p : List ℕ × List ℕ). option_and_then (λ (q : List ℕ × List ℕ). row_of_parts q.0 (spelled_number 4294967294 q.1) (spelled_number 18446744073709551615 p.1)) (cut_at_last_space p.0)) (cut_at_last_space text)
+row_in text =
+    option_and_then
+    (λ (p : List ℕ × List ℕ). option_and_then
+    (λ (q : List ℕ × List ℕ). row_of_parts q.0 (spelled_number 4294967294 q.1)
+    (spelled_number 18446744073709551615 p.1)) (cut_at_last_space p.0)) (cut_at_last_space text)
 
 abbrev pub z_of_parts : Option ℕ → Option ℕ → Option (ℕ × ℕ)
 z_of_parts (Some v) (Some z) = if nat_lt 0 z then Some (v, z) else None
@@ -43,7 +52,10 @@ z_of_parts None z = None
 
 -- NUMBER Z
 abbrev pub z_in : List ℕ → Option (ℕ × ℕ)
-z_in text = option_and_then (λ (p : List ℕ × List ℕ). z_of_parts (spelled_number 4294967294 p.0) (spelled_number 18446744073709551615 p.1)) (cut_at_last_space text)
+z_in text =
+    option_and_then
+    (λ (p : List ℕ × List ℕ). z_of_parts (spelled_number 4294967294 p.0)
+    (spelled_number 18446744073709551615 p.1)) (cut_at_last_space text)
 
 abbrev pub row_item : Which → Option Row → Option Item
 row_item kind o = option_map (λ r. RowItem kind r) o
@@ -101,7 +113,9 @@ item_before ls = option_and_then item_of (last_line ls)
 
 -- a line that may not stand where it stands
 abbrev pub line_fault : List (List ℕ) → List ℕ → Option ℕ
-line_fault before line = if may_follow (item_before before) (item_of line) then None else Some (line_number (length before))
+line_fault before line =
+    if may_follow (item_before before) (item_of line) then None
+    else Some (line_number (length before))
 
 abbrev pub is_end : Option Item → Bool
 is_end None = false
@@ -116,7 +130,9 @@ is_cut text = not (length text == 0) && not (slice_index text (length text - 1) 
 
 -- behind lawful lines: the last without its newline, or one missing
 abbrev pub end_fault : List ℕ → List (List ℕ) → Option ℕ
-end_fault text ls = if is_cut text then Some (min (length ls) 18446744073709551615) else if is_end (item_before ls) then None else Some (line_number (length ls))
+end_fault text ls =
+    if is_cut text then Some (min (length ls) 18446744073709551615) else if is_end (item_before ls)
+    then None else Some (line_number (length ls))
 
 abbrev pub rows_in : Which → Option Item → List Row
 rows_in User (Some (RowItem User r)) = r ∷ []
@@ -139,8 +155,14 @@ all_z_in k (Some End) = []
 all_z_in k None = []
 
 abbrev pub side_in : Which → List (List ℕ) → Side
-side_in kind ls = record { rows = flat_map (λ l. rows_in kind (item_of l)) ls; z = flat_map (λ l. all_z_in kind (item_of l)) ls }
+side_in kind ls =
+    record {
+      rows = flat_map (λ l. rows_in kind (item_of l)) ls;
+      z = flat_map (λ l. all_z_in kind (item_of l)) ls;
+    }
 
 -- the certificate that the text says, or the number of its first line that is wrong
 unfoldable pub certificate_in : List ℕ → Result Certificate ℕ
-certificate_in text = unless (or_else (first_fault line_fault [] (lines text)) (end_fault text (lines text))) (record { users = side_in User (lines text); groups = side_in Group (lines text) })
+certificate_in text =
+    unless (or_else (first_fault line_fault [] (lines text)) (end_fault text (lines text)))
+    (record { users = side_in User (lines text); groups = side_in Group (lines text) })

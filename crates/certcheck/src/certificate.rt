@@ -10,9 +10,9 @@ pub struct CertRow<'a> {
     pub y: u64,
 }
 
-/// What a certificate says of one kind: rows, strictly ascending in byte order of their names, which are lawful, with numbers
-/// that an account may have; and numbers with a potential z of at least 1, strictly ascending. Every other number has the
-/// potential 0.
+/// What a certificate says of one kind: rows, strictly ascending in byte order of their names,
+/// which are lawful, with numbers that an account may have; and numbers with a potential z of at
+/// least 1, strictly ascending. Every other number has the potential 0.
 #[derive(Drop)]
 pub struct Side<'a> {
     rows: Vec<CertRow<'a>>,

@@ -32,7 +32,8 @@ fn check_kind<'a>(
 ) -> Result<u64, CheckFault<'a>>
     requires made { AreMadeFor names.now.names counts.now }
     requires bounded { AreBounded names.now counts.now }
-    ensures exact { Gives (λ moved. moved) told result (kind_answer kind names.now counts.now side.now) }
+    ensures exact { Gives (λ moved. moved) told result
+        (kind_answer kind names.now counts.now side.now) }
     ensures small { IfOk result (λ moved. moved < 2 ^ 63) }
     ensures lawful { AreLawfulAccounts names.now }
     ensures side { IsSide side.now }
@@ -75,16 +76,17 @@ fn check_kind<'a>(
     Ok(moved_files(names, counts, rows))
 }
 
-/// The cost of the certificate's mappings, where it certifies them: how many owner fields and group fields of the counted files
-/// they change. Asked is that the counters were made for the site and stand for some list of added files, as those of
-/// `Counts::new` to which files were added do.
+/// The cost of the certificate's mappings, where it certifies them: how many owner fields and group
+/// fields of the counted files they change. Asked is that the counters were made for the site and
+/// stand for some list of added files, as those of `Counts::new` to which files were added do.
 ///
-/// A yes proves that no admissible pair of mappings costs less, and that among those of least cost for a kind none changes
-/// fewer account rows of it, whoever wrote the certificate.
+/// A yes proves that no admissible pair of mappings costs less, and that among those of least cost
+/// for a kind none changes fewer account rows of it, whoever wrote the certificate.
 ///
-/// A number that a name has on no host weighs nothing for it, so no pool is walked: a binary search or two for each row of the
-/// certificate; a few binary searches, and a scan of the name's hosts, for each account row of the site; and memory for the
-/// numbers of one kind. Sums are exact, in 128 bits.
+/// A number that a name has on no host weighs nothing for it, so no pool is walked: a binary search
+/// or two for each row of the certificate; a few binary searches, and a scan of the name's hosts,
+/// for each account row of the site; and memory for the numbers of one kind. Sums are exact, in 128
+/// bits.
 ///
 /// # Errors
 ///
@@ -97,13 +99,23 @@ pub fn check<'a>(
 ) -> Result<u64, CheckFault<'a>>
     requires made { IsMadeFor site.now counts.now }
     requires stands { (files : List Added) × StandsFor site.now counts.now files }
-    ensures exact { (files : List Added) → StandsFor site.now counts.now files → Gives (λ cost. cost) told result (answer site.now files certificate.now) }
+    ensures exact { (files : List Added) → StandsFor site.now counts.now files
+        → Gives (λ cost. cost) told result (answer site.now files certificate.now) }
     // Yes exactly where both kinds are certified.
-    ensures accepted { IfOk result (λ _. (files : List Added) → StandsFor site.now counts.now files → AreCertified site.now files certificate.now) }
-    ensures refused { IfErr result (λ e. IfSome (told e) (λ _. (files : List Added) → StandsFor site.now counts.now files → AreCertified site.now files certificate.now → ⊥)) }
+    ensures accepted { IfOk result
+        (λ _. (files : List Added) → StandsFor site.now counts.now files
+        → AreCertified site.now files certificate.now) }
+    ensures refused { IfErr result
+        (λ e. IfSome (told e)
+        (λ _. (files : List Added) → StandsFor site.now counts.now files
+        → AreCertified site.now files certificate.now → ⊥)) }
     // What a yes proves.
-    ensures best { IfOk result (λ _. (files : List Added) → StandsFor site.now counts.now files → AreBest site.now files certificate.now) }
-    ensures cost { IfOk result (λ cost. (files : List Added) → StandsFor site.now counts.now files → cost ≡ site_cost site.now files (mappings_of site.now certificate.now)) }
+    ensures best { IfOk result
+        (λ _. (files : List Added) → StandsFor site.now counts.now files
+        → AreBest site.now files certificate.now) }
+    ensures cost { IfOk result
+        (λ cost. (files : List Added) → StandsFor site.now counts.now files
+        → cost ≡ site_cost site.now files (mappings_of site.now certificate.now)) }
 {
     let users = check_kind(
         alloc,

@@ -38,14 +38,15 @@ fn is_uncovered(
     requires index { index < length names.now.names }
     requires made { AreMadeFor names.now.names counts.now }
     requires ascending { AscendsByNumber z.now }
-    ensures { result ≡ spec.is_uncovered names.now (told_weight names.now counts.now) z.now index y number }
+    ensures { result ≡ spec.is_uncovered names.now (told_weight names.now counts.now) z.now index y
+        number }
 {
     names.pool(names.class(index)).has(number)
         && u128::from(y) + u128::from(value_of(z, number)) < weight(names, counts, index, number)
 }
 
-/// The least number of the pool of the name at an index that y and z do not cover. A number that the name has on no host weighs
-/// nothing for it, so only the others are looked at.
+/// The least number of the pool of the name at an index that y and z do not cover. A number that
+/// the name has on no host weighs nothing for it, so only the others are looked at.
 fn uncovered_number(
     names: &Names<'_>,
     counts: &KindCounts,
@@ -56,7 +57,8 @@ fn uncovered_number(
     requires index { index < length names.now.names }
     requires made { AreMadeFor names.now.names counts.now }
     requires ascending { AscendsByNumber z.now }
-    ensures { result ≡ spec.uncovered_at names.now (told_weight names.now counts.now) z.now index y }
+    ensures { result ≡ spec.uncovered_at names.now (told_weight names.now counts.now) z.now index
+        y }
 {
     let mut least = None;
     for spot in names.spots(index) {
@@ -76,7 +78,9 @@ fn uncovered_in_row(
 ) -> Option<u32>
     requires made { AreMadeFor names.now.names counts.now }
     requires ascending { AscendsByNumber z.now }
-    ensures { option_map (λ v. (row.now.name.now, v)) result ≡ spec.uncovered_in names.now (told_weight names.now counts.now) z.now (row_of row.now) (place_of names.now.names row.now.name.now) }
+    ensures { option_map (λ v. (row.now.name.now, v)) result
+        ≡ spec.uncovered_in names.now (told_weight names.now counts.now) z.now (row_of row.now)
+        (place_of names.now.names row.now.name.now) }
 {
     match index_of(names, row.name) {
         Some(index) => uncovered_number(names, counts, z, index, row.y),
@@ -93,7 +97,9 @@ pub fn uncovered_pair<'a>(
 ) -> Option<(&'a [u8], u32)>
     requires made { AreMadeFor names.now.names counts.now }
     requires ascending { AscendsByNumber z.now }
-    ensures { pair_of result ≡ spec.uncovered names.now (told_weight names.now counts.now) (record { rows = rows_of rows.now; z = z.now }) }
+    ensures { pair_of result
+        ≡ spec.uncovered names.now (told_weight names.now counts.now)
+        (record { rows = rows_of rows.now; z = z.now }) }
 {
     for row in rows {
         if let Some(number) = uncovered_in_row(names, counts, z, row) {

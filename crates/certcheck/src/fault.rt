@@ -6,8 +6,8 @@ use hosts_join::Which;
 use idtext::Name;
 use std::alloc::AllocError;
 
-/// The first reason why a certificate is refused, or want of memory. Names are slices of the input, and the least of several is
-/// the first in byte order.
+/// The first reason why a certificate is refused, or want of memory. Names are slices of the input,
+/// and the least of several is the first in byte order.
 #[derive(Drop)]
 pub enum CheckFault<'a> {
     /// The least name that stands in exactly one of site and certificate.
@@ -30,7 +30,8 @@ pub enum CheckFault<'a> {
         kind: Which,
         name: Name<'a>,
     },
-    /// The least name that has a number in its pool which weighs more than y and z together, and the least such number.
+    /// The least name that has a number in its pool which weighs more than y and z together, and
+    /// the least such number.
     NotCovered {
         kind: Which,
         name: Name<'a>,

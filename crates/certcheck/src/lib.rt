@@ -1,6 +1,7 @@
-//! Certificates that a mapping is the best, and their check. A certificate has, of each kind, the number and a potential y of
-//! every name, and a potential z of some numbers. Whoever wrote it, a yes of `check` proves that no better mapping exists, by
-//! weak duality of the assignment problem (Kuhn 1955, Munkres 1957).
+//! Certificates that a mapping is the best, and their check. A certificate has, of each kind, the
+//! number and a potential y of every name, and a potential z of some numbers. Whoever wrote it, a
+//! yes of `check` proves that no better mapping exists, by weak duality of the assignment problem
+//! (Kuhn 1955, Munkres 1957).
 #![tactic(auto)]
 
 mod certificate;

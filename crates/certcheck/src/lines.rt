@@ -22,7 +22,8 @@ fn read_lines<'a>(
 ) -> Result<(Parts<'a>, Option<Item<'a>>, u64), CertificateFault>
     ensures fine { IfOk result (λ _. first_fault line_fault [] (lines_of text.now) ≡ None) }
     ensures parts { IfOk result (λ r. AreRead (lines_of text.now) r.0 r.1 r.2) }
-    ensures fault { IfErr result (λ e. IfSome (line_told e) (λ n. first_fault line_fault [] (lines_of text.now) ≡ Some n)) }
+    ensures fault { IfErr result
+        (λ e. IfSome (line_told e) (λ n. first_fault line_fault [] (lines_of text.now) ≡ Some n)) }
 {
     let mut parts = Parts {
         users: Vec::new(alloc),
@@ -64,9 +65,10 @@ fn is_end(last: Option<Item<'_>>) -> bool
 ///
 /// # Errors
 ///
-/// `BadCertificate` with the number of the first line that is wrong, out of place, missing or without its newline; a missing
-/// line has the number behind the last. A certificate has one spelling, so no other text is read, and none begins another. One
-/// pass over the text, and memory in step with its lines; `Memory` where that is refused.
+/// `BadCertificate` with the number of the first line that is wrong, out of place, missing or
+/// without its newline; a missing line has the number behind the last. A certificate has one
+/// spelling, so no other text is read, and none begins another. One pass over the text, and memory
+/// in step with its lines; `Memory` where that is refused.
 pub fn read_certificate<'a>(
     alloc: Global,
     text: &'a [u8],

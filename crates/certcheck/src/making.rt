@@ -21,7 +21,8 @@ fn rows_in_order<'a>(
 ) -> Result<Vec<CertRow<'a>>, AllocError>
     requires numbers { length mapping.now ≡ length names.now.names }
     requires ys { length y.now ≡ length names.now.names }
-    ensures rows { IfOk result (λ rows. AreRowsOf names.now mapping.now y.now (rows_of rows.items)) }
+    ensures rows { IfOk result
+        (λ rows. AreRowsOf names.now mapping.now y.now (rows_of rows.items)) }
     ensures lawful { AreLawfulAccounts names.now }
 {
     let mut rows = Vec::new(alloc);
@@ -38,15 +39,17 @@ fn rows_in_order<'a>(
 /// Sorts rows by their names.
 fn sort_rows(rows: &mut Vec<CertRow<'_>>)
     ensures permutation { IsPermutation rows.old.items rows.new.items }
-    ensures sorted { IsSortedBy (λ x y. is_lt (slice_cmp nat_cmp x.name.now y.name.now)) rows.new.items }
+    ensures sorted { IsSortedBy (λ x y. is_lt (slice_cmp nat_cmp x.name.now y.name.now))
+        rows.new.items }
 {
     rows.sort_unstable_by(|one, other| one.name.cmp(other.name));
 }
 
-/// The side that has each name with its number and its potential y, by the index of the name, ascending by name, and these
-/// potentials z of numbers. Asked is a number that an account may have and a y for each name, and z of at least 1 at ascending
-/// numbers that an account may have, as a solution of `solve` for these names has them. One sort of the rows, and memory in
-/// step with them; `AllocError` where it is refused.
+/// The side that has each name with its number and its potential y, by the index of the name,
+/// ascending by name, and these potentials z of numbers. Asked is a number that an account may have
+/// and a y for each name, and z of at least 1 at ascending numbers that an account may have, as a
+/// solution of `solve` for these names has them. One sort of the rows, and memory in step with
+/// them; `AllocError` where it is refused.
 pub fn side_of<'a>(
     alloc: Global,
     names: &Names<'a>,

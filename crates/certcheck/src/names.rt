@@ -30,7 +30,9 @@ fn lesser<'a>(first: Option<&'a [u8]>, second: Option<&'a [u8]>) -> Option<&'a [
 
 /// The least name of the certificate that the site does not have.
 fn unknown_name<'a>(names: &Names<'a>, rows: &[CertRow<'a>]) -> Option<&'a [u8]>
-    ensures { text_of result ≡ spec.least_name (filter (λ n. not (is_name names.now.names n)) (map (λ r. r.name) (rows_of rows.now))) }
+    ensures { text_of result
+        ≡ spec.least_name
+        (filter (λ n. not (is_name names.now.names n)) (map (λ r. r.name) (rows_of rows.now))) }
 {
     let mut least = None;
     for row in rows {
@@ -44,7 +46,10 @@ fn unknown_name<'a>(names: &Names<'a>, rows: &[CertRow<'a>]) -> Option<&'a [u8]>
 /// The least name of the site that the certificate does not have.
 fn unlisted_name<'a>(names: &Names<'a>, rows: &[CertRow<'a>]) -> Option<&'a [u8]>
     requires { AreAscending (rows_of rows.now) }
-    ensures least { text_of result ≡ spec.least_name (filter (λ n. not (spec.is_listed (rows_of rows.now) n)) (map (λ x. x.name) names.now.names)) }
+    ensures least { text_of result
+        ≡ spec.least_name
+        (filter (λ n. not (spec.is_listed (rows_of rows.now) n))
+        (map (λ x. x.name) names.now.names)) }
     ensures lawful { AreLawfulAccounts names.now }
 {
     let mut least = None;

@@ -34,7 +34,8 @@ fn is_outside(names: &Names<'_>, row: &CertRow<'_>) -> bool
 
 /// The least free name whose number is not in its pool.
 pub fn name_outside<'a>(names: &Names<'_>, rows: &[CertRow<'a>]) -> Option<&'a [u8]>
-    ensures { text_of result ≡ option_map (λ r. r.name) (spec.outside names.now (rows_of rows.now)) }
+    ensures { text_of result
+        ≡ option_map (λ r. r.name) (spec.outside names.now (rows_of rows.now)) }
 {
     for row in rows {
         if is_outside(names, row) {

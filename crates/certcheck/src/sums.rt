@@ -5,7 +5,8 @@ ghost use Rattle.ownership.specs.Weights.{told_weight};
 ghost use Rattle.certcheck.specs.Certificate.{AreAscending, AreAllZ};
 ghost use Rattle.ownership.specs.Potentials.{AscendsByNumber};
 ghost use Rattle.certcheck.specs.Views.{rows_of};
-ghost use Rattle.certcheck.specs.Check.{number_named, y_named, mapping_of, potentials_of, weight_by};
+ghost use Rattle.certcheck.specs.Check.{number_named, y_named, mapping_of, potentials_of};
+ghost use Rattle.certcheck.specs.Check.{weight_by};
 ghost use Rattle.certcheck.specs.OneKind.{AreBounded, told_cost};
 
 use crate::CertRow;
@@ -68,7 +69,8 @@ pub fn z_sum(z: &[(u32, u64)]) -> u128
 pub fn mapping_weight(names: &Names<'_>, counts: &KindCounts, rows: &[CertRow<'_>]) -> u128
     requires ascending { AreAscending (rows_of rows.now) }
     requires made { AreMadeFor names.now.names counts.now }
-    ensures { result ≡ weight_by names.now (told_weight names.now counts.now) (mapping_of names.now (rows_of rows.now)) }
+    ensures { result ≡ weight_by names.now (told_weight names.now counts.now)
+        (mapping_of names.now (rows_of rows.now)) }
 {
     let mut total: u128 = 0;
     for index in 0..names.len() {
@@ -84,7 +86,8 @@ pub fn moved_files(names: &Names<'_>, counts: &KindCounts, rows: &[CertRow<'_>])
     requires ascending { AreAscending (rows_of rows.now) }
     requires made { AreMadeFor names.now.names counts.now }
     requires bounded { AreBounded names.now counts.now }
-    ensures moved { result ≡ told_cost names.now counts.now (mapping_of names.now (rows_of rows.now)) }
+    ensures moved { result ≡ told_cost names.now counts.now
+        (mapping_of names.now (rows_of rows.now)) }
     ensures small { result < 2 ^ 63 }
 {
     let mut total: u64 = 0;

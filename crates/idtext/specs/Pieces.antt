@@ -1,6 +1,7 @@
 -- The pieces of a text between separators, its lines and its fields.
 -- Source: passwd(5) and group(5), DESCRIPTION: one entry a line, its fields between colons.
-use Rattle.std.specs.Prelude.{ℕ, Bool, List, [], ◌∷◌, ◌==◌, Option, Some, None, bytes_eq, take, length}
+use Rattle.std.specs.Prelude.{ℕ, Bool, List, [], ◌∷◌, ◌==◌, Option, Some, None, bytes_eq, take}
+use Rattle.std.specs.Prelude.{length}
 use Rattle.std.specs.List.{slice_split}
 
 -- the pieces of a text between all bytes that are the separator

@@ -1,18 +1,20 @@
-//! Laws over what this crate reads and writes. Each is the contract of a function that does nothing.
+//! Laws over what this crate reads and writes. Each is the contract of a function that does
+//! nothing.
 #![tactic(auto)]
 
-ghost use Rattle.idtext.specs.Laws.{CNumbersAreIds, DecimalsAreIds, EscapedIsReadBack, FrontIsReadFirst, NothingStandsForNothing, WrittenIdIsReadBack};
+ghost use Rattle.idtext.specs.Laws.{CNumbersAreIds, DecimalsAreIds, EscapedIsReadBack};
+ghost use Rattle.idtext.specs.Laws.{FrontIsReadFirst, NothingStandsForNothing, WrittenIdIsReadBack};
 
-/// Escapes are read from the left, one after the other, and none reaches into the next; and what `push_escaped` writes is
-/// what `first_character` reads back, one after the other.
+/// Escapes are read from the left, one after the other, and none reaches into the next; and what
+/// `push_escaped` writes is what `first_character` reads back, one after the other.
 pub fn escapes_are_read_from_the_left()
     ensures front { FrontIsReadFirst }
     ensures empty { NothingStandsForNothing }
     ensures back { EscapedIsReadBack }
 {}
 
-/// What `decimal` and `c_number` read is never above [`LARGEST_ID`](crate::LARGEST_ID), and an id that `push_number` wrote
-/// is read back by `decimal`.
+/// What `decimal` and `c_number` read is never above [`LARGEST_ID`](crate::LARGEST_ID), and an id
+/// that `push_number` wrote is read back by `decimal`.
 pub fn numbers_read_are_ids()
     ensures decimals { DecimalsAreIds }
     ensures c_numbers { CNumbersAreIds }

@@ -6,8 +6,9 @@ ghost use Rattle.std.specs.Prelude.{◌≡◌, ◌++◌, ◌∷◌, [], ℕ, Lis
 use std::alloc::{AllocError, Global};
 use std::marker::Model;
 
-/// A name that stands in an input text, as a slice of it. Any bytes may be one; [`is_lawful_name`](crate::is_lawful_name) says
-/// which ones an account may have. Its calls take a few steps and no memory.
+/// A name that stands in an input text, as a slice of it. Any bytes may be one;
+/// [`is_lawful_name`](crate::is_lawful_name) says which ones an account may have. Its calls take a
+/// few steps and no memory.
 #[derive(Drop)]
 pub struct Name<'a> {
     bytes: &'a [u8],

@@ -3,7 +3,8 @@
 
 ghost use Rattle.std.specs.Prelude.{◌≡◌};
 ghost use Rattle.std.specs.List.{list_all, list_any};
-ghost use Rattle.idtext.specs.Names.{is_lawful_name as is_lawful, is_separator as separates, is_skipped as says_nothing};
+ghost use Rattle.idtext.specs.Names.{is_lawful_name as is_lawful, is_separator as separates};
+ghost use Rattle.idtext.specs.Names.{is_skipped as says_nothing};
 ghost use Rattle.idtext.specs.Words.{is_white as is_space};
 
 use crate::words::is_white;
@@ -22,9 +23,9 @@ fn has_separator(name: &[u8]) -> bool
     name.iter().any(|byte| is_separator(*byte))
 }
 
-/// Whether a user or a group may have this name: it is not empty, has no comma, colon, newline or NUL, which part names in
-/// passwd(5) and group(5), and does not begin with `#`, `+` or `-`, which mark comments and NIS entries. One pass over the
-/// name.
+/// Whether a user or a group may have this name: it is not empty, has no comma, colon, newline or
+/// NUL, which part names in passwd(5) and group(5), and does not begin with `#`, `+` or `-`, which
+/// mark comments and NIS entries. One pass over the name.
 pub fn is_lawful_name(name: &[u8]) -> bool
     ensures { result ≡ is_lawful name.now }
 {
@@ -41,8 +42,8 @@ fn is_blank(line: &[u8]) -> bool
     line.iter().all(|byte| is_white(*byte))
 }
 
-/// Whether a line of passwd, group, a map or a pins text says nothing: it is empty or only white space, or begins with `#`. One
-/// pass over the line, up to the first byte that is not white space.
+/// Whether a line of passwd, group, a map or a pins text says nothing: it is empty or only white
+/// space, or begins with `#`. One pass over the line, up to the first byte that is not white space.
 pub fn is_skipped(line: &[u8]) -> bool
     ensures { result ≡ says_nothing line.now }
 {

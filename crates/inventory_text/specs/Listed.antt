@@ -1,6 +1,7 @@
 -- The files of an inventory that is written, and which of them can be read back.
 -- Source: this project's profile of mtree(5), as mtree_inv defines it.
-use Rattle.std.specs.Prelude.{◌≡◌, ◌⊎◌, ℕ, true, false, ◌<◌, ◌≤◌, List, ◌++◌, All, codes, flat_map, length, map}
+use Rattle.std.specs.Prelude.{◌≡◌, ◌⊎◌, ℕ, true, false, ◌<◌, ◌≤◌, List, ◌++◌, All, codes, flat_map}
+use Rattle.std.specs.Prelude.{length, map}
 use Rattle.idtext.specs.Pieces.{pieces}
 use Rattle.idtext.specs.Words.{most_bytes}
 use Rattle.mtree_inv.specs.declared.entry.Entry.{Entry}
@@ -25,7 +26,8 @@ entries_text listed = flat_map (λ (l : Listed). ended (line_of l)) listed
 
 -- the inventory of a host's files
 abbrev pub inventory_text : List ℕ → List Listed → List ℕ
-inventory_text host listed = ended (head_line host) ++ (entries_text listed ++ ended (end_line (length listed)))
+inventory_text host listed =
+    ended (head_line host) ++ (entries_text listed ++ ended (end_line (length listed)))
 
 -- the same, cut behind these files: its last line lacks
 abbrev pub cut_text : List ℕ → List Listed → List ℕ

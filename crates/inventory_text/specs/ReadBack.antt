@@ -8,22 +8,27 @@ use Rattle.idtext.specs.declared.faults.TextCode.TheVariants.{CutInventory}
 use Rattle.mtree_inv.specs.Kinds.{Kind, kind_of}
 use Rattle.mtree_inv.specs.Inventory.{inventory, said_alone}
 use Rattle.inventory_text.specs.Writing.{head_line}
-use Rattle.inventory_text.specs.Listed.{Listed, IsListed, AreListed, files_of, inventory_text, cut_text, line_of}
+use Rattle.inventory_text.specs.Listed.{Listed, IsListed, AreListed, files_of, inventory_text}
+use Rattle.inventory_text.specs.Listed.{cut_text, line_of}
 
 -- a logical line of these bytes, after any lines, says this file and no fault
 abbrev pub EntriesReadBack : Type 0
 EntriesReadBack = (before : List Kind) (number : ℕ) (listed : Listed) → IsListed listed
-    → said_alone before (kind_of (record { number = number; text = line_of listed; is_cut = false })) ≡ Ok (Some listed.file)
+    → said_alone before
+    (kind_of (record { number = number; text = line_of listed; is_cut = false }))
+    ≡ Ok (Some listed.file)
 
 -- the inventory of a host's files is exactly these, in their order; `most` is how many files the
 -- reader takes, and their number, which the last line tells, is read as ids are
 abbrev pub InventoriesReadBack : Type 0
 InventoriesReadBack = (most : ℕ) (host : List ℕ) (listed : List Listed)
-    → AreListed listed → length listed ≤ most → length listed ≤ greatest_id → length (head_line host) ≤ most_bytes
+    → AreListed listed → length listed ≤ most → length listed ≤ greatest_id
+    → length (head_line host) ≤ most_bytes
     → inventory most (inventory_text host listed) ≡ Ok (files_of listed)
 
 -- one that is cut behind its first line or behind a file is refused, at the line that lacks
 abbrev pub CutInventoriesAreRefused : Type 0
 CutInventoriesAreRefused = (most : ℕ) (host : List ℕ) (listed : List Listed)
     → AreListed listed → length listed ≤ most → length (head_line host) ≤ most_bytes
-    → inventory most (cut_text host listed) ≡ Err (record { code = CutInventory; line = line_number (length listed + 1) })
+    → inventory most (cut_text host listed)
+    ≡ Err (record { code = CutInventory; line = line_number (length listed + 1) })

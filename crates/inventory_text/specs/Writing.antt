@@ -4,7 +4,8 @@
 use Rattle.std.specs.Prelude.{ℕ, List, [], ◌∷◌, ◌++◌, codes, decimal}
 use Rattle.idtext.specs.Escapes.{escaped}
 use Rattle.inventory_text.specs.declared.kind.FileKind.{FileKind}
-use Rattle.inventory_text.specs.declared.kind.FileKind.TheVariants.{Block, Character, Directory, Fifo, Regular, Link, Socket}
+use Rattle.inventory_text.specs.declared.kind.FileKind.TheVariants.{Block, Character, Directory}
+use Rattle.inventory_text.specs.declared.kind.FileKind.TheVariants.{Fifo, Regular, Link, Socket}
 
 -- the value of the keyword `type`
 abbrev pub kind_word : FileKind → List ℕ
@@ -35,7 +36,8 @@ gid_word gid = codes "gid=" ++ decimal gid
 
 -- the line of a file
 abbrev pub entry_line : List ℕ → ℕ → ℕ → FileKind → List ℕ
-entry_line path uid gid kind = spaced (name_word path) (spaced (type_word kind) (spaced (uid_word uid) (gid_word gid)))
+entry_line path uid gid kind =
+    spaced (name_word path) (spaced (type_word kind) (spaced (uid_word uid) (gid_word gid)))
 
 -- the first line, a comment that names the host
 abbrev pub head_line : List ℕ → List ℕ

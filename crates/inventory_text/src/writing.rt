@@ -14,7 +14,8 @@ use std::alloc::AllocError;
 ///
 /// Where memory is refused; the text is then as it was.
 pub fn push_head(text: &mut Vec<u8>, host: &[u8]) -> Result<(), AllocError>
-    ensures { text.new.items ≡ (if is_ok result then text.old.items ++ ended (head_line host.now) else text.old.items) }
+    ensures { text.new.items
+        ≡ (if is_ok result then text.old.items ++ ended (head_line host.now) else text.old.items) }
 {
     push_with_escaped(text, b"# unify inventory 1 ", host, &[b"\n".as_slice()])
 }
@@ -34,7 +35,9 @@ pub fn push_entry(
     gid: u32,
     kind: FileKind,
 ) -> Result<(), AllocError>
-    ensures { text.new.items ≡ (if is_ok result then text.old.items ++ ended (entry_line path.now uid gid kind) else text.old.items) }
+    ensures { text.new.items
+        ≡ (if is_ok result then text.old.items ++ ended (entry_line path.now uid gid kind)
+        else text.old.items) }
 {
     let mut uid_digits = Buffer::new();
     let mut gid_digits = Buffer::new();
@@ -60,7 +63,8 @@ pub fn push_entry(
 ///
 /// Where memory is refused; the text is then as it was.
 pub fn push_end(text: &mut Vec<u8>, count: u64) -> Result<(), AllocError>
-    ensures { text.new.items ≡ (if is_ok result then text.old.items ++ ended (end_line count) else text.old.items) }
+    ensures { text.new.items
+        ≡ (if is_ok result then text.old.items ++ ended (end_line count) else text.old.items) }
 {
     let mut digits = Buffer::new();
     push_parts(

@@ -12,4 +12,6 @@ Rows = List (Bor (List ℕ) × Bor Entry)
 
 -- what the rows find at a path is the file that has it
 abbrev pub FindsFiles : Rows → List Entry → Type 0
-FindsFiles rows files = (path : List ℕ) → option_copied (lookup (λ key. is_eq (slice_cmp nat_cmp path key.now)) rows) ≡ file_at files path
+FindsFiles rows files =
+    (path : List ℕ) → option_copied (lookup (λ key. is_eq (slice_cmp nat_cmp path key.now)) rows)
+    ≡ file_at files path

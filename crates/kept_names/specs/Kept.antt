@@ -2,7 +2,8 @@
 -- Sources: passwd(5) and group(5) (a number's name is that of its row); chown(2) (a file has a uid
 -- and a gid, and no name).
 -- That a number without a name has to stay as it is, is this project's own rule.
-use Rattle.std.specs.Prelude.{ℕ, Bool, true, false, not, ◌==◌, ◌||◌, ◌++◌, List, Option, Some, None, option_map, filter_map, is_none, if◌then◌else◌}
+use Rattle.std.specs.Prelude.{ℕ, Bool, true, false, not, ◌==◌, ◌||◌, ◌++◌, List, Option, Some, None}
+use Rattle.std.specs.Prelude.{option_map, filter_map, is_none, if◌then◌else◌}
 use Rattle.std.specs.Str.{bytes_eq}
 use Rattle.hosts_join.specs.Kinds.{user_at, group_at}
 use Rattle.mtree_inv.specs.declared.entry.Entry.{Entry}
@@ -27,10 +28,12 @@ agree (Some was) None old new = false
 agree None (Some now) old new = false
 
 abbrev pub users_agree : Accounts → Accounts → Entry → Entry → Bool
-users_agree was now file there = agree (user_at was.users file.uid) (user_at now.users there.uid) file.uid there.uid
+users_agree was now file there =
+    agree (user_at was.users file.uid) (user_at now.users there.uid) file.uid there.uid
 
 abbrev pub groups_agree : Accounts → Accounts → Entry → Entry → Bool
-groups_agree was now file there = agree (group_at was.groups file.gid) (group_at now.groups there.gid) file.gid there.gid
+groups_agree was now file there =
+    agree (group_at was.groups file.gid) (group_at now.groups there.gid) file.gid there.gid
 
 -- the new number of an owner that has not the name that it had
 abbrev pub changed_to : Bool → ℕ → Option ℕ
@@ -44,7 +47,8 @@ change_by false false there = Some (Changed (Some there.uid) (Some there.gid))
 
 -- what is found of a file of the first inventory, which is `there` in the second
 abbrev pub change : Accounts → Accounts → Entry → Entry → Option What
-change was now file there = change_by (users_agree was now file there) (groups_agree was now file there) there
+change was now file there =
+    change_by (users_agree was now file there) (groups_agree was now file there) there
 
 abbrev pub change_at : Accounts → Accounts → Entry → Option Entry → Option What
 change_at was now file None = Some Missing
@@ -69,7 +73,8 @@ abbrev pub unnamed_by : Bool → Bool → Option What
 unnamed_by user group = if user || group then Some (Unnamed user group) else None
 
 abbrev pub unnamed_of : Accounts → Entry → Option What
-unnamed_of now file = unnamed_by (is_none (user_at now.users file.uid)) (is_none (group_at now.groups file.gid))
+unnamed_of now file =
+    unnamed_by (is_none (user_at now.users file.uid)) (is_none (group_at now.groups file.gid))
 
 abbrev pub unnamed : Accounts → Entry → Option Found
 unnamed now file = told_of file (unnamed_of now file)
@@ -82,12 +87,14 @@ is_left (Some was) (Some now) = not (bytes_eq was now)
 
 -- of a file of the second inventory that the first has not: that it has such a number
 abbrev pub left_by : Bool → Bool → Option Entry → Option What
-left_by user group earlier = if user || group then (if is_none earlier then Some (Left user group) else None) else None
+left_by user group earlier =
+    if user || group then (if is_none earlier then Some (Left user group) else None) else None
 
 abbrev pub left_of : Accounts → Accounts → List Entry → Entry → Option What
 left_of was now before file =
     left_by (is_left (user_at was.users file.uid) (user_at now.users file.uid))
-    (is_left (group_at was.groups file.gid) (group_at now.groups file.gid)) (file_at before file.path)
+    (is_left (group_at was.groups file.gid) (group_at now.groups file.gid))
+    (file_at before file.path)
 
 abbrev pub left_file : Accounts → Accounts → List Entry → Entry → Option Found
 left_file was now before file = told_of file (left_of was now before file)
@@ -95,5 +102,6 @@ left_file was now before file = told_of file (left_of was now before file)
 -- what is found of the files of two inventories, by the old and by the new account files
 unfoldable pub findings : Accounts → Accounts → List Entry → List Entry → List Found
 findings was now before after =
-    filter_map (loss was now after) before ++ filter_map (new_file before) after ++ filter_map (unnamed now) after
+    filter_map (loss was now after) before ++ filter_map (new_file before) after
+    ++ filter_map (unnamed now) after
     ++ filter_map (left_file was now before) after

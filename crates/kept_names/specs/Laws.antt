@@ -1,6 +1,7 @@
 -- What it means that nothing is found missing or changed.
 -- Source: this project's own rule; chown(2) for what an owner is.
-use Rattle.std.specs.Prelude.{◌≡◌, ◌↔◌, ℕ, Bool, true, false, List, Option, Some, None, Contains, All}
+use Rattle.std.specs.Prelude.{◌≡◌, ◌↔◌, ℕ, Bool, true, false, List, Option, Some, None, Contains}
+use Rattle.std.specs.Prelude.{All}
 use Rattle.hosts_join.specs.Kinds.{user_at, group_at}
 use Rattle.mtree_inv.specs.declared.entry.Entry.{Entry}
 use Rattle.mtree_inv.specs.Files.{HaveDistinctFiles}
@@ -18,11 +19,14 @@ pub record KeepsName (was now : Option (List ℕ)) (old new : ℕ) : Type 0 wher
 -- a file, which is `there` in the second inventory, has the user and the group that it had
 pub record KeepsOwner (was now : Accounts) (file there : Entry) : Type 0 where
   pub user : KeepsName (user_at was.users file.uid) (user_at now.users there.uid) file.uid there.uid
-  pub group : KeepsName (group_at was.groups file.gid) (group_at now.groups there.gid) file.gid there.gid
+  pub group : KeepsName (group_at was.groups file.gid) (group_at now.groups there.gid) file.gid
+      there.gid
 
 -- a file of the first inventory is in the second, with its owner
 abbrev pub IsKept : Accounts → Accounts → List Entry → Entry → Type 0
-IsKept was now after file = (there : Entry) × Contains after there × (there.path ≡ file.path) × KeepsOwner was now file there
+IsKept was now after file =
+    (there : Entry) × Contains after there × (there.path ≡ file.path)
+    × KeepsOwner was now file there
 
 -- that something is lost: a file, or the name of an owner
 abbrev pub is_loss : What → Bool
@@ -35,4 +39,5 @@ is_loss (Left user group) = false
 -- nothing is found missing or changed exactly where each file of the first inventory is kept
 abbrev pub NothingLostIsKept : Type 0
 NothingLostIsKept = (was now : Accounts) (before after : List Entry) → HaveDistinctFiles after
-    → All (λ found. is_loss found.what ≡ false) (findings was now before after) ↔ All (IsKept was now after) before
+    → All (λ found. is_loss found.what ≡ false) (findings was now before after)
+    ↔ All (IsKept was now after) before

@@ -16,7 +16,9 @@ fn push_losses<'f>(
     files: &'f [Entry],
     after: &Paths<'_>,
 ) -> Result<(), AllocError>
-    ensures { IfOk result (λ _. found.new.items ≡ found.old.items ++ filter_map (loss was.now now.now after.now) files.now) }
+    ensures { IfOk result
+        (λ _. found.new.items ≡ found.old.items
+        ++ filter_map (loss was.now now.now after.now) files.now) }
 {
     for file in files {
         if let Some(what) = crate::finding::loss(was, now, after, file) {
@@ -32,7 +34,8 @@ fn push_new<'f>(
     before: &Paths<'_>,
     files: &'f [Entry],
 ) -> Result<(), AllocError>
-    ensures { IfOk result (λ _. found.new.items ≡ found.old.items ++ filter_map (new_file before.now) files.now) }
+    ensures { IfOk result
+        (λ _. found.new.items ≡ found.old.items ++ filter_map (new_file before.now) files.now) }
 {
     for file in files {
         if let Some(what) = newness(before, file) {
@@ -48,7 +51,8 @@ fn push_unnamed<'f>(
     now: &Accounts<'_>,
     files: &'f [Entry],
 ) -> Result<(), AllocError>
-    ensures { IfOk result (λ _. found.new.items ≡ found.old.items ++ filter_map (unnamed now.now) files.now) }
+    ensures { IfOk result
+        (λ _. found.new.items ≡ found.old.items ++ filter_map (unnamed now.now) files.now) }
 {
     for file in files {
         if let Some(what) = lack_of_name(now, file) {
@@ -66,7 +70,9 @@ fn push_left<'f>(
     before: &Paths<'_>,
     files: &'f [Entry],
 ) -> Result<(), AllocError>
-    ensures { IfOk result (λ _. found.new.items ≡ found.old.items ++ filter_map (left_file was.now now.now before.now) files.now) }
+    ensures { IfOk result
+        (λ _. found.new.items ≡ found.old.items
+        ++ filter_map (left_file was.now now.now before.now) files.now) }
 {
     for file in files {
         if let Some(what) = number_left(was, now, before, file) {
@@ -100,7 +106,8 @@ pub fn find_changes<'f>(
     before: &'f Inventory,
     after: &'f Inventory,
 ) -> Result<Vec<Finding<'f>>, AllocError>
-    ensures exact { IfOk result (λ found. found.items ≡ findings was.now now.now before.now after.now) }
+    ensures exact { IfOk result
+        (λ found. found.items ≡ findings was.now now.now before.now after.now) }
 {
     let first = before.entries();
     let second = after.entries();

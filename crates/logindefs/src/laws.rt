@@ -3,8 +3,8 @@
 
 ghost use Rattle.logindefs.specs.Laws.{LengthCounts, SharedIsInBoth};
 
-/// A range stands for the set of the numbers in it: its length is how many they are, and two ranges share a number exactly
-/// where one lies in both.
+/// A range stands for the set of the numbers in it: its length is how many they are, and two ranges
+/// share a number exactly where one lies in both.
 pub fn ranges_are_sets_of_numbers()
     ensures len { LengthCounts }
     ensures shared { SharedIsInBoth }

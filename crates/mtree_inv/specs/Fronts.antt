@@ -1,6 +1,7 @@
 -- Words of private contracts: paths that are cut in two behind a whole number of blocks, and their
 -- fronts, each kept once.
-use Rattle.std.specs.Prelude.{◌≡◌, ◌≤◌, ◌<◌, ℕ, zero, suc, ◌==◌, ◌%◌, List, [], ◌∷◌, ◌++◌, length, slice_index_or, find, Option, Some, option_map, option_to_list, Vec}
+use Rattle.std.specs.Prelude.{◌≡◌, ◌≤◌, ◌<◌, ℕ, zero, suc, ◌==◌, ◌%◌, List, [], ◌∷◌, ◌++◌, length}
+use Rattle.std.specs.Prelude.{slice_index_or, find, Option, Some, option_map, option_to_list, Vec}
 use Rattle.std.specs.Map.{lookup}
 use Rattle.std.specs.Ordering.{nat_cmp, is_eq, ordering_then}
 use Rattle.std.specs.Cmp.Lexicographic.{slice_cmp}
@@ -61,7 +62,8 @@ pub record AreFronts (fronts : List (List ℕ)) : Type 0 where
   -- each is a whole number of blocks
   pub whole : (n : ℕ) → n < length fronts → length (front_at fronts n) % block_len ≡ 0
   -- no two are the same
-  pub distinct : (m n : ℕ) → m < length fronts → n < length fronts → front_at fronts m ≡ front_at fronts n → m ≡ n
+  pub distinct : (m n : ℕ) → m < length fronts → n < length fronts
+      → front_at fronts m ≡ front_at fronts n → m ≡ n
 
 -- the fronts that came stand behind the others, so that numbers stay what they are
 abbrev pub GrowTo : List (List ℕ) → List (List ℕ) → Type 0
@@ -74,12 +76,14 @@ FrontRows = List (Cut × ℕ)
 
 -- these fronts and the one that a row makes
 abbrev pub with_front : List (List ℕ) → Option (Cut × ℕ) → List (List ℕ)
-with_front fronts row = fronts ++ option_to_list (option_map (λ (r : Cut × ℕ). path_of_cut fronts r.0) row)
+with_front fronts row =
+    fronts ++ option_to_list (option_map (λ (r : Cut × ℕ). path_of_cut fronts r.0) row)
 
 -- the empty front, and those of the rows up to this number
 abbrev pub fronts_up_to : ℕ → FrontRows → List (List ℕ)
 fronts_up_to zero rows = [] ∷ []
-fronts_up_to (suc n) rows = with_front (fronts_up_to n rows) (row_numbered (λ (m : ℕ). m) (suc n) rows)
+fronts_up_to (suc n) rows =
+    with_front (fronts_up_to n rows) (row_numbered (λ (m : ℕ). m) (suc n) rows)
 
 unfoldable pub fronts_in : FrontRows → List (List ℕ)
 fronts_in rows = fronts_up_to (length rows) rows
@@ -100,4 +104,5 @@ pub record AreFrontRows (rows : FrontRows) : Type 0 where
   pub first : front_at (fronts_in rows) 0 ≡ []
   -- a row tells its front's number, and each front but the empty one has a row
   pub told : (cut : Cut) (n : ℕ) → known_at rows cut ≡ Some n → IsFrontAt (fronts_in rows) cut n
-  pub found : (n : ℕ) → 0 < n → n < length (fronts_in rows) → (cut : Cut) × IsFrontAt (fronts_in rows) cut n × (known_at rows cut ≡ Some n)
+  pub found : (n : ℕ) → 0 < n → n < length (fronts_in rows) → (cut : Cut)
+      × IsFrontAt (fronts_in rows) cut n × (known_at rows cut ≡ Some n)

@@ -1,5 +1,6 @@
 -- Words of private contracts: what a reader that has met no fault stands for.
-use Rattle.std.specs.Prelude.{◌≡◌, ℕ, Bool, not, ◌&&◌, ◌==◌, List, ◌++◌, Some, None, Result, Ok, Err}
+use Rattle.std.specs.Prelude.{◌≡◌, ℕ, Bool, not, ◌&&◌, ◌==◌, List, ◌++◌, Some, None, Result, Ok}
+use Rattle.std.specs.Prelude.{Err}
 use Rattle.idtext.specs.declared.faults.TextCode.{TextCode}
 use Rattle.idtext.specs.declared.faults.TextFault.{TextFault}
 use Rattle.idtext.specs.declared.faults.ReadError.{ReadError}
@@ -25,13 +26,15 @@ abbrev pub waiting_in : ReaderParts → List Entry
 waiting_in parts = waiting_of parts.walk
 
 abbrev pub reading_of : ReaderParts → Reading
-reading_of parts = record { kept = kept_of parts.walk; open_line = open_line parts.in_progress; fault = None }
+reading_of parts =
+    record { kept = kept_of parts.walk; open_line = open_line parts.in_progress; fault = None }
 
 abbrev pub at_line : ℕ → Result Kept TextCode → Result Kept TextFault
 at_line number (Ok kept) = Ok kept
 at_line number (Err code) = Err (record { code = code; line = number })
 
--- a failed call comes to the reading's fault, with its files; where memory ran out the files are the first of its files
+-- a failed call comes to the reading's fault, with its files; where memory ran out the files are
+-- the first of its files
 abbrev pub FailedTo : List Entry → ReadError → Reading → Type 0
 FailedTo files (Fault fault) target = (target.fault ≡ Some fault) × (target.kept.files ≡ files)
 FailedTo files Memory target = (more : List Entry) × (target.kept.files ≡ files ++ more)

@@ -10,10 +10,12 @@ use Rattle.mtree_inv.specs.Reading.{Reading, read_bytes, start}
 
 -- the files that came are those that now wait behind the others
 abbrev pub GrowAlike : List Entry → List Entry → List Entry → List Entry → Type 0
-GrowAlike files new_files waiting new_waiting = (added : List Entry) × (new_files ≡ files ++ added) × (new_waiting ≡ waiting ++ added)
+GrowAlike files new_files waiting new_waiting =
+    (added : List Entry) × (new_files ≡ files ++ added) × (new_waiting ≡ waiting ++ added)
 
--- what contracts see of a reader: the most files that it takes, the files so far, those of them that wait to be handed out,
--- the fault that ended it, and whether the text is finished; `reading` is what it keeps to go on, into which no caller looks
+-- what contracts see of a reader: the most files that it takes, the files so far, those of them
+-- that wait to be handed out, the fault that ended it, and whether the text is finished; `reading`
+-- is what it keeps to go on, into which no caller looks
 pub record ReaderValue : Type 0 where
   pub most : ℕ
   pub files : List Entry
@@ -37,16 +39,20 @@ files_before_fault most text = files_of (kinds (accepted most (logical_lines tex
 abbrev pub StandsAt : Option ReadError → Bool → ReaderValue → List ℕ → Type 0
 -- in mid-text the files are those of the whole lines, which have no fault
 StandsAt None false reader text =
-    IsMidText reader.most reader.reading text × (inventory_of_lines reader.most (whole_lines text) ≡ Ok (files reader))
+    IsMidText reader.most reader.reading text
+    × (inventory_of_lines reader.most (whole_lines text) ≡ Ok (files reader))
 -- a finished reader has the inventory of the text
 StandsAt None true reader text = inventory reader.most text ≡ Ok (files reader)
--- a reader that met a fault has the files before it; `fed` is what had been fed when the fault came, and what was fed since no
--- longer counts
+-- a reader that met a fault has the files before it; `fed` is what had been fed when the fault
+-- came, and what was fed since no longer counts
 StandsAt (Some (Fault fault)) finished reader text =
-    (fed : List ℕ) × (rest : List ℕ) × (text ≡ fed ++ rest) × (inventory reader.most fed ≡ Err fault) × (files_before_fault reader.most fed ≡ files reader)
+    (fed : List ℕ) × (rest : List ℕ) × (text ≡ fed ++ rest)
+    × (inventory reader.most fed ≡ Err fault)
+    × (files_before_fault reader.most fed ≡ files reader)
 -- where memory ran out it has the first of these
 StandsAt (Some Memory) finished reader text =
-    (fed : List ℕ) × (rest : List ℕ) × (more : List Entry) × (text ≡ fed ++ rest) × (files_before_fault reader.most fed ≡ files reader ++ more)
+    (fed : List ℕ) × (rest : List ℕ) × (more : List Entry) × (text ≡ fed ++ rest)
+    × (files_before_fault reader.most fed ≡ files reader ++ more)
 
 -- the reader stands for the text fed so far, however it was cut
 abbrev pub StandsFor : ReaderValue → List ℕ → Type 0

@@ -1,10 +1,12 @@
 -- Words of private contracts: the files that a search tree by cut paths has.
-use Rattle.std.specs.Prelude.{◌≡◌, ℕ, zero, suc, List, [], ◌∷◌, ◌++◌, length, Option, option_map, option_to_list}
+use Rattle.std.specs.Prelude.{◌≡◌, ℕ, zero, suc, List, [], ◌∷◌, ◌++◌, length, Option, option_map}
+use Rattle.std.specs.Prelude.{option_to_list}
 use Rattle.mtree_inv.specs.declared.entry.Entry.{Entry}
 use Rattle.mtree_inv.specs.declared.files.Owner.{Owner}
 use Rattle.mtree_inv.specs.declared.files.Known.{Known}
 use Rattle.mtree_inv.specs.Inventory.{file_at}
-use Rattle.mtree_inv.specs.Fronts.{Cut, known_at, row_numbered, AreUpTo, path_of_cut, IsCut, AreFronts}
+use Rattle.mtree_inv.specs.Fronts.{Cut, known_at, row_numbered, AreUpTo, path_of_cut, IsCut}
+use Rattle.mtree_inv.specs.Fronts.{AreFronts}
 
 abbrev pub file : List ℕ → Owner → Entry
 file path owner = record { path = path; uid = owner.uid; gid = owner.gid }
@@ -18,11 +20,13 @@ file_of_row fronts row = file (path_of_cut fronts row.0) row.1.owner
 
 -- the file with this number, and those up to it
 abbrev pub file_numbered : List (List ℕ) → ℕ → Rows → Option Entry
-file_numbered fronts n rows = option_map (file_of_row fronts) (row_numbered (λ (known : Known). known.number) n rows)
+file_numbered fronts n rows =
+    option_map (file_of_row fronts) (row_numbered (λ (known : Known). known.number) n rows)
 
 abbrev pub files_up_to : List (List ℕ) → ℕ → Rows → List Entry
 files_up_to fronts zero rows = []
-files_up_to fronts (suc n) rows = files_up_to fronts n rows ++ option_to_list (file_numbered fronts (suc n) rows)
+files_up_to fronts (suc n) rows =
+    files_up_to fronts n rows ++ option_to_list (file_numbered fronts (suc n) rows)
 
 -- the files in the order of their numbers
 unfoldable pub files_in : List (List ℕ) → Rows → List Entry
@@ -47,4 +51,5 @@ pub record IsTable (fronts : List (List ℕ)) (rows : Rows) : Type 0 where
   pub counted : length (files_in fronts rows) ≡ length rows
   -- the row of a path is that of its file
   pub found : (cut : Cut) → IsCut fronts cut
-      → file_at (files_in fronts rows) (path_of_cut fronts cut) ≡ option_map (λ known. file (path_of_cut fronts cut) known.owner) (known_at rows cut)
+      → file_at (files_in fronts rows) (path_of_cut fronts cut)
+      ≡ option_map (λ known. file (path_of_cut fronts cut) known.owner) (known_at rows cut)

@@ -9,11 +9,13 @@ use std::marker::Model;
 // How many bytes a front grows by.
 const BLOCK_LEN: usize = 256;
 
-/// A path that is cut in two: the number of its front, and the bytes behind that, at most a block of them.
+/// A path that is cut in two: the number of its front, and the bytes behind that, at most a block
+/// of them.
 pub(crate) type CutPath = (usize, Vec<u8>);
 
-/// The fronts of paths. A front is a whole number of blocks. Number 0 is the empty one, and each other is one before it
-/// and a block more, so that it is kept as a number and one block, however long it is.
+/// The fronts of paths. A front is a whole number of blocks. Number 0 is the empty one, and each
+/// other is one before it and a block more, so that it is kept as a number and one block, however
+/// long it is.
 #[derive(Drop)]
 pub(crate) struct Fronts {
     numbers: BTreeMap<CutPath, usize>,
@@ -55,7 +57,8 @@ fn number_of(fronts: &mut Fronts, longer: CutPath) -> Result<usize, AllocError>
     Ok(number)
 }
 
-/// Cuts a path. Fronts of it that lack are added, and stay where memory is refused: then no path may have them.
+/// Cuts a path. Fronts of it that lack are added, and stay where memory is refused: then no path
+/// may have them.
 pub(crate) fn cut(fronts: &mut Fronts, alloc: Global, path: &[u8]) -> Result<CutPath, AllocError>
     requires { AreFronts fronts.old }
     ensures ok { IfOk result (λ found. IsCutOf fronts.new found path.now) }

@@ -33,8 +33,8 @@ impl Inventory {
     ghost use Rattle.std.specs.Prelude.{◌≡◌};
     ghost use Rattle.mtree_inv.specs.Files.{AreFiles};
 
-    /// Its files. No two have one path; a path has 1 to 65,535 bytes without NUL, and a number is at most 4294967294. Takes no
-    /// memory.
+    /// Its files. No two have one path; a path has 1 to 65,535 bytes without NUL, and a number is
+    /// at most 4294967294. Takes no memory.
     pub fn entries(&self) -> &[Entry]
         ensures files { result.now ≡ self.now }
         ensures lawful { AreFiles self.now }
@@ -57,16 +57,19 @@ fn all_entries(alloc: Global, reader: Reader) -> Result<Vec<Entry>, ReadError>
     Ok(entries)
 }
 
-/// Reads the inventory of a whole mtree text, of at most `most` files, by mtree(5) and the profile that this crate's page
-/// states.
+/// Reads the inventory of a whole mtree text, of at most `most` files, by mtree(5) and the profile
+/// that this crate's page states.
 ///
-/// The answer is `ReadError::Fault` exactly where the text has a fault, with the first: by line, and on one line `LineTooLong`,
-/// `CutContinuation`, `CutInventory`, `BadCommand`, `DotDotAbove`, `BadPath`, `BadNumber`, `NoUid`, `NoGid`, `OwnersDiffer`,
-/// `TooManyEntries`, in this order; and behind all lines `CutInventory`, at the line behind the last newline. The line is
-/// counted from 1, and of lines that are joined it is the first. `ReadError::Memory` says that memory was refused.
+/// The answer is `ReadError::Fault` exactly where the text has a fault, with the first: by line,
+/// and on one line `LineTooLong`, `CutContinuation`, `CutInventory`, `BadCommand`, `DotDotAbove`,
+/// `BadPath`, `BadNumber`, `NoUid`, `NoGid`, `OwnersDiffer`, `TooManyEntries`, in this order; and
+/// behind all lines `CutInventory`, at the line behind the last newline. The line is counted from
+/// 1, and of lines that are joined it is the first. `ReadError::Memory` says that memory was
+/// refused.
 ///
-/// It takes the time of one `Reader::feed`. Each path stands in memory whole, and there may be far more of them than of the
-/// text, where directories stand in directories; until the call returns, there is also what a `Reader` keeps.
+/// It takes the time of one `Reader::feed`. Each path stands in memory whole, and there may be far
+/// more of them than of the text, where directories stand in directories; until the call returns,
+/// there is also what a `Reader` keeps.
 pub fn read_inventory(alloc: Global, text: &[u8], most: u32) -> Result<Inventory, ReadError>
     ensures exact { Gives (λ inventory. inventory) fault_told result (inventory most text.now) }
     ensures few { IfOk result (λ inventory. length inventory ≤ most) }

@@ -31,14 +31,17 @@ pub(crate) struct Parts {
 }
 
 impl Parts {
-    ghost use Rattle.std.specs.Prelude.{◌≡◌, [], ◌∷◌, ◌<◌, ◌≤◌, drop, length, OnErr, IfOk, MatchResult, MatchOption};
+    ghost use Rattle.std.specs.Prelude.{◌≡◌, [], ◌∷◌, ◌<◌, ◌≤◌, drop, length, OnErr, IfOk};
+    ghost use Rattle.std.specs.Prelude.{MatchResult, MatchOption};
     ghost use Rattle.idtext.specs.First.{Gives};
     ghost use Rattle.mtree_inv.specs.Machine.{step};
-    ghost use Rattle.mtree_inv.specs.Reading.{clipped_kind, with_newline, read_bytes, last_read, finished, start};
+    ghost use Rattle.mtree_inv.specs.Reading.{clipped_kind, with_newline, read_bytes, last_read};
+    ghost use Rattle.mtree_inv.specs.Reading.{finished, start};
     ghost use Rattle.mtree_inv.specs.Standing.{GrowAlike};
     ghost use Rattle.mtree_inv.specs.Walked.{kept_of};
     ghost use Rattle.idtext.specs.Faults.{fault_told};
-    ghost use Rattle.mtree_inv.specs.Parts.{most_of, files_of_parts, waiting_in, reading_of, at_line, TakenTo, FailedTo};
+    ghost use Rattle.mtree_inv.specs.Parts.{most_of, files_of_parts, waiting_in, reading_of};
+    ghost use Rattle.mtree_inv.specs.Parts.{at_line, TakenTo, FailedTo};
 
     pub(crate) fn new(alloc: Global, most: u32) -> Self
         ensures reading { reading_of result ≡ start }
@@ -55,9 +58,13 @@ impl Parts {
     // Takes the line in progress, which is whole or cut.
     #[tactic(auto, unfolding(crate::specs::Machine::step))]
     fn take_line(&mut self, is_cut: bool) -> Result<(), ReadError>
-        ensures exact { Gives (λ _. kept_of self.new.walk) fault_told result (at_line self.old.in_progress.first (step (most_of self.old) (kept_of self.old.walk) (clipped_kind (reading_of self.old).open_line.joined is_cut))) }
+        ensures exact { Gives (λ _. kept_of self.new.walk) fault_told result
+            (at_line self.old.in_progress.first
+            (step (most_of self.old) (kept_of self.old.walk)
+            (clipped_kind (reading_of self.old).open_line.joined is_cut))) }
         ensures line { self.new.in_progress ≡ self.old.in_progress }
-        ensures grow { GrowAlike (files_of_parts self.old) (files_of_parts self.new) (waiting_in self.old) (waiting_in self.new) }
+        ensures grow { GrowAlike (files_of_parts self.old) (files_of_parts self.new)
+            (waiting_in self.old) (waiting_in self.new) }
         ensures err { OnErr result (files_of_parts self.new ≡ files_of_parts self.old) }
         ensures most { most_of self.new ≡ most_of self.old }
     {
@@ -83,8 +90,10 @@ impl Parts {
 
     // Takes a newline.
     fn newline(&mut self) -> Result<(), ReadError>
-        ensures taken { TakenTo (files_of_parts self.new) (reading_of self.new) result (with_newline (most_of self.old) (reading_of self.old)) }
-        ensures grow { GrowAlike (files_of_parts self.old) (files_of_parts self.new) (waiting_in self.old) (waiting_in self.new) }
+        ensures taken { TakenTo (files_of_parts self.new) (reading_of self.new) result
+            (with_newline (most_of self.old) (reading_of self.old)) }
+        ensures grow { GrowAlike (files_of_parts self.old) (files_of_parts self.new)
+            (waiting_in self.old) (waiting_in self.new) }
         ensures most { most_of self.new ≡ most_of self.old }
     {
         if self.in_progress.joins() {
@@ -104,9 +113,12 @@ impl Parts {
         ensures some { IfOk result (λ n. 0 < n) }
         ensures within { IfOk result (λ n. n ≤ length rest.now) }
         ensures taken { MatchResult result
-            (λ n. read_bytes (most_of self.old) (reading_of self.old) rest.now ≡ read_bytes (most_of self.old) (reading_of self.new) (drop n rest.now))
-            (λ e. FailedTo (files_of_parts self.new) e (read_bytes (most_of self.old) (reading_of self.old) rest.now)) }
-        ensures grow { GrowAlike (files_of_parts self.old) (files_of_parts self.new) (waiting_in self.old) (waiting_in self.new) }
+            (λ n. read_bytes (most_of self.old) (reading_of self.old) rest.now
+            ≡ read_bytes (most_of self.old) (reading_of self.new) (drop n rest.now))
+            (λ e. FailedTo (files_of_parts self.new) e
+            (read_bytes (most_of self.old) (reading_of self.old) rest.now)) }
+        ensures grow { GrowAlike (files_of_parts self.old) (files_of_parts self.new)
+            (waiting_in self.old) (waiting_in self.new) }
         ensures most { most_of self.new ≡ most_of self.old }
     {
         let first = rest[0];
@@ -132,8 +144,10 @@ impl Parts {
 
     /// Takes the next piece of the text.
     pub(crate) fn take_piece(&mut self, piece: &[u8]) -> Result<(), ReadError>
-        ensures taken { TakenTo (files_of_parts self.new) (reading_of self.new) result (read_bytes (most_of self.old) (reading_of self.old) piece.now) }
-        ensures grow { GrowAlike (files_of_parts self.old) (files_of_parts self.new) (waiting_in self.old) (waiting_in self.new) }
+        ensures taken { TakenTo (files_of_parts self.new) (reading_of self.new) result
+            (read_bytes (most_of self.old) (reading_of self.old) piece.now) }
+        ensures grow { GrowAlike (files_of_parts self.old) (files_of_parts self.new)
+            (waiting_in self.old) (waiting_in self.new) }
         ensures most { most_of self.new ≡ most_of self.old }
     {
         let mut rest = piece;
@@ -147,8 +161,10 @@ impl Parts {
 
     // Takes the line in progress where the text ends.
     fn take_last(&mut self) -> Result<(), ReadError>
-        ensures taken { TakenTo (files_of_parts self.new) (reading_of self.new) result (last_read (most_of self.old) (reading_of self.old)) }
-        ensures grow { GrowAlike (files_of_parts self.old) (files_of_parts self.new) (waiting_in self.old) (waiting_in self.new) }
+        ensures taken { TakenTo (files_of_parts self.new) (reading_of self.new) result
+            (last_read (most_of self.old) (reading_of self.old)) }
+        ensures grow { GrowAlike (files_of_parts self.old) (files_of_parts self.new)
+            (waiting_in self.old) (waiting_in self.new) }
         ensures most { most_of self.new ≡ most_of self.old }
     {
         match self.in_progress.ends {
@@ -161,8 +177,10 @@ impl Parts {
 
     /// Takes the end of the text.
     pub(crate) fn take_end(&mut self) -> Result<(), ReadError>
-        ensures taken { TakenTo (files_of_parts self.new) (reading_of self.new) result (finished (most_of self.old) (reading_of self.old)) }
-        ensures grow { GrowAlike (files_of_parts self.old) (files_of_parts self.new) (waiting_in self.old) (waiting_in self.new) }
+        ensures taken { TakenTo (files_of_parts self.new) (reading_of self.new) result
+            (finished (most_of self.old) (reading_of self.old)) }
+        ensures grow { GrowAlike (files_of_parts self.old) (files_of_parts self.new)
+            (waiting_in self.old) (waiting_in self.new) }
         ensures most { most_of self.new ≡ most_of self.old }
     {
         self.take_last()?;
@@ -179,7 +197,8 @@ impl Parts {
     pub(crate) fn take(&mut self) -> Option<Entry>
         ensures reading { reading_of self.new ≡ reading_of self.old }
         ensures most { most_of self.new ≡ most_of self.old }
-        ensures next { MatchOption result ((waiting_in self.old ≡ []) × (waiting_in self.new ≡ [])) (λ entry. waiting_in self.old ≡ entry ∷ waiting_in self.new) }
+        ensures next { MatchOption result ((waiting_in self.old ≡ []) × (waiting_in self.new ≡ []))
+            (λ entry. waiting_in self.old ≡ entry ∷ waiting_in self.new) }
     {
         self.walk.take()
     }

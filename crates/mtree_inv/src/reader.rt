@@ -6,13 +6,14 @@ use idtext::ReadError;
 use std::alloc::Global;
 use std::marker::Model;
 
-/// Reads the inventory of an mtree text that comes in pieces, however it is cut, by mtree(5) and the profile that this crate's
-/// page states. Files can be taken while it reads.
+/// Reads the inventory of an mtree text that comes in pieces, however it is cut, by mtree(5) and
+/// the profile that this crate's page states. Files can be taken while it reads.
 ///
-/// It keeps the files, the line in progress, of which it keeps 65,535 bytes at most, the current directory's path and a number
-/// for each open directory, a count of files where the text is to tell one, and not the text. Of the paths it keeps what many begin with once, and at most 256 bytes more of
-/// each, so its memory is in step with the text that came, whoever named the files. Only a file that waits to be taken has
-/// its whole path.
+/// It keeps the files, the line in progress, of which it keeps 65,535 bytes at most, the current
+/// directory's path and a number for each open directory, a count of files where the text is to
+/// tell one, and not the text. Of the paths it keeps what many begin with once, and at most 256
+/// bytes more of each, so its memory is in step with the text that came, whoever named the files.
+/// Only a file that waits to be taken has its whole path.
 #[derive(Drop)]
 pub struct Reader {
     parts: Parts,
@@ -27,19 +28,27 @@ impl Model for Reader {
 
     ghost use Rattle.mtree_inv.specs.Parts.{most_of, reading_of, files_of_parts, waiting_in};
 
-    ghost view = { λ r. record { most = most_of r.parts; files = files_of_parts r.parts; waiting = waiting_in r.parts; fault = r.fault; is_finished = r.is_finished; reading = reading_of r.parts } };
+    ghost view = { λ r. record {
+      most = most_of r.parts;
+      files = files_of_parts r.parts;
+      waiting = waiting_in r.parts;
+      fault = r.fault;
+      is_finished = r.is_finished;
+      reading = reading_of r.parts;
+    } };
 }
 
 impl Reader {
-    ghost use Rattle.std.specs.Prelude.{◌≡◌, ◌++◌, ◌∷◌, ℕ, List, [], true, false, None, Some, Err, IfSome, IfNone, IfErr, MatchOption, MatchResult};
+    ghost use Rattle.std.specs.Prelude.{◌≡◌, ◌++◌, ◌∷◌, ℕ, List, [], true, false, None, Some, Err};
+    ghost use Rattle.std.specs.Prelude.{IfSome, IfNone, IfErr, MatchOption, MatchResult};
     ghost use Rattle.idtext.specs.First.{Gives};
     ghost use Rattle.mtree_inv.specs.Logical.{whole_lines};
     ghost use Rattle.mtree_inv.specs.Inventory.{inventory_of_lines, inventory};
     ghost use Rattle.mtree_inv.specs.Standing.{StandsFor, GrowAlike, files};
     ghost use Rattle.idtext.specs.Faults.{fault_told};
 
-    /// A reader of a text with at most `most` files, of which nothing has come. Takes no memory yet: `alloc` is where it will
-    /// grow.
+    /// A reader of a text with at most `most` files, of which nothing has come. Takes no memory
+    /// yet: `alloc` is where it will grow.
     pub fn new(alloc: Global, most: u32) -> Self
         ensures stands { StandsFor result [] }
         ensures most { result.most ≡ most }
@@ -55,21 +64,33 @@ impl Reader {
         }
     }
 
-    /// Takes the next piece of the text, which must not be finished. The answer is `ReadError::Fault` exactly where the whole
-    /// logical lines so far have a fault, with the first, and `ReadError::Memory` where memory was refused. After a fault,
-    /// `Memory` too, it is always that one and nothing changes; files read before it can still be taken.
+    /// Takes the next piece of the text, which must not be finished. The answer is
+    /// `ReadError::Fault` exactly where the whole logical lines so far have a fault, with the
+    /// first, and `ReadError::Memory` where memory was refused. After a fault, `Memory` too, it is
+    /// always that one and nothing changes; files read before it can still be taken.
     ///
-    /// One pass over the piece and over the whole path of each entry. For each 256 bytes of a path there are one or two
-    /// look-ups in a search tree, each with a few comparisons of at most as many bytes, whatever the paths are: about one for
-    /// each binary digit of the number of files.
+    /// One pass over the piece and over the whole path of each entry. For each 256 bytes of a path
+    /// there are one or two look-ups in a search tree, each with a few comparisons of at most as
+    /// many bytes, whatever the paths are: about one for each binary digit of the number of files.
     pub fn feed(&mut self, piece: &[u8]) -> Result<(), ReadError>
         requires { self.old.is_finished ≡ false }
-        ensures stands { (text : List ℕ) → StandsFor self.old text → StandsFor self.new (text ++ piece.now) }
-        ensures told { (text : List ℕ) → StandsFor self.old text → IfNone self.old.fault (Gives (λ _. files self.new) fault_told result (inventory_of_lines self.old.most (whole_lines (text ++ piece.now)))) }
-        ensures ended { (text : List ℕ) → StandsFor self.old text → IfNone self.old.fault (IfErr result (λ e. IfSome (fault_told e) (λ f. (more : List ℕ) → inventory self.old.most ((text ++ piece.now) ++ more) ≡ Err f))) }
+        ensures stands { (text : List ℕ) → StandsFor self.old text
+            → StandsFor self.new (text ++ piece.now) }
+        ensures told { (text : List ℕ) → StandsFor self.old text
+            → IfNone self.old.fault
+            (Gives (λ _. files self.new) fault_told result
+            (inventory_of_lines self.old.most (whole_lines (text ++ piece.now)))) }
+        ensures ended { (text : List ℕ) → StandsFor self.old text
+            → IfNone self.old.fault
+            (IfErr result
+            (λ e. IfSome (fault_told e)
+            (λ f. (more : List ℕ) → inventory self.old.most ((text ++ piece.now) ++ more)
+            ≡ Err f))) }
         ensures failed { IfSome self.old.fault (λ f. (result ≡ Err f) × (self.new ≡ self.old)) }
-        ensures fault { IfNone self.old.fault (MatchResult result (λ _. self.new.fault ≡ None) (λ f. self.new.fault ≡ Some f)) }
-        ensures grow { GrowAlike (files self.old) (files self.new) self.old.waiting self.new.waiting }
+        ensures fault { IfNone self.old.fault
+            (MatchResult result (λ _. self.new.fault ≡ None) (λ f. self.new.fault ≡ Some f)) }
+        ensures grow { GrowAlike (files self.old) (files self.new) self.old.waiting
+            self.new.waiting }
         ensures most { self.new.most ≡ self.old.most }
         ensures going { self.new.is_finished ≡ false }
     {
@@ -85,18 +106,23 @@ impl Reader {
         }
     }
 
-    /// Takes the end of the text, which must not be finished. The answer is `ReadError::Fault` exactly where the whole text has
-    /// a fault, with the first, and `ReadError::Memory` where memory was refused. After a fault it is always that one and
-    /// nothing changes.
+    /// Takes the end of the text, which must not be finished. The answer is `ReadError::Fault`
+    /// exactly where the whole text has a fault, with the first, and `ReadError::Memory` where
+    /// memory was refused. After a fault it is always that one and nothing changes.
     ///
     /// At most one line, the last, is still to be read here.
     pub fn finish(&mut self) -> Result<(), ReadError>
         requires { self.old.is_finished ≡ false }
         ensures stands { (text : List ℕ) → StandsFor self.old text → StandsFor self.new text }
-        ensures told { (text : List ℕ) → StandsFor self.old text → IfNone self.old.fault (Gives (λ _. files self.new) fault_told result (inventory self.old.most text)) }
+        ensures told { (text : List ℕ) → StandsFor self.old text
+            → IfNone self.old.fault
+            (Gives (λ _. files self.new) fault_told result (inventory self.old.most text)) }
         ensures failed { IfSome self.old.fault (λ f. (result ≡ Err f) × (self.new ≡ self.old)) }
-        ensures fault { IfNone self.old.fault (MatchResult result (λ _. (self.new.fault ≡ None) × (self.new.is_finished ≡ true)) (λ f. (self.new.fault ≡ Some f) × (self.new.is_finished ≡ false))) }
-        ensures grow { GrowAlike (files self.old) (files self.new) self.old.waiting self.new.waiting }
+        ensures fault { IfNone self.old.fault
+            (MatchResult result (λ _. (self.new.fault ≡ None) × (self.new.is_finished ≡ true))
+            (λ f. (self.new.fault ≡ Some f) × (self.new.is_finished ≡ false))) }
+        ensures grow { GrowAlike (files self.old) (files self.new) self.old.waiting
+            self.new.waiting }
         ensures most { self.new.most ≡ self.old.most }
     {
         if let Some(fault) = self.fault {
@@ -121,10 +147,11 @@ impl Reader {
         self.is_finished
     }
 
-    /// The next of the files so far, in order of first appearance, until all were handed out. Takes no memory, and constant
-    /// time.
+    /// The next of the files so far, in order of first appearance, until all were handed out. Takes
+    /// no memory, and constant time.
     pub fn next_entry(&mut self) -> Option<Entry>
-        ensures next { MatchOption result ((self.old.waiting ≡ []) × (self.new.waiting ≡ [])) (λ entry. self.old.waiting ≡ entry ∷ self.new.waiting) }
+        ensures next { MatchOption result ((self.old.waiting ≡ []) × (self.new.waiting ≡ []))
+            (λ entry. self.old.waiting ≡ entry ∷ self.new.waiting) }
         ensures stays { self.new ≡ record self.old { waiting = self.new.waiting } }
         ensures stands { (text : List ℕ) → StandsFor self.old text → StandsFor self.new text }
     {

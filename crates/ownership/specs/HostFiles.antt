@@ -1,7 +1,8 @@
 -- The files of one host, and how many of them each row of its tables owns.
--- Source: passwd(5) and group(5) (a row gives its name one number, which the name's files have); that files are counted by
--- rows is this project's own rule.
-use Rattle.std.specs.Prelude.{◌≡◌, ℕ, ◌+◌, ◌==◌, ◌&&◌, Bool, if◌then◌else◌, List, map, length, count_by, slice_index_or}
+-- Source: passwd(5) and group(5) (a row gives its name one number, which the name's files have);
+-- that files are counted by rows is this project's own rule.
+use Rattle.std.specs.Prelude.{◌≡◌, ℕ, ◌+◌, ◌==◌, ◌&&◌, Bool, if◌then◌else◌, List, map, length}
+use Rattle.std.specs.Prelude.{count_by, slice_index_or}
 use Rattle.std.specs.List.{All}
 use Rattle.hosts_join.specs.Accounts.{Account, owner, no_row}
 use Rattle.hosts_join.specs.declared.host.Host.{Host}
@@ -14,7 +15,8 @@ abbrev pub AreOfHost : ℕ → List Added → Type 0
 AreOfHost index here = All (λ f. f.host ≡ index) here
 
 -- for each row of passwd and of group, in their order, how many of the files have its number
-pub record AreRowCounts (host : Host) (here : List Added) (by_users by_groups : List ℕ) : Type 0 where
+pub record AreRowCounts (host : Host) (here : List Added) (by_users by_groups : List ℕ) :
+    Type 0 where
   pub users : by_users ≡ map (λ r. count_by (λ f. f.uid == r.uid) here) host.users
   pub groups : by_groups ≡ map (λ r. count_by (λ f. f.gid == r.gid) here) host.groups
 
@@ -26,11 +28,17 @@ row_number pairs r = (slice_index_or pairs r no_row).1
 -- the files of those of the first rows whose numbers pass
 -- files: how many each row has
 abbrev pub rows_with : (ℕ → Bool) → List (List ℕ × ℕ) → List ℕ → ℕ → ℕ
-rows_with passes pairs files rows = sum_below (λ r. if passes (row_number pairs r) then slice_index_or files r 0 else 0) rows
+rows_with passes pairs files rows =
+    sum_below (λ r. if passes (row_number pairs r) then slice_index_or files r 0 else 0) rows
 
--- the files of the first rows of the host with the index more, each of the name that has the row's number there
-pub record CountsRows (names : List Account) (index : ℕ) (pairs : List (List ℕ × ℕ)) (files : List ℕ) (rows : ℕ) (old new : List Tally) : Type 0 where
+-- the files of the first rows of the host with the index more, each of the name that has the row's
+-- number there
+pub record CountsRows (names : List Account) (index : ℕ) (pairs : List (List ℕ × ℕ))
+    (files : List ℕ) (rows : ℕ) (old new : List Tally) : Type 0 where
   pub len : length new ≡ length old
   pub cells : (i v : ℕ) → has_cell (tally_at new i).cells v ≡ has_cell (tally_at old i).cells v
-  pub kept : (i v : ℕ) → told_kept new i v ≡ told_kept old i v + rows_with (λ n. is_place i (owner names index n) && (n == v)) pairs files rows
-  pub total : (i : ℕ) → told_total new i ≡ told_total old i + rows_with (λ n. is_place i (owner names index n)) pairs files rows
+  pub kept : (i v : ℕ) → told_kept new i v
+      ≡ told_kept old i v + rows_with (λ n. is_place i (owner names index n) && (n == v)) pairs
+      files rows
+  pub total : (i : ℕ) → told_total new i
+      ≡ told_total old i + rows_with (λ n. is_place i (owner names index n)) pairs files rows

@@ -1,6 +1,7 @@
 -- Mappings: a number for each name of a kind, by the index of the name.
 -- Source: the assignment problem; which numbers a name may have is this project's own rule.
-use Rattle.std.specs.Prelude.{◌≡◌, ℕ, ◌<◌, ◌≤◌, true, List, All, length, slice_index_or, Option, Some, None}
+use Rattle.std.specs.Prelude.{◌≡◌, ℕ, ◌<◌, ◌≤◌, true, List, All, length, slice_index_or, Option}
+use Rattle.std.specs.Prelude.{Some, None}
 use Rattle.hosts_join.specs.Accounts.{Accounts}
 use Rattle.hosts_join.specs.Rules.{class_at, in_pool}
 use Rattle.hosts_join.specs.Site.{Joined}
@@ -31,7 +32,8 @@ pub record IsMapping (m : List ℕ) : Type 0 where
   pub distinct : AreDistinct m
   pub ids : All (λ v. v ≤ 4294967294) m
 
--- An admissible mapping (of the assignment problem): each name has a number, one that it may have, and no two names share one.
+-- An admissible mapping (of the assignment problem): each name has a number, one that it may have,
+-- and no two names share one.
 pub record IsAdmissible (a : Accounts) (m : List ℕ) : Type 0 where
   pub len : length m ≡ length a.names
   pub lawful : (i : ℕ) → i < length a.names → MayHave a (class_at a i) (number_at m i)

@@ -1,5 +1,6 @@
 -- Weights: how well a name keeps its ways with a number.
--- Source: the assignment problem (weights); what they weigh, and the filling, is this project's own rule.
+-- Source: the assignment problem (weights); what they weigh, and the filling, is this project's own
+-- rule.
 use Rattle.std.specs.Prelude.{◌≡◌, ◌≢◌, ℕ, ◌+◌, ◌*◌, ◌<◌, true, if◌then◌else◌, List, length}
 use Rattle.std.specs.Cmp.Lexicographic.{slice_cmp}
 use Rattle.std.specs.Ordering.{nat_cmp}
@@ -25,9 +26,12 @@ told_weight a tallies i v = file_weight a * told_kept tallies i v + lines (accou
 
 -- what the numbers of the free names weigh together
 abbrev pub free_weight : Accounts → List File → List ℕ → ℕ
-free_weight a files m = sum_below (λ i. if is_free_class (class_at a i) then weight a files i (number_at m i) else 0) (length a.names)
+free_weight a files m =
+    sum_below (λ i. if is_free_class (class_at a i) then weight a files i (number_at m i) else 0)
+    (length a.names)
 
--- a free name whose number has no weight for it: no file and no account row of the name has that number
+-- a free name whose number has no weight for it: no file and no account row of the name has that
+-- number
 pub record IsFresh (a : Accounts) (files : List File) (m : List ℕ) (i : ℕ) : Type 0 where
   pub free : is_free_class (class_at a i) ≡ true
   pub weightless : weight a files i (number_at m i) ≡ 0
@@ -36,8 +40,8 @@ pub record IsFresh (a : Accounts) (files : List File) (m : List ℕ) (i : ℕ) :
 abbrev pub Precedes : Accounts → ℕ → ℕ → Type 0
 Precedes a j i = slice_cmp nat_cmp (account a j).name (account a i).name ≡ Less
 
--- Some names wait for a number, and are served in byte order. The number is had before the name at i is served: by a name that
--- does not wait, or by one that is served before it.
+-- Some names wait for a number, and are served in byte order. The number is had before the name at
+-- i is served: by a name that does not wait, or by one that is served before it.
 pub record IsHad (a : Accounts) (Waits : ℕ → Type 0) (m : List ℕ) (i v : ℕ) : Type 0 where
   pub by : ℕ
   pub within : by < length a.names
@@ -47,4 +51,6 @@ pub record IsHad (a : Accounts) (Waits : ℕ → Type 0) (m : List ℕ) (i v : �
 
 -- Each name that waits has the smallest number of its pool that is not had before.
 abbrev pub IsFilled : Accounts → (ℕ → Type 0) → List ℕ → Type 0
-IsFilled a Waits m = (i v : ℕ) → i < length a.names → Waits i → in_pool a (class_at a i) v ≡ true → v < number_at m i → IsHad a Waits m i v
+IsFilled a Waits m =
+    (i v : ℕ) → i < length a.names → Waits i → in_pool a (class_at a i) v ≡ true → v < number_at m i
+    → IsHad a Waits m i v

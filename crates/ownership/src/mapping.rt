@@ -4,8 +4,8 @@ ghost use Rattle.ownership.specs.Mappings.{IsMapping, number_at};
 
 use std::marker::Model;
 
-/// A number for each name, by the name's index: numbers of at most 4294967294, no two of them the same. Four bytes a name.
-/// A contract sees the list of the numbers. No call takes memory.
+/// A number for each name, by the name's index: numbers of at most 4294967294, no two of them the
+/// same. Four bytes a name. A contract sees the list of the numbers. No call takes memory.
 #[derive(Drop)]
 pub struct Mapping {
     numbers: Vec<u32>,

@@ -12,6 +12,7 @@ abbrev pub KeepsName : Accounts → List ℕ → ℕ → ℕ → ℕ → Type 0
 KeepsName a m host old new = (i : ℕ) → owner a.names host old ≡ Some i → new ≡ number_at m i
 
 -- a file with the new owner has, under the mappings, the user name and the group name that it had
-pub record KeepsNames (site : Joined) (users groups : List ℕ) (host : ℕ) (file : Entry) (new : Owner) : Type 0 where
+pub record KeepsNames (site : Joined) (users groups : List ℕ) (host : ℕ) (file : Entry)
+    (new : Owner) : Type 0 where
   pub user : KeepsName site.users users host file.uid new.uid
   pub group : KeepsName site.groups groups host file.gid new.gid

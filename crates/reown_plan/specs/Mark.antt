@@ -1,6 +1,7 @@
 -- Which plan a mark is of.
 -- Source: this project's own rule; the digest is SHA-256 (FIPS 180-4).
-use Rattle.std.specs.Prelude.{ℕ, ◌-◌, ◌==◌, ◌&&◌, Bool, false, List, ◌++◌, Option, None, Some, length, replicate}
+use Rattle.std.specs.Prelude.{ℕ, ◌-◌, ◌==◌, ◌&&◌, Bool, false, List, ◌++◌, Option, None, Some}
+use Rattle.std.specs.Prelude.{length, replicate}
 use Rattle.std.specs.Str.{bytes_eq}
 use Rattle.sha2.specs.Sha256.{sha256}
 use Rattle.reown_plan.specs.declared.mark.PlanMark.{PlanMark}
@@ -13,7 +14,12 @@ padded name = name ++ replicate (64 - length name) 0
 
 -- the mark of a plan: its host, and the length and the digest of its text
 abbrev pub mark_of : PlanData → PlanMark
-mark_of plan = record { host = padded plan.host; length = length (spelling plan); digest = sha256 (spelling plan) }
+mark_of plan =
+    record {
+      host = padded plan.host;
+      length = length (spelling plan);
+      digest = sha256 (spelling plan);
+    }
 
 abbrev pub mark_eq : PlanMark → PlanMark → Bool
 mark_eq a b = bytes_eq a.host b.host && (a.length == b.length) && bytes_eq a.digest b.digest

@@ -1,6 +1,7 @@
 -- How a plan is spelled.
 -- Source: this project's own format. That 4294967295 is no number of an owner is that of chown(2).
-use Rattle.std.specs.Prelude.{◌≡◌, ◌≢◌, ◌≤◌, ℕ, List, [], ◌∷◌, ◌++◌, All, true, length, flat_map, codes, decimal}
+use Rattle.std.specs.Prelude.{◌≡◌, ◌≢◌, ◌≤◌, ℕ, List, [], ◌∷◌, ◌++◌, All, true, length, flat_map}
+use Rattle.std.specs.Prelude.{codes, decimal}
 use Rattle.hosts_join.specs.Checks.{is_host_name}
 use Rattle.mtree_inv.specs.Files.{IsLawfulPath}
 use Rattle.reown_plan.specs.declared.plan.Owner.{Owner}
@@ -15,7 +16,9 @@ head host = codes "unify plan 1 " ++ host ++ 10 ∷ []
 
 -- old and new numbers, the length of the path and the path, which may hold spaces and newlines
 abbrev pub line : PlanRecord → List ℕ
-line c = number c.before.uid ++ number c.before.gid ++ number c.after.uid ++ number c.after.gid ++ number (length c.path) ++ c.path ++ 10 ∷ []
+line c =
+    number c.before.uid ++ number c.before.gid ++ number c.after.uid ++ number c.after.gid
+    ++ number (length c.path) ++ c.path ++ 10 ∷ []
 
 abbrev pub end : List ℕ
 end = codes "end\n"
@@ -48,9 +51,13 @@ pub record IsLawful (plan : PlanData) : Type 0 where
 pub data IsFaultAt (text : List ℕ) : ℕ → Type 0 where
   no_head : ((host rest : List ℕ) → IsHostName host → text ≢ head host ++ rest) → IsFaultAt text 0
   -- behind a lawful header and lawful records stands no record of another path, and no end
-  no_record : (host : List ℕ) (records : List PlanRecord) (rest : List ℕ) → IsHostName host → All IsLawfulRecord records → HaveDistinctPaths records → text ≡ head host ++ lines records ++ rest
-      → ((c : PlanRecord) (after : List ℕ) → IsLawfulRecord c → All (λ d. d.path ≢ c.path) records → rest ≢ line c ++ after)
+  no_record : (host : List ℕ) (records : List PlanRecord) (rest : List ℕ) → IsHostName host
+      → All IsLawfulRecord records → HaveDistinctPaths records
+      → text ≡ head host ++ lines records ++ rest
+      → ((c : PlanRecord) (after : List ℕ) → IsLawfulRecord c → All (λ d. d.path ≢ c.path) records
+      → rest ≢ line c ++ after)
       → ((after : List ℕ) → rest ≢ end ++ after)
       → IsFaultAt text (length (head host ++ lines records))
   -- something stands behind the end
-  trailing : (plan : PlanData) (rest : List ℕ) → IsLawful plan → text ≡ spelling plan ++ rest → rest ≢ [] → IsFaultAt text (length (spelling plan))
+  trailing : (plan : PlanData) (rest : List ℕ) → IsLawful plan → text ≡ spelling plan ++ rest
+      → rest ≢ [] → IsFaultAt text (length (spelling plan))

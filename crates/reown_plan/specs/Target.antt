@@ -1,6 +1,7 @@
 -- The owners that the files of a host get.
 -- Source: this project's own rule.
-use Rattle.std.specs.Prelude.{◌≡◌, ℕ, not, List, [], map, filter, length, Option, Some, None, find, bytes_eq, slice_index_or}
+use Rattle.std.specs.Prelude.{◌≡◌, ℕ, not, List, [], map, filter, length, Option, Some, None, find}
+use Rattle.std.specs.Prelude.{bytes_eq, slice_index_or}
 use Rattle.hosts_join.specs.Accounts.{Accounts, owner}
 use Rattle.hosts_join.specs.Site.{Joined}
 use Rattle.hosts_join.specs.declared.host.Host.{Host}
@@ -16,7 +17,11 @@ renumbered a m host v = number_under m (owner a.names host v) v
 
 -- what a file gets: the new number of its user's name, and that of its group's name
 abbrev pub target : Joined → List ℕ → List ℕ → ℕ → Entry → Owner
-target site users groups host file = record { uid = renumbered site.users users host file.uid; gid = renumbered site.groups groups host file.gid }
+target site users groups host file =
+    record {
+      uid = renumbered site.users users host file.uid;
+      gid = renumbered site.groups groups host file.gid;
+    }
 
 -- the record of a file
 abbrev pub record_to : (Entry → Owner) → Entry → PlanRecord
@@ -36,7 +41,8 @@ name_at hosts host = slice_index_or (map (λ h. h.name) hosts) host []
 
 -- the plan of the host at an index
 abbrev pub host_plan : List Host → Joined → List ℕ → List ℕ → ℕ → List Entry → PlanData
-host_plan hosts site users groups host files = record { host = name_at hosts host; records = plan_of site users groups host files }
+host_plan hosts site users groups host files =
+    record { host = name_at hosts host; records = plan_of site users groups host files }
 
 -- the owner that a file has after a plan: the new one of its record, else the one that it has
 abbrev pub after_record : Option PlanRecord → Owner → Owner
@@ -44,7 +50,8 @@ after_record None has = has
 after_record (Some r) has = r.after
 
 abbrev pub owner_after : List PlanRecord → Entry → Owner
-owner_after records file = after_record (find (λ r. bytes_eq file.path r.path) records) (owner_of file)
+owner_after records file =
+    after_record (find (λ r. bytes_eq file.path r.path) records) (owner_of file)
 
 -- the mappings have one number for each name of the site
 pub record AreForSite (site : Joined) (users groups : List ℕ) : Type 0 where

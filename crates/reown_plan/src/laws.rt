@@ -15,30 +15,44 @@ ghost use Rattle.reown_plan.specs.Target.{target, plan_of, host_plan, name_at, o
 
 /// A plan has one spelling, and none begins another's.
 pub fn one_spelling()
-    ensures { (one other : PlanData) (rest : List ℕ) → IsLawful one → IsLawful other → spelling other ≡ spelling one ++ rest → (one ≡ other) × (rest ≡ []) }
+    ensures { (one other : PlanData) (rest : List ℕ) → IsLawful one → IsLawful other
+        → spelling other ≡ spelling one ++ rest → (one ≡ other) × (rest ≡ []) }
 {}
 
 /// A text is one plan, or has one place of its fault, and never both.
 pub fn one_reading()
-    ensures { (text : List ℕ) (one other : Result PlanData ℕ) → ReadsAs text one → ReadsAs text other → one ≡ other }
+    ensures { (text : List ℕ) (one other : Result PlanData ℕ) → ReadsAs text one
+        → ReadsAs text other → one ≡ other }
 {}
 
-/// The plan that is written for a host is read back, where its name is lawful, its files are those of an inventory, and the
-/// mappings give numbers that an account may have.
+/// The plan that is written for a host is read back, where its name is lawful, its files are those
+/// of an inventory, and the mappings give numbers that an account may have.
 pub fn plans_read_back()
-    ensures { (hosts : List Host) (site : Joined) (users groups : List ℕ) (host : ℕ) (files : List Entry) → IsHostName (name_at hosts host) → IsMapping users → IsMapping groups → AreFiles files → ReadsAs (spelling (host_plan hosts site users groups host files)) (Ok (host_plan hosts site users groups host files)) }
+    ensures { (hosts : List Host) (site : Joined) (users groups : List ℕ) (host : ℕ)
+        (files : List Entry) → IsHostName (name_at hosts host) → IsMapping users → IsMapping groups
+        → AreFiles files
+        → ReadsAs (spelling (host_plan hosts site users groups host files))
+        (Ok (host_plan hosts site users groups host files)) }
 {}
 
-/// After a host's plan each file has its target, and so, under the mappings, the user name and the group name that it had,
-/// where its numbers had names on the host.
+/// After a host's plan each file has its target, and so, under the mappings, the user name and the
+/// group name that it had, where its numbers had names on the host.
 pub fn plans_keep_names()
-    ensures targets { (site : Joined) (users groups : List ℕ) (host : ℕ) (files : List Entry) → HaveDistinctFiles files → All (λ f. owner_after (plan_of site users groups host files) f ≡ target site users groups host f) files }
-    ensures names { (site : Joined) (users groups : List ℕ) (host : ℕ) (files : List Entry) → HaveDistinctFiles files → All (λ f. KeepsNames site users groups host f (owner_after (plan_of site users groups host files) f)) files }
+    ensures targets { (site : Joined) (users groups : List ℕ) (host : ℕ) (files : List Entry)
+        → HaveDistinctFiles files
+        → All (λ f. owner_after (plan_of site users groups host files) f
+        ≡ target site users groups host f) files }
+    ensures names { (site : Joined) (users groups : List ℕ) (host : ℕ) (files : List Entry)
+        → HaveDistinctFiles files
+        → All
+        (λ f. KeepsNames site users groups host f
+        (owner_after (plan_of site users groups host files) f)) files }
 {}
 
-/// Marks are compared field by field, and plans of one mark are of one host. That such plans have one text is the word of
-/// SHA-256, and no law.
+/// Marks are compared field by field, and plans of one mark are of one host. That such plans have
+/// one text is the word of SHA-256, and no law.
 pub fn marks_tell_plans()
     ensures equal { (a b : PlanMark) → (mark_eq a b ≡ true) ↔ (a ≡ b) }
-    ensures hosts { (a b : PlanData) → IsHostName a.host → IsHostName b.host → mark_of a ≡ mark_of b → a.host ≡ b.host }
+    ensures hosts { (a b : PlanData) → IsHostName a.host → IsHostName b.host → mark_of a ≡ mark_of b
+        → a.host ≡ b.host }
 {}

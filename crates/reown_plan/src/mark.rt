@@ -30,7 +30,12 @@ impl PlanMark {
     // The mark of a plan with this host and this text.
     pub(crate) fn new(host: &[u8], text: &[u8]) -> PlanMark
         requires { length host.now ≤ 64 }
-        ensures { result ≡ record { host = spec.padded host.now; length = length text.now; digest = sha256 text.now } }
+        ensures { result
+            ≡ record {
+              host = spec.padded host.now;
+              length = length text.now;
+              digest = sha256 text.now;
+            } }
     {
         PlanMark {
             host: padded(host),

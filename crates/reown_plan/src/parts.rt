@@ -5,7 +5,8 @@ use std::alloc::AllocError;
 
 // Appends each part, also where memory runs out on the way.
 fn push_each_part(out: &mut Vec<u8>, parts: &[&[u8]]) -> Result<(), AllocError>
-    ensures pushed { OnOk result (out.new.items ≡ out.old.items ++ flat_map (λ part. part.now) parts.now) }
+    ensures pushed { OnOk result
+        (out.new.items ≡ out.old.items ++ flat_map (λ part. part.now) parts.now) }
     ensures kept { take (length out.old.items) out.new.items ≡ out.old.items }
 {
     for part in parts {
@@ -16,7 +17,9 @@ fn push_each_part(out: &mut Vec<u8>, parts: &[&[u8]]) -> Result<(), AllocError>
 
 // Appends the parts one after the other, or nothing where memory runs out.
 pub(crate) fn push_parts(out: &mut Vec<u8>, parts: &[&[u8]]) -> Result<(), AllocError>
-    ensures { out.new.items ≡ (if is_ok result then out.old.items ++ flat_map (λ part. part.now) parts.now else out.old.items) }
+    ensures { out.new.items
+        ≡ (if is_ok result then out.old.items ++ flat_map (λ part. part.now) parts.now
+        else out.old.items) }
 {
     let before = out.len();
     let pushed = push_each_part(out, parts);

@@ -31,7 +31,8 @@ pub struct Record<'a> {
 /// Why a text is no plan.
 #[derive(Clone, Copy, Debug, PartialEq, Eq)]
 pub enum PlanFault {
-    /// 35: the first header, record or end that is not lawful begins at this byte; bytes count from 0.
+    /// 35: the first header, record or end that is not lawful begins at this byte; bytes count from
+    /// 0.
     BadPlan(usize),
     /// A growth was refused. It has no number.
     Memory,
@@ -56,7 +57,10 @@ impl<'a> Model for Plan<'a> {
 
     ghost view = { λ p. record { host = p.host.now; records = map record_of p.records.items } };
 
-    ghost invariant = { λ p. HaveDistinctPaths (map record_of p.records.items) × IsHostName p.host.now × (p.text.now ≡ spelling (record { host = p.host.now; records = map record_of p.records.items })) };
+    ghost invariant = { λ p. HaveDistinctPaths (map record_of p.records.items)
+        × IsHostName p.host.now
+        × (p.text.now
+        ≡ spelling (record { host = p.host.now; records = map record_of p.records.items })) };
 }
 
 ghost use Rattle.std.specs.Prelude.{map, ℕ, IfOk, IfErr, MatchResult};
@@ -95,8 +99,10 @@ impl<'a> Plan<'a> {
     pub fn read(alloc: Global, text: &'a [u8]) -> Result<Plan<'a>, PlanFault>
         ensures spelled { IfOk result (λ plan. text.now ≡ spelling plan) }
         ensures lawful { IfOk result (λ plan. IsLawful plan) }
-        ensures fault { IfErr result (λ fault. (offset : ℕ) → fault ≡ BadPlan offset → IsFaultAt text.now offset) }
-        ensures complete { (plan : PlanData) → IsLawful plan → text.now ≡ spelling plan → MatchResult result (λ read. read ≡ plan) (λ fault. fault ≡ Memory) }
+        ensures fault { IfErr result
+            (λ fault. (offset : ℕ) → fault ≡ BadPlan offset → IsFaultAt text.now offset) }
+        ensures complete { (plan : PlanData) → IsLawful plan → text.now ≡ spelling plan
+            → MatchResult result (λ read. read ≡ plan) (λ fault. fault ≡ Memory) }
     {
         let Some((host, mut rest)) = read_head(text) else {
             return Err(PlanFault::BadPlan(0));

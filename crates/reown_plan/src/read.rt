@@ -1,7 +1,9 @@
 //! Readers of a plan's parts.
-ghost use Rattle.std.specs.Prelude.{◌≡◌, ◌≢◌, ◌++◌, ◌≤◌, ◌<◌, ◌^◌, ◌∷◌, ℕ, List, All, true, IsSomeAnd, decimal, length, IfSome, IfNone};
+ghost use Rattle.std.specs.Prelude.{◌≡◌, ◌≢◌, ◌++◌, ◌≤◌, ◌<◌, ◌^◌, ◌∷◌, ℕ, List, All, true};
+ghost use Rattle.std.specs.Prelude.{IsSomeAnd, decimal, length, IfSome, IfNone};
 ghost use Rattle.reown_plan.specs.declared.plan.Owner.{Owner};
-ghost use Rattle.reown_plan.specs.Spelling.{number, head, line, IsHostName, IsOwner, IsLawfulRecord};
+ghost use Rattle.reown_plan.specs.Spelling.{number, head, line, IsHostName, IsOwner};
+ghost use Rattle.reown_plan.specs.Spelling.{IsLawfulRecord};
 ghost use Rattle.mtree_inv.specs.Files.{IsLawfulPath};
 ghost use Rattle.reown_plan.specs.Records.{record_of};
 ghost use Rattle.reown_plan.specs.PlanData.{PlanRecord};
@@ -28,7 +30,8 @@ fn written(text: &[u8]) -> Option<u32>
 // A number and the space behind it, and what follows.
 fn read_number(text: &[u8]) -> Option<(u32, &[u8])>
     ensures spelled { IfSome result (λ r. text.now ≡ number r.0 ++ r.1.now) }
-    ensures complete { (n : ℕ) (rest : List ℕ) → n < 2 ^ 32 → text.now ≡ number n ++ rest → IsSomeAnd result (λ r. (r.0 ≡ n) × (r.1.now ≡ rest)) }
+    ensures complete { (n : ℕ) (rest : List ℕ) → n < 2 ^ 32 → text.now ≡ number n ++ rest
+        → IsSomeAnd result (λ r. (r.0 ≡ n) × (r.1.now ≡ rest)) }
 {
     let (digits, rest) = cut(b' ', text)?;
     let value = written(digits)?;
@@ -39,7 +42,8 @@ fn read_number(text: &[u8]) -> Option<(u32, &[u8])>
 fn read_id(text: &[u8]) -> Option<(u32, &[u8])>
     ensures spelled { IfSome result (λ r. text.now ≡ number r.0 ++ r.1.now) }
     ensures lawful { IfSome result (λ r. r.0 ≤ 4294967294) }
-    ensures complete { (n : ℕ) (rest : List ℕ) → n ≤ 4294967294 → text.now ≡ number n ++ rest → IsSomeAnd result (λ r. (r.0 ≡ n) × (r.1.now ≡ rest)) }
+    ensures complete { (n : ℕ) (rest : List ℕ) → n ≤ 4294967294 → text.now ≡ number n ++ rest
+        → IsSomeAnd result (λ r. (r.0 ≡ n) × (r.1.now ≡ rest)) }
 {
     let (value, rest) = read_number(text)?;
     if value > LARGEST_ID {
@@ -52,7 +56,8 @@ fn read_id(text: &[u8]) -> Option<(u32, &[u8])>
 pub(crate) fn read_head(text: &[u8]) -> Option<(&[u8], &[u8])>
     ensures spelled { IfSome result (λ r. text.now ≡ head r.0.now ++ r.1.now) }
     ensures lawful { IfSome result (λ r. IsHostName r.0.now) }
-    ensures complete { (host rest : List ℕ) → IsHostName host → text.now ≡ head host ++ rest → IsSomeAnd result (λ r. (r.0.now ≡ host) × (r.1.now ≡ rest)) }
+    ensures complete { (host rest : List ℕ) → IsHostName host → text.now ≡ head host ++ rest
+        → IsSomeAnd result (λ r. (r.0.now ≡ host) × (r.1.now ≡ rest)) }
 {
     let after = text.strip_prefix(b"unify plan 1 ")?;
     let (host, rest) = cut(b'\n', after)?;
@@ -66,7 +71,9 @@ pub(crate) fn read_head(text: &[u8]) -> Option<(&[u8], &[u8])>
 pub(crate) fn read_record(text: &[u8]) -> Option<(Record<'_>, &[u8])>
     ensures spelled { IfSome result (λ r. text.now ≡ line (record_of r.0) ++ r.1.now) }
     ensures lawful { IfSome result (λ r. IsLawfulRecord (record_of r.0)) }
-    ensures complete { (c : PlanRecord) (rest : List ℕ) → IsLawfulRecord c → text.now ≡ line c ++ rest → IsSomeAnd result (λ r. (record_of r.0 ≡ c) × (r.1.now ≡ rest)) }
+    ensures complete { (c : PlanRecord) (rest : List ℕ) → IsLawfulRecord c
+        → text.now ≡ line c ++ rest
+        → IsSomeAnd result (λ r. (record_of r.0 ≡ c) × (r.1.now ≡ rest)) }
 {
     let (before, text) = read_owner(text)?;
     let (after, text) = read_owner(text)?;
@@ -88,7 +95,9 @@ fn read_path(text: &[u8], size: usize) -> Option<(&[u8], &[u8])>
     ensures spelled { IfSome result (λ r. text.now ≡ r.0.now ++ 10 ∷ r.1.now) }
     ensures length { IfSome result (λ r. length r.0.now ≡ size) }
     ensures lawful { IfSome result (λ r. IsLawfulPath r.0.now) }
-    ensures complete { (path rest : List ℕ) → IsLawfulPath path → length path ≡ size → text.now ≡ path ++ 10 ∷ rest → IsSomeAnd result (λ r. (r.0.now ≡ path) × (r.1.now ≡ rest)) }
+    ensures complete { (path rest : List ℕ) → IsLawfulPath path → length path ≡ size
+        → text.now ≡ path ++ 10 ∷ rest
+        → IsSomeAnd result (λ r. (r.0.now ≡ path) × (r.1.now ≡ rest)) }
 {
     if size == 0 || size > MOST_BYTES || size >= text.len() || text[size] != b'\n' {
         return None;
@@ -110,7 +119,9 @@ fn has_no_nul(path: &[u8]) -> bool
 fn read_owner(text: &[u8]) -> Option<(Owner, &[u8])>
     ensures spelled { IfSome result (λ r. text.now ≡ number r.0.uid ++ number r.0.gid ++ r.1.now) }
     ensures lawful { IfSome result (λ r. IsOwner r.0) }
-    ensures complete { (owner : Owner) (rest : List ℕ) → IsOwner owner → text.now ≡ number owner.uid ++ number owner.gid ++ rest → IsSomeAnd result (λ r. (r.0 ≡ owner) × (r.1.now ≡ rest)) }
+    ensures complete { (owner : Owner) (rest : List ℕ) → IsOwner owner
+        → text.now ≡ number owner.uid ++ number owner.gid ++ rest
+        → IsSomeAnd result (λ r. (r.0 ≡ owner) × (r.1.now ≡ rest)) }
 {
     let (uid, text) = read_id(text)?;
     let (gid, text) = read_id(text)?;

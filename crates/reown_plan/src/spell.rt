@@ -8,17 +8,21 @@ use crate::parts::push_parts;
 use itoa::Buffer;
 use std::alloc::AllocError;
 
-/// Appends the first line of a host's plan. `AllocError` where memory runs out; the text is then as before. One pass over the
-/// name.
+/// Appends the first line of a host's plan. `AllocError` where memory runs out; the text is then as
+/// before. One pass over the name.
 pub fn push_plan_head(text: &mut Vec<u8>, host: &[u8]) -> Result<(), AllocError>
-    ensures { text.new.items ≡ (if is_ok result then text.old.items ++ head host.now else text.old.items) }
+    ensures { text.new.items
+        ≡ (if is_ok result then text.old.items ++ head host.now else text.old.items) }
 {
     push_parts(text, &[b"unify plan 1 ".as_slice(), host, b"\n".as_slice()])
 }
 
-/// Appends one record. `AllocError` where memory runs out; the text is then as before. One pass over the path.
+/// Appends one record. `AllocError` where memory runs out; the text is then as before. One pass
+/// over the path.
 pub fn push_record(text: &mut Vec<u8>, planned: &Record<'_>) -> Result<(), AllocError>
-    ensures { text.new.items ≡ (if is_ok result then text.old.items ++ line (record_of planned.now) else text.old.items) }
+    ensures { text.new.items
+        ≡ (if is_ok result then text.old.items ++ line (record_of planned.now)
+        else text.old.items) }
 {
     let mut old_uid = Buffer::new();
     let mut old_gid = Buffer::new();
@@ -44,7 +48,8 @@ pub fn push_record(text: &mut Vec<u8>, planned: &Record<'_>) -> Result<(), Alloc
     )
 }
 
-/// Appends the last line. `AllocError` where memory runs out; the text is then as before. Takes constant time but for growth.
+/// Appends the last line. `AllocError` where memory runs out; the text is then as before. Takes
+/// constant time but for growth.
 pub fn push_plan_end(text: &mut Vec<u8>) -> Result<(), AllocError>
     ensures { text.new.items ≡ (if is_ok result then text.old.items ++ end else text.old.items) }
 {

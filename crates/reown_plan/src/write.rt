@@ -34,12 +34,12 @@ fn target_of(site: &Site<'_>, users: &Mapping, groups: &Mapping, host: u32, entr
 }
 
 /// Appends the record of a file of the host at an index where the mappings give the file another
-/// owner, and nothing for another file; true exactly where a record was appended. A uid or a gid that
-/// no name of the site has there stays as it is. Asked is that the mappings have one number for each
-/// name of the site.
+/// owner, and nothing for another file; true exactly where a record was appended. A uid or a gid
+/// that no name of the site has there stays as it is. Asked is that the mappings have one number
+/// for each name of the site.
 ///
-/// Refused where memory is; the text is then as before. Two look-ups by hash, and one pass over the path where a record is
-/// appended.
+/// Refused where memory is; the text is then as before. Two look-ups by hash, and one pass over the
+/// path where a record is appended.
 pub fn push_plan_entry(
     text: &mut Vec<u8>,
     host: u32,
@@ -49,8 +49,15 @@ pub fn push_plan_entry(
     entry: &Entry,
 ) -> Result<bool, AllocError>
     requires { AreForSite site.now users.now groups.now }
-    ensures appended { IfOk result (λ appended. appended ≡ not (owner_eq (owner_of entry.now) (target site.now users.now groups.now host entry.now))) }
-    ensures text { text.new.items ≡ (if result_unwrap_or result false then text.old.items ++ line (record_to (target site.now users.now groups.now host) entry.now) else text.old.items) }
+    ensures appended { IfOk result
+        (λ appended. appended
+        ≡ not
+        (owner_eq (owner_of entry.now) (target site.now users.now groups.now host entry.now))) }
+    ensures text { text.new.items
+        ≡ (if result_unwrap_or result false
+        then text.old.items
+        ++ line (record_to (target site.now users.now groups.now host) entry.now)
+        else text.old.items) }
 {
     let before = Owner {
         uid: entry.uid,
@@ -72,11 +79,13 @@ pub fn push_plan_entry(
     Ok(true)
 }
 
-/// The text of the plan of the host at an index: a record for each file of its inventory that gets another owner, in the order
-/// of the inventory. It is `push_plan_head`, `push_plan_entry` for each file, and `push_plan_end`.
-/// Asked is that the host is there and that the mappings have one number for each name of the site.
+/// The text of the plan of the host at an index: a record for each file of its inventory that gets
+/// another owner, in the order of the inventory. It is `push_plan_head`, `push_plan_entry` for each
+/// file, and `push_plan_end`. Asked is that the host is there and that the mappings have one number
+/// for each name of the site.
 ///
-/// `AllocError` where memory is refused. Two look-ups by hash for each file, and memory in step with the text.
+/// `AllocError` where memory is refused. Two look-ups by hash for each file, and memory in step
+/// with the text.
 pub fn plan_text(
     alloc: Global,
     host: u32,
@@ -88,7 +97,9 @@ pub fn plan_text(
 ) -> Result<Vec<u8>, AllocError>
     requires here { host < length hosts.now }
     requires for_site { AreForSite site.now users.now groups.now }
-    ensures { IfOk result (λ text. text.items ≡ spelling (host_plan hosts.now site.now users.now groups.now host inventory.now)) }
+    ensures { IfOk result
+        (λ text. text.items
+        ≡ spelling (host_plan hosts.now site.now users.now groups.now host inventory.now)) }
 {
     let mut text = Vec::new(alloc);
     push_plan_head(&mut text, hosts[host as usize].name.bytes())?;

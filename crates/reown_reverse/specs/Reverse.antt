@@ -12,7 +12,8 @@ reversed_record r = record { before = r.after; after = r.before; path = r.path }
 abbrev pub reversed_records : List PlanRecord → List PlanRecord
 reversed_records records = map reversed_record records
 
--- the plan that takes a plan back: of the same host, its records in the same order, each with old and new owner exchanged
+-- the plan that takes a plan back: of the same host, its records in the same order, each with old
+-- and new owner exchanged
 abbrev pub reversed : PlanData → PlanData
 reversed plan = record { host = plan.host; records = reversed_records plan.records }
 

@@ -9,10 +9,14 @@ ghost use Rattle.reown_plan.specs.Spelling.{IsLawful};
 ghost use Rattle.reown_plan.specs.Target.{plan_of, owner_after};
 ghost use Rattle.reown_reverse.specs.Reverse.{reversed, reversed_records, at_owner};
 
-/// A plan that is taken back twice is the plan; a lawful plan is taken back by a lawful one; and after the reverse of a host's
-/// plan each file has the owner back that it had before the plan.
+/// A plan that is taken back twice is the plan; a lawful plan is taken back by a lawful one; and
+/// after the reverse of a host's plan each file has the owner back that it had before the plan.
 pub fn reverses_take_back()
     ensures twice { (plan : PlanData) → reversed (reversed plan) ≡ plan }
     ensures lawful { (plan : PlanData) → IsLawful plan → IsLawful (reversed plan) }
-    ensures back { (site : Joined) (users groups : List ℕ) (host : ℕ) (files : List Entry) → HaveDistinctFiles files → All (λ f. owner_after (reversed_records (plan_of site users groups host files)) (at_owner (owner_after (plan_of site users groups host files) f) f) ≡ owner_of f) files }
+    ensures back { (site : Joined) (users groups : List ℕ) (host : ℕ) (files : List Entry)
+        → HaveDistinctFiles files
+        → All
+        (λ f. owner_after (reversed_records (plan_of site users groups host files))
+        (at_owner (owner_after (plan_of site users groups host files) f) f) ≡ owner_of f) files }
 {}

@@ -18,10 +18,12 @@ fn reverse_of<'a>(planned: &Record<'a>) -> Record<'a>
     }
 }
 
-/// The text of the plan that takes a plan back: of the same host, with the old and the new owner of each record exchanged.
-/// `Plan::read` reads it (`reverses_take_back`), and its mark is that of its own text.
+/// The text of the plan that takes a plan back: of the same host, with the old and the new owner of
+/// each record exchanged. `Plan::read` reads it (`reverses_take_back`), and its mark is that of its
+/// own text.
 ///
-/// `AllocError` where memory is refused. One pass over the records, and memory in step with the text.
+/// `AllocError` where memory is refused. One pass over the records, and memory in step with the
+/// text.
 pub fn reversed_text(alloc: Global, plan: &Plan<'_>) -> Result<Vec<u8>, AllocError>
     ensures { IfOk result (λ text. text.items ≡ spelling (reversed plan.now)) }
 {

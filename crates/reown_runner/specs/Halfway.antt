@@ -1,6 +1,7 @@
 -- A tree that has only the files of a plan, as an earlier run may have left them.
 -- Source: this project's own rule.
-use Rattle.std.specs.Prelude.{◌≡◌, ◌⊎◌, ℕ, ◌<◌, Bool, true, List, Option, map, length, find, slice_index_or}
+use Rattle.std.specs.Prelude.{◌≡◌, ◌⊎◌, ℕ, ◌<◌, Bool, true, List, Option, map, length, find}
+use Rattle.std.specs.Prelude.{slice_index_or}
 use Rattle.std.specs.Option.{option_map}
 use Rattle.std.specs.Str.{bytes_eq}
 use Rattle.reown_plan.specs.declared.mark.PlanMark.{PlanMark}
@@ -16,7 +17,8 @@ use Rattle.reown_runner.specs.Safe.{IsSafeInStep}
 abbrev pub planned_in : List PlanRecord → List ℕ → Option Owner
 planned_in records path = option_map (λ r. r.before) (find (λ r. bytes_eq path r.path) records)
 
--- a runner of the plan may start on such a tree: whatever a stop leaves is safe, and nothing is pending
+-- a runner of the plan may start on such a tree: whatever a stop leaves is safe, and nothing is
+-- pending
 abbrev pub MayGoOn : List PlanRecord → Cells → Type 0
 MayGoOn records cells = IsSafeInStep (planned_in records) records Start cells
 
@@ -32,7 +34,8 @@ mem_of_records records owners mark =
       asked = 0;
     }
 
--- the owner is what an earlier run may have left: the old or the new one, and the new one where the mark is set
+-- the owner is what an earlier run may have left: the old or the new one, and the new one where the
+-- mark is set
 abbrev pub IsHalfway : PlanRecord → Owner → Bool → Type 0
 IsHalfway r owner mark = ((owner ≡ r.before) ⊎ (owner ≡ r.after)) × (mark ≡ true → owner ≡ r.after)
 

@@ -1,6 +1,8 @@
 -- A tree in memory: for each cell the value at the last sync and the value now.
 -- Source: this project's own rule.
-use Rattle.std.specs.Prelude.{◌≡◌, ℕ, ◌%◌, ◌==◌, Bool, true, false, not, List, [], ◌∷◌, Option, None, Some, map, take, length, ◌<◌, slice_index_or, count_by, position, slice_get, slice_set, find, if◌then◌else◌}
+use Rattle.std.specs.Prelude.{◌≡◌, ℕ, ◌%◌, ◌==◌, Bool, true, false, not, List, [], ◌∷◌, Option}
+use Rattle.std.specs.Prelude.{None, Some, map, take, length, ◌<◌, slice_index_or, count_by}
+use Rattle.std.specs.Prelude.{position, slice_get, slice_set, find, if◌then◌else◌}
 use Rattle.std.specs.Option.{option_map, option_and_then}
 use Rattle.std.specs.Str.{bytes_eq}
 use Rattle.mtree_inv.specs.declared.entry.Entry.{Entry}
@@ -12,8 +14,8 @@ use Rattle.reown_runner.specs.declared.memory.Keep.{Keep}
 use Rattle.reown_runner.specs.declared.memory.Keep.TheVariants.{All, Lost, Alternate, MarkOnly}
 use Rattle.reown_runner.specs.declared.memory.FileCell.{FileCell}
 
--- the paths in order of the inventory, the cell of each, the mark at the last sync and now, which values of a stop are
--- kept, and how many writes and syncs were asked for
+-- the paths in order of the inventory, the cell of each, the mark at the last sync and now, which
+-- values of a stop are kept, and how many writes and syncs were asked for
 pub record Mem : Type 0 where
   pub paths : List (List ℕ)
   pub cells : List FileCell
@@ -46,7 +48,8 @@ known_mem m =
 abbrev pub is_pending : FileCell → Bool
 is_pending c = not (owner_eq c.synced c.now)
 
--- of the pending cells the first, third, fifth and so on: those with an even number of pending cells before them
+-- of the pending cells the first, third, fifth and so on: those with an even number of pending
+-- cells before them
 abbrev pub is_odd_one : List FileCell → Bool
 is_odd_one before = count_by is_pending before % 2 == 0
 
@@ -72,7 +75,11 @@ settled_cell owner = record { synced = owner; now = owner }
 abbrev pub IsWritten : List ℕ → Owner → Mem → Mem → Type 0
 IsWritten path owner old new =
     (i : ℕ) × (position (bytes_eq path) old.paths ≡ Some i)
-    × ((c : FileCell) × (slice_get old.cells i ≡ Some c) × (new ≡ record old { cells = slice_set old.cells i (record { synced = c.synced; now = owner }); asked = counted old.asked }))
+    × ((c : FileCell) × (slice_get old.cells i ≡ Some c)
+    × (new ≡ record old {
+      cells = slice_set old.cells i (record { synced = c.synced; now = owner });
+      asked = counted old.asked;
+    }))
 
 -- the mark's write: it is this plan's now, and nothing else changes
 abbrev pub marked : PlanMark → Mem → Mem
@@ -80,7 +87,12 @@ marked plan m = record m { mark_now = Some plan; asked = counted m.asked }
 
 -- a sync: what is there now is synced, and nothing else changes
 abbrev pub settled : Mem → Mem
-settled m = record m { cells = map (λ c. settled_cell c.now) m.cells; mark_synced = m.mark_now; asked = counted m.asked }
+settled m =
+    record m {
+      cells = map (λ c. settled_cell c.now) m.cells;
+      mark_synced = m.mark_now;
+      asked = counted m.asked;
+    }
 
 -- what a stop leaves in a file's cell
 abbrev pub left_cell : Bool → FileCell → FileCell
@@ -90,8 +102,11 @@ left_cell kept c = settled_cell (if kept then c.now else c.synced)
 pub record IsReopened (old new : Mem) : Type 0 where
   pub paths : new.paths ≡ old.paths
   pub as_many : length new.cells ≡ length old.cells
-  pub cells : (k : ℕ) (d : FileCell) → k < length old.cells → slice_index_or new.cells k d ≡ left_cell (keeps_file old.keep (take k old.cells)) (slice_index_or old.cells k d)
-  pub mark : new.mark_now ≡ (if keeps_mark old.keep old.cells then old.mark_now else old.mark_synced)
+  pub cells : (k : ℕ) (d : FileCell) → k < length old.cells
+      → slice_index_or new.cells k d
+      ≡ left_cell (keeps_file old.keep (take k old.cells)) (slice_index_or old.cells k d)
+  pub mark : new.mark_now
+      ≡ (if keeps_mark old.keep old.cells then old.mark_now else old.mark_synced)
   pub mark_synced : new.mark_synced ≡ new.mark_now
   pub keep : new.keep ≡ old.keep
   pub asked : new.asked ≡ old.asked

@@ -4,17 +4,20 @@ use Rattle.std.specs.Prelude.{◌≡◌, ◌≢◌, ◌⊎◌, ℕ, ◌<◌, tru
 use Rattle.reown_plan.specs.declared.plan.Owner.{Owner}
 use Rattle.reown_plan.specs.PlanData.{PlanRecord}
 use Rattle.reown_runner.specs.declared.runner.Place.{Place}
-use Rattle.reown_runner.specs.declared.runner.Place.TheVariants.{Start, Record, SyncOwners, Mark, SyncMark, Done}
+use Rattle.reown_runner.specs.declared.runner.Place.TheVariants.{Start, Record, SyncOwners, Mark}
+use Rattle.reown_runner.specs.declared.runner.Place.TheVariants.{SyncMark, Done}
 use Rattle.reown_runner.specs.Tree.{Cells, Image, IsImage, IsSettled}
 
 -- each of these files has its new owner
 abbrev pub AllNew : List PlanRecord → Image → Type 0
 AllNew records i = All (λ c. i.owner c.path ≡ Some c.after) records
 
--- each planned file has its old or its new owner, every other is as in the inventory, and the mark is set only where
--- all is done
-pub record IsSafeImage (inventory : List ℕ → Option Owner) (records : List PlanRecord) (i : Image) : Type 0 where
-  pub planned : All (λ c. (i.owner c.path ≡ Some c.before) ⊎ (i.owner c.path ≡ Some c.after)) records
+-- each planned file has its old or its new owner, every other is as in the inventory, and the mark
+-- is set only where all is done
+pub record IsSafeImage (inventory : List ℕ → Option Owner) (records : List PlanRecord) (i : Image) :
+    Type 0 where
+  pub planned : All (λ c. (i.owner c.path ≡ Some c.before) ⊎ (i.owner c.path ≡ Some c.after))
+      records
   pub others : (path : List ℕ) → All (λ c. c.path ≢ path) records → i.owner path ≡ inventory path
   pub finished : i.mark ≡ true → AllNew records i
 
@@ -44,6 +47,7 @@ IsInStep records SyncMark cells = IsAllNew records cells × (cells.mark ≡ true
 IsInStep records Done cells = IsAllNew records cells × IsMarked cells
 
 -- whatever a stop leaves is safe, and the place goes with the tree
-pub record IsSafeInStep (inventory : List ℕ → Option Owner) (records : List PlanRecord) (place : Place) (cells : Cells) : Type 0 where
+pub record IsSafeInStep (inventory : List ℕ → Option Owner) (records : List PlanRecord)
+    (place : Place) (cells : Cells) : Type 0 where
   pub safe : IsSafe inventory records cells
   pub in_step : IsInStep records place cells

@@ -1,11 +1,14 @@
--- A tree as its history: how it began, and the operations since. Its mark is set where it is that of the plan that sees it.
+-- A tree as its history: how it began, and the operations since. Its mark is set where it is that
+-- of the plan that sees it.
 -- Source: the usual model of a device with a write cache; fsync(2).
-use Rattle.std.specs.Prelude.{◌≡◌, ◌≢◌, ℕ, Bool, true, List, [], ◌∷◌, ◌++◌, Option, None, Some, fold, if◌then◌else◌}
+use Rattle.std.specs.Prelude.{◌≡◌, ◌≢◌, ℕ, Bool, true, List, [], ◌∷◌, ◌++◌, Option, None, Some}
+use Rattle.std.specs.Prelude.{fold, if◌then◌else◌}
 use Rattle.std.specs.List.{AllByRecursion}
 use Rattle.std.specs.Str.{bytes_eq}
 use Rattle.reown_plan.specs.declared.mark.PlanMark.{PlanMark}
 use Rattle.reown_plan.specs.declared.plan.Owner.{Owner}
-use Rattle.reown_runner.specs.Tree.{TreeData, Cells, Image, Operation, Write, SetMark, Sync, cells_of}
+use Rattle.reown_runner.specs.Tree.{TreeData, Cells, Image, Operation, Write, SetMark, Sync}
+use Rattle.reown_runner.specs.Tree.{cells_of}
 
 pub record State : Type 0 where
   pub start : Image
@@ -48,15 +51,19 @@ abbrev pub cells_at : State → Cells
 cells_at s =
     record {
       owner = λ path. owner_after s path s.operations;
-      owner_left = λ path owner. (front : List Operation) × IsKept s.operations front × (owner ≡ owner_after s path front);
+      owner_left = λ path owner. (front : List Operation) × IsKept s.operations front
+          × (owner ≡ owner_after s path front);
       mark = mark_after s s.operations;
-      mark_left = λ mark. (front : List Operation) × IsKept s.operations front × (mark ≡ mark_after s front);
+      mark_left = λ mark. (front : List Operation) × IsKept s.operations front
+          × (mark ≡ mark_after s front);
     }
 
--- the readings of files agree, and a stop leaves in the second only what it might leave in the first
+-- the readings of files agree, and a stop leaves in the second only what it might leave in the
+-- first
 pub record KeepsOwners (first second : Cells) : Type 0 where
   pub owner : (path : List ℕ) → second.owner path ≡ first.owner path
-  pub owner_left : (path : List ℕ) (x : Option Owner) → second.owner_left path x → first.owner_left path x
+  pub owner_left : (path : List ℕ) (x : Option Owner) → second.owner_left path x
+      → first.owner_left path x
 
 -- and so for the mark
 pub record KeepsMark (first second : Cells) : Type 0 where
@@ -67,6 +74,7 @@ pub record Keeps (first second : Cells) : Type 0 where
   pub owners : KeepsOwners first second
   pub mark : KeepsMark first second
 
--- as the plan sees the tree, the readings agree, and a stop leaves in the tree only what it might leave in the state
+-- as the plan sees the tree, the readings agree, and a stop leaves in the tree only what it might
+-- leave in the state
 abbrev pub StandsFor : PlanMark → TreeData → State → Type 0
 StandsFor plan tree s = Keeps (cells_at s) (cells_of plan tree)

@@ -1,15 +1,19 @@
 -- What one advance does.
 -- Source: this project's own rule.
-use Rattle.std.specs.Prelude.{◌≡◌, ◌⊎◌, ◌<◌, ◌^◌, ◌-◌, ⊤, min, IsSome, ℕ, ◌+◌, Bool, false, List, [], ◌∷◌, Option, None, Some, Result, Ok, Err, length, slice_get, nat_lt, if◌then◌else◌}
+use Rattle.std.specs.Prelude.{◌≡◌, ◌⊎◌, ◌<◌, ◌^◌, ◌-◌, ⊤, min, IsSome, ℕ, ◌+◌, Bool, false, List}
+use Rattle.std.specs.Prelude.{[], ◌∷◌, Option, None, Some, Result, Ok, Err, length, slice_get}
+use Rattle.std.specs.Prelude.{nat_lt, if◌then◌else◌}
 use Rattle.reown_plan.specs.declared.plan.Owner.{Owner}
 use Rattle.reown_plan.specs.Owners.{owner_eq}
 use Rattle.reown_plan.specs.PlanData.{PlanRecord}
 use Rattle.reown_runner.specs.declared.runner.Place.{Place}
-use Rattle.reown_runner.specs.declared.runner.Place.TheVariants.{Start, Record, SyncOwners, Mark, SyncMark, Done}
+use Rattle.reown_runner.specs.declared.runner.Place.TheVariants.{Start, Record, SyncOwners, Mark}
+use Rattle.reown_runner.specs.declared.runner.Place.TheVariants.{SyncMark, Done}
 use Rattle.reown_runner.specs.declared.runner.Progress.{Progress}
 use Rattle.reown_runner.specs.declared.runner.Progress.TheVariants.{Working, Done as Finished}
 use Rattle.reown_runner.specs.declared.runner.RunFault.{RunFault}
-use Rattle.reown_runner.specs.declared.runner.RunFault.TheVariants.{Device, Missing, Unfinished, Foreign}
+use Rattle.reown_runner.specs.declared.runner.RunFault.TheVariants.{Device, Missing, Unfinished}
+use Rattle.reown_runner.specs.declared.runner.RunFault.TheVariants.{Foreign}
 use Rattle.reown_runner.specs.Tree.{Operation, Write, SetMark, Sync, counted}
 
 -- an operation, if there is one, and the place after it
@@ -31,37 +35,46 @@ record_turn i planned next (Some owner) =
     then Ok (record { operation = None; next = next })
     else Err (Foreign i))
 
-abbrev pub turn_at : List PlanRecord → ℕ → Option PlanRecord → (List ℕ → Option Owner) → Result Turn RunFault
+abbrev pub turn_at : List PlanRecord → ℕ → Option PlanRecord → (List ℕ → Option Owner)
+    → Result Turn RunFault
 turn_at records i None owner = Ok (record { operation = None; next = SyncOwners })
-turn_at records i (Some planned) owner = record_turn i planned (record_place records (i + 1)) (owner planned.path)
+turn_at records i (Some planned) owner =
+    record_turn i planned (record_place records (i + 1)) (owner planned.path)
 
 -- whether a file reads as at its new owner
 abbrev pub is_new : PlanRecord → Option Owner → Bool
 is_new planned None = false
 is_new planned (Some owner) = owner_eq owner planned.after
 
--- what is wrong with the file of the record i, which does not read so though its plan is marked as done
+-- what is wrong with the file of the record i, which does not read so though its plan is marked as
+-- done
 abbrev pub not_new : ℕ → PlanRecord → Option Owner → RunFault
 not_new i planned None = Missing i
 not_new i planned (Some owner) = if owner_eq owner planned.before then Unfinished i else Foreign i
 
--- where the mark is set, from the record i on: the first file that is not at its new owner is refused, and else all is done
+-- where the mark is set, from the record i on: the first file that is not at its new owner is
+-- refused, and else all is done
 abbrev pub marked_turn : ℕ → List PlanRecord → (List ℕ → Option Owner) → Result Turn RunFault
 marked_turn i [] owner = Ok (record { operation = None; next = Done })
-marked_turn i (planned ∷ records) owner = if is_new planned (owner planned.path) then marked_turn (i + 1) records owner else Err (not_new i planned (owner planned.path))
+marked_turn i (planned ∷ records) owner =
+    if is_new planned (owner planned.path) then marked_turn (i + 1) records owner
+    else Err (not_new i planned (owner planned.path))
 
 -- what an advance does at a place, over a tree with these readings, where no call fails
 abbrev pub turn : List PlanRecord → Place → (List ℕ → Option Owner) → Bool → Result Turn RunFault
-turn records Start owner mark = if mark then marked_turn 0 records owner else Ok (record { operation = None; next = record_place records 0 })
+turn records Start owner mark =
+    if mark then marked_turn 0 records owner
+    else Ok (record { operation = None; next = record_place records 0 })
 turn records (Record i) owner mark = turn_at records i (slice_get records i) owner
 turn records SyncOwners owner mark = Ok (record { operation = Some Sync; next = Mark })
 turn records Mark owner mark = Ok (record { operation = Some SetMark; next = SyncMark })
 turn records SyncMark owner mark = Ok (record { operation = Some Sync; next = Done })
 turn records Done owner mark = Ok (record { operation = None; next = Done })
 
--- an advance answers and leaves this, where `Did` tells what was done: all of the turn; its refusal, and nothing; or,
--- where a call failed, nothing or its operation
-abbrev pub IsAdvance : Result Turn RunFault → (Option Operation → Type 0) → Result Place RunFault → Type 0
+-- an advance answers and leaves this, where `Did` tells what was done: all of the turn; its
+-- refusal, and nothing; or, where a call failed, nothing or its operation
+abbrev pub IsAdvance : Result Turn RunFault → (Option Operation → Type 0) → Result Place RunFault
+    → Type 0
 IsAdvance plan Did (Ok next) = (t : Turn) × (plan ≡ Ok t) × (next ≡ t.next) × Did t.operation
 IsAdvance plan Did (Err Device) = Did None ⊎ ((t : Turn) × (plan ≡ Ok t) × Did t.operation)
 IsAdvance plan Did (Err (Missing i)) = (plan ≡ Err (Missing i)) × Did None
@@ -96,7 +109,8 @@ IsTold before after (Err (Foreign i)) = after ≡ before
 
 -- nothing was asked for, or the one operation of the turn
 abbrev pub IsAsked : Result Turn RunFault → ℕ → ℕ → Type 0
-IsAsked plan before after = (after ≡ before) ⊎ ((t : Turn) × (plan ≡ Ok t) × IsSome t.operation × (after ≡ counted before))
+IsAsked plan before after =
+    (after ≡ before) ⊎ ((t : Turn) × (plan ≡ Ok t) × IsSome t.operation × (after ≡ counted before))
 
 -- the place is one of a plan with these records
 abbrev pub IsPlaceOf : List PlanRecord → Place → Type 0

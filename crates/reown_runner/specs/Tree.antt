@@ -1,13 +1,15 @@
--- A tree: a cell for each path, and one for the mark, which says of which plan it is. What a read answers, and what a stop may
+-- A tree: a cell for each path, and one for the mark, which says of which plan it is. What a read
+-- answers, and what a stop may
 -- leave: only a sync says that what was written stays.
 -- Source: the usual model of a device with a write cache; chown(2), fsync(2).
-use Rattle.std.specs.Prelude.{◌≡◌, ◌≢◌, ◌⊎◌, ◌↔◌, ℕ, ◌+◌, ◌<◌, ◌-◌, ◌^◌, Bool, true, List, Option, None, Some, Result, Ok, Err, map, min, Contains}
+use Rattle.std.specs.Prelude.{◌≡◌, ◌≢◌, ◌⊎◌, ◌↔◌, ℕ, ◌+◌, ◌<◌, ◌-◌, ◌^◌, Bool, true, List, Option}
+use Rattle.std.specs.Prelude.{None, Some, Result, Ok, Err, map, min, Contains}
 use Rattle.reown_plan.specs.declared.mark.PlanMark.{PlanMark}
 use Rattle.reown_plan.specs.declared.plan.Owner.{Owner}
 use Rattle.reown_plan.specs.Mark.{is_marked_for}
 
--- what is known of a tree: each cell's reading, and the values that a stop may leave there; how often a call has
--- failed; how many writes and syncs were asked for
+-- what is known of a tree: each cell's reading, and the values that a stop may leave there; how
+-- often a call has failed; how many writes and syncs were asked for
 pub record TreeData : Type 0 where
   pub owner : List ℕ → Option Owner
   pub owners_left : List ℕ → List (Option Owner)
@@ -16,7 +18,8 @@ pub record TreeData : Type 0 where
   pub faults : ℕ
   pub asked : ℕ
 
--- A tree as one plan sees it: each cell's reading, and what a stop may leave there. Its mark is set where it is this plan's.
+-- A tree as one plan sees it: each cell's reading, and what a stop may leave there. Its mark is set
+-- where it is this plan's.
 pub record Cells : Type 1 where
   pub owner : List ℕ → Option Owner
   pub owner_left : List ℕ → Option Owner → Type 0
@@ -61,7 +64,8 @@ pub data Operation : Type 0 where
 -- no file's cell changes: what is read, and what a stop may leave
 pub record SameOwners (old new : Cells) : Type 0 where
   pub owner : (path : List ℕ) → new.owner path ≡ old.owner path
-  pub owner_left : (path : List ℕ) (x : Option Owner) → new.owner_left path x ↔ old.owner_left path x
+  pub owner_left : (path : List ℕ) (x : Option Owner) → new.owner_left path x
+      ↔ old.owner_left path x
 
 -- the mark's cell does not change
 pub record SameMark (old new : Cells) : Type 0 where
@@ -73,12 +77,15 @@ pub record Same (old new : Cells) : Type 0 where
   pub owners : SameOwners old new
   pub mark : SameMark old new
 
--- the file at the path has this owner; a stop leaves it, or what it might have left before; no other cell changes
+-- the file at the path has this owner; a stop leaves it, or what it might have left before; no
+-- other cell changes
 pub record Writes (path : List ℕ) (to : Owner) (old new : Cells) : Type 0 where
   pub owner : new.owner path ≡ Some to
-  pub owner_left : (x : Option Owner) → new.owner_left path x → old.owner_left path x ⊎ (x ≡ Some to)
+  pub owner_left : (x : Option Owner) → new.owner_left path x → old.owner_left path x
+      ⊎ (x ≡ Some to)
   pub other : (q : List ℕ) → q ≢ path → new.owner q ≡ old.owner q
-  pub other_left : (q : List ℕ) → q ≢ path → (x : Option Owner) → new.owner_left q x ↔ old.owner_left q x
+  pub other_left : (q : List ℕ) → q ≢ path → (x : Option Owner) → new.owner_left q x
+      ↔ old.owner_left q x
   pub mark : SameMark old new
 
 -- the mark is set; a stop leaves it so, or as it might have left it before; no other cell changes

@@ -52,7 +52,9 @@ impl<'p, 'a, T> Model for Campaign<'p, 'a, T> {
     ghost invariant = { λ c. length c.runners.items ≡ length c.trees.items };
 }
 
-ghost use Rattle.reown_runner.specs.Campaign.{host_of, host_event, refused_of, happened, Goes, EachGoes, is_done, event_refusal, IsForHost, AreForHosts};
+ghost use Rattle.reown_runner.specs.Campaign.{host_of, host_event, refused_of, happened, Goes};
+ghost use Rattle.reown_runner.specs.Campaign.{EachGoes, is_done, event_refusal, IsForHost};
+ghost use Rattle.reown_runner.specs.Campaign.{AreForHosts};
 ghost use Rattle.reown_runner.specs.Run.{refusal};
 ghost use Rattle.reown_runner.specs.RunnerData.{RunnerData, starting};
 
@@ -69,7 +71,8 @@ impl Event {
 
 // An event of one host.
 fn happen_to<T: Tree>(runner: &mut Runner, tree: &mut T, event: Event) -> Result<(), RunFault>
-    ensures { Goes T.known (record { runner = runner.old; tree = tree.old }) (host_event event ∷ []) (refusal result) (record { runner = runner.new; tree = tree.new }) }
+    ensures { Goes T.known (record { runner = runner.old; tree = tree.old }) (host_event event ∷ [])
+        (refusal result) (record { runner = runner.new; tree = tree.new }) }
 {
     match event {
         Event::Advance(_) => match runner.advance(tree) {
@@ -85,7 +88,8 @@ fn happen_to<T: Tree>(runner: &mut Runner, tree: &mut T, event: Event) -> Result
 }
 
 impl<'p, 'a, T> Campaign<'p, 'a, T> {
-    /// A runner at its start for each plan, with the trees. One runner of memory a plan, and one pass over its text.
+    /// A runner at its start for each plan, with the trees. One runner of memory a plan, and one
+    /// pass over its text.
     ///
     /// # Errors
     ///
@@ -123,7 +127,8 @@ impl<'p, 'a, T> Campaign<'p, 'a, T> {
     /// Whether the plan of a host is done; hosts count from 0. Constant time.
     pub fn done(&self, host: usize) -> bool
         requires { host < length self.now.runners }
-        ensures { (runner : RunnerData) × (slice_get self.now.runners host ≡ Some runner) × (result ≡ is_done runner.place) }
+        ensures { (runner : RunnerData) × (slice_get self.now.runners host ≡ Some runner)
+            × (result ≡ is_done runner.place) }
     {
         let runner = &self.runners[host];
         runner.place() == Place::Done
@@ -141,7 +146,8 @@ impl<'p, 'a, T> Campaign<'p, 'a, T> {
 
 impl<'p, 'a, T: Tree> Campaign<'p, 'a, T> {
     fn happen(&mut self, event: Event) -> Result<(), EventFault>
-        ensures goes { EachGoes T.known self.old (event ∷ []) (event_refusal event result) self.new }
+        ensures goes { EachGoes T.known self.old (event ∷ []) (event_refusal event result)
+            self.new }
         ensures hosts { IsForHost event (length self.old.trees) result }
         ensures runners { length self.new.runners ≡ length self.old.runners }
         ensures trees { length self.new.trees ≡ length self.old.trees }
@@ -156,20 +162,23 @@ impl<'p, 'a, T: Tree> Campaign<'p, 'a, T> {
         Ok(())
     }
 
-    /// Lets the events happen in order, up to the first that is refused: those before it have happened, those after it
-    /// have not. Answers whether every host is done. One advance or stop an event, with just the writes and syncs of these
-    /// advances, and one pass over the hosts. It takes no memory.
+    /// Lets the events happen in order, up to the first that is refused: those before it have
+    /// happened, those after it have not. Answers whether every host is done. One advance or stop
+    /// an event, with just the writes and syncs of these advances, and one pass over the hosts. It
+    /// takes no memory.
     ///
-    /// Of the trees it says what the contract of `Tree` says, so that it holds for whatever image a stop leaves. Which one
-    /// that is, as by the choice of a `MemTree`, it does not say.
+    /// Of the trees it says what the contract of `Tree` says, so that it holds for whatever image a
+    /// stop leaves. Which one that is, as by the choice of a `MemTree`, it does not say.
     ///
     /// # Errors
     ///
     /// The first event that is refused: as `Runner::advance` refuses it, or for want of its host.
     pub fn drive(&mut self, events: &[Event]) -> Result<bool, DriveFault>
-        ensures goes { EachGoes T.known self.old (happened events.now result) (λ host. refused_of host events.now result) self.new }
+        ensures goes { EachGoes T.known self.old (happened events.now result)
+            (λ host. refused_of host events.now result) self.new }
         ensures hosts { AreForHosts events.now (length self.old.trees) result }
-        ensures done { IfOk result (λ all. all ≡ list_all (λ runner. is_done runner.place) self.new.runners) }
+        ensures done { IfOk result
+            (λ all. all ≡ list_all (λ runner. is_done runner.place) self.new.runners) }
         ensures runners { length self.new.runners ≡ length self.old.runners }
         ensures trees { length self.new.trees ≡ length self.old.trees }
     {

@@ -17,7 +17,8 @@ pub enum Item {
     FailAfter,
 }
 
-/// A tree in memory whose calls fail by a script. Its calls cost what those of the tree in memory do.
+/// A tree in memory whose calls fail by a script. Its calls cost what those of the tree in memory
+/// do.
 #[derive(Drop)]
 pub struct FailTree {
     tree: MemTree,
@@ -33,19 +34,27 @@ impl Model for FailTree {
 
     ghost Value = { Failing };
 
-    ghost view = { λ f. record { tree = f.tree; script = drop f.next f.script.items; faults = f.faults; asked = f.asked } };
+    ghost view = { λ f. record {
+      tree = f.tree;
+      script = drop f.next f.script.items;
+      faults = f.faults;
+      asked = f.asked;
+    } };
 
     ghost invariant = { λ f. f.next ≤ length f.script.items };
 }
 
-ghost use Rattle.reown_runner.specs.Failing.{known_failing, readable_failing, next_item, IsScripted};
+ghost use Rattle.reown_runner.specs.Failing.{known_failing, readable_failing, next_item};
+ghost use Rattle.reown_runner.specs.Failing.{IsScripted};
 ghost use Rattle.reown_runner.specs.Memory.{known_mem, IsWritten, marked, settled, IsReopened};
-ghost use Rattle.reown_runner.specs.Tree.{cells_of, ForEachPlan, counted, Same, Writes, SetsMark, Syncs, Stops, MayDo, Write, SetMark, Sync, IsCounted};
+ghost use Rattle.reown_runner.specs.Tree.{cells_of, ForEachPlan, counted, Same, Writes, SetsMark};
+ghost use Rattle.reown_runner.specs.Tree.{Syncs, Stops, MayDo, Write, SetMark, Sync, IsCounted};
 ghost use Rattle.reown_plan.specs.Mark.{is_marked_for};
 ghost use Rattle.std.specs.Prelude.{⊤, OnOk, OnErr, IfOk, IsSome};
 
 impl FailTree {
-    /// A tree whose calls fail by this script, and pass after its end. Each read, write and sync takes one item. Constant time.
+    /// A tree whose calls fail by this script, and pass after its end. Each read, write and sync
+    /// takes one item. Constant time.
     pub fn new(tree: MemTree, script: Vec<Item>) -> Self
         ensures { result ≡ record { tree = tree; script = script.items; faults = 0; asked = 0 } }
     {
@@ -108,7 +117,8 @@ impl FailTree {
 
     fn write(&mut self, path: &[u8], owner: Owner)
         requires { IsSome ((known_mem self.old.tree).owner path.now) }
-        ensures done { ForEachPlan (Writes path.now owner) (known_mem self.old.tree) (known_mem self.new.tree) }
+        ensures done { ForEachPlan (Writes path.now owner) (known_mem self.old.tree)
+            (known_mem self.new.tree) }
         ensures written { IsWritten path.now owner self.old.tree self.new.tree }
         ensures rest { self.new ≡ record self.old { tree = self.new.tree } }
     {
@@ -116,7 +126,8 @@ impl FailTree {
     }
 
     fn write_mark(&mut self, plan: &PlanMark)
-        ensures done { SetsMark (cells_of plan.now (known_mem self.old.tree)) (cells_of plan.now (known_mem self.new.tree)) }
+        ensures done { SetsMark (cells_of plan.now (known_mem self.old.tree))
+            (cells_of plan.now (known_mem self.new.tree)) }
         ensures marked { self.new ≡ record self.old { tree = marked plan.now self.old.tree } }
     {
         self.tree.set_mark(plan).unwrap()
@@ -144,7 +155,8 @@ impl Tree for FailTree {
     fn owner(&mut self, path: &[u8]) -> Result<Option<Owner>, DeviceFault>
         ensures answer { IfOk result (λ owner. owner ≡ (known_failing self.old).owner path.now) }
         ensures same { ForEachPlan Same (known_failing self.old) (known_failing self.new) }
-        ensures faults { IsCounted (known_failing self.old).faults (known_failing self.new).faults result }
+        ensures faults { IsCounted (known_failing self.old).faults (known_failing self.new).faults
+            result }
         ensures asked { (known_failing self.new).asked ≡ (known_failing self.old).asked }
         ensures scripted { IsScripted (next_item self.old) result ⊤ ⊤ }
         ensures untouched { self.new.tree ≡ self.old.tree }
@@ -158,11 +170,17 @@ impl Tree for FailTree {
 
     fn set_owner(&mut self, path: &[u8], owner: Owner) -> Result<(), DeviceFault>
         requires { IsSome ((known_failing self.old).owner path.now) }
-        ensures done { OnOk result (ForEachPlan (Writes path.now owner) (known_failing self.old) (known_failing self.new)) }
-        ensures failed { OnErr result (ForEachPlan (MayDo (Write path.now owner)) (known_failing self.old) (known_failing self.new)) }
-        ensures faults { IsCounted (known_failing self.old).faults (known_failing self.new).faults result }
+        ensures done { OnOk result
+            (ForEachPlan (Writes path.now owner) (known_failing self.old)
+            (known_failing self.new)) }
+        ensures failed { OnErr result
+            (ForEachPlan (MayDo (Write path.now owner)) (known_failing self.old)
+            (known_failing self.new)) }
+        ensures faults { IsCounted (known_failing self.old).faults (known_failing self.new).faults
+            result }
         ensures asked { (known_failing self.new).asked ≡ counted (known_failing self.old).asked }
-        ensures scripted { IsScripted (next_item self.old) result (self.new.tree ≡ self.old.tree) (IsWritten path.now owner self.old.tree self.new.tree) }
+        ensures scripted { IsScripted (next_item self.old) result (self.new.tree ≡ self.old.tree)
+            (IsWritten path.now owner self.old.tree self.new.tree) }
         ensures script { self.new.script ≡ drop 1 self.old.script }
     {
         self.count();
@@ -180,9 +198,11 @@ impl Tree for FailTree {
     }
 
     fn is_marked(&mut self, plan: &PlanMark) -> Result<bool, DeviceFault>
-        ensures answer { IfOk result (λ set. set ≡ is_marked_for plan.now (known_failing self.old).mark) }
+        ensures answer { IfOk result
+            (λ set. set ≡ is_marked_for plan.now (known_failing self.old).mark) }
         ensures same { ForEachPlan Same (known_failing self.old) (known_failing self.new) }
-        ensures faults { IsCounted (known_failing self.old).faults (known_failing self.new).faults result }
+        ensures faults { IsCounted (known_failing self.old).faults (known_failing self.new).faults
+            result }
         ensures asked { (known_failing self.new).asked ≡ (known_failing self.old).asked }
         ensures scripted { IsScripted (next_item self.old) result ⊤ ⊤ }
         ensures untouched { self.new.tree ≡ self.old.tree }
@@ -195,11 +215,17 @@ impl Tree for FailTree {
     }
 
     fn set_mark(&mut self, plan: &PlanMark) -> Result<(), DeviceFault>
-        ensures done { OnOk result (SetsMark (cells_of plan.now (known_failing self.old)) (cells_of plan.now (known_failing self.new))) }
-        ensures failed { OnErr result (MayDo SetMark (cells_of plan.now (known_failing self.old)) (cells_of plan.now (known_failing self.new))) }
-        ensures faults { IsCounted (known_failing self.old).faults (known_failing self.new).faults result }
+        ensures done { OnOk result
+            (SetsMark (cells_of plan.now (known_failing self.old))
+            (cells_of plan.now (known_failing self.new))) }
+        ensures failed { OnErr result
+            (MayDo SetMark (cells_of plan.now (known_failing self.old))
+            (cells_of plan.now (known_failing self.new))) }
+        ensures faults { IsCounted (known_failing self.old).faults (known_failing self.new).faults
+            result }
         ensures asked { (known_failing self.new).asked ≡ counted (known_failing self.old).asked }
-        ensures scripted { IsScripted (next_item self.old) result (self.new.tree ≡ self.old.tree) (self.new.tree ≡ marked plan.now self.old.tree) }
+        ensures scripted { IsScripted (next_item self.old) result (self.new.tree ≡ self.old.tree)
+            (self.new.tree ≡ marked plan.now self.old.tree) }
         ensures script { self.new.script ≡ drop 1 self.old.script }
     {
         self.count();
@@ -217,11 +243,15 @@ impl Tree for FailTree {
     }
 
     fn sync(&mut self) -> Result<(), DeviceFault>
-        ensures done { OnOk result (ForEachPlan Syncs (known_failing self.old) (known_failing self.new)) }
-        ensures failed { OnErr result (ForEachPlan (MayDo Sync) (known_failing self.old) (known_failing self.new)) }
-        ensures faults { IsCounted (known_failing self.old).faults (known_failing self.new).faults result }
+        ensures done { OnOk result
+            (ForEachPlan Syncs (known_failing self.old) (known_failing self.new)) }
+        ensures failed { OnErr result
+            (ForEachPlan (MayDo Sync) (known_failing self.old) (known_failing self.new)) }
+        ensures faults { IsCounted (known_failing self.old).faults (known_failing self.new).faults
+            result }
         ensures asked { (known_failing self.new).asked ≡ counted (known_failing self.old).asked }
-        ensures scripted { IsScripted (next_item self.old) result (self.new.tree ≡ self.old.tree) (self.new.tree ≡ settled self.old.tree) }
+        ensures scripted { IsScripted (next_item self.old) result (self.new.tree ≡ self.old.tree)
+            (self.new.tree ≡ settled self.old.tree) }
         ensures script { self.new.script ≡ drop 1 self.old.script }
     {
         self.count();

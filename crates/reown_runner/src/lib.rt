@@ -1,4 +1,5 @@
-//! Runs a plan on a tree, so that a stop at any moment leaves each file at its old or its new owner.
+//! Runs a plan on a tree, so that a stop at any moment leaves each file at its old or its new
+//! owner.
 #![tactic(auto)]
 
 mod campaign;

@@ -1,5 +1,6 @@
 //! A tree in memory, which never fails.
-ghost use Rattle.std.specs.Prelude.{◌≡◌, ◌<◌, ℕ, map, take, length, position, slice_get, slice_set, slice_index_or, Some, IfOk, IfSome, OnOk, OnErr, IsSome};
+ghost use Rattle.std.specs.Prelude.{◌≡◌, ◌<◌, ℕ, map, take, length, position, slice_get, slice_set};
+ghost use Rattle.std.specs.Prelude.{slice_index_or, Some, IfOk, IfSome, OnOk, OnErr, IsSome};
 ghost use Rattle.std.specs.Option.{option_map};
 ghost use Rattle.std.specs.Str.{bytes_eq};
 
@@ -61,9 +62,12 @@ impl Model for MemTree {
     ghost invariant = { λ m. length m.paths ≡ length m.cells.items };
 }
 
-ghost use Rattle.reown_runner.specs.Memory.{known_mem, keeps_file, is_odd_one, settled_cell, left_cell, owner_in, new_mem, IsWritten, marked, settled, IsReopened};
+ghost use Rattle.reown_runner.specs.Memory.{known_mem, keeps_file, is_odd_one, settled_cell};
+ghost use Rattle.reown_runner.specs.Memory.{left_cell, owner_in, new_mem, IsWritten, marked};
+ghost use Rattle.reown_runner.specs.Memory.{settled, IsReopened};
 ghost use Rattle.reown_runner.specs.MemoryReads.{readable_mem};
-ghost use Rattle.reown_runner.specs.Tree.{cells_of, ForEachPlan, counted, Same, Writes, SetsMark, Syncs, Stops, MayDo, Write, SetMark, Sync, IsCounted};
+ghost use Rattle.reown_runner.specs.Tree.{cells_of, ForEachPlan, counted, Same, Writes, SetsMark};
+ghost use Rattle.reown_runner.specs.Tree.{Syncs, Stops, MayDo, Write, SetMark, Sync, IsCounted};
 ghost use Rattle.reown_plan.specs.Mark.{is_marked_for};
 ghost use Rattle.reown_plan.specs.declared.mark.PlanMark.{PlanMark};
 ghost use Rattle.reown_runner.specs.Finished.{IsFresh};
@@ -135,10 +139,13 @@ fn sync_cells(cells: &mut [FileCell])
     }
 }
 
-// A stop leaves in each cell what the choice keeps. Answers whether the next pending cell is an odd one.
+// A stop leaves in each cell what the choice keeps. Answers whether the next pending cell is an odd
+// one.
 fn leave_cells(cells: &mut [FileCell], keep: Keep) -> bool
     ensures odd { result ≡ is_odd_one cells.old }
-    ensures cells { (k : ℕ) (d : FileCell) → k < length cells.old → slice_index_or cells.new k d ≡ left_cell (keeps_file keep (take k cells.old)) (slice_index_or cells.old k d) }
+    ensures cells { (k : ℕ) (d : FileCell) → k < length cells.old
+        → slice_index_or cells.new k d
+        ≡ left_cell (keeps_file keep (take k cells.old)) (slice_index_or cells.old k d) }
 {
     let mut odd = true;
     for cell in cells.iter_mut() {
@@ -169,7 +176,9 @@ impl MemTree {
     /// `AllocError` where memory is refused.
     pub fn new(alloc: Global, inventory: &Inventory) -> Result<MemTree, AllocError>
         ensures starts { IfOk result (λ tree. tree ≡ new_mem inventory.now) }
-        ensures fresh { IfOk result (λ tree. (plan : PlanMark) → IsFresh (owner_in inventory.now) (cells_of plan (known_mem tree))) }
+        ensures fresh { IfOk result
+            (λ tree. (plan : PlanMark)
+            → IsFresh (owner_in inventory.now) (cells_of plan (known_mem tree))) }
     {
         let entries = inventory.entries();
         let paths = PathIndex::new(alloc, paths_in(alloc, entries)?)?;
@@ -200,8 +209,11 @@ impl MemTree {
     ) -> Result<MemTree, AllocError>
         requires distinct { HaveDistinctPaths (map record_of records.now) }
         requires as_many { length owners.now ≡ length records.now }
-        ensures starts { IfOk result (λ tree. tree ≡ mem_of_records (map record_of records.now) owners.now mark) }
-        ensures safe { IfOk result (λ tree. (plan : PlanMark) → AreHalfway (map record_of records.now) owners.now (is_marked_for plan mark)
+        ensures starts { IfOk result
+            (λ tree. tree ≡ mem_of_records (map record_of records.now) owners.now mark) }
+        ensures safe { IfOk result
+            (λ tree. (plan : PlanMark)
+            → AreHalfway (map record_of records.now) owners.now (is_marked_for plan mark)
             → MayGoOn (map record_of records.now) (cells_of plan (known_mem tree))) }
     {
         let paths = PathIndex::new(alloc, paths_of(alloc, records)?)?;
@@ -216,8 +228,9 @@ impl MemTree {
         })
     }
 
-    /// Chooses what a stop keeps. No call of `Tree` changes the choice. What is run over any tree (`Runner`, `Campaign`) says
-    /// nothing of it: that holds for whatever a stop leaves. Constant time.
+    /// Chooses what a stop keeps. No call of `Tree` changes the choice. What is run over any tree
+    /// (`Runner`, `Campaign`) says nothing of it: that holds for whatever a stop leaves. Constant
+    /// time.
     pub fn on_reopen(&mut self, keep: Keep)
         ensures { self.new ≡ record self.old { keep = keep } }
     {
@@ -244,7 +257,11 @@ impl MemTree {
     fn write(&mut self, i: usize, owner: Owner)
         requires { i < length self.old.cells }
         ensures { (c : FileCell) × (slice_get self.old.cells i ≡ Some c)
-            × (self.new ≡ record self.old { cells = slice_set self.old.cells i (record { synced = c.synced; now = owner }); asked = counted self.old.asked }) }
+            × (self.new ≡ record self.old {
+              cells =
+                  slice_set self.old.cells i (record { synced = c.synced; now = owner });
+              asked = counted self.old.asked;
+            }) }
     {
         self.cells[i].now = owner;
         self.asked = self.asked.saturating_add(1);
@@ -297,8 +314,10 @@ impl Tree for MemTree {
 
     fn set_owner(&mut self, path: &[u8], owner: Owner) -> Result<(), DeviceFault>
         requires { IsSome ((known_mem self.old).owner path.now) }
-        ensures done { OnOk result (ForEachPlan (Writes path.now owner) (known_mem self.old) (known_mem self.new)) }
-        ensures failed { OnErr result (ForEachPlan (MayDo (Write path.now owner)) (known_mem self.old) (known_mem self.new)) }
+        ensures done { OnOk result
+            (ForEachPlan (Writes path.now owner) (known_mem self.old) (known_mem self.new)) }
+        ensures failed { OnErr result
+            (ForEachPlan (MayDo (Write path.now owner)) (known_mem self.old) (known_mem self.new)) }
         ensures faults { IsCounted (known_mem self.old).faults (known_mem self.new).faults result }
         ensures asked { (known_mem self.new).asked ≡ counted (known_mem self.old).asked }
         ensures written { IsWritten path.now owner self.old self.new }
@@ -309,7 +328,8 @@ impl Tree for MemTree {
     }
 
     fn is_marked(&mut self, plan: &PlanMark) -> Result<bool, DeviceFault>
-        ensures answer { IfOk result (λ set. set ≡ is_marked_for plan.now (known_mem self.old).mark) }
+        ensures answer { IfOk result
+            (λ set. set ≡ is_marked_for plan.now (known_mem self.old).mark) }
         ensures same { ForEachPlan Same (known_mem self.old) (known_mem self.new) }
         ensures faults { IsCounted (known_mem self.old).faults (known_mem self.new).faults result }
         ensures asked { (known_mem self.new).asked ≡ (known_mem self.old).asked }
@@ -319,8 +339,12 @@ impl Tree for MemTree {
     }
 
     fn set_mark(&mut self, plan: &PlanMark) -> Result<(), DeviceFault>
-        ensures done { OnOk result (SetsMark (cells_of plan.now (known_mem self.old)) (cells_of plan.now (known_mem self.new))) }
-        ensures failed { OnErr result (MayDo SetMark (cells_of plan.now (known_mem self.old)) (cells_of plan.now (known_mem self.new))) }
+        ensures done { OnOk result
+            (SetsMark (cells_of plan.now (known_mem self.old))
+            (cells_of plan.now (known_mem self.new))) }
+        ensures failed { OnErr result
+            (MayDo SetMark (cells_of plan.now (known_mem self.old))
+            (cells_of plan.now (known_mem self.new))) }
         ensures faults { IsCounted (known_mem self.old).faults (known_mem self.new).faults result }
         ensures asked { (known_mem self.new).asked ≡ counted (known_mem self.old).asked }
         ensures marked { self.new ≡ marked plan.now self.old }
@@ -332,7 +356,8 @@ impl Tree for MemTree {
 
     fn sync(&mut self) -> Result<(), DeviceFault>
         ensures done { OnOk result (ForEachPlan Syncs (known_mem self.old) (known_mem self.new)) }
-        ensures failed { OnErr result (ForEachPlan (MayDo Sync) (known_mem self.old) (known_mem self.new)) }
+        ensures failed { OnErr result
+            (ForEachPlan (MayDo Sync) (known_mem self.old) (known_mem self.new)) }
         ensures faults { IsCounted (known_mem self.old).faults (known_mem self.new).faults result }
         ensures asked { (known_mem self.new).asked ≡ counted (known_mem self.old).asked }
         ensures settled { self.new ≡ settled self.old }

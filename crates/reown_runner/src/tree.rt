@@ -2,7 +2,9 @@
 ghost use Rattle.std.specs.Prelude.{◌≡◌, IfOk, OnOk, OnErr, IsSome};
 ghost use Rattle.reown_plan.specs.Mark.{is_marked_for};
 ghost use Rattle.reown_plan.specs.declared.mark.PlanMark.{PlanMark};
-ghost use Rattle.reown_runner.specs.Tree.{TreeData, Write, SetMark, Sync, Same, Writes, SetsMark, Syncs, IsReadable, MayDo, Stops, cells_of, ForEachPlan, counted, IsCounted};
+ghost use Rattle.reown_runner.specs.Tree.{TreeData, Write, SetMark, Sync, Same, Writes, SetsMark};
+ghost use Rattle.reown_runner.specs.Tree.{Syncs, IsReadable, MayDo, Stops, cells_of, ForEachPlan};
+ghost use Rattle.reown_runner.specs.Tree.{counted, IsCounted};
 
 use reown_plan::{Owner, PlanMark};
 
@@ -10,10 +12,11 @@ use reown_plan::{Owner, PlanMark};
 #[derive(Clone, Copy, Debug, PartialEq, Eq)]
 pub struct DeviceFault;
 
-/// A tree of files with owners and a mark of the plan that was done last, on a device whose calls may fail and which a stop may cut off: until a sync, a
-/// stop leaves in each cell by itself what was written or what was there before (chown(2), fsync(2)). A stop inside a call
-/// leaves what one behind it would where the call has failed: its write or sync has happened or not, and no other. What a
-/// call costs is for the tree to say.
+/// A tree of files with owners and a mark of the plan that was done last, on a device whose calls
+/// may fail and which a stop may cut off: until a sync, a stop leaves in each cell by itself what
+/// was written or what was there before (chown(2), fsync(2)). A stop inside a call leaves what one
+/// behind it would where the call has failed: its write or sync has happened or not, and no other.
+/// What a call costs is for the tree to say.
 pub trait Tree {
     /// What is known of it.
     ghost known: { Self → TreeData };
@@ -28,8 +31,10 @@ pub trait Tree {
     /// Gives a file that is there an owner. Where it fails, that has happened or not.
     fn set_owner(&mut self, path: &[u8], owner: Owner) -> Result<(), DeviceFault>
         requires { IsSome ((known self.old).owner path.now) }
-        ensures done { OnOk result (ForEachPlan (Writes path.now owner) (known self.old) (known self.new)) }
-        ensures failed { OnErr result (ForEachPlan (MayDo (Write path.now owner)) (known self.old) (known self.new)) }
+        ensures done { OnOk result
+            (ForEachPlan (Writes path.now owner) (known self.old) (known self.new)) }
+        ensures failed { OnErr result
+            (ForEachPlan (MayDo (Write path.now owner)) (known self.old) (known self.new)) }
         ensures faults { IsCounted (known self.old).faults (known self.new).faults result }
         ensures asked { (known self.new).asked ≡ counted (known self.old).asked };
 
@@ -40,10 +45,14 @@ pub trait Tree {
         ensures faults { IsCounted (known self.old).faults (known self.new).faults result }
         ensures asked { (known self.new).asked ≡ (known self.old).asked };
 
-    /// Marks the tree for this plan, whatever it was marked for. Where it fails, that has happened or not.
+    /// Marks the tree for this plan, whatever it was marked for. Where it fails, that has happened
+    /// or not.
     fn set_mark(&mut self, plan: &PlanMark) -> Result<(), DeviceFault>
-        ensures done { OnOk result (SetsMark (cells_of plan.now (known self.old)) (cells_of plan.now (known self.new))) }
-        ensures failed { OnErr result (MayDo SetMark (cells_of plan.now (known self.old)) (cells_of plan.now (known self.new))) }
+        ensures done { OnOk result
+            (SetsMark (cells_of plan.now (known self.old)) (cells_of plan.now (known self.new))) }
+        ensures failed { OnErr result
+            (MayDo SetMark (cells_of plan.now (known self.old))
+            (cells_of plan.now (known self.new))) }
         ensures faults { IsCounted (known self.old).faults (known self.new).faults result }
         ensures asked { (known self.new).asked ≡ counted (known self.old).asked };
 

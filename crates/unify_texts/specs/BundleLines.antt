@@ -3,11 +3,13 @@
 use Rattle.std.specs.Prelude.{ℕ, Bool, List, ◌==◌, drop, if◌then◌else◌, bytes_eq, codes}
 use Rattle.idtext.specs.Pieces.{begins_with}
 use Rattle.unify_texts.specs.declared.bundle_line.Command.{Command}
-use Rattle.unify_texts.specs.declared.bundle_line.Command.TheVariants.{Count, Merge, MergeHosts, Check, Rehearse}
+use Rattle.unify_texts.specs.declared.bundle_line.Command.TheVariants.{Count, Merge, MergeHosts}
+use Rattle.unify_texts.specs.declared.bundle_line.Command.TheVariants.{Check, Rehearse}
 use Rattle.unify_texts.specs.declared.bundle_line.FileName.{FileName}
 use Rattle.unify_texts.specs.declared.bundle_line.FileName.TheVariants as file
 use Rattle.unify_texts.specs.declared.bundle_line.BundleLine.{BundleLine}
-use Rattle.unify_texts.specs.declared.bundle_line.BundleLine.TheVariants.{Run, File, Host, Content, Wrong}
+use Rattle.unify_texts.specs.declared.bundle_line.BundleLine.TheVariants.{Run, File, Host, Content}
+use Rattle.unify_texts.specs.declared.bundle_line.BundleLine.TheVariants.{Wrong}
 
 -- the words of the files, in bundles and in fault lines
 abbrev pub file_word : FileName → List ℕ

@@ -14,13 +14,18 @@ use Rattle.unify_texts.specs.declared.figures.Figures.{Figures}
 abbrev pub pinned_names : Accounts → ℕ
 pinned_names a = count_below (λ i. not (is_free_class (class_at a i))) (length a.names)
 
--- how many free names have a number that weighs something: some file or account row of the name has it already
+-- how many free names have a number that weighs something: some file or account row of the name has
+-- it already
 abbrev pub kept_names : Accounts → List File → List ℕ → ℕ
-kept_names a files m = count_below (λ i. is_free_class (class_at a i) && nat_le 1 (weight a files i (number_at m i))) (length a.names)
+kept_names a files m =
+    count_below (λ i. is_free_class (class_at a i) && nat_le 1 (weight a files i (number_at m i)))
+    (length a.names)
 
 -- how many free names have a number that weighs nothing
 abbrev pub fresh_names : Accounts → List File → List ℕ → ℕ
-fresh_names a files m = count_below (λ i. is_free_class (class_at a i) && nat_eq (weight a files i (number_at m i)) 0) (length a.names)
+fresh_names a files m =
+    count_below (λ i. is_free_class (class_at a i) && nat_eq (weight a files i (number_at m i)) 0)
+    (length a.names)
 
 abbrev pub figures_of : Accounts → List File → List ℕ → Figures
 figures_of a files m = record {

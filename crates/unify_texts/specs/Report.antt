@@ -15,7 +15,9 @@ use Rattle.unify_texts.specs.declared.figures.Figures.{Figures}
 
 -- `users N pinned P kept K fresh F`, and so for groups
 abbrev pub names_line : List ℕ → Figures → List ℕ
-names_line kinds f = line kinds (decimal f.names ∷ codes "pinned" ∷ decimal f.pinned ∷ codes "kept" ∷ decimal f.kept ∷ codes "fresh" ∷ decimal f.fresh ∷ [])
+names_line kinds f =
+    line kinds (decimal f.names ∷ codes "pinned" ∷ decimal f.pinned ∷ codes "kept" ∷ decimal f.kept
+    ∷ codes "fresh" ∷ decimal f.fresh ∷ [])
 
 -- how many of all change
 abbrev pub change_line : List ℕ → ℕ → ℕ → List ℕ
@@ -30,7 +32,9 @@ field_word field.Group = codes "group"
 
 -- `differs KIND NAME FIELD HOST`
 abbrev pub difference_line : Difference → List ℕ
-difference_line d = line (codes "differs") (which_word d.kind ∷ shown d.name ∷ field_word d.field ∷ shown d.host ∷ [])
+difference_line d =
+    line (codes "differs")
+    (which_word d.kind ∷ shown d.name ∷ field_word d.field ∷ shown d.host ∷ [])
 
 -- the report of these figures and differences
 abbrev pub report_lines : ℕ → Figures → Figures → List Difference → List ℕ
@@ -48,4 +52,6 @@ report_lines hosts users groups told =
 
 -- the report of mappings, for the files of all hosts
 abbrev pub report_of : List Host → Joined → List Added → Mappings → List ℕ
-report_of hosts site files m = report_lines (length hosts) (figures_of site.users (by_user files) m.users) (figures_of site.groups (by_group files) m.groups) (site_differences hosts site)
+report_of hosts site files m =
+    report_lines (length hosts) (figures_of site.users (by_user files) m.users)
+    (figures_of site.groups (by_group files) m.groups) (site_differences hosts site)

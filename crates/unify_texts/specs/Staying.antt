@@ -10,7 +10,9 @@ use Rattle.ownership.specs.Sums.{sum_below}
 
 -- how many free names have a number that they have on some host
 abbrev pub told_names : Accounts → List ℕ → ℕ
-told_names a m = count_below (λ i. is_free_class (class_at a i) && nat_lt 0 (lines (account a i) (number_at m i))) (length a.names)
+told_names a m =
+    count_below (λ i. is_free_class (class_at a i)
+    && nat_lt 0 (lines (account a i) (number_at m i))) (length a.names)
 
 -- how many files keep their number
 abbrev pub told_files : List Tally → List ℕ → ℕ → ℕ

@@ -1,6 +1,7 @@
 -- The map text as it is written, and how it reads back.
 -- Source: this product's own formats.
-use Rattle.std.specs.Prelude.{◌≡◌, ℕ, ◌<◌, ◌++◌, List, [], ◌∷◌, length, map, flat_map, decimal, Some, Ok, is_some}
+use Rattle.std.specs.Prelude.{◌≡◌, ℕ, ◌<◌, ◌++◌, List, [], ◌∷◌, length, map, flat_map, decimal}
+use Rattle.std.specs.Prelude.{Some, Ok, is_some}
 use Rattle.hosts_join.specs.Accounts.{Accounts, Pair, place_of}
 use Rattle.hosts_join.specs.Lawful.{AreLawfulAccounts}
 use Rattle.hosts_join.specs.Pairs.{number_of}
@@ -28,11 +29,14 @@ map_line kind p = line (which_word kind) (p.name ∷ decimal p.number ∷ [])
 
 -- users before groups
 abbrev pub map_text : Joined → Mappings → List ℕ
-map_text site m = flat_map (map_line User) (numbered site.users m.users) ++ flat_map (map_line Group) (numbered site.groups m.groups)
+map_text site m =
+    flat_map (map_line User) (numbered site.users m.users)
+    ++ flat_map (map_line Group) (numbered site.groups m.groups)
 
 -- the pairs say exactly the mapping: each name has its number, and no other name has one
 pub record SayMapping (a : Accounts) (m : List ℕ) (pairs : List Pair) : Type 0 where
-  pub numbers : (i : ℕ) → i < length a.names → number_of pairs (account a i).name ≡ Some (number_at m i)
+  pub numbers : (i : ℕ) → i < length a.names
+      → number_of pairs (account a i).name ≡ Some (number_at m i)
   pub names : (n : List ℕ) → is_some (number_of pairs n) ≡ is_name a.names n
 
 -- a map text that is read as these mappings
@@ -50,4 +54,6 @@ pub record IsMappingOf (a : Accounts) (m : List ℕ) : Type 0 where
 
 -- the map that is written reads back as the mappings
 abbrev pub WrittenMapsReadBack : Type 0
-WrittenMapsReadBack = (site : Joined) (m : Mappings) → IsMappingOf site.users m.users → IsMappingOf site.groups m.groups → ReadsBack site m (map_text site m)
+WrittenMapsReadBack =
+    (site : Joined) (m : Mappings) → IsMappingOf site.users m.users
+    → IsMappingOf site.groups m.groups → ReadsBack site m (map_text site m)

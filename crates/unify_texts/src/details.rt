@@ -3,7 +3,8 @@
 ghost use Rattle.std.specs.Prelude.{◌≡◌, ◌++◌, ◌∷◌, [], OnOk, codes, decimal};
 ghost use Rattle.unify_texts.specs.Words.{which_word, spaced, shown};
 ghost use Rattle.unify_texts.specs.BundleLines.{file_word};
-ghost use Rattle.unify_texts.specs.Faults.{class_word, details, joining_details, place_shown, reserver_words};
+ghost use Rattle.unify_texts.specs.Faults.{class_word, details, joining_details, place_shown};
+ghost use Rattle.unify_texts.specs.Faults.{reserver_words};
 
 use crate::bundle_line::FileName;
 use crate::fault::Fault;
@@ -120,7 +121,10 @@ fn push_joining_details(out: &mut Vec<u8>, fault: &Fault<'_>) -> Result<(), Allo
 
 /// A line of a host's file.
 fn push_place(out: &mut Vec<u8>, host: &[u8], file: FileName, line: u64) -> Result<(), AllocError>
-    ensures { OnOk result (out.new.items ≡ out.old.items ++ spaced (codes "host" ∷ shown host.now ∷ file_word file ∷ codes "line" ∷ decimal line ∷ [])) }
+    ensures { OnOk result
+        (out.new.items ≡ out.old.items
+        ++ spaced (codes "host" ∷ shown host.now ∷ file_word file ∷ codes "line" ∷ decimal line
+        ∷ [])) }
 {
     push_words(
         out,
@@ -136,14 +140,17 @@ fn push_place(out: &mut Vec<u8>, host: &[u8], file: FileName, line: u64) -> Resu
 
 /// A host.
 fn push_host(out: &mut Vec<u8>, host: &[u8]) -> Result<(), AllocError>
-    ensures { OnOk result (out.new.items ≡ out.old.items ++ spaced (codes "host" ∷ shown host.now ∷ [])) }
+    ensures { OnOk result
+        (out.new.items ≡ out.old.items ++ spaced (codes "host" ∷ shown host.now ∷ [])) }
 {
     push_words(out, &[Word::Text("host"), Word::Shown(host)])
 }
 
 /// A user of a host.
 fn push_user<'x>(out: &mut Vec<u8>, host: &'x [u8], user: &'x [u8]) -> Result<(), AllocError>
-    ensures { OnOk result (out.new.items ≡ out.old.items ++ spaced (codes "host" ∷ shown host.now ∷ codes "user" ∷ shown user.now ∷ [])) }
+    ensures { OnOk result
+        (out.new.items ≡ out.old.items
+        ++ spaced (codes "host" ∷ shown host.now ∷ codes "user" ∷ shown user.now ∷ [])) }
 {
     push_words(
         out,
@@ -164,7 +171,10 @@ fn push_unowned<'x>(
     number: u32,
     path: &'x [u8],
 ) -> Result<(), AllocError>
-    ensures { OnOk result (out.new.items ≡ out.old.items ++ spaced (codes "host" ∷ shown host.now ∷ label.now ∷ decimal number ∷ shown path.now ∷ [])) }
+    ensures { OnOk result
+        (out.new.items ≡ out.old.items
+        ++ spaced (codes "host" ∷ shown host.now ∷ label.now ∷ decimal number ∷ shown path.now
+        ∷ [])) }
 {
     push_words(
         out,
@@ -186,7 +196,9 @@ fn push_disagreement<'x>(
     first: &'x [u8],
     second: &'x [u8],
 ) -> Result<(), AllocError>
-    ensures { OnOk result (out.new.items ≡ out.old.items ++ spaced (which_word kind ∷ shown name.now ∷ shown first.now ∷ shown second.now ∷ [])) }
+    ensures { OnOk result
+        (out.new.items ≡ out.old.items
+        ++ spaced (which_word kind ∷ shown name.now ∷ shown first.now ∷ shown second.now ∷ [])) }
 {
     push_words(
         out,
@@ -207,7 +219,10 @@ fn push_reserved(
     name: &[u8],
     by: &Reserved<'_>,
 ) -> Result<(), AllocError>
-    ensures { OnOk result (out.new.items ≡ out.old.items ++ spaced (which_word kind ∷ decimal number ∷ shown name.now ∷ reserver_words by.now.numbers by.now.by)) }
+    ensures { OnOk result
+        (out.new.items ≡ out.old.items
+        ++ spaced (which_word kind ∷ decimal number ∷ shown name.now
+        ∷ reserver_words by.now.numbers by.now.by)) }
 {
     push_words(
         out,
@@ -222,7 +237,9 @@ fn push_reserved(
 
 /// Who keeps numbers from being given: a range with its ends, a name that a host keeps, or a host.
 fn push_reserver(out: &mut Vec<u8>, reserved: &Reserved<'_>) -> Result<(), AllocError>
-    ensures { OnOk result (out.new.items ≡ out.old.items ++ spaced (reserver_words reserved.now.numbers reserved.now.by)) }
+    ensures { OnOk result
+        (out.new.items ≡ out.old.items
+        ++ spaced (reserver_words reserved.now.numbers reserved.now.by)) }
 {
     match &reserved.by {
         Reserver::Range => push_range(out, &reserved.numbers),
@@ -235,7 +252,9 @@ fn push_reserver(out: &mut Vec<u8>, reserved: &Reserved<'_>) -> Result<(), Alloc
 
 /// A range with its ends.
 fn push_range(out: &mut Vec<u8>, range: &IdRange) -> Result<(), AllocError>
-    ensures { OnOk result (out.new.items ≡ out.old.items ++ spaced (codes "range" ∷ decimal range.now.low ∷ decimal range.now.high ∷ [])) }
+    ensures { OnOk result
+        (out.new.items ≡ out.old.items
+        ++ spaced (codes "range" ∷ decimal range.now.low ∷ decimal range.now.high ∷ [])) }
 {
     push_words(
         out,
@@ -249,7 +268,9 @@ fn push_range(out: &mut Vec<u8>, range: &IdRange) -> Result<(), AllocError>
 
 /// A name that is kept on a host.
 fn push_kept_name<'x>(out: &mut Vec<u8>, host: &'x [u8], name: &'x [u8]) -> Result<(), AllocError>
-    ensures { OnOk result (out.new.items ≡ out.old.items ++ spaced (codes "name" ∷ shown host.now ∷ shown name.now ∷ [])) }
+    ensures { OnOk result
+        (out.new.items ≡ out.old.items
+        ++ spaced (codes "name" ∷ shown host.now ∷ shown name.now ∷ [])) }
 {
     push_words(
         out,
@@ -265,7 +286,9 @@ fn push_clash<'x>(
     first: &'x [u8],
     second: &'x [u8],
 ) -> Result<(), AllocError>
-    ensures { OnOk result (out.new.items ≡ out.old.items ++ spaced (which_word kind ∷ decimal number ∷ shown first.now ∷ shown second.now ∷ [])) }
+    ensures { OnOk result
+        (out.new.items ≡ out.old.items
+        ++ spaced (which_word kind ∷ decimal number ∷ shown first.now ∷ shown second.now ∷ [])) }
 {
     push_words(
         out,
@@ -286,7 +309,9 @@ fn push_pool(
     names: u64,
     numbers: u64,
 ) -> Result<(), AllocError>
-    ensures { OnOk result (out.new.items ≡ out.old.items ++ spaced (which_word kind ∷ class_word class ∷ decimal names ∷ decimal numbers ∷ [])) }
+    ensures { OnOk result
+        (out.new.items ≡ out.old.items
+        ++ spaced (which_word kind ∷ class_word class ∷ decimal names ∷ decimal numbers ∷ [])) }
 {
     push_words(
         out,
@@ -306,7 +331,9 @@ fn push_uncovered(
     name: &[u8],
     number: u32,
 ) -> Result<(), AllocError>
-    ensures { OnOk result (out.new.items ≡ out.old.items ++ spaced (which_word kind ∷ shown name.now ∷ decimal number ∷ [])) }
+    ensures { OnOk result
+        (out.new.items ≡ out.old.items
+        ++ spaced (which_word kind ∷ shown name.now ∷ decimal number ∷ [])) }
 {
     push_words(
         out,
@@ -320,7 +347,9 @@ fn push_uncovered(
 
 /// A sum that is not the weight.
 fn push_sums(out: &mut Vec<u8>, kind: Which, sum: u128, weight: u128) -> Result<(), AllocError>
-    ensures { OnOk result (out.new.items ≡ out.old.items ++ spaced (which_word kind ∷ decimal sum ∷ decimal weight ∷ [])) }
+    ensures { OnOk result
+        (out.new.items ≡ out.old.items
+        ++ spaced (which_word kind ∷ decimal sum ∷ decimal weight ∷ [])) }
 {
     push_words(
         out,
@@ -334,7 +363,8 @@ fn push_sums(out: &mut Vec<u8>, kind: Which, sum: u128, weight: u128) -> Result<
 
 /// A number of a kind.
 fn push_kind_number(out: &mut Vec<u8>, kind: Which, number: u32) -> Result<(), AllocError>
-    ensures { OnOk result (out.new.items ≡ out.old.items ++ spaced (which_word kind ∷ decimal number ∷ [])) }
+    ensures { OnOk result
+        (out.new.items ≡ out.old.items ++ spaced (which_word kind ∷ decimal number ∷ [])) }
 {
     push_words(
         out,
@@ -347,7 +377,8 @@ fn push_kind_number(out: &mut Vec<u8>, kind: Which, number: u32) -> Result<(), A
 
 /// A name of a kind.
 fn push_kind_name(out: &mut Vec<u8>, kind: Which, name: &[u8]) -> Result<(), AllocError>
-    ensures { OnOk result (out.new.items ≡ out.old.items ++ spaced (which_word kind ∷ shown name.now ∷ [])) }
+    ensures { OnOk result
+        (out.new.items ≡ out.old.items ++ spaced (which_word kind ∷ shown name.now ∷ [])) }
 {
     push_words(out, &[Word::Text(kind_word(kind)), Word::Shown(name)])
 }
@@ -361,7 +392,8 @@ fn push_name(out: &mut Vec<u8>, name: &[u8]) -> Result<(), AllocError>
 
 /// A number under its label.
 fn push_labelled(out: &mut Vec<u8>, label: &str, number: u64) -> Result<(), AllocError>
-    ensures { OnOk result (out.new.items ≡ out.old.items ++ spaced (label.now ∷ decimal number ∷ [])) }
+    ensures { OnOk result
+        (out.new.items ≡ out.old.items ++ spaced (label.now ∷ decimal number ∷ [])) }
 {
     push_words(out, &[Word::Text(label), Word::Number(u128::from(number))])
 }

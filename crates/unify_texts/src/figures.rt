@@ -99,10 +99,11 @@ fn staying_rows(names: &Names<'_>, mapping: &Mapping) -> u64
 
 /// The figures of a mapping of the names; `files` is how many of the counted files have one of the
 /// names as their owner. Asked is that there is a number for each name, and that the counters were
-/// made for the names; where they count files, of which so many have an owner, the figures are those
-/// of the files.
+/// made for the names; where they count files, of which so many have an owner, the figures are
+/// those of the files.
 ///
-/// One pass over the names, with two scans of a name's rows and one of its counters, each at most 64. It takes no memory.
+/// One pass over the names, with two scans of a name's rows and one of its counters, each at most
+/// 64. It takes no memory.
 pub fn figures_under(
     names: &Names<'_>,
     counts: &KindCounts,
@@ -112,7 +113,9 @@ pub fn figures_under(
     requires made { AreMadeFor names.now.names counts.now }
     requires few { AreWithin counts.now 2147483648 }
     requires numbers { length mapping.now ≡ length names.now.names }
-    ensures { (added : List File) → CountFiles names.now.names counts.now added → files ≡ owned_files names.now.names added → result ≡ figures_of names.now added mapping.now }
+    ensures { (added : List File) → CountFiles names.now.names counts.now added
+        → files ≡ owned_files names.now.names added
+        → result ≡ figures_of names.now added mapping.now }
 {
     let pinned = pinned_names(names);
     let kept = kept_names(names, mapping);

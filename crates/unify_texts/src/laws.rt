@@ -1,18 +1,19 @@
 //! Laws of the texts, each the contract of a call that does nothing.
 
-ghost use Rattle.unify_texts.specs.BundleSpelling.{ReadsWhatIsSpelled, SpelledIsRead, FirstBadIsTold};
+ghost use Rattle.unify_texts.specs.BundleSpelling.{ReadsWhatIsSpelled, SpelledIsRead};
+ghost use Rattle.unify_texts.specs.BundleSpelling.{FirstBadIsTold};
 ghost use Rattle.unify_texts.specs.WrittenMap.{WrittenMapsReadBack};
 
-/// A text is read as a bundle exactly where its lines spell one, and as that one. Where they spell none, the fault
-/// tells the first line that spells no bundle together with those before it.
+/// A text is read as a bundle exactly where its lines spell one, and as that one. Where they spell
+/// none, the fault tells the first line that spells no bundle together with those before it.
 pub fn bundles_are_spelled()
     ensures found { ReadsWhatIsSpelled }
     ensures read { SpelledIsRead }
     ensures refused { FirstBadIsTold }
 {}
 
-/// The map text that is written for mappings of a site is read as a map in which each name has its number, and no other
-/// name has one.
+/// The map text that is written for mappings of a site is read as a map in which each name has its
+/// number, and no other name has one.
 pub fn written_maps_read_back()
     ensures { WrittenMapsReadBack }
 {}

@@ -31,8 +31,12 @@ pub struct MapText<'a> {
 /// Takes what a line says, and answers whether the line may stand there.
 fn take_line<'a>(map: &mut MapText<'a>, line: PairLine<'a>) -> Result<bool, AllocError>
     ensures good { IfOk result (λ good. good ≡ is_good_after map.old line.entry) }
-    ensures users { IfOk result (λ good. good ≡ Rattle.std.specs.Prelude.true → map.new.users ≡ map.old.users ++ user_pair line.entry) }
-    ensures groups { IfOk result (λ good. good ≡ Rattle.std.specs.Prelude.true → map.new.groups ≡ map.old.groups ++ group_pair line.entry) }
+    ensures users { IfOk result
+        (λ good. good ≡ Rattle.std.specs.Prelude.true
+        → map.new.users ≡ map.old.users ++ user_pair line.entry) }
+    ensures groups { IfOk result
+        (λ good. good ≡ Rattle.std.specs.Prelude.true
+        → map.new.groups ≡ map.old.groups ++ group_pair line.entry) }
 {
     match line {
         PairLine::Skipped => Ok(true),
@@ -50,11 +54,13 @@ fn take_line<'a>(map: &mut MapText<'a>, line: PairLine<'a>) -> Result<bool, Allo
     }
 }
 
-/// Reads a map text: the pairs of each kind, in the order of their lines, or `BadMap` with its first bad line.
+/// Reads a map text: the pairs of each kind, in the order of their lines, or `BadMap` with its
+/// first bad line.
 ///
-/// A line is bad where it is neither skipped nor a lawful pair, or where its name stands before it for the same
-/// kind. A number may come twice. Goes over the text once, with a hash look-up a pair; takes memory in the number
-/// of pairs, and the names are slices of the text. `Memory` where a growth was refused.
+/// A line is bad where it is neither skipped nor a lawful pair, or where its name stands before it
+/// for the same kind. A number may come twice. Goes over the text once, with a hash look-up a pair;
+/// takes memory in the number of pairs, and the names are slices of the text. `Memory` where a
+/// growth was refused.
 pub fn read_map<'a>(alloc: Global, text: &'a [u8]) -> Result<MapText<'a>, Fault<'a>>
     ensures { Gives (λ map. map) told result (map_of text.now) }
 {
@@ -82,7 +88,9 @@ fn push_numbers(
 ) -> Result<(), AllocError>
     requires lawful { AreLawfulAccounts names.now }
     requires len { length mapping.now ≡ length names.now.names }
-    ensures { OnOk result (out.new.items ≡ out.old.items ++ flat_map (map_line kind) (numbered names.now mapping.now)) }
+    ensures { OnOk result
+        (out.new.items ≡ out.old.items
+        ++ flat_map (map_line kind) (numbered names.now mapping.now)) }
 {
     let order = by_name(alloc, names)?;
     for entry in &order {
@@ -102,7 +110,9 @@ fn map_lines(
 ) -> Result<Vec<u8>, AllocError>
     requires users { length users.now ≡ length site.now.users.names }
     requires groups { length groups.now ≡ length site.now.groups.names }
-    ensures { IfOk result (λ text. text.items ≡ map_text site.now (record { users = users.now; groups = groups.now })) }
+    ensures { IfOk result
+        (λ text. text.items ≡ map_text site.now
+        (record { users = users.now; groups = groups.now })) }
 {
     let lines = site.users().len() as usize + site.groups().len() as usize;
     let mut text = Vec::with_capacity(alloc, LINE_BYTES * lines)?;
@@ -111,12 +121,13 @@ fn map_lines(
     Ok(text)
 }
 
-/// Appends the map text of mappings of a site's users and groups: a line `user NAME NUMBER` for each user, in byte
-/// order of the names, and then a line `group NAME NUMBER` for each group alike. Asked is one number for each name.
-/// What is appended is read back by [`read_map`] as these numbers.
+/// Appends the map text of mappings of a site's users and groups: a line `user NAME NUMBER` for
+/// each user, in byte order of the names, and then a line `group NAME NUMBER` for each group alike.
+/// Asked is one number for each name. What is appended is read back by [`read_map`] as these
+/// numbers.
 ///
-/// One sort of the names of each kind, and time and memory in the length of the lines, of which a copy is made first.
-/// `AllocError` where a growth was refused; then nothing is appended.
+/// One sort of the names of each kind, and time and memory in the length of the lines, of which a
+/// copy is made first. `AllocError` where a growth was refused; then nothing is appended.
 pub fn push_map(
     alloc: Global,
     out: &mut Vec<u8>,
@@ -126,7 +137,9 @@ pub fn push_map(
 ) -> Result<(), AllocError>
     requires users { length users.now ≡ length site.now.users.names }
     requires groups { length groups.now ≡ length site.now.groups.names }
-    ensures ok { OnOk result (out.new.items ≡ out.old.items ++ map_text site.now (record { users = users.now; groups = groups.now })) }
+    ensures ok { OnOk result
+        (out.new.items ≡ out.old.items
+        ++ map_text site.now (record { users = users.now; groups = groups.now })) }
     ensures err { OnErr result (out.new.items ≡ out.old.items) }
 {
     let text = map_lines(alloc, site, users, groups)?;

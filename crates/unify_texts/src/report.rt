@@ -28,7 +28,8 @@ fn field_word(field: Field) -> &'static str
 
 // How the names of a kind got their numbers.
 fn push_names(out: &mut Vec<u8>, kinds: &str, figures: &Figures) -> Result<(), AllocError>
-    ensures { OnOk result (out.new.items ≡ out.old.items ++ report.names_line kinds.now figures.now) }
+    ensures { OnOk result
+        (out.new.items ≡ out.old.items ++ report.names_line kinds.now figures.now) }
 {
     let words = [
         Word::Number(u128::from(figures.names)),
@@ -44,7 +45,8 @@ fn push_names(out: &mut Vec<u8>, kinds: &str, figures: &Figures) -> Result<(), A
 
 // How many of all change.
 fn push_change(out: &mut Vec<u8>, what: &str, changed: u64, all: u64) -> Result<(), AllocError>
-    ensures { OnOk result (out.new.items ≡ out.old.items ++ report.change_line what.now changed all) }
+    ensures { OnOk result
+        (out.new.items ≡ out.old.items ++ report.change_line what.now changed all) }
 {
     let words = [
         Word::Number(u128::from(changed)),
@@ -67,7 +69,8 @@ fn push_difference(out: &mut Vec<u8>, difference: &Difference<'_>) -> Result<(),
 }
 
 fn push_differences(out: &mut Vec<u8>, told: &[Difference<'_>]) -> Result<(), AllocError>
-    ensures { OnOk result (out.new.items ≡ out.old.items ++ flat_map report.difference_line told.now) }
+    ensures { OnOk result
+        (out.new.items ≡ out.old.items ++ flat_map report.difference_line told.now) }
 {
     for difference in told {
         push_difference(out, difference)?;
@@ -83,7 +86,8 @@ fn report_lines(
     groups: &Figures,
     told: &[Difference<'_>],
 ) -> Result<Vec<u8>, AllocError>
-    ensures { IfOk result (λ text. text.items ≡ report.report_lines hosts users.now groups.now told.now) }
+    ensures { IfOk result
+        (λ text. text.items ≡ report.report_lines hosts users.now groups.now told.now) }
 {
     let mut text = Vec::new(alloc);
     push_line(&mut text, "unify", &[Word::Text("report"), Word::Text("2")])?;
@@ -104,16 +108,18 @@ fn report_lines(
     Ok(text)
 }
 
-/// The report of a mapping of a site's users and one of its groups: how many hosts there are; for each kind how many
-/// names are pinned, keep a number that they have on some host, or have a fresh one; how many owner fields of the
-/// files, and how many account rows, change; and each field in which a later host differs from the first. Names are
-/// escaped.
+/// The report of a mapping of a site's users and one of its groups: how many hosts there are; for
+/// each kind how many names are pinned, keep a number that they have on some host, or have a fresh
+/// one; how many owner fields of the files, and how many account rows, change; and each field in
+/// which a later host differs from the first. Names are escaped.
 ///
-/// Asked is that the site was joined from these hosts, that the counters were made for it, and that there is one number
-/// for each name. Where the counters stand for files, the report is that of these files.
+/// Asked is that the site was joined from these hosts, that the counters were made for it, and that
+/// there is one number for each name. Where the counters stand for files, the report is that of
+/// these files.
 ///
-/// A few passes over the names, with a few scans of at most 64 counters or rows for each, and what `differences` takes;
-/// memory in the length of the text besides. `AllocError` where a growth was refused.
+/// A few passes over the names, with a few scans of at most 64 counters or rows for each, and what
+/// `differences` takes; memory in the length of the text besides. `AllocError` where a growth was
+/// refused.
 pub fn report_text(
     alloc: Global,
     hosts: &[Host<'_>],
@@ -127,7 +133,9 @@ pub fn report_text(
     requires made { IsMadeFor site.now counts.now }
     requires users { length users.now ≡ length site.now.users.names }
     requires groups { length groups.now ≡ length site.now.groups.names }
-    ensures { IfOk result (λ text. (files : List Added) → StandsFor site.now counts.now files → text.items ≡ report.report_of hosts.now site.now files (record { users = users.now; groups = groups.now })) }
+    ensures { IfOk result (λ text. (files : List Added) → StandsFor site.now counts.now files
+        → text.items ≡ report.report_of hosts.now site.now files
+        (record { users = users.now; groups = groups.now })) }
 {
     let user_figures = figures_under(site.users(), counts.users(), counts.user_files(), users);
     let group_figures = figures_under(site.groups(), counts.groups(), counts.group_files(), groups);

@@ -65,7 +65,8 @@ pub fn push_words(out: &mut Vec<u8>, words: &[Word<'_>]) -> Result<(), AllocErro
 
 /// Appends a line: its first word, the others, each behind a space, and the newline.
 pub fn push_line(out: &mut Vec<u8>, first: &str, words: &[Word<'_>]) -> Result<(), AllocError>
-    ensures { OnOk result (out.new.items ≡ out.old.items ++ line first.now (map word_text words.now)) }
+    ensures { OnOk result
+        (out.new.items ≡ out.old.items ++ line first.now (map word_text words.now)) }
 {
     out.extend_from_slice(first.as_bytes())?;
     push_words(out, words)?;
