@@ -4,8 +4,8 @@
 //! Sources: passwd(5) and group(5) for lines and fields, login.defs(5) of the shadow suite for
 //! words and numbers, chown(2) for the greatest id, mtree(5) and vis(3) for escapes. Texts are
 //! bytes and need not be UTF-8. Each reader goes over its text once and takes no memory.
-//! [`push_number`], [`push_escaped`] and [`ByteString::push_line`] append to a text, and leave it
-//! as it was where memory is refused; [`ByteString::copy_of`] copies one.
+//! [`push_number`], [`push_escaped`], [`push_parts`] and [`ByteString::push_line`] append to a text,
+//! and leave it as it was where memory is refused; [`ByteString::copy_of`] copies one.
 #![tactic(auto)]
 
 mod escapes;
@@ -14,6 +14,7 @@ mod laws;
 mod name;
 mod names;
 mod numbers;
+mod parts;
 mod pieces;
 mod words;
 
@@ -23,5 +24,6 @@ pub use laws::{escapes_are_read_from_the_left, numbers_read_are_ids};
 pub use name::{ByteString, Name};
 pub use names::{is_lawful_name, is_skipped};
 pub use numbers::{LARGEST_ID, c_number, decimal, push_number};
+pub use parts::push_parts;
 pub use pieces::{Lines, Pieces, cut, fields, split_at_last_space};
 pub use words::{MOST_BYTES, Words, first_word};

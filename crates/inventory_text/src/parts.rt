@@ -2,34 +2,8 @@
 ghost use Rattle.std.specs.Prelude.{◌≡◌, ◌++◌, OnOk, is_ok, if◌then◌else◌, length, take, flat_map};
 ghost use Rattle.idtext.specs.Escapes.{escaped};
 
-use idtext::push_escaped;
+use idtext::{push_escaped, push_parts};
 use std::alloc::AllocError;
-
-// Appends each part, also where memory runs out on the way.
-fn push_each_part(out: &mut Vec<u8>, parts: &[&[u8]]) -> Result<(), AllocError>
-    ensures pushed { OnOk result
-        (out.new.items ≡ out.old.items ++ flat_map (λ part. part.now) parts.now) }
-    ensures kept { take (length out.old.items) out.new.items ≡ out.old.items }
-{
-    for part in parts {
-        out.extend_from_slice(part)?;
-    }
-    Ok(())
-}
-
-// Appends the parts one after the other, or nothing where memory runs out.
-pub(crate) fn push_parts(out: &mut Vec<u8>, parts: &[&[u8]]) -> Result<(), AllocError>
-    ensures { out.new.items
-        ≡ (if is_ok result then out.old.items ++ flat_map (λ part. part.now) parts.now
-        else out.old.items) }
-{
-    let before = out.len();
-    let pushed = push_each_part(out, parts);
-    if pushed.is_err() {
-        out.truncate(before);
-    }
-    pushed
-}
 
 // Appends a front, some bytes escaped and the parts behind them, also where memory runs out on
 // the way.

@@ -3,7 +3,8 @@ ghost use Rattle.std.specs.Prelude.{◌≡◌, ◌++◌, is_ok, if◌then◌else
 ghost use Rattle.inventory_text.specs.Writing.{ended, end_line, entry_line, head_line};
 
 use crate::kind::FileKind;
-use crate::parts::{push_parts, push_with_escaped};
+use crate::parts::push_with_escaped;
+use idtext::push_parts;
 use itoa::Buffer;
 use std::alloc::AllocError;
 

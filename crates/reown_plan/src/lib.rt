@@ -3,7 +3,6 @@
 
 mod laws;
 mod mark;
-mod parts;
 mod plan;
 mod read;
 mod spell;

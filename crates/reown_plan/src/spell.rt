@@ -4,7 +4,7 @@ ghost use Rattle.reown_plan.specs.Spelling.{head, line, end};
 ghost use Rattle.reown_plan.specs.Records.{record_of};
 
 use crate::Record;
-use crate::parts::push_parts;
+use idtext::push_parts;
 use itoa::Buffer;
 use std::alloc::AllocError;
 

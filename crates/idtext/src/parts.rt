@@ -15,8 +15,9 @@ fn push_each_part(out: &mut Vec<u8>, parts: &[&[u8]]) -> Result<(), AllocError>
     Ok(())
 }
 
-// Appends the parts one after the other, or nothing where memory runs out.
-pub(crate) fn push_parts(out: &mut Vec<u8>, parts: &[&[u8]]) -> Result<(), AllocError>
+/// Appends the parts one after the other. `AllocError` where memory is refused; the text is then as
+/// it was. One pass over the parts.
+pub fn push_parts(out: &mut Vec<u8>, parts: &[&[u8]]) -> Result<(), AllocError>
     ensures { out.new.items
         ≡ (if is_ok result then out.old.items ++ flat_map (λ part. part.now) parts.now
         else out.old.items) }
