@@ -1,5 +1,5 @@
 -- Some rows of a table.
--- Source: this product's own rule.
+-- Source: this project's own rule.
 use Rattle.std.specs.Prelude.{Bool, List, filter, map}
 use Rattle.std.specs.List.{zip}
 

@@ -1,5 +1,5 @@
 -- The lines of a bundle.
--- Source: this product's own formats.
+-- Source: this project's own formats.
 use Rattle.std.specs.Prelude.{ℕ, Bool, List, ◌==◌, drop, if◌then◌else◌, bytes_eq, codes}
 use Rattle.idtext.specs.Pieces.{begins_with}
 use Rattle.unify_texts.specs.declared.bundle_line.Command.{Command}

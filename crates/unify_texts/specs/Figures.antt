@@ -1,5 +1,5 @@
 -- What a mapping of one kind keeps and changes, as the report tells it.
--- Source: this product's own formats.
+-- Source: this project's own formats.
 use Rattle.std.specs.Prelude.{ℕ, not, ◌&&◌, nat_le, nat_eq, List, length}
 use Rattle.hosts_join.specs.Accounts.{Accounts, all_lines}
 use Rattle.hosts_join.specs.Count.{count_below}

@@ -1,5 +1,5 @@
 -- The map text: the pairs of its lines, or its first fault.
--- Source: this product's own formats.
+-- Source: this project's own formats.
 use Rattle.std.specs.Prelude.{ℕ, Bool, true, false, not, List, [], length, Option, Some, None}
 use Rattle.std.specs.Prelude.{is_some, Result, if◌then◌else◌, flat_map}
 use Rattle.idtext.specs.First.{first_fault, unless}

@@ -1,5 +1,5 @@
 -- Words of a line, with one space between.
--- Source: this product's own formats.
+-- Source: this project's own formats.
 use Rattle.std.specs.Prelude.{ℕ, List, [], ◌∷◌, ◌++◌, flat_map, codes, decimal}
 use Rattle.idtext.specs.Escapes.{escaped}
 use Rattle.hosts_join.specs.declared.Which.{Which}

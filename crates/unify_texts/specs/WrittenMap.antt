@@ -1,5 +1,5 @@
 -- The map text as it is written, and how it reads back.
--- Source: this product's own formats.
+-- Source: this project's own formats.
 use Rattle.std.specs.Prelude.{◌≡◌, ℕ, ◌<◌, ◌++◌, List, [], ◌∷◌, length, map, flat_map, decimal}
 use Rattle.std.specs.Prelude.{Some, Ok, is_some}
 use Rattle.hosts_join.specs.Accounts.{Accounts, Pair, place_of}

@@ -1,4 +1,4 @@
-//! The map text. The format is this product's own.
+//! The map text. The format is this project's own.
 
 ghost use Rattle.std.specs.Prelude.{◌≡◌, ◌++◌, IfOk, OnOk, OnErr, length, flat_map};
 ghost use Rattle.idtext.specs.First.{Gives};
