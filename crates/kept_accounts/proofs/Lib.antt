@@ -1,3 +1,4 @@
 pub mod PickedLemmas
 pub mod OtherLemmas
 pub mod ReservedLemmas
+pub mod SparedLemmas

@@ -1,5 +1,5 @@
 -- Which names of a site stay as they are, and which numbers need no account.
--- Source: this product's own rule. Rows are names with their numbers, those of all hosts one
+-- Source: this project's own rule. Rows are names with their numbers, those of all hosts one
 -- behind the other.
 use Rattle.std.specs.Prelude.{◌≡◌, ℕ, Bool, false, ◌||◌, List, [], ◌∷◌, map, filter, flat_map}
 use Rattle.std.specs.Prelude.{bytes_eq}
