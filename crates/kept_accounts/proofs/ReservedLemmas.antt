@@ -116,11 +116,11 @@ none_kept hosts = record {
   groups = not_kept (groups_on hosts);
   uids = none_reserved (users_on hosts) (λ h. user_rows h.users) hosts;
   gids = none_reserved (groups_on hosts) (λ h. group_rows h.groups) hosts;
-  others = λ host users groups.
+  others = λ host.
       let rows = filter-all (λ (row : Passwd). not (is_kept_user no_keep hosts row.name)) (λ row. ap not (not_kept (users_on hosts) row.name)) host.users in
       let more = filter-all (λ (row : Group). not (is_kept_group no_keep hosts row.name)) (λ row. ap not (not_kept (groups_on hosts) row.name)) host.groups in
-      let uids = ap (map (λ (row : List ℕ × ℕ). only row.1)) (filter-no (λ (row : List ℕ × ℕ). is_kept_user no_keep hosts row.0) (λ row. not_kept (users_on hosts) row.0) (user_rows host.users)) ∙ sym users in
-      let gids = ap (map (λ (row : List ℕ × ℕ). only row.1)) (filter-no (λ (row : List ℕ × ℕ). is_kept_group no_keep hosts row.0) (λ row. not_kept (groups_on hosts) row.0) (group_rows host.groups)) ∙ sym groups in
+      let uids = ap (map (λ (row : List ℕ × ℕ). only row.1)) (filter-no (λ (row : List ℕ × ℕ). is_kept_user no_keep hosts row.0) (λ row. not_kept (users_on hosts) row.0) (user_rows host.users)) in
+      let gids = ap (map (λ (row : List ℕ × ℕ). only row.1)) (filter-no (λ (row : List ℕ × ℕ). is_kept_group no_keep hosts row.0) (λ row. not_kept (groups_on hosts) row.0) (group_rows host.groups)) in
       λ i. record host { users = rows i; groups = more i; spared_users = uids i; spared_groups = gids i };
 }
 

@@ -18,14 +18,14 @@ use Rattle.kept_accounts.specs.Others.{kept_rows, other_rows, without, without_k
 use Rattle.kept_accounts.specs.Reserving.{by_name, reserved_by, reserved_users, reserved_groups}
 use Rattle.kept_accounts.specs.declared.reserving.UnownedNumber.{UnownedNumber}
 
--- no name is kept, no number is reserved, and each host that spared nothing is as it was
+-- no name is kept, no number is reserved, and each host is as it was, and spares no number
 pub record KeepsNothing (keep : KeepText) (hosts : List Host) : Type 0 where
   pub users : (name : List ℕ) → is_kept_user keep hosts name ≡ false
   pub groups : (name : List ℕ) → is_kept_group keep hosts name ≡ false
   pub uids : (unowned : List UnownedNumber) → reserved_users keep hosts unowned ≡ []
   pub gids : (unowned : List UnownedNumber) → reserved_groups keep hosts unowned ≡ []
-  pub others : (host : Host) → host.spared_users ≡ [] → host.spared_groups ≡ []
-      → without_kept keep hosts host ≡ host
+  pub others : (host : Host)
+      → without_kept keep hosts host ≡ record host { spared_users = []; spared_groups = [] }
 
 abbrev pub EmptyTextKeepsNothing : Type 0
 EmptyTextKeepsNothing = (keep : KeepText) (hosts : List Host)

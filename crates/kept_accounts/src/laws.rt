@@ -6,8 +6,8 @@ ghost use Rattle.kept_accounts.specs.Laws.{UsersAreParted, GroupsAreParted, Othe
 ghost use Rattle.kept_accounts.specs.Laws.{OtherUsersAgree, OtherGroupsAgree};
 ghost use Rattle.kept_accounts.specs.Laws.{NamedAreLeftOrSpared, SparedAreReserved};
 
-/// By an empty keep text no name is kept and no number is reserved, and each host that spared
-/// nothing is as it was.
+/// By an empty keep text no name is kept and no number is reserved, and each host is as it was, and
+/// spares no number.
 pub fn an_empty_text_keeps_nothing()
     ensures { EmptyTextKeepsNothing }
 {}
