@@ -1,6 +1,7 @@
 -- What is settled of the names of one kind before they are joined.
 -- Words of the code and not of the subject: only private contracts cite them.
-use Rattle.std.specs.Prelude.{◌≡◌, ℕ, ◌≤◌, nat_lt, if◌then◌else◌, List, map, count_by, Option, Some, None}
+use Rattle.std.specs.Prelude.{◌≡◌, ℕ, ◌≤◌, nat_lt, if◌then◌else◌, List, map, count_by, Option, Some}
+use Rattle.std.specs.Prelude.{None}
 use Rattle.idtext.specs.First.{or_else}
 use Rattle.hosts_join.specs.declared.Class.{Class}
 use Rattle.hosts_join.specs.declared.Class.TheVariants.{Regular, System}
@@ -16,8 +17,10 @@ use Rattle.hosts_join.specs.declared.names.Settled.{Settled}
 use Rattle.hosts_join.specs.declared.reserving.Reserved.{Reserved}
 use Rattle.hosts_join.specs.Accounts.{Accounts, Pair}
 use Rattle.hosts_join.specs.Index.{accounts_in}
-use Rattle.hosts_join.specs.Pool.{in_runs, run_size}
-use Rattle.hosts_join.specs.Rules.{class_of, clash_of, claims, in_pool, names_in, pool_size, same_class}
+use Rattle.hosts_join.specs.Pool.{run_size}
+use Rattle.hosts_join.specs.RangeLists.{lies_in_some}
+use Rattle.hosts_join.specs.Rules.{class_of, clash_of, claims, in_pool, names_in, pool_size}
+use Rattle.hosts_join.specs.Rules.{same_class}
 use Rattle.hosts_join.specs.Views.{entry_of}
 
 -- the accounts that the tables of a join stand for
@@ -30,8 +33,8 @@ joined_from hosts index pins reserved = record {
 }
 
 pub record ArePools (a : Accounts) (p : PoolPair) : Type 0 where
-  pub regular : (v : ℕ) → in_runs p.regular v ≡ in_pool a Regular v
-  pub system : (v : ℕ) → in_runs p.system v ≡ in_pool a System v
+  pub regular : (v : ℕ) → lies_in_some p.regular v ≡ in_pool a Regular v
+  pub system : (v : ℕ) → lies_in_some p.system v ≡ in_pool a System v
 
 pub record IsSettled (a : Accounts) (s : Settled) : Type 0 where
   pub classes : s.classes.items ≡ map (class_of a.pins) a.names
@@ -42,7 +45,8 @@ pub record IsSettled (a : Accounts) (s : Settled) : Type 0 where
 
 -- what is wrong with a pool of so many numbers, whose class has so many names
 abbrev pub lacking : Which → PoolClass → ℕ → ℕ → Option SiteFault
-lacking kind class names numbers = if nat_lt numbers names then Some (PoolTooSmall kind class names numbers) else None
+lacking kind class names numbers =
+    if nat_lt numbers names then Some (PoolTooSmall kind class names numbers) else None
 
 -- the first pool that has fewer numbers than its class has names
 abbrev pub small_among : Which → List Class → PoolPair → Option SiteFault

@@ -1,4 +1,4 @@
-pub mod RunLemmas
 pub mod PickedLemmas
 pub mod OtherLemmas
 pub mod ReservedLemmas
+pub mod SparedLemmas

@@ -15,8 +15,8 @@ use Rattle.keep_text.specs.declared.keep_text.Kept.{Kept}
 use Rattle.keep_text.specs.declared.keep_text.KeepText.{KeepText}
 use Rattle.kept_accounts.specs.Keeping.{keeps, is_kept, is_kept_user, is_kept_group, users_on, groups_on, numbers_of, stays}
 use Rattle.kept_accounts.specs.Laws.{KeepsNothing, KeepingDecides, EmptyTextKeepsNothing, KeptNumbersAreReserved, NumbersDecide}
-use Rattle.kept_accounts.specs.Others.{other_rows, without}
-use Rattle.kept_accounts.specs.Reserving.{by_name, by_range, by_files, reserved_on, reserved_by}
+use Rattle.kept_accounts.specs.Others.{without}
+use Rattle.kept_accounts.specs.Reserving.{by_name, by_range, by_files, only, reserved_on, reserved_by}
 use Rattle.kept_accounts.specs.declared.reserving.UnownedNumber.{UnownedNumber}
 
 pub numbers_decide : NumbersDecide
@@ -27,7 +27,7 @@ keeping_decides keep hosts users groups is_users is_groups =
     let user : keeps users ≡ is_kept_user keep hosts = fun_ext is_users.names_are in
     let group : keeps groups ≡ is_kept_group keep hosts = fun_ext is_groups.names_are in
     record {
-      others = λ host. ap (λ (kept : List ℕ → Bool). without kept (keeps groups) host) user ∙ ap (λ (kept : List ℕ → Bool). without (is_kept_user keep hosts) kept host) group;
+      others = λ host. ap (λ (kept : List ℕ → Bool). without keep kept (keeps groups) host) user ∙ ap (λ (kept : List ℕ → Bool). without keep (is_kept_user keep hosts) kept host) group;
       uids = λ unowned. ap (λ (kept : List ℕ → Bool). reserved_by kept (λ h. user_rows h.users) keep.users hosts unowned) user;
       gids = λ unowned. ap (λ (kept : List ℕ → Bool). reserved_by kept (λ h. group_rows h.groups) keep.groups hosts unowned) group;
     }
@@ -117,10 +117,11 @@ none_kept hosts = record {
   uids = none_reserved (users_on hosts) (λ h. user_rows h.users) hosts;
   gids = none_reserved (groups_on hosts) (λ h. group_rows h.groups) hosts;
   others = λ host.
-      ap (λ (rows : List Passwd). record host { users = rows; groups = other_rows (λ (row : Group). row.name) (is_kept_group no_keep hosts) host.groups })
-      (filter-all (λ (row : Passwd). not (is_kept_user no_keep hosts row.name)) (λ row. ap not (not_kept (users_on hosts) row.name)) host.users)
-      ∙ ap (λ (rows : List Group). record host { groups = rows })
-      (filter-all (λ (row : Group). not (is_kept_group no_keep hosts row.name)) (λ row. ap not (not_kept (groups_on hosts) row.name)) host.groups);
+      let rows = filter-all (λ (row : Passwd). not (is_kept_user no_keep hosts row.name)) (λ row. ap not (not_kept (users_on hosts) row.name)) host.users in
+      let more = filter-all (λ (row : Group). not (is_kept_group no_keep hosts row.name)) (λ row. ap not (not_kept (groups_on hosts) row.name)) host.groups in
+      let uids = ap (map (λ (row : List ℕ × ℕ). only row.1)) (filter-no (λ (row : List ℕ × ℕ). is_kept_user no_keep hosts row.0) (λ row. not_kept (users_on hosts) row.0) (user_rows host.users)) in
+      let gids = ap (map (λ (row : List ℕ × ℕ). only row.1)) (filter-no (λ (row : List ℕ × ℕ). is_kept_group no_keep hosts row.0) (λ row. not_kept (groups_on hosts) row.0) (group_rows host.groups)) in
+      λ i. record host { users = rows i; groups = more i; spared_users = uids i; spared_groups = gids i };
 }
 
 lines-nil : lines_of [] ≡ []

@@ -1,12 +1,13 @@
 -- What holds of the accounts that are kept.
--- Source: this product's own rule.
-use Rattle.std.specs.Prelude.{◌≡◌, ◌⊎◌, ℕ, ◌++◌, Bool, true, false, List, [], Option, Some, Ok}
+-- Source: this project's own rule.
+use Rattle.std.specs.Prelude.{◌≡◌, ◌⊎◌, ℕ, ◌≤◌, ◌++◌, Bool, true, false, List, [], Option, Some, Ok}
 use Rattle.std.specs.List.{Contains}
 use Rattle.std.specs.List.Sorted.{IsPermutation}
 use Rattle.accounts.specs.Laws.{IsPasswdTable, IsGroupTable}
 use Rattle.accounts.specs.Rows.{Passwd, Group}
-use Rattle.hosts_join.specs.Hosts.{IsLawfulHost}
+use Rattle.hosts_join.specs.Hosts.{IsLawfulHost, spares_user, spares_group}
 use Rattle.hosts_join.specs.Kinds.{user_rows, group_rows, user_at, group_at}
+use Rattle.hosts_join.specs.Rules.{is_reserved}
 use Rattle.hosts_join.specs.declared.host.Host.{Host}
 use Rattle.keep_text.specs.KeepTexts.{keep_of}
 use Rattle.keep_text.specs.declared.keep_text.Kept.{Kept}
@@ -17,13 +18,14 @@ use Rattle.kept_accounts.specs.Others.{kept_rows, other_rows, without, without_k
 use Rattle.kept_accounts.specs.Reserving.{by_name, reserved_by, reserved_users, reserved_groups}
 use Rattle.kept_accounts.specs.declared.reserving.UnownedNumber.{UnownedNumber}
 
--- no name is kept, no number is reserved, and each host is as it was
+-- no name is kept, no number is reserved, and each host is as it was, and spares no number
 pub record KeepsNothing (keep : KeepText) (hosts : List Host) : Type 0 where
   pub users : (name : List ℕ) → is_kept_user keep hosts name ≡ false
   pub groups : (name : List ℕ) → is_kept_group keep hosts name ≡ false
   pub uids : (unowned : List UnownedNumber) → reserved_users keep hosts unowned ≡ []
   pub gids : (unowned : List UnownedNumber) → reserved_groups keep hosts unowned ≡ []
-  pub others : (host : Host) → without_kept keep hosts host ≡ host
+  pub others : (host : Host)
+      → without_kept keep hosts host ≡ record host { spared_users = []; spared_groups = [] }
 
 abbrev pub EmptyTextKeepsNothing : Type 0
 EmptyTextKeepsNothing = (keep : KeepText) (hosts : List Host)
@@ -33,7 +35,7 @@ EmptyTextKeepsNothing = (keep : KeepText) (hosts : List Host)
 pub record LeavesTheSame (keep : KeepText) (hosts : List Host) (users groups : Keeping)
     : Type 0 where
   pub others : (host : Host)
-      → without (keeps users) (keeps groups) host ≡ without_kept keep hosts host
+      → without keep (keeps users) (keeps groups) host ≡ without_kept keep hosts host
   pub uids : (unowned : List UnownedNumber)
       → reserved_by (keeps users) (λ host. user_rows host.users) keep.users hosts unowned
       ≡ reserved_users keep hosts unowned
@@ -80,8 +82,29 @@ OthersAgree {Row} name at IsTable =
 
 -- a host without its kept rows is lawful where the host is
 abbrev pub OthersAreLawful : Type 0
-OthersAreLawful = (user group : List ℕ → Bool) (host : Host)
-    → IsLawfulHost host → IsLawfulHost (without user group host)
+OthersAreLawful = (keep : KeepText) (user group : List ℕ → Bool) (host : Host)
+    → IsLawfulHost host → IsLawfulHost (without keep user group host)
+
+-- Each number that a host then spares is reserved, where the text does not keep all numbers without
+-- an account.
+abbrev pub SparedAreReserved : Type 0
+SparedAreReserved = (keep : KeepText) (hosts : List Host) (unowned : List UnownedNumber)
+    (host : Host) (number : ℕ) → Contains hosts host
+    → (keep.users.unowned ≡ false → spares_user (without_kept keep hosts host) number ≡ true
+    → is_reserved (reserved_users keep hosts unowned) number ≡ true)
+    × (keep.groups.unowned ≡ false → spares_group (without_kept keep hosts host) number ≡ true
+    → is_reserved (reserved_groups keep hosts unowned) number ≡ true)
+
+-- a number that a host's table names is named so by what is left of the table, or the host spares it
+abbrev pub NamedAreLeftOrSpared : Type 0
+NamedAreLeftOrSpared = (keep : KeepText) (hosts : List Host) (host : Host) (number : ℕ)
+    (named : List ℕ) → number ≤ 4294967295
+    → (user_at host.users number ≡ Some named
+    → (user_at (without_kept keep hosts host).users number ≡ Some named)
+    ⊎ (spares_user (without_kept keep hosts host) number ≡ true))
+    × (group_at host.groups number ≡ Some named
+    → (group_at (without_kept keep hosts host).groups number ≡ Some named)
+    ⊎ (spares_group (without_kept keep hosts host) number ≡ true))
 
 -- ---- of both kinds
 

@@ -1,5 +1,5 @@
 -- The numbers that no name is to be given, and who keeps them from it.
--- Source: this product's own rule.
+-- Source: this project's own rule.
 use Rattle.std.specs.Prelude.{ℕ, Bool, List, [], ◌++◌, map, filter, flat_map, if◌then◌else◌}
 use Rattle.logindefs.specs.declared.ranges.IdRange.{IdRange}
 use Rattle.hosts_join.specs.declared.host.Host.{Host}

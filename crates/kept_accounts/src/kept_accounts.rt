@@ -5,6 +5,7 @@ ghost use Rattle.kept_accounts.specs.Keeping.{IsKeeping, keeps, users_on, groups
 ghost use Rattle.kept_accounts.specs.Others.{other_rows, without};
 
 use crate::kept_kind::KeptKind;
+use crate::sparing::spared;
 use accounts::{GroupTable, PasswdTable};
 use hosts_join::{Groups, Host, Users};
 use idtext::Name;
@@ -34,19 +35,31 @@ impl<'a> KeptAccounts<'a> {
         Ok(KeptAccounts { users, groups })
     }
 
-    /// The host without its kept users and groups: the other rows, in their order. One look-up by
-    /// hash for each row, and what [`PasswdTable::selected`] and [`GroupTable::selected`] take.
-    pub fn without_kept(&self, alloc: Global, host: &Host<'a>) -> Result<Host<'a>, AllocError>
-        ensures { IfOk result
-            (λ others. others ≡ without (keeps self.now.users) (keeps self.now.groups) host.now) }
+    /// The host without its kept users and groups, where this was made from the same text: the
+    /// other rows, in their order. It spares each number, where the text keeps numbers without an
+    /// account; else those of listed ranges, and those of its kept names. Two look-ups by hash for
+    /// each row, one sort for each kind of what is spared, and what [`PasswdTable::selected`] and
+    /// [`GroupTable::selected`] take.
+    pub fn without_kept(
+        &self,
+        alloc: Global,
+        keep: &KeepText<'_>,
+        host: &Host<'a>,
+    ) -> Result<Host<'a>, AllocError>
+        ensures { IfOk result (λ others. others
+            ≡ without keep.now (keeps self.now.users) (keeps self.now.groups) host.now) }
     {
         let users = other_users(alloc, &self.users, &host.users)?;
         let groups = other_groups(alloc, &self.groups, &host.groups)?;
+        let spared_users = spared::<Users>(alloc, &self.users, &keep.users, host)?;
+        let spared_groups = spared::<Groups>(alloc, &self.groups, &keep.groups, host)?;
         Ok(Host {
             name: Name::new(host.name.bytes()),
             ranges: host.ranges,
             users,
             groups,
+            spared_users,
+            spared_groups,
         })
     }
 }

@@ -2,18 +2,16 @@
 
 ghost use Rattle.std.specs.Prelude.{◌≡◌, ◌&&◌, ◌||◌, ◌++◌, ℕ, List, not, bytes_eq, flat_map};
 ghost use Rattle.std.specs.Prelude.{IfOk, OnOk};
-ghost use Rattle.keep_text.specs.RangeLists.{lies_in_some};
 ghost use Rattle.kept_accounts.specs.Keeping.{is_among, is_kept};
 ghost use Rattle.kept_accounts.specs.Picked.{ArePicked, lets_stay as row_lets_stay};
 
-use crate::runs::Runs;
-use hosts_join::{Host, Kind};
+use hosts_join::{Host, Kind, Runs};
 use keep_text::{Kept, NameSet};
 use std::alloc::{AllocError, Global};
 
 // Whether a row lets its name stay: the name is listed, or the number lies in a listed range.
 fn lets_stay(keep: &Kept<'_>, runs: &Runs, name: &[u8], number: u32) -> bool
-    requires { (number : ℕ) → lies_in_some runs.now number ≡ lies_in_some keep.now.ranges number }
+    requires { runs.now ≡ keep.now.ranges }
     ensures { result ≡ row_lets_stay keep.now (name.now, number) }
 {
     keep.names.has(name) || runs.has(number)
@@ -37,7 +35,7 @@ fn add_moving<'a, K: Kind>(
     runs: &Runs,
     host: &Host<'a>,
 ) -> Result<(), AllocError>
-    requires { (number : ℕ) → lies_in_some runs.now number ≡ lies_in_some keep.now.ranges number }
+    requires { runs.now ≡ keep.now.ranges }
     ensures { OnOk result ((rows : List (List ℕ × ℕ))
         → ArePicked (λ row. not (row_lets_stay keep.now row)) rows moving.old
         → ArePicked (λ row. not (row_lets_stay keep.now row)) (rows ++ K.listed host.now)
@@ -58,7 +56,7 @@ fn moving_names<'a, K: Kind>(
     runs: &Runs,
     hosts: &[Host<'a>],
 ) -> Result<NameSet<'a>, AllocError>
-    requires { (number : ℕ) → lies_in_some runs.now number ≡ lies_in_some keep.now.ranges number }
+    requires { runs.now ≡ keep.now.ranges }
     ensures { IfOk result
         (ArePicked (λ row. not (row_lets_stay keep.now row)) (flat_map K.listed hosts.now)) }
 {
@@ -93,7 +91,7 @@ pub fn kept_names<'a, K: Kind>(
     runs: &Runs,
     hosts: &[Host<'a>],
 ) -> Result<NameSet<'a>, AllocError>
-    requires { (number : ℕ) → lies_in_some runs.now number ≡ lies_in_some keep.now.ranges number }
+    requires { runs.now ≡ keep.now.ranges }
     ensures { IfOk result (λ kept. (name : List ℕ) →
         is_among kept name ≡ is_kept keep.now (flat_map K.listed hosts.now) name) }
 {

@@ -4,8 +4,10 @@ ghost use Rattle.kept_accounts.specs.Laws.{EmptyTextKeepsNothing, KeepingDecides
 ghost use Rattle.kept_accounts.specs.Laws.{KeptNumbersAreReserved};
 ghost use Rattle.kept_accounts.specs.Laws.{UsersAreParted, GroupsAreParted, OthersAreLawful};
 ghost use Rattle.kept_accounts.specs.Laws.{OtherUsersAgree, OtherGroupsAgree};
+ghost use Rattle.kept_accounts.specs.Laws.{NamedAreLeftOrSpared, SparedAreReserved};
 
-/// By an empty keep text no name is kept and no number is reserved, and each host is as it was.
+/// By an empty keep text no name is kept and no number is reserved, and each host is as it was, and
+/// spares no number.
 pub fn an_empty_text_keeps_nothing()
     ensures { EmptyTextKeepsNothing }
 {}
@@ -42,4 +44,15 @@ pub fn others_name_as_the_table()
 /// A host without its kept rows is lawful where the host is.
 pub fn others_are_lawful()
     ensures { OthersAreLawful }
+{}
+
+/// Each number that a host without its kept rows spares is reserved, where the text does not keep
+/// all numbers without an account.
+pub fn spared_numbers_are_reserved()
+    ensures { SparedAreReserved }
+{}
+
+/// A number that a host's table names is named so by what is left of it, or the host spares it.
+pub fn named_numbers_are_left_or_spared()
+    ensures { NamedAreLeftOrSpared }
 {}

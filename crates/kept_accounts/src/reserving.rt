@@ -17,8 +17,8 @@ pub struct UnownedNumber<'a> {
     pub number: u32,
 }
 
-// That number alone.
-fn only(number: u32) -> IdRange
+/// That number alone.
+pub fn only(number: u32) -> IdRange
     ensures { result ≡ spec.only number }
 {
     IdRange {
