@@ -47,6 +47,10 @@ pub record IsNumbered (hosts : List Host) (site : Joined) (m : Mappings) : Type 
 abbrev pub HasNumber : Accounts → List ℕ → List ℕ → ℕ → Type 0
 HasNumber a m name number = (i : ℕ) × (place_of a.names name ≡ Some i) × (number_at m i ≡ number)
 
+-- no name of the accounts has the number
+abbrev pub IsGivenToNone : Accounts → List ℕ → ℕ → Type 0
+IsGivenToNone a m number = (name : List ℕ) → HasNumber a m name number → ⊥
+
 -- ---- the rows that a text is read as
 
 -- The line with number n is kept, and its fields are those of the row.

@@ -4,6 +4,8 @@ ghost use Rattle.hosts_join.specs.PinPairs.{PinPairs};
 ghost use Rattle.hosts_join.specs.Rules.{account};
 ghost use Rattle.hosts_join.specs.Site.{Joined, joined_site};
 ghost use Rattle.hosts_join.specs.declared.host.Host.{Host};
+ghost use Rattle.mergedfiles.specs.FullTables.{FullGroupReadsBack, FullNamesAreKept};
+ghost use Rattle.mergedfiles.specs.FullTables.{FullPasswdReadsBack};
 ghost use Rattle.mergedfiles.specs.HostExample.{ExampleOfGroup, ExampleOfPasswd};
 ghost use Rattle.mergedfiles.specs.HostReadBack.{HostGroupReadsBack, HostNamesAreKept};
 ghost use Rattle.mergedfiles.specs.HostReadBack.{HostPasswdReadsBack};
@@ -65,6 +67,34 @@ pub fn host_group_reads_back()
 /// one is by the host's tables.
 pub fn host_names_are_kept()
     ensures { HostNamesAreKept }
+{}
+
+/// A host's own passwd reads back with its new numbers, also where it has more rows than were
+/// joined of the host. A row whose name the site does not have keeps its uid, and a gid that is of
+/// no group that was joined stays; all else is as `host_passwd_reads_back` tells it. Asked is that
+/// no name of the site has the number of a row that is kept. The new rows name a new number as all
+/// old rows named the number before it, and so they name none that they did not, unless it is a
+/// new number of a name.
+///
+/// Source: passwd(5).
+pub fn full_passwd_reads_back()
+    ensures { FullPasswdReadsBack }
+{}
+
+/// A host's own group reads back with its new numbers, also where it has more rows than were
+/// joined of the host: a row whose name the site does not have keeps its gid. All else is as
+/// `full_passwd_reads_back` tells it of passwd.
+///
+/// Source: group(5).
+pub fn full_group_reads_back()
+    ensures { FullGroupReadsBack }
+{}
+
+/// By the full tables of a host's own passwd and group with their new numbers, the number that a
+/// plan gives in place of an old one is named as the old one was: by a name of the site, or by one
+/// that is kept, whose numbers no plan changes.
+pub fn full_names_are_kept()
+    ensures { FullNamesAreKept }
 {}
 
 /// An example of a host's own passwd and group: two users exchange their numbers, and two groups;

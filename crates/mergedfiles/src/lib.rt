@@ -19,8 +19,9 @@ pub use host_files::{host_group_text, host_passwd_text};
 use hosts_join::Which;
 use idtext::Name;
 pub use laws::{
-    host_files_by_example, host_group_reads_back, host_names_are_kept, host_passwd_reads_back,
-    joined_together, merged_group_reads_back, merged_passwd_reads_back, names_have_rows,
+    full_group_reads_back, full_names_are_kept, full_passwd_reads_back, host_files_by_example,
+    host_group_reads_back, host_names_are_kept, host_passwd_reads_back, joined_together,
+    merged_group_reads_back, merged_passwd_reads_back, names_have_rows,
 };
 pub use order::by_name;
 pub use passwd::passwd_text;
