@@ -15,7 +15,7 @@ use Rattle.hosts_join.specs.Rules.{is_name}
 use Rattle.hosts_join.specs.Site.{Joined}
 use Rattle.hosts_join.proofs.Knowing.{host-known}
 use Rattle.ownership.specs.Mappings.{Mappings, number_under}
-use Rattle.mergedfiles.specs.FullTables.{IsNumberedHost}
+use Rattle.mergedfiles.specs.FullTables.{HostsJoinInFull, IsNumberedHost}
 use Rattle.mergedfiles.specs.HostReadBack.{IsRenumberedUser, IsRenumberedGroup}
 use Rattle.mergedfiles.specs.ReadBack.{HasNumber, IsGivenToNone, IsNumbered}
 use Rattle.mergedfiles.proofs.HostNames.{IsFound, each-found, told-by}
@@ -161,3 +161,6 @@ module _ (hosts : List Host) (site : Joined) (m : Mappings) (h : ℕ) (host : Ho
 
   pub all-groups : AllByRecursion (λ row. IsRenumberedGroup site m row (new_group site m row)) host.groups
   all-groups = all-says (IsOfSite group_name site.groups) (λ row. IsRenumberedGroup site m row (new_group site m row)) new-group host.groups groups-there
+
+pub hosts_join_in_full : HostsJoinInFull
+hosts_join_in_full hosts site m h host is here = in-full hosts site m h host is here

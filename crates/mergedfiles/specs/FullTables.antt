@@ -3,7 +3,7 @@
 -- Sources: passwd(5) and group(5), DESCRIPTION (one account a line, its fields between colons).
 -- Which rows are kept, and that they stay as they are, is this project's own rule.
 use Rattle.std.specs.Prelude.{◌≡◌, ℕ, false, List, length, filter, Option, Some, None, Result, Ok}
-use Rattle.std.specs.Prelude.{All, MatchBool, MatchOption}
+use Rattle.std.specs.Prelude.{All, MatchBool, MatchOption, slice_get}
 use Rattle.std.specs.List.{AllZip}
 use Rattle.idtext.specs.declared.faults.TextFault.{TextFault}
 use Rattle.accounts.specs.Rows.{Passwd, Group, passwd_from, group_from}
@@ -17,7 +17,7 @@ use Rattle.hosts_join.specs.declared.host.Host.{Host}
 use Rattle.ownership.specs.Mappings.{IsMapping, Mappings}
 use Rattle.mergedfiles.specs.HostFiles.{host_users, host_groups}
 use Rattle.mergedfiles.specs.HostReadBack.{AreLinesRenumbered, NamesAreKept}
-use Rattle.mergedfiles.specs.ReadBack.{HasNumber, IsGivenToNone, KeepsLimits}
+use Rattle.mergedfiles.specs.ReadBack.{HasNumber, IsGivenToNone, IsNumbered, KeepsLimits}
 
 -- ---- the rows that were joined, and those that are kept
 
@@ -37,6 +37,12 @@ pub record IsNumberedHost (site : Joined) (m : Mappings) (full host : Host) : Ty
       full.users host.users
   pub groups : AreNumberedRows (λ row. row.name) (λ row. row.gid) site.groups m.groups
       full.groups host.groups
+
+-- so is each host of a numbered site that was joined in full: nothing of it is kept
+-- h: the index of the host
+abbrev pub HostsJoinInFull : Type 0
+HostsJoinInFull = (hosts : List Host) (site : Joined) (m : Mappings) (h : ℕ) (host : Host)
+    → IsNumbered hosts site m → slice_get hosts h ≡ Some host → IsNumberedHost site m host host
 
 -- ---- what a text says
 

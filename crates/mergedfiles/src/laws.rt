@@ -5,7 +5,7 @@ ghost use Rattle.hosts_join.specs.Rules.{account};
 ghost use Rattle.hosts_join.specs.Site.{Joined, joined_site};
 ghost use Rattle.hosts_join.specs.declared.host.Host.{Host};
 ghost use Rattle.mergedfiles.specs.FullTables.{FullGroupReadsBack, FullNamesAreKept};
-ghost use Rattle.mergedfiles.specs.FullTables.{FullPasswdReadsBack};
+ghost use Rattle.mergedfiles.specs.FullTables.{FullPasswdReadsBack, HostsJoinInFull};
 ghost use Rattle.mergedfiles.specs.HostExample.{ExampleOfGroup, ExampleOfPasswd};
 ghost use Rattle.mergedfiles.specs.HostReadBack.{HostGroupReadsBack, HostNamesAreKept};
 ghost use Rattle.mergedfiles.specs.HostReadBack.{HostPasswdReadsBack};
@@ -15,26 +15,30 @@ ghost use Rattle.mergedfiles.specs.Together.{AreJoined};
 
 /// The site that hosts are joined to belongs to these hosts.
 pub fn joined_together()
-    ensures { (hosts : List Host) (pins : PinPairs) (site : Joined) → joined_site hosts pins ≡ Ok site → AreJoined hosts site }
+    ensures { (hosts : List Host) (pins : PinPairs) (site : Joined)
+        → joined_site hosts pins ≡ Ok site → AreJoined hosts site }
 {}
 
 /// Some host has each name of a site, so that each name has a line in the merged files.
 pub fn names_have_rows()
-    ensures users { (hosts : List Host) (site : Joined) (i : ℕ) → AreJoined hosts site → i < length site.users.names → users_named (account site.users i).name hosts ≢ [] }
-    ensures groups { (hosts : List Host) (site : Joined) (i : ℕ) → AreJoined hosts site → i < length site.groups.names → groups_named (account site.groups i).name hosts ≢ [] }
+    ensures users { (hosts : List Host) (site : Joined) (i : ℕ) → AreJoined hosts site
+        → i < length site.users.names → users_named (account site.users i).name hosts ≢ [] }
+    ensures groups { (hosts : List Host) (site : Joined) (i : ℕ) → AreJoined hosts site
+        → i < length site.groups.names → groups_named (account site.groups i).name hosts ≢ [] }
 {}
 
-/// The merged passwd reads back: each of its lines is the row of a user, with the new number of the user, the new
-/// number of the primary group that the first host with this user gives it, and that host's other fields. There is
-/// exactly one for each user name, and they ascend by number. Where the text keeps the limits of a passwd file,
-/// these rows are its table.
+/// The merged passwd reads back: each of its lines is the row of a user, with the new number of the
+/// user, the new number of the primary group that the first host with this user gives it, and that
+/// host's other fields. There is exactly one for each user name, and they ascend by number. Where
+/// the text keeps the limits of a passwd file, these rows are its table.
 pub fn merged_passwd_reads_back()
     ensures { MergedPasswdReadsBack }
 {}
 
-/// The merged group reads back: each of its lines is the row of a group, with its new number, the password of the
-/// first host with this group, and its users on all hosts. There is exactly one for each group name, and they
-/// ascend by number. Where the text keeps the limits of a group file, these rows are its table.
+/// The merged group reads back: each of its lines is the row of a group, with its new number, the
+/// password of the first host with this group, and its users on all hosts. There is exactly one for
+/// each group name, and they ascend by number. Where the text keeps the limits of a group file,
+/// these rows are its table.
 pub fn merged_group_reads_back()
     ensures { MergedGroupReadsBack }
 {}
@@ -88,6 +92,12 @@ pub fn full_passwd_reads_back()
 /// Source: group(5).
 pub fn full_group_reads_back()
     ensures { FullGroupReadsBack }
+{}
+
+/// A host of a numbered site is one of which nothing is kept, where its tables are all that was
+/// joined of it. So what is told of full tables holds of every such host.
+pub fn hosts_join_in_full()
+    ensures { HostsJoinInFull }
 {}
 
 /// By the full tables of a host's own passwd and group with their new numbers, the number that a
