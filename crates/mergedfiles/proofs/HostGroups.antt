@@ -12,7 +12,7 @@ use Rattle.hosts_join.specs.declared.host.Host.{Host}
 use Rattle.hosts_join.specs.Kinds.{group_at}
 use Rattle.hosts_join.specs.Site.{Joined}
 use Rattle.ownership.specs.Mappings.{Mappings}
-use Rattle.mergedfiles.specs.FullTables.{FullGroupReadsBack, IsFullFile, IsFullGroup, IsNewNumber, IsNumberedHost}
+use Rattle.mergedfiles.specs.FullTables.{FullGroupReadsBack, IsFullFile, IsFullGroup, IsRenumbered, IsNumberedHost}
 use Rattle.mergedfiles.specs.HostFiles.{host_groups, new_number, number_field, renumbered_line, renumbered_group}
 use Rattle.mergedfiles.specs.HostReadBack.{HostGroupReadsBack, IsRenumberedGroup}
 use Rattle.mergedfiles.specs.ReadBack.{IsRowLine}
@@ -93,5 +93,5 @@ host_group_back hosts site m h host text is here read =
       by_row = file.by_row;
       only = file.only;
       whole = file.whole;
-      names_are_kept = λ gid number name had has. file.names_are_kept gid number (subst (λ (o : Option (List ℕ)). IsNewNumber site.groups m.groups o gid number) (sym had) has) ∙ had;
+      names_are_kept = λ gid number name had has. file.names_are_kept gid number (subst (λ (o : Option (List ℕ)). IsRenumbered site.groups m.groups o gid number) (sym had) has) ∙ had;
     }

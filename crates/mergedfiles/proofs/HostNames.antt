@@ -11,7 +11,7 @@ use Rattle.accounts.specs.Laws.{AreDistinct}
 use Rattle.hosts_join.specs.Accounts.{Account, Accounts, place_of}
 use Rattle.hosts_join.specs.Rules.{account, is_name}
 use Rattle.ownership.specs.Mappings.{AreDistinct as HaveOneEach, number_under}
-use Rattle.mergedfiles.specs.FullTables.{AreNumberedRows, IsNewNumber}
+use Rattle.mergedfiles.specs.FullTables.{AreNumberedRows, IsRenumbered}
 use Rattle.mergedfiles.specs.ReadBack.{HasNumber, IsGivenToNone}
 use Rattle.mergedfiles.proofs.Places.{name-place, no-place, place-within}
 use Rattle.mergedfiles.proofs.ReadOrder.{distinct-cons, place-name, same-number}
@@ -99,9 +99,9 @@ module _ {Row : Type 0} (name : Row → List ℕ) (number : Row → ℕ) (a : Ac
         (ap (λ rows. name_at rows v) (sym is.joined_are) ∙ none)
 
     -- a number that no row has
-    pub unnamed : (v : ℕ) → name_at full v ≡ None → IsGivenToNone a m v → IsNewNumber a m (name_at rest v) v v
+    pub unnamed : (v : ℕ) → name_at full v ≡ None → IsGivenToNone a m v → IsRenumbered a m (name_at rest v) v v
     unnamed v none given =
-        subst (λ (o : Option (List ℕ)). IsNewNumber a m o v v) (sym (ap (λ rows. name_at rows v) is.joined_are ∙ none-joined v full none)) (refl, given)
+        subst (λ (o : Option (List ℕ)). IsRenumbered a m o v v) (sym (ap (λ rows. name_at rows v) is.joined_are ∙ none-joined v full none)) (refl, given)
 
 -- ---- numbers by a mapping
 
@@ -207,14 +207,14 @@ module _ (a : Accounts) (m : List ℕ) (long : length m ≡ length a.names) (apa
     ]
 
     -- the new number of another number is not the new one of a row
-    not-here : (old v : ℕ) (row : Row) (named : Option (List ℕ)) → (old ≡ number row → ⊥) → ((n : List ℕ) → named ≡ Some n → name row ≡ n → ⊥) → IsNumberedRow row → IsNewNumber a m named old v → v ≡ number (new row) → ⊥
+    not-here : (old v : ℕ) (row : Row) (named : Option (List ℕ)) → (old ≡ number row → ⊥) → ((n : List ℕ) → named ≡ Some n → name row ≡ n → ⊥) → IsNumberedRow row → IsRenumbered a m named old v → v ≡ number (new row) → ⊥
     not-here old v row None other names (inl h) is e = is.1 (name row) (h.1.0, h.1.1, h.1.2 ∙ sym e)
     not-here old v row None other names (inr k) is e = other (sym is.0 ∙ e ∙ k.1)
     not-here old v row (Some n) other names (inl h) is e = names n refl (same-name (name row) n (number (new row)) v h.1 is (sym e))
     not-here old v row (Some n) other names (inr k) is e = k.2 n (is.0, is.1, is.2 ∙ e ∙ k.1)
 
     -- a new number is named as the old one was
-    pub names-kept : (old v : ℕ) (rows : List Row) → AllByRecursion IsNumberedRow rows → AllApart rows → IsNewNumber a m (name_at name number a (joined name number a rows) old) old v → name_at name number a (map new rows) v ≡ name_at name number a rows old
+    pub names-kept : (old v : ℕ) (rows : List Row) → AllByRecursion IsNumberedRow rows → AllApart rows → IsRenumbered a m (name_at name number a (joined name number a rows) old) old v → name_at name number a (map new rows) v ≡ name_at name number a rows old
     names-kept old v [] all apart is = refl
     names-kept old v (row ∷ rows) all apart is = elim (cases_Bool (old == number row)) [
       | inl u ↦ rw (hit u, u) (ap Some (keeps row))
@@ -228,15 +228,15 @@ module _ (a : Accounts) (m : List ℕ) (long : length m ≡ length a.names) (apa
               let has : HasNumber a m (name row) v = rw (t, u) at is in
               eq-eqb v (number (new row)) (same-number a m (name row) (name row) v (number (new row)) has (joined-row row all.0 t) refl)
           | inr f ↦
-              let later : IsNewNumber a m (name_at name number a (joined name number a rows) old) old v = rw f at is in
-              let stays : (v ≡ old) × IsGivenToNone a m v = subst (λ (o : Option (List ℕ)). IsNewNumber a m o old v) (number-behind old row rows apart.0 (sym (eqb-true old (number row) u))) later in
+              let later : IsRenumbered a m (name_at name number a (joined name number a rows) old) old v = rw f at is in
+              let stays : (v ≡ old) × IsGivenToNone a m v = subst (λ (o : Option (List ℕ)). IsRenumbered a m o old v) (number-behind old row rows apart.0 (sym (eqb-true old (number row) u))) later in
               eq-eqb v (number (new row)) (stays.0 ∙ eqb-true old (number row) u ∙ sym (kept-row row all.0 f).0)
         ]
 
-        past : (old == number row) ≡ false → IsNewNumber a m (name_at name number a (joined name number a rows) old) old v
+        past : (old == number row) ≡ false → IsRenumbered a m (name_at name number a (joined name number a rows) old) old v
         past g = elim (cases_Bool (is_name a.names (name row))) [ inl t ↦ rw (t, g) at is | inr f ↦ rw f at is ]
 
-        missed : (old == number row) ≡ false → IsNewNumber a m (name_at name number a (joined name number a rows) old) old v → (v == number (new row)) ≡ false
+        missed : (old == number row) ≡ false → IsRenumbered a m (name_at name number a (joined name number a rows) old) old v → (v == number (new row)) ≡ false
         missed g later =
             ne_eqb v (number (new row))
             (not-here old v row (name_at name number a (joined name number a rows) old) (λ e. both_ways (old == number row) g (eq-eqb old (number row) e)) (λ n had. name-behind old n row rows apart.0 had) all.0 later)

@@ -20,7 +20,7 @@ use Rattle.accounts.specs.Lines.{is_compat, is_kept}
 use Rattle.accounts.specs.Tables.{row_in, rows_from}
 use Rattle.hosts_join.specs.Accounts.{Accounts, place_of}
 use Rattle.ownership.specs.Mappings.{number_under}
-use Rattle.mergedfiles.specs.FullTables.{AreNumberedRows, IsFullFile, IsNewNumber}
+use Rattle.mergedfiles.specs.FullTables.{AreNumberedRows, IsFullFile, IsRenumbered}
 use Rattle.mergedfiles.specs.HostFiles.{renumbered_line, renumbered_text}
 use Rattle.mergedfiles.specs.HostReadBack.{AreLinesRenumbered, IsLineRenumbered, IsRowRenumbered}
 use Rattle.mergedfiles.specs.ReadBack.{IsRowLine, KeepsLimits}
@@ -266,5 +266,5 @@ module _ {Row : Type 0} (from : ℕ → List (List ℕ) → Result Row TextFault
           only = λ table told_new. only-rows text full was has table ((accepted now table).0 told_new);
           whole = λ limits. (accepted now (map new full)).1 (is-accepted text full was has limits names numbers);
           names_are_kept = λ id v told_new. names-kept a m is.len is.numbers.distinct name number new keeps id v full all apart
-              (subst (λ (rows : List Row). IsNewNumber a m (option_map name (find (λ row. id == number row) rows)) id v) is.joined_are told_new);
+              (subst (λ (rows : List Row). IsRenumbered a m (option_map name (find (λ row. id == number row) rows)) id v) is.joined_are told_new);
         }

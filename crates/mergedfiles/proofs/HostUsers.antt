@@ -15,7 +15,7 @@ use Rattle.hosts_join.specs.Kinds.{user_at, group_at}
 use Rattle.hosts_join.specs.Rules.{is_name}
 use Rattle.hosts_join.specs.Site.{Joined}
 use Rattle.ownership.specs.Mappings.{Mappings, number_under}
-use Rattle.mergedfiles.specs.FullTables.{FullPasswdReadsBack, IsFullFile, IsFullUser, IsNewNumber, IsNumberedHost}
+use Rattle.mergedfiles.specs.FullTables.{FullPasswdReadsBack, IsFullFile, IsFullUser, IsRenumbered, IsNumberedHost}
 use Rattle.mergedfiles.specs.HostFiles.{host_users, new_number, new_primary, number_field, renumbered_line, renumbered_user}
 use Rattle.mergedfiles.specs.HostReadBack.{HostPasswdReadsBack, IsRenumberedUser}
 use Rattle.mergedfiles.specs.ReadBack.{HasNumber, IsRowLine}
@@ -109,5 +109,5 @@ host_passwd_back hosts site m h host text is here read =
       by_row = file.by_row;
       only = file.only;
       whole = file.whole;
-      names_are_kept = λ uid number name had has. file.names_are_kept uid number (subst (λ (o : Option (List ℕ)). IsNewNumber site.users m.users o uid number) (sym had) has) ∙ had;
+      names_are_kept = λ uid number name had has. file.names_are_kept uid number (subst (λ (o : Option (List ℕ)). IsRenumbered site.users m.users o uid number) (sym had) has) ∙ had;
     }

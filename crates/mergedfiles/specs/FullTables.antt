@@ -46,19 +46,21 @@ HostsJoinInFull = (hosts : List Host) (site : Joined) (m : Mappings) (h : ℕ) (
 
 -- ---- what a text says
 
--- A number has become that of the name which had it. One that no name had stays, and none has it.
-abbrev pub IsNewNumber : Accounts → List ℕ → Option (List ℕ) → ℕ → ℕ → Type 0
-IsNewNumber a m (Some name) old new = HasNumber a m name new
-IsNewNumber a m None old new = (new ≡ old) × IsGivenToNone a m new
+-- A number that a name had has become the new one of this name. One that no name had stays as it
+-- is, and no name is given it.
+abbrev pub IsRenumbered : Accounts → List ℕ → Option (List ℕ) → ℕ → ℕ → Type 0
+IsRenumbered a m (Some name) old new = HasNumber a m name new
+IsRenumbered a m None old new = (new ≡ old) × IsGivenToNone a m new
 
--- The text of an account file has become another, line by line. If this has a table, it is the
--- full one of the old text, row by row changed; it has one where it keeps the limits of an account
--- file. Where a number of the rows that were joined has become another, the new rows name this as
--- all old rows named that: as the same name, or not at all.
+-- The text of an account file has become another, line by line. If the new one has a table, this is
+-- the full table of the old one, row by row changed; it has one where it keeps the limits of an
+-- account file. By its rows a new number has the name that the number before it had in the full
+-- table, and none where that had none.
 -- from: the row that the fields of a line make
 -- table_of: the table of a text
 -- name_at: the name that a table gives a number
 -- Becomes was row: the row `was` has become `row`
+-- full, joined: the rows of the full table, and those of them that were joined
 pub record IsFullFile {Row : Type 0} (from : ℕ → List (List ℕ) → Result Row TextFault)
     (table_of : List ℕ → Result (List Row) TextFault)
     (name_at : List Row → ℕ → Option (List ℕ)) (Becomes : Row → Row → Type 0)
@@ -68,7 +70,7 @@ pub record IsFullFile {Row : Type 0} (from : ℕ → List (List ℕ) → Result 
   pub by_row : AllZip Becomes full rows
   pub only : (table : List Row) → table_of new ≡ Ok table → table ≡ rows
   pub whole : KeepsLimits new → table_of new ≡ Ok rows
-  pub names_are_kept : (id number : ℕ) → IsNewNumber a m (name_at joined id) id number
+  pub names_are_kept : (id number : ℕ) → IsRenumbered a m (name_at joined id) id number
       → name_at rows number ≡ name_at full id
 
 -- ---- a host's passwd

@@ -115,10 +115,16 @@ HostGroupReadsBack = (hosts : List Host) (site : Joined) (m : Mappings) (h : ℕ
 
 -- ---- names
 
+-- a user's primary group has the name that it had
+abbrev pub KeepsPrimary : List Group → List Group → Passwd → Passwd → Type 0
+KeepsPrimary old new was row =
+    (group : List ℕ) → group_at old was.gid ≡ Some group → group_at new row.gid ≡ Some group
+
 -- A number of the host has become that of the name which owns it on the host: the number that a
 -- plan gives to the host's files. By the new tables it is the number of the same user, and of the
 -- same group, as the old one is by the host's tables; and a number that is no user's stays no
--- user's, and one that is no group's no group's, unless a name of the site has it.
+-- user's, and one that is no group's no group's, unless a name of the site has it. Each user keeps
+-- its primary group.
 -- h: the index of the host
 pub record NamesAreKept (site : Joined) (m : Mappings) (h : ℕ) (host : Host)
     (users : List Passwd) (groups : List Group) : Type 0 where
@@ -130,6 +136,7 @@ pub record NamesAreKept (site : Joined) (m : Mappings) (h : ℕ) (host : Host)
       → IsGivenToNone site.users m.users uid → user_at users uid ≡ None
   pub no_group : (gid : ℕ) → group_at host.groups gid ≡ None
       → IsGivenToNone site.groups m.groups gid → group_at groups gid ≡ None
+  pub primary_kept : AllZip (KeepsPrimary host.groups groups) host.users users
 
 -- so it is for the tables of each host's own files with their new numbers
 abbrev pub HostNamesAreKept : Type 0

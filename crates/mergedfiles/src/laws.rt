@@ -68,7 +68,8 @@ pub fn host_group_reads_back()
 
 /// By the tables of a host's own passwd and group with their new numbers, the number that a plan
 /// gives in place of an old one is the number of the same user, and of the same group, as the old
-/// one is by the host's tables.
+/// one is by the host's tables. A number that had no name has none, unless it is the new number of
+/// one. Each user has the primary group that it had.
 pub fn host_names_are_kept()
     ensures { HostNamesAreKept }
 {}
@@ -102,7 +103,7 @@ pub fn hosts_join_in_full()
 
 /// By the full tables of a host's own passwd and group with their new numbers, the number that a
 /// plan gives in place of an old one is named as the old one was: by a name of the site, or by one
-/// that is kept, whose numbers no plan changes.
+/// that is kept, whose numbers no plan changes. All else is as `host_names_are_kept` tells it.
 pub fn full_names_are_kept()
     ensures { FullNamesAreKept }
 {}
