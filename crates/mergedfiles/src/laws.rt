@@ -109,7 +109,8 @@ pub fn full_names_are_kept()
 {}
 
 /// An example of a host's own passwd and group: two users exchange their numbers, and two groups;
-/// comments, empty lines and the end of the text stay as they are, and leading zeros go.
+/// comments, empty lines, the end of the text and the numbers of names that the site does not have
+/// stay as they are, and leading zeros go.
 pub fn host_files_by_example()
     ensures passwd { ExampleOfPasswd }
     ensures group { ExampleOfGroup }
