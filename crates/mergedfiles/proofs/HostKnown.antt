@@ -19,8 +19,8 @@ use Rattle.mergedfiles.specs.FullTables.{HostsJoinInFull, IsNumberedHost}
 use Rattle.mergedfiles.specs.HostReadBack.{IsRenumberedUser, IsRenumberedGroup}
 use Rattle.mergedfiles.specs.ReadBack.{HasNumber, IsGivenToNone, IsNumbered}
 use Rattle.mergedfiles.proofs.HostNames.{IsFound, each-found, told-by}
-use Rattle.mergedfiles.proofs.Places.{name-place, placed-name}
-use Rattle.mergedfiles.proofs.ReadHosts.{all-primary, host-read, is-there}
+use Rattle.mergedfiles.proofs.Places.{is-there, name-place, placed-name}
+use Rattle.mergedfiles.proofs.ReadHosts.{all-primary, host-read}
 use Rattle.mergedfiles.proofs.ReadLines.{both-hold}
 use Rattle.mergedfiles.proofs.ReadText.{all-says}
 
