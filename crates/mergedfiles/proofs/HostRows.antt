@@ -1,7 +1,8 @@
 -- A text whose lines are renumbered is read as its rows renumbered.
-use Rattle.std.proofs.Common.{◌≡◌, ◌⊎◌, ℕ, zero, suc, ◌+◌, ◌<◌, ◌≤◌, Bool, true, false, cond, List, [], ◌∷◌, ◌++◌, map, length, get_or, refl, sym, ap, ◌∙◌, subst, arith, inl, inr, Option, Some, None, Result, Ok, Err, is_ok}
-use Rattle.std.specs.Prelude.{nat_lt, slice_get}
-use Rattle.std.specs.List.{AllByRecursion, AllZip}
+use Rattle.std.proofs.Common.{◌≡◌, ◌⊎◌, ℕ, zero, suc, ◌+◌, ◌<◌, ◌≤◌, ◌==◌, Bool, true, false, cond, List, [], ◌∷◌, ◌++◌, map, length, get_or, refl, sym, ap, ◌∙◌, subst, arith, inl, inr, Option, Some, None, Result, Ok, Err, is_ok}
+use Rattle.std.specs.Prelude.{◌↔◌, nat_lt, slice_get}
+use Rattle.std.specs.List.{AllByRecursion, AllZip, find}
+use Rattle.std.specs.Option.{option_map}
 use Rattle.std.proofs.lemmas.Bool.{true≢false}
 use Rattle.std.proofs.lemmas.List.{length-map}
 use Rattle.std.proofs.lemmas.List.Elements.{recursion_from_All}
@@ -17,10 +18,14 @@ use Rattle.accounts.specs.Accepted.{IsAccepted}
 use Rattle.accounts.specs.Laws.{AreDistinct}
 use Rattle.accounts.specs.Lines.{is_compat, is_kept}
 use Rattle.accounts.specs.Tables.{row_in, rows_from}
+use Rattle.hosts_join.specs.Accounts.{Accounts, place_of}
+use Rattle.ownership.specs.Mappings.{number_under}
+use Rattle.mergedfiles.specs.FullTables.{AreNumberedRows, IsFullFile, IsRenumbered}
 use Rattle.mergedfiles.specs.HostFiles.{renumbered_line, renumbered_text}
 use Rattle.mergedfiles.specs.HostReadBack.{AreLinesRenumbered, IsLineRenumbered, IsRowRenumbered}
 use Rattle.mergedfiles.specs.ReadBack.{IsRowLine, KeepsLimits}
 use Rattle.mergedfiles.proofs.HostLines.{StaysLine, lines-renumbered, newlines-renumbered}
+use Rattle.mergedfiles.proofs.HostNames.{all-apart, names-kept, names-same, numbered-rows, numbers-apart}
 use Rattle.mergedfiles.proofs.HostSteps.{line-skipped}
 use Rattle.mergedfiles.proofs.ReadLines.{Lacks, lines-lack}
 
@@ -53,12 +58,16 @@ told-of {Row} from n line ok = by (nat_lt 65536 n) (nat_lt 65535 (length line)) 
 -- ---- lines one after the other
 
 -- line_of: the row of a line with its number; name and number: of a row
--- new: the row that a row becomes; Has: what is known of a row
+-- new: the row that a row becomes; Becomes was row: what is told of that
 module _ {Row : Type 0} (from : ℕ → List (List ℕ) → Result Row TextFault) (line_of : ℕ → List ℕ → Result (Option Row) TextFault) (name : Row → List ℕ) (number : Row → ℕ)
-    (renumbered : List (List ℕ) → List (List ℕ)) (new : Row → Row) (Has : Row → Type 0)
+    (renumbered : List (List ℕ) → List (List ℕ)) (new : Row → Row)
     (told : (n : ℕ) (line : List ℕ) → is_ok (line_of n line) ≡ true → IsTold from n line (line_of n line))
-    (made : (n : ℕ) (line : List ℕ) (row : Row) → Has row → Lacks 10 line → IsRowLine from n line row → IsRowLine from n (renumbered_line renumbered line) (new row) × Lacks 10 (renumbered_line renumbered line))
-    (passes : (n : ℕ) (line : List ℕ) (row : Row) → n ≤ 65536 → length line ≤ 65535 → IsRowLine from n line row → line_of n line ≡ Ok (Some row)) where
+    (made : (n : ℕ) (line : List ℕ) (row : Row) → Lacks 10 line → IsRowLine from n line row → IsRowLine from n (renumbered_line renumbered line) (new row) × Lacks 10 (renumbered_line renumbered line))
+    (passes : (n : ℕ) (line : List ℕ) (row : Row) → n ≤ 65536 → length line ≤ 65535 → IsRowLine from n line row → line_of n line ≡ Ok (Some row))
+    (Becomes : Row → Row → Type 0) where
+  abbrev Has : Row → Type 0
+  Has row = Becomes row (new row)
+
   abbrev f : List ℕ → List ℕ
   f = renumbered_line renumbered
 
@@ -93,7 +102,7 @@ module _ {Row : Type 0} (from : ℕ → List (List ℕ) → Result Row TextFault
       by (inl skipped) later = (inl skipped, later (subst (λ says. HaveAll says (rows_from line_of name number (n + 1) more)) skipped.1 has))
       by (inr (row, is, says)) later =
           let all = subst (λ says. HaveAll says (rows_from line_of name number (n + 1) more)) says has in
-          let made_so = made n line row all.0 lacks.0 is in
+          let made_so = made n line row lacks.0 is in
           (inr (record { row = row; is = is; says = says; has = all.0; after = made_so.0; one = made_so.1 }), later all.1)
 
   not-skipped : (line : List ℕ) → is_skipped line ≡ false → line ≡ [] → ⊥
@@ -175,64 +184,87 @@ module _ {Row : Type 0} (from : ℕ → List (List ℕ) → Result Row TextFault
 
   -- ---- the whole text
 
-  module _ (Becomes : Row → Row → Type 0) (become : (row : Row) → Has row → Becomes row (new row)) where
-    pub zip-new : (rows : List Row) → AllByRecursion Has rows → AllZip Becomes rows (map new rows)
-    zip-new [] all = tt
-    zip-new (row ∷ rows) all = (become row all.0, zip-new rows all.1)
+  pub zip-new : (rows : List Row) → AllByRecursion Has rows → AllZip Becomes rows (map new rows)
+  zip-new [] all = tt
+  zip-new (row ∷ rows) all = (all.0, zip-new rows all.1)
 
-    row-at : (m : ℕ) (line other : List ℕ) → is_skipped line ≡ false → other ≡ f line → Told m line → IsRowRenumbered from Becomes m line other
-    row-at m line other kept is (inl skipped) = absurd (true≢false (sym skipped.0 ∙ kept))
-    row-at m line other kept is (inr row) = record {
-      was = row.row;
-      was_read = row.is;
-      row = new row.row;
-      read = subst (λ (t : List ℕ). IsRowLine from m t (new row.row)) (sym is) row.after;
-      becomes = become row.row row.has;
+  row-at : (m : ℕ) (line other : List ℕ) → is_skipped line ≡ false → other ≡ f line → Told m line → IsRowRenumbered from Becomes m line other
+  row-at m line other kept is (inl skipped) = absurd (true≢false (sym skipped.0 ∙ kept))
+  row-at m line other kept is (inr row) = record {
+    was = row.row;
+    was_read = row.is;
+    row = new row.row;
+    read = subst (λ (t : List ℕ). IsRowLine from m t (new row.row)) (sym is) row.after;
+    becomes = row.has;
+  }
+
+  line-at : (m : ℕ) (line other : List ℕ) → IsAtPlace m line other → IsLineRenumbered from Becomes m line other
+  line-at m line other at = record {
+    skipped = λ skipped. at.is ∙ line-skipped renumbered line skipped;
+    kept = λ kept. row-at m line other kept at.is at.tells;
+  }
+
+  module _ (text : List ℕ) (rows : List Row) (accepted : IsAccepted line_of name number text rows) (has : AllByRecursion Has rows) where
+    tells : AllTold 1 (lines text)
+    tells =
+        all-told 1 (lines text) (lines-lack text) (λ i m at h. subst (λ (k : ℕ). is_ok (line_of k (get_or (lines text) i [])) ≡ true) (sym at) (accepted.lines_pass i h))
+        (subst (λ (rs : List Row). AllByRecursion Has rs) accepted.rows_are has)
+
+    stay : AllByRecursion (StaysLine f) (lines text)
+    stay = all-stay 1 (lines text) (lines-lack text) tells
+
+    new-lines : lines (renumbered_text renumbered text) ≡ map f (lines text)
+    new-lines = lines-renumbered renumbered text stay
+
+    pub are-lines : AreLinesRenumbered from Becomes text (renumbered_text renumbered text)
+    are-lines = record {
+      as_many = ap length new-lines ∙ length-map (lines text) f;
+      newlines = newlines-renumbered renumbered text stay;
+      each_line = λ k line other l o. line-at (k + 1) line other (at-place 1 (lines text) tells k (k + 1) line other refl l (ap (λ ls. slice_get ls k) (sym new-lines) ∙ o));
     }
 
-    line-at : (m : ℕ) (line other : List ℕ) → IsAtPlace m line other → IsLineRenumbered from Becomes m line other
-    line-at m line other at = record {
-      skipped = λ skipped. at.is ∙ line-skipped renumbered line skipped;
-      kept = λ kept. row-at m line other kept at.is at.tells;
-    }
+    new-rows : Pass 1 (lines text) → rows_from line_of name number 1 (lines (renumbered_text renumbered text)) ≡ map new rows
+    new-rows pass = ap (rows_from line_of name number 1) new-lines ∙ rows-then 1 (lines text) tells pass ∙ sym (ap (map new) accepted.rows_are)
 
-    module _ (text : List ℕ) (rows : List Row) (accepted : IsAccepted line_of name number text rows) (has : AllByRecursion Has rows) where
-      tells : AllTold 1 (lines text)
-      tells =
-          all-told 1 (lines text) (lines-lack text) (λ i m at h. subst (λ (k : ℕ). is_ok (line_of k (get_or (lines text) i [])) ≡ true) (sym at) (accepted.lines_pass i h))
-          (subst (λ (rs : List Row). AllByRecursion Has rs) accepted.rows_are has)
+    -- the only rows that the new text may have
+    pub only-rows : (table : List Row) → IsAccepted line_of name number (renumbered_text renumbered text) table → table ≡ map new rows
+    only-rows table is =
+        is.rows_are ∙ new-rows (λ i m at h. subst (λ (k : ℕ). is_ok (line_of k (get_or (map f (lines text)) i [])) ≡ true) (sym at)
+        (subst (λ (ls : List (List ℕ)). is_ok (line_of (i + 1) (get_or ls i [])) ≡ true) new-lines (is.lines_pass i (omega (arith, h, ap length new-lines)))))
 
-      stay : AllByRecursion (StaysLine f) (lines text)
-      stay = all-stay 1 (lines text) (lines-lack text) tells
+    pub is-accepted : KeepsLimits (renumbered_text renumbered text) → AreDistinct (map name (map new rows)) → AreDistinct (map number (map new rows))
+        → IsAccepted line_of name number (renumbered_text renumbered text) (map new rows)
+    is-accepted limits names numbers =
+        let few : 1 + length (lines text) ≤ 65537 = omega (arith, limits.few_lines, ap length new-lines ∙ length-map (lines text) f) in
+        let short : AllByRecursion IsShort (map f (lines text)) = subst (λ (ls : List (List ℕ)). AllByRecursion IsShort ls) new-lines (recursion_from_All IsShort (lines (renumbered_text renumbered text)) limits.short_lines) in
+        let pass : Pass 1 (lines text) = all-pass 1 (lines text) tells few short in
+        record {
+          rows_are = sym (new-rows pass);
+          lines_pass = λ i h. subst (λ (ls : List (List ℕ)). is_ok (line_of (i + 1) (get_or ls i [])) ≡ true) (sym new-lines) (pass i (i + 1) refl (omega (arith, h, ap length new-lines)));
+          names_differ = names;
+          numbers_differ = numbers;
+        }
 
-      new-lines : lines (renumbered_text renumbered text) ≡ map f (lines text)
-      new-lines = lines-renumbered renumbered text stay
+  -- ---- what is told of it
 
-      pub are-lines : AreLinesRenumbered from Becomes text (renumbered_text renumbered text)
-      are-lines = record {
-        as_many = ap length new-lines ∙ length-map (lines text) f;
-        newlines = newlines-renumbered renumbered text stay;
-        each_line = λ k line other l o. line-at (k + 1) line other (at-place 1 (lines text) tells k (k + 1) line other refl l (ap (λ ls. slice_get ls k) (sym new-lines) ∙ o));
-      }
-
-      new-rows : Pass 1 (lines text) → rows_from line_of name number 1 (lines (renumbered_text renumbered text)) ≡ map new rows
-      new-rows pass = ap (rows_from line_of name number 1) new-lines ∙ rows-then 1 (lines text) tells pass ∙ sym (ap (map new) accepted.rows_are)
-
-      -- the only rows that the new text may have
-      pub only-rows : (table : List Row) → IsAccepted line_of name number (renumbered_text renumbered text) table → table ≡ map new rows
-      only-rows table is =
-          is.rows_are ∙ new-rows (λ i m at h. subst (λ (k : ℕ). is_ok (line_of k (get_or (map f (lines text)) i [])) ≡ true) (sym at)
-          (subst (λ (ls : List (List ℕ)). is_ok (line_of (i + 1) (get_or ls i [])) ≡ true) new-lines (is.lines_pass i (omega (arith, h, ap length new-lines)))))
-
-      pub is-accepted : KeepsLimits (renumbered_text renumbered text) → AreDistinct (map name (map new rows)) → AreDistinct (map number (map new rows))
-          → IsAccepted line_of name number (renumbered_text renumbered text) (map new rows)
-      is-accepted limits names numbers =
-          let few : 1 + length (lines text) ≤ 65537 = omega (arith, limits.few_lines, ap length new-lines ∙ length-map (lines text) f) in
-          let short : AllByRecursion IsShort (map f (lines text)) = subst (λ (ls : List (List ℕ)). AllByRecursion IsShort ls) new-lines (recursion_from_All IsShort (lines (renumbered_text renumbered text)) limits.short_lines) in
-          let pass : Pass 1 (lines text) = all-pass 1 (lines text) tells few short in
-          record {
-            rows_are = sym (new-rows pass);
-            lines_pass = λ i h. subst (λ (ls : List (List ℕ)). is_ok (line_of (i + 1) (get_or ls i [])) ≡ true) (sym new-lines) (pass i (i + 1) refl (omega (arith, h, ap length new-lines)));
-            names_differ = names;
-            numbers_differ = numbers;
-          }
+  -- accepted: when a text has a table; places: the new number of a row is that of its name, or else stays
+  module _ (table_of : List ℕ → Result (List Row) TextFault) (accepted : (text : List ℕ) (rows : List Row) → (table_of text ≡ Ok rows) ↔ IsAccepted line_of name number text rows)
+      (a : Accounts) (m : List ℕ) (keeps : (row : Row) → name (new row) ≡ name row) (places : (row : Row) → number (new row) ≡ number_under m (place_of a.names (name row)) (number row)) where
+    pub full-file : (full joined : List Row) (text : List ℕ) → AreNumberedRows name number a m full joined → AllByRecursion Has full → table_of text ≡ Ok full
+        → IsFullFile from table_of (λ rows v. option_map name (find (λ row. v == number row) rows)) Becomes a m full joined text (renumbered_text renumbered text)
+    full-file full joined text is has read =
+        let was = (accepted text full).0 read in
+        let now = renumbered_text renumbered text in
+        let all = numbered-rows a m is.len is.numbers.distinct name number new keeps places full is.kept in
+        let apart = all-apart a m is.len is.numbers.distinct name number new keeps full was.names_differ was.numbers_differ in
+        let names : AreDistinct (map name (map new full)) = subst (λ (ns : List (List ℕ)). AreDistinct ns) (sym (names-same a m is.len is.numbers.distinct name number new keeps full)) was.names_differ in
+        let numbers = numbers-apart a m is.len is.numbers.distinct name number new keeps full all apart in
+        record {
+          by_line = are-lines text full was has;
+          rows = map new full;
+          by_row = zip-new full has;
+          only = λ table told_new. only-rows text full was has table ((accepted now table).0 told_new);
+          whole = λ limits. (accepted now (map new full)).1 (is-accepted text full was has limits names numbers);
+          names_are_kept = λ id v told_new. names-kept a m is.len is.numbers.distinct name number new keeps id v full all apart
+              (subst (λ (rows : List Row). IsRenumbered a m (option_map name (find (λ row. id == number row) rows)) id v) is.joined_are told_new);
+        }

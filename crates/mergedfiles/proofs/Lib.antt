@@ -15,9 +15,10 @@ pub mod ReadHosts
 pub mod ReadUsers
 pub mod ReadGroups
 pub mod HostLines
-pub mod HostRows
 pub mod HostNames
+pub mod HostRows
 pub mod HostKnown
+pub mod NewFields
 pub mod HostUsers
 pub mod HostGroups
 pub mod HostKept

@@ -23,6 +23,7 @@ use Rattle.mergedfiles.specs.ReadBack.{WasRead}
 use Rattle.mergedfiles.specs.Rows.{GroupRow, first_of, groups_named}
 use Rattle.mergedfiles.specs.Texts.{new_gid}
 use Rattle.mergedfiles.specs.Together.{AreJoined}
+use Rattle.mergedfiles.proofs.Places.{is-there}
 use Rattle.mergedfiles.proofs.ReadLines.{IsPlain}
 use Rattle.mergedfiles.proofs.ReadRows.{HasPlainFields, HasPlainParts, users-plain, groups-plain}
 
@@ -102,10 +103,6 @@ each-primary host before (row ∷ rows) e =
 pub all-primary : (host : Host) → primary_checked host ≡ Ok tt → AllByRecursion (λ (row : Passwd). is_some (find (λ (group : Group). row.gid == group.gid) host.groups) ≡ true) host.users
 unfolding primary_checked
 all-primary host e = each-primary host [] host.users (unless_ok (first_fault (gid_fault host) [] host.users) tt tt e).0
-
-pub is-there : {X : Type 0} (o : Option X) → is_some o ≡ true → (x : X) × (o ≡ Some x)
-is-there None e = absurd (cc)
-is-there (Some x) e = (x, refl)
 
 told-by : (v : ℕ) (rows : List Group) → option_map (λ (p : List ℕ × ℕ). p.0) (find (λ (p : List ℕ × ℕ). v == p.1) (group_rows rows)) ≡ option_map (λ (row : Group). row.name) (find (λ (row : Group). v == row.gid) rows)
 told-by v [] = refl

@@ -49,6 +49,7 @@ pub record IsGroup (n : ℕ) (fields : List (List ℕ)) (row : Group) : Type 0 w
   pub are : fields ≡ row.name ∷ row.password ∷ gid ∷ row.members ∷ []
   pub line : row.line ≡ n
   pub lawful : is_lawful_name row.name ≡ true
+  pub group : id_of gid ≡ Some row.gid
 
 pub is-group : (n : ℕ) (fields : List (List ℕ)) (row : Group) → group_from n fields ≡ Ok row → IsGroup n fields row
 is-group n [] row e = absurd (cc)
@@ -60,5 +61,5 @@ is-group n (name ∷ password ∷ gid ∷ members ∷ []) row e =
     let lawful = named-ok n name _ row e in
     let group = numbered-ok n (id_of gid) _ row lawful.1 in
     let made : Group = record { line = n; name = name; password = password; gid = group.0; members = members } in
-    let is : IsGroup n (name ∷ password ∷ gid ∷ members ∷ []) made = record { gid = gid; are = refl; line = refl; lawful = lawful.0 } in
+    let is : IsGroup n (name ∷ password ∷ gid ∷ members ∷ []) made = record { gid = gid; are = refl; line = refl; lawful = lawful.0; group = group.1 } in
     subst (λ (r : Group). IsGroup n (name ∷ password ∷ gid ∷ members ∷ []) r) (ok_same made row group.2) is

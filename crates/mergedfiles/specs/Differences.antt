@@ -1,6 +1,7 @@
 -- The fields in which a later host differs from the first.
 -- Source: this project's own rule.
-use Rattle.std.specs.Prelude.{ℕ, not, List, [], ◌∷◌, ◌++◌, map, filter, flat_map, find, nat_eq, bytes_eq, Option, Some, None}
+use Rattle.std.specs.Prelude.{ℕ, not, List, [], ◌∷◌, ◌++◌, map, filter, flat_map, find, nat_eq}
+use Rattle.std.specs.Prelude.{bytes_eq, Option, Some, None}
 use Rattle.accounts.specs.Rows.{Group}
 use Rattle.hosts_join.specs.Site.{Joined}
 use Rattle.hosts_join.specs.declared.Which.TheVariants as kind
@@ -29,16 +30,27 @@ user_field field.Group user = group_name user.host user.row.gid
 
 -- the later hosts where the field is another than on the first
 abbrev pub user_differs : List ℕ → Field → UserRow → List UserRow → List Difference
-user_differs name what first later = map (λ user. record { kind = kind.User; name = name; field = what; host = user.host.name }) (filter (λ user. not (bytes_eq (user_field what user) (user_field what first))) later)
+user_differs name what first later =
+    map (λ user. record { kind = kind.User; name = name; field = what; host = user.host.name })
+    (filter (λ user. not (bytes_eq (user_field what user) (user_field what first))) later)
 
 -- field by field, and for each the hosts in order
 abbrev pub user_differences : List ℕ → List UserRow → List Difference
 user_differences name [] = []
-user_differences name (first ∷ later) = flat_map (λ what. user_differs name what first later) (field.Password ∷ field.Comment ∷ field.Home ∷ field.Shell ∷ field.Group ∷ [])
+user_differences name (first ∷ later) =
+    flat_map (λ what. user_differs name what first later)
+    (field.Password ∷ field.Comment ∷ field.Home ∷ field.Shell ∷ field.Group ∷ [])
 
 -- a group differs in its password
 abbrev pub group_differs : List ℕ → GroupRow → List GroupRow → List Difference
-group_differs name first later = map (λ group. record { kind = kind.Group; name = name; field = field.Password; host = group.host.name }) (filter (λ group. not (bytes_eq group.row.password first.row.password)) later)
+group_differs name first later =
+    map (λ group. record {
+      kind = kind.Group;
+      name = name;
+      field = field.Password;
+      host = group.host.name;
+    })
+    (filter (λ group. not (bytes_eq group.row.password first.row.password)) later)
 
 abbrev pub group_differences : List ℕ → List GroupRow → List Difference
 group_differences name [] = []
@@ -46,11 +58,13 @@ group_differences name (first ∷ later) = group_differs name first later
 
 -- those of all users, names in byte order
 abbrev pub all_user_differences : List Host → Joined → List Difference
-all_user_differences hosts site = flat_map (λ name. user_differences name (users_named name hosts)) (by_bytes site.users)
+all_user_differences hosts site =
+    flat_map (λ name. user_differences name (users_named name hosts)) (by_bytes site.users)
 
 -- and of all groups
 abbrev pub all_group_differences : List Host → Joined → List Difference
-all_group_differences hosts site = flat_map (λ name. group_differences name (groups_named name hosts)) (by_bytes site.groups)
+all_group_differences hosts site =
+    flat_map (λ name. group_differences name (groups_named name hosts)) (by_bytes site.groups)
 
 -- users before groups
 abbrev pub site_differences : List Host → Joined → List Difference

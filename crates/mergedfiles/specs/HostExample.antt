@@ -1,4 +1,5 @@
--- A host's own files by example: ann and ben exchange their uids, and staff and wheel their gids.
+-- A host's own files by example: ann and ben exchange their uids, and staff and wheel their gids;
+-- kim, lee and wine are no names of the site, and keep theirs.
 -- Sources: passwd(5) and group(5); the texts are this project's own.
 use Rattle.std.specs.Prelude.{◌≡◌, ℕ, List, [], ◌∷◌, ◌++◌, codes}
 use Rattle.accounts.specs.Rows.{Group}
@@ -42,15 +43,18 @@ host name ranges = record {
   spared_groups = [];
 }
 
--- a comment, an empty line, numbers with leading zeros, and a last line without a newline
+-- a comment, an empty line, numbers with leading zeros, two users who are kept, one of them in a
+-- group that is kept, and a last line without a newline
 abbrev pub old_passwd : List ℕ
 old_passwd =
     ended (codes "# people") ++ ended (codes "ann:x:0007:0100:Ann,,:/home/ann:/bin/sh") ++ ended []
+    ++ ended (codes "kim:x:09:0100:::") ++ ended (codes "lee:x:010:0300:::")
     ++ codes "ben:*:8:200::/:"
 
 abbrev pub new_passwd : List ℕ
 new_passwd =
     ended (codes "# people") ++ ended (codes "ann:x:8:200:Ann,,:/home/ann:/bin/sh") ++ ended []
+    ++ ended (codes "kim:x:09:200:::") ++ ended (codes "lee:x:010:0300:::")
     ++ codes "ben:*:7:100::/:"
 
 abbrev pub ExampleOfPasswd : Type 0
@@ -60,10 +64,12 @@ ExampleOfPasswd = (name : List ℕ) (ranges : HostRanges)
 abbrev pub old_group : List ℕ
 old_group =
     ended (codes "staff:x:0100:ben,,ann") ++ ended (codes "  ") ++ ended (codes "wheel::200:")
+    ++ ended (codes "wine:x:0300:ann")
 
 abbrev pub new_group : List ℕ
 new_group =
     ended (codes "staff:x:200:ben,,ann") ++ ended (codes "  ") ++ ended (codes "wheel::100:")
+    ++ ended (codes "wine:x:0300:ann")
 
 abbrev pub ExampleOfGroup : Type 0
 ExampleOfGroup = host_groups site (200 ∷ 100 ∷ []) old_group ≡ new_group

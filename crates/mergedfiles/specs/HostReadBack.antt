@@ -4,7 +4,7 @@
 -- That each line stays at its place, and all but the numbers as it was, is this project's own
 -- rule.
 use Rattle.std.specs.Prelude.{◌≡◌, ◌==◌, ℕ, ◌+◌, true, false, List, length, count_by, slice_get}
-use Rattle.std.specs.Prelude.{Some, Result, Ok}
+use Rattle.std.specs.Prelude.{Some, None, Result, Ok}
 use Rattle.std.specs.List.{AllZip}
 use Rattle.idtext.specs.declared.faults.TextFault.{TextFault}
 use Rattle.idtext.specs.Names.{is_skipped}
@@ -17,7 +17,8 @@ use Rattle.hosts_join.specs.Site.{Joined}
 use Rattle.hosts_join.specs.declared.host.Host.{Host}
 use Rattle.ownership.specs.Mappings.{Mappings, number_under}
 use Rattle.mergedfiles.specs.HostFiles.{host_users, host_groups}
-use Rattle.mergedfiles.specs.ReadBack.{HasNumber, IsNumbered, IsRowLine, KeepsLimits}
+use Rattle.mergedfiles.specs.ReadBack.{HasNumber, IsGivenToNone, IsNumbered, IsRowLine}
+use Rattle.mergedfiles.specs.ReadBack.{KeepsLimits}
 
 -- ---- lines
 
@@ -114,9 +115,16 @@ HostGroupReadsBack = (hosts : List Host) (site : Joined) (m : Mappings) (h : ℕ
 
 -- ---- names
 
+-- a user's primary group has the name that it had
+abbrev pub KeepsPrimary : List Group → List Group → Passwd → Passwd → Type 0
+KeepsPrimary old new was row =
+    (group : List ℕ) → group_at old was.gid ≡ Some group → group_at new row.gid ≡ Some group
+
 -- A number of the host has become that of the name which owns it on the host: the number that a
--- plan gives to the host's files. By these tables it is the number of the same user, and of the
--- same group, as the old one is by the host's tables.
+-- plan gives to the host's files. By the new tables it is the number of the same user, and of the
+-- same group, as the old one is by the host's tables; and a number that is no user's stays no
+-- user's, and one that is no group's no group's, unless a name of the site has it. Each user keeps
+-- its primary group.
 -- h: the index of the host
 pub record NamesAreKept (site : Joined) (m : Mappings) (h : ℕ) (host : Host)
     (users : List Passwd) (groups : List Group) : Type 0 where
@@ -124,6 +132,11 @@ pub record NamesAreKept (site : Joined) (m : Mappings) (h : ℕ) (host : Host)
       → user_at users (number_under m.users (owner site.users.names h uid) uid) ≡ Some name
   pub group_kept : (gid : ℕ) (name : List ℕ) → group_at host.groups gid ≡ Some name
       → group_at groups (number_under m.groups (owner site.groups.names h gid) gid) ≡ Some name
+  pub no_user : (uid : ℕ) → user_at host.users uid ≡ None
+      → IsGivenToNone site.users m.users uid → user_at users uid ≡ None
+  pub no_group : (gid : ℕ) → group_at host.groups gid ≡ None
+      → IsGivenToNone site.groups m.groups gid → group_at groups gid ≡ None
+  pub primary_kept : AllZip (KeepsPrimary host.groups groups) host.users users
 
 -- so it is for the tables of each host's own files with their new numbers
 abbrev pub HostNamesAreKept : Type 0

@@ -7,5 +7,6 @@ pub mod Differences
 pub mod Together
 pub mod ReadBack
 pub mod HostReadBack
+pub mod FullTables
 pub mod Spots
 pub mod Seen

@@ -1,5 +1,6 @@
 -- The rows that the hosts have of a name.
--- Source: passwd(5) and group(5); that the first host's row counts, and that users are joined, is this project's own rule.
+-- Source: passwd(5) and group(5); that the first host's row counts, and that users are joined, is
+-- this project's own rule.
 use Rattle.std.specs.Prelude.{ℕ, List, [], ◌∷◌, Option, Some, None, find, bytes_eq, flat_map}
 use Rattle.std.specs.List.{filter_map}
 use Rattle.std.specs.Option.{option_map}
@@ -19,10 +20,14 @@ pub record GroupRow : Type 0 where
 
 -- the host's row of a user, and of a group
 abbrev pub user_on : List ℕ → Host → Option UserRow
-user_on name host = option_map (λ row. record { host = host; row = row }) (find (λ row. bytes_eq name row.name) host.users)
+user_on name host =
+    option_map (λ row. record { host = host; row = row })
+    (find (λ row. bytes_eq name row.name) host.users)
 
 abbrev pub group_on : List ℕ → Host → Option GroupRow
-group_on name host = option_map (λ row. record { host = host; row = row }) (find (λ row. bytes_eq name row.name) host.groups)
+group_on name host =
+    option_map (λ row. record { host = host; row = row })
+    (find (λ row. bytes_eq name row.name) host.groups)
 
 -- the rows of a user, and of a group, hosts in order
 abbrev pub users_named : List ℕ → List Host → List UserRow

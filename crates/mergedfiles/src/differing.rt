@@ -3,7 +3,8 @@ ghost use Rattle.std.specs.Prelude.{◌≡◌, ◌++◌, map, IfOk, OnOk};
 ghost use Rattle.std.specs.List.{All};
 ghost use Rattle.hosts_join.specs.Hosts.{IsLawfulHost};
 ghost use Rattle.mergedfiles.specs.Differences as spec;
-ghost use Rattle.mergedfiles.specs.Differences.{all_user_differences, all_group_differences, site_differences};
+ghost use Rattle.mergedfiles.specs.Differences.{all_user_differences, all_group_differences};
+ghost use Rattle.mergedfiles.specs.Differences.{site_differences};
 ghost use Rattle.mergedfiles.specs.Seen.{user_seen, group_seen};
 ghost use Rattle.mergedfiles.specs.Spots as spots;
 ghost use Rattle.mergedfiles.specs.Together.{AreJoined};
@@ -47,7 +48,9 @@ fn push_user_field<'a>(
     first: &UserOn<'_, 'a>,
     later: &[UserOn<'_, 'a>],
 ) -> Result<(), AllocError>
-    ensures { OnOk result (told.new.items ≡ told.old.items ++ spec.user_differs name.now field (user_seen first.now) (map user_seen later.now)) }
+    ensures { OnOk result
+        (told.new.items ≡ told.old.items
+        ++ spec.user_differs name.now field (user_seen first.now) (map user_seen later.now)) }
 {
     let expected = user_field(field, first);
     for user in later {
@@ -72,7 +75,9 @@ fn push_user_differences<'a>(
     name: &'a [u8],
     among: &[Spot],
 ) -> Result<(), AllocError>
-    ensures { OnOk result (told.new.items ≡ told.old.items ++ spec.user_differences name.now (spots.users_at hosts.now name.now among.now)) }
+    ensures { OnOk result
+        (told.new.items ≡ told.old.items
+        ++ spec.user_differences name.now (spots.users_at hosts.now name.now among.now)) }
 {
     let users = users_at(alloc, hosts, name, among)?;
     let Some((first, later)) = users.as_slice().split_first() else {
@@ -101,7 +106,9 @@ fn push_group_password<'a>(
     first: &GroupOn<'_, 'a>,
     later: &[GroupOn<'_, 'a>],
 ) -> Result<(), AllocError>
-    ensures { OnOk result (told.new.items ≡ told.old.items ++ spec.group_differs name.now (group_seen first.now) (map group_seen later.now)) }
+    ensures { OnOk result
+        (told.new.items ≡ told.old.items
+        ++ spec.group_differs name.now (group_seen first.now) (map group_seen later.now)) }
 {
     let expected = password(first);
     for group in later {
@@ -126,7 +133,9 @@ fn push_group_differences<'a>(
     name: &'a [u8],
     among: &[Spot],
 ) -> Result<(), AllocError>
-    ensures { OnOk result (told.new.items ≡ told.old.items ++ spec.group_differences name.now (spots.groups_at hosts.now name.now among.now)) }
+    ensures { OnOk result
+        (told.new.items ≡ told.old.items
+        ++ spec.group_differences name.now (spots.groups_at hosts.now name.now among.now)) }
 {
     let groups = groups_at(alloc, hosts, name, among)?;
     match groups.as_slice().split_first() {
@@ -144,7 +153,8 @@ fn push_all_users<'a>(
 ) -> Result<(), AllocError>
     requires joined { AreJoined hosts.now site.now }
     requires lawful { All IsLawfulHost hosts.now }
-    ensures { OnOk result (told.new.items ≡ told.old.items ++ all_user_differences hosts.now site.now) }
+    ensures { OnOk result
+        (told.new.items ≡ told.old.items ++ all_user_differences hosts.now site.now) }
 {
     let users = by_name(alloc, site.users())?;
     for user in &users {
@@ -163,7 +173,8 @@ fn push_all_groups<'a>(
 ) -> Result<(), AllocError>
     requires joined { AreJoined hosts.now site.now }
     requires lawful { All IsLawfulHost hosts.now }
-    ensures { OnOk result (told.new.items ≡ told.old.items ++ all_group_differences hosts.now site.now) }
+    ensures { OnOk result
+        (told.new.items ≡ told.old.items ++ all_group_differences hosts.now site.now) }
 {
     let groups = by_name(alloc, site.groups())?;
     for group in &groups {
@@ -173,14 +184,15 @@ fn push_all_groups<'a>(
     Ok(())
 }
 
-/// Each later host on which a field of a name is another than on the first host that has the name: users before groups,
-/// names in byte order; of a user the password, comment, home, shell and primary group by its name, which is the empty name
-/// where the host has no group of the number; of a group the password; hosts in order. Asked is that the site was joined from
-/// these hosts, each lawful.
+/// Each later host on which a field of a name is another than on the first host that has the name:
+/// users before groups, names in byte order; of a user the password, comment, home, shell and
+/// primary group by its name, which is the empty name where the host has no group of the number; of
+/// a group the password; hosts in order. Asked is that the site was joined from these hosts, each
+/// lawful.
 ///
-/// Time in step with the account rows, with one look-up by hash for each group row and two for each user row, and a sort of
-/// the names. Memory for the list, 24 bytes a name, and the rows of one name at a time. Names and hosts are slices of the
-/// input.
+/// Time in step with the account rows, with one look-up by hash for each group row and two for each
+/// user row, and a sort of the names. Memory for the list, 24 bytes a name, and the rows of one
+/// name at a time. Names and hosts are slices of the input.
 ///
 /// # Errors
 ///

@@ -38,7 +38,9 @@ pub fn push_number_field(text: &mut Vec<u8>, number: u32) -> Result<(), AllocErr
 
 /// Adds the users of a row.
 fn push_members<'a>(users: &mut Vec<&'a [u8]>, group: &GroupOn<'_, 'a>) -> Result<(), AllocError>
-    ensures { OnOk result (texts_of users.new.items ≡ texts_of users.old.items ++ rows.members_of (group_seen group.now).row.members) }
+    ensures { OnOk result
+        (texts_of users.new.items ≡ texts_of users.old.items
+        ++ rows.members_of (group_seen group.now).row.members) }
 {
     let row = group.row;
     let mut members = row.members_of();
@@ -50,7 +52,8 @@ fn push_members<'a>(users: &mut Vec<&'a [u8]>, group: &GroupOn<'_, 'a>) -> Resul
 
 /// The users of all rows of a group.
 fn members<'a>(alloc: Global, groups: &[GroupOn<'_, 'a>]) -> Result<Vec<&'a [u8]>, AllocError>
-    ensures { IfOk result (λ users. texts_of users.items ≡ all_members (map group_seen groups.now)) }
+    ensures { IfOk result
+        (λ users. texts_of users.items ≡ all_members (map group_seen groups.now)) }
 {
     let mut users = Vec::new(alloc);
     for group in groups {
@@ -75,7 +78,8 @@ fn each_once<'a>(alloc: Global, users: &[&'a [u8]]) -> Result<Vec<&'a [u8]>, All
 
 /// Appends the users with a comma between each two.
 fn push_users(text: &mut Vec<u8>, users: &[&[u8]]) -> Result<(), AllocError>
-    ensures { OnOk result (text.new.items ≡ text.old.items ++ join_with_byte 44 (texts_of users.now)) }
+    ensures { OnOk result
+        (text.new.items ≡ text.old.items ++ join_with_byte 44 (texts_of users.now)) }
 {
     for (i, user) in users.iter().enumerate() {
         if i > 0 {
@@ -94,7 +98,10 @@ fn push_line(
     number: u32,
     groups: &[GroupOn<'_, '_>],
 ) -> Result<(), AllocError>
-    ensures { OnOk result (text.new.items ≡ text.old.items ++ group_line name.now number (joined_users (map group_seen groups.now)) (first_of (map group_seen groups.now))) }
+    ensures { OnOk result
+        (text.new.items ≡ text.old.items
+        ++ group_line name.now number (joined_users (map group_seen groups.now))
+        (first_of (map group_seen groups.now))) }
 {
     let Some(first) = groups.first() else {
         return Ok(());
@@ -119,18 +126,23 @@ fn push_group(
     number: u32,
     among: &[Spot],
 ) -> Result<(), AllocError>
-    ensures { OnOk result (text.new.items ≡ text.old.items ++ group_line name.now number (joined_users (spots.groups_at hosts.now name.now among.now)) (first_of (spots.groups_at hosts.now name.now among.now))) }
+    ensures { OnOk result
+        (text.new.items ≡ text.old.items
+        ++ group_line name.now number (joined_users (spots.groups_at hosts.now name.now among.now))
+        (first_of (spots.groups_at hosts.now name.now among.now))) }
 {
     let groups = groups_at(alloc, hosts, name, among)?;
     push_line(alloc, text, name, number, groups.as_slice())
 }
 
-/// The merged group: a line for each group of the site, ascending by its new number, with the password of the first host
-/// that has it and the users of all hosts, hosts in order, each where it appears first. Asked is that the site was joined
-/// from these hosts, each lawful, and that the second mapping has one number for each group; the first one is not looked at.
+/// The merged group: a line for each group of the site, ascending by its new number, with the
+/// password of the first host that has it and the users of all hosts, hosts in order, each where it
+/// appears first. Asked is that the site was joined from these hosts, each lawful, and that the
+/// second mapping has one number for each group; the first one is not looked at.
 ///
-/// Time in step with the group rows and their users, with one look-up by hash for each, and one sort of the groups by
-/// number. Memory for the text, 8 bytes a group, and the users of one group at a time.
+/// Time in step with the group rows and their users, with one look-up by hash for each, and one
+/// sort of the groups by number. Memory for the text, 8 bytes a group, and the users of one group
+/// at a time.
 ///
 /// # Errors
 ///

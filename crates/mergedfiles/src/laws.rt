@@ -4,6 +4,8 @@ ghost use Rattle.hosts_join.specs.PinPairs.{PinPairs};
 ghost use Rattle.hosts_join.specs.Rules.{account};
 ghost use Rattle.hosts_join.specs.Site.{Joined, joined_site};
 ghost use Rattle.hosts_join.specs.declared.host.Host.{Host};
+ghost use Rattle.mergedfiles.specs.FullTables.{FullGroupReadsBack, FullNamesAreKept};
+ghost use Rattle.mergedfiles.specs.FullTables.{FullPasswdReadsBack, HostsJoinInFull};
 ghost use Rattle.mergedfiles.specs.HostExample.{ExampleOfGroup, ExampleOfPasswd};
 ghost use Rattle.mergedfiles.specs.HostReadBack.{HostGroupReadsBack, HostNamesAreKept};
 ghost use Rattle.mergedfiles.specs.HostReadBack.{HostPasswdReadsBack};
@@ -13,26 +15,30 @@ ghost use Rattle.mergedfiles.specs.Together.{AreJoined};
 
 /// The site that hosts are joined to belongs to these hosts.
 pub fn joined_together()
-    ensures { (hosts : List Host) (pins : PinPairs) (site : Joined) → joined_site hosts pins ≡ Ok site → AreJoined hosts site }
+    ensures { (hosts : List Host) (pins : PinPairs) (site : Joined)
+        → joined_site hosts pins ≡ Ok site → AreJoined hosts site }
 {}
 
 /// Some host has each name of a site, so that each name has a line in the merged files.
 pub fn names_have_rows()
-    ensures users { (hosts : List Host) (site : Joined) (i : ℕ) → AreJoined hosts site → i < length site.users.names → users_named (account site.users i).name hosts ≢ [] }
-    ensures groups { (hosts : List Host) (site : Joined) (i : ℕ) → AreJoined hosts site → i < length site.groups.names → groups_named (account site.groups i).name hosts ≢ [] }
+    ensures users { (hosts : List Host) (site : Joined) (i : ℕ) → AreJoined hosts site
+        → i < length site.users.names → users_named (account site.users i).name hosts ≢ [] }
+    ensures groups { (hosts : List Host) (site : Joined) (i : ℕ) → AreJoined hosts site
+        → i < length site.groups.names → groups_named (account site.groups i).name hosts ≢ [] }
 {}
 
-/// The merged passwd reads back: each of its lines is the row of a user, with the new number of the user, the new
-/// number of the primary group that the first host with this user gives it, and that host's other fields. There is
-/// exactly one for each user name, and they ascend by number. Where the text keeps the limits of a passwd file,
-/// these rows are its table.
+/// The merged passwd reads back: each of its lines is the row of a user, with the new number of the
+/// user, the new number of the primary group that the first host with this user gives it, and that
+/// host's other fields. There is exactly one for each user name, and they ascend by number. Where
+/// the text keeps the limits of a passwd file, these rows are its table.
 pub fn merged_passwd_reads_back()
     ensures { MergedPasswdReadsBack }
 {}
 
-/// The merged group reads back: each of its lines is the row of a group, with its new number, the password of the
-/// first host with this group, and its users on all hosts. There is exactly one for each group name, and they
-/// ascend by number. Where the text keeps the limits of a group file, these rows are its table.
+/// The merged group reads back: each of its lines is the row of a group, with its new number, the
+/// password of the first host with this group, and its users on all hosts. There is exactly one for
+/// each group name, and they ascend by number. Where the text keeps the limits of a group file,
+/// these rows are its table.
 pub fn merged_group_reads_back()
     ensures { MergedGroupReadsBack }
 {}
@@ -62,13 +68,49 @@ pub fn host_group_reads_back()
 
 /// By the tables of a host's own passwd and group with their new numbers, the number that a plan
 /// gives in place of an old one is the number of the same user, and of the same group, as the old
-/// one is by the host's tables.
+/// one is by the host's tables. A number that had no name has none, unless it is the new number of
+/// one. Each user has the primary group that it had.
 pub fn host_names_are_kept()
     ensures { HostNamesAreKept }
 {}
 
+/// A host's own passwd reads back with its new numbers, also where it has more rows than were
+/// joined of the host. A row whose name the site does not have keeps its uid, and a gid that is of
+/// no group that was joined stays; all else is as `host_passwd_reads_back` tells it. Asked is that
+/// no name of the site has the number of a row that is kept. The new rows name a new number as all
+/// old rows named the number before it, and so they name none that they did not, unless it is a
+/// new number of a name.
+///
+/// Source: passwd(5).
+pub fn full_passwd_reads_back()
+    ensures { FullPasswdReadsBack }
+{}
+
+/// A host's own group reads back with its new numbers, also where it has more rows than were
+/// joined of the host: a row whose name the site does not have keeps its gid. All else is as
+/// `full_passwd_reads_back` tells it of passwd.
+///
+/// Source: group(5).
+pub fn full_group_reads_back()
+    ensures { FullGroupReadsBack }
+{}
+
+/// A host of a numbered site is one of which nothing is kept, where its tables are all that was
+/// joined of it. So what is told of full tables holds of every such host.
+pub fn hosts_join_in_full()
+    ensures { HostsJoinInFull }
+{}
+
+/// By the full tables of a host's own passwd and group with their new numbers, the number that a
+/// plan gives in place of an old one is named as the old one was: by a name of the site, or by one
+/// that is kept, whose numbers no plan changes. All else is as `host_names_are_kept` tells it.
+pub fn full_names_are_kept()
+    ensures { FullNamesAreKept }
+{}
+
 /// An example of a host's own passwd and group: two users exchange their numbers, and two groups;
-/// comments, empty lines and the end of the text stay as they are, and leading zeros go.
+/// comments, empty lines, the end of the text and the numbers of names that the site does not have
+/// stay as they are, and leading zeros go.
 pub fn host_files_by_example()
     ensures passwd { ExampleOfPasswd }
     ensures group { ExampleOfGroup }

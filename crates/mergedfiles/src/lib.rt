@@ -1,8 +1,8 @@
-//! The account files of a joined site: one passwd and one group for all hosts, after passwd(5) and group(5), and what the
-//! hosts' own files say otherwise.
+//! The account files of a joined site: one passwd and one group for all hosts, after passwd(5) and
+//! group(5), and what the hosts' own files say otherwise.
 //!
-//! Each name has one row, with its new number and the fields of the first host that has it; a group has the users of all
-//! hosts. Where a later host has another field, `differences` tells so.
+//! Each name has one row, with its new number and the fields of the first host that has it; a group
+//! has the users of all hosts. Where a later host has another field, `differences` tells so.
 #![tactic(auto)]
 
 mod differing;
@@ -19,7 +19,8 @@ pub use host_files::{host_group_text, host_passwd_text};
 use hosts_join::Which;
 use idtext::Name;
 pub use laws::{
-    host_files_by_example, host_group_reads_back, host_names_are_kept, host_passwd_reads_back,
+    full_group_reads_back, full_names_are_kept, full_passwd_reads_back, host_files_by_example,
+    host_group_reads_back, host_names_are_kept, host_passwd_reads_back, hosts_join_in_full,
     joined_together, merged_group_reads_back, merged_passwd_reads_back, names_have_rows,
 };
 pub use order::by_name;
@@ -40,7 +41,8 @@ pub enum Field {
     Group,
 }
 
-/// A field of a user or a group that is another on this later host than on the first host that has the name.
+/// A field of a user or a group that is another on this later host than on the first host that has
+/// the name.
 #[derive(Drop)]
 pub struct Difference<'a> {
     /// Users or groups.

@@ -32,7 +32,9 @@ pub fn by_number(
 /// One sort of the names. Of memory a name takes 24 bytes; `AllocError` where it is refused.
 pub fn by_name<'a>(alloc: Global, names: &Names<'a>) -> Result<Vec<(&'a [u8], u32)>, AllocError>
     ensures order { IfOk result (λ found. map name_of found.items ≡ order.by_bytes names.now) }
-    ensures places { IfOk result (λ found. All (λ p. (p.1 < length names.now.names) × (p.0.now ≡ (account names.now p.1).name)) found.items) }
+    ensures places { IfOk result
+        (λ found. All (λ p. (p.1 < length names.now.names)
+        × (p.0.now ≡ (account names.now p.1).name)) found.items) }
 {
     let mut found = Vec::new(alloc);
     for index in 0..names.len() {

@@ -52,7 +52,9 @@ fn push_line(
     gids: &Mapping,
 ) -> Result<(), AllocError>
     requires { length gids.now ≡ length groups.now.names }
-    ensures { OnOk result (text.new.items ≡ text.old.items ++ user_line groups.now gids.now name.now number (Some (user_seen first.now))) }
+    ensures { OnOk result
+        (text.new.items ≡ text.old.items
+        ++ user_line groups.now gids.now name.now number (Some (user_seen first.now))) }
 {
     let row = first.row;
     push_field(text, name)?;
@@ -77,7 +79,10 @@ fn push_user(
     gids: &Mapping,
 ) -> Result<(), AllocError>
     requires { length gids.now ≡ length groups.now.names }
-    ensures { OnOk result (text.new.items ≡ text.old.items ++ user_line groups.now gids.now name.now number (first_of (spots.users_at hosts.now name.now among.now))) }
+    ensures { OnOk result
+        (text.new.items ≡ text.old.items
+        ++ user_line groups.now gids.now name.now number
+        (first_of (spots.users_at hosts.now name.now among.now))) }
 {
     match first_user(hosts, name, among) {
         Some(first) => push_line(text, name, number, &first, groups, gids),
@@ -85,13 +90,14 @@ fn push_user(
     }
 }
 
-/// The merged passwd: a line for each user of the site, ascending by its new number, with the fields of the first host that
-/// has it; its primary group is the group of that host, with its new number; where that host has no group of the number
-/// (`check_primary` refuses such a host) the number stays. Asked is that the site was joined from these hosts, each lawful, and
-/// that the mappings have one number for each user and for each group.
+/// The merged passwd: a line for each user of the site, ascending by its new number, with the
+/// fields of the first host that has it; its primary group is the group of that host, with its new
+/// number; where that host has no group of the number (`check_primary` refuses such a host) the
+/// number stays. Asked is that the site was joined from these hosts, each lawful, and that the
+/// mappings have one number for each user and for each group.
 ///
-/// Time in step with the text, with three look-ups by hash for each user, and one sort of the users by number. Memory for
-/// the text, and 8 bytes a user.
+/// Time in step with the text, with three look-ups by hash for each user, and one sort of the users
+/// by number. Memory for the text, and 8 bytes a user.
 ///
 /// # Errors
 ///
@@ -107,7 +113,8 @@ pub fn passwd_text(
     requires lawful { All IsLawfulHost hosts.now }
     requires for_users { length users.now ≡ length site.now.users.names }
     requires for_groups { length groups.now ≡ length site.now.groups.names }
-    ensures { IfOk result (λ text. text.items ≡ merged_users hosts.now site.now users.now groups.now) }
+    ensures { IfOk result
+        (λ text. text.items ≡ merged_users hosts.now site.now users.now groups.now) }
 {
     let names = site.users();
     let order = by_number(alloc, names.len(), users)?;

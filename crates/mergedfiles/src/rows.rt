@@ -44,7 +44,8 @@ pub fn users_at<'h, 'a>(
     name: &[u8],
     among: &[Spot],
 ) -> Result<Vec<UserOn<'h, 'a>>, AllocError>
-    ensures { IfOk result (λ users. map user_seen users.items ≡ spots.users_at hosts.now name.now among.now) }
+    ensures { IfOk result
+        (λ users. map user_seen users.items ≡ spots.users_at hosts.now name.now among.now) }
 {
     let mut users = Vec::new(alloc);
     for spot in among {
@@ -71,7 +72,8 @@ pub fn groups_at<'h, 'a>(
     name: &[u8],
     among: &[Spot],
 ) -> Result<Vec<GroupOn<'h, 'a>>, AllocError>
-    ensures { IfOk result (λ groups. map group_seen groups.items ≡ spots.groups_at hosts.now name.now among.now) }
+    ensures { IfOk result
+        (λ groups. map group_seen groups.items ≡ spots.groups_at hosts.now name.now among.now) }
 {
     let mut groups = Vec::new(alloc);
     for spot in among {
