@@ -1,6 +1,7 @@
 -- The files of a plan, counted.
 -- Source: this project's own rule.
-use Rattle.std.specs.Prelude.{◌≡◌, ℕ, ◌+◌, Bool, true, false, not, ◌&&◌, List, ◌∷◌, ◌++◌, Option, None, Some, is_none, map, reverse, count_by, if◌then◌else◌}
+use Rattle.std.specs.Prelude.{◌≡◌, ℕ, ◌+◌, Bool, true, false, not, ◌&&◌, List, ◌∷◌, ◌++◌, Option}
+use Rattle.std.specs.Prelude.{None, Some, is_none, map, reverse, count_by, if◌then◌else◌}
 use Rattle.reown_plan.specs.Owners.{owner_eq}
 use Rattle.reown_plan.specs.PlanData.{PlanRecord}
 use Rattle.reown_files.specs.declared.answers.Seen.{Seen}
@@ -69,7 +70,9 @@ files_of counts = counts.before + counts.after + counts.missing + counts.foreign
 abbrev pub call_of : Look → Called
 call_of (r, seen) = Looked r.path seen
 
--- the file of each record was looked at once, in order, and no other call was made; and so the files are counted
+-- the file of each record was looked at once, in order, and no other call was made; and so the
+-- files are counted
 abbrev pub IsCount : List PlanRecord → List Called → List Called → OwnerCounts → Type 0
 IsCount records old new counts =
-    (looks : List Look) × (map (λ look. look.0) looks ≡ records) × (new ≡ reverse (map call_of looks) ++ old) × (counts ≡ counts_of looks)
+    (looks : List Look) × (map (λ look. look.0) looks ≡ records)
+    × (new ≡ reverse (map call_of looks) ++ old) × (counts ≡ counts_of looks)

@@ -1,6 +1,7 @@
 -- What may be asked of a disk for a plan. The calls stand with the newest first.
 -- Source: this project's own rule; chown(2) for modes, which a change of the owner may clear.
-use Rattle.std.specs.Prelude.{ℕ, ◌==◌, Bool, true, false, ◌&&◌, ◌||◌, List, [], ◌∷◌, Option, None, Some, is_none, if◌then◌else◌}
+use Rattle.std.specs.Prelude.{ℕ, ◌==◌, Bool, true, false, ◌&&◌, ◌||◌, List, [], ◌∷◌, Option, None}
+use Rattle.std.specs.Prelude.{Some, is_none, if◌then◌else◌}
 use Rattle.std.specs.List.{list_any, list_all}
 use Rattle.std.specs.Str.{bytes_eq}
 use Rattle.reown_plan.specs.declared.mark.PlanMark.{PlanMark}
@@ -9,13 +10,15 @@ use Rattle.reown_plan.specs.Mark.{mark_eq}
 use Rattle.reown_plan.specs.Owners.{owner_eq}
 use Rattle.reown_plan.specs.PlanData.{PlanRecord}
 use Rattle.reown_files.specs.declared.answers.Modes.{Modes}
-use Rattle.reown_files.specs.Calls.{Called, Looked, Met, MetMark, Gave, SetMode, Kept, PutMark, LostMode, PutModes}
+use Rattle.reown_files.specs.Calls.{Called, Looked, Met, MetMark, Gave, SetMode, Kept, PutMark}
+use Rattle.reown_files.specs.Calls.{LostMode, PutModes}
 
 -- ---- owners
 
 -- the change is that of the record
 abbrev pub is_of : List ℕ → Owner → Owner → PlanRecord → Bool
-is_of path before after r = bytes_eq path r.path && (owner_eq before r.before && owner_eq after r.after)
+is_of path before after r =
+    bytes_eq path r.path && (owner_eq before r.before && owner_eq after r.after)
 
 -- it is that of one of the records
 abbrev pub is_planned : List PlanRecord → List ℕ → Owner → Owner → Bool
@@ -27,7 +30,8 @@ gives_by_plan records [] = true
 gives_by_plan records (Looked path seen ∷ calls) = gives_by_plan records calls
 gives_by_plan records (Met path found ∷ calls) = gives_by_plan records calls
 gives_by_plan records (MetMark plan set ∷ calls) = gives_by_plan records calls
-gives_by_plan records (Gave path before after modes ∷ calls) = is_planned records path before after && gives_by_plan records calls
+gives_by_plan records (Gave path before after modes ∷ calls) =
+    is_planned records path before after && gives_by_plan records calls
 gives_by_plan records (SetMode path owner mode done ∷ calls) = gives_by_plan records calls
 gives_by_plan records (Kept path owner done ∷ calls) = gives_by_plan records calls
 gives_by_plan records (PutMark plan done ∷ calls) = gives_by_plan records calls
@@ -41,14 +45,16 @@ pub record ModeSet : Type 0 where
   pub path : List ℕ
   pub mode : ℕ
 
--- a file that was given an owner has the mode that it had: it kept that, or that was set right behind it
+-- a file that was given an owner has the mode that it had: it kept that, or that was set right
+-- behind it
 abbrev pub leaves_mode : List ℕ → Option Modes → Option ModeSet → Bool
 leaves_mode path None None = true
 leaves_mode path None (Some set) = false
 leaves_mode path (Some modes) None = modes.before == modes.after
 leaves_mode path (Some modes) (Some set) = bytes_eq set.path path && (set.mode == modes.before)
 
--- a file whose mode an earlier run had lost has the mode that was written down: that was set right behind the answer
+-- a file whose mode an earlier run had lost has the mode that was written down: that was set right
+-- behind the answer
 abbrev pub sets_back : List ℕ → Option ℕ → Option ModeSet → Bool
 sets_back path None None = true
 sets_back path None (Some set) = false
@@ -61,16 +67,18 @@ modes_stay_before set [] = is_none set
 modes_stay_before set (Looked path seen ∷ calls) = is_none set && modes_stay_before None calls
 modes_stay_before set (Met path found ∷ calls) = is_none set && modes_stay_before None calls
 modes_stay_before set (MetMark plan there ∷ calls) = is_none set && modes_stay_before None calls
-modes_stay_before set (Gave path before after modes ∷ calls) = leaves_mode path modes set && modes_stay_before None calls
+modes_stay_before set (Gave path before after modes ∷ calls) =
+    leaves_mode path modes set && modes_stay_before None calls
 modes_stay_before set (SetMode path owner mode done ∷ calls) =
     is_none set && modes_stay_before (Some (record { path = path; mode = mode })) calls
 modes_stay_before set (Kept path owner done ∷ calls) = is_none set && modes_stay_before None calls
 modes_stay_before set (PutMark plan done ∷ calls) = is_none set && modes_stay_before None calls
-modes_stay_before set (LostMode plan path owner mode ∷ calls) = sets_back path mode set && modes_stay_before None calls
+modes_stay_before set (LostMode plan path owner mode ∷ calls) =
+    sets_back path mode set && modes_stay_before None calls
 modes_stay_before set (PutModes plan done ∷ calls) = is_none set && modes_stay_before None calls
 
--- no file is left with another mode than it had, and no mode is set but right behind the change that cleared it, or behind the
--- answer that an earlier run had lost it
+-- no file is left with another mode than it had, and no mode is set but right behind the change
+-- that cleared it, or behind the answer that an earlier run had lost it
 abbrev pub modes_stay : List Called → Bool
 modes_stay calls = modes_stay_before None calls
 
@@ -82,9 +90,12 @@ was_kept [] r = false
 was_kept (Looked path seen ∷ calls) r = was_kept calls r
 was_kept (Met path found ∷ calls) r = was_kept calls r
 was_kept (MetMark plan set ∷ calls) r = was_kept calls r
-was_kept (Gave path before after modes ∷ calls) r = if bytes_eq path r.path then false else was_kept calls r
-was_kept (SetMode path owner mode done ∷ calls) r = if bytes_eq path r.path then false else was_kept calls r
-was_kept (Kept path owner done ∷ calls) r = (done && (bytes_eq path r.path && owner_eq owner r.after)) || was_kept calls r
+was_kept (Gave path before after modes ∷ calls) r =
+    if bytes_eq path r.path then false else was_kept calls r
+was_kept (SetMode path owner mode done ∷ calls) r =
+    if bytes_eq path r.path then false else was_kept calls r
+was_kept (Kept path owner done ∷ calls) r =
+    (done && (bytes_eq path r.path && owner_eq owner r.after)) || was_kept calls r
 was_kept (PutMark plan done ∷ calls) r = was_kept calls r
 was_kept (LostMode plan path owner mode ∷ calls) r = was_kept calls r
 was_kept (PutModes plan done ∷ calls) r = was_kept calls r
@@ -101,7 +112,8 @@ marks_last mark records (MetMark plan set ∷ calls) = marks_last mark records c
 marks_last mark records (Gave path before after modes ∷ calls) = marks_last mark records calls
 marks_last mark records (SetMode path owner mode done ∷ calls) = marks_last mark records calls
 marks_last mark records (Kept path owner done ∷ calls) = marks_last mark records calls
-marks_last mark records (PutMark plan done ∷ calls) = mark_eq plan mark && (all_kept records calls && marks_last mark records calls)
+marks_last mark records (PutMark plan done ∷ calls) =
+    mark_eq plan mark && (all_kept records calls && marks_last mark records calls)
 marks_last mark records (LostMode plan path owner mode ∷ calls) = marks_last mark records calls
 marks_last mark records (PutModes plan done ∷ calls) = marks_last mark records calls
 
@@ -151,26 +163,33 @@ is_begun records (SetMode path owner mode done ∷ calls) = is_begun records cal
 is_begun records (Kept path owner done ∷ calls) = is_begun records calls
 is_begun records (PutMark plan done ∷ calls) = is_begun records calls
 is_begun records (LostMode plan path owner mode ∷ calls) = is_begun records calls
-is_begun records (PutModes plan done ∷ calls) = (done && all_asked records calls) || is_begun records calls
+is_begun records (PutModes plan done ∷ calls) =
+    (done && all_asked records calls) || is_begun records calls
 
--- no file is given an owner before that; and modes are asked for and written down for this plan alone, its files at their new
--- owners, and before any file is given one
+-- no file is given an owner before that; and modes are asked for and written down for this plan
+-- alone, its files at their new owners, and before any file is given one
 abbrev pub begins_first : PlanMark → List PlanRecord → List Called → Bool
 begins_first mark records [] = true
 begins_first mark records (Looked path seen ∷ calls) = begins_first mark records calls
 begins_first mark records (Met path found ∷ calls) = begins_first mark records calls
 begins_first mark records (MetMark plan set ∷ calls) = begins_first mark records calls
-begins_first mark records (Gave path before after modes ∷ calls) = is_begun records calls && begins_first mark records calls
+begins_first mark records (Gave path before after modes ∷ calls) =
+    is_begun records calls && begins_first mark records calls
 begins_first mark records (SetMode path owner mode done ∷ calls) = begins_first mark records calls
 begins_first mark records (Kept path owner done ∷ calls) = begins_first mark records calls
 begins_first mark records (PutMark plan done ∷ calls) = begins_first mark records calls
 begins_first mark records (LostMode plan path owner mode ∷ calls) =
-    mark_eq plan mark && (list_any (is_given path owner) records && (is_unchanged calls && begins_first mark records calls))
-begins_first mark records (PutModes plan done ∷ calls) = mark_eq plan mark && (is_unchanged calls && begins_first mark records calls)
+    mark_eq plan mark
+    && (list_any (is_given path owner) records
+    && (is_unchanged calls && begins_first mark records calls))
+begins_first mark records (PutModes plan done ∷ calls) =
+    mark_eq plan mark && (is_unchanged calls && begins_first mark records calls)
 
 -- ---- all of it
 
--- nothing was asked for but what the plan with this mark and these records has, and that in its order
+-- nothing was asked for but what the plan with this mark and these records has, and that in its
+-- order
 abbrev pub is_lawful : PlanMark → List PlanRecord → List Called → Bool
 is_lawful mark records calls =
-    gives_by_plan records calls && (modes_stay calls && (marks_last mark records calls && begins_first mark records calls))
+    gives_by_plan records calls
+    && (modes_stay calls && (marks_last mark records calls && begins_first mark records calls))

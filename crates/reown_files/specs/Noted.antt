@@ -1,6 +1,7 @@
 -- What a call is in the record of calls.
 -- Values that borrow from the input, without the borrow: words of the code and not of the subject.
-use Rattle.reown_files.specs.Calls.{Called, Looked, Met, MetMark, Gave, SetMode, Kept, PutMark, LostMode, PutModes}
+use Rattle.reown_files.specs.Calls.{Called, Looked, Met, MetMark, Gave, SetMode, Kept, PutMark}
+use Rattle.reown_files.specs.Calls.{LostMode, PutModes}
 use Rattle.reown_files.specs.declared.log.Call.{Call}
 use Rattle.reown_files.specs.declared.log.Call.TheVariants as call
 

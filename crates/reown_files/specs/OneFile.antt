@@ -17,7 +17,8 @@ seen_if_there (Ok found) = Ok (Some found)
 seen_if_there (Err Gone) = Ok None
 seen_if_there (Err trouble) = Err trouble
 
--- a regular file has lost bits of this mode that a change of its owner clears (chown(2)), and no others of it: with the set-user-ID
--- and set-group-ID bits of the mode (3072) it would have it
+-- a regular file has lost bits of this mode that a change of its owner clears (chown(2)), and no
+-- others of it: with the set-user-ID and set-group-ID bits of the mode (3072) it would have it
 abbrev pub HasLost : Found → ℕ → Type 0
-HasLost found mode = (found.kind ≡ Regular) × (found.mode ≢ mode) × (bit_or found.mode (bit_and mode 3072) ≡ mode)
+HasLost found mode =
+    (found.kind ≡ Regular) × (found.mode ≢ mode) × (bit_or found.mode (bit_and mode 3072) ≡ mode)

@@ -9,9 +9,9 @@ use Rattle.reown_runner.specs.MemoryReads.{readable_mem}
 use Rattle.reown_files.specs.Calls.{Called}
 use Rattle.reown_files.specs.Replay.{replay}
 
--- the mark and the records of its plan; what it holds their files to be, with which each read is compared; whether each file was kept since
--- the last write; whether it was stopped; how often a call has failed, and how many writes and syncs were asked of it; and what
--- was asked of its disk
+-- the mark and the records of its plan; what it holds their files to be, with which each read is
+-- compared; whether each file was kept since the last write; whether it was stopped; how often a
+-- call has failed, and how many writes and syncs were asked of it; and what was asked of its disk
 pub record RealData : Type 0 where
   pub mark : PlanMark
   pub records : List PlanRecord
@@ -38,10 +38,12 @@ pub record IsReplay (calls : List Called) (tree : Mem) : Type 0 where
   pub owner : (path : List ℕ) → (known_mem tree).owner path ≡ (replay calls).owner path
   pub mark : (known_mem tree).mark ≡ (replay calls).mark
 
--- and so it is while fewer than 2 ^ 64 - 1 calls have failed: by the contract of a tree no call fails after that
+-- and so it is while fewer than 2 ^ 64 - 1 calls have failed: by the contract of a tree no call
+-- fails after that
 abbrev pub HoldsReplay : ℕ → List Called → Mem → Type 0
 HoldsReplay faults calls tree = faults + 1 < 2 ^ 64 → IsReplay calls tree
 
 -- a stop may leave what is read
 pub readable_real : (r : RealData) (plan : PlanMark) → IsReadable (cells_of plan (known_real r))
-readable_real r plan = record { owner = (readable_mem r.tree plan).owner; mark = (readable_mem r.tree plan).mark }
+readable_real r plan =
+    record { owner = (readable_mem r.tree plan).owner; mark = (readable_mem r.tree plan).mark }

@@ -40,7 +40,8 @@ pub enum Trouble {
     NotModes,
 }
 
-/// The bits of a file's mode around a change of its owner (inode(7)), set-user-ID and set-group-ID among them.
+/// The bits of a file's mode around a change of its owner (inode(7)), set-user-ID and set-group-ID
+/// among them.
 #[derive(Clone, Copy, Debug, PartialEq, Eq)]
 pub struct Modes {
     /// Those that it had before.
@@ -83,7 +84,8 @@ pub enum OpenFault {
     File(usize, Trouble),
     /// The mark could not be looked at, or the disk not be synced.
     Disk(Trouble),
-    /// The modes that an earlier run wrote down could not be read, or those that this one may lose not be written.
+    /// The modes that an earlier run wrote down could not be read, or those that this one may lose
+    /// not be written.
     Modes(Trouble),
 }
 

@@ -1,7 +1,8 @@
 //! The files of a plan, counted by what is seen of them.
 ghost use Rattle.std.specs.Prelude.{◌≡◌, ◌+◌, ◌^◌, ◌<◌, Some, map, IfOk};
 ghost use Rattle.reown_plan.specs.Records.{record_of};
-ghost use Rattle.reown_files.specs.Counting.{Look, is_before, is_after, is_foreign, one, with_one, files_of, IsCount};
+ghost use Rattle.reown_files.specs.Counting.{Look, is_before, is_after, is_foreign, one, with_one};
+ghost use Rattle.reown_files.specs.Counting.{files_of, IsCount};
 
 use crate::{Disk, OpenFault, Seen};
 use reown_plan::Record;
@@ -86,7 +87,8 @@ impl OwnerCounts {
 ///
 /// `File`: the first record whose file could not be looked at.
 pub fn count_owners<D: Disk>(disk: &mut D, records: &[Record]) -> Result<OwnerCounts, OpenFault>
-    ensures { IfOk result (λ counts. IsCount (map record_of records.now) (D.calls disk.old) (D.calls disk.new) counts) }
+    ensures { IfOk result (λ counts. IsCount
+        (map record_of records.now) (D.calls disk.old) (D.calls disk.new) counts) }
 {
     let mut counts = OwnerCounts {
         before: 0,

@@ -38,11 +38,16 @@ pub struct Change {
 
 /// Gives a file that has one owner another, and sets its mode back where that has changed with it.
 pub fn give_file<D: Disk>(disk: &mut D, path: &[u8], before: Owner, after: Owner) -> Change
-    ensures lawful { (mark : PlanMark) (records : List PlanRecord) → is_planned records path.now before after ≡ true
+    ensures lawful { (mark : PlanMark) (records : List PlanRecord)
+        → is_planned records path.now before after ≡ true
         → is_begun records (D.calls disk.old) ≡ true
-        → is_lawful mark records (D.calls disk.old) ≡ true → is_lawful mark records (D.calls disk.new) ≡ true }
-    ensures begun { (records : List PlanRecord) → is_begun records (D.calls disk.old) ≡ true → is_begun records (D.calls disk.new) ≡ true }
-    ensures replayed { replay (D.calls disk.new) ≡ (if result.is_made then with_owner path.now (Some after) (replay (D.calls disk.old)) else replay (D.calls disk.old)) }
+        → is_lawful mark records (D.calls disk.old) ≡ true
+        → is_lawful mark records (D.calls disk.new) ≡ true }
+    ensures begun { (records : List PlanRecord) → is_begun records (D.calls disk.old) ≡ true
+        → is_begun records (D.calls disk.new) ≡ true }
+    ensures replayed { replay (D.calls disk.new)
+        ≡ (if result.is_made then with_owner path.now (Some after) (replay (D.calls disk.old))
+        else replay (D.calls disk.old)) }
     ensures whole { OnOk result.told (result.is_made ≡ true) }
 {
     let modes = match disk.give(path, before, after) {
@@ -65,12 +70,15 @@ pub fn give_file<D: Disk>(disk: &mut D, path: &[u8], before: Owner, after: Owner
     }
 }
 
-/// Sees that each record's file has its new owner, and sees to it that a stop of the machine leaves it so.
+/// Sees that each record's file has its new owner, and sees to it that a stop of the machine leaves
+/// it so.
 pub fn keep_all<D: Disk>(disk: &mut D, records: &[Record]) -> Result<(), Stop>
     ensures kept { OnOk result (all_kept (map record_of records.now) (D.calls disk.new) ≡ true) }
     ensures lawful { (mark : PlanMark) (plan : List PlanRecord)
-        → is_lawful mark plan (D.calls disk.old) ≡ true → is_lawful mark plan (D.calls disk.new) ≡ true }
-    ensures begun { (plan : List PlanRecord) → is_begun plan (D.calls disk.old) ≡ true → is_begun plan (D.calls disk.new) ≡ true }
+        → is_lawful mark plan (D.calls disk.old) ≡ true
+        → is_lawful mark plan (D.calls disk.new) ≡ true }
+    ensures begun { (plan : List PlanRecord) → is_begun plan (D.calls disk.old) ≡ true
+        → is_begun plan (D.calls disk.new) ≡ true }
     ensures replayed { replay (D.calls disk.new) ≡ replay (D.calls disk.old) }
 {
     for (i, planned) in records.iter().enumerate() {

@@ -24,6 +24,6 @@ pub use counting::{OwnerCounts, count_owners};
 pub use disk::Disk;
 pub use log::{Call, Log};
 pub use modes_file::MODES_BEHIND;
-pub use read_back::modes_are_read_back;
+pub use read_back::{marks_are_read_back, modes_are_read_back};
 pub use real_tree::RealTree;
 pub use root::Root;

@@ -17,7 +17,8 @@ impl Model for Log {
     ghost also_owns = { λ _. ftrue };
 }
 
-/// A call that was made, with what it was given; what it answered, or whether it succeeded, comes last.
+/// A call that was made, with what it was given; what it answered, or whether it succeeded, comes
+/// last.
 #[derive(Clone, Copy)]
 pub enum Call<'a> {
     /// The file of this path was looked at, and this was seen of it, if it is there.
@@ -34,7 +35,8 @@ pub enum Call<'a> {
     Kept(&'a [u8], Owner, bool),
     /// The mark of this plan was to be put.
     PutMark(&'a PlanMark, bool),
-    /// The mode was asked for that an earlier run of this plan had lost of a file, which has this owner now.
+    /// The mode was asked for that an earlier run of this plan had lost of a file, which has this
+    /// owner now.
     LostMode(&'a PlanMark, &'a [u8], Owner, Option<u32>),
     /// The modes that this run of the plan may lose were to be written down.
     PutModes(&'a PlanMark, bool),

@@ -1,5 +1,6 @@
 //! The files of a plan as they lie on a disk, before anything is changed.
-ghost use Rattle.std.specs.Prelude.{◌≡◌, ◌⊎◌, ◌∷◌, ℕ, true, List, Some, None, map, length, IfOk, OnOk};
+ghost use Rattle.std.specs.Prelude.{◌≡◌, ◌⊎◌, ◌∷◌, ℕ, true, List, Some, None, map, length, IfOk};
+ghost use Rattle.std.specs.Prelude.{OnOk};
 ghost use Rattle.reown_plan.specs.declared.mark.PlanMark.{PlanMark};
 ghost use Rattle.reown_plan.specs.PlanData.{PlanRecord, HaveDistinctPaths};
 ghost use Rattle.reown_plan.specs.Records.{record_of};
@@ -19,7 +20,8 @@ fn check_left(
     found: Option<Owner>,
     mark: bool,
 ) -> Result<Owner, OpenFault>
-    ensures either { IfOk result (λ owner. (owner ≡ planned.now.before) ⊎ (owner ≡ planned.now.after)) }
+    ensures either { IfOk result
+        (λ owner. (owner ≡ planned.now.before) ⊎ (owner ≡ planned.now.after)) }
     ensures finished { IfOk result (λ owner. mark ≡ true → owner ≡ planned.now.after) }
     ensures found { IfOk result (λ owner. found ≡ Some owner) }
 {
@@ -45,9 +47,11 @@ fn look_at<D: Disk>(
     planned: &Record,
     mark: bool,
 ) -> Result<Owner, OpenFault>
-    ensures either { IfOk result (λ owner. (owner ≡ planned.now.before) ⊎ (owner ≡ planned.now.after)) }
+    ensures either { IfOk result
+        (λ owner. (owner ≡ planned.now.before) ⊎ (owner ≡ planned.now.after)) }
     ensures finished { IfOk result (λ owner. mark ≡ true → owner ≡ planned.now.after) }
-    ensures met { IfOk result (λ owner. D.calls disk.new ≡ Met planned.now.path.now (Some owner) ∷ D.calls disk.old) }
+    ensures met { IfOk result
+        (λ owner. D.calls disk.new ≡ Met planned.now.path.now (Some owner) ∷ D.calls disk.old) }
 {
     match disk.meet(planned.path, planned.after) {
         Ok(found) => check_left(i, planned, found, mark),
@@ -65,12 +69,18 @@ pub fn look_at_all<D: Disk>(
     requires distinct { HaveDistinctPaths (map record_of records.now) }
     requires unmet { (path : List ℕ) → (replay (D.calls disk.old)).owner path ≡ None }
     ensures as_many { IfOk result (λ owners. length owners.items ≡ length records.now) }
-    ensures halfway { IfOk result (λ owners. AreHalfway (map record_of records.now) owners.items mark) }
-    ensures met { IfOk result (λ owners. (path : List ℕ) → (replay (D.calls disk.new)).owner path ≡ found_of (map record_of records.now) owners.items path) }
-    ensures mark { OnOk result ((replay (D.calls disk.new)).mark ≡ (replay (D.calls disk.old)).mark) }
-    ensures unchanged { OnOk result (is_unchanged (D.calls disk.old) ≡ true → is_unchanged (D.calls disk.new) ≡ true) }
+    ensures halfway { IfOk result
+        (λ owners. AreHalfway (map record_of records.now) owners.items mark) }
+    ensures met { IfOk result
+        (λ owners. (path : List ℕ) → (replay (D.calls disk.new)).owner path
+        ≡ found_of (map record_of records.now) owners.items path) }
+    ensures mark { OnOk result
+        ((replay (D.calls disk.new)).mark ≡ (replay (D.calls disk.old)).mark) }
+    ensures unchanged { OnOk result (is_unchanged (D.calls disk.old) ≡ true
+        → is_unchanged (D.calls disk.new) ≡ true) }
     ensures lawful { OnOk result ((mark : PlanMark) (plan : List PlanRecord)
-        → is_lawful mark plan (D.calls disk.old) ≡ true → is_lawful mark plan (D.calls disk.new) ≡ true) }
+        → is_lawful mark plan (D.calls disk.old) ≡ true
+        → is_lawful mark plan (D.calls disk.new) ≡ true) }
 {
     let mut owners = match Vec::with_capacity(alloc, records.len()) {
         Ok(owners) => owners,

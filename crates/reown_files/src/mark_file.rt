@@ -1,5 +1,6 @@
 //! The mark of a plan, as a file.
-ghost use Rattle.std.specs.Prelude.{◌≡◌, ◌++◌, ◌<◌, IfOk, OnOk};
+ghost use Rattle.std.specs.Prelude.{◌≡◌, ◌⊎◌, ◌++◌, ◌<◌, Some, None, IfOk, IfErr, OnOk};
+ghost use Rattle.reown_files.specs.declared.answers.Trouble.TheVariants.{Memory, NotMark};
 ghost use Rattle.reown_files.specs.MarkText as spec;
 
 use crate::Trouble;
@@ -49,7 +50,8 @@ fn push_digest(text: &mut Vec<u8>, digest: &[u8; 32]) -> Result<(), AllocError>
     Ok(())
 }
 
-/// Appends what a plan is known by, to the end of a line: its host, the length of its text, and the digest of that.
+/// Appends what a plan is known by, to the end of a line: its host, the length of its text, and the
+/// digest of that.
 pub fn push_plan(text: &mut Vec<u8>, plan: &PlanMark) -> Result<(), AllocError>
     ensures { OnOk result (text.new.items ≡ text.old.items ++ spec.plan_text plan.now) }
 {
@@ -70,6 +72,23 @@ fn mark_text(alloc: Global, plan: &PlanMark) -> Result<Vec<u8>, AllocError>
     Ok(text)
 }
 
+// Whether a text is the mark of this plan. A text that is no mark is refused; the mark of another
+// plan is none of this one.
+fn read_mark(alloc: Global, plan: &PlanMark, text: &[u8]) -> Result<bool, Trouble>
+    ensures read { IfOk result (λ is_own. spec.mark_read plan.now text.now ≡ Some is_own) }
+    ensures refused { IfErr result (λ trouble. (trouble ≡ Memory)
+        ⊎ ((trouble ≡ NotMark) × (spec.mark_read plan.now text.now ≡ None))) }
+{
+    if !text.starts_with(HEAD) {
+        return Err(Trouble::NotMark);
+    }
+    let own = match mark_text(alloc, plan) {
+        Ok(own) => own,
+        Err(_) => return Err(Trouble::Memory),
+    };
+    Ok(text == own.as_slice())
+}
+
 /// The file that tells that a plan was carried out, at a path of the administrator's.
 #[derive(Drop)]
 pub struct MarkFile<'w> {
@@ -83,17 +102,11 @@ impl<'w> MarkFile<'w> {
         MarkFile { rt, path }
     }
 
-    /// Whether it is there, and this plan's. A file that is no mark is refused; that of another plan is none of this one.
+    /// Whether it is there, and this plan's. A file that is no mark is refused; that of another
+    /// plan is none of this one.
     pub fn is_there(&self, plan: &PlanMark) -> Result<bool, Trouble> {
-        let text = mark_text(self.rt.alloc(), plan)?;
         match read_whole(self.rt, self.path.as_str(), MOST_BYTES) {
-            Ok(bytes) => {
-                if bytes.starts_with(HEAD) {
-                    Ok(bytes.as_slice() == text.as_slice())
-                } else {
-                    Err(Trouble::NotMark)
-                }
-            }
+            Ok(text) => read_mark(self.rt.alloc(), plan, &text),
             Err(error) => {
                 let trouble = trouble_of(&error);
                 if trouble == Trouble::Gone {

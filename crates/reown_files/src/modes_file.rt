@@ -1,6 +1,10 @@
-//! The modes that a run of a plan may lose, as a file beside the mark. A change of its owner clears the set-user-ID and the
-//! set-group-ID bit of a file (chown(2)), and the next call sets them back: this is for a stop between the two.
-ghost use Rattle.std.specs.Prelude.{ℕ, ◌≡◌, ◌<◌, ◌+◌, ◌++◌, ◌↔◌, Some, IfOk, IfSome, IsTrue, OnOk, false, map};
+//! The modes that a run of a plan may lose, as a file beside the mark. A change of its owner clears
+//! the set-user-ID and the set-group-ID bit of a file (chown(2)), and the next call sets them back:
+//! this is for a stop between the two.
+ghost use Rattle.std.specs.Prelude.{ℕ, ◌≡◌, ◌<◌, ◌+◌, ◌++◌, ◌↔◌, Some, IfOk, IfSome, IsTrue, OnOk};
+ghost use Rattle.std.specs.Prelude.{IfErr, None, false, map};
+ghost use Rattle.std.specs.Option.{option_copied};
+ghost use Rattle.reown_files.specs.declared.answers.Trouble.TheVariants.{NotModes};
 ghost use Rattle.reown_files.specs.OneFile.{HasLost};
 ghost use Rattle.idtext.specs.Escapes.{unescaped, has_bad_escape};
 ghost use Rattle.idtext.specs.Pieces.{lines as lines_of_text};
@@ -36,8 +40,8 @@ pub fn has_set_id(found: &Found) -> bool {
     found.kind == Kind::Regular && found.mode & SET_ID != 0
 }
 
-/// Whether a file lacks bits of this mode that a change of its owner clears. One whose mode differs otherwise was given that by
-/// somebody else.
+/// Whether a file lacks bits of this mode that a change of its owner clears. One whose mode differs
+/// otherwise was given that by somebody else.
 pub fn has_lost(found: &Found, mode: u32) -> bool
     ensures { IsTrue result ↔ HasLost found.now mode }
 {
@@ -121,7 +125,8 @@ fn mode_of(word: &[u8]) -> Option<u32>
 
 // The path of a line.
 fn path_of(alloc: Global, text: &[u8]) -> Result<Vec<u8>, Trouble>
-    ensures { IfOk result (λ path. (path.items ≡ unescaped text.now) × (has_bad_escape text.now ≡ false)) }
+    ensures { IfOk result
+        (λ path. (path.items ≡ unescaped text.now) × (has_bad_escape text.now ≡ false)) }
 {
     let mut path = Vec::new(alloc);
     let mut rest = text;
@@ -158,7 +163,8 @@ fn read_line(alloc: Global, line: &[u8]) -> Result<Noted, Trouble>
 
 // What the lines of files say.
 fn read_lines(alloc: Global, text: &[u8]) -> Result<Vec<Noted>, Trouble>
-    ensures { IfOk result (λ all. spec.lines_read (lines_of_text text.now) ≡ Some (map entry_of all.items)) }
+    ensures { IfOk result
+        (λ all. spec.lines_read (lines_of_text text.now) ≡ Some (map entry_of all.items)) }
 {
     let mut all = Vec::new(alloc);
     for line in Lines::new(text) {
@@ -180,18 +186,24 @@ fn tree_of(alloc: Global, all: Vec<Noted>) -> Result<BTreeMap<Vec<u8>, u32>, Tro
     Ok(modes)
 }
 
-// The lines of files in a text that is whole, where its first line is this one; none where it is another plan's.
-fn lines_of<'t>(text: &'t [u8], head: &[u8]) -> Result<Option<&'t [u8]>, Trouble> {
+// The lines of files in a text that is whole, where its first line is this one; none where it is
+// another plan's.
+fn lines_of<'t>(text: &'t [u8], head: &[u8]) -> Result<Option<&'t [u8]>, Trouble>
+    ensures lines { IfOk result
+        (λ lines. spec.lines_in head.now text.now ≡ Some (option_copied lines)) }
+    ensures refused { IfErr result
+        (λ trouble. (trouble ≡ NotModes) × (spec.lines_in head.now text.now ≡ None)) }
+{
     if !text.starts_with(HEAD) {
         return Err(Trouble::NotModes);
     }
-    let Some(text) = text.strip_suffix(END) else {
+    let Some(body) = text.strip_suffix(END) else {
         return Err(Trouble::NotModes);
     };
-    if !text.ends_with(b"\n") {
+    if !body.ends_with(b"\n") {
         return Err(Trouble::NotModes);
     }
-    Ok(text.strip_prefix(head))
+    Ok(body.strip_prefix(head))
 }
 
 // ---- the file
@@ -222,7 +234,8 @@ impl<'w> ModesFile<'w> {
         })
     }
 
-    /// Notes the mode of a file that is to be given an owner, where it is a regular one with a bit that this clears.
+    /// Notes the mode of a file that is to be given an owner, where it is a regular one with a bit
+    /// that this clears.
     pub fn meet(&mut self, path: &[u8], found: &Found) -> Result<(), Trouble> {
         if has_set_id(found) {
             push_line(&mut self.lines, path, found.mode)?;
@@ -244,8 +257,9 @@ impl<'w> ModesFile<'w> {
         Ok(())
     }
 
-    /// Reads what an earlier run of this plan wrote down, if one did; none is lost where its mark is there. A file that is cut, or
-    /// has no modes, is refused; that of another plan is none of this one's.
+    /// Reads what an earlier run of this plan wrote down, if one did; none is lost where its mark
+    /// is there. A file that is cut, or has no modes, is refused; that of another plan is none of
+    /// this one's.
     pub fn read(&mut self, plan: &PlanMark, mark: bool) -> Result<(), Trouble> {
         match read_whole(self.rt, self.path.as_str(), MOST_BYTES) {
             Ok(text) => self.read_text(plan, &text, mark),
@@ -276,7 +290,8 @@ impl<'w> ModesFile<'w> {
         }
     }
 
-    /// Puts there what this run of the plan may lose, whole and synced, or nothing where it may lose none.
+    /// Puts there what this run of the plan may lose, whole and synced, or nothing where it may
+    /// lose none.
     pub fn put(&mut self, plan: &PlanMark) -> Result<(), Trouble> {
         if self.lines.is_empty() {
             return self.remove();

@@ -1,9 +1,16 @@
 //! Laws over what this crate writes and reads. Each is the contract of a function that does
 //! nothing.
-ghost use Rattle.reown_files.specs.Laws.{ModesAreReadBack};
+ghost use Rattle.reown_files.specs.Laws.{MarksAreReadBack, ModesAreReadBack, ModesAreOfOnePlan};
 
-/// The modes that a run writes down are read back by the next one, each with its file and in their
-/// order.
+/// The mark that is written for a plan is read as the mark of that plan, and as that of no plan
+/// that differs from it in its host, its length or its digest.
+pub fn marks_are_read_back()
+    ensures { MarksAreReadBack }
+{}
+
+/// The modes that a run writes down are read back by the next one of the same plan, and by none of
+/// another, each with its file and in their order.
 pub fn modes_are_read_back()
-    ensures { ModesAreReadBack }
+    ensures plan { ModesAreOfOnePlan }
+    ensures entries { ModesAreReadBack }
 {}

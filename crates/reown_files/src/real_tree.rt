@@ -1,5 +1,6 @@
 //! A tree of real files, held against what the run of its plan must have made of it.
-ghost use Rattle.std.specs.Prelude.{◌≡◌, ◌+◌, ◌^◌, ◌<◌, ◌≤◌, [], true, false, Some, None, IfOk, OnOk, OnErr, IsSome, is_ok, map, length, if◌then◌else◌};
+ghost use Rattle.std.specs.Prelude.{◌≡◌, ◌+◌, ◌^◌, ◌<◌, ◌≤◌, [], true, false, Some, None, IfOk};
+ghost use Rattle.std.specs.Prelude.{OnOk, OnErr, IsSome, is_ok, map, length, if◌then◌else◌};
 
 use crate::giving::{give_file, has_change, keep_all};
 use crate::looking::{check_all_links, look_at_all};
@@ -10,10 +11,11 @@ use reown_runner::{DeviceFault, MemTree, Tree};
 use std::alloc::{AllocError, Global};
 use std::marker::Model;
 
-/// The files of a plan on a disk, held against what the run of the plan must have made of them: a call that finds anything
-/// else fails. Each read looks at the disk. Nothing is written but what the plan has, and the mark is set only where each file
-/// was seen at its new owner and synced behind the last write. A call takes a look-up by bisection and the calls of its disk; a
-/// sync is one pass over the plan.
+/// The files of a plan on a disk, held against what the run of the plan must have made of them: a
+/// call that finds anything else fails. Each read looks at the disk. Nothing is written but what
+/// the plan has, and the mark is set only where each file was seen at its new owner and synced
+/// behind the last write. A call takes a look-up by bisection and the calls of its disk; a sync is
+/// one pass over the plan.
 #[derive(Drop)]
 pub struct RealTree<'p, 'a, D: Disk> {
     mark: PlanMark,
@@ -60,7 +62,8 @@ ghost use Rattle.reown_runner.specs.Halfway.{AreHalfway, MayGoOn, mem_of_records
 ghost use Rattle.reown_plan.specs.PlanData.{HaveDistinctPaths};
 ghost use Rattle.reown_plan.specs.Records.{record_of};
 ghost use Rattle.reown_plan.specs.Mark.{mark_of, mark_eq, is_marked_for};
-ghost use Rattle.reown_runner.specs.Tree.{cells_of, ForEachPlan, counted, Same, Writes, SetsMark, Syncs, Stops, MayDo, Write, SetMark, Sync, IsCounted};
+ghost use Rattle.reown_runner.specs.Tree.{cells_of, ForEachPlan, counted, Same, Writes, SetsMark};
+ghost use Rattle.reown_runner.specs.Tree.{Syncs, Stops, MayDo, Write, SetMark, Sync, IsCounted};
 
 // The files of records at these owners, marked for the plan or for none.
 fn held_tree(
@@ -73,9 +76,12 @@ fn held_tree(
     requires distinct { HaveDistinctPaths (map record_of records.now) }
     requires as_many { length owners.now ≡ length records.now }
     requires halfway { AreHalfway (map record_of records.now) owners.now is_marked }
-    ensures paths { IfOk result (λ held. held.paths ≡ map (λ r. r.path) (map record_of records.now)) }
-    ensures starts { IfOk result (λ held. held ≡ mem_of_records (map record_of records.now) owners.now (if is_marked then Some mark else None)) }
-    ensures safe { IfOk result (λ held. MayGoOn (map record_of records.now) (cells_of mark (known_mem held))) }
+    ensures paths { IfOk result
+        (λ held. held.paths ≡ map (λ r. r.path) (map record_of records.now)) }
+    ensures starts { IfOk result (λ held. held ≡ mem_of_records
+        (map record_of records.now) owners.now (if is_marked then Some mark else None)) }
+    ensures safe { IfOk result
+        (λ held. MayGoOn (map record_of records.now) (cells_of mark (known_mem held))) }
 {
     if is_marked {
         MemTree::of_records(alloc, records, owners, Some(mark))
@@ -85,20 +91,23 @@ fn held_tree(
 }
 
 impl<'p, 'a, D: Disk> RealTree<'p, 'a, D> {
-    /// Opens the files of a plan on a disk, as an earlier run of the plan may have left them, or none. What such a run did is
-    /// synced first, so that a stop of the machine leaves it; what modes it lost are set back; and those that this one may lose
-    /// are written down. Three passes over the plan.
+    /// Opens the files of a plan on a disk, as an earlier run of the plan may have left them, or
+    /// none. What such a run did is synced first, so that a stop of the machine leaves it; what
+    /// modes it lost are set back; and those that this one may lose are written down. Three passes
+    /// over the plan.
     ///
     /// # Errors
     ///
-    /// The first record, in order, whose file is not there, or has neither its old nor its new owner, or its old one where the
-    /// mark is set; then the first whose file has a name that is not in the plan; modes of an earlier run that cannot be read; a
-    /// call of the disk that failed; or want of memory. Nothing is changed then but modes that were set back.
+    /// The first record, in order, whose file is not there, or has neither its old nor its new
+    /// owner, or its old one where the mark is set; then the first whose file has a name that is
+    /// not in the plan; modes of an earlier run that cannot be read; a call of the disk that
+    /// failed; or want of memory. Nothing is changed then but modes that were set back.
     pub fn open(alloc: Global, plan: &'p Plan<'a>, mut disk: D) -> Result<Self, OpenFault>
         requires { D.calls disk ≡ [] }
         ensures mark { IfOk result (λ tree. tree.mark ≡ mark_of plan.now) }
         ensures records { IfOk result (λ tree. tree.records ≡ plan.now.records) }
-        ensures safe { IfOk result (λ tree. MayGoOn plan.now.records (cells_of (mark_of plan.now) (known_real tree))) }
+        ensures safe { IfOk result
+            (λ tree. MayGoOn plan.now.records (cells_of (mark_of plan.now) (known_real tree))) }
         ensures none_failed { IfOk result (λ tree. (tree.faults ≡ 0) × (tree.asked ≡ 0)) }
     {
         let mark = plan.mark();
@@ -196,7 +205,8 @@ impl<'p, 'a, D: Disk> RealTree<'p, 'a, D> {
     fn write(&mut self, path: &[u8], owner: Owner)
         requires there { IsSome ((known_mem self.old.tree).owner path.now) }
         requires last { 2 ^ 64 ≤ self.old.faults + 1 }
-        ensures done { ForEachPlan (Writes path.now owner) (known_mem self.old.tree) (known_mem self.new.tree) }
+        ensures done { ForEachPlan (Writes path.now owner)
+            (known_mem self.old.tree) (known_mem self.new.tree) }
         ensures rest { self.new ≡ record self.old { tree = self.new.tree } }
     {
         self.held.set_owner(path, owner).unwrap()
@@ -205,7 +215,9 @@ impl<'p, 'a, D: Disk> RealTree<'p, 'a, D> {
     // Holds the mark where no call has put it, in the same case.
     fn write_mark(&mut self, plan: &PlanMark)
         requires { 2 ^ 64 ≤ self.old.faults + 1 }
-        ensures done { SetsMark (cells_of plan.now (known_mem self.old.tree)) (cells_of plan.now (known_mem self.new.tree)) }
+        ensures done { SetsMark
+            (cells_of plan.now (known_mem self.old.tree))
+            (cells_of plan.now (known_mem self.new.tree)) }
         ensures rest { self.new ≡ record self.old { tree = marked plan.now self.old.tree } }
     {
         self.held.set_mark(plan).unwrap()
@@ -279,9 +291,15 @@ impl<'p, 'a, D: Disk> RealTree<'p, 'a, D> {
     fn give_planned(&mut self, path: &[u8], before: Owner, after: Owner) -> Result<(), Trouble>
         requires planned { is_planned self.old.records path.now before after ≡ true }
         requires there { IsSome ((known_mem self.old.tree).owner path.now) }
-        ensures done { OnOk result (ForEachPlan (Writes path.now after) (known_mem self.old.tree) (known_mem self.new.tree)) }
-        ensures failed { OnErr result (ForEachPlan (MayDo (Write path.now after)) (known_mem self.old.tree) (known_mem self.new.tree)) }
-        ensures rest { self.new ≡ record self.old { tree = self.new.tree; is_kept = self.new.is_kept; calls = self.new.calls } }
+        ensures done { OnOk result (ForEachPlan (Writes path.now after)
+            (known_mem self.old.tree) (known_mem self.new.tree)) }
+        ensures failed { OnErr result (ForEachPlan (MayDo (Write path.now after))
+            (known_mem self.old.tree) (known_mem self.new.tree)) }
+        ensures rest { self.new ≡ record self.old {
+          tree = self.new.tree;
+          is_kept = self.new.is_kept;
+          calls = self.new.calls;
+        } }
     {
         self.is_kept = false;
         let change = give_file(&mut self.disk, path, before, after);
@@ -294,9 +312,15 @@ impl<'p, 'a, D: Disk> RealTree<'p, 'a, D> {
     // Makes a change, where the plan has it.
     fn give(&mut self, path: &[u8], before: Option<Owner>, after: Owner) -> Result<(), Trouble>
         requires { before ≡ (known_mem self.old.tree).owner path.now }
-        ensures done { OnOk result (ForEachPlan (Writes path.now after) (known_mem self.old.tree) (known_mem self.new.tree)) }
-        ensures failed { OnErr result (ForEachPlan (MayDo (Write path.now after)) (known_mem self.old.tree) (known_mem self.new.tree)) }
-        ensures rest { self.new ≡ record self.old { tree = self.new.tree; is_kept = self.new.is_kept; calls = self.new.calls } }
+        ensures done { OnOk result (ForEachPlan (Writes path.now after)
+            (known_mem self.old.tree) (known_mem self.new.tree)) }
+        ensures failed { OnErr result (ForEachPlan (MayDo (Write path.now after))
+            (known_mem self.old.tree) (known_mem self.new.tree)) }
+        ensures rest { self.new ≡ record self.old {
+          tree = self.new.tree;
+          is_kept = self.new.is_kept;
+          calls = self.new.calls;
+        } }
     {
         let Some(before) = before else {
             return Err(Trouble::Gone);
@@ -312,24 +336,33 @@ impl<'p, 'a, D: Disk> RealTree<'p, 'a, D> {
 
     fn gives(&mut self, path: &[u8], before: Option<Owner>, after: Owner) -> bool
         requires { before ≡ (known_mem self.old.tree).owner path.now }
-        ensures done { result ≡ true → ForEachPlan (Writes path.now after) (known_mem self.old.tree) (known_mem self.new.tree) }
-        ensures failed { result ≡ false → ForEachPlan (MayDo (Write path.now after)) (known_mem self.old.tree) (known_mem self.new.tree) }
-        ensures rest { self.new ≡ record self.old { tree = self.new.tree; is_kept = self.new.is_kept; calls = self.new.calls } }
+        ensures done { result ≡ true → ForEachPlan (Writes path.now after)
+            (known_mem self.old.tree) (known_mem self.new.tree) }
+        ensures failed { result ≡ false → ForEachPlan (MayDo (Write path.now after))
+            (known_mem self.old.tree) (known_mem self.new.tree) }
+        ensures rest { self.new ≡ record self.old {
+          tree = self.new.tree;
+          is_kept = self.new.is_kept;
+          calls = self.new.calls;
+        } }
     {
         let told = self.give(path, before, after);
         let place = self.held.index_of(path);
         self.note(place, told)
     }
 
-    // Each file was seen at its new owner and synced behind the last write; and so the mark, where it is held.
+    // Each file was seen at its new owner and synced behind the last write; and so the mark, where
+    // it is held.
     fn keeps(&mut self, mark: bool) -> bool
-        ensures { self.new ≡ record self.old { is_kept = self.new.is_kept; calls = self.new.calls } }
+        ensures { self.new
+            ≡ record self.old { is_kept = self.new.is_kept; calls = self.new.calls } }
     {
         self.keeps_files() && self.keeps_mark(mark)
     }
 
     fn keeps_files(&mut self) -> bool
-        ensures { self.new ≡ record self.old { is_kept = self.new.is_kept; calls = self.new.calls } }
+        ensures { self.new
+            ≡ record self.old { is_kept = self.new.is_kept; calls = self.new.calls } }
     {
         if self.is_stopped {
             return false;
@@ -342,7 +375,8 @@ impl<'p, 'a, D: Disk> RealTree<'p, 'a, D> {
     }
 
     fn keeps_each(&mut self) -> bool
-        ensures { self.new ≡ record self.old { is_kept = self.new.is_kept; calls = self.new.calls } }
+        ensures { self.new
+            ≡ record self.old { is_kept = self.new.is_kept; calls = self.new.calls } }
     {
         self.is_kept = false;
         match keep_all(&mut self.disk, self.records) {
@@ -386,7 +420,9 @@ impl<'p, 'a, D: Disk> RealTree<'p, 'a, D> {
     // Puts the mark of the plan, where each file was kept behind the last write. One that was put
     // is held.
     fn put_mark(&mut self, plan: &PlanMark) -> Result<(), Trouble>
-        ensures done { OnOk result (SetsMark (cells_of plan.now (known_mem self.old.tree)) (cells_of plan.now (known_mem self.new.tree))) }
+        ensures done { OnOk result (SetsMark
+            (cells_of plan.now (known_mem self.old.tree))
+            (cells_of plan.now (known_mem self.new.tree))) }
         ensures failed { OnErr result (self.new.tree ≡ self.old.tree) }
         ensures rest { self.new ≡ record self.old { tree = self.new.tree; calls = self.new.calls } }
     {
@@ -409,7 +445,9 @@ impl<'p, 'a, D: Disk> RealTree<'p, 'a, D> {
     }
 
     fn puts_mark(&mut self, plan: &PlanMark) -> bool
-        ensures done { result ≡ true → SetsMark (cells_of plan.now (known_mem self.old.tree)) (cells_of plan.now (known_mem self.new.tree)) }
+        ensures done { result ≡ true → SetsMark
+            (cells_of plan.now (known_mem self.old.tree))
+            (cells_of plan.now (known_mem self.new.tree)) }
         ensures failed { result ≡ false → self.new.tree ≡ self.old.tree }
         ensures rest { self.new ≡ record self.old { tree = self.new.tree; calls = self.new.calls } }
     {
@@ -431,7 +469,8 @@ impl<'p, 'a, D: Disk> Tree for RealTree<'p, 'a, D> {
     fn owner(&mut self, path: &[u8]) -> Result<Option<Owner>, DeviceFault>
         ensures answer { IfOk result (λ owner. owner ≡ (known_real self.old).owner path.now) }
         ensures same { ForEachPlan Same (known_real self.old) (known_real self.new) }
-        ensures faults { IsCounted (known_real self.old).faults (known_real self.new).faults result }
+        ensures faults { IsCounted
+            (known_real self.old).faults (known_real self.new).faults result }
         ensures asked { (known_real self.new).asked ≡ (known_real self.old).asked }
         ensures records { self.new.records ≡ self.old.records }
     {
@@ -445,9 +484,12 @@ impl<'p, 'a, D: Disk> Tree for RealTree<'p, 'a, D> {
 
     fn set_owner(&mut self, path: &[u8], owner: Owner) -> Result<(), DeviceFault>
         requires { IsSome ((known_real self.old).owner path.now) }
-        ensures done { OnOk result (ForEachPlan (Writes path.now owner) (known_real self.old) (known_real self.new)) }
-        ensures failed { OnErr result (ForEachPlan (MayDo (Write path.now owner)) (known_real self.old) (known_real self.new)) }
-        ensures faults { IsCounted (known_real self.old).faults (known_real self.new).faults result }
+        ensures done { OnOk result (ForEachPlan (Writes path.now owner)
+            (known_real self.old) (known_real self.new)) }
+        ensures failed { OnErr result (ForEachPlan (MayDo (Write path.now owner))
+            (known_real self.old) (known_real self.new)) }
+        ensures faults { IsCounted
+            (known_real self.old).faults (known_real self.new).faults result }
         ensures asked { (known_real self.new).asked ≡ counted (known_real self.old).asked }
         ensures records { self.new.records ≡ self.old.records }
     {
@@ -464,9 +506,11 @@ impl<'p, 'a, D: Disk> Tree for RealTree<'p, 'a, D> {
     }
 
     fn is_marked(&mut self, plan: &PlanMark) -> Result<bool, DeviceFault>
-        ensures answer { IfOk result (λ set. set ≡ is_marked_for plan.now (known_real self.old).mark) }
+        ensures answer { IfOk result
+            (λ set. set ≡ is_marked_for plan.now (known_real self.old).mark) }
         ensures same { ForEachPlan Same (known_real self.old) (known_real self.new) }
-        ensures faults { IsCounted (known_real self.old).faults (known_real self.new).faults result }
+        ensures faults { IsCounted
+            (known_real self.old).faults (known_real self.new).faults result }
         ensures asked { (known_real self.new).asked ≡ (known_real self.old).asked }
         ensures records { self.new.records ≡ self.old.records }
     {
@@ -479,9 +523,14 @@ impl<'p, 'a, D: Disk> Tree for RealTree<'p, 'a, D> {
     }
 
     fn set_mark(&mut self, plan: &PlanMark) -> Result<(), DeviceFault>
-        ensures done { OnOk result (SetsMark (cells_of plan.now (known_real self.old)) (cells_of plan.now (known_real self.new))) }
-        ensures failed { OnErr result (MayDo SetMark (cells_of plan.now (known_real self.old)) (cells_of plan.now (known_real self.new))) }
-        ensures faults { IsCounted (known_real self.old).faults (known_real self.new).faults result }
+        ensures done { OnOk result (SetsMark
+            (cells_of plan.now (known_real self.old))
+            (cells_of plan.now (known_real self.new))) }
+        ensures failed { OnErr result (MayDo SetMark
+            (cells_of plan.now (known_real self.old))
+            (cells_of plan.now (known_real self.new))) }
+        ensures faults { IsCounted
+            (known_real self.old).faults (known_real self.new).faults result }
         ensures asked { (known_real self.new).asked ≡ counted (known_real self.old).asked }
         ensures records { self.new.records ≡ self.old.records }
     {
@@ -498,8 +547,10 @@ impl<'p, 'a, D: Disk> Tree for RealTree<'p, 'a, D> {
 
     fn sync(&mut self) -> Result<(), DeviceFault>
         ensures done { OnOk result (ForEachPlan Syncs (known_real self.old) (known_real self.new)) }
-        ensures failed { OnErr result (ForEachPlan (MayDo Sync) (known_real self.old) (known_real self.new)) }
-        ensures faults { IsCounted (known_real self.old).faults (known_real self.new).faults result }
+        ensures failed { OnErr result
+            (ForEachPlan (MayDo Sync) (known_real self.old) (known_real self.new)) }
+        ensures faults { IsCounted
+            (known_real self.old).faults (known_real self.new).faults result }
         ensures asked { (known_real self.new).asked ≡ counted (known_real self.old).asked }
         ensures records { self.new.records ≡ self.old.records }
     {

@@ -1,5 +1,5 @@
-//! The modes of a plan's files around its run: those that an earlier run lost are set back, and those that this one may lose are
-//! written down.
+//! The modes of a plan's files around its run: those that an earlier run lost are set back, and
+//! those that this one may lose are written down.
 ghost use Rattle.std.specs.Prelude.{◌≡◌, ◌∷◌, ◌++◌, [], true, List, map, OnOk};
 ghost use Rattle.std.specs.List.{list_any};
 ghost use Rattle.reown_plan.specs.PlanData.{PlanRecord};
@@ -12,11 +12,17 @@ use reown_plan::{PlanMark, Record};
 
 // Sets the mode of a record's file back, where an earlier run had lost it.
 fn set_back<D: Disk>(disk: &mut D, plan: &PlanMark, planned: &Record) -> Result<(), Trouble>
-    ensures asked { OnOk result ((before : List PlanRecord) → all_asked before (D.calls disk.old) ≡ true
+    ensures asked { OnOk result ((before : List PlanRecord)
+        → all_asked before (D.calls disk.old) ≡ true
         → all_asked (before ++ record_of planned.now ∷ []) (D.calls disk.new) ≡ true) }
-    ensures unchanged { is_unchanged (D.calls disk.old) ≡ true → is_unchanged (D.calls disk.new) ≡ true }
-    ensures lawful { (records : List PlanRecord) → list_any (is_given (record_of planned.now).path (record_of planned.now).after) records ≡ true
-        → is_unchanged (D.calls disk.old) ≡ true → is_lawful plan.now records (D.calls disk.old) ≡ true → is_lawful plan.now records (D.calls disk.new) ≡ true }
+    ensures unchanged { is_unchanged (D.calls disk.old) ≡ true
+        → is_unchanged (D.calls disk.new) ≡ true }
+    ensures lawful { (records : List PlanRecord)
+        → list_any (is_given (record_of planned.now).path (record_of planned.now).after) records
+        ≡ true
+        → is_unchanged (D.calls disk.old) ≡ true
+        → is_lawful plan.now records (D.calls disk.old) ≡ true
+        → is_lawful plan.now records (D.calls disk.new) ≡ true }
     ensures replayed { replay (D.calls disk.new) ≡ replay (D.calls disk.old) }
 {
     let lost = match disk.lost_mode(plan, planned.path, planned.after) {
@@ -50,8 +56,8 @@ fn set_all_back<D: Disk>(disk: &mut D, plan: &PlanMark, records: &[Record]) -> R
     Ok(())
 }
 
-/// Sets back each mode that an earlier run of the plan had lost, if its mark is not there yet, and writes down those that this
-/// one may lose.
+/// Sets back each mode that an earlier run of the plan had lost, if its mark is not there yet, and
+/// writes down those that this one may lose.
 pub fn begin<D: Disk>(
     disk: &mut D,
     plan: &PlanMark,

@@ -9,7 +9,7 @@ use crate::way::Way;
 use crate::whole_file::path_from;
 use crate::{Call, Disk, Log, Modes, Seen, Trouble};
 use reown_plan::{Owner, PlanMark};
-use std::collections::{HashMap, HashSet};
+use std::collections::{BTreeMap, BTreeSet};
 
 // The names of a file that has several.
 #[derive(Clone, Copy, Debug)]
@@ -29,9 +29,10 @@ struct Below<'w> {
     way: Way<'w>,
     // Whether a sync of the root keeps all that was changed before.
     has_one_journal: bool,
-    names: HashMap<(u64, u64), Names>,
-    // The paths of the files that have several names.
-    linked: HashSet<Vec<u8>>,
+    // The files that have several names, by device and inode.
+    names: BTreeMap<(u64, u64), Names>,
+    // The paths of these files.
+    linked: BTreeSet<Vec<u8>>,
 }
 
 // Whether a file may have several names that are given.
@@ -93,7 +94,8 @@ impl<'w> Below<'w> {
         }
     }
 
-    // A file with several names is given its owner once, with the last of them: until then none of them has it.
+    // A file with several names is given its owner once, with the last of them: until then none of
+    // them has it.
     fn waits_for_names(&mut self, found: &Found) -> bool {
         if !has_names(found) {
             return false;
@@ -107,8 +109,8 @@ impl<'w> Below<'w> {
         }
     }
 
-    // Waits until what a name stands for has reached its device. Links and the like wait for `settle`, and all files where
-    // there is one journal.
+    // Waits until what a name stands for has reached its device. Links and the like wait for
+    // `settle`, and all files where there is one journal.
     fn sync(&self, name: &[u8], found: &Found) -> Result<(), Trouble> {
         if self.has_one_journal || found.kind == Kind::Other {
             return Ok(());
@@ -116,7 +118,8 @@ impl<'w> Below<'w> {
         open(self.rt, name, found)?.sync()
     }
 
-    // Gives what a name stands for another owner. A regular file or a directory is looked at again when it is open.
+    // Gives what a name stands for another owner. A regular file or a directory is looked at again
+    // when it is open.
     fn give_found(&self, name: &[u8], found: &Found, after: Owner) -> Result<(), Trouble> {
         if found.kind == Kind::Other {
             return give_by_name(self.rt, name, after);
@@ -189,9 +192,15 @@ impl<'w> Below<'w> {
     }
 }
 
-/// The files below a directory of the system, with the mark in a file of its own. A path goes down from the directory part by
-/// part, with the working directory of the process: no link is followed, no other file system entered, and no link, socket, pipe
-/// or device opened. Other processes that open the same directory so are kept from it while this one has it.
+/// The files below a directory of the system, with the mark in a file of its own. A path goes down
+/// from the directory part by part, with the working directory of the process: no link is followed,
+/// no other file system entered, and no link, socket, pipe or device opened. Other processes that
+/// open the same directory so are kept from it while this one has it.
+///
+/// A call goes down from the directory of the call before, where that is on its way, with a few
+/// calls of the system for each part. Whoever makes a file chooses its path, so files with several
+/// names and modes that were written down stand in search trees: a look-up takes one or two
+/// comparisons for each binary digit of their number, whatever the paths are. Their paths are kept.
 #[derive(Drop)]
 pub struct Root<'w> {
     below: Below<'w>,
@@ -205,11 +214,13 @@ pub struct Root<'w> {
 }
 
 impl<'w> Root<'w> {
-    /// The files below the directory at a path, and the mark at another. Nothing is looked at as yet but the directory.
+    /// The files below the directory at a path, and the mark at another. Nothing is looked at as
+    /// yet but the directory.
     ///
     /// # Errors
     ///
-    /// What is in the way: a directory that is none or cannot be opened, or is another process's; or no /proc.
+    /// What is in the way: a directory that is none or cannot be opened, or is another process's;
+    /// or no /proc.
     pub fn open(rt: &'w HostRuntime, path: &str, mark: &str) -> Result<Root<'w>, Trouble>
         ensures { IfOk result (λ root. root.log.calls ≡ []) }
     {
@@ -221,8 +232,8 @@ impl<'w> Root<'w> {
             rt,
             way: Way::from(rt, root)?,
             has_one_journal: false,
-            names: HashMap::new(rt.alloc()),
-            linked: HashSet::new(rt.alloc()),
+            names: BTreeMap::new(rt.alloc()),
+            linked: BTreeSet::new(rt.alloc()),
         };
         Ok(Root {
             below,
@@ -234,8 +245,8 @@ impl<'w> Root<'w> {
         })
     }
 
-    /// Leaves it to `settle` to see that changes have reached the device: for a file system with one journal, on which a sync of
-    /// one file keeps all that was changed before.
+    /// Leaves it to `settle` to see that changes have reached the device: for a file system with
+    /// one journal, on which a sync of one file keeps all that was changed before.
     pub fn trust_one_journal(&mut self)
         ensures { self.new.log.calls ≡ self.old.log.calls }
     {

@@ -200,8 +200,9 @@ impl Directory {
         }
     }
 
-    /// Waits until the directory has reached its device, and on a file system with one journal all that was changed before. Its
-    /// time of change is set first, so that there is something to wait for.
+    /// Waits until the directory has reached its device, and on a file system with one journal all
+    /// that was changed before. Its time of change is set first, so that there is something to wait
+    /// for.
     pub fn settle(&self) -> Result<(), Trouble> {
         done(fchown(&self.file.file, None, None))?;
         self.file.sync()
@@ -237,8 +238,8 @@ pub fn go_to(rt: &HostRuntime, path: &str, wanted: &Found) -> Result<(), Trouble
     Ok(())
 }
 
-/// Makes the directory of a name the working directory, if it is on this device. A link is refused: one that came behind the
-/// look is followed, to a directory alone, and then told and refused.
+/// Makes the directory of a name the working directory, if it is on this device. A link is refused:
+/// one that came behind the look is followed, to a directory alone, and then told and refused.
 pub fn go_below(rt: &HostRuntime, name: &[u8], device: u64) -> Result<(), Trouble> {
     let seen = find(rt, name)?;
     if seen.kind != Kind::Directory {
@@ -261,8 +262,8 @@ fn open_as(rt: &HostRuntime, name: &str, kind: Kind) -> Result<OpenFile, Trouble
     Ok(OpenFile { file })
 }
 
-/// Opens the regular file or the directory that was seen under a name, for reading, where it has the owner that was seen. A link
-/// that came in between is followed, and then told and refused.
+/// Opens the regular file or the directory that was seen under a name, for reading, where it has
+/// the owner that was seen. A link that came in between is followed, and then told and refused.
 pub fn open(rt: &HostRuntime, name: &[u8], seen: &Found) -> Result<OpenFile, Trouble> {
     let file = open_as(rt, text_of(name)?, seen.kind)?;
     let now = file.itself()?;

@@ -1,5 +1,5 @@
-//! The way from a root to the directories below it. The working directory of the process goes there, part by part, and no link
-//! is followed.
+//! The way from a root to the directories below it. The working directory of the process goes
+//! there, part by part, and no link is followed.
 
 use crate::Trouble;
 use crate::walk::{Directory, go_below, go_to};
@@ -39,7 +39,8 @@ fn rest_below<'b>(path: &'b [u8], directory: &[u8]) -> Option<&'b [u8]> {
 }
 
 impl<'w> Way<'w> {
-    /// The way from a directory. The working directory is what it was until the first name is looked for.
+    /// The way from a directory. The working directory is what it was until the first name is
+    /// looked for.
     pub fn from(rt: &'w HostRuntime, root: Directory) -> Result<Way<'w>, Trouble> {
         let back = root.way_to(rt)?;
         if !root.is_at(rt, back.as_str()) {
@@ -92,7 +93,8 @@ impl<'w> Way<'w> {
         Ok(())
     }
 
-    /// Makes the directory that a path's last part is in the working directory, and hands out that part.
+    /// Makes the directory that a path's last part is in the working directory, and hands out that
+    /// part.
     pub fn enter<'b>(&mut self, path: &'b [u8]) -> Result<&'b [u8], Trouble> {
         let (parent, name) = split_name(path);
         if !is_name(name) && path != b".".as_slice() {

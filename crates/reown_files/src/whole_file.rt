@@ -45,7 +45,8 @@ pub fn path_from(rt: &HostRuntime, from: &Directory, path: &str) -> Result<Strin
     Ok(whole)
 }
 
-/// Puts a text at a path, whole or not at all: it is written under another name, synced, and renamed.
+/// Puts a text at a path, whole or not at all: it is written under another name, synced, and
+/// renamed.
 pub fn put_whole(rt: &HostRuntime, path: &str, text: &[u8]) -> Result<(), Trouble> {
     let new = path_with(rt, path, NEW)?;
     done(write(rt, new.as_str(), text))?;
