@@ -1,5 +1,5 @@
 -- The lines of a map text and of a pins text.
--- Source: this product's own formats.
+-- Source: this project's own formats.
 use Rattle.std.specs.Prelude.{ℕ, List, [], ◌∷◌, Option, Some, None, if◌then◌else◌, drop, codes}
 use Rattle.idtext.specs.Names.{is_lawful_name, is_skipped}
 use Rattle.idtext.specs.Numbers.{id_of}

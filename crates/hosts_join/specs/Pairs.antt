@@ -1,5 +1,5 @@
 -- Names with their numbers, in the order of their lines, as a map text and a pins text have them.
--- Source: this product's own formats.
+-- Source: this project's own formats.
 use Rattle.std.specs.Prelude.{ℕ, List, Option, option_map, find, bytes_eq}
 use Rattle.hosts_join.specs.Accounts.{Pair}
 

@@ -1,5 +1,5 @@
 -- The pins text: its pairs, or its first fault.
--- Source: this product's own formats.
+-- Source: this project's own formats.
 use Rattle.std.specs.Prelude.{ℕ, Bool, true, false, not, ◌&&◌, ◌==◌, List, [], length, Option, Some}
 use Rattle.std.specs.Prelude.{None, is_some, Result, if◌then◌else◌, flat_map, nat_lt}
 use Rattle.std.specs.List.{list_any}

@@ -1,5 +1,5 @@
 -- Laws of what a keep text says.
--- Source: this product's own formats.
+-- Source: this project's own formats.
 use Rattle.std.specs.Prelude.{◌≡◌, ◌≤◌, ◌↔◌, ℕ, true, List, Some, Ok, slice_get}
 use Rattle.std.specs.List.{All}
 use Rattle.idtext.specs.Names.{is_lawful_name}

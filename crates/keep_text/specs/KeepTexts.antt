@@ -1,5 +1,5 @@
 -- The keep text: what stays as it is on each host, or its first fault.
--- Source: this product's own formats.
+-- Source: this project's own formats.
 use Rattle.std.specs.Prelude.{ℕ, Bool, true, false, not, List, [], ◌∷◌, length, flat_map}
 use Rattle.std.specs.Prelude.{Option, Some, None, Result, bytes_eq, if◌then◌else◌}
 use Rattle.std.specs.List.{list_any}

@@ -1,4 +1,4 @@
-//! The lines of a keep text. The format is this product's own.
+//! The lines of a keep text. The format is this project's own.
 
 ghost use Rattle.std.specs.Prelude.{◌≡◌};
 ghost use Rattle.idtext.specs.Spaces.{cut_at_last_space};

@@ -7,8 +7,8 @@ pub fn keeps_are_lawful()
     ensures { ReadKeepsAreLawful }
 {}
 
-/// A number lies in a range that a keep text lists for users, or for groups, exactly where a line of
-/// the text lists for them a range that has it.
+/// A number lies in a range that a keep text lists for users, or for groups, exactly where a line
+/// of the text lists for them a range that has it.
 pub fn ranges_are_listed()
     ensures { RangesAreListed }
 {}

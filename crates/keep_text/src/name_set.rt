@@ -43,7 +43,8 @@ impl<'a> NameSet<'a> {
     }
 
     /// Adds a name behind the others, and answers whether it is new; else nothing changes. Two
-    /// look-ups by hash, and one entry. `AllocError` where a growth was refused; the names then stay.
+    /// look-ups by hash, and one entry. `AllocError` where a growth was refused; the names then
+    /// stay.
     pub fn add(&mut self, name: &'a [u8]) -> Result<bool, AllocError>
         ensures err { OnErr result (self.new ≡ self.old) }
         ensures new { IfOk result (λ new. new ≡ not (list_any (bytes_eq name.now) self.old)) }

@@ -95,7 +95,8 @@ SparedAreReserved = (keep : KeepText) (hosts : List Host) (unowned : List Unowne
     × (keep.groups.unowned ≡ false → spares_group (without_kept keep hosts host) number ≡ true
     → is_reserved (reserved_groups keep hosts unowned) number ≡ true)
 
--- a number that a host's table names is named so by what is left of the table, or the host spares it
+-- a number that a host's table names is named so by what is left of the table, or the host spares
+-- it
 abbrev pub NamedAreLeftOrSpared : Type 0
 NamedAreLeftOrSpared = (keep : KeepText) (hosts : List Host) (host : Host) (number : ℕ)
     (named : List ℕ) → number ≤ 4294967295
