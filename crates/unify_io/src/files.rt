@@ -15,7 +15,8 @@ use std::{fs, io};
 /// The most bytes that an input file may have.
 pub const MOST_BYTES: u64 = 4294967295;
 
-/// Why a command with words has no answer. It owns nothing, so that a function that can fail lets nothing go with it.
+/// Why a command with words has no answer. It owns nothing, so that a function that can fail lets
+/// nothing go with it.
 #[derive(Clone, Copy)]
 pub enum FileFault {
     /// A growth was refused, which is still to be told.
@@ -36,11 +37,19 @@ impl<T: Drop> From<AllocFailed<T>> for FileFault {
     }
 }
 
-// The bytes of a file, unless it cannot be read or has too many.
-fn read_bytes(rt: &HostRuntime, path: &str) -> io::Result<Vec<u8>> {
+/// What a call on a file gave, or its failure, which is told.
+pub fn or_told<T: Drop>(rt: &HostRuntime, path: &str, done: io::Result<T>) -> Result<T, FileFault> {
+    match done {
+        Ok(value) => Ok(value),
+        Err(error) => Err(file_failed(rt, path, &error)),
+    }
+}
+
+/// The first bytes of a file, so many of them at most.
+pub fn read_start(rt: &HostRuntime, path: &str, most: u64) -> io::Result<Vec<u8>> {
     let file = File::open(rt, path)?;
     let mut bytes = Vec::new(rt.alloc());
-    file.take(MOST_BYTES + 1).read_to_end(&mut bytes)?;
+    file.take(most).read_to_end(&mut bytes)?;
     Ok(bytes)
 }
 
@@ -51,25 +60,25 @@ pub fn too_large() -> io::Error {
 
 /// The text of the file at a path.
 pub fn read_file(rt: &HostRuntime, path: &str) -> Result<ByteString, FileFault> {
-    match read_bytes(rt, path) {
-        Ok(bytes) => {
-            if bytes.len() as u64 > MOST_BYTES {
-                return Err(file_failed(rt, path, &too_large()));
-            }
-            Ok(ByteString::from_vec(bytes))
-        }
-        Err(error) => Err(file_failed(rt, path, &error)),
+    let bytes = or_told(rt, path, read_start(rt, path, MOST_BYTES + 1))?;
+    if bytes.len() as u64 > MOST_BYTES {
+        return Err(file_failed(rt, path, &too_large()));
     }
+    Ok(ByteString::from_vec(bytes))
 }
 
-// The text of a file in a host's directory.
-fn read_host_file(rt: &HostRuntime, directory: &str, file: &str) -> Result<ByteString, FileFault> {
-    let path = Path::new(directory).join(rt.alloc(), file)?;
+/// The text of a file in a directory.
+pub fn read_file_in(
+    rt: &HostRuntime,
+    directory: &str,
+    name: &str,
+) -> Result<ByteString, FileFault> {
+    let path = Path::new(directory).join(rt.alloc(), name)?;
     read_file(rt, path.as_str())
 }
 
-/// Whether a path leads to anything, be it a link that leads nowhere.
-pub fn is_there(rt: &HostRuntime, path: &str) -> Result<bool, FileFault> {
+// Whether a path leads to anything, be it a link that leads nowhere.
+fn is_there(rt: &HostRuntime, path: &str) -> Result<bool, FileFault> {
     match fs::symlink_metadata(rt, path) {
         Ok(_) => Ok(true),
         Err(error) if error.kind() == io::ErrorKind::NotFound => Ok(false),
@@ -77,18 +86,23 @@ pub fn is_there(rt: &HostRuntime, path: &str) -> Result<bool, FileFault> {
     }
 }
 
+/// Whether a name stands in a directory, be it that of a link that leads nowhere.
+pub fn holds(rt: &HostRuntime, directory: &str, name: &str) -> Result<bool, FileFault> {
+    let path = Path::new(directory).join(rt.alloc(), name)?;
+    is_there(rt, path.as_str())
+}
+
 // The text of a host's login.defs, which may be absent.
 fn read_logindefs(rt: &HostRuntime, directory: &str) -> Result<ByteString, FileFault> {
-    let path = Path::new(directory).join(rt.alloc(), "login.defs")?;
-    if is_there(rt, path.as_str())? {
-        read_file(rt, path.as_str())
+    if holds(rt, directory, "login.defs")? {
+        read_file_in(rt, directory, "login.defs")
     } else {
         Ok(ByteString::new(rt.alloc()))
     }
 }
 
-// The name and the directory of the host that a word names: NAME=DIR, split at the first `=`, or the directory alone,
-// whose last component is the name then.
+// The name and the directory of the host that a word names: NAME=DIR, split at the first `=`, or
+// the directory alone, whose last component is the name then.
 fn host_parts(word: &str) -> (&str, &str) {
     match word.split_once('=') {
         Some((name, directory)) => (name, directory),
@@ -111,8 +125,8 @@ pub fn host_directory(word: &str) -> &str {
 // The texts of the host that a word names but its inventory, which is left empty.
 fn read_tables(rt: &HostRuntime, word: &str) -> Result<HostText, FileFault> {
     let (name, directory) = host_parts(word);
-    let passwd = read_host_file(rt, directory, "passwd")?;
-    let group = read_host_file(rt, directory, "group")?;
+    let passwd = read_file_in(rt, directory, "passwd")?;
+    let group = read_file_in(rt, directory, "group")?;
     let logindefs = read_logindefs(rt, directory)?;
     Ok(HostText {
         name: ByteString::copy_of(rt.alloc(), name.as_bytes())?,
@@ -134,15 +148,16 @@ pub fn read_hosts_tables(rt: &HostRuntime, words: &[&str]) -> Result<Vec<HostTex
     Ok(hosts)
 }
 
-/// Hosts with the texts of all their files but their inventories, and of each whether its inventory has a file in it.
+/// Hosts with the texts of all their files but their inventories, and of each whether its
+/// inventory has a file in it.
 #[derive(Drop)]
 pub struct SeenHosts {
     pub hosts: Vec<HostText>,
     pub have_files: Vec<bool>,
 }
 
-/// The texts of the hosts that words name, in order, but their inventories: each of these is only read through behind the
-/// other files of its host, and none is kept.
+/// The texts of the hosts that words name, in order, but their inventories: each of these is only
+/// read through behind the other files of its host, and none is kept.
 pub fn see_hosts(rt: &HostRuntime, words: &[&str]) -> Result<SeenHosts, FileFault> {
     let mut hosts = Vec::new(rt.alloc());
     let mut have_files = Vec::new(rt.alloc());

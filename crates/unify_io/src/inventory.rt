@@ -11,8 +11,8 @@ use std::path::{Path, PathBuf};
 // How many bytes of an inventory are asked of the system at once.
 const BUFFER_BYTES: usize = 65536;
 
-// How many bytes of a line, and about how many of a piece, are handed out at once. The files of a piece wait with their
-// whole paths, and a path may be that of 30,000 directories: so they are few.
+// How many bytes of a line, and about how many of a piece, are handed out at once. The files of a
+// piece wait with their whole paths, and a path may be that of 30,000 directories: so they are few.
 const PIECE_BYTES: usize = 1024;
 
 /// How many lines of an inventory are of files, as far as it was read.
@@ -31,7 +31,8 @@ impl FileLines {
         }
     }
 
-    // Takes a part of a line, of which the last has the newline. A line that ends in a backslash goes on in the next.
+    // Takes a part of a line, of which the last has the newline. A line that ends in a backslash
+    // goes on in the next.
     fn take(&mut self, part: &[u8]) {
         let line = part.strip_suffix(b"\n").unwrap_or(part);
         if !self.is_decided && first_word(line).is_some() {
@@ -73,7 +74,8 @@ impl InventoryFile {
         }
     }
 
-    // Appends the next line, or a part of it, and hands out how many bytes it has: none only at the end.
+    // Appends the next line, or a part of it, and hands out how many bytes it has: none only at the
+    // end.
     fn append_line(&mut self, bytes: &mut Vec<u8>) -> io::Result<usize> {
         let from = bytes.len();
         let mut part = self.reader.by_ref().take(PIECE_BYTES as u64);
@@ -112,8 +114,8 @@ impl InventoryFile {
     }
 }
 
-/// Reads the inventory of the host that a word names from its start to its end, and hands out whether it has a file in
-/// it. It is refused where it cannot be read or has too many bytes.
+/// Reads the inventory of the host that a word names from its start to its end, and hands out
+/// whether it has a file in it. It is refused where it cannot be read or has too many bytes.
 pub fn look_through(rt: &HostRuntime, word: &str) -> Result<bool, FileFault> {
     let mut inventory = InventoryFile::open(rt, word)?;
     let mut bytes = Vec::new(rt.alloc());

@@ -1,5 +1,6 @@
-//! What the program reads, writes and tells around the proved calls: its words, the files of hosts, the directory of a merge,
-//! warnings and messages. Nothing here decides what a merge, a check or a count answers.
+//! What the program reads, writes and tells around the proved calls: its words, the files of hosts,
+//! the directory of a merge, warnings and messages. Nothing here decides what a merge, a check or a
+//! count answers.
 #![tactic(auto)]
 
 mod commands;

@@ -1,28 +1,34 @@
-//! Warnings of what a merge gives: users and groups that are one by their name, and may have been two.
+//! Warnings of what a merge gives: users and groups that are one by their name, and may have been
+//! two.
 
-use crate::files::{FileFault, read_file};
+use crate::files::{FileFault, read_file_in};
 use crate::warnings::{MOST_LINES, MOST_NAMES, Part, warn, warn_of_more, warn_of_pins};
 use accounts::{GroupRow, GroupTable, PasswdRow, PasswdTable, read_group, read_passwd};
 use hosts_join::{HostText, PairTable};
-use idtext::{ByteString, Lines, ReadError, Words, cut};
+use idtext::{Lines, ReadError, cut};
 use std::alloc::AllocError;
-use std::path::Path;
 use std::str;
 
 /// How many groups of a user an NFS request carries (AUTH_SYS, RFC 5531).
 const MOST_GROUPS: usize = 16;
 
+// What stands behind the first words of a line, if these are they.
+fn behind<'l>(line: &'l [u8], words: &str) -> Option<&'l str> {
+    match str::from_utf8(line) {
+        Ok(text) => text.strip_prefix(words),
+        Err(_) => None,
+    }
+}
+
 // The user of whom a line of a report says that a host has another comment, and that host.
-fn other_comment(line: &[u8]) -> Option<(&[u8], &[u8])> {
-    let mut words = Words::new(line);
-    if words.next()? != b"differs".as_slice() || words.next()? != b"user".as_slice() {
-        return None;
-    }
-    let name = words.next()?;
-    if words.next()? != b"comment".as_slice() {
-        return None;
-    }
-    Some((name, words.next()?))
+fn other_comment(line: &[u8]) -> Option<(&str, &str)> {
+    behind(line, "differs user ")?.split_once(" comment ")
+}
+
+// How many files the inventories have, as a line of a report says.
+fn files_in(line: &[u8]) -> Option<u64> {
+    let (_, files) = behind(line, "user-fields ")?.split_once(" of ")?;
+    files.parse::<u64>().ok()
 }
 
 // Whether passwd has a row of that name.
@@ -37,14 +43,14 @@ fn has_user(passwd: &[u8], name: &[u8]) -> bool {
     false
 }
 
-// The first host that has a user of this name, as a report shows it. Where a byte of the name is escaped there, it
-// is not told.
-fn first_with<'h>(hosts: &'h [HostText], name: &[u8]) -> Option<&'h HostText> {
-    if name.contains(&b'\\') {
+// The first host that has a user of this name, as a report shows it. Where a byte of the name is
+// escaped there, it is not told.
+fn first_with<'h>(hosts: &'h [HostText], name: &str) -> Option<&'h HostText> {
+    if name.contains('\\') {
         return None;
     }
     for host in hosts {
-        if has_user(host.passwd.bytes(), name) {
+        if has_user(host.passwd.bytes(), name.as_bytes()) {
             return Some(host);
         }
     }
@@ -55,8 +61,8 @@ fn first_with<'h>(hosts: &'h [HostText], name: &[u8]) -> Option<&'h HostText> {
 fn warn_of_comment<'a>(
     rt: &HostRuntime,
     hosts: &'a [HostText],
-    name: &'a [u8],
-    host: &'a [u8],
+    name: &'a str,
+    host: &'a str,
 ) -> Result<(), AllocError> {
     let first = match first_with(hosts, name) {
         Some(first) => Part::Name(first.name.bytes()),
@@ -66,32 +72,17 @@ fn warn_of_comment<'a>(
         rt,
         &[
             Part::Text("user"),
-            Part::Shown(name),
+            Part::Text(name),
             Part::Text("has another comment on host"),
-            Part::Shown(host),
+            Part::Text(host),
             Part::Text("than on"),
             first,
         ],
     )
 }
 
-// How many files the inventories have, as a line of a report says.
-fn files_in(line: &[u8]) -> Option<u64> {
-    let mut words = Words::new(line);
-    if words.next()? != b"user-fields".as_slice() {
-        return None;
-    }
-    let _changed = words.next()?;
-    if words.next()? != b"of".as_slice() {
-        return None;
-    }
-    match str::from_utf8(words.next()?) {
-        Ok(count) => count.parse::<u64>().ok(),
-        Err(_) => None,
-    }
-}
-
-// Warns of paths that stand in an inventory more than once, where its lines of files are more than its files.
+// Warns of paths that stand in an inventory more than once, where its lines of files are more than
+// its files.
 fn warn_of_paths(rt: &HostRuntime, report: &[u8], file_lines: u64) -> Result<(), AllocError> {
     let files = Lines::new(report).find_map(|line| files_in(line));
     let again = file_lines.saturating_sub(files.unwrap_or(file_lines));
@@ -113,12 +104,12 @@ fn warn_of_comments(rt: &HostRuntime, hosts: &[HostText], report: &[u8]) -> Resu
     let mut count: usize = 0;
     for line in Lines::new(report) {
         if let Some((name, host)) = other_comment(line) {
-            if name != last {
+            if name.as_bytes() != last {
                 if count < MOST_LINES {
                     warn_of_comment(rt, hosts, name, host)?;
                 }
                 count = count.saturating_add(1);
-                last = name;
+                last = name.as_bytes();
             }
         }
     }
@@ -200,41 +191,77 @@ fn warn_of_new_members(
     warn_of_group(rt, host, merged.name, &had, &new)
 }
 
-// Whether a merged group gets members on a host that has the row. If so, and not too many were told, that is warned of.
-fn gets_members(
+/// What is told of the groups of hosts, as far as these were looked at.
+#[derive(Drop)]
+struct SeenGroups<'t> {
+    // How many get members on a host.
+    gaining: usize,
+    // Those whose number was another group's.
+    taken: PairTable<'t>,
+}
+
+// Looks at whether a merged group gets members on a host that has the row. That is warned of, if
+// not too many were told.
+fn see_members(
     rt: &HostRuntime,
     host: &[u8],
     row: &GroupRow<'_>,
     merged: &GroupRow<'_>,
-    told: usize,
-) -> Result<bool, AllocError> {
+    gaining: &mut usize,
+) -> Result<(), AllocError> {
     let members = members_in(rt, row)?;
     if are_all_in(merged, &members) {
-        return Ok(false);
+        return Ok(());
     }
+    let told = *gaining;
+    *gaining = told.saturating_add(1);
     if told < MOST_LINES {
-        warn_of_new_members(rt, host, merged, &members)?;
+        warn_of_new_members(rt, host, merged, &members)
+    } else {
+        Ok(())
     }
-    Ok(true)
 }
 
-// Warns of the groups of a host that get members there, and hands out how many there are by now.
-fn count_rows(
+// Notes the group whose number was another group's on a host that has the row.
+fn note_taken<'t>(
+    taken: &mut PairTable<'t>,
+    row: &GroupRow<'_>,
+    groups: &GroupTable<'t>,
+) -> Result<(), AllocError> {
+    if let Some(other) = groups.by_number(row.gid) {
+        if other.name != row.name {
+            taken.add(other.name, other.gid)?;
+        }
+    }
+    Ok(())
+}
+
+// Looks at a row of a host's group.
+fn see_row<'t>(
+    rt: &HostRuntime,
+    host: &[u8],
+    row: &GroupRow<'_>,
+    groups: &GroupTable<'t>,
+    seen: &mut SeenGroups<'t>,
+) -> Result<(), AllocError> {
+    if let Some(merged) = groups.by_name(row.name) {
+        see_members(rt, host, row, merged, &mut seen.gaining)?;
+    }
+    note_taken(&mut seen.taken, row, groups)
+}
+
+// Looks at the rows of a host's group.
+fn see_rows<'t>(
     rt: &HostRuntime,
     host: &[u8],
     rows: &[GroupRow<'_>],
-    groups: &GroupTable<'_>,
-    told: usize,
-) -> Result<usize, AllocError> {
-    let mut count = told;
+    groups: &GroupTable<'t>,
+    seen: &mut SeenGroups<'t>,
+) -> Result<(), AllocError> {
     for row in rows {
-        if let Some(merged) = groups.by_name(row.name) {
-            if gets_members(rt, host, row, merged, count)? {
-                count = count.saturating_add(1);
-            }
-        }
+        see_row(rt, host, row, groups, seen)?;
     }
-    Ok(count)
+    Ok(())
 }
 
 // Want of memory; another fault of a text is told where the text is judged.
@@ -245,33 +272,34 @@ fn only_memory(fault: &ReadError) -> Result<(), AllocError> {
     }
 }
 
-// Warns of the groups of a host that get members there, and hands out how many there are by now.
-fn count_host(
+// Looks at the group of a host.
+fn see_host<'t>(
     rt: &HostRuntime,
     host: &HostText,
-    groups: &GroupTable<'_>,
-    told: usize,
-) -> Result<usize, AllocError> {
+    groups: &GroupTable<'t>,
+    seen: &mut SeenGroups<'t>,
+) -> Result<(), AllocError> {
     match read_group(rt.alloc(), host.group.bytes()) {
-        Ok(table) => count_rows(rt, host.name.bytes(), table.rows(), groups, told),
-        Err(fault) => {
-            only_memory(&fault)?;
-            Ok(told)
-        }
+        Ok(table) => see_rows(rt, host.name.bytes(), table.rows(), groups, seen),
+        Err(fault) => only_memory(&fault),
     }
 }
 
-// Warns of groups that give users on a host what they had on another one.
-fn warn_of_members(
+// Warns of groups that give users on a host what they had on another one. Hands out how many get
+// members on a host, and how many have a number that was another group's.
+fn see_groups(
     rt: &HostRuntime,
     hosts: &[HostText],
     groups: &GroupTable<'_>,
-) -> Result<(), AllocError> {
-    let mut count = 0;
+) -> Result<(usize, usize), AllocError> {
+    let mut seen = SeenGroups {
+        gaining: 0,
+        taken: PairTable::new(rt.alloc()),
+    };
     for host in hosts {
-        count = count_host(rt, host, groups, count)?;
+        see_host(rt, host, groups, &mut seen)?;
     }
-    warn_of_more(rt, "groups that get members on a host:", count)
+    Ok((seen.gaining, seen.taken.len()))
 }
 
 // Counts a group for the user in the row of that line.
@@ -301,14 +329,25 @@ fn group_counts(
     users: &PasswdTable<'_>,
     groups: &GroupTable<'_>,
 ) -> Result<Vec<usize>, AllocError> {
-    let mut counts = Vec::new(rt.alloc());
-    for _ in users.rows() {
-        counts.push(1)?;
-    }
+    let mut counts = vec![in rt.alloc(); 1; users.rows().len()]?;
     for group in groups.rows() {
         count_members(&mut counts, users, group);
     }
     Ok(counts)
+}
+
+// Warns of a user who is in so many groups.
+fn warn_of_group_count(rt: &HostRuntime, name: &[u8], count: usize) -> Result<(), AllocError> {
+    warn(
+        rt,
+        &[
+            Part::Text("user"),
+            Part::Name(name),
+            Part::Text("is in"),
+            Part::Count(count),
+            Part::Text("groups, and an NFS request carries 16"),
+        ],
+    )
 }
 
 // Warns of users in more groups than an NFS request carries.
@@ -321,21 +360,22 @@ fn warn_of_many_groups(
     for (row, count) in rows.iter().zip(counts) {
         if *count > MOST_GROUPS {
             if told < MOST_LINES {
-                warn(
-                    rt,
-                    &[
-                        Part::Text("user"),
-                        Part::Name(row.name),
-                        Part::Text("is in"),
-                        Part::Count(*count),
-                        Part::Text("groups, and an NFS request carries 16"),
-                    ],
-                )?;
+                warn_of_group_count(rt, row.name, *count)?;
             }
             told = told.saturating_add(1);
         }
     }
     warn_of_more(rt, "users in more than 16 groups:", told)
+}
+
+// Warns of merged users in more groups than an NFS request carries.
+fn warn_of_group_counts(
+    rt: &HostRuntime,
+    users: &PasswdTable<'_>,
+    groups: &GroupTable<'_>,
+) -> Result<(), AllocError> {
+    let counts = group_counts(rt, users, groups)?;
+    warn_of_many_groups(rt, users.rows(), &counts)
 }
 
 // Adds the users whose number was another user's on a host that has these rows.
@@ -354,22 +394,6 @@ fn add_renumbered_users<'t>(
     Ok(())
 }
 
-// Adds the groups whose number was another group's on a host that has these rows.
-fn add_renumbered_groups<'t>(
-    taken: &mut PairTable<'t>,
-    rows: &[GroupRow<'_>],
-    groups: &GroupTable<'t>,
-) -> Result<(), AllocError> {
-    for row in rows {
-        if let Some(other) = groups.by_number(row.gid) {
-            if other.name != row.name {
-                taken.add(other.name, other.gid)?;
-            }
-        }
-    }
-    Ok(())
-}
-
 // Adds the users whose number was another user's on a host.
 fn add_users_of<'t>(
     rt: &HostRuntime,
@@ -379,19 +403,6 @@ fn add_users_of<'t>(
 ) -> Result<(), AllocError> {
     match read_passwd(rt.alloc(), host.passwd.bytes()) {
         Ok(table) => add_renumbered_users(taken, table.rows(), users),
-        Err(fault) => only_memory(&fault),
-    }
-}
-
-// Adds the groups whose number was another group's on a host.
-fn add_groups_of<'t>(
-    rt: &HostRuntime,
-    taken: &mut PairTable<'t>,
-    host: &HostText,
-    groups: &GroupTable<'t>,
-) -> Result<(), AllocError> {
-    match read_group(rt.alloc(), host.group.bytes()) {
-        Ok(table) => add_renumbered_groups(taken, table.rows(), groups),
         Err(fault) => only_memory(&fault),
     }
 }
@@ -428,35 +439,6 @@ fn warn_of_user_numbers(
     )
 }
 
-// Warns of groups whose number was another group's.
-fn warn_of_group_numbers(
-    rt: &HostRuntime,
-    hosts: &[HostText],
-    groups: &GroupTable<'_>,
-) -> Result<(), AllocError> {
-    let mut taken = PairTable::new(rt.alloc());
-    for host in hosts {
-        add_groups_of(rt, &mut taken, host, groups)?;
-    }
-    warn_of_taken(
-        rt,
-        "groups that were another group's on some host:",
-        taken.len(),
-    )
-}
-
-// Warns of what merged groups give.
-fn warn_of_groups(
-    rt: &HostRuntime,
-    hosts: &[HostText],
-    users: &PasswdTable<'_>,
-    groups: &GroupTable<'_>,
-) -> Result<(), AllocError> {
-    warn_of_members(rt, hosts, groups)?;
-    let counts = group_counts(rt, users, groups)?;
-    warn_of_many_groups(rt, users.rows(), &counts)
-}
-
 // Warns of what merged tables give.
 fn warn_of_tables(
     rt: &HostRuntime,
@@ -464,9 +446,11 @@ fn warn_of_tables(
     users: &PasswdTable<'_>,
     groups: &GroupTable<'_>,
 ) -> Result<(), AllocError> {
-    warn_of_groups(rt, hosts, users, groups)?;
+    let (gaining, taken) = see_groups(rt, hosts, groups)?;
+    warn_of_more(rt, "groups that get members on a host:", gaining)?;
+    warn_of_group_counts(rt, users, groups)?;
     warn_of_user_numbers(rt, hosts, users)?;
-    warn_of_group_numbers(rt, hosts, groups)
+    warn_of_taken(rt, "groups that were another group's on some host:", taken)
 }
 
 // Warns of what merged users and a merged group text give.
@@ -482,26 +466,21 @@ fn warn_of_users(
     }
 }
 
-// The text of a file that a merge wrote.
-fn read_merged(rt: &HostRuntime, directory: &str, name: &str) -> Result<ByteString, FileFault> {
-    let path = Path::new(directory).join(rt.alloc(), name)?;
-    read_file(rt, path.as_str())
-}
-
 // Warns of the pins whose names are not in the map that a merge wrote.
 fn warn_of_merged_pins(rt: &HostRuntime, directory: &str, pins: &[u8]) -> Result<(), FileFault> {
-    let map = read_merged(rt, directory, "map")?;
+    let map = read_file_in(rt, directory, "map")?;
     Ok(warn_of_pins(rt, map.bytes(), pins)?)
 }
 
-// Warns of what the report tells that a merge wrote: paths that stand twice, and comments in which hosts differ.
+// Warns of what the report tells that a merge wrote: paths that stand twice, and comments in which
+// hosts differ.
 fn warn_of_report(
     rt: &HostRuntime,
     hosts: &[HostText],
     directory: &str,
     file_lines: u64,
 ) -> Result<(), FileFault> {
-    let report = read_merged(rt, directory, "report")?;
+    let report = read_file_in(rt, directory, "report")?;
     warn_of_paths(rt, report.bytes(), file_lines)?;
     Ok(warn_of_comments(rt, hosts, report.bytes())?)
 }
@@ -525,15 +504,17 @@ fn warn_of_merged_users(
     hosts: &[HostText],
     directory: &str,
 ) -> Result<(), FileFault> {
-    let passwd = read_merged(rt, directory, "passwd")?;
-    let group = read_merged(rt, directory, "group")?;
+    let passwd = read_file_in(rt, directory, "passwd")?;
+    let group = read_file_in(rt, directory, "group")?;
     Ok(warn_of_texts(rt, hosts, passwd.bytes(), group.bytes())?)
 }
 
-/// Warns of what a merge of hosts by pins has written into a directory: pins for nobody; paths that stand in an inventory
-/// more than once, where so many lines of files were read; users with two comments, who may be two people; groups that get
-/// members on a host, who may do there what they could not; users in more groups than an NFS request carries; and numbers
-/// that were another name's, whose files no inventory may list. It reads the account files that were merged once more.
+/// Warns of what a merge of hosts by pins has written into a directory: pins for nobody; paths that
+/// stand in an inventory more than once, where so many lines of files were read; users with two
+/// comments, who may be two people; groups that get members on a host, who may do there what they
+/// could not; users in more groups than an NFS request carries; and numbers that were another
+/// name's, whose files no inventory may list. It reads the account files that were merged once
+/// more.
 pub fn warn_of_merge(
     rt: &HostRuntime,
     hosts: &[HostText],

@@ -1,9 +1,9 @@
 //! The directory that a merge writes into, as it is found before anything is read.
 
-use crate::files::{FileFault, host_directory, host_name, is_there};
-use crate::report::{file_failed, output_refused};
+use crate::files::{FileFault, holds, host_directory, host_name, or_told, read_start};
+use crate::report::output_refused;
+use std::alloc::AllocError;
 use std::fs::{DirEntry, File, Metadata, TryLockError};
-use std::io::Read;
 use std::os::unix::fs::MetadataExt;
 use std::path::Path;
 use std::{fs, io};
@@ -68,12 +68,6 @@ fn host_of<'w>(rt: &HostRuntime, found: &Metadata, words: &[&'w str]) -> Option<
     None
 }
 
-// Whether a name stands in a directory.
-fn holds(rt: &HostRuntime, directory: &str, name: &str) -> Result<bool, FileFault> {
-    let path = Path::new(directory).join(rt.alloc(), name)?;
-    is_there(rt, path.as_str())
-}
-
 // The first of these names that stands in a directory.
 fn first_held<'n>(
     rt: &HostRuntime,
@@ -88,32 +82,44 @@ fn first_held<'n>(
     Ok(None)
 }
 
-// Notes the name of an entry of a directory, if it begins so. One that is no text begins otherwise.
+// Notes a name, if it begins so.
 fn note_name(
+    rt: &HostRuntime,
+    names: &mut Vec<String>,
+    name: &str,
+    start: &str,
+) -> Result<(), AllocError> {
+    if name.starts_with(start) {
+        names.push(String::from_str(rt.alloc(), name)?)?;
+    }
+    Ok(())
+}
+
+// Notes the name of an entry of a directory, if it begins so. One that is no text begins otherwise.
+fn note_entry(
     rt: &HostRuntime,
     names: &mut Vec<String>,
     entry: io::Result<DirEntry>,
     start: &str,
 ) -> io::Result<()> {
     match entry {
-        Ok(entry) => {
-            if entry.file_name().starts_with(start) {
-                names.push(String::from_str(rt.alloc(), entry.file_name())?)?;
-            }
-            Ok(())
-        }
+        Ok(entry) => Ok(note_name(rt, names, entry.file_name(), start)?),
         Err(error) if error.kind() == io::ErrorKind::InvalidFilename => Ok(()),
         Err(error) => Err(error),
     }
 }
 
-// The names in a directory that begin so.
-fn read_names(rt: &HostRuntime, directory: &str, start: &str) -> io::Result<Vec<String>> {
-    let mut names = Vec::new(rt.alloc());
+// Notes the names in a directory that begin so.
+fn note_names(
+    rt: &HostRuntime,
+    names: &mut Vec<String>,
+    directory: &str,
+    start: &str,
+) -> io::Result<()> {
     for entry in fs::read_dir(rt, directory)? {
-        note_name(rt, &mut names, entry, start)?;
+        note_entry(rt, names, entry, start)?;
     }
-    Ok(names)
+    Ok(())
 }
 
 /// The names in a directory that begin so. One that is no text begins otherwise.
@@ -122,32 +128,22 @@ pub fn names_with(
     directory: &str,
     start: &str,
 ) -> Result<Vec<String>, FileFault> {
-    match read_names(rt, directory, start) {
-        Ok(names) => Ok(names),
-        Err(error) => Err(file_failed(rt, directory, &error)),
-    }
+    let mut names = Vec::new(rt.alloc());
+    or_told(rt, directory, note_names(rt, &mut names, directory, start))?;
+    Ok(names)
 }
 
 // Whether a file begins with these bytes.
 fn starts_with(rt: &HostRuntime, path: &str, start: &[u8]) -> io::Result<bool> {
-    let file = File::open(rt, path)?;
-    let mut bytes = Vec::new(rt.alloc());
-    file.take(start.len() as u64).read_to_end(&mut bytes)?;
+    let bytes = read_start(rt, path, start.len() as u64)?;
     Ok(bytes.as_slice() == start)
 }
 
 /// Whether a name stands for a file that begins with these bytes.
 pub fn is_file_with(rt: &HostRuntime, path: &str, start: &[u8]) -> Result<bool, FileFault> {
-    let found = match fs::metadata(rt, path) {
-        Ok(found) => found,
-        Err(_) => return Ok(false),
-    };
-    if !found.is_file() {
-        return Ok(false);
-    }
-    match starts_with(rt, path, start) {
-        Ok(answer) => Ok(answer),
-        Err(error) => Err(file_failed(rt, path, &error)),
+    match fs::metadata(rt, path) {
+        Ok(found) if found.is_file() => or_told(rt, path, starts_with(rt, path, start)),
+        _ => Ok(false),
     }
 }
 
@@ -197,7 +193,8 @@ fn open_directory(rt: &HostRuntime, directory: &str) -> io::Result<File> {
     File::open(rt, inside.as_str())
 }
 
-// Why a directory that was opened may not be written into, whatever it holds. If it may, it is locked.
+// Why a directory that was opened may not be written into, whatever it holds. If it may, it is
+// locked.
 fn fault_of_lock<'w>(
     rt: &HostRuntime,
     opened: &File,
@@ -230,10 +227,10 @@ fn lock_output(
     }
 }
 
-/// Opens the directory that the hosts which words name are to be merged into. It is locked: no other merge is made
-/// into it until it is closed, which the end of the process does too. It is refused where it is not there, where it
-/// is or looks like the directory of a host, where another merge has it, and where it holds what a merge would
-/// write and no merge wrote.
+/// Opens the directory that the hosts which words name are to be merged into. It is locked: no
+/// other merge is made into it until it is closed, which the end of the process does too. It is
+/// refused where it is not there, where it is or looks like the directory of a host, where another
+/// merge has it, and where it holds what a merge would write and no merge wrote.
 pub fn open_output(rt: &HostRuntime, directory: &str, words: &[&str]) -> Result<File, FileFault> {
     if directory.is_empty() {
         return Err(output_refused(rt, directory, OutputFault::EmptyWord));

@@ -1,4 +1,5 @@
-//! What the program tells when it cannot answer, and the answers to words, each with its exit status.
+//! What the program tells when it cannot answer, and the answers to words, each with its exit
+//! status.
 
 use crate::files::FileFault;
 use crate::output::OutputFault;
@@ -8,7 +9,8 @@ use std::alloc::AllocError;
 use std::io;
 use std::io::Write;
 
-/// A growth was refused before a bundle was read; what is told of a bundle stands on standard output.
+/// A growth was refused before a bundle was read; what is told of a bundle stands on standard
+/// output.
 pub fn bundle_memory_refused(rt: &HostRuntime) -> u8 {
     let _ = io::writer(rt).write_all(b"unify: memory\n");
     3
@@ -40,95 +42,15 @@ fn push_reason(rt: &HostRuntime, line: &mut Vec<u8>, error: &io::Error) -> Resul
     line.extend_from_slice(reason_in(told.as_str()).as_bytes())
 }
 
-// Appends a path or a name as they are told in fault lines.
-fn push_shown(line: &mut Vec<u8>, word: &str) -> Result<(), AllocError> {
-    let shown = if word.is_empty() { "-" } else { word };
-    push_escaped(line, shown.as_bytes())
+// A name or a path as it is told: a hyphen stands for an empty one.
+fn shown(name: &[u8]) -> &[u8] {
+    if name.is_empty() { b"-" } else { name }
 }
 
 // Tells a line that is all that a command answers.
 fn tell(rt: &HostRuntime, line: &[u8], status: u8) -> FileFault {
     let _ = rt.stderr().write_all(line);
     FileFault::Told(status)
-}
-
-// Appends the line for a file that was not read or written.
-fn push_file_line(
-    rt: &HostRuntime,
-    line: &mut Vec<u8>,
-    path: &str,
-    error: &io::Error,
-) -> Result<(), AllocError> {
-    line.extend_from_slice(b"unify: file ")?;
-    push_shown(line, path)?;
-    line.extend_from_slice(b": ")?;
-    push_reason(rt, line, error)?;
-    line.extend_from_slice(b"\n")
-}
-
-/// Tells why a file was not read or written, unless it was for want of memory, which is told later.
-pub fn file_failed(rt: &HostRuntime, path: &str, error: &io::Error) -> FileFault {
-    if error.kind() == io::ErrorKind::OutOfMemory {
-        return FileFault::Memory;
-    }
-    let mut line = Vec::new(rt.alloc());
-    match push_file_line(rt, &mut line, path, error) {
-        Ok(()) => tell(rt, &line, 3),
-        Err(_) => FileFault::Memory,
-    }
-}
-
-// Appends why nothing is written into a directory.
-fn push_output_fault(
-    rt: &HostRuntime,
-    line: &mut Vec<u8>,
-    fault: OutputFault<'_>,
-) -> Result<(), AllocError> {
-    match fault {
-        OutputFault::EmptyWord => line.extend_from_slice(b"an empty word"),
-        OutputFault::System(error) => push_reason(rt, line, &error),
-        OutputFault::HostDirectory(host) => {
-            line.extend_from_slice(b"the directory of host ")?;
-            push_shown(line, host)
-        }
-        OutputFault::Busy => line.extend_from_slice(b"another merge is writing there"),
-        OutputFault::HostFile(name) => {
-            line.extend_from_slice(b"holds ")?;
-            push_shown(line, name)?;
-            line.extend_from_slice(b", as the directory of a host does")
-        }
-        OutputFault::Foreign(name) => {
-            line.extend_from_slice(b"holds ")?;
-            push_shown(line, name)?;
-            line.extend_from_slice(b", and no report of an earlier merge")
-        }
-    }
-}
-
-// Appends the line for a directory that nothing is written into.
-fn push_output_line(
-    rt: &HostRuntime,
-    line: &mut Vec<u8>,
-    directory: &str,
-    fault: OutputFault<'_>,
-) -> Result<(), AllocError> {
-    line.extend_from_slice(b"unify: output ")?;
-    push_shown(line, directory)?;
-    line.extend_from_slice(b": ")?;
-    push_output_fault(rt, line, fault)?;
-    line.extend_from_slice(b"\n")
-}
-
-/// Tells why nothing is written into a directory, unless it is for want of memory, which is told later.
-pub fn output_refused(rt: &HostRuntime, directory: &str, fault: OutputFault<'_>) -> FileFault {
-    if fault.is_memory() {
-        return FileFault::Memory;
-    }
-    let mut line = Vec::new(rt.alloc());
-    match push_output_line(rt, &mut line, directory, fault) {
-        Ok(()) => tell(rt, &line, 2),
-        Err(_) => FileFault::Memory,
-    }
 }
 
 /// A part of what is told of a thing that words name.
@@ -139,6 +61,8 @@ pub enum Said<'a> {
     Name(&'a [u8]),
     /// What the system says of an error with this number (errno(3)).
     System(i32),
+    /// What is said of an error.
+    Failed(io::Error),
 }
 
 // Appends a part of what is told.
@@ -147,30 +71,40 @@ fn push_said(rt: &HostRuntime, line: &mut Vec<u8>, said: Said<'_>) -> Result<(),
         Said::Text(text) => line.extend_from_slice(text.as_bytes()),
         Said::Name(name) => push_escaped(line, name),
         Said::System(number) => push_reason(rt, line, &io::Error::from_raw_os_error(number)),
+        Said::Failed(error) => push_reason(rt, line, &error),
     }
 }
 
-// Appends the line that tells of a thing.
-fn push_told_of(
-    rt: &HostRuntime,
-    line: &mut Vec<u8>,
-    kind: &str,
-    name: &[u8],
-    parts: &[Said<'_>],
-) -> Result<(), AllocError> {
-    line.extend_from_slice(b"unify: ")?;
-    line.extend_from_slice(kind.as_bytes())?;
-    line.extend_from_slice(b" ")?;
-    push_escaped(line, if name.is_empty() { b"-" } else { name })?;
-    line.extend_from_slice(b": ")?;
+// Appends the parts of what is told.
+fn push_parts(rt: &HostRuntime, line: &mut Vec<u8>, parts: &[Said<'_>]) -> Result<(), AllocError> {
     for said in parts {
         push_said(rt, line, *said)?;
     }
+    Ok(())
+}
+
+// Appends the line that tells of a thing.
+fn push_told_of<'a>(
+    rt: &HostRuntime,
+    line: &mut Vec<u8>,
+    kind: &'a str,
+    name: &'a [u8],
+    parts: &[Said<'_>],
+) -> Result<(), AllocError> {
+    let head = [
+        Said::Text("unify: "),
+        Said::Text(kind),
+        Said::Text(" "),
+        Said::Name(shown(name)),
+        Said::Text(": "),
+    ];
+    push_parts(rt, line, &head)?;
+    push_parts(rt, line, parts)?;
     line.extend_from_slice(b"\n")
 }
 
-/// Tells of a thing that words name, what kind of thing it is first, why the command does not go on: that line is all that it
-/// answers, with this status. Want of memory is told later.
+/// Tells of a thing that words name, what kind of thing it is first, why the command does not
+/// go on: that line is all that it answers, with this status. Want of memory is told later.
 pub fn tell_of(
     rt: &HostRuntime,
     kind: &str,
@@ -183,6 +117,49 @@ pub fn tell_of(
         Ok(()) => tell(rt, &line, status),
         Err(_) => FileFault::Memory,
     }
+}
+
+/// Tells why a file was not read or written, unless it was for want of memory, which is told
+/// later.
+pub fn file_failed(rt: &HostRuntime, path: &str, error: &io::Error) -> FileFault {
+    if error.kind() == io::ErrorKind::OutOfMemory {
+        return FileFault::Memory;
+    }
+    tell_of(rt, "file", path.as_bytes(), &[Said::Failed(*error)], 3)
+}
+
+// Why nothing is written into a directory, in three parts.
+fn said_of(fault: OutputFault<'_>) -> [Said<'_>; 3] {
+    let none = Said::Text("");
+    match fault {
+        OutputFault::EmptyWord => [Said::Text("an empty word"), none, none],
+        OutputFault::System(error) => [Said::Failed(error), none, none],
+        OutputFault::HostDirectory(host) => [
+            Said::Text("the directory of host "),
+            Said::Name(shown(host.as_bytes())),
+            none,
+        ],
+        OutputFault::Busy => [Said::Text("another merge is writing there"), none, none],
+        OutputFault::HostFile(name) => [
+            Said::Text("holds "),
+            Said::Name(name.as_bytes()),
+            Said::Text(", as the directory of a host does"),
+        ],
+        OutputFault::Foreign(name) => [
+            Said::Text("holds "),
+            Said::Name(name.as_bytes()),
+            Said::Text(", and no report of an earlier merge"),
+        ],
+    }
+}
+
+/// Tells why nothing is written into a directory, unless it is for want of memory, which is told
+/// later.
+pub fn output_refused(rt: &HostRuntime, directory: &str, fault: OutputFault<'_>) -> FileFault {
+    if fault.is_memory() {
+        return FileFault::Memory;
+    }
+    tell_of(rt, "output", directory.as_bytes(), &said_of(fault), 2)
 }
 
 /// No word names a host.
@@ -198,16 +175,21 @@ pub fn file_fault_told(rt: &HostRuntime, fault: FileFault) -> u8 {
     }
 }
 
+// Appends a letter. One that would act on a terminal is escaped, but for a newline.
+fn push_letter(told: &mut Vec<u8>, letter: char) -> Result<(), AllocError> {
+    let mut buffer = [0; 4];
+    let bytes = letter.encode_utf8(&mut buffer).as_bytes();
+    if letter.is_control() && letter != '\n' {
+        push_escaped(told, bytes)
+    } else {
+        told.extend_from_slice(bytes)
+    }
+}
+
 // Appends a text of several lines. What would act on a terminal is escaped.
 fn push_harmless(told: &mut Vec<u8>, text: &str) -> Result<(), AllocError> {
     for letter in text.chars() {
-        let mut bytes = [0; 4];
-        let letter_bytes = letter.encode_utf8(&mut bytes).as_bytes();
-        if letter.is_control() && letter != '\n' {
-            push_escaped(told, letter_bytes)?;
-        } else {
-            told.extend_from_slice(letter_bytes)?;
-        }
+        push_letter(told, letter)?;
     }
     Ok(())
 }
@@ -231,7 +213,8 @@ pub fn wrong_words(rt: &HostRuntime, error: &Error) -> u8 {
     }
 }
 
-/// Prints an answer with its status, and hands out the status that the program ends with: a refusal goes to standard error.
+/// Prints an answer with its status, and hands out the status that the program ends with: a
+/// refusal goes to standard error.
 pub fn print_answer(rt: &HostRuntime, status: u8, text: &[u8]) -> u8 {
     if status != 0 {
         let _ = rt.stderr().write_all(text);

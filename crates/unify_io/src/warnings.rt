@@ -23,20 +23,23 @@ pub enum Part<'a> {
     Text(&'a str),
     /// A name or a path, which is escaped.
     Name(&'a [u8]),
-    /// A name as a report has it, which is escaped already.
-    Shown(&'a [u8]),
     /// Names, the first few of them.
     Names(&'a [&'a [u8]]),
     Count(usize),
 }
 
+// Appends a name of several, behind those with a lower index.
+fn push_listed(line: &mut Vec<u8>, index: usize, name: &[u8]) -> Result<(), AllocError> {
+    if index > 0 {
+        line.extend_from_slice(b", ")?;
+    }
+    push_escaped(line, name)
+}
+
 // Appends the first few of some names.
 fn push_names(line: &mut Vec<u8>, names: &[&[u8]]) -> Result<(), AllocError> {
-    let mut separator: &[u8] = b"";
-    for name in names.iter().take(MOST_NAMES) {
-        line.extend_from_slice(separator)?;
-        push_escaped(line, *name)?;
-        separator = b", ";
+    for (index, name) in names.iter().take(MOST_NAMES).enumerate() {
+        push_listed(line, index, *name)?;
     }
     if names.len() > MOST_NAMES {
         line.extend_from_slice(b" and others")?;
@@ -49,18 +52,22 @@ fn push_part(line: &mut Vec<u8>, part: Part<'_>) -> Result<(), AllocError> {
     match part {
         Part::Text(text) => line.extend_from_slice(text.as_bytes()),
         Part::Name(name) => push_escaped(line, name),
-        Part::Shown(name) => line.extend_from_slice(name),
         Part::Names(names) => push_names(line, names),
         Part::Count(count) => push_number(line, count as u128),
     }
+}
+
+// Appends a space and a part of a warning.
+fn push_next(line: &mut Vec<u8>, part: Part<'_>) -> Result<(), AllocError> {
+    line.extend_from_slice(b" ")?;
+    push_part(line, part)
 }
 
 // Appends a warning.
 fn push_warning(line: &mut Vec<u8>, parts: &[Part<'_>]) -> Result<(), AllocError> {
     line.extend_from_slice(b"unify: warning:")?;
     for part in parts {
-        line.extend_from_slice(b" ")?;
-        push_part(line, *part)?;
+        push_next(line, *part)?;
     }
     line.extend_from_slice(b"\n")
 }
@@ -148,15 +155,24 @@ pub fn warn_of_hosts_tables(rt: &HostRuntime, hosts: &[HostText]) -> Result<(), 
     Ok(())
 }
 
-/// Warns of what the account files of hosts have, and of those without files.
-pub fn warn_of_seen(rt: &HostRuntime, seen: &SeenHosts) -> Result<(), AllocError> {
-    warn_of_hosts_tables(rt, &seen.hosts)?;
-    for (host, has_files) in seen.hosts.iter().zip(&seen.have_files) {
+// Warns of hosts without files.
+fn warn_of_each_empty(
+    rt: &HostRuntime,
+    hosts: &[HostText],
+    have_files: &[bool],
+) -> Result<(), AllocError> {
+    for (host, has_files) in hosts.iter().zip(have_files) {
         if !*has_files {
             warn_of_no_files(rt, host.name.bytes())?;
         }
     }
     Ok(())
+}
+
+/// Warns of what the account files of hosts have, and of those without files.
+pub fn warn_of_seen(rt: &HostRuntime, seen: &SeenHosts) -> Result<(), AllocError> {
+    warn_of_hosts_tables(rt, &seen.hosts)?;
+    warn_of_each_empty(rt, &seen.hosts, &seen.have_files)
 }
 
 /// Warns of a map or a pins text that may have been cut.

@@ -1,13 +1,25 @@
-//! The files that a merge writes. Each is written under a name of its own, synced and renamed, so that none is ever cut; and
-//! a report stands only where all others are those of its merge.
+//! The files that a merge writes. Each is written under a name of its own, synced and renamed, so
+//! that none is ever cut; and a report stands only where all others are those of its merge.
 
-use crate::files::{FileFault, host_name};
+use crate::files::{FileFault, host_name, or_told};
 use crate::output::{MARK, OWN_GROUP, OWN_PASSWD, PLAN, TEMPORARY, is_file_with, names_with};
 use crate::report::file_failed;
+use std::alloc::AllocError;
 use std::fs::File;
 use std::io::Write;
 use std::path::{Path, PathBuf};
 use std::{fs, io, str};
+
+// The path in a directory of the name that a start and an end make.
+fn path_of(
+    rt: &HostRuntime,
+    directory: &str,
+    start: &str,
+    end: &str,
+) -> Result<PathBuf, AllocError> {
+    let name = format!(in rt.alloc(); "{start}{end}")?;
+    Path::new(directory).join(rt.alloc(), name.as_str())
+}
 
 /// A file that is written under a temporary name, and renamed when it is whole.
 #[derive(Drop)]
@@ -20,9 +32,7 @@ pub struct NewFile {
 impl NewFile {
     /// Begins a file of a directory. What stands at its name stays until it is kept.
     pub fn create(rt: &HostRuntime, directory: &str, name: &str) -> Result<NewFile, FileFault> {
-        let mut hidden = String::from_str(rt.alloc(), TEMPORARY)?;
-        hidden.push_str(name)?;
-        let temporary = Path::new(directory).join(rt.alloc(), hidden.as_str())?;
+        let temporary = path_of(rt, directory, TEMPORARY, name)?;
         let path = Path::new(directory).join(rt.alloc(), name)?;
         match File::create_new(rt, temporary.as_str()) {
             Ok(file) => Ok(NewFile {
@@ -75,47 +85,50 @@ fn write_file(rt: &HostRuntime, directory: &str, name: &str, text: &[u8]) -> Res
     file.keep(rt)
 }
 
+// What a call gave, but for a failure of that kind, which is none.
+fn unless(done: io::Result<()>, kind: io::ErrorKind) -> io::Result<()> {
+    match done {
+        Err(error) if error.kind() == kind => Ok(()),
+        done => done,
+    }
+}
+
+// Opens a directory and syncs it.
+fn open_and_sync(rt: &HostRuntime, directory: &str) -> io::Result<()> {
+    let opened = File::open(rt, directory)?;
+    opened.sync_all()
+}
+
 // Syncs a directory. A file system that has no sync of directories needs none.
 fn sync_directory(rt: &HostRuntime, directory: &str) -> Result<(), FileFault> {
-    let synced = match File::open(rt, directory) {
-        Ok(opened) => opened.sync_all(),
-        Err(error) => Err(error),
-    };
-    match synced {
-        Err(error) if error.kind() != io::ErrorKind::InvalidInput => {
-            Err(file_failed(rt, directory, &error))
-        }
-        _ => Ok(()),
-    }
+    let synced = unless(open_and_sync(rt, directory), io::ErrorKind::InvalidInput);
+    or_told(rt, directory, synced)
 }
 
 // Removes a name from a directory, if it is there.
 fn remove(rt: &HostRuntime, directory: &str, name: &str) -> Result<(), FileFault> {
     let path = Path::new(directory).join(rt.alloc(), name)?;
-    match fs::remove_file(rt, path.as_str()) {
-        Err(error) if error.kind() != io::ErrorKind::NotFound => {
-            Err(file_failed(rt, path.as_str(), &error))
-        }
-        _ => Ok(()),
-    }
+    let removed = unless(fs::remove_file(rt, path.as_str()), io::ErrorKind::NotFound);
+    or_told(rt, path.as_str(), removed)
+}
+
+// Makes an empty file.
+fn make_empty(rt: &HostRuntime, path: &str) -> io::Result<()> {
+    let _made = File::create_new(rt, path)?;
+    Ok(())
 }
 
 // Marks a directory as one that a merge has begun to write into.
 fn mark(rt: &HostRuntime, directory: &str) -> Result<(), FileFault> {
     let path = Path::new(directory).join(rt.alloc(), MARK)?;
-    match File::create_new(rt, path.as_str()) {
-        Err(error) if error.kind() != io::ErrorKind::AlreadyExists => {
-            Err(file_failed(rt, path.as_str(), &error))
-        }
-        _ => sync_directory(rt, directory),
-    }
+    let marked = unless(make_empty(rt, path.as_str()), io::ErrorKind::AlreadyExists);
+    or_told(rt, path.as_str(), marked)?;
+    sync_directory(rt, directory)
 }
 
 // Whether a merge wrote a plan for the host of that name.
 fn has_plan(rt: &HostRuntime, directory: &str, host: &str) -> Result<bool, FileFault> {
-    let mut name = String::from_str(rt.alloc(), PLAN)?;
-    name.push_str(host)?;
-    let path = Path::new(directory).join(rt.alloc(), name.as_str())?;
+    let path = path_of(rt, directory, PLAN, host)?;
     is_file_with(rt, path.as_str(), b"unify plan ")
 }
 
@@ -134,13 +147,24 @@ fn remove_of_host(
     Ok(())
 }
 
-// Removes the files of hosts that an earlier merge wrote, also those of hosts that are no more. The plans go last, since
-// they tell whose the others are.
+// Removes the files of hosts that have such names.
+fn remove_with(
+    rt: &HostRuntime,
+    directory: &str,
+    start: &str,
+    words: &[&str],
+) -> Result<(), FileFault> {
+    for name in &names_with(rt, directory, start)? {
+        remove_of_host(rt, directory, name.as_str(), start, words)?;
+    }
+    Ok(())
+}
+
+// Removes the files of hosts that an earlier merge wrote, also those of hosts that are no more. The
+// plans go last, since they tell whose the others are.
 fn remove_of_hosts(rt: &HostRuntime, directory: &str, words: &[&str]) -> Result<(), FileFault> {
     for start in &[OWN_PASSWD, OWN_GROUP, PLAN] {
-        for name in &names_with(rt, directory, *start)? {
-            remove_of_host(rt, directory, name.as_str(), *start, words)?;
-        }
+        remove_with(rt, directory, *start, words)?;
     }
     Ok(())
 }
@@ -153,8 +177,9 @@ fn remove_temporary(rt: &HostRuntime, directory: &str) -> Result<(), FileFault> 
     Ok(())
 }
 
-/// Begins to write a merge of the hosts that words name into a directory: the report, the hosts' own files and the plans of an
-/// earlier merge go before any of its other files does, and the directory has a mark until the new report stands.
+/// Begins to write a merge of the hosts that words name into a directory: the report, the hosts'
+/// own files and the plans of an earlier merge go before any of its other files does, and the
+/// directory has a mark until the new report stands.
 pub fn begin_output(rt: &HostRuntime, directory: &str, words: &[&str]) -> Result<(), FileFault> {
     mark(rt, directory)?;
     remove(rt, directory, "report")?;
