@@ -28,7 +28,7 @@ pub fn has_change(records: &[Record], i: usize, path: &[u8], before: Owner, afte
 }
 
 /// What came of a change.
-#[derive(Clone, Copy, Debug)]
+#[derive(Clone, Copy)]
 pub struct Change {
     /// Whether the file was given its new owner.
     pub is_made: bool,

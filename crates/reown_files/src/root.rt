@@ -12,7 +12,7 @@ use reown_plan::{Owner, PlanMark};
 use std::collections::{BTreeMap, BTreeSet};
 
 // The names of a file that has several.
-#[derive(Clone, Copy, Debug)]
+#[derive(Clone, Copy)]
 struct Names {
     // How many are in the plan.
     met: u64,
@@ -67,6 +67,18 @@ impl<'w> Below<'w> {
     fn look(&mut self, path: &[u8]) -> Result<Found, Trouble> {
         let name = self.way.enter(path)?;
         self.find(name)
+    }
+
+    // What is told of it.
+    fn see(&mut self, path: &[u8]) -> Result<Seen, Trouble> {
+        let found = self.look(path)?;
+        Ok(seen_in(&found))
+    }
+
+    // Its owner.
+    fn owner(&mut self, path: &[u8]) -> Result<Owner, Trouble> {
+        let found = self.look(path)?;
+        Ok(found.owner)
     }
 
     // Counts a name of a file that has several.
@@ -252,6 +264,21 @@ impl<'w> Root<'w> {
     {
         self.below.has_one_journal = true;
     }
+
+    // The mode that was noted for a file of a plan, where the file has this owner and has lost it.
+    fn lost(&mut self, plan: &PlanMark, path: &[u8], owner: Owner) -> Result<Option<u32>, Trouble>
+        ensures { self.new.log.calls ≡ self.old.log.calls }
+    {
+        let Some(mode) = self.modes.noted(plan, path) else {
+            return Ok(None);
+        };
+        let found = self.below.look(path)?;
+        if found.owner == owner && has_lost(&found, mode) {
+            Ok(Some(mode))
+        } else {
+            Ok(None)
+        }
+    }
 }
 
 ghost use Rattle.reown_files.specs.OneFile.{seen_if_there};
@@ -280,19 +307,21 @@ impl<'w> Disk for Root<'w> {
     ghost calls = { λ root. root.log.calls };
 
     fn look(&mut self, path: &[u8]) -> Result<Option<Seen>, Trouble> {
-        let seen = if_there(self.below.look(path))?.map(|found| seen_in(&found));
+        let seen = if_there(self.below.see(path))?;
         self.log.note(&Call::Looked(path, seen));
         Ok(seen)
     }
 
     fn meet(&mut self, path: &[u8], after: Owner) -> Result<Option<Owner>, Trouble> {
-        let found = if_there(self.below.meet(path, after))?;
-        if let Some(found) = &found {
-            if found.owner != after {
-                self.modes.meet(path, found)?;
+        let owner = match if_there(self.below.meet(path, after))? {
+            Some(found) => {
+                if found.owner != after {
+                    self.modes.meet(path, &found)?;
+                }
+                Some(found.owner)
             }
-        }
-        let owner = found.map(|found| found.owner);
+            None => None,
+        };
         self.log.note(&Call::Met(path, owner));
         Ok(owner)
     }
@@ -311,11 +340,7 @@ impl<'w> Disk for Root<'w> {
     }
 
     fn owner(&mut self, path: &[u8]) -> Result<Option<Owner>, Trouble> {
-        match if_there(self.below.look(path)) {
-            Ok(Some(found)) => Ok(Some(found.owner)),
-            Ok(None) => Ok(None),
-            Err(trouble) => Err(trouble),
-        }
+        if_there(self.below.owner(path))
     }
 
     fn give(&mut self, path: &[u8], before: Owner, after: Owner) -> Result<Modes, Trouble> {
@@ -369,14 +394,7 @@ impl<'w> Disk for Root<'w> {
         path: &[u8],
         owner: Owner,
     ) -> Result<Option<u32>, Trouble> {
-        let lost = match self.modes.noted(plan, path) {
-            Some(mode) => {
-                let found = self.below.look(path)?;
-                let is_lost = found.owner == owner && has_lost(&found, mode);
-                if is_lost { Some(mode) } else { None }
-            }
-            None => None,
-        };
+        let lost = self.lost(plan, path, owner)?;
         self.log.note(&Call::LostMode(plan, path, owner, lost));
         Ok(lost)
     }

@@ -28,7 +28,7 @@ const ELOOP: i32 = 40;
 const MODE_BITS: u32 = 0o7777;
 
 /// What kind of file a name stands for.
-#[derive(Clone, Copy, Debug, PartialEq, Eq)]
+#[derive(Clone, Copy, PartialEq, Eq)]
 pub enum Kind {
     Regular,
     Directory,
@@ -37,7 +37,7 @@ pub enum Kind {
 }
 
 /// What is known of a file (stat(2)).
-#[derive(Clone, Copy, Debug, PartialEq, Eq)]
+#[derive(Clone, Copy)]
 pub struct Found {
     pub owner: Owner,
     pub kind: Kind,
@@ -106,14 +106,6 @@ fn found_in(answer: io::Result<Metadata>) -> Result<Found, Trouble> {
     }
 }
 
-// The file that was opened.
-fn opened(answer: io::Result<File>) -> Result<File, Trouble> {
-    match answer {
-        Ok(file) => Ok(file),
-        Err(error) => Err(trouble_of(&error)),
-    }
-}
-
 /// A regular file or a directory that is open.
 #[derive(Drop)]
 pub struct OpenFile {
@@ -142,6 +134,14 @@ impl OpenFile {
     }
 }
 
+// Opens what a path leads to, for reading.
+fn open_at(rt: &HostRuntime, path: &str) -> Result<OpenFile, Trouble> {
+    match File::open(rt, path) {
+        Ok(file) => Ok(OpenFile { file }),
+        Err(error) => Err(trouble_of(&error)),
+    }
+}
+
 /// A directory that is open, and what it is.
 #[derive(Drop)]
 pub struct Directory {
@@ -151,8 +151,7 @@ pub struct Directory {
 
 impl Directory {
     // What was opened, if it is a directory.
-    fn of(file: File) -> Result<Directory, Trouble> {
-        let file = OpenFile { file };
+    fn of(file: OpenFile) -> Result<Directory, Trouble> {
         let found = file.itself()?;
         if found.kind != Kind::Directory {
             return Err(Trouble::NotDirectory);
@@ -166,7 +165,7 @@ impl Directory {
             return Err(Trouble::Gone);
         }
         let inside = Path::new(path).join(rt.alloc(), ".")?;
-        Directory::of(opened(File::open(rt, inside.as_str()))?)
+        Directory::of(open_at(rt, inside.as_str())?)
     }
 
     /// What it is.
@@ -254,12 +253,10 @@ pub fn go_below(rt: &HostRuntime, name: &[u8], device: u64) -> Result<(), Troubl
 // Opens what has a name: what is to be a directory only if it is one.
 fn open_as(rt: &HostRuntime, name: &str, kind: Kind) -> Result<OpenFile, Trouble> {
     if kind != Kind::Directory {
-        let file = opened(File::open(rt, name))?;
-        return Ok(OpenFile { file });
+        return open_at(rt, name);
     }
     let inside = path_with(rt, name, "/.")?;
-    let file = opened(File::open(rt, inside.as_str()))?;
-    Ok(OpenFile { file })
+    open_at(rt, inside.as_str())
 }
 
 /// Opens the regular file or the directory that was seen under a name, for reading, where it has

@@ -3,6 +3,8 @@
 
 use crate::Trouble;
 use crate::walk::{Directory, go_below, go_to};
+use idtext::Pieces;
+use memchr::memrchr;
 
 /// A directory that is open, and one below it that is the working directory.
 #[derive(Drop)]
@@ -24,7 +26,7 @@ fn is_name(part: &[u8]) -> bool {
 
 // The directory part of a path, and the name in it: an empty one and `.` for the root itself.
 fn split_name(path: &[u8]) -> (&[u8], &[u8]) {
-    match path.iter().rposition(|byte| *byte == b'/') {
+    match memrchr(b'/', path) {
         Some(slash) => (&path[..slash], &path[slash + 1..]),
         None => (b"", path),
     }
@@ -68,7 +70,7 @@ impl<'w> Way<'w> {
 
     // Goes down from the working directory, part by part.
     fn go_down(&self, path: &[u8]) -> Result<(), Trouble> {
-        for part in path.split(|byte| *byte == b'/') {
+        for part in Pieces::new(b'/', path) {
             if !is_name(part) {
                 return Err(Trouble::BadPath);
             }

@@ -22,3 +22,12 @@ loop-i-preserved g c =
       begun = λ plan h. ap (is_begun plan) c.keep.ensures ∙ c.loop-i.invariant.begun plan h;
       replayed = ap replay c.keep.ensures ∙ c.loop-i.invariant.replayed;
     }
+
+pub returns-in-Err-clause-lawful : goal.returns-in-Err-clause-lawful
+returns-in-Err-clause-lawful g c = λ mark plan h. ap (is_lawful mark plan) c.keep.ensures ∙ c.loop-i.invariant.lawful mark plan h
+
+pub returns-in-Err-clause-begun : goal.returns-in-Err-clause-begun
+returns-in-Err-clause-begun g c = λ plan h. ap (is_begun plan) c.keep.ensures ∙ c.loop-i.invariant.begun plan h
+
+pub returns-in-Err-clause-replayed : goal.returns-in-Err-clause-replayed
+returns-in-Err-clause-replayed g c = ap replay c.keep.ensures ∙ c.loop-i.invariant.replayed
