@@ -2,7 +2,7 @@
 use Rattle.std.proofs.Common.{◌≡◌, ℕ, List, [], ◌∷◌, Option, Some, None, refl, sym, ap, subst, ◌∙◌}
 use Rattle.std.specs.Prelude.{MatchOption}
 use Rattle.std.specs.List.{AllZip}
-use Rattle.accounts.specs.Rows.{Passwd, Group}
+use Rattle.accounts.specs.Rows.{Passwd}
 use Rattle.hosts_join.specs.Accounts.{Accounts, owner}
 use Rattle.hosts_join.specs.Kinds.{user_at, group_at}
 use Rattle.hosts_join.specs.Laws.{IsOwnedAsTold}

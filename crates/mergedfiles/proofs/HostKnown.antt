@@ -1,10 +1,10 @@
--- The names of a host of a numbered site, and their new numbers.
+-- The hosts of a numbered site, their names and the new numbers of these.
 use Rattle.std.proofs.Common.{◌≡◌, ℕ, ◌==◌, true, false, List, [], ◌∷◌, refl, sym, ap, ◌∙◌, subst, Option, Some}
 use Rattle.std.specs.Prelude.{is_some, slice_get}
 use Rattle.std.specs.List.{AllByRecursion, filter, find}
 use Rattle.std.specs.Option.{option_and_then, option_map}
 use Rattle.std.proofs.lemmas.Bool.{true≢false}
-use Rattle.std.proofs.lemmas.List.Elements.{All-from_recursion}
+use Rattle.std.proofs.lemmas.List.Elements.{All-contains_itself, All-from_recursion, All-weaker}
 use Rattle.accounts.specs.Rows.{Passwd, Group}
 use Rattle.accounts.proofs.LawLemmas.{passwd-law, group-law}
 use Rattle.hosts_join.specs.declared.host.Host.{Host}
@@ -17,10 +17,11 @@ use Rattle.hosts_join.proofs.Knowing.{host-known}
 use Rattle.ownership.specs.Mappings.{Mappings, number_under}
 use Rattle.mergedfiles.specs.FullTables.{HostsJoinInFull, IsNumberedHost}
 use Rattle.mergedfiles.specs.HostReadBack.{IsRenumberedUser, IsRenumberedGroup}
-use Rattle.mergedfiles.specs.ReadBack.{HasNumber, IsGivenToNone, IsNumbered}
+use Rattle.mergedfiles.specs.InPart.{AllIsInPart, WasReadInPart}
+use Rattle.mergedfiles.specs.ReadBack.{HasNumber, IsGivenToNone, IsNumbered, WasRead}
 use Rattle.mergedfiles.proofs.HostNames.{IsFound, each-found, told-by}
 use Rattle.mergedfiles.proofs.Places.{is-there, name-place, placed-name}
-use Rattle.mergedfiles.proofs.ReadHosts.{all-primary, host-read}
+use Rattle.mergedfiles.proofs.ReadHosts.{all-primary, host-holds}
 use Rattle.mergedfiles.proofs.ReadLines.{both-hold}
 use Rattle.mergedfiles.proofs.ReadText.{all-says}
 
@@ -75,7 +76,7 @@ module _ (hosts : List Host) (site : Joined) (m : Mappings) (h : ℕ) (host : Ho
   -- the site knows the host
   pub known : KnowsHost site h host
   known =
-      let was = host-read hosts h host is.read here in
+      let was = host-holds WasRead hosts h host is.read here in
       let users = (user_rows-table host.users (passwd-law was.passwd host.users was.users)).numbers_differ in
       let groups = (group_rows-table host.groups (group-law was.group host.groups was.groups)).numbers_differ in
       record {
@@ -98,13 +99,13 @@ module _ (hosts : List Host) (site : Joined) (m : Mappings) (h : ℕ) (host : Ho
 
   users-there : AllByRecursion (IsOfSite user_name site.users) host.users
   users-there =
-      let was = host-read hosts h host is.read here in
+      let was = host-holds WasRead hosts h host is.read here in
       all-says (IsFound user_name user_number host.users) (IsOfSite user_name site.users) (λ row found. user-there row.uid row.name found) host.users
       (each-found user_name user_number host.users (passwd-law was.passwd host.users was.users).numbers_differ)
 
   groups-there : AllByRecursion (IsOfSite group_name site.groups) host.groups
   groups-there =
-      let was = host-read hosts h host is.read here in
+      let was = host-holds WasRead hosts h host is.read here in
       all-says (IsFound group_name group_number host.groups) (IsOfSite group_name site.groups) (λ row found. group-there row.gid row.name found) host.groups
       (each-found group_name group_number host.groups (group-law was.group host.groups was.groups).numbers_differ)
 
@@ -152,7 +153,7 @@ module _ (hosts : List Host) (site : Joined) (m : Mappings) (h : ℕ) (host : Ho
 
   pub all-users : AllByRecursion (λ row. IsRenumberedUser host site m row (new_user site m host row)) host.users
   all-users =
-      let was = host-read hosts h host is.read here in
+      let was = host-holds WasRead hosts h host is.read here in
       all-says (λ (row : Passwd). IsOfSite user_name site.users row × HasGroup row) (λ row. IsRenumberedUser host site m row (new_user site m host row)) new-user host.users
       (both-hold (IsOfSite user_name site.users) HasGroup host.users users-there (all-primary host was.primary))
 
@@ -164,3 +165,24 @@ module _ (hosts : List Host) (site : Joined) (m : Mappings) (h : ℕ) (host : Ho
 
 pub hosts_join_in_full : HostsJoinInFull
 hosts_join_in_full hosts site m h host is here = in-full hosts site m h host is here
+
+pub all_is_in_part : AllIsInPart
+all_is_in_part hosts site m is = record {
+  read = All-weaker WasRead WasReadInPart (λ host was. record {
+    passwd = was.passwd;
+    all_users = host.users;
+    users = was.users;
+    each_user = All-contains_itself host.users;
+    group = was.group;
+    all_groups = host.groups;
+    groups = was.groups;
+    each_group = All-contains_itself host.groups;
+  }) hosts is.read;
+  joined = is.joined;
+  knows = λ h host here. known hosts site m h host is here;
+  lawful = is.lawful;
+  users = is.users;
+  for_users = is.for_users;
+  groups = is.groups;
+  for_groups = is.for_groups;
+}

@@ -17,12 +17,14 @@ use Rattle.hosts_join.specs.Accounts.{nobody}
 use Rattle.hosts_join.specs.Rules.{account}
 use Rattle.hosts_join.specs.Site.{Joined}
 use Rattle.ownership.specs.Mappings.{Mappings}
+use Rattle.mergedfiles.specs.InPart.{GroupInPartReadsBack, IsNumberedInPart, WasReadInPart}
 use Rattle.mergedfiles.specs.Order.{by_number}
-use Rattle.mergedfiles.specs.ReadBack.{WasRead, IsRowLine, IsNumbered, IsMergedGroup, MergedGroupReadsBack}
+use Rattle.mergedfiles.specs.ReadBack.{IsRowLine, IsMergedGroup, MergedGroupReadsBack}
 use Rattle.mergedfiles.specs.Rows.{GroupRow, groups_named, first_of, joined_users}
 use Rattle.mergedfiles.specs.Texts.{field, group_line, merged_group}
 use Rattle.mergedfiles.proofs.Having.{groups-had}
-use Rattle.mergedfiles.proofs.ReadHosts.{first-on, some-first, host-read, group-plain, all-members-plain}
+use Rattle.mergedfiles.proofs.HostKnown.{all_is_in_part}
+use Rattle.mergedfiles.proofs.ReadHosts.{first-on, some-first, host-holds, group-plain, all-members-plain}
 use Rattle.mergedfiles.proofs.ReadLines.{IsPlain, Lacks, name-plain, decimal-plain, field-first, field-last, field-lacks, name-kept, name-not_compat}
 use Rattle.mergedfiles.proofs.ReadMembers.{joined-are, members-plain, members-back}
 use Rattle.mergedfiles.proofs.ReadOrder.{IsAt, IsOf, all-at, all-rows, ascends, ascending, names-apart, numbers-apart, looked-up, place-named}
@@ -56,7 +58,7 @@ module _ (name password : List ℕ) (gid : ℕ) (users : List ℕ) (lawful : is_
 
 -- ---- a group of a site
 
-module _ (hosts : List Host) (site : Joined) (m : Mappings) (is : IsNumbered hosts site m) where
+module _ (hosts : List Host) (site : Joined) (m : Mappings) (is : IsNumberedInPart hosts site m) where
   abbrev text_of : ℕ × ℕ → List ℕ
   text_of p = merged_group hosts (account site.groups p.0).name p.1
 
@@ -75,9 +77,8 @@ module _ (hosts : List Host) (site : Joined) (m : Mappings) (is : IsNumbered hos
   line-of p at h host group here found first =
       let name = (account site.groups p.0).name in
       let within : p.0 < length site.groups.names = omega (arith, at.0, is.for_groups) in
-      let read = host-read hosts h host is.read here in
-      let plain = group-plain host name group read found in
-      let members = joined-are (groups_named name hosts) (all-members-plain name hosts (recursion_from_All WasRead hosts is.read)) in
+      let plain = group-plain host name group (host-holds WasReadInPart hosts h host is.read here) found in
+      let members = joined-are (groups_named name hosts) (all-members-plain name hosts (recursion_from_All WasReadInPart hosts is.read)) in
       let users = join_with_byte 44 (joined_users (groups_named name hosts)) in
       let between : IsPlain users = members-plain (joined_users (groups_named name hosts)) members in
       let lawful : is_lawful_name name ≡ true = is.lawful.groups.lawful p.0 nobody within in
@@ -120,8 +121,8 @@ passes n line group few short is =
     let long : nat_lt 65535 (length line) ≡ false = le-ltb 65535 (length line) short in
     rw (number, long, is.kept, is.not_compat, is.read) refl
 
-pub group_reads_back : MergedGroupReadsBack
-group_reads_back hosts site m is =
+pub group_in_part_back : GroupInPartReadsBack
+group_in_part_back hosts site m is =
     let text = text_of hosts site m is in
     let Of = Is hosts site m is in
     let all = all-says (IsAt m.groups) (SaysRow group_from text Of) (says hosts site m is) (by_number m.groups) (all-at m.groups) in
@@ -141,3 +142,6 @@ group_reads_back hosts site m is =
         each_name = looked-up name number (IsMergedGroup hosts site m) site.groups m.groups rows is.for_groups is.groups.distinct z;
       };
     }
+
+pub group_reads_back : MergedGroupReadsBack
+group_reads_back hosts site m is = group_in_part_back hosts site m (all_is_in_part hosts site m is)

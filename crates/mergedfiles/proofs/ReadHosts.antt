@@ -1,29 +1,29 @@
 -- What the hosts that were read give of a name.
-use Rattle.std.proofs.Common.{◌≡◌, ℕ, suc, ◌==◌, Bool, true, false, cond, List, [], ◌∷◌, ◌++◌, refl, ap, ◌∙◌, subst, inl, inr, Option, Some, None, Ok}
-use Rattle.std.specs.Prelude.{is_some, slice_get}
+use Rattle.std.proofs.Common.{◌≡◌, ℕ, suc, ◌<◌, ◌≤◌, ◌==◌, Bool, true, false, cond, List, [], ◌∷◌, ◌++◌, length, refl, sym, ap, subst, arith, inl, inr, Option, Some, None, Ok}
+use Rattle.std.specs.Prelude.{Contains, MatchOption, is_some, slice_get}
 use Rattle.std.specs.List.{All, AllByRecursion, cons_option, filter_map, find}
 use Rattle.std.specs.Option.{option_and_then, option_map}
 use Rattle.std.specs.Str.{bytes_eq}
 use Rattle.std.proofs.lemmas.Bool.{cases_Bool}
+use Rattle.std.proofs.lemmas.List.Elements.{All-contains, All-from_recursion, recursion_from_All}
 use Rattle.std.proofs.lemmas.Option.{same_Some, slice_get_within, get_or_from_slice_get}
 use Rattle.idtext.specs.First.{first_fault}
 use Rattle.idtext.proofs.FirstLemmas.{none_of_both}
 use Rattle.idtext.proofs.OkLemmas.{unless_ok}
 use Rattle.accounts.specs.Rows.{Passwd, Group}
-use Rattle.accounts.proofs.LawLemmas.{group-law}
 use Rattle.hosts_join.specs.declared.fault.SiteFault.{SiteFault}
 use Rattle.hosts_join.specs.declared.host.Host.{Host}
-use Rattle.hosts_join.specs.Accounts.{Accounts, place_of}
+use Rattle.hosts_join.specs.Accounts.{Account, place_of}
 use Rattle.hosts_join.specs.Checks.{gid_fault, primary_checked}
-use Rattle.hosts_join.specs.Kinds.{group_at, group_rows, group_rows-table}
+use Rattle.hosts_join.specs.Kinds.{group_at}
+use Rattle.hosts_join.specs.Laws.{IsOwnedAsTold, KnowsHost}
 use Rattle.hosts_join.specs.Site.{Joined}
-use Rattle.hosts_join.proofs.Knowing.{host-known}
-use Rattle.ownership.specs.Mappings.{number_under, number_at}
-use Rattle.mergedfiles.specs.ReadBack.{WasRead}
+use Rattle.ownership.specs.Mappings.{IsMapping, number_under, number_at}
+use Rattle.mergedfiles.specs.InPart.{WasReadInPart}
+use Rattle.mergedfiles.specs.ReadBack.{HasNumber}
 use Rattle.mergedfiles.specs.Rows.{GroupRow, first_of, groups_named}
 use Rattle.mergedfiles.specs.Texts.{new_gid}
-use Rattle.mergedfiles.specs.Together.{AreJoined}
-use Rattle.mergedfiles.proofs.Places.{is-there}
+use Rattle.mergedfiles.proofs.Places.{place-within}
 use Rattle.mergedfiles.proofs.ReadLines.{IsPlain}
 use Rattle.mergedfiles.proofs.ReadRows.{HasPlainFields, HasPlainParts, users-plain, groups-plain}
 
@@ -64,21 +64,25 @@ pub some-first : {V : Type 0} (vs : List V) → (vs ≡ [] → ⊥) → (v : V) 
 some-first [] none = absurd (none refl)
 some-first (v ∷ vs) none = (v, refl)
 
-pub host-read : (hosts : List Host) (h : ℕ) (host : Host) → All WasRead hosts → slice_get hosts h ≡ Some host → WasRead host
-host-read hosts h host read here = subst WasRead (get_or_from_slice_get hosts h host host here) (read h host (slice_get_within hosts h host here))
+pub host-holds : (P : Host → Type 0) (hosts : List Host) (h : ℕ) (host : Host) → All P hosts → slice_get hosts h ≡ Some host → P host
+host-holds P hosts h host all here = subst P (get_or_from_slice_get hosts h host host here) (all h host (slice_get_within hosts h host here))
 
-pub user-plain : (host : Host) (name : List ℕ) (row : Passwd) → WasRead host → find (λ row. bytes_eq name row.name) host.users ≡ Some row → HasPlainFields row
-user-plain host name row read found = found-holds HasPlainFields (λ (row : Passwd). bytes_eq name row.name) host.users row (users-plain read.passwd host.users read.users) found
+-- a row that is found is one of those that are so
+some-found : {R : Type 0} (P : R → Type 0) (test : R → Bool) (all rows : List R) (row : R) → AllByRecursion P all → All (Contains all) rows → find test rows ≡ Some row → P row
+some-found P test all rows row holds among found = All-contains P all row (All-from_recursion P all holds) (found-holds (Contains all) test rows row (recursion_from_All (Contains all) rows among) found)
 
-pub group-plain : (host : Host) (name : List ℕ) (row : Group) → WasRead host → find (λ row. bytes_eq name row.name) host.groups ≡ Some row → HasPlainParts row
-group-plain host name row read found = found-holds HasPlainParts (λ (row : Group). bytes_eq name row.name) host.groups row (groups-plain read.group host.groups read.groups) found
+pub user-plain : (host : Host) (name : List ℕ) (row : Passwd) → WasReadInPart host → find (λ row. bytes_eq name row.name) host.users ≡ Some row → HasPlainFields row
+user-plain host name row read found = some-found HasPlainFields (λ (row : Passwd). bytes_eq name row.name) read.all_users host.users row (users-plain read.passwd read.all_users read.users) read.each_user found
+
+pub group-plain : (host : Host) (name : List ℕ) (row : Group) → WasReadInPart host → find (λ row. bytes_eq name row.name) host.groups ≡ Some row → HasPlainParts row
+group-plain host name row read found = some-found HasPlainParts (λ (row : Group). bytes_eq name row.name) read.all_groups host.groups row (groups-plain read.group read.all_groups read.groups) read.each_group found
 
 -- ---- the users of a group on all hosts
 
 abbrev group_row_on : Host → Group → GroupRow
 group_row_on host row = record { host = host; row = row }
 
-pub all-members-plain : (name : List ℕ) (hosts : List Host) → AllByRecursion WasRead hosts → AllByRecursion (λ (group : GroupRow). IsPlain group.row.members) (groups_named name hosts)
+pub all-members-plain : (name : List ℕ) (hosts : List Host) → AllByRecursion WasReadInPart hosts → AllByRecursion (λ (group : GroupRow). IsPlain group.row.members) (groups_named name hosts)
 all-members-plain name [] read = tt
 all-members-plain name (host ∷ hosts) read = by (find (λ row. bytes_eq name row.name) host.groups) refl (all-members-plain name hosts read.1)
   where
@@ -104,30 +108,29 @@ pub all-primary : (host : Host) → primary_checked host ≡ Ok tt → AllByRecu
 unfolding primary_checked
 all-primary host e = each-primary host [] host.users (unless_ok (first_fault (gid_fault host) [] host.users) tt tt e).0
 
-told-by : (v : ℕ) (rows : List Group) → option_map (λ (p : List ℕ × ℕ). p.0) (find (λ (p : List ℕ × ℕ). v == p.1) (group_rows rows)) ≡ option_map (λ (row : Group). row.name) (find (λ (row : Group). v == row.gid) rows)
-told-by v [] = refl
-told-by v (row ∷ rows) = elim (cases_Bool (v == row.gid)) [ inl t ↦ rw t refl | inr f ↦ rw f (told-by v rows) ]
-
--- the primary group of a user: its name on the host, its place among the names of the site, and its new number
+-- the gid of a user in the merged passwd: the new number of its group, or where that was not joined its own
 pub record HasPrimary (site : Joined) (gids : List ℕ) (host : Host) (row : Passwd) : Type 0 where
-  pub name : List ℕ
-  pub named : group_at host.groups row.gid ≡ Some name
-  pub place : ℕ
-  pub placed : place_of site.groups.names name ≡ Some place
-  pub number : new_gid site.groups gids host row.gid ≡ number_at gids place
+  pub small : new_gid site.groups gids host row.gid ≤ 4294967294
+  pub is : MatchOption (group_at host.groups row.gid) (new_gid site.groups gids host row.gid ≡ row.gid) (λ group. HasNumber site.groups gids group (new_gid site.groups gids host row.gid))
 
-pub primary-of : (hosts : List Host) (site : Joined) (gids : List ℕ) (h : ℕ) (host : Host) (name : List ℕ) (row : Passwd) → AreJoined hosts site → WasRead host → slice_get hosts h ≡ Some host → find (λ row. bytes_eq name row.name) host.users ≡ Some row → HasPrimary site gids host row
-primary-of hosts site gids h host name row joined read here found =
-    let has = found-holds (λ (r : Passwd). is_some (find (λ (group : Group). r.gid == group.gid) host.groups) ≡ true) (λ (r : Passwd). bytes_eq name r.name) host.users row (all-primary host read.primary) found in
-    let group = is-there (find (λ (group : Group). row.gid == group.gid) host.groups) has in
-    let named : group_at host.groups row.gid ≡ Some group.0.name = ap (option_map (λ (g : Group). g.name)) group.1 in
-    let table = (group_rows-table host.groups (group-law read.group host.groups read.groups)).numbers_differ in
-    let owned = host-known (λ (x : Host). x.ranges.gid) (λ (x : Host). x.ranges.sys_gid) (λ (x : Host). group_rows x.groups) h row.gid hosts host (Some group.0.name) here table (told-by row.gid host.groups ∙ named) in
-    let placed : place_of site.groups.names group.0.name ≡ Some owned.0 = ap (λ (a : Accounts). place_of a.names group.0.name) joined.groups ∙ owned.2 in
-    record {
-      name = group.0.name;
-      named = named;
-      place = owned.0;
-      placed = placed;
-      number = ap (λ o. number_under gids (option_and_then (λ (g : Group). place_of site.groups.names g.name) o) row.gid) group.1 ∙ ap (λ o. number_under gids o row.gid) placed;
-    }
+module _ (site : Joined) (gids : List ℕ) (mapping : IsMapping gids) (long : length gids ≡ length site.groups.names) (h : ℕ) (host : Host) (known : KnowsHost site h host) (row : Passwd) (id : row.gid ≤ 4294967294) where
+  abbrev number-of : Option Group → ℕ
+  number-of o = number_under gids (option_and_then (λ (g : Group). place_of site.groups.names g.name) o) row.gid
+
+  pub primary-of : HasPrimary site gids host row
+  primary-of = by (find (λ (group : Group). row.gid == group.gid) host.groups) refl
+    where
+      by : (o : Option Group) → find (λ (group : Group). row.gid == group.gid) host.groups ≡ o → HasPrimary site gids host row
+      by None e = record {
+        small = subst (λ o. number-of o ≤ 4294967294) (sym e) id;
+        is = subst (λ o. MatchOption (option_map (λ (g : Group). g.name) o) (number-of o ≡ row.gid) (λ group. HasNumber site.groups gids group (number-of o))) (sym e) refl;
+      }
+      by (Some group) e =
+          let owned = subst (λ o. IsOwnedAsTold site.groups.names h row.gid (option_map (λ (g : Group). g.name) o)) e (known.groups row.gid) in
+          let number : number_at gids owned.0 ≡ number-of (Some group) = sym (ap (λ p. number_under gids p row.gid) owned.2) in
+          let within : owned.0 < length site.groups.names = place-within (λ (a : Account). bytes_eq group.name a.name) site.groups.names owned.0 owned.2 in
+          let small : number_at gids owned.0 ≤ 4294967294 = mapping.ids owned.0 0 (omega (arith, within, long)) in
+          record {
+            small = subst (λ o. number-of o ≤ 4294967294) (sym e) (subst (λ v. v ≤ 4294967294) number small);
+            is = subst (λ o. MatchOption (option_map (λ (g : Group). g.name) o) (number-of o ≡ row.gid) (λ group. HasNumber site.groups gids group (number-of o))) (sym e) (owned.0, owned.2, number);
+          }

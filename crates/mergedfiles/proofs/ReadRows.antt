@@ -1,5 +1,5 @@
--- The fields of rows that were read have neither colons nor newlines.
-use Rattle.std.proofs.Common.{◌≡◌, ℕ, ◌+◌, Bool, true, false, cond, List, [], ◌∷◌, ◌++◌, refl, subst, Option, Some, None, Result, Ok, Err}
+-- The fields of rows that were read have neither colons nor newlines, and a gid is an id.
+use Rattle.std.proofs.Common.{◌≡◌, ℕ, ◌+◌, ◌≤◌, Bool, true, false, cond, List, [], ◌∷◌, ◌++◌, refl, subst, Option, Some, None, Result, Ok, Err}
 use Rattle.std.specs.List.{AllByRecursion}
 use Rattle.idtext.specs.declared.faults.TextFault.{TextFault}
 use Rattle.idtext.specs.First.{◌>>=◌, first_fault}
@@ -8,7 +8,7 @@ use Rattle.idtext.proofs.OkLemmas.{bind_ok}
 use Rattle.accounts.specs.Lines.{is_kept}
 use Rattle.accounts.specs.Rows.{Passwd, Group, passwd_from, passwd_line, group_from, group_line}
 use Rattle.accounts.specs.Tables.{row_in, rows_from, line_fault, passwd_table, group_table}
-use Rattle.accounts.proofs.LawLemmas.{told_ok}
+use Rattle.accounts.proofs.LawLemmas.{passwd_line-lawful, told_ok}
 use Rattle.mergedfiles.proofs.ReadLines.{Lacks, IsPlain, lines-lack, fields-plain}
 use Rattle.mergedfiles.proofs.RowFields.{is-group, is-user}
 
@@ -17,6 +17,7 @@ pub record HasPlainFields (row : Passwd) : Type 0 where
   pub comment : IsPlain row.comment
   pub home : IsPlain row.home
   pub shell : IsPlain row.shell
+  pub gid : row.gid ≤ 4294967294
 
 pub record HasPlainParts (row : Group) : Type 0 where
   pub password : IsPlain row.password
@@ -24,10 +25,10 @@ pub record HasPlainParts (row : Group) : Type 0 where
 
 -- ---- a row of fields
 
-passwd-plain : (n : ℕ) (fields : List (List ℕ)) (row : Passwd) → AllByRecursion IsPlain fields → passwd_from n fields ≡ Ok row → HasPlainFields row
-passwd-plain n fields row all e =
+passwd-plain : (n : ℕ) (fields : List (List ℕ)) (row : Passwd) → AllByRecursion IsPlain fields → passwd_from n fields ≡ Ok row → row.gid ≤ 4294967294 → HasPlainFields row
+passwd-plain n fields row all e gid =
     let plain = subst (λ (fs : List (List ℕ)). AllByRecursion IsPlain fs) (is-user n fields row e).are all in
-    record { password = plain.1.0; comment = plain.1.1.1.1.0; home = plain.1.1.1.1.1.0; shell = plain.1.1.1.1.1.1.0 }
+    record { password = plain.1.0; comment = plain.1.1.1.1.0; home = plain.1.1.1.1.1.0; shell = plain.1.1.1.1.1.1.0; gid = gid }
 
 group-plain : (n : ℕ) (fields : List (List ℕ)) (row : Group) → AllByRecursion IsPlain fields → group_from n fields ≡ Ok row → HasPlainParts row
 group-plain n fields row all e =
@@ -45,7 +46,7 @@ passwd_line-plain : (n : ℕ) (line : List ℕ) (row : Passwd) → Lacks 10 line
 unfolding passwd_line
 passwd_line-plain n line row lacks e =
     let kept = bind_ok (is_kept n line) _ (Some row) e in
-    passwd-plain n (fields_of line) row (fields-plain line lacks) (kept-row kept.0 (passwd_from n (fields_of line)) row kept.2)
+    passwd-plain n (fields_of line) row (fields-plain line lacks) (kept-row kept.0 (passwd_from n (fields_of line)) row kept.2) (passwd_line-lawful n line row e).3
 
 group_line-plain : (n : ℕ) (line : List ℕ) (row : Group) → Lacks 10 line → group_line n line ≡ Ok (Some row) → HasPlainParts row
 unfolding group_line

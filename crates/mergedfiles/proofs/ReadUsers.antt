@@ -1,27 +1,32 @@
 -- The merged passwd is read as the rows of its users.
-use Rattle.std.proofs.Common.{◌≡◌, ℕ, ◌<◌, ◌≤◌, true, false, List, [], ◌∷◌, ◌++◌, length, decimal, refl, sym, ap, ◌∙◌, append_assoc, arith, Some, Ok}
-use Rattle.std.specs.Prelude.{nat_lt, slice_get}
+use Rattle.std.proofs.Common.{◌≡◌, ℕ, ◌<◌, ◌≤◌, ◌==◌, true, false, List, [], ◌∷◌, ◌++◌, length, decimal, refl, sym, ap, ◌∙◌, subst, append_assoc, arith, Option, Some, Ok}
+use Rattle.std.specs.Prelude.{MatchOption, is_some, nat_lt, slice_get}
 use Rattle.std.specs.List.{find}
+use Rattle.std.specs.Option.{option_map}
 use Rattle.std.specs.Str.{bytes_eq}
 use Rattle.std.proofs.lemmas.Bool.{le-ltb}
+use Rattle.std.proofs.lemmas.List.Elements.{All-weaker}
 use Rattle.idtext.specs.Names.{is_lawful_name}
 use Rattle.idtext.specs.Pieces.{fields_of}
 use Rattle.idtext.proofs.NumberLemmas.{decimal-back}
-use Rattle.accounts.specs.Rows.{Passwd, passwd_from, passwd_line}
+use Rattle.accounts.specs.Rows.{Passwd, Group, passwd_from, passwd_line}
 use Rattle.accounts.specs.Tables.{passwd_table}
 use Rattle.accounts.proofs.AcceptedLemmas.{passwd_accepted}
 use Rattle.hosts_join.specs.declared.host.Host.{Host}
-use Rattle.hosts_join.specs.Accounts.{Account, nobody}
+use Rattle.hosts_join.specs.Accounts.{nobody}
+use Rattle.hosts_join.specs.Kinds.{group_at}
 use Rattle.hosts_join.specs.Rules.{account}
 use Rattle.hosts_join.specs.Site.{Joined}
 use Rattle.ownership.specs.Mappings.{Mappings}
+use Rattle.mergedfiles.specs.InPart.{IsMergedUserInPart, IsNumberedInPart, PasswdInPartReadsBack, WasReadInPart}
 use Rattle.mergedfiles.specs.Order.{by_number}
-use Rattle.mergedfiles.specs.ReadBack.{IsRowLine, IsNumbered, IsMergedUser, MergedPasswdReadsBack}
+use Rattle.mergedfiles.specs.ReadBack.{HasNumber, IsRowLine, IsNumbered, IsMergedUser, MergedPasswdReadsBack, WasRead}
 use Rattle.mergedfiles.specs.Rows.{UserRow, users_named, first_of}
 use Rattle.mergedfiles.specs.Texts.{field, user_line, merged_user, new_gid}
 use Rattle.mergedfiles.proofs.Having.{users-had}
-use Rattle.mergedfiles.proofs.Places.{place-within}
-use Rattle.mergedfiles.proofs.ReadHosts.{first-on, some-first, host-read, user-plain, primary-of}
+use Rattle.mergedfiles.proofs.HostKnown.{all_is_in_part}
+use Rattle.mergedfiles.proofs.Places.{is-there}
+use Rattle.mergedfiles.proofs.ReadHosts.{all-primary, first-on, found-holds, some-first, host-holds, user-plain, primary-of}
 use Rattle.mergedfiles.proofs.ReadLines.{Lacks, name-plain, decimal-plain, field-first, field-last, field-lacks, name-kept, name-not_compat}
 use Rattle.mergedfiles.proofs.ReadOrder.{IsAt, IsOf, all-at, all-rows, ascends, ascending, names-apart, numbers-apart, looked-up, place-named}
 use Rattle.mergedfiles.proofs.ReadRows.{HasPlainFields}
@@ -60,12 +65,12 @@ module _ (name : List ℕ) (uid gid : ℕ) (row : Passwd) (lawful : is_lawful_na
 
 -- ---- a user of a site
 
-module _ (hosts : List Host) (site : Joined) (m : Mappings) (is : IsNumbered hosts site m) where
+module _ (hosts : List Host) (site : Joined) (m : Mappings) (is : IsNumberedInPart hosts site m) where
   abbrev text_of : ℕ × ℕ → List ℕ
   text_of p = merged_user site.groups m.groups hosts (account site.users p.0).name p.1
 
   abbrev IsUser : Passwd → Type 0
-  IsUser = IsMergedUser hosts site m
+  IsUser = IsMergedUserInPart hosts site m
 
   abbrev Is : ℕ × ℕ → Passwd → Type 0
   Is = IsOf (λ (row : Passwd). row.name) (λ (row : Passwd). row.uid) IsUser site.users m.users
@@ -79,14 +84,12 @@ module _ (hosts : List Host) (site : Joined) (m : Mappings) (is : IsNumbered hos
   line-of p at h host row here found first =
       let name = (account site.users p.0).name in
       let within : p.0 < length site.users.names = omega (arith, at.0, is.for_users) in
-      let read = host-read hosts h host is.read here in
-      let plain = user-plain host name row read found in
-      let primary = primary-of hosts site m.groups h host name row is.joined read here found in
+      let plain = user-plain host name row (host-holds WasReadInPart hosts h host is.read here) found in
+      let primary = primary-of site m.groups is.groups is.for_groups h host (is.knows h host here) row plain.gid in
       let gid = new_gid site.groups m.groups host row.gid in
       let lawful : is_lawful_name name ≡ true = is.lawful.users.lawful p.0 nobody within in
       let user : p.1 ≤ 4294967294 = omega (arith, at.1, is.users.ids p.0 0 at.0) in
-      let placed : primary.place < length m.groups = omega (arith, is.for_groups, place-within (λ (a : Account). bytes_eq primary.name a.name) site.groups.names primary.place primary.placed) in
-      let group : gid ≤ 4294967294 = omega (arith, primary.number, is.groups.ids primary.place 0 placed) in
+      let group : gid ≤ 4294967294 = primary.small in
       record {
         line = bare name p.1 gid row;
         ends = ap (user_line site.groups m.groups name p.1) first ∙ behind (field name) (field row.password) (field (decimal p.1)) (field (decimal gid)) (field row.comment) (field row.home) row.shell (10 ∷ []);
@@ -102,9 +105,7 @@ module _ (hosts : List Host) (site : Joined) (m : Mappings) (is : IsNumbered hos
             uid = (p.0, place-named site.users p.0 is.lawful.users within, sym at.1);
             first = user_row host row;
             first_is = first;
-            group = primary.name;
-            primary = primary.named;
-            gid = (primary.place, primary.placed, sym primary.number);
+            gid = primary.is;
             password = refl;
             comment = refl;
             home = refl;
@@ -130,8 +131,8 @@ passes n line row few short is =
     let long : nat_lt 65535 (length line) ≡ false = le-ltb 65535 (length line) short in
     rw (number, long, is.kept, is.not_compat, is.read) refl
 
-pub passwd_reads_back : MergedPasswdReadsBack
-passwd_reads_back hosts site m is =
+pub passwd_in_part_back : PasswdInPartReadsBack
+passwd_in_part_back hosts site m is =
     let text = text_of hosts site m is in
     let Of = Is hosts site m is in
     let all = all-says (IsAt m.users) (SaysRow passwd_from text Of) (says hosts site m is) (by_number m.users) (all-at m.users) in
@@ -140,14 +141,59 @@ passwd_reads_back hosts site m is =
     let asc = ascends m.users is.users.distinct in
     let name = λ (row : Passwd). row.name in
     let number = λ (row : Passwd). row.uid in
-    let names = names-apart name number (IsMergedUser hosts site m) site.users m.users (λ row user. user.uid) (by_number m.users) rows asc z in
+    let names = names-apart name number (IsMergedUserInPart hosts site m) site.users m.users (λ row user. user.uid) (by_number m.users) rows asc z in
     record {
       rows = rows;
-      reads = reads-as passwd_from text Of passwd_line name number passes passwd_table (by_number m.users) all (passwd_accepted _ rows).1 names (numbers-apart name number (IsMergedUser hosts site m) site.users m.users (by_number m.users) rows asc z);
+      reads = reads-as passwd_from text Of passwd_line name number passes passwd_table (by_number m.users) all (passwd_accepted _ rows).1 names (numbers-apart name number (IsMergedUserInPart hosts site m) site.users m.users (by_number m.users) rows asc z);
       say = record {
-        each_row = all-rows name number (IsMergedUser hosts site m) site.users m.users (by_number m.users) rows z;
+        each_row = all-rows name number (IsMergedUserInPart hosts site m) site.users m.users (by_number m.users) rows z;
         once = names;
-        ascending = ascending name number (IsMergedUser hosts site m) site.users m.users (by_number m.users) rows asc z;
-        each_name = looked-up name number (IsMergedUser hosts site m) site.users m.users rows is.for_users is.users.distinct z;
+        ascending = ascending name number (IsMergedUserInPart hosts site m) site.users m.users (by_number m.users) rows asc z;
+        each_name = looked-up name number (IsMergedUserInPart hosts site m) site.users m.users rows is.for_users is.users.distinct z;
+      };
+    }
+
+-- ---- where all was joined
+
+module _ (hosts : List Host) (site : Joined) (m : Mappings) (is : IsNumbered hosts site m) where
+  -- the group of a user on the first host is there
+  abbrev HasGroup : UserRow → Type 0
+  HasGroup user = (group : List ℕ) × (group_at user.host.groups user.row.gid ≡ Some group)
+
+  has-group : (name : List ℕ) (first : UserRow) → first_of (users_named name hosts) ≡ Some first → HasGroup first
+  has-group name first first_is =
+      let on = first-on (λ (host : Host). host.users) (λ (row : Passwd). bytes_eq name row.name) (λ host row. record { host = host; row = row }) hosts first first_is in
+      let read = host-holds WasRead hosts on.h on.host is.read on.here in
+      let there = found-holds (λ (r : Passwd). is_some (find (λ (group : Group). r.gid == group.gid) on.host.groups) ≡ true) (λ (r : Passwd). bytes_eq name r.name) on.host.users on.row (all-primary on.host read.primary) on.found in
+      let group = is-there (find (λ (group : Group). on.row.gid == group.gid) on.host.groups) there in
+      subst HasGroup on.made (group.0.name, ap (option_map (λ (g : Group). g.name)) group.1)
+
+  in-full : (row : Passwd) → IsMergedUserInPart hosts site m row → IsMergedUser hosts site m row
+  in-full row user =
+      let group = has-group row.name user.first user.first_is in
+      record {
+        uid = user.uid;
+        first = user.first;
+        first_is = user.first_is;
+        group = group.0;
+        primary = group.1;
+        gid = subst (λ (o : Option (List ℕ)). MatchOption o (row.gid ≡ user.first.row.gid) (λ g. HasNumber site.groups m.groups g row.gid)) group.1 user.gid;
+        password = user.password;
+        comment = user.comment;
+        home = user.home;
+        shell = user.shell;
+      }
+
+pub passwd_reads_back : MergedPasswdReadsBack
+passwd_reads_back hosts site m is =
+    let part = passwd_in_part_back hosts site m (all_is_in_part hosts site m is) in
+    record {
+      rows = part.rows;
+      reads = part.reads;
+      say = record {
+        each_row = All-weaker (IsMergedUserInPart hosts site m) (IsMergedUser hosts site m) (in-full hosts site m is) part.rows part.say.each_row;
+        once = part.say.once;
+        ascending = part.say.ascending;
+        each_name = part.say.each_name;
       };
     }

@@ -6,6 +6,7 @@ pub mod HostExample
 pub mod Differences
 pub mod Together
 pub mod ReadBack
+pub mod InPart
 pub mod HostReadBack
 pub mod FullTables
 pub mod Spots

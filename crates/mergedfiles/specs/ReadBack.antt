@@ -104,9 +104,10 @@ pub record IsMergedUser (hosts : List Host) (site : Joined) (m : Mappings)
 
 -- The merged passwd has exactly one row for each user name, and no other; the rows ascend by uid,
 -- so that no two have one. It names each new number as its user.
-pub record AreMergedUsers (hosts : List Host) (site : Joined) (m : Mappings)
+-- IsUser: what each row is
+pub record AreMergedUsers (IsUser : Passwd → Type 0) (site : Joined) (m : Mappings)
     (rows : List Passwd) : Type 0 where
-  pub each_row : All (IsMergedUser hosts site m) rows
+  pub each_row : All IsUser rows
   pub once : AreDistinct (map (λ row. row.name) rows)
   pub ascending : Ascend (map (λ row. row.uid) rows)
   pub each_name : (name : List ℕ) (number : ℕ) → HasNumber site.users m.users name number
@@ -116,7 +117,7 @@ pub record IsMergedPasswd (hosts : List Host) (site : Joined) (m : Mappings)
     (text : List ℕ) : Type 0 where
   pub rows : List Passwd
   pub reads : ReadsAs passwd_from passwd_table text rows
-  pub say : AreMergedUsers hosts site m rows
+  pub say : AreMergedUsers (IsMergedUser hosts site m) site m rows
 
 abbrev pub MergedPasswdReadsBack : Type 0
 MergedPasswdReadsBack =

@@ -9,6 +9,8 @@ ghost use Rattle.mergedfiles.specs.FullTables.{FullPasswdReadsBack, HostsJoinInF
 ghost use Rattle.mergedfiles.specs.HostExample.{ExampleOfGroup, ExampleOfPasswd};
 ghost use Rattle.mergedfiles.specs.HostReadBack.{HostGroupReadsBack, HostNamesAreKept};
 ghost use Rattle.mergedfiles.specs.HostReadBack.{HostPasswdReadsBack};
+ghost use Rattle.mergedfiles.specs.InPart.{AllIsInPart, GroupInPartReadsBack};
+ghost use Rattle.mergedfiles.specs.InPart.{PasswdInPartReadsBack};
 ghost use Rattle.mergedfiles.specs.ReadBack.{MergedPasswdReadsBack, MergedGroupReadsBack};
 ghost use Rattle.mergedfiles.specs.Rows.{users_named, groups_named};
 ghost use Rattle.mergedfiles.specs.Together.{AreJoined};
@@ -41,6 +43,25 @@ pub fn merged_passwd_reads_back()
 /// these rows are its table.
 pub fn merged_group_reads_back()
     ensures { MergedGroupReadsBack }
+{}
+
+/// The merged passwd reads back, also where not all rows of each host were joined: as
+/// `merged_passwd_reads_back` tells it, but that a gid is as on the first host where no group was
+/// joined with it there.
+pub fn passwd_in_part_reads_back()
+    ensures { PasswdInPartReadsBack }
+{}
+
+/// The merged group reads back, also where not all rows of each host were joined, as
+/// `merged_group_reads_back` tells it.
+pub fn group_in_part_reads_back()
+    ensures { GroupInPartReadsBack }
+{}
+
+/// A site that was joined from all rows of hosts that were read is one of which these two laws
+/// hold.
+pub fn all_is_in_part()
+    ensures { AllIsInPart }
 {}
 
 /// A host's own passwd reads back with its new numbers. Each line stands at the place that it
