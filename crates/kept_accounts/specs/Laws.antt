@@ -85,8 +85,8 @@ abbrev pub OthersAreLawful : Type 0
 OthersAreLawful = (keep : KeepText) (user group : List ℕ → Bool) (host : Host)
     → IsLawfulHost host → IsLawfulHost (without keep user group host)
 
--- Each number that a host then spares is reserved, where the text does not keep all numbers without
--- an account.
+-- Each number that a host without its kept rows spares is reserved, where the text does not keep
+-- all numbers without an account.
 abbrev pub SparedAreReserved : Type 0
 SparedAreReserved = (keep : KeepText) (hosts : List Host) (unowned : List UnownedNumber)
     (host : Host) (number : ℕ) → Contains hosts host
@@ -95,8 +95,7 @@ SparedAreReserved = (keep : KeepText) (hosts : List Host) (unowned : List Unowne
     × (keep.groups.unowned ≡ false → spares_group (without_kept keep hosts host) number ≡ true
     → is_reserved (reserved_groups keep hosts unowned) number ≡ true)
 
--- a number that a host's table names is named so by what is left of the table, or the host spares
--- it
+-- a number that a host's table names is named so by what is left of it, or the host spares it
 abbrev pub NamedAreLeftOrSpared : Type 0
 NamedAreLeftOrSpared = (keep : KeepText) (hosts : List Host) (host : Host) (number : ℕ)
     (named : List ℕ) → number ≤ 4294967295
