@@ -1,10 +1,9 @@
 -- Files that are counted.
-use Rattle.std.proofs.Common.{◌≡◌, ◌+◌, ℕ, Bool, true, false, cond, not, ◌&&◌, List, [], ◌∷◌, ◌++◌, None, Some, map, length, reverse, refl, sym, ◌∙◌, ap, arith}
+use Rattle.std.proofs.Common.{◌≡◌, ◌+◌, Bool, true, false, cond, not, ◌&&◌, List, [], ◌∷◌, ◌++◌, None, Some, map, length, reverse, refl, sym, ◌∙◌, ap, arith}
 use Rattle.std.specs.List.{count_by}
 use Rattle.std.proofs.lemmas.List.{map-append, reverse-append}
 use Rattle.std.proofs.lemmas.List.Sums.{sum_by-append, sum_by_push}
 use Rattle.reown_plan.specs.Owners.{owner_eq}
-use Rattle.reown_plan.specs.PlanData.{PlanRecord}
 use Rattle.reown_files.specs.declared.counting.OwnerCounts.{OwnerCounts}
 use Rattle.reown_files.specs.Calls.{Called}
 use Rattle.reown_files.specs.Counting.{Look, is_before, is_after, is_missing, is_foreign, has_set_id, has_names, counts_of, with_one, files_of, call_of}

@@ -1,5 +1,5 @@
 -- Marks that are written, and read.
-use Rattle.std.proofs.Common.{◌≡◌, ◌<◌, ◌≤◌, ◌+◌, ◌-◌, ◌/◌, ◌%◌, ◌==◌, ◌&&◌, ◌||◌, ◌^◌, ℕ, zero, suc}
+use Rattle.std.proofs.Common.{◌≡◌, ◌<◌, ◌≤◌, ◌+◌, ◌-◌, ◌/◌, ◌%◌, ◌==◌, ◌||◌, ◌^◌, ℕ, zero, suc}
 use Rattle.std.proofs.Common.{Bool, true, false, cond, nat_lt, List, [], ◌∷◌, ◌++◌, Some, None, All}
 use Rattle.std.proofs.Common.{inl, inr, refl, sym, ◌∙◌, ap, subst, append_assoc, append-nil, arith}
 use Rattle.std.proofs.Common.{decimal, replicate, length, drop}
@@ -15,7 +15,7 @@ use Rattle.std.proofs.lemmas.Bool.Decides.{nat_tests}
 use Rattle.std.proofs.lemmas.Fmt.{decimal_injective, decimal_is_IsNumeral}
 use Rattle.std.proofs.lemmas.List.Elements.{All-tail, All-append}
 use Rattle.sha2.specs.Sha256.{sha256, digest_bytes, final_hash, initial_hash_256}
-use Rattle.hosts_join.specs.Checks.{is_host_byte, is_host_name}
+use Rattle.hosts_join.specs.Checks.{is_host_byte}
 use Rattle.reown_plan.specs.declared.mark.PlanMark.{PlanMark}
 use Rattle.reown_plan.specs.Mark.{mark_of, mark_eq, padded}
 use Rattle.reown_plan.specs.PlanData.{PlanData}

@@ -1,17 +1,17 @@
 -- Modes that are written down, and read.
-use Rattle.std.proofs.Common.{◌≡◌, ◌<◌, ◌≤◌, ◌+◌, ◌-◌, ◌*◌, ◌/◌, ◌%◌, ◌==◌, ◌&&◌, ℕ, Bool, true, false, cond, not, nat_le, List, [], ◌∷◌, ◌++◌, Option, None, Some, All, refl, sym, ◌∙◌, ap, append_assoc, append-nil, arith}
-use Rattle.std.specs.List.{list_all, slice_split, onto_first}
+use Rattle.std.proofs.Common.{◌≡◌, ◌<◌, ◌≤◌, ◌+◌, ◌-◌, ◌*◌, ◌/◌, ◌%◌, ◌==◌, ◌&&◌, ℕ, Bool, true, false, cond, not, nat_le, List, [], ◌∷◌, ◌++◌, Option, None, Some, All, refl, sym, ◌∙◌, ap, append_assoc, arith}
+use Rattle.std.specs.List.{list_all, onto_first}
 use Rattle.std.specs.Option.{option_map, option_and_then}
 use Rattle.std.proofs.lemmas.Bool.{and_parts, le-leb, leb-true}
 use Rattle.std.proofs.lemmas.Bool.Decides.{nat_tests}
 use Rattle.std.proofs.lemmas.List.Elements.{All-head, All-tail}
 use Rattle.std.proofs.lemmas.List.Folds.{list_all-append}
 use Rattle.std.proofs.lemmas.List.Splits.{slice_split-cons_yes, slice_split-cons_no}
-use Rattle.idtext.specs.Escapes.{escape, escaped, unescaped, has_bad_escape, is_octal, is_plain}
+use Rattle.idtext.specs.Escapes.{escape, escaped, unescaped, is_octal, is_plain}
 use Rattle.idtext.specs.Pieces.{pieces, lines}
 use Rattle.idtext.proofs.EscapeLemmas.{escape-plain, escape-other, escaped-back}
 use Rattle.idtext.proofs.PieceLemmas.{lines-cut, lines-empty}
-use Rattle.reown_files.specs.MarkText.{Entry, entry, mode_text, mode_read, line_said, line_text, lines_text, line_read, lines_read}
+use Rattle.reown_files.specs.MarkText.{Entry, entry, mode_text, mode_read, line_said, lines_text, line_read, lines_read}
 use Rattle.reown_files.proofs.Laws.{and_true}
 
 -- ---- a mode

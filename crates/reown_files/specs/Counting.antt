@@ -1,6 +1,6 @@
 -- The files of a plan, counted.
 -- Source: this project's own rule.
-use Rattle.std.specs.Prelude.{◌≡◌, ℕ, ◌+◌, Bool, true, false, not, ◌&&◌, List, ◌∷◌, ◌++◌, Option}
+use Rattle.std.specs.Prelude.{◌≡◌, ℕ, ◌+◌, Bool, false, not, ◌&&◌, List, ◌++◌, Option}
 use Rattle.std.specs.Prelude.{None, Some, is_none, map, reverse, count_by, if◌then◌else◌}
 use Rattle.reown_plan.specs.Owners.{owner_eq}
 use Rattle.reown_plan.specs.PlanData.{PlanRecord}

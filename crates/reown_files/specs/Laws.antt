@@ -1,6 +1,6 @@
 -- Laws over the definitions of this crate.
 -- Source: this project's own formats.
-use Rattle.std.specs.Prelude.{◌≡◌, ◌<◌, ◌^◌, ℕ, List, All, None, Some, length}
+use Rattle.std.specs.Prelude.{◌≡◌, ◌<◌, ◌^◌, List, All, None, Some, length}
 use Rattle.std.specs.Prelude.{if◌then◌else◌}
 use Rattle.idtext.specs.Pieces.{lines}
 use Rattle.reown_plan.specs.Mark.{mark_of, mark_eq}

@@ -1,4 +1,4 @@
-use Rattle.std.proofs.Common.{◌≡◌, ◌∙◌, ◌&&◌, [], ◌∷◌, Bool, Some, None, cond, refl, sym, ap}
+use Rattle.std.proofs.Common.{◌∙◌, ◌&&◌, [], ◌∷◌, Bool, Some, None, cond, refl, sym, ap}
 use Rattle.std.specs.Prelude.{nat_eq}
 use Rattle.std.specs.List.{ends_with}
 use Rattle.reown_files.specs.MarkText.{has_end, before_end, behind}

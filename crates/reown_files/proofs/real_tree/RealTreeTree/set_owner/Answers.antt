@@ -1,5 +1,4 @@
 use Rattle.std.proofs.Common.{◌∙◌, sym, ap, subst, IsSome}
-use Rattle.reown_plan.specs.declared.mark.PlanMark.{PlanMark}
 use Rattle.reown_runner.specs.Tree.{ForEachPlan, Writes, MayDo, Write, cells_of}
 use Rattle.reown_runner.specs.Memory.{Mem, known_mem}
 use Rattle.reown_files.specs.Real.{RealData}
