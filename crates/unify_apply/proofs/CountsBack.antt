@@ -19,8 +19,8 @@ not_white : (b : ℕ) → digit_value b < 10 → (white : Bool) → is_white b �
 not_white b digit false is = refl
 not_white b digit true is =
     elim (or_cases (b == 32) (b == 9) is) [
-      inl h ↦ absurd (small 32 (eqb-true b 32 h) (omega arith))
-    | inr h ↦ absurd (small 9 (eqb-true b 9 h) (omega arith))
+      | inl h ↦ absurd (small 32 (eqb-true b 32 h) (omega arith))
+      | inr h ↦ absurd (small 9 (eqb-true b 9 h) (omega arith))
     ]
   where
     small : (c : ℕ) → b ≡ c → 10 < digit_value c → ⊥
@@ -64,8 +64,8 @@ rows-back (row ∷ rows) are small =
     let parts = and_parts (is_word row.0) (list_all (λ r. is_word r.0) rows) are in
     let fits : row.1 < 2 ^ 64 = All-head Fits row rows small in
     let both : list_all is_word (row_words row) ≡ true =
-        and_from (is_word row.0) (list_all is_word (decimal row.1 ∷ [])) parts.0
-        (and_from (is_word (decimal row.1)) true (number-word row.1 fits) refl) in
+    and_from (is_word row.0) (list_all is_word (decimal row.1 ∷ [])) parts.0
+    (and_from (is_word (decimal row.1)) true (number-word row.1 fits) refl) in
     let rest : List ℕ = flat_map count_line rows in
     ap (filter_map (λ line. row_of (words line))) (line-first (row_words row) rest both)
     ∙ ap (λ ws. cons_option (row_of ws) (rows_in rest)) (words-joined (row_words row) both)

@@ -17,14 +17,14 @@ written b = cond (is_escaped b) (escape b) (b ∷ [])
 pub escaped_cases : (P : ℕ → Type 0) → P 32 → P 9 → P 10 → P 92 → (b : ℕ) → is_escaped b ≡ true → P b
 escaped_cases P space tab line back b is =
     elim (or_cases (b == 32 || b == 9 || b == 10) (b == 92) is) [
-      inl h ↦ elim (or_cases (b == 32 || b == 9) (b == 10) h) [
-        inl g ↦ elim (or_cases (b == 32) (b == 9) g) [
-          inl f ↦ subst P (sym (eqb-true b 32 f)) space
-        | inr f ↦ subst P (sym (eqb-true b 9 f)) tab
+      | inl h ↦ elim (or_cases (b == 32 || b == 9) (b == 10) h) [
+        | inl g ↦ elim (or_cases (b == 32) (b == 9) g) [
+          | inl f ↦ subst P (sym (eqb-true b 32 f)) space
+          | inr f ↦ subst P (sym (eqb-true b 9 f)) tab
         ]
-      | inr g ↦ subst P (sym (eqb-true b 10 g)) line
+        | inr g ↦ subst P (sym (eqb-true b 10 g)) line
       ]
-    | inr h ↦ subst P (sym (eqb-true b 92 h)) back
+      | inr h ↦ subst P (sym (eqb-true b 92 h)) back
     ]
 
 -- ---- a byte that was written is read back
@@ -47,8 +47,8 @@ plain-back b rest is =
     let plain : Front = record { character = Plain b; taken = 1 } in
     let text : List ℕ = b ∷ rest in
     let fronts : front text ≡ plain =
-        ap (λ t. cond t (backslash_front (get_or text 1 0) (get_or text 2 0) (get_or text 3 0)) plain)
-        (or_parts (b == 32 || b == 9 || b == 10) (b == 92) is).1 in
+    ap (λ t. cond t (backslash_front (get_or text 1 0) (get_or text 2 0) (get_or text 3 0)) plain)
+    (or_parts (b == 32 || b == 9 || b == 10) (b == 92) is).1 in
     ap (map path_byte) (front-first text (omega arith)
     ∙ ap (λ (f : Front). f.character ∷ characters (drop f.taken text)) fronts)
 

@@ -31,6 +31,6 @@ no_second_way text path known mount ok in' =
     let mounts = mounts_in text in
     let directory = path_from path in
     let kept : unless (twice_at mounts directory mount.device) (has_one_journal mount.kind) ≡ Ok known =
-        sym (ap (judged mounts directory) in') ∙ ok in
+    sym (ap (judged mounts directory) in') ∙ ok in
     any-none (λ (other : MountText). is_under directory other.point && bytes_eq other.device mount.device) (λ (m : MountText). m.point) mounts
     (not_twice _ _ known kept)

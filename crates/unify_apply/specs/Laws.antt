@@ -101,7 +101,7 @@ abbrev pub NoSecondWay : Type 0
 NoSecondWay = (text path : List ℕ) (known : Bool) (mount : MountText)
     → one_journal text path ≡ Ok known → mount_of (mounts_in text) (path_from path) ≡ Some mount
     → list_any (λ other. is_under (path_from path) other.point
-        && bytes_eq other.device mount.device) (mounts_in text) ≡ false
+    && bytes_eq other.device mount.device) (mounts_in text) ≡ false
 
 -- ---- what the command prints
 

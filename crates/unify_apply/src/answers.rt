@@ -13,7 +13,7 @@ fn push_count(text: &mut Vec<u8>, word: &str, count: u64) -> Result<(), AllocErr
     text.extend_from_slice(word.as_bytes())?;
     text.push(b' ')?;
     push_number(text, u128::from(count))?;
-    text.push(b'\n')
+    text.extend_from_slice(b"\n")
 }
 
 /// The two lines that tell a plan that was carried out.
@@ -27,11 +27,7 @@ pub fn records_text(alloc: Global, records: usize) -> Result<Vec<u8>, AllocError
 }
 
 /// The seven lines of a count.
-pub fn counts_text(
-    alloc: Global,
-    counts: OwnerCounts,
-    mounts: usize,
-) -> Result<Vec<u8>, AllocError>
+pub fn counts_text(alloc: Global, counts: OwnerCounts, mounts: usize) -> Result<Vec<u8>, AllocError>
     ensures { IfOk result (λ text. text.items ≡ text_of_counts counts mounts) }
 {
     let mut text = Vec::new(alloc);
