@@ -1,19 +1,36 @@
 -- The mounts that a process sees.
--- Source: proc(5), /proc/PID/mountinfo: of a line the third word is the number of the file system, the fifth the path that it is
--- mounted at, and the first behind the word `-`, before which some words may be left out, what kind it is of.
-use Rattle.std.specs.Prelude.{ℕ, ◌<◌, ◌==◌, ◌||◌, ◌&&◌, Bool, true, List, [], ◌∷◌, Option, None, Some, option_map, codes, length, drop, nat_lt, slice_get, if◌then◌else◌}
+-- Source: proc(5), /proc/PID/mountinfo: a line for each mount, those mounted later behind the
+-- others. Of a line the third word is the number of the file system, the fifth the path that it is
+-- mounted at, with escapes, and the first behind the word `-`, before which some words may be left
+-- out, what kind it is of.
+use Rattle.std.specs.Prelude.{ℕ, ◌==◌, ◌||◌, ◌&&◌, Bool, true, false, List, [], ◌∷◌, map}
+use Rattle.std.specs.Prelude.{Option, None, Some, option_map, Result, Ok, codes, length, drop}
+use Rattle.std.specs.Prelude.{nat_lt, slice_get, if◌then◌else◌, filter, filter_map, find, count_by}
 use Rattle.std.specs.Str.{bytes_eq}
-use Rattle.idtext.specs.Pieces.{begins_with}
-use Rattle.unify_apply.specs.declared.mounts.MountWords.{MountWords}
+use Rattle.idtext.specs.Escapes.{characters}
+use Rattle.idtext.specs.First.{unless}
+use Rattle.idtext.specs.Pieces.{begins_with, lines}
+use Rattle.idtext.specs.Words.{words}
+use Rattle.idtext.specs.declared.escapes.Character.{Character}
+use Rattle.idtext.specs.declared.escapes.Character.TheVariants.{Plain, Escape, Bad}
+use Rattle.unify_apply.specs.Ends.{without_end}
+use Rattle.unify_apply.specs.declared.mountinfo.Mount.{Mount}
+use Rattle.unify_apply.specs.declared.mountinfo.MountFault.{MountFault}
+use Rattle.unify_apply.specs.declared.mountinfo.MountFault.TheVariants.{Twice, Memory}
+use Rattle.unify_apply.specs.declared.mountinfo.MountWords.{MountWords}
 
--- the words that are looked at, without the line that they lie in
+-- a mount: its file system, where it is, and what kind of file system that is
 pub record MountText : Type 0 where
   pub device : List ℕ
   pub point : List ℕ
   pub kind : List ℕ
 
+-- ---- reading
+
+-- the words that are looked at, without the line that they lie in
 abbrev pub text_of : MountWords → MountText
-text_of words = record { device = words.device.now; point = words.point.now; kind = words.kind.now }
+text_of words =
+    record { device = words.device.now; point = words.point.now; kind = words.kind.now }
 
 -- the first word behind `-`
 abbrev pub kind_in : List (List ℕ) → Option (List ℕ)
@@ -21,18 +38,106 @@ kind_in [] = None
 kind_in (word ∷ more) = if bytes_eq word (codes "-") then slice_get more 0 else kind_in more
 
 abbrev pub mount_in : List (List ℕ) → Option MountText
-mount_in (number ∷ parent ∷ device ∷ root ∷ point ∷ more) = option_map (λ kind. record { device = device; point = point; kind = kind }) (kind_in more)
+mount_in (number ∷ parent ∷ device ∷ root ∷ point ∷ more) =
+    option_map (λ kind. record { device = device; point = point; kind = kind }) (kind_in more)
 mount_in _ = None
+
+-- the byte that a character of a path stands for: a backslash that begins no escape is itself
+abbrev pub path_byte : Character → ℕ
+path_byte (Plain b) = b
+path_byte (Escape b) = b
+path_byte Bad = 92
+
+-- paths have no slash at their end: that of the root of all is empty
+abbrev pub path_from : List ℕ → List ℕ
+path_from path = without_end (codes "/") path
+
+-- the path that a word stands for
+abbrev pub path_in : List ℕ → List ℕ
+path_in word = map path_byte (characters (path_from word))
+
+abbrev pub mount_told : List ℕ → Option MountText
+mount_told line =
+    option_map (λ (mount : MountText). record mount { point = path_in mount.point })
+    (mount_in (words line))
+
+-- the mounts that a text tells, in its order
+abbrev pub mounts_in : List ℕ → List MountText
+mounts_in text = filter_map mount_told (lines text)
+
+abbrev pub mount_text : Mount → MountText
+mount_text mount =
+    record { device = mount.device.now; point = mount.point.items; kind = mount.kind.now }
+
+abbrev pub mount_texts : List Mount → List MountText
+mount_texts mounts = map mount_text mounts
+
+-- ---- paths
 
 -- what is at the front of a path behind that of a directory: nothing, or a slash
 abbrev pub is_rest : List ℕ → Bool
 is_rest [] = true
 is_rest (b ∷ more) = b == 47
 
--- a path is that of a directory, or of something below it; paths have no slash at their end
+-- a path is that of a directory, or of something below it
 abbrev pub is_in : List ℕ → List ℕ → Bool
-is_in directory path = begins_with directory path && is_rest (drop (length directory) path)
+is_in directory path =
+    begins_with directory path && is_rest (drop (length directory) path)
 
 -- it is of something below it
 abbrev pub is_under : List ℕ → List ℕ → Bool
 is_under directory path = nat_lt (length directory) (length path) && is_in directory path
+
+-- ---- the mount that a directory is in
+
+-- a mount before others, of which the nearest is known: it is nearer if its path is longer
+abbrev pub or_nearer : MountText → Option MountText → Option MountText
+or_nearer mount None = Some mount
+or_nearer mount (Some later) =
+    if nat_lt (length later.point) (length mount.point) then Some mount else Some later
+
+-- the nearest of mounts, and of those that are equally near the last
+abbrev pub nearest : List MountText → Option MountText
+nearest [] = None
+nearest (mount ∷ later) = or_nearer mount (nearest later)
+
+abbrev pub mount_of : List MountText → List ℕ → Option MountText
+mount_of mounts directory = nearest (filter (λ mount. is_in mount.point directory) mounts)
+
+-- ---- the mounts below a directory
+
+abbrev pub first_below : List MountText → List ℕ → Option MountText
+first_below mounts directory = find (λ mount. is_under directory mount.point) mounts
+
+abbrev pub count_below : List MountText → List ℕ → ℕ
+count_below mounts directory = count_by (λ mount. is_under directory mount.point) mounts
+
+-- the path of the first that is of this file system
+abbrev pub twice_at : List MountText → List ℕ → List ℕ → Option (List ℕ)
+twice_at mounts directory device =
+    option_map (λ (mount : MountText). mount.point)
+    (find (λ mount. is_under directory mount.point && bytes_eq mount.device device) mounts)
+
+-- ---- what is asked before a plan is carried out
+
+-- a sync of one file keeps all that was changed before
+abbrev pub has_one_journal : List ℕ → Bool
+has_one_journal kind =
+    bytes_eq kind (codes "ext3") || bytes_eq kind (codes "ext4") || bytes_eq kind (codes "xfs")
+
+-- of a directory that is in this mount
+abbrev pub judged : List MountText → List ℕ → Option MountText → Result Bool (List ℕ)
+judged mounts directory None = Ok false
+judged mounts directory (Some mount) =
+    unless (twice_at mounts directory mount.device) (has_one_journal mount.kind)
+
+-- Whether the file system of a directory is known to have one journal. Refused is one that has a
+-- mount of its own file system below it, with the path of the first.
+abbrev pub one_journal : List ℕ → List ℕ → Result Bool (List ℕ)
+one_journal text path =
+    judged (mounts_in text) (path_from path) (mount_of (mounts_in text) (path_from path))
+
+-- the path that is told, or None for want of memory
+abbrev pub twice_told : MountFault → Option (List ℕ)
+twice_told (Twice point) = Some point.items
+twice_told Memory = None

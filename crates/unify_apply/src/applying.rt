@@ -1,6 +1,9 @@
 //! A plan that words name, carried out below a directory.
-ghost use Rattle.std.specs.Prelude.{◌≡◌, [], IfOk};
+ghost use Rattle.std.specs.Prelude.{◌≡◌, [], IfOk, option_copied};
+ghost use Rattle.std.specs.String.{string_bytes};
+ghost use Rattle.unify_apply.specs.Told.{mark_at};
 
+use crate::answers::records_text;
 use crate::checking::check_below;
 use crate::machine::{see_caller, see_host};
 use crate::mounts::see_mounts;
@@ -8,33 +11,27 @@ use crate::progress::{Progress, Telling};
 use crate::staying::warn_of_staying;
 use crate::told::{Place, fault_told, not_opened, root_refused, stopped};
 use clap::ArgMatches;
-use idtext::push_number;
 use reown_files::{RealTree, Root, apply};
 use reown_plan::{Plan, PlanFault};
 use reown_reverse::reversed_text;
-use std::alloc::AllocError;
+use std::alloc::{AllocError, Global};
 use unify_io::{FileFault, print_answer, read_file};
 use unify_texts::Fault;
 
 // What the mark's file has behind the name of the plan's.
 const DONE: &str = ".done";
 
-// The path of the mark.
-fn mark_path(rt: &HostRuntime, matches: &ArgMatches<'_>) -> Result<String, AllocError> {
-    if let Some(path) = matches.get_str("mark") {
-        return String::from_str(rt.alloc(), path);
+// The path of the mark: the one that is named, or else that of the plan with more behind it.
+fn mark_path(alloc: Global, named: Option<&str>, plan: &str) -> Result<String, AllocError>
+    ensures { IfOk result
+        (λ path. string_bytes path ≡ mark_at (option_copied named.entry) plan.now) }
+{
+    if let Some(path) = named {
+        return String::from_str(alloc, path);
     }
-    let mut path = String::from_str(rt.alloc(), matches.get_str("PLAN").unwrap_or(""))?;
+    let mut path = String::from_str(alloc, plan)?;
     path.push_str(DONE)?;
     Ok(path)
-}
-
-// The two lines that tell a plan that was carried out.
-fn records_text(rt: &HostRuntime, records: usize) -> Result<Vec<u8>, AllocError> {
-    let mut text = Vec::from_slice(rt.alloc(), b"records ")?;
-    push_number(&mut text, records as u128)?;
-    text.extend_from_slice(b"\ndone\n")?;
-    Ok(text)
 }
 
 // Carries a plan out on the files of a disk, from wherever an earlier run left them, and tells how
@@ -92,7 +89,7 @@ fn apply_below(
 ) -> Result<u8, FileFault> {
     let root = opened(rt, place, has_one_journal)?;
     carry_out(rt, progress, place, plan, root)?;
-    let text = records_text(rt, plan.records().len())?;
+    let text = records_text(rt.alloc(), plan.records().len())?;
     Ok(print_answer(rt, 0, &text))
 }
 
@@ -146,15 +143,16 @@ fn reverse_of(rt: &HostRuntime, text: &[u8]) -> Result<Vec<u8>, FileFault> {
     }
 }
 
-/// Answers `apply` with these words: it carries a plan out or takes it back, or counts its files. What it refuses is told, and the
-/// status handed out.
+/// Answers `apply` with these words: it carries a plan out or takes it back, or counts its files.
+/// What it refuses is told, and the status handed out.
 pub fn run_apply(rt: &HostRuntime, matches: &ArgMatches<'_>) -> Result<u8, FileFault> {
-    let mark = mark_path(rt, matches)?;
+    let plan = matches.get_str("PLAN").unwrap_or("");
+    let mark = mark_path(rt.alloc(), matches.get_str("mark"), plan)?;
     let place = Place {
         root: matches.get_str("ROOT").unwrap_or(""),
         mark: mark.as_str(),
     };
-    let text = read_file(rt, matches.get_str("PLAN").unwrap_or(""))?;
+    let text = read_file(rt, plan)?;
     if matches.get_flag("reverse") {
         let back = reverse_of(rt, text.bytes())?;
         return run_text(rt, matches, place, &back);

@@ -1,40 +1,14 @@
 //! The files of a plan, counted by what is seen of them, with nothing changed.
 
+use crate::answers::counts_text;
 use crate::mounts::count_mounts;
 use crate::progress::{Progress, Telling};
 use crate::staying::warn_of_staying;
 use crate::told::{Place, file_refused, foreign, missing, root_refused};
-use idtext::push_number;
 use reown_files::{Disk, OpenFault, OwnerCounts, Root, count_owners};
 use reown_plan::{Plan, Record};
-use std::alloc::AllocError;
 use std::io::{self, Write};
 use unify_io::{FileFault, write_failed};
-
-// Appends a word and how many files it is of.
-fn push_count(text: &mut Vec<u8>, word: &str, count: u64) -> Result<(), AllocError> {
-    text.extend_from_slice(word.as_bytes())?;
-    text.push(b' ')?;
-    push_number(text, u128::from(count))?;
-    text.extend_from_slice(b"\n")
-}
-
-// The seven lines of a count.
-fn counts_text(
-    rt: &HostRuntime,
-    counts: OwnerCounts,
-    mounts: usize,
-) -> Result<Vec<u8>, AllocError> {
-    let mut text = Vec::new(rt.alloc());
-    push_count(&mut text, "before", counts.before)?;
-    push_count(&mut text, "after", counts.after)?;
-    push_count(&mut text, "missing", counts.missing)?;
-    push_count(&mut text, "foreign", counts.foreign)?;
-    push_count(&mut text, "set-id", counts.set_id)?;
-    push_count(&mut text, "linked", counts.linked)?;
-    push_count(&mut text, "mounts", mounts as u64)?;
-    Ok(text)
-}
 
 // Why an owner was not had.
 fn not_counted(rt: &HostRuntime, records: &[Record<'_>], fault: OpenFault) -> FileFault {
@@ -69,7 +43,7 @@ fn tell_first<D: Disk>(
 
 // Prints how many files there are by what is seen of them, and how many mounts.
 fn print_counts(rt: &HostRuntime, counts: OwnerCounts, mounts: usize) -> Result<(), FileFault> {
-    let text = counts_text(rt, counts, mounts)?;
+    let text = counts_text(rt.alloc(), counts, mounts)?;
     if io::writer(rt).write_all(&text).is_err() {
         return Err(FileFault::Told(write_failed(rt)));
     }

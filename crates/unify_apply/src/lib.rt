@@ -1,13 +1,18 @@
-//! The command `apply`: a plan, carried out on the files of this machine. What it does to them is `reown_files::apply`; here
-//! stand what is asked before, and what is told.
+//! The command `apply`: a plan, carried out on the files of this machine. What it does to them is
+//! `reown_files::apply`; here stand what is asked before, and what is told.
 #![tactic(auto)]
 
+mod answers;
 mod applying;
+mod changing;
 mod checking;
+mod laws;
 mod machine;
+mod mountinfo;
 mod mounts;
 mod progress;
 mod staying;
 mod told;
 
 pub use applying::run_apply;
+pub use laws::{answers_are_read_back, mounts_are_read_back, one_way_to_files};

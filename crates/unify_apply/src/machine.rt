@@ -1,6 +1,7 @@
 //! The machine that a plan is carried out on, and who does so.
-ghost use Rattle.std.specs.Prelude.{◌≡◌};
-ghost use Rattle.unify_apply.specs.Machine.{short_of, is_called, tells_root};
+ghost use Rattle.std.specs.Prelude.{◌≡◌, option_copied};
+ghost use Rattle.unify_apply.specs.Machine.{name_in, short_of, is_called, fit_of};
+ghost use Rattle.unify_apply.specs.Machine.{tells_root, is_of_root};
 
 use idtext::{Lines, Words, cut};
 use std::alloc::AllocError;
@@ -11,6 +12,13 @@ const NAME: &str = "/proc/sys/kernel/hostname";
 
 // Where it tells of this process.
 const STATUS: &str = "/proc/self/status";
+
+// The name of a machine, as a text of the system tells it.
+fn machine_name(text: &[u8]) -> &[u8]
+    ensures { result.now ≡ name_in text.now }
+{
+    text.strip_suffix(b"\n").unwrap_or(text)
+}
 
 // The name of a machine without what stands behind its first dot.
 fn short_name(name: &[u8]) -> &[u8]
@@ -27,6 +35,29 @@ fn is_host(machine: &[u8], host: &[u8]) -> bool
     ensures { result ≡ is_called host.now machine.now }
 {
     machine == host || short_name(machine) == host
+}
+
+// How a machine fits the host of a plan.
+#[derive(Clone, Copy, Debug, PartialEq, Eq)]
+enum HostFit {
+    // It is that host.
+    Same,
+    // It is named as that host, and called otherwise.
+    Named,
+    // It is another, or another is named.
+    Other,
+}
+
+// How the machine of this name fits the host of a plan, where a word may name its host.
+fn host_fit(host: &[u8], named: Option<&[u8]>, machine: &[u8]) -> HostFit
+    ensures { result ≡ fit_of host.now (option_copied named.entry) machine.now }
+{
+    match named {
+        Some(name) if name != host => HostFit::Other,
+        _ if is_host(machine, host) => HostFit::Same,
+        Some(_) => HostFit::Named,
+        None => HostFit::Other,
+    }
 }
 
 // Tells that a plan is another host's.
@@ -56,27 +87,19 @@ pub fn see_host(
     named: Option<&str>,
     quiet: bool,
 ) -> Result<(), FileFault> {
-    if let Some(name) = named {
-        if name.as_bytes() != host {
-            return Err(other_host(rt, name.as_bytes(), host));
-        }
-    }
     let text = read_file(rt, NAME)?;
-    let machine = text.bytes().strip_suffix(b"\n").unwrap_or(text.bytes());
-    if is_host(machine, host) {
-        return Ok(());
+    let machine = machine_name(text.bytes());
+    let named = named.map(|name| name.as_bytes());
+    match host_fit(host, named, machine) {
+        HostFit::Same => Ok(()),
+        HostFit::Named if quiet => Ok(()),
+        HostFit::Named => Ok(warn_of_name(rt, host, machine)?),
+        HostFit::Other => Err(other_host(rt, named.unwrap_or(machine), host)),
     }
-    if named.is_none() {
-        return Err(other_host(rt, machine, host));
-    }
-    if !quiet {
-        warn_of_name(rt, host, machine)?;
-    }
-    Ok(())
 }
 
-// Whether a line of the status tells that the effective user is 0. It is the second of four.
-fn is_of_root(line: &[u8]) -> bool
+// Whether a line of a status tells that the effective user is 0. It is the second of four.
+fn is_line_of_root(line: &[u8]) -> bool
     ensures { result ≡ tells_root line.now }
 {
     let mut words = Words::new(line);
@@ -92,10 +115,17 @@ fn is_of_root(line: &[u8]) -> bool
     head == b"Uid:".as_slice() && effective == b"0".as_slice()
 }
 
+// Whether a status is that of a process of root.
+fn is_root(status: &[u8]) -> bool
+    ensures { result ≡ is_of_root status.now }
+{
+    Lines::new(status).any(|line| is_line_of_root(line))
+}
+
 /// Sees that whoever calls may give files away.
 pub fn see_caller(rt: &HostRuntime) -> Result<(), FileFault> {
     let status = read_file(rt, STATUS)?;
-    if Lines::new(status.bytes()).any(|line| is_of_root(line)) {
+    if is_root(status.bytes()) {
         return Ok(());
     }
     let parts = [Said::Text("only root may give files other owners")];

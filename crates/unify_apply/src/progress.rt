@@ -1,5 +1,6 @@
 //! How far a command is with the files of a plan, told on standard error while it goes on.
 ghost use Rattle.std.specs.Prelude.{◌≡◌};
+ghost use Rattle.unify_apply.specs.Telling.{progress_of, is_due};
 
 use reown_files::{Disk, Modes, Seen, Trouble};
 use reown_plan::{Owner, PlanMark};
@@ -37,24 +38,34 @@ impl Step {
     }
 }
 
+// Whether it is told that a step was done with so many of the files: now and then, and behind the
+// last.
+fn is_told(done: usize, files: usize) -> bool
+    ensures { result ≡ is_due done files }
+{
+    done % EACH == 0 || done == files
+}
+
 impl Progress {
-    /// As these words want it: one line on a terminal, lines elsewhere if they are asked for.
-    pub fn wanted(rt: &HostRuntime, quiet: bool, asked: bool) -> Progress {
-        if quiet {
-            Progress::Never
-        } else if rt.stderr().is_terminal() {
-            Progress::OneLine
-        } else if asked {
-            Progress::Lines
-        } else {
-            Progress::Never
+    // One line on a terminal, lines elsewhere if they are asked for.
+    fn of(quiet: bool, terminal: bool, asked: bool) -> Progress
+        ensures { result ≡ progress_of quiet terminal asked }
+    {
+        match (quiet, terminal, asked) {
+            (true, _, _) | (false, false, false) => Progress::Never,
+            (false, true, _) => Progress::OneLine,
+            (false, false, true) => Progress::Lines,
         }
     }
 
-    // Tells how many of the files a step was done with, now and then and behind the last. What
-    // cannot be told is not.
+    /// As these words want it, where standard error is what it is.
+    pub fn wanted(rt: &HostRuntime, quiet: bool, asked: bool) -> Progress {
+        Progress::of(quiet, rt.stderr().is_terminal(), asked)
+    }
+
+    // Tells how many of the files a step was done with. What cannot be told is not.
     fn tell(self, rt: &HostRuntime, step: Step, done: usize, files: usize) {
-        if done % EACH != 0 && done != files {
+        if !is_told(done, files) {
             return;
         }
         let word = step.word();

@@ -1,10 +1,11 @@
-//! What goes by the numbers of users and groups and stands in no plan: processes, file capabilities, access lists and quotas. A plan
-//! changes none of it, so it is told before anything is changed.
+//! What goes by the numbers of users and groups and stands in no plan: processes, file
+//! capabilities, access lists and quotas. A plan changes none of it, so it is told before anything
+//! is changed.
 
-use idtext::{Lines, Words, decimal};
-use reown_plan::{Plan, Record};
-use std::alloc::{AllocError, Global};
-use std::collections::HashSet;
+use crate::changing::Changing;
+use idtext::decimal;
+use reown_plan::Plan;
+use std::alloc::AllocError;
 use std::fs;
 use unify_io::{Part, warn};
 
@@ -16,15 +17,8 @@ const GO_ON: &str = "as users or groups whose numbers change, the first of them"
 
 // What is said of the rest.
 const BY_NUMBER: &str =
-    "a change of an owner clears file capabilities (getcap -r), and changes no number in access lists \
-    (getfacl -R -n) or quotas (repquota -n)";
-
-// The numbers of users and of groups that a plan changes.
-#[derive(Drop)]
-struct Changing {
-    users: HashSet<u32>,
-    groups: HashSet<u32>,
-}
+    "a change of an owner clears file capabilities (getcap -r), and changes no number in access \
+    lists (getfacl -R -n) or quotas (repquota -n)";
 
 // The processes that were found.
 #[derive(Clone, Copy)]
@@ -34,59 +28,8 @@ struct Running {
     first: usize,
 }
 
-// Notes a number that is changed.
-fn note(numbers: &mut HashSet<u32>, before: u32, after: u32) -> Result<(), AllocError> {
-    if before == after || numbers.contains(&before) {
-        return Ok(());
-    }
-    match numbers.insert(before) {
-        Ok(_) => Ok(()),
-        Err(_) => Err(AllocError),
-    }
-}
-
-impl Changing {
-    // The numbers that records change.
-    fn of(alloc: Global, records: &[Record<'_>]) -> Result<Changing, AllocError> {
-        let mut changing = Changing {
-            users: HashSet::new(alloc),
-            groups: HashSet::new(alloc),
-        };
-        for planned in records {
-            note(&mut changing.users, planned.before.uid, planned.after.uid)?;
-            note(&mut changing.groups, planned.before.gid, planned.after.gid)?;
-        }
-        Ok(changing)
-    }
-
-    // Whether a process with this status has one of them.
-    fn is_in(&self, status: &[u8]) -> bool {
-        for line in Lines::new(status) {
-            if has_number(line, b"Uid:", &self.users) || has_number(line, b"Gid:", &self.groups) {
-                return true;
-            }
-        }
-        false
-    }
-}
-
-// Whether a line begins with this word, and one of the numbers behind it is one of these.
-fn has_number(line: &[u8], head: &[u8], numbers: &HashSet<u32>) -> bool {
-    let mut words = Words::new(line);
-    if words.next() != Some(head) {
-        return false;
-    }
-    for word in words {
-        if let Some(number) = decimal(word) {
-            if numbers.contains(&number) {
-                return true;
-            }
-        }
-    }
-    false
-}
-
-// Whether the process with this number has one of the numbers that change. One that has ended has none.
+// Whether the process with this number has one of the numbers that change. One that has ended has
+// none.
 fn is_running(rt: &HostRuntime, name: &str, changing: &Changing) -> Result<bool, AllocError> {
     let path = format!(in rt.alloc(); "{PROCESSES}/{name}/status")?;
     match fs::read(rt, path.as_str()) {

@@ -1,5 +1,8 @@
 //! Why a plan is not carried out, or only to a part of it.
 
+ghost use Rattle.std.specs.Prelude.{◌≡◌};
+ghost use Rattle.unify_apply.specs.Told.{path_of_record, status_of};
+
 use idtext::ByteString;
 use reown_files::{MODES_BEHIND, OpenFault, Stop, Trouble};
 use reown_plan::Record;
@@ -31,7 +34,9 @@ pub fn fault_told(rt: &HostRuntime, fault: &Fault<'_>) -> FileFault {
 }
 
 // The path of a record, of those that are there.
-fn path_at<'a>(records: &[Record<'a>], i: usize) -> &'a [u8] {
+fn path_at<'a>(records: &[Record<'a>], i: usize) -> &'a [u8]
+    ensures { result.now ≡ path_of_record records.now i }
+{
     match records.get(i) {
         Some(planned) => planned.path,
         None => b"",
@@ -89,18 +94,21 @@ fn said_of(trouble: Trouble) -> Said<'static> {
     })
 }
 
-// Whether trouble is of what was found, and not of a call that failed.
-fn is_refusal(trouble: Trouble) -> bool {
-    matches!(
-        trouble,
+// The exit status where trouble comes before anything was changed: 1 for what was found, and 3 for
+// a call that failed.
+fn status(trouble: Trouble) -> u8
+    ensures { result ≡ status_of trouble }
+{
+    match trouble {
         Trouble::BadPath
-            | Trouble::NotText
-            | Trouble::OtherMount
-            | Trouble::LinkedElsewhere
-            | Trouble::LinkedOtherwise
-            | Trouble::NotMark
-            | Trouble::NotModes
-    )
+        | Trouble::NotText
+        | Trouble::OtherMount
+        | Trouble::LinkedElsewhere
+        | Trouble::LinkedOtherwise
+        | Trouble::NotMark
+        | Trouble::NotModes => 1,
+        _ => 3,
+    }
 }
 
 /// Tells of a file what is wrong with it before anything was changed.
@@ -108,8 +116,7 @@ pub fn file_refused(rt: &HostRuntime, path: &[u8], trouble: Trouble) -> FileFaul
     if trouble == Trouble::Memory {
         return FileFault::Memory;
     }
-    let status = if is_refusal(trouble) { 1 } else { 3 };
-    tell_of(rt, "file", path, &[said_of(trouble)], status)
+    tell_of(rt, "file", path, &[said_of(trouble)], status(trouble))
 }
 
 /// Tells why a directory is not worked below.
@@ -128,7 +135,8 @@ fn modes_refused(rt: &HostRuntime, mark: &str, trouble: Trouble) -> FileFault {
     }
 }
 
-/// Tells why the files of a plan are not begun with. Nothing was changed but modes that an earlier run had lost.
+/// Tells why the files of a plan are not begun with. Nothing was changed but modes that an earlier
+/// run had lost.
 pub fn not_opened(
     rt: &HostRuntime,
     place: Place<'_>,

@@ -1,6 +1,6 @@
 use Rattle.std.proofs.Common.{◌≡◌, length}
 use Rattle.unify_apply.specs.Mounts.{kind_in}
-use Rattle.unify_apply.proofs.mounts.kind_behind.Given as goal
+use Rattle.unify_apply.proofs.mountinfo.kind_behind.Given as goal
 
 abbrev pub invariant-loop-word : goal.invariant-loop-word
 invariant-loop-word l = kind_in l.words ≡ kind_in l.fn.words

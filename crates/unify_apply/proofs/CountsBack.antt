@@ -1,0 +1,73 @@
+-- What is counted is read back.
+use Rattle.std.proofs.Common.{◌≡◌, ℕ, ◌==◌, ◌&&◌, ◌||◌, ◌<◌, ◌^◌, All, Bool, true, false, not, List, [], ◌∷◌, ◌++◌, Some, length, decimal, refl, sym, ap, ◌∙◌, arith, subst, inl, inr}
+use Rattle.std.specs.Prelude.{flat_map}
+use Rattle.std.specs.Char.{digit_value}
+use Rattle.std.specs.List.{filter_map, cons_option, list_all}
+use Rattle.std.specs.Str.Parse.{AllDigits, IsNumeral, digits_value}
+use Rattle.std.proofs.lemmas.Bool.{and_from, and_parts, eqb-true, not_from_false, or_cases, true≢false}
+use Rattle.std.proofs.lemmas.Fmt.{decimal_is_IsNumeral}
+use Rattle.std.proofs.lemmas.List.Elements.{All-head, All-tail}
+use Rattle.idtext.specs.Pieces.{lines}
+use Rattle.idtext.specs.Words.{is_filled, is_white, words}
+use Rattle.unify_apply.specs.Answers.{count_line}
+use Rattle.unify_apply.specs.Laws.{is_inside, is_word, line_of, row_of, rows_in}
+use Rattle.unify_apply.proofs.WrittenLines.{line-first, no_lines, words-joined}
+
+-- ---- a number is a word
+
+not_white : (b : ℕ) → digit_value b < 10 → (white : Bool) → is_white b ≡ white → white ≡ false
+not_white b digit false is = refl
+not_white b digit true is =
+    elim (or_cases (b == 32) (b == 9) is) [
+      | inl h ↦ absurd (small 32 (eqb-true b 32 h) (omega arith))
+      | inr h ↦ absurd (small 9 (eqb-true b 9 h) (omega arith))
+    ]
+  where
+    small : (c : ℕ) → b ≡ c → 10 < digit_value c → ⊥
+    small c same large = let d : digit_value c < 10 = subst (λ x. digit_value x < 10) same digit in omega arith
+
+no_newline : (b : ℕ) → digit_value b < 10 → (end : Bool) → (b == 10) ≡ end → end ≡ false
+no_newline b digit false is = refl
+no_newline b digit true is =
+    let d : digit_value 10 < 10 = subst (λ x. digit_value x < 10) (eqb-true b 10 is) digit in
+    absurd (omega arith)
+
+digits-inside : (ds : List ℕ) → AllDigits 10 ds → list_all is_inside ds ≡ true
+digits-inside [] all = refl
+digits-inside (d ∷ ds) all =
+    and_from (is_inside d) (list_all is_inside ds)
+    (and_from (not (is_white d)) (not (d == 10))
+    (not_from_false (is_white d) (not_white d all.0 (is_white d) refl))
+    (not_from_false (d == 10) (no_newline d all.0 (d == 10) refl)))
+    (digits-inside ds all.1)
+
+filled : (ds : List ℕ) → 0 < length ds → is_filled ds ≡ true
+filled [] some = absurd (omega arith)
+filled (d ∷ ds) some = refl
+
+number-word : (n : ℕ) → n < 2 ^ 64 → is_word (decimal n) ≡ true
+number-word n small =
+    let is : IsNumeral 10 (decimal n) = (decimal_is_IsNumeral n small).0 in
+    and_from (is_filled (decimal n)) (list_all is_inside (decimal n))
+    (filled (decimal n) is.0) (digits-inside (decimal n) is.1)
+
+-- ---- rows
+
+abbrev row_words : List ℕ × ℕ → List (List ℕ)
+row_words row = row.0 ∷ decimal row.1 ∷ []
+
+pub rows-back : (rows : List (List ℕ × ℕ)) → list_all (λ row. is_word row.0) rows ≡ true
+    → All (λ (row : List ℕ × ℕ). row.1 < 2 ^ 64) rows → rows_in (flat_map count_line rows) ≡ rows
+rows-back [] are small = ap (filter_map (λ line. row_of (words line))) no_lines
+rows-back (row ∷ rows) are small =
+    let Fits : List ℕ × ℕ → Type 0 = λ r. r.1 < 2 ^ 64 in
+    let parts = and_parts (is_word row.0) (list_all (λ r. is_word r.0) rows) are in
+    let fits : row.1 < 2 ^ 64 = All-head Fits row rows small in
+    let both : list_all is_word (row_words row) ≡ true =
+    and_from (is_word row.0) (list_all is_word (decimal row.1 ∷ [])) parts.0
+    (and_from (is_word (decimal row.1)) true (number-word row.1 fits) refl) in
+    let rest : List ℕ = flat_map count_line rows in
+    ap (filter_map (λ line. row_of (words line))) (line-first (row_words row) rest both)
+    ∙ ap (λ ws. cons_option (row_of ws) (rows_in rest)) (words-joined (row_words row) both)
+    ∙ ap (λ n. (row.0, n) ∷ rows_in rest) (decimal_is_IsNumeral row.1 fits).1
+    ∙ ap (λ others. row ∷ others) (rows-back rows parts.1 (All-tail Fits row rows small))

@@ -1,0 +1,119 @@
+-- What holds of the mounts that a text tells, and of what the command prints.
+-- Source: proc(5), /proc/PID/mountinfo: words with a space between them, a line for each mount; and
+-- getmntent(3): of a path the system writes space, tab, newline and backslash as a backslash and
+-- three octal digits.
+use Rattle.std.specs.Prelude.{◌≡◌, ℕ, ◌==◌, ◌||◌, ◌&&◌, ◌<◌, ◌≤◌, ◌^◌, Bool, true, false, not}
+use Rattle.std.specs.Prelude.{List, [], ◌∷◌, ◌++◌, map, flat_map, filter_map, length, codes, All}
+use Rattle.std.specs.Prelude.{Option, Some, None, IfSome, Result, Ok, if◌then◌else◌}
+use Rattle.std.specs.List.{join_with_byte, list_all, list_any}
+use Rattle.std.specs.Str.{bytes_eq}
+use Rattle.std.specs.Str.Parse.{digits_value}
+use Rattle.idtext.specs.Escapes.{escape}
+use Rattle.idtext.specs.Pieces.{lines}
+use Rattle.idtext.specs.Words.{is_filled, is_white, words}
+use Rattle.reown_files.specs.declared.counting.OwnerCounts.{OwnerCounts}
+use Rattle.unify_apply.specs.Answers.{counted, counts_text}
+use Rattle.unify_apply.specs.Mounts.{MountText, path_from, path_in, is_in, is_under, mount_of}
+use Rattle.unify_apply.specs.Mounts.{mounts_in, one_journal}
+
+-- ---- paths
+
+abbrev pub is_escaped : ℕ → Bool
+is_escaped b = b == 32 || b == 9 || b == 10 || b == 92
+
+-- a path as the system writes it
+abbrev pub system_path : List ℕ → List ℕ
+system_path path = flat_map (λ b. if is_escaped b then escape b else b ∷ []) path
+
+-- it is read back, without the slash that the root of all has
+abbrev pub SystemPathIsReadBack : Type 0
+SystemPathIsReadBack = (path : List ℕ) → path_in (system_path path) ≡ path_from path
+
+-- ---- lines of words
+
+-- a byte that is none between words or lines
+abbrev pub is_inside : ℕ → Bool
+is_inside b = not (is_white b) && not (b == 10)
+
+abbrev pub is_word : List ℕ → Bool
+is_word word = is_filled word && list_all is_inside word
+
+abbrev pub line_of : List (List ℕ) → List ℕ
+line_of words = join_with_byte 32 words ++ 10 ∷ []
+
+-- ---- mounts
+
+-- a line of the system for a mount; options are all words before `-`
+pub record MountLine : Type 0 where
+  pub number : List ℕ
+  pub parent : List ℕ
+  pub device : List ℕ
+  pub root : List ℕ
+  pub point : List ℕ
+  pub options : List (List ℕ)
+  pub kind : List ℕ
+  pub more : List (List ℕ)
+
+abbrev pub words_of : MountLine → List (List ℕ)
+words_of line =
+    line.number ∷ line.parent ∷ line.device ∷ line.root ∷ system_path line.point ∷ line.options
+    ++ codes "-" ∷ line.kind ∷ line.more
+
+-- its path is not empty, the others are words, and no option is `-`
+abbrev pub is_lawful : MountLine → Bool
+is_lawful line =
+    is_filled line.point
+    && list_all is_word (line.number ∷ line.parent ∷ line.device ∷ line.root ∷ line.options)
+    && list_all is_word (line.kind ∷ line.more)
+    && not (list_any (λ word. bytes_eq word (codes "-")) line.options)
+
+abbrev pub mount_on : MountLine → MountText
+mount_on line =
+    record { device = line.device; point = path_from line.point; kind = line.kind }
+
+abbrev pub MountsAreReadBack : Type 0
+MountsAreReadBack = (mounts : List MountLine) → list_all is_lawful mounts ≡ true
+    → mounts_in (flat_map (λ line. line_of (words_of line)) mounts) ≡ map mount_on mounts
+
+-- ---- the mount that a directory is in
+
+-- It is one of the mounts, the directory is in it, it is as near as any other that the directory
+-- is in, and nearer than those behind it.
+pub record IsNearest (mounts : List MountText) (directory : List ℕ) (mount : MountText)
+    : Type 0 where
+  pub before : List MountText
+  pub after : List MountText
+  pub listed : mounts ≡ before ++ mount ∷ after
+  pub holds : is_in mount.point directory ≡ true
+  pub near : All (λ (other : MountText). is_in other.point directory ≡ true
+      → length other.point ≤ length mount.point) before
+  pub last : All (λ (other : MountText). is_in other.point directory ≡ true
+      → length other.point < length mount.point) after
+
+abbrev pub MountIsNearest : Type 0
+MountIsNearest = (mounts : List MountText) (directory : List ℕ)
+    → IfSome (mount_of mounts directory) (IsNearest mounts directory)
+
+-- ---- what is refused
+
+-- Where a directory that is in a mount is not refused, no mount below it is of that file system.
+abbrev pub NoSecondWay : Type 0
+NoSecondWay = (text path : List ℕ) (known : Bool) (mount : MountText)
+    → one_journal text path ≡ Ok known → mount_of (mounts_in text) (path_from path) ≡ Some mount
+    → list_any (λ other. is_under (path_from path) other.point
+    && bytes_eq other.device mount.device) (mounts_in text) ≡ false
+
+-- ---- what the command prints
+
+-- a word and a number, as two words of a line tell them
+abbrev pub row_of : List (List ℕ) → Option (List ℕ × ℕ)
+row_of (word ∷ number ∷ []) = Some (word, digits_value 10 number)
+row_of _ = None
+
+abbrev pub rows_in : List ℕ → List (List ℕ × ℕ)
+rows_in text = filter_map (λ line. row_of (words line)) (lines text)
+
+abbrev pub CountsAreReadBack : Type 0
+CountsAreReadBack = (counts : OwnerCounts) (mounts : ℕ)
+    → All (λ (row : List ℕ × ℕ). row.1 < 2 ^ 64) (counted counts mounts)
+    → rows_in (counts_text counts mounts) ≡ counted counts mounts

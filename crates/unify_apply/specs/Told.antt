@@ -1,0 +1,27 @@
+-- Where the mark of a plan is, and what is told of its files (this project's own).
+use Rattle.std.specs.Prelude.{ℕ, List, [], ◌++◌, Option, None, Some, codes, slice_get}
+use Rattle.std.specs.Option.{option_map_or}
+use Rattle.reown_files.specs.declared.answers.Trouble.{Trouble}
+use Rattle.reown_files.specs.declared.answers.Trouble.TheVariants as trouble
+use Rattle.reown_plan.specs.declared.plan.Record.{Record}
+
+-- the path of the mark: the one that is named, or that of the plan with `.done` behind it
+abbrev pub mark_at : Option (List ℕ) → List ℕ → List ℕ
+mark_at None plan = plan ++ codes ".done"
+mark_at (Some path) plan = path
+
+-- the path of the record at a place; none has one behind the last
+abbrev pub path_of_record : List Record → ℕ → List ℕ
+path_of_record records i = option_map_or (λ (r : Record). r.path.now) (slice_get records i) []
+
+-- The exit status where there is trouble before anything was changed: 1 where what was found may
+-- not be changed, and 3 where a call failed, or found another file than before.
+abbrev pub status_of : Trouble → ℕ
+status_of trouble.BadPath = 1
+status_of trouble.NotText = 1
+status_of trouble.OtherMount = 1
+status_of trouble.LinkedElsewhere = 1
+status_of trouble.LinkedOtherwise = 1
+status_of trouble.NotMark = 1
+status_of trouble.NotModes = 1
+status_of _ = 3

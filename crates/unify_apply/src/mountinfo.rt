@@ -1,0 +1,239 @@
+//! The mounts that this process sees, as the system tells them (proc(5)): where a directory is
+//! among them, and what is below it.
+ghost use Rattle.std.specs.Prelude.{◌≡◌, map, codes, option_map, option_copied, IfOk};
+ghost use Rattle.idtext.specs.First.{Gives};
+ghost use Rattle.idtext.specs.Words.{words};
+ghost use Rattle.unify_apply.specs.Mounts.{text_of, kind_in, mount_in, mount_told, mounts_in};
+ghost use Rattle.unify_apply.specs.Mounts.{path_byte, path_from, path_in, is_in, is_under};
+ghost use Rattle.unify_apply.specs.Mounts.{mount_text, mount_texts, mount_of as mount_of_texts};
+ghost use Rattle.unify_apply.specs.Mounts.{first_below as first_of_texts_below};
+ghost use Rattle.unify_apply.specs.Mounts.{count_below as count_of_texts_below, twice_at};
+ghost use Rattle.unify_apply.specs.Mounts.{has_one_journal as is_of_one_journal, one_journal};
+ghost use Rattle.unify_apply.specs.Mounts.{twice_told};
+
+use idtext::{Character, Lines, Words, first_character};
+use std::alloc::{AllocError, Global};
+
+/// A mount: its file system, what kind that is of, and the path where it is, which is empty for
+/// the root of all.
+#[derive(Drop)]
+pub struct Mount<'a> {
+    /// The number of the file system.
+    pub device: &'a [u8],
+    /// What kind it is of.
+    pub kind: &'a [u8],
+    /// The path.
+    pub point: Vec<u8>,
+}
+
+// The words of a line that are looked at.
+#[derive(Clone, Copy)]
+struct MountWords<'a> {
+    // The number of the file system, the third word.
+    device: &'a [u8],
+    // The path, with escapes, the fifth.
+    point: &'a [u8],
+    // The kind of file system, behind the word `-`, before which stand as many as there are.
+    kind: &'a [u8],
+}
+
+/// A directory's path without the slash that the root of all has.
+pub fn without_slash(path: &[u8]) -> &[u8]
+    ensures { result.now ≡ path_from path.now }
+{
+    path.strip_suffix(b"/").unwrap_or(path)
+}
+
+// The byte that a character of a path stands for.
+fn byte_of(character: Character) -> u8
+    ensures { result ≡ path_byte character }
+{
+    match character {
+        Character::Plain(byte) | Character::Escape(byte) => byte,
+        Character::Bad => b'\\',
+    }
+}
+
+// The path that a word with escapes stands for.
+fn unescaped(alloc: Global, word: &[u8]) -> Result<Vec<u8>, AllocError>
+    ensures { IfOk result (λ path. path.items ≡ path_in word.now) }
+{
+    let mut path = Vec::new(alloc);
+    let mut rest = without_slash(word);
+    while let Some((character, next)) = first_character(rest) {
+        path.push(byte_of(character))?;
+        rest = next;
+    }
+    Ok(path)
+}
+
+// The first word behind the word `-`.
+fn kind_behind<'a>(mut words: Words<'a>) -> Option<&'a [u8]>
+    ensures { option_copied result ≡ kind_in words.entry }
+{
+    while let Some(word) = words.next() {
+        if word == b"-".as_slice() {
+            return words.next();
+        }
+    }
+    None
+}
+
+// The words of a line.
+fn mount_words(line: &[u8]) -> Option<MountWords<'_>>
+    ensures { option_map text_of result ≡ mount_in (words line.now) }
+{
+    let mut words = Words::new(line);
+    let _ = words.next()?;
+    let _ = words.next()?;
+    let device = words.next()?;
+    let _ = words.next()?;
+    let point = words.next()?;
+    let kind = kind_behind(words)?;
+    Some(MountWords {
+        device,
+        point,
+        kind,
+    })
+}
+
+// The mount that a line tells.
+fn read_mount(alloc: Global, line: &[u8]) -> Result<Option<Mount<'_>>, AllocError>
+    ensures { IfOk result (λ mount. option_map mount_text mount ≡ mount_told line.now) }
+{
+    let Some(words) = mount_words(line) else {
+        return Ok(None);
+    };
+    let point = unescaped(alloc, words.point)?;
+    Ok(Some(Mount {
+        device: words.device,
+        kind: words.kind,
+        point,
+    }))
+}
+
+/// The mounts that a text tells, in its order: what was mounted later stands later.
+pub fn read_mounts(alloc: Global, text: &[u8]) -> Result<Vec<Mount<'_>>, AllocError>
+    ensures { IfOk result (λ mounts. mount_texts mounts.items ≡ mounts_in text.now) }
+{
+    let mut mounts = Vec::new(alloc);
+    for line in Lines::new(text) {
+        if let Some(mount) = read_mount(alloc, line)? {
+            mounts.push(mount)?;
+        }
+    }
+    Ok(mounts)
+}
+
+// Whether a path is that of a directory, or of something below it. The path of the root of all is
+// empty.
+fn is_within(path: &[u8], directory: &[u8]) -> bool
+    ensures { result ≡ is_in directory.now path.now }
+{
+    match path.strip_prefix(directory) {
+        Some(rest) => rest.is_empty() || rest.starts_with(b"/"),
+        None => false,
+    }
+}
+
+// Whether a path is below a directory.
+fn is_below(path: &[u8], directory: &[u8]) -> bool
+    ensures { result ≡ is_under directory.now path.now }
+{
+    path.len() > directory.len() && is_within(path, directory)
+}
+
+// The mount that a directory is in: the nearest to it, and the last of those.
+fn mount_of<'m, 'a>(mounts: &'m [Mount<'a>], directory: &[u8]) -> Option<&'m Mount<'a>>
+    ensures { option_map mount_text (option_copied result)
+        ≡ mount_of_texts (mount_texts mounts.now) directory.now }
+{
+    let mut found = None;
+    let mut nearest: usize = 0;
+    for mount in mounts {
+        if mount.point.len() >= nearest && is_within(directory, &mount.point) {
+            nearest = mount.point.len();
+            found = Some(mount);
+        }
+    }
+    found
+}
+
+/// The first mount below a directory.
+pub fn first_below<'m, 'a>(mounts: &'m [Mount<'a>], directory: &[u8]) -> Option<&'m Mount<'a>>
+    ensures { option_map mount_text (option_copied result)
+        ≡ first_of_texts_below (mount_texts mounts.now) directory.now }
+{
+    for mount in mounts {
+        if is_below(&mount.point, directory) {
+            return Some(mount);
+        }
+    }
+    None
+}
+
+/// How many mounts are below a directory.
+pub fn count_below(mounts: &[Mount<'_>], directory: &[u8]) -> usize
+    ensures { result ≡ count_of_texts_below (mount_texts mounts.now) directory.now }
+{
+    mounts
+        .iter()
+        .filter(|mount| is_below(&mount.point, directory))
+        .count()
+}
+
+// The first mount below a directory that is of its file system.
+fn mount_below<'m>(mounts: &'m [Mount<'_>], directory: &[u8], device: &[u8]) -> Option<&'m [u8]>
+    ensures { option_copied result
+        ≡ twice_at (mount_texts mounts.now) directory.now device.now }
+{
+    for mount in mounts {
+        if is_below(&mount.point, directory) && mount.device == device {
+            return Some(&mount.point);
+        }
+    }
+    None
+}
+
+// Whether a file system of this kind has one journal, so that a sync of one file keeps all that
+// was changed before.
+fn has_one_journal(kind: &[u8]) -> bool
+    ensures { result ≡ is_of_one_journal kind.now }
+{
+    matches!(kind, b"ext3" | b"ext4" | b"xfs")
+}
+
+/// Why no plan is carried out below a directory.
+#[derive(Drop)]
+pub enum MountFault {
+    /// Its file system is mounted below it once more, at this path.
+    Twice(Vec<u8>),
+    /// Memory was refused.
+    Memory,
+}
+
+impl From<AllocError> for MountFault {
+    ghost use Rattle.unify_apply.specs.declared.mountinfo.MountFault.TheVariants.{Memory};
+
+    ghost from_gives = { λ _ fault. fault ≡ Memory };
+
+    fn from(_refused: AllocError) -> Self {
+        MountFault::Memory
+    }
+}
+
+/// Whether the file system of the directory with this path is known to have one journal, as this
+/// text tells. Refused is one that has a mount of its own file system below it.
+pub fn see_journal(alloc: Global, text: &[u8], path: &[u8]) -> Result<bool, MountFault>
+    ensures { Gives (λ known. known) twice_told result (one_journal text.now path.now) }
+{
+    let mounts = read_mounts(alloc, text)?;
+    let directory = without_slash(path);
+    let Some(mount) = mount_of(&mounts, directory) else {
+        return Ok(false);
+    };
+    match mount_below(&mounts, directory, mount.device) {
+        None => Ok(has_one_journal(mount.kind)),
+        Some(point) => Err(MountFault::Twice(Vec::from_slice(alloc, point)?)),
+    }
+}
