@@ -187,7 +187,8 @@ impl<'a> Model for PasswdTable<'a> {
     ghost view = { λ it. it.rows.items };
 
     ghost invariant = { λ it.
-        (it.index ≡ known_of (λ row. row.name) (λ row. row.uid) it.rows.items) × IsPasswdTable it.rows.items × HaveLawfulGids it.rows.items };
+        (it.index ≡ known_of (λ row. row.name) (λ row. row.uid) it.rows.items)
+        × IsPasswdTable it.rows.items × HaveLawfulGids it.rows.items };
 }
 
 impl<'a> PasswdTable<'a> {

@@ -4,8 +4,8 @@
 //! Sources: passwd(5) and group(5) for lines and fields, login.defs(5) of the shadow suite for
 //! words and numbers, chown(2) for the greatest id, mtree(5) and vis(3) for escapes. Texts are
 //! bytes and need not be UTF-8. Each reader goes over its text once and takes no memory.
-//! [`push_number`], [`push_escaped`], [`push_parts`] and [`ByteString::push_line`] append to a text,
-//! and leave it as it was where memory is refused; [`ByteString::copy_of`] copies one.
+//! [`push_number`], [`push_escaped`], [`push_parts`] and [`ByteString::push_line`] append to a
+//! text, and leave it as it was where memory is refused; [`ByteString::copy_of`] copies one.
 #![tactic(auto)]
 
 mod escapes;

@@ -1,5 +1,5 @@
-//! Tests of the layers below `unify`, of calls that no command makes, in a crate of their own: a crate is proved once more
-//! with its tests.
+//! Tests of the layers below `unify`, of calls that no command makes, in a crate of their own: a
+//! crate is proved once more with its tests.
 #![tactic(auto)]
 
 #[cfg(test)]

@@ -1,4 +1,5 @@
-//! Calls of the readers, and the runner's worked courses of a plan of six files. What a rehearsal tells is shown by bundles.
+//! Calls of the readers, and the runner's worked courses of a plan of six files. What a rehearsal
+//! tells is shown by bundles.
 
 mod campaigns;
 mod failures;
@@ -15,11 +16,13 @@ use std::process::Abort;
 use std::test::Fail;
 
 // Five files go from 1001 to 1002, and one the other way.
-const PLAN: &[u8] =
-    b"unify plan 1 a\n1001 100 1002 100 6 alice1\n1001 100 1002 100 6 alice2\n1001 100 1002 100 6 alice3\n1001 100 1002 100 6 alice4\n1001 100 1002 100 6 alice5\n1002 100 1001 100 4 bob1\nend\n";
+const PLAN: &[u8] = b"unify plan 1 a\n1001 100 1002 100 6 alice1\n1001 100 1002 100 6 alice2\n\
+        1001 100 1002 100 6 alice3\n1001 100 1002 100 6 alice4\n1001 100 1002 100 6 alice5\n\
+        1002 100 1001 100 4 bob1\nend\n";
 
 const INVENTORY: &[u8] =
-    b"/set gid=100\n./alice1 uid=1001\n./alice2 uid=1001\n./alice3 uid=1001\n./alice4 uid=1001\n./alice5 uid=1001\n./bob1 uid=1002\n";
+    b"/set gid=100\n./alice1 uid=1001\n./alice2 uid=1001\n./alice3 uid=1001\n./alice4 uid=1001\n\
+        ./alice5 uid=1001\n./bob1 uid=1002\n";
 
 // The files of the plan, with their old and new users.
 const FILES: [(&[u8], u32, u32); 6] = [

@@ -69,7 +69,7 @@ pub record AreFronts (fronts : List (List ℕ)) : Type 0 where
 abbrev pub GrowTo : List (List ℕ) → List (List ℕ) → Type 0
 GrowTo fronts new_fronts = (added : List (List ℕ)) × (new_fronts ≡ fronts ++ added)
 
--- ---- a search tree from a front and the block behind it to the number of the front that the two make
+-- ---- a search tree from a front and the block behind it to the number of the front of both
 
 abbrev pub FrontRows : Type 0
 FrontRows = List (Cut × ℕ)

@@ -40,7 +40,8 @@ fn warn_of_pins_end(
     warn_of_end(rt, matches.get_str("pins").unwrap_or(""), pins)
 }
 
-// Why the inventories of hosts were not all read, or what was read is refused: it is printed, unless it was told.
+// Why the inventories of hosts were not all read, or what was read is refused: it is printed,
+// unless it was told.
 fn reading_refused(
     rt: &HostRuntime,
     files: &HostFiles<'_>,
@@ -144,7 +145,8 @@ fn run_merge(rt: &HostRuntime, matches: &ArgMatches<'_>) -> Result<u8, FileFault
     }
 }
 
-// Merges the hosts that words name into a directory, which is looked at first, and is locked until all is written.
+// Merges the hosts that words name into a directory, which is looked at first, and is locked until
+// all is written.
 fn merge_into(
     rt: &HostRuntime,
     matches: &ArgMatches<'_>,

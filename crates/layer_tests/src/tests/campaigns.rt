@@ -10,7 +10,8 @@ use std::test::Fail;
 const SECOND_PLAN: &[u8] = b"unify plan 1 b\nend\n";
 
 const SECOND_INVENTORY: &[u8] =
-    b"/set gid=100\n./bob1 uid=1001\n./bob2 uid=1001\n./bob3 uid=1001\n./bob4 uid=1001\n./alice1 uid=1002\n./alice2 uid=1002\n./alice3 uid=1002\n";
+    b"/set gid=100\n./bob1 uid=1001\n./bob2 uid=1001\n./bob3 uid=1001\n./bob4 uid=1001\n\
+        ./alice1 uid=1002\n./alice2 uid=1002\n./alice3 uid=1002\n";
 
 // The files of the second host, with their users, which stay.
 const SECOND_FILES: [(&[u8], u32); 7] = [

@@ -7,7 +7,8 @@ use std::alloc::{AllocError, Global};
 use std::process::Abort;
 use std::test::Fail;
 
-// How many calls pass before one that fails, how it does, where the runner is then, and which files are at their new owner.
+// How many calls pass before one that fails, how it does, where the runner is then, and which files
+// are at their new owner.
 type Failure = (usize, Item, Place, [bool; 6]);
 
 const FAILURES: [Failure; 2] = [

@@ -5,7 +5,8 @@ use std::alloc::{AllocError, Global};
 use std::test::Fail;
 
 const EACH_KIND: &[u8] =
-    b"#\nuser root\nuser a b \n\t\nusers 0 999\nusers 500 0600\n\ngroup root\ngroups 7 7\nunowned groups";
+    b"#\nuser root\nuser a b \n\t\nusers 0 999\nusers 500 0600\n\ngroup root\ngroups 7 7\n\
+        unowned groups";
 
 // What a text says that has no fault, unless memory was refused.
 fn read(alloc: Global, text: &[u8]) -> Result<KeepText<'_>, AllocError> {

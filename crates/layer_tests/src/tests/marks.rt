@@ -8,8 +8,9 @@ use std::process::Abort;
 use std::test::Fail;
 
 // The plan that takes the other back: each owner turned.
-const BACK: &[u8] =
-    b"unify plan 1 a\n1002 100 1001 100 6 alice1\n1002 100 1001 100 6 alice2\n1002 100 1001 100 6 alice3\n1002 100 1001 100 6 alice4\n1002 100 1001 100 6 alice5\n1001 100 1002 100 4 bob1\nend\n";
+const BACK: &[u8] = b"unify plan 1 a\n1002 100 1001 100 6 alice1\n1002 100 1001 100 6 alice2\n\
+        1002 100 1001 100 6 alice3\n1002 100 1001 100 6 alice4\n1002 100 1001 100 6 alice5\n\
+        1001 100 1002 100 4 bob1\nend\n";
 
 fn carry_out(rt: &impl Abort, plan: &Plan, tree: &mut MemTree) {
     let mut runner = Runner::new(plan);
@@ -50,12 +51,14 @@ const MARKED: [Marked; 5] = [
     ),
     // marked-one-foreign
     (
-        b"/set gid=100 uid=1002\n./alice1\n./alice2 uid=7\n./alice3\n./alice4\n./alice5\n./bob1 uid=1001\n",
+        b"/set gid=100 uid=1002\n./alice1\n./alice2 uid=7\n./alice3\n./alice4\n./alice5\n\
+            ./bob1 uid=1001\n",
         Err(RunFault::Foreign(1)),
     ),
     // marked-all-new
     (
-        b"/set gid=100 uid=1002\n./alice1\n./alice2\n./alice3\n./alice4\n./alice5\n./bob1 uid=1001\n",
+        b"/set gid=100 uid=1002\n./alice1\n./alice2\n./alice3\n./alice4\n./alice5\n\
+            ./bob1 uid=1001\n",
         Ok(Progress::Done),
     ),
 ];

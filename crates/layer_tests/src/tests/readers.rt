@@ -1,5 +1,5 @@
-//! Of idtext, logindefs and mtree_inv: what no command shows. Their other examples are bundles and texts of
-//! `examples/worked`.
+//! Of idtext, logindefs and mtree_inv: what no command shows. Their other examples are bundles and
+//! texts of `examples/worked`.
 
 use idtext::{ByteString, ReadError, TextCode, TextFault, push_escaped, push_number};
 use logindefs::IdRange;

@@ -7,7 +7,8 @@ use std::alloc::Global;
 use std::process::Abort;
 use std::test::Fail;
 
-// A stop after so many advances, which files it leaves at their new owner, and whether it leaves the tree marked.
+// A stop after so many advances, which files it leaves at their new owner, and whether it leaves
+// the tree marked.
 type Stop = (Keep, usize, [bool; 6], bool);
 
 const STOPS: [Stop; 7] = [
@@ -38,7 +39,8 @@ fn stop(rt: &impl Abort, plan: &Plan, tree: &mut MemTree, keep: Keep, advances: 
     tree.reopen();
 }
 
-// A new runner carries the plan out. Where the tree is marked for it, it is done by its first advance.
+// A new runner carries the plan out. Where the tree is marked for it, it is done by its first
+// advance.
 fn finish(rt: &impl Abort, plan: &Plan, tree: &mut MemTree) {
     let marked = tree.is_marked(&plan.mark()) == Ok(true);
     let mut runner = Runner::new(plan);

@@ -11,12 +11,14 @@ const HOSTS: [Texts; 2] = [
     (
         b"a",
         b"alice:x:1001:100::/home/alice:/bin/sh\nbob:x:1002:100::/home/bob:/bin/sh",
-        b"/set gid=100\n./alice1 uid=1001\n./alice2 uid=1001\n./alice3 uid=1001\n./alice4 uid=1001\n./alice5 uid=1001\n./bob1 uid=1002",
+        b"/set gid=100\n./alice1 uid=1001\n./alice2 uid=1001\n./alice3 uid=1001\n\
+            ./alice4 uid=1001\n./alice5 uid=1001\n./bob1 uid=1002",
     ),
     (
         b"b",
         b"bob:x:1001:100::/home/bob:/bin/sh\nalice:x:1002:100::/home/alice:/bin/sh",
-        b"/set gid=100\n./bob1 uid=1001\n./bob2 uid=1001\n./bob3 uid=1001\n./bob4 uid=1001\n./alice1 uid=1002\n./alice2 uid=1002\n./alice3 uid=1002",
+        b"/set gid=100\n./bob1 uid=1001\n./bob2 uid=1001\n./bob3 uid=1001\n./bob4 uid=1001\n\
+            ./alice1 uid=1002\n./alice2 uid=1002\n./alice3 uid=1002",
     ),
 ];
 

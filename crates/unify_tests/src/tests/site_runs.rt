@@ -20,7 +20,8 @@ const FILES_OF_B: &[&[u8]] = &[
     b"bob1", b"bob2", b"bob3", b"bob4", b"alice1", b"alice2", b"alice3",
 ];
 
-// The users of a's files before and after the plan, and when its first record is done; and those of b's, which stay.
+// The users of a's files before and after the plan, and when its first record is done; and those of
+// b's, which stay.
 const OLD: &[u32] = &[1001, 1001, 1001, 1001, 1001, 1002];
 
 const NEW: &[u32] = &[1002, 1002, 1002, 1002, 1002, 1001];
