@@ -50,7 +50,8 @@ impl<'w> Inventories<'w> {
         }
     }
 
-    // Looks at the end of an inventory, and warns where it was read for the first time and has no file.
+    // Looks at the end of an inventory, and warns where it was read for the first time and has no
+    // file.
     fn look_at_end(&mut self) -> Result<(), FileFault> {
         let (Some(inventory), Some(word)) = (
             &self.inventory,

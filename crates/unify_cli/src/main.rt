@@ -1,5 +1,5 @@
-//! The program `unify`. Without words it answers the bundle on standard input, or tells its help where that is a terminal;
-//! with words it reads files.
+//! The program `unify`. Without words it answers the bundle on standard input, or tells its help
+//! where that is a terminal; with words it reads files.
 #![tactic(auto)]
 
 mod inventories;
