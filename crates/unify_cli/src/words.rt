@@ -8,19 +8,38 @@ use hosts_join::HostText;
 use idtext::ByteString;
 use inventory_files::run_inventory;
 use std::alloc::AllocError;
-use unify::{Reply, accepted_reply, cost_reply, refused, rehearse_reply};
+use unify::{Cost, Reply, accepted_reply, cost_reply, refused, rehearse_reply};
 use unify_apply::run_apply;
 use unify_io::{
-    FileFault, command_line, file_fault_told, memory_refused, no_host, open_output, print_answer,
-    read_file, read_hosts_tables, see_hosts, warn_of_end, warn_of_hosts_tables, warn_of_merge,
-    warn_of_seen, write_failed, wrong_words,
+    FileFault, SeenHosts, command_line, file_fault_told, memory_refused, no_host, open_output,
+    print_answer, read_file, read_hosts_tables, see_hosts, warn_of_end, warn_of_hosts_tables,
+    warn_of_merge, warn_of_seen, write_failed, wrong_words,
 };
 use unify_merge::{MergeFault, check_files, count_files, merge_files};
+use unify_texts::Fault;
 use verify_files::run_verify;
 
 // Prints an answer, and hands out its status.
 fn print_reply(rt: &HostRuntime, reply: &Reply) -> u8 {
     print_answer(rt, reply.status, &reply.text)
+}
+
+// Prints a cost.
+fn print_cost(rt: &HostRuntime, cost: Cost) -> Result<u8, FileFault> {
+    let reply = cost_reply(rt.alloc(), cost)?;
+    Ok(print_reply(rt, &reply))
+}
+
+// Prints the sum that a certificate proves.
+fn print_accepted(rt: &HostRuntime, sum: u64) -> Result<u8, FileFault> {
+    let reply = accepted_reply(rt.alloc(), sum)?;
+    Ok(print_reply(rt, &reply))
+}
+
+// Prints why what was read is refused.
+fn print_refused(rt: &HostRuntime, fault: &Fault<'_>) -> Result<u8, FileFault> {
+    let reply = refused(rt.alloc(), fault)?;
+    Ok(print_reply(rt, &reply))
 }
 
 // The pins text, empty where none is named.
@@ -31,13 +50,29 @@ fn read_pins(rt: &HostRuntime, matches: &ArgMatches<'_>) -> Result<ByteString, F
     }
 }
 
-// Warns of a pins text that may have been cut.
-fn warn_of_pins_end(
+// Warns of a text that may have been cut, and of what was seen of hosts.
+fn warn_of_texts(
+    rt: &HostRuntime,
+    path: &str,
+    text: &ByteString,
+    seen: &SeenHosts,
+) -> Result<(), AllocError> {
+    warn_of_end(rt, path, text)?;
+    warn_of_seen(rt, seen)
+}
+
+// Looks at the hosts that words name, and warns of them and of a text, unless it is to be quiet.
+fn see_named(
     rt: &HostRuntime,
     matches: &ArgMatches<'_>,
-    pins: &ByteString,
-) -> Result<(), AllocError> {
-    warn_of_end(rt, matches.get_str("pins").unwrap_or(""), pins)
+    path: &str,
+    text: &ByteString,
+) -> Result<SeenHosts, FileFault> {
+    let seen = see_hosts(rt, matches.get_strs("HOST").unwrap_or(&[]))?;
+    if !matches.get_flag("quiet") {
+        warn_of_texts(rt, path, text, &seen)?;
+    }
+    Ok(seen)
 }
 
 // Why the inventories of hosts were not all read, or what was read is refused: it is printed,
@@ -48,101 +83,95 @@ fn reading_refused(
     fault: &MergeFault<'_>,
 ) -> Result<u8, FileFault> {
     match fault {
-        MergeFault::Refused(fault) => Ok(print_reply(rt, &refused(rt.alloc(), fault)?)),
+        MergeFault::Refused(fault) => print_refused(rt, fault),
         MergeFault::TooLarge => Err(files.too_large()),
         MergeFault::Failed => Err(files.fault()),
     }
 }
 
-// Prints what a map costs on the hosts that words name.
-fn count_hosts(
+// Prints what a map costs on hosts with these files.
+fn count_by(
     rt: &HostRuntime,
-    words: &[&str],
-    map: &ByteString,
+    files: &mut HostFiles<'_>,
     hosts: &[HostText],
+    map: &ByteString,
 ) -> Result<u8, FileFault> {
-    let mut files = HostFiles::new(rt, words);
-    match count_files(rt.alloc(), &mut files, hosts, map.bytes()) {
-        Ok(cost) => Ok(print_reply(rt, &cost_reply(rt.alloc(), cost)?)),
-        Err(fault) => reading_refused(rt, &files, &fault),
+    match count_files(rt.alloc(), files, hosts, map.bytes()) {
+        Ok(cost) => print_cost(rt, cost),
+        Err(fault) => reading_refused(rt, files, &fault),
     }
+}
+
+// Counts by a map of the hosts that words name.
+fn count_text(
+    rt: &HostRuntime,
+    matches: &ArgMatches<'_>,
+    path: &str,
+    map: &ByteString,
+) -> Result<u8, FileFault> {
+    let seen = see_named(rt, matches, path, map)?;
+    let words = matches.get_strs("HOST").unwrap_or(&[]);
+    let mut files = HostFiles::new(rt, words);
+    count_by(rt, &mut files, &seen.hosts, map)
 }
 
 // count [--quiet] MAP HOST...
 fn run_count(rt: &HostRuntime, matches: &ArgMatches<'_>) -> Result<u8, FileFault> {
     let path = matches.get_str("MAP").unwrap_or("");
     let map = read_file(rt, path)?;
-    let words = matches.get_strs("HOST").unwrap_or(&[]);
-    let seen = see_hosts(rt, words)?;
-    if !matches.get_flag("quiet") {
-        warn_of_end(rt, path, &map)?;
-        warn_of_seen(rt, &seen)?;
-    }
-    count_hosts(rt, words, &map, &seen.hosts)
+    count_text(rt, matches, path, &map)
 }
 
-// Prints what a check of a certificate of the hosts that words name gives.
-fn check_hosts(
+// Prints what a check of a certificate of hosts with these files gives.
+fn check_by(
     rt: &HostRuntime,
-    words: &[&str],
+    files: &mut HostFiles<'_>,
+    hosts: &[HostText],
     certificate: &ByteString,
     pins: &ByteString,
-    hosts: &[HostText],
 ) -> Result<u8, FileFault> {
-    let mut files = HostFiles::new(rt, words);
-    match check_files(
-        rt.alloc(),
-        &mut files,
-        hosts,
-        pins.bytes(),
-        certificate.bytes(),
-    ) {
-        Ok(cost) => Ok(print_reply(rt, &accepted_reply(rt.alloc(), cost)?)),
-        Err(fault) => reading_refused(rt, &files, &fault),
+    match check_files(rt.alloc(), files, hosts, pins.bytes(), certificate.bytes()) {
+        Ok(sum) => print_accepted(rt, sum),
+        Err(fault) => reading_refused(rt, files, &fault),
     }
+}
+
+// Checks a certificate of the hosts that words name by pins.
+fn check_texts(
+    rt: &HostRuntime,
+    matches: &ArgMatches<'_>,
+    certificate: &ByteString,
+    pins: &ByteString,
+) -> Result<u8, FileFault> {
+    let path = matches.get_str("pins").unwrap_or("");
+    let seen = see_named(rt, matches, path, pins)?;
+    let words = matches.get_strs("HOST").unwrap_or(&[]);
+    let mut files = HostFiles::new(rt, words);
+    check_by(rt, &mut files, &seen.hosts, certificate, pins)
 }
 
 // check [--quiet] [--pins FILE] CERTIFICATE HOST...
 fn run_check(rt: &HostRuntime, matches: &ArgMatches<'_>) -> Result<u8, FileFault> {
     let certificate = read_file(rt, matches.get_str("CERTIFICATE").unwrap_or(""))?;
     let pins = read_pins(rt, matches)?;
-    let words = matches.get_strs("HOST").unwrap_or(&[]);
-    let seen = see_hosts(rt, words)?;
-    if !matches.get_flag("quiet") {
-        warn_of_pins_end(rt, matches, &pins)?;
-        warn_of_seen(rt, &seen)?;
-    }
-    check_hosts(rt, words, &certificate, &pins, &seen.hosts)
+    check_texts(rt, matches, &certificate, &pins)
+}
+
+// Prints what a rehearsal of a plan on an inventory gives.
+fn rehearse_texts(
+    rt: &HostRuntime,
+    plan: &ByteString,
+    mtree: &ByteString,
+) -> Result<u8, FileFault> {
+    let reply = rehearse_reply(rt.alloc(), plan.bytes(), mtree.bytes())?;
+    Ok(print_reply(rt, &reply))
 }
 
 // rehearse PLAN MTREE
 fn run_rehearse(rt: &HostRuntime, matches: &ArgMatches<'_>) -> Result<u8, FileFault> {
     let plan = read_file(rt, matches.get_str("PLAN").unwrap_or(""))?;
     let mtree = read_file(rt, matches.get_str("MTREE").unwrap_or(""))?;
-    let reply = rehearse_reply(rt.alloc(), plan.bytes(), mtree.bytes())?;
-    Ok(print_reply(rt, &reply))
-}
-
-// The words of a merge that are no flags: OUT, unless -o names it, and the hosts.
-fn merge_words<'a>(rt: &HostRuntime, matches: &ArgMatches<'a>) -> Result<Vec<&'a str>, AllocError> {
-    let mut words = Vec::new(rt.alloc());
-    if let Some(first) = matches.get_str("OUT") {
-        words.push(first)?;
-    }
-    for word in matches.get_strs("HOST").unwrap_or(&[]) {
-        words.push(*word)?;
-    }
-    Ok(words)
-}
-
-// merge [--quiet] [--pins FILE] OUT HOST..., or the same with -o OUT HOST...
-fn run_merge(rt: &HostRuntime, matches: &ArgMatches<'_>) -> Result<u8, FileFault> {
-    let words = merge_words(rt, matches)?;
-    match (matches.get_str("output"), words.split_first()) {
-        (_, None) => Err(no_host(rt)),
-        (Some(directory), _) => merge_into(rt, matches, directory, &words),
-        (None, Some((directory, hosts))) => merge_into(rt, matches, *directory, hosts),
-    }
+    rehearse_texts(rt, &plan, &mtree)
 }
 
 // Merges the hosts that words name into a directory, which is looked at first, and is locked until
@@ -179,10 +208,41 @@ fn merge_refused(
 ) -> Result<u8, FileFault> {
     files.discard();
     match fault {
-        MergeFault::Refused(fault) => Ok(print_reply(rt, &refused(rt.alloc(), fault)?)),
+        MergeFault::Refused(fault) => print_refused(rt, fault),
         MergeFault::TooLarge => Err(files.too_large()),
         MergeFault::Failed => Err(files.fault()),
     }
+}
+
+// Warns of what was read before a merge.
+fn warn_before(
+    rt: &HostRuntime,
+    matches: &ArgMatches<'_>,
+    hosts: &[HostText],
+    pins: &ByteString,
+) -> Result<(), AllocError> {
+    warn_of_end(rt, matches.get_str("pins").unwrap_or(""), pins)?;
+    warn_of_hosts_tables(rt, hosts)
+}
+
+// Merges hosts by these files, warns of what it gives unless it is to be quiet, and prints what it
+// costs.
+fn merge_by(
+    rt: &HostRuntime,
+    files: &mut SiteFiles<'_>,
+    directory: &str,
+    hosts: &[HostText],
+    pins: &ByteString,
+    is_quiet: bool,
+) -> Result<u8, FileFault> {
+    let cost = match merge_files(rt.alloc(), files, hosts, pins.bytes()) {
+        Ok(cost) => cost,
+        Err(fault) => return merge_refused(rt, files, &fault),
+    };
+    if !is_quiet {
+        warn_of_merge(rt, hosts, directory, pins.bytes(), files.file_lines())?;
+    }
+    print_cost(rt, cost)
 }
 
 // Merges hosts whose texts are given but for their inventories, and prints what it costs.
@@ -194,52 +254,73 @@ fn merge_texts(
     hosts: &[HostText],
     pins: &ByteString,
 ) -> Result<u8, FileFault> {
-    let quiet = matches.get_flag("quiet");
-    if !quiet {
-        warn_of_pins_end(rt, matches, pins)?;
-        warn_of_hosts_tables(rt, hosts)?;
+    let is_quiet = matches.get_flag("quiet");
+    if !is_quiet {
+        warn_before(rt, matches, hosts, pins)?;
     }
-    let mut files = SiteFiles::new(rt, directory, words, quiet);
-    let cost = match merge_files(rt.alloc(), &mut files, hosts, pins.bytes()) {
-        Ok(cost) => cost,
-        Err(fault) => return merge_refused(rt, &files, &fault),
-    };
-    if !quiet {
-        warn_of_merge(rt, hosts, directory, pins.bytes(), files.file_lines())?;
-    }
-    Ok(print_reply(rt, &cost_reply(rt.alloc(), cost)?))
+    let mut files = SiteFiles::new(rt, directory, words, is_quiet);
+    merge_by(rt, &mut files, directory, hosts, pins, is_quiet)
 }
 
-// The status of the command that the words name, where there is such a command.
-fn status_of(rt: &HostRuntime, matches: &ArgMatches<'_>) -> Option<Result<u8, FileFault>> {
-    if let Some(matches) = matches.subcommand_matches("count") {
-        return Some(run_count(rt, matches));
+// A word and others behind it.
+fn with_first<'a>(
+    rt: &HostRuntime,
+    first: &'a str,
+    others: &[&'a str],
+) -> Result<Vec<&'a str>, AllocError> {
+    let mut words = Vec::new(rt.alloc());
+    words.push(first)?;
+    words.extend_from_slice(others)?;
+    Ok(words)
+}
+
+// Merges the hosts that a word and others name into the directory that -o names.
+fn merge_into_named(
+    rt: &HostRuntime,
+    matches: &ArgMatches<'_>,
+    directory: &str,
+    first: &str,
+    others: &[&str],
+) -> Result<u8, FileFault> {
+    let words = with_first(rt, first, others)?;
+    merge_into(rt, matches, directory, &words)
+}
+
+// merge [--quiet] [--pins FILE] OUT HOST..., or the same with -o OUT HOST..., where the first word
+// is that of a host too.
+fn run_merge(rt: &HostRuntime, matches: &ArgMatches<'_>) -> Result<u8, FileFault> {
+    let Some(first) = matches.get_str("OUT") else {
+        return Err(no_host(rt));
+    };
+    let others = matches.get_strs("HOST").unwrap_or(&[]);
+    match matches.get_str("output") {
+        Some(directory) => merge_into_named(rt, matches, directory, first, others),
+        None => merge_into(rt, matches, first, others),
     }
-    if let Some(matches) = matches.subcommand_matches("merge") {
-        return Some(run_merge(rt, matches));
+}
+
+// Runs the command of that name.
+fn run_subcommand(rt: &HostRuntime, name: &str, matches: &ArgMatches<'_>) -> Result<u8, FileFault> {
+    match name {
+        "count" => run_count(rt, matches),
+        "merge" => run_merge(rt, matches),
+        "check" => run_check(rt, matches),
+        "rehearse" => run_rehearse(rt, matches),
+        "inventory" => run_inventory(rt, matches),
+        "apply" => run_apply(rt, matches),
+        "verify" => run_verify(rt, matches),
+        _ => Ok(2),
     }
-    if let Some(matches) = matches.subcommand_matches("check") {
-        return Some(run_check(rt, matches));
-    }
-    if let Some(matches) = matches.subcommand_matches("inventory") {
-        return Some(run_inventory(rt, matches));
-    }
-    if let Some(matches) = matches.subcommand_matches("rehearse") {
-        return Some(run_rehearse(rt, matches));
-    }
-    if let Some(matches) = matches.subcommand_matches("apply") {
-        return Some(run_apply(rt, matches));
-    }
-    let matches = matches.subcommand_matches("verify")?;
-    Some(run_verify(rt, matches))
 }
 
 // Runs the command that the words name.
 fn run_command(rt: &HostRuntime, matches: &ArgMatches<'_>) -> u8 {
-    match status_of(rt, matches) {
-        Some(Ok(status)) => status,
-        Some(Err(fault)) => file_fault_told(rt, fault),
-        None => 2,
+    let Some((name, matches)) = matches.subcommand() else {
+        return 2;
+    };
+    match run_subcommand(rt, name, matches) {
+        Ok(status) => status,
+        Err(fault) => file_fault_told(rt, fault),
     }
 }
 
