@@ -1,16 +1,15 @@
 -- What is counted is read back.
-use Rattle.std.proofs.Common.{◌≡◌, ℕ, ◌==◌, ◌&&◌, ◌||◌, ◌<◌, ◌^◌, All, Bool, true, false, not, List, [], ◌∷◌, ◌++◌, Some, length, decimal, refl, sym, ap, ◌∙◌, arith, subst, inl, inr}
+use Rattle.std.proofs.Common.{◌≡◌, ℕ, ◌==◌, ◌<◌, ◌^◌, All, Bool, true, false, not, List, [], ◌∷◌, length, decimal, refl, ap, ◌∙◌, arith, subst, inl, inr}
 use Rattle.std.specs.Prelude.{flat_map}
 use Rattle.std.specs.Char.{digit_value}
 use Rattle.std.specs.List.{filter_map, cons_option, list_all}
-use Rattle.std.specs.Str.Parse.{AllDigits, IsNumeral, digits_value}
-use Rattle.std.proofs.lemmas.Bool.{and_from, and_parts, eqb-true, not_from_false, or_cases, true≢false}
+use Rattle.std.specs.Str.Parse.{AllDigits, IsNumeral}
+use Rattle.std.proofs.lemmas.Bool.{and_from, and_parts, eqb-true, not_from_false, or_cases}
 use Rattle.std.proofs.lemmas.Fmt.{decimal_is_IsNumeral}
 use Rattle.std.proofs.lemmas.List.Elements.{All-head, All-tail}
-use Rattle.idtext.specs.Pieces.{lines}
 use Rattle.idtext.specs.Words.{is_filled, is_white, words}
 use Rattle.unify_apply.specs.Answers.{count_line}
-use Rattle.unify_apply.specs.Laws.{is_inside, is_word, line_of, row_of, rows_in}
+use Rattle.unify_apply.specs.Laws.{is_inside, is_word, row_of, rows_in}
 use Rattle.unify_apply.proofs.WrittenLines.{line-first, no_lines, words-joined}
 
 -- ---- a number is a word

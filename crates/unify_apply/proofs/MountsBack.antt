@@ -1,13 +1,12 @@
 -- The mounts that the system wrote are read back.
-use Rattle.std.proofs.Common.{◌≡◌, ℕ, ◌==◌, ◌&&◌, ◌||◌, Bool, true, false, cond, not, Option, Some, None, List, [], ◌∷◌, ◌++◌, map, refl, sym, ap, ◌∙◌}
+use Rattle.std.proofs.Common.{◌≡◌, ℕ, ◌==◌, ◌&&◌, ◌||◌, Bool, true, false, cond, not, Some, List, [], ◌∷◌, ◌++◌, map, refl, ap, ◌∙◌}
 use Rattle.std.specs.Prelude.{codes, flat_map, slice_get}
 use Rattle.std.specs.List.{filter_map, cons_option, join_with_byte, list_all, list_any}
 use Rattle.std.specs.Option.{option_map}
 use Rattle.std.specs.Str.{bytes_eq}
 use Rattle.std.proofs.lemmas.Bool.{and_from, and_parts, not-true, not_from_false, or_parts}
 use Rattle.idtext.specs.Escapes.{escape}
-use Rattle.idtext.specs.Pieces.{lines}
-use Rattle.idtext.specs.Words.{is_filled, is_white, words}
+use Rattle.idtext.specs.Words.{is_filled, is_white}
 use Rattle.unify_apply.specs.Laws.{MountLine, is_escaped, is_inside, is_lawful, is_word, line_of, mount_on, system_path, words_of}
 use Rattle.unify_apply.specs.Mounts.{MountText, kind_in, mount_in, mount_told, mounts_in, path_in}
 use Rattle.unify_apply.proofs.PathLemmas.{IsCons, escaped_cases, path-is-back, written, written-cons}

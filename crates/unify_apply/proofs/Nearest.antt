@@ -1,5 +1,5 @@
 -- The nearest mount, where the first of the mounts were looked at.
-use Rattle.std.proofs.Common.{◌≡◌, ℕ, zero, length, Option, None, Some}
+use Rattle.std.proofs.Common.{ℕ, length, Option, None, Some}
 use Rattle.unify_apply.specs.Mounts.{MountText, or_nearer}
 
 -- of the mounts looked at, and of the others

@@ -1,10 +1,9 @@
 -- A path that the system wrote is read back.
-use Rattle.std.proofs.Common.{◌≡◌, ℕ, ◌-◌, ◌<◌, ◌==◌, ◌||◌, Bool, true, false, cond, ◌+◌, ◌/◌, ◌%◌, List, [], ◌∷◌, ◌++◌, length, take, drop, get_or, map, refl, sym, ap, ◌∙◌, subst, inl, inr, arith}
+use Rattle.std.proofs.Common.{◌≡◌, ℕ, ◌==◌, ◌||◌, Bool, true, false, cond, ◌+◌, ◌/◌, ◌%◌, List, [], ◌∷◌, ◌++◌, drop, get_or, map, refl, sym, ap, ◌∙◌, subst, inl, inr, arith}
 use Rattle.std.specs.Prelude.{codes}
 use Rattle.std.specs.Str.{bytes_eq}
 use Rattle.std.proofs.lemmas.Bool.{eqb-true, or_cases, or_parts}
 use Rattle.idtext.specs.Escapes.{Front, backslash_front, characters, escape, front, is_plain}
-use Rattle.idtext.specs.declared.escapes.Character.{Character}
 use Rattle.idtext.specs.declared.escapes.Character.TheVariants.{Plain}
 use Rattle.idtext.proofs.EscapeLemmas.{characters-empty, front-first}
 use Rattle.unify_apply.specs.Laws.{is_escaped, system_path}

@@ -1,6 +1,6 @@
 -- Lines of words are read back, word by word.
-use Rattle.std.proofs.Common.{◌≡◌, ℕ, ◌==◌, ◌&&◌, Bool, true, false, cond, not, List, [], ◌∷◌, ◌++◌, All, map, refl, sym, ap, ◌∙◌, append_assoc}
-use Rattle.std.specs.Prelude.{filter, flat_map}
+use Rattle.std.proofs.Common.{◌≡◌, ℕ, ◌==◌, true, false, cond, not, List, [], ◌∷◌, ◌++◌, All, refl, ap, ◌∙◌, append_assoc}
+use Rattle.std.specs.Prelude.{filter}
 use Rattle.std.specs.List.{join_with_byte, list_all, slice_split}
 use Rattle.std.proofs.lemmas.Bool.{and_parts, not-true}
 use Rattle.std.proofs.lemmas.List.Elements.{All-nil, All-cons, All-append}

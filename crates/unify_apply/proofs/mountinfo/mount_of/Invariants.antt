@@ -1,6 +1,6 @@
-use Rattle.std.proofs.Common.{◌≡◌, ℕ, zero, drop, length, Option, None, Some}
+use Rattle.std.proofs.Common.{◌≡◌, drop}
 use Rattle.std.specs.Option.{option_map, option_copied}
-use Rattle.unify_apply.specs.Mounts.{MountText, mount_text, mount_texts, mount_of}
+use Rattle.unify_apply.specs.Mounts.{mount_text, mount_texts, mount_of}
 use Rattle.unify_apply.proofs.Nearest.{nearer_of, depth_of}
 use Rattle.unify_apply.proofs.mountinfo.mount_of.Given as goal
 
