@@ -16,7 +16,7 @@ fn push_count(text: &mut Vec<u8>, word: &str, count: u64) -> Result<(), AllocErr
     text.extend_from_slice(b"\n")
 }
 
-/// The two lines that tell a plan that was carried out.
+/// The two lines that tell a plan that was carried out. `AllocError` where memory is refused.
 pub fn records_text(alloc: Global, records: usize) -> Result<Vec<u8>, AllocError>
     ensures { IfOk result (λ text. text.items ≡ done_text records) }
 {
@@ -26,7 +26,7 @@ pub fn records_text(alloc: Global, records: usize) -> Result<Vec<u8>, AllocError
     Ok(text)
 }
 
-/// The seven lines of a count.
+/// The seven lines of a count. `AllocError` where memory is refused.
 pub fn counts_text(alloc: Global, counts: OwnerCounts, mounts: usize) -> Result<Vec<u8>, AllocError>
     ensures { IfOk result (λ text. text.items ≡ text_of_counts counts mounts) }
 {

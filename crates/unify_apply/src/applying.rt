@@ -21,8 +21,9 @@ use unify_texts::Fault;
 // What the mark's file has behind the name of the plan's.
 const DONE: &str = ".done";
 
-// The path of the mark: the one that is named, or else that of the plan with more behind it.
-fn mark_path(alloc: Global, named: Option<&str>, plan: &str) -> Result<String, AllocError>
+/// The path of the mark: the one that is named, or else that of the plan with `.done` behind it. A
+/// copy; `AllocError` where memory is refused.
+pub fn mark_path(alloc: Global, named: Option<&str>, plan: &str) -> Result<String, AllocError>
     ensures { IfOk result
         (λ path. string_bytes path ≡ mark_at (option_copied named.entry) plan.now) }
 {

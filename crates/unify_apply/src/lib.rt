@@ -14,5 +14,10 @@ mod progress;
 mod staying;
 mod told;
 
-pub use applying::run_apply;
+pub use answers::{counts_text, records_text};
+pub use applying::{mark_path, run_apply};
 pub use laws::{answers_are_read_back, mounts_are_read_back, one_way_to_files};
+pub use machine::{HostFit, host_fit, is_root};
+pub use mountinfo::{
+    Mount, MountFault, count_below, first_below, read_mounts, see_journal, without_slash,
+};

@@ -37,19 +37,20 @@ fn is_host(machine: &[u8], host: &[u8]) -> bool
     machine == host || short_name(machine) == host
 }
 
-// How a machine fits the host of a plan.
+/// How a machine fits the host of a plan.
 #[derive(Clone, Copy, Debug, PartialEq, Eq)]
-enum HostFit {
-    // It is that host.
+pub enum HostFit {
+    /// It is that host.
     Same,
-    // It is named as that host, and called otherwise.
+    /// It is named as that host, and called otherwise.
     Named,
-    // It is another, or another is named.
+    /// It is another, or another is named.
     Other,
 }
 
-// How the machine of this name fits the host of a plan, where a word may name its host.
-fn host_fit(host: &[u8], named: Option<&[u8]>, machine: &[u8]) -> HostFit
+/// How the machine of this name fits the host of a plan, where a word may name its host. One pass
+/// over the names.
+pub fn host_fit(host: &[u8], named: Option<&[u8]>, machine: &[u8]) -> HostFit
     ensures { result ≡ fit_of host.now (option_copied named.entry) machine.now }
 {
     match named {
@@ -115,8 +116,8 @@ fn is_line_of_root(line: &[u8]) -> bool
     head == b"Uid:".as_slice() && effective == b"0".as_slice()
 }
 
-// Whether a status is that of a process of root.
-fn is_root(status: &[u8]) -> bool
+/// Whether a text of /proc/PID/status is that of a process of root (proc(5)). One pass over it.
+pub fn is_root(status: &[u8]) -> bool
     ensures { result ≡ is_of_root status.now }
 {
     Lines::new(status).any(|line| is_line_of_root(line))

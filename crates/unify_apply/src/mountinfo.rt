@@ -37,7 +37,7 @@ struct MountWords<'a> {
     kind: &'a [u8],
 }
 
-/// A directory's path without the slash that the root of all has.
+/// A directory's path without the slash that the root of all has. No cost.
 pub fn without_slash(path: &[u8]) -> &[u8]
     ensures { result.now ≡ path_from path.now }
 {
@@ -112,7 +112,8 @@ fn read_mount(alloc: Global, line: &[u8]) -> Result<Option<Mount<'_>>, AllocErro
     }))
 }
 
-/// The mounts that a text tells, in its order: what was mounted later stands later.
+/// The mounts that a text tells, in its order: what was mounted later stands later. One pass over
+/// the text; `AllocError` where memory is refused.
 pub fn read_mounts(alloc: Global, text: &[u8]) -> Result<Vec<Mount<'_>>, AllocError>
     ensures { IfOk result (λ mounts. mount_texts mounts.items ≡ mounts_in text.now) }
 {
@@ -159,7 +160,7 @@ fn mount_of<'m, 'a>(mounts: &'m [Mount<'a>], directory: &[u8]) -> Option<&'m Mou
     found
 }
 
-/// The first mount below a directory.
+/// The first mount below a directory. One pass over the mounts.
 pub fn first_below<'m, 'a>(mounts: &'m [Mount<'a>], directory: &[u8]) -> Option<&'m Mount<'a>>
     ensures { option_map mount_text (option_copied result)
         ≡ first_of_texts_below (mount_texts mounts.now) directory.now }
@@ -172,7 +173,7 @@ pub fn first_below<'m, 'a>(mounts: &'m [Mount<'a>], directory: &[u8]) -> Option<
     None
 }
 
-/// How many mounts are below a directory.
+/// How many mounts are below a directory. One pass over them.
 pub fn count_below(mounts: &[Mount<'_>], directory: &[u8]) -> usize
     ensures { result ≡ count_of_texts_below (mount_texts mounts.now) directory.now }
 {
@@ -223,7 +224,8 @@ impl From<AllocError> for MountFault {
 }
 
 /// Whether the file system of the directory with this path is known to have one journal, as this
-/// text tells. Refused is one that has a mount of its own file system below it.
+/// text tells. Refused is one that has a mount of its own file system below it. One pass over the
+/// text and two over its mounts.
 pub fn see_journal(alloc: Global, text: &[u8], path: &[u8]) -> Result<bool, MountFault>
     ensures { Gives (λ known. known) twice_told result (one_journal text.now path.now) }
 {
