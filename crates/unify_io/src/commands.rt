@@ -51,6 +51,7 @@ struct Subcommand {
     arguments: &'static [Argument],
 }
 
+// What words have in common: each has to stand there.
 const WORD: Argument = Argument {
     name: "",
     form: Form::Word,
@@ -59,12 +60,14 @@ const WORD: Argument = Argument {
     help: "",
 };
 
+// What arguments with a long name have in common that may be absent.
 const FLAG: Argument = Argument {
     form: Form::Flag,
     need: Need::Optional,
     ..WORD
 };
 
+// -q, --quiet
 const QUIET: Argument = Argument {
     name: "quiet",
     letter: Some('q'),
@@ -72,6 +75,7 @@ const QUIET: Argument = Argument {
     ..FLAG
 };
 
+// --pins FILE
 const PINS: Argument = Argument {
     name: "pins",
     form: Form::Value("FILE"),
@@ -79,6 +83,7 @@ const PINS: Argument = Argument {
     ..FLAG
 };
 
+// HOST..., one or more.
 const HOSTS: Argument = Argument {
     name: "HOST",
     form: Form::Words,
@@ -87,6 +92,7 @@ const HOSTS: Argument = Argument {
     ..WORD
 };
 
+// count [--quiet] MAP HOST...
 const COUNT: Subcommand = Subcommand {
     name: "count",
     about: "Counts the owner and group fields of files that a map would change",
@@ -133,6 +139,7 @@ const MERGE: Subcommand = Subcommand {
     ],
 };
 
+// check [--quiet] [--pins FILE] CERTIFICATE HOST...
 const CHECK: Subcommand = Subcommand {
     name: "check",
     about: "Checks that no map changes fewer owner and group fields than that of a certificate",
@@ -149,6 +156,7 @@ const CHECK: Subcommand = Subcommand {
     ],
 };
 
+// rehearse PLAN MTREE
 const REHEARSE: Subcommand = Subcommand {
     name: "rehearse",
     about: "Carries a plan out on a tree in memory that is as an inventory tells",
@@ -167,6 +175,7 @@ const REHEARSE: Subcommand = Subcommand {
     ],
 };
 
+// inventory [-x] ROOT...
 const INVENTORY: Subcommand = Subcommand {
     name: "inventory",
     about: "Writes the inventory of the files below directories of this machine",
@@ -188,6 +197,7 @@ const INVENTORY: Subcommand = Subcommand {
     ],
 };
 
+// apply [--quiet] [--progress] [--check] [--reverse] [--mark FILE] [--host NAME] PLAN ROOT
 const APPLY: Subcommand = Subcommand {
     name: "apply",
     about: "Carries a plan out on the files below a directory, from wherever it was stopped",
@@ -235,6 +245,7 @@ const APPLY: Subcommand = Subcommand {
     ],
 };
 
+// verify --was PASSWD GROUP --now PASSWD GROUP BEFORE AFTER
 const VERIFY: Subcommand = Subcommand {
     name: "verify",
     about: "Tells which files of an inventory have other owners by name in a later one",
@@ -268,7 +279,7 @@ const VERIFY: Subcommand = Subcommand {
 
 static COMMANDS: [Subcommand; 7] = [COUNT, MERGE, CHECK, REHEARSE, INVENTORY, APPLY, VERIFY];
 
-/// The values of --was and of --now.
+/// What help calls the values of --was and of --now.
 const ACCOUNT_FILES: [&str; 2] = ["PASSWD", "GROUP"];
 
 // An argument by its name, help and form.
