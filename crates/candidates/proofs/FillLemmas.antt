@@ -18,7 +18,7 @@ use Rattle.std.specs.Borrow.{Bor}
 use Rattle.logindefs.specs.declared.ranges.IdRange.{IdRange}
 use Rattle.hosts_join.specs.Accounts.{Accounts}
 use Rattle.hosts_join.specs.Lawful.{AreLawfulAccounts}
-use Rattle.hosts_join.specs.Pool.{in_runs}
+use Rattle.hosts_join.specs.RangeLists.{lies_in_some}
 use Rattle.hosts_join.specs.Rules.{account, in_pool, class_at}
 use Rattle.hosts_join.specs.declared.Class.{Class}
 use Rattle.hosts_join.specs.declared.Class.TheVariants.{Pinned, Regular, System}
@@ -115,7 +115,7 @@ is-next a start ws k w h =
 
 module _ (a : Accounts) (start : List (Option ℕ)) (ws : List (List ℕ × ℕ)) (k : ℕ) (numbers new : List (Option ℕ)) (regular system regular' system' : ℕ) (pool : List IdRange) (from next : ℕ)
     (lawful : AreLawfulAccounts a) (w : AreWaiting a start ws) (h : k < length ws) (s : IsFillSoFar a start ws k numbers regular system) (long : length start ≡ length a.names)
-    (pooled : (v : ℕ) → in_runs pool v ≡ in_pool a (class_at a (get_or ws k no_waiting).1) v) (given : IsGiven pool numbers new (get_or ws k no_waiting).1 from next)
+    (pooled : (v : ℕ) → lies_in_some pool v ≡ in_pool a (class_at a (get_or ws k no_waiting).1) v) (given : IsGiven pool numbers new (get_or ws k no_waiting).1 from next)
     (cursor : from ≡ cursor_of regular system (class_at a (get_or ws k no_waiting).1))
     (moved : (c : Class) → (cursor_of regular' system' c ≤ cursor_of regular system c) ⊎ ((c ≡ class_at a (get_or ws k no_waiting).1) × (cursor_of regular' system' c ≡ next))) where
   n : IsNext a start ws k

@@ -8,7 +8,7 @@ use Rattle.logindefs.specs.declared.ranges.IdRange.{IdRange}
 use Rattle.hosts_join.specs.Accounts.{Accounts, Account, nobody}
 use Rattle.hosts_join.specs.Count.{count_below}
 use Rattle.hosts_join.specs.Lawful.{AreLawfulAccounts}
-use Rattle.hosts_join.specs.Pool.{in_runs}
+use Rattle.hosts_join.specs.RangeLists.{lies_in_some}
 use Rattle.hosts_join.specs.Rules.{in_pool, is_free_class, is_given_away, is_reserved, class_of, same_class, names_in, pool_size, class_at}
 use Rattle.hosts_join.specs.declared.Class.{Class}
 use Rattle.hosts_join.specs.declared.Class.TheVariants.{Pinned, Regular, System}
@@ -162,7 +162,7 @@ module _ (a : Accounts) (start : List (Option ℕ)) (ws : List (List ℕ × ℕ)
       by Regular g = one-class a c (class_at a j) w lawful (omega arith) p (member (ap is_free_class g))
       by System g = one-class a c (class_at a j) w lawful (omega arith) p (member (ap is_free_class g))
 
-  pub one-left : (c : Class) (i : ℕ) (pool : List IdRange) → same_class c (class_at a i) ≡ true → names_in a c ≤ pool_size a c → ((v : ℕ) → in_runs pool v ≡ in_pool a c v) → i < length a.names → gift numbers i ≡ None → IsLeft pool numbers (cursor_of regular system c)
+  pub one-left : (c : Class) (i : ℕ) (pool : List IdRange) → same_class c (class_at a i) ≡ true → names_in a c ≤ pool_size a c → ((v : ℕ) → lies_in_some pool v ≡ in_pool a c v) → i < length a.names → gift numbers i ≡ None → IsLeft pool numbers (cursor_of regular system c)
   one-left c i pool free enough is h none = elim (search-below (λ v. in_pool a c v && not (is_had numbers v)) (2 ^ 32)) [
     | inl f ↦
         let parts = and_parts (in_pool a c f.0) (not (is_had numbers f.0)) f.2 in

@@ -6,7 +6,7 @@ use Rattle.std.proofs.lemmas.Bool.{cases_Bool, cases_lt, cases_eq, eqb-true, eq-
 use Rattle.std.proofs.lemmas.List.Elements.{All-nil, All-head, All-tail, All-push, All-weaker}
 use Rattle.logindefs.specs.declared.ranges.IdRange.{IdRange}
 use Rattle.candidates.specs.Ascending.{AreAscending}
-use Rattle.hosts_join.specs.Pool.{in_runs}
+use Rattle.hosts_join.specs.RangeLists.{lies_in_some}
 use Rattle.candidates.specs.declared.Candidate.{Candidate}
 use Rattle.std.proofs.lemmas.List.Folds.{list_any_more}
 use Rattle.hosts_join.specs.Accounts.{Accounts, Account, lines, all_lines, nobody}
@@ -25,15 +25,15 @@ use Rattle.std.proofs.lemmas.Bool.{ne_eqb}
 use Rattle.candidates.specs.Rows.{IsAscending, IsWeighed, IsLawfulRow, weight_in, IsCandidate, IsRow, row_at}
 use Rattle.ownership.specs.Weights.{file_weight, weight}
 
-pub pool-push : (pool : List IdRange) (n v : ℕ) (L A : Bool) → in_runs pool n ≡ true → L ≡ (in_runs pool v && A) → (L || (n == v)) ≡ (in_runs pool v && (A || (n == v)))
+pub pool-push : (pool : List IdRange) (n v : ℕ) (L A : Bool) → lies_in_some pool n ≡ true → L ≡ (lies_in_some pool v && A) → (L || (n == v)) ≡ (lies_in_some pool v && (A || (n == v)))
 pool-push pool n v L A there e = elim (cases_Bool (n == v)) [
-  | inl t ↦ let here : in_runs pool v ≡ true = ap (in_runs pool) (sym (eqb-true n v t)) ∙ there in rw (t, here, or-true L, or-true A) refl
+  | inl t ↦ let here : lies_in_some pool v ≡ true = ap (lies_in_some pool) (sym (eqb-true n v t)) ∙ there in rw (t, here, or-true L, or-true A) refl
   | inr f ↦ rw (f, or-false L, or-false A) e
 ]
 
-pub pool-skip : (pool : List IdRange) (n v : ℕ) (L A : Bool) → in_runs pool n ≡ false → L ≡ (in_runs pool v && A) → L ≡ (in_runs pool v && (A || (n == v)))
+pub pool-skip : (pool : List IdRange) (n v : ℕ) (L A : Bool) → lies_in_some pool n ≡ false → L ≡ (lies_in_some pool v && A) → L ≡ (lies_in_some pool v && (A || (n == v)))
 pool-skip pool n v L A away e = elim (cases_Bool (n == v)) [
-  | inl t ↦ let here : in_runs pool v ≡ false = ap (in_runs pool) (sym (eqb-true n v t)) ∙ away in let e' = rw here at e in rw (t, here) e'
+  | inl t ↦ let here : lies_in_some pool v ≡ false = ap (lies_in_some pool) (sym (eqb-true n v t)) ∙ away in let e' = rw here at e in rw (t, here) e'
   | inr f ↦ rw (f, or-false A) e
 ]
 

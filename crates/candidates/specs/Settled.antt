@@ -13,7 +13,7 @@ use Rattle.hosts_join.specs.declared.Class.{Class}
 use Rattle.hosts_join.specs.declared.Class.TheVariants.{Pinned, Regular, System}
 use Rattle.hosts_join.specs.Rules.{account, class_at, in_pool, is_free_class}
 use Rattle.logindefs.specs.declared.ranges.IdRange.{IdRange}
-use Rattle.hosts_join.specs.Pool.{in_runs}
+use Rattle.hosts_join.specs.RangeLists.{lies_in_some}
 use Rattle.ownership.specs.Files.{is_number}
 use Rattle.ownership.specs.Weights.{Precedes}
 use Rattle.candidates.specs.Fill.{gift}
@@ -40,21 +40,21 @@ KnowsNumbers f = (v : ℕ) → contains nat_eq f.had v ≡ is_had f.numbers.item
 pub record IsGiven (pool : List IdRange) (old new : List (Option ℕ)) (i from next : ℕ) : Type 0 where
   pub number : ℕ
   pub next_is : next ≡ number + 1
-  pub member : in_runs pool number ≡ true
+  pub member : lies_in_some pool number ≡ true
   pub fresh : is_had old number ≡ false
-  pub least : (u : ℕ) → from ≤ u → u < number → in_runs pool u ≡ true → is_had old u ≡ true
+  pub least : (u : ℕ) → from ≤ u → u < number → lies_in_some pool u ≡ true → is_had old u ≡ true
   pub set : new ≡ slice_set old i (Some number)
 
 -- a number is left from the cursor on
 pub record IsLeft (pool : List IdRange) (numbers : List (Option ℕ)) (from : ℕ) : Type 0 where
   pub number : ℕ
   pub above : from ≤ number
-  pub member : in_runs pool number ≡ true
+  pub member : lies_in_some pool number ≡ true
   pub fresh : is_had numbers number ≡ false
 
 -- every number of the pool is one that an account may have
 abbrev pub AreIds : List IdRange → Type 0
-AreIds pool = (v : ℕ) → in_runs pool v ≡ true → v ≤ 4294967294
+AreIds pool = (v : ℕ) → lies_in_some pool v ≡ true → v ≤ 4294967294
 
 -- what stands for an index that is too high
 abbrev pub no_waiting : List ℕ × ℕ

@@ -1,7 +1,7 @@
 //! The numbers of names while the fill goes on.
 ghost use Rattle.std.specs.Prelude.{◌≡◌, ℕ, ◌<◌, ◌≤◌, true, false, length, OnOk, IfOk, IfSome, IfNone, None, Some, nat_eq, slice_index_or, slice_set};
 ghost use Rattle.std.specs.HashSet.{contains};
-ghost use Rattle.hosts_join.specs.Pool.{in_runs};
+ghost use Rattle.hosts_join.specs.RangeLists.{lies_in_some};
 ghost use Rattle.candidates.specs.Fill.{gift};
 ghost use Rattle.candidates.specs.Settled.{is_had, IsGiven, IsLeft, AreIds};
 
@@ -74,10 +74,10 @@ impl Filling {
     /// The least number of the pool, from a cursor on, that no name has.
     fn first_free(&self, pool: &Pool, from: u32) -> Option<u32>
         requires ids { AreIds pool.now }
-        ensures member { IfSome result (λ v. in_runs pool.now v ≡ true) }
+        ensures member { IfSome result (λ v. lies_in_some pool.now v ≡ true) }
         ensures fresh { IfSome result (λ v. is_had self.now v ≡ false) }
-        ensures least { IfSome result (λ v. (u : ℕ) → from ≤ u → u < v → in_runs pool.now u ≡ true → is_had self.now u ≡ true) }
-        ensures none { IfNone result ((u : ℕ) → from ≤ u → in_runs pool.now u ≡ true → is_had self.now u ≡ true) }
+        ensures least { IfSome result (λ v. (u : ℕ) → from ≤ u → u < v → lies_in_some pool.now u ≡ true → is_had self.now u ≡ true) }
+        ensures none { IfNone result ((u : ℕ) → from ≤ u → lies_in_some pool.now u ≡ true → is_had self.now u ≡ true) }
     {
         let mut cursor = from;
         while let Some(number) = pool.next_from(cursor) {

@@ -5,7 +5,7 @@
 ghost use Rattle.std.specs.Prelude.{◌≡◌, ℕ, ◌<◌, ◌≤◌, ◌↔◌, ◌==◌, ◌&&◌, length, List, IfOk, Some};
 ghost use Rattle.std.specs.List.{list_any};
 ghost use Rattle.candidates.specs.Ascending.{AreAscending};
-ghost use Rattle.hosts_join.specs.Pool.{in_runs};
+ghost use Rattle.hosts_join.specs.RangeLists.{lies_in_some};
 ghost use Rattle.hosts_join.specs.Rules.{class_at, in_pool};
 ghost use Rattle.ownership.specs.Counts.{AreMadeFor, AreWithin, CountFiles};
 ghost use Rattle.ownership.specs.Files.{File};
@@ -55,7 +55,7 @@ impl<'n, 'a> Model for Rows<'n, 'a> {
 /// The numbers of spots that are in the pool, ascending.
 fn pooled(alloc: Global, spots: &[Spot], pool: &Pool) -> Result<Vec<u32>, AllocError>
     ensures ascending { IfOk result (λ ns. AreAscending ns.items) }
-    ensures numbers { IfOk result (λ ns. (v : ℕ) → list_any (λ t. t == v) ns.items ≡ (in_runs pool.now v && list_any (λ s. s.number == v) spots.now)) }
+    ensures numbers { IfOk result (λ ns. (v : ℕ) → list_any (λ t. t == v) ns.items ≡ (lies_in_some pool.now v && list_any (λ s. s.number == v) spots.now)) }
 {
     let mut numbers = Vec::new(alloc);
     for spot in spots {
@@ -140,7 +140,7 @@ impl<'n, 'a> Rows<'n, 'a> {
     /// The pool of the name at an index; it has no number for a pinned name. No cost.
     pub fn pool_of(&self, index: u32) -> &Pool
         requires { index < length self.now.rows }
-        ensures { (v : ℕ) → in_runs result.now v ≡ in_pool self.now.accounts (class_at self.now.accounts index) v }
+        ensures { (v : ℕ) → lies_in_some result.now v ≡ in_pool self.now.accounts (class_at self.now.accounts index) v }
     {
         self.names.pool(self.names.class(index))
     }

@@ -18,7 +18,8 @@ use Rattle.hosts_join.specs.declared.names.PoolPair.{PoolPair}
 use Rattle.hosts_join.specs.Settled.{ArePools, small_among}
 use Rattle.idtext.specs.First.{or_else}
 use Rattle.idtext.proofs.FirstLemmas.{none_of_both}
-use Rattle.hosts_join.specs.Pool.{in_runs, run_size}
+use Rattle.hosts_join.specs.Pool.{run_size}
+use Rattle.hosts_join.specs.RangeLists.{lies_in_some}
 use Rattle.hosts_join.specs.Rules.{Clash, joined, first_some, disagrees, pin_reserved, clash, clash_of, claim_fault, claims, too_small, names_in, pool_size, in_pool, same_class, class_of, class_served}
 use Rattle.hosts_join.specs.declared.Class.{Class}
 use Rattle.hosts_join.specs.declared.Class.TheVariants.{Regular, System}
@@ -30,8 +31,8 @@ count_by-of-map p f xs = fold-map (λ n y. n + cond (p y) 1 0) f 0 xs
 pub names-size : (a : Accounts) (c : Class) (classes : List Class) (n : ℕ) → classes ≡ map (class_of a.pins) a.names → n ≡ count_by (same_class c) classes → names_in a c ≡ n
 names-size a c classes n e h = sym (h ∙ ap (count_by (same_class c)) e ∙ count_by-of-map (same_class c) (class_of a.pins) a.names)
 
-pub pool-size : (a : Accounts) (c : Class) (runs : List IdRange) (n : ℕ) → ((v : ℕ) → in_runs runs v ≡ in_pool a c v) → n ≡ count_below (in_runs runs) (2 ^ 32) → pool_size a c ≡ n
-pool-size a c runs n e h = sym (h ∙ count_below-same (in_runs runs) (in_pool a c) (2 ^ 32) (λ v _. e v))
+pub pool-size : (a : Accounts) (c : Class) (runs : List IdRange) (n : ℕ) → ((v : ℕ) → lies_in_some runs v ≡ in_pool a c v) → n ≡ count_below (lies_in_some runs) (2 ^ 32) → pool_size a c ≡ n
+pool-size a c runs n e h = sym (h ∙ count_below-same (lies_in_some runs) (in_pool a c) (2 ^ 32) (λ v _. e v))
 
 -- claims with which nothing is wrong do not clash
 pub not-clashing : (kind : Which) (reserved : List Reserved) (given : List Pair) → claim_fault kind reserved given ≡ None → clash_of given ≡ None

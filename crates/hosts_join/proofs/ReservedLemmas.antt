@@ -11,7 +11,8 @@ use Rattle.idtext.proofs.FirstLemmas.{none_of_both}
 use Rattle.logindefs.specs.declared.ranges.IdRange.{IdRange}
 use Rattle.logindefs.specs.Ranges.{in_range}
 use Rattle.hosts_join.specs.Accounts as spec
-use Rattle.hosts_join.specs.Pool.{in_runs, is_free}
+use Rattle.hosts_join.specs.Pool.{is_free}
+use Rattle.hosts_join.specs.RangeLists.{lies_in_some}
 use Rattle.hosts_join.specs.Rules.{claim_fault, clash, first_some, is_reserved, is_taken, pin_reserved, reserver}
 use Rattle.hosts_join.specs.Views.{pairs_of}
 use Rattle.hosts_join.specs.declared.Pair.{Pair}
@@ -39,16 +40,16 @@ one-number n v = elim (cases_eq n v) [
 abbrev claim_range : Pair → IdRange
 claim_range p = record { low = p.number; high = p.number }
 
-claims-held : (ps : List Pair) (v : ℕ) → in_runs (map claim_range ps) v ≡ is_taken (pairs_of ps) v
+claims-held : (ps : List Pair) (v : ℕ) → lies_in_some (map claim_range ps) v ≡ is_taken (pairs_of ps) v
 claims-held [] v = refl
 claims-held (p ∷ ps) v = rw (one-number p.number v, claims-held ps v) refl
 
-pub claims-and-reserved : {E : Type 0} (o : Result (Vec IdRange Global) E) (first : List IdRange) (ps : List Pair) (rs : List Reserved) → first ≡ map claim_range ps → IfOk o (λ all. (v : ℕ) → in_runs all.items v ≡ (in_runs first v || is_reserved rs v))
-    → IfOk o (λ all. (v : ℕ) → in_runs all.items v ≡ (is_taken (pairs_of ps) v || is_reserved rs v))
+pub claims-and-reserved : {E : Type 0} (o : Result (Vec IdRange Global) E) (first : List IdRange) (ps : List Pair) (rs : List Reserved) → first ≡ map claim_range ps → IfOk o (λ all. (v : ℕ) → lies_in_some all.items v ≡ (lies_in_some first v || is_reserved rs v))
+    → IfOk o (λ all. (v : ℕ) → lies_in_some all.items v ≡ (is_taken (pairs_of ps) v || is_reserved rs v))
 claims-and-reserved (Err e) first ps rs same is = tt
-claims-and-reserved (Ok all) first ps rs same is = λ v. is v ∙ ap (λ b. b || is_reserved rs v) (ap (λ xs. in_runs xs v) same ∙ claims-held ps v)
+claims-and-reserved (Ok all) first ps rs same is = λ v. is v ∙ ap (λ b. b || is_reserved rs v) (ap (λ xs. lies_in_some xs v) same ∙ claims-held ps v)
 
-pub with-reserved : (runs : List IdRange) (taken : Bool) (rs : List Reserved) (r : Reserved) (v : ℕ) → in_runs runs v ≡ (taken || is_reserved rs v) → in_runs (runs ++ r.numbers ∷ []) v ≡ (taken || is_reserved (rs ++ r ∷ []) v)
+pub with-reserved : (runs : List IdRange) (taken : Bool) (rs : List Reserved) (r : Reserved) (v : ℕ) → lies_in_some runs v ≡ (taken || is_reserved rs v) → lies_in_some (runs ++ r.numbers ∷ []) v ≡ (taken || is_reserved (rs ++ r ∷ []) v)
 with-reserved runs taken rs r v e =
     list_any-push (λ (x : IdRange). in_range x v) runs r.numbers
     ∙ ap (λ b. b || in_range r.numbers v) e
@@ -56,11 +57,11 @@ with-reserved runs taken rs r v e =
     ∙ ap (λ b. taken || b) (sym (list_any-push (λ (x : Reserved). in_range x.numbers v) rs r))
 
 -- all numbers but those of ranges that hold what is reserved
-pub unreserved : {E : Type 0} (o : Result (List IdRange) E) (ranges : List IdRange) (rs : List Reserved) → ((v : ℕ) → in_runs ranges v ≡ is_reserved rs v) → IfOk o (λ pool. (v : ℕ) → in_runs pool v ≡ is_free (record { low = 0; high = 4294967295 }) ranges v)
-    → IfOk o (λ pool. (v : ℕ) → v < 2 ^ 32 → in_runs pool v ≡ not (is_reserved rs v))
+pub unreserved : {E : Type 0} (o : Result (List IdRange) E) (ranges : List IdRange) (rs : List Reserved) → ((v : ℕ) → lies_in_some ranges v ≡ is_reserved rs v) → IfOk o (λ pool. (v : ℕ) → lies_in_some pool v ≡ is_free (record { low = 0; high = 4294967295 }) ranges v)
+    → IfOk o (λ pool. (v : ℕ) → v < 2 ^ 32 → lies_in_some pool v ≡ not (is_reserved rs v))
 unreserved (Err e) ranges rs same is = tt
 unreserved (Ok pool) ranges rs same is = λ v h.
-    is v ∙ ap (λ b. b && not (in_runs ranges v)) (in_range-between (record { low = 0; high = 4294967295 }) v (omega arith) (omega arith)) ∙ ap not (same v)
+    is v ∙ ap (λ b. b && not (lies_in_some ranges v)) (in_range-between (record { low = 0; high = 4294967295 }) v (omega arith) (omega arith)) ∙ ap not (same v)
 
 -- ---- who reserves a number
 

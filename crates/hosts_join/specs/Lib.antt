@@ -2,6 +2,8 @@ pub mod Accounts
 pub mod Rules
 pub mod Count
 pub mod Told
+pub mod RangeLists
+pub mod RunsInside
 pub mod Pool
 pub mod Index
 pub mod Views

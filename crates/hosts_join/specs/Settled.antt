@@ -16,7 +16,8 @@ use Rattle.hosts_join.specs.declared.names.Settled.{Settled}
 use Rattle.hosts_join.specs.declared.reserving.Reserved.{Reserved}
 use Rattle.hosts_join.specs.Accounts.{Accounts, Pair}
 use Rattle.hosts_join.specs.Index.{accounts_in}
-use Rattle.hosts_join.specs.Pool.{in_runs, run_size}
+use Rattle.hosts_join.specs.Pool.{run_size}
+use Rattle.hosts_join.specs.RangeLists.{lies_in_some}
 use Rattle.hosts_join.specs.Rules.{class_of, clash_of, claims, in_pool, names_in, pool_size, same_class}
 use Rattle.hosts_join.specs.Views.{entry_of}
 
@@ -30,8 +31,8 @@ joined_from hosts index pins reserved = record {
 }
 
 pub record ArePools (a : Accounts) (p : PoolPair) : Type 0 where
-  pub regular : (v : ℕ) → in_runs p.regular v ≡ in_pool a Regular v
-  pub system : (v : ℕ) → in_runs p.system v ≡ in_pool a System v
+  pub regular : (v : ℕ) → lies_in_some p.regular v ≡ in_pool a Regular v
+  pub system : (v : ℕ) → lies_in_some p.system v ≡ in_pool a System v
 
 pub record IsSettled (a : Accounts) (s : Settled) : Type 0 where
   pub classes : s.classes.items ≡ map (class_of a.pins) a.names

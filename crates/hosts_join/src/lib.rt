@@ -19,6 +19,7 @@ mod pairs;
 mod pins;
 mod pool;
 mod reserving;
+mod runs;
 mod texts;
 
 pub use checks::{check_hosts, check_primary, is_host_name};
@@ -37,6 +38,7 @@ pub use pairs::PairTable;
 pub use pins::Pins;
 pub use pool::Pool;
 pub use reserving::{Reserved, Reserver};
+pub use runs::Runs;
 pub use texts::HostText;
 
 /// Users or groups.

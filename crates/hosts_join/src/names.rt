@@ -4,7 +4,8 @@ ghost use Rattle.std.specs.List.{All, list_all, find};
 ghost use Rattle.std.specs.Option.{option_map};
 ghost use Rattle.idtext.specs.First.{Gives};
 ghost use Rattle.idtext.specs.Names.{is_lawful_name};
-ghost use Rattle.hosts_join.specs.Pool.{in_runs, run_size};
+ghost use Rattle.hosts_join.specs.Pool.{run_size};
+ghost use Rattle.hosts_join.specs.RangeLists.{lies_in_some};
 ghost use Rattle.hosts_join.specs.Index.{accounts_in, ArePaired};
 ghost use Rattle.hosts_join.specs.Rules as rules;
 ghost use Rattle.hosts_join.specs.Rules.{claim_fault, is_taken, is_reserved, is_id, joined};
@@ -98,8 +99,8 @@ fn pools(
     claims: &[Pair<'_>],
     reserved: &[Reserved<'_>],
 ) -> Result<PoolPair, AllocError>
-    ensures regular { IfOk result (λ p. (v : ℕ) → in_runs p.regular v ≡ ((is_id v && list_all (λ h. in_range h.regular v) (map entry_of hosts.now)) && not (is_taken (pairs_of claims.now) v || is_reserved reserved.now v))) }
-    ensures system { IfOk result (λ p. (v : ℕ) → in_runs p.system v ≡ ((is_id v && list_all (λ h. in_range h.system v) (map entry_of hosts.now)) && not (is_taken (pairs_of claims.now) v || is_reserved reserved.now v))) }
+    ensures regular { IfOk result (λ p. (v : ℕ) → lies_in_some p.regular v ≡ ((is_id v && list_all (λ h. in_range h.regular v) (map entry_of hosts.now)) && not (is_taken (pairs_of claims.now) v || is_reserved reserved.now v))) }
+    ensures system { IfOk result (λ p. (v : ℕ) → lies_in_some p.system v ≡ ((is_id v && list_all (λ h. in_range h.system v) (map entry_of hosts.now)) && not (is_taken (pairs_of claims.now) v || is_reserved reserved.now v))) }
 {
     let away = given_away(alloc, claims, reserved)?;
     let regular = Pool::of(alloc, common_regular(hosts), away.as_slice())?;
@@ -352,7 +353,7 @@ impl<'a> Names<'a> {
     /// pins, the numbers that the pins text keeps for names on no host, and the reserved ones. None
     /// for a pinned name. No cost.
     pub fn pool(&self, class: Class) -> &Pool
-        ensures members { (v : ℕ) → in_runs result.now v ≡ rules.in_pool self.now class v }
+        ensures members { (v : ℕ) → lies_in_some result.now v ≡ rules.in_pool self.now class v }
         ensures size { run_size result.now ≡ rules.pool_size self.now class }
         ensures enough { rules.is_free_class class ≡ true → rules.names_in self.now class ≤ rules.pool_size self.now class }
     {

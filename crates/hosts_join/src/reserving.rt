@@ -1,7 +1,8 @@
 //! Numbers that no name is to be given.
 
 ghost use Rattle.std.specs.Prelude.{◌≡◌, ℕ, ◌<◌, ◌^◌, ◌||◌, map, not, None, Some, OnOk, IfOk, IfErr, IfSome};
-ghost use Rattle.hosts_join.specs.Pool.{AreAscending, in_runs};
+ghost use Rattle.hosts_join.specs.Pool.{AreAscending};
+ghost use Rattle.hosts_join.specs.RangeLists.{lies_in_some};
 ghost use Rattle.hosts_join.specs.Rules.{first_some, is_reserved, is_taken, pin_reserved};
 ghost use Rattle.hosts_join.specs.Told.{told};
 ghost use Rattle.hosts_join.specs.Views.{pair_of, pairs_of};
@@ -100,7 +101,7 @@ fn ascending_with(
     reserved: &[Reserved<'_>],
 ) -> Result<Vec<IdRange>, AllocError>
     ensures ascending { IfOk result (λ all. AreAscending all.items) }
-    ensures numbers { IfOk result (λ all. (v : ℕ) → in_runs all.items v ≡ (in_runs ranges.items v || is_reserved reserved.now v)) }
+    ensures numbers { IfOk result (λ all. (v : ℕ) → lies_in_some all.items v ≡ (lies_in_some ranges.items v || is_reserved reserved.now v)) }
 {
     for one in reserved {
         ranges.push(one.numbers)?;
@@ -116,7 +117,7 @@ pub fn given_away(
     reserved: &[Reserved<'_>],
 ) -> Result<Vec<IdRange>, AllocError>
     ensures ascending { IfOk result (λ ranges. AreAscending ranges.items) }
-    ensures numbers { IfOk result (λ ranges. (v : ℕ) → in_runs ranges.items v ≡ (is_taken (pairs_of claims.now) v || is_reserved reserved.now v)) }
+    ensures numbers { IfOk result (λ ranges. (v : ℕ) → lies_in_some ranges.items v ≡ (is_taken (pairs_of claims.now) v || is_reserved reserved.now v)) }
 {
     let ranges = claim_ranges(alloc, claims)?;
     ascending_with(ranges, reserved)
@@ -124,7 +125,7 @@ pub fn given_away(
 
 /// The numbers that are not reserved.
 fn free_numbers(alloc: Global, reserved: &[Reserved<'_>]) -> Result<Pool, AllocError>
-    ensures { IfOk result (λ free. (v : ℕ) → v < 2 ^ 32 → in_runs free v ≡ not (is_reserved reserved.now v)) }
+    ensures { IfOk result (λ free. (v : ℕ) → v < 2 ^ 32 → lies_in_some free v ≡ not (is_reserved reserved.now v)) }
 {
     let ranges = ascending_with(Vec::new(alloc), reserved)?;
     Pool::of(alloc, ANY_NUMBER, ranges.as_slice())
@@ -139,7 +140,7 @@ fn reserved_fault<'a>(
     free: &Pool,
     reserved: &[Reserved<'a>],
 ) -> Option<SiteFault<'a>>
-    requires { (v : ℕ) → v < 2 ^ 32 → in_runs free.now v ≡ not (is_reserved reserved.now v) }
+    requires { (v : ℕ) → v < 2 ^ 32 → lies_in_some free.now v ≡ not (is_reserved reserved.now v) }
     ensures { result ≡ pin_reserved kind reserved.now (pair_of claim.now) }
 {
     if free.has(claim.number) {

@@ -31,7 +31,7 @@ use Rattle.keep_text.specs.declared.keep_text.KeepFault.{KeepFault}
 use Rattle.keep_text.specs.KeepLines.{between, keep_line_of, named, ranged}
 use Rattle.keep_text.specs.KeepTexts.{is_new, keep_fault, keep_of, kept_on, may_stand, of_groups, of_users, range_said}
 use Rattle.keep_text.specs.KeepTaken.{with_line, with_said}
-use Rattle.keep_text.specs.RangeLists.{lies_in_some}
+use Rattle.hosts_join.specs.RangeLists.{lies_in_some}
 use Rattle.keep_text.specs.KeepLaws.{IsLawfulKeep, IsLawfulKept, ListsNumber, RangesAreListed, ReadKeepsAreLawful}
 use Rattle.keep_text.proofs.KeepLoop.{line_more}
 

@@ -16,7 +16,7 @@ use Rattle.keep_text.specs.declared.keep_text.Kept.{Kept}
 use Rattle.keep_text.specs.declared.keep_text.KeepText.{KeepText}
 use Rattle.keep_text.specs.KeepLines.{keep_line_of}
 use Rattle.keep_text.specs.KeepTexts.{keep_of}
-use Rattle.keep_text.specs.RangeLists.{lies_in_some}
+use Rattle.hosts_join.specs.RangeLists.{lies_in_some}
 
 -- The names of a kind are lawful and differ; its ranges are of ids, and none is empty.
 pub record IsLawfulKept (kept : Kept) : Type 0 where

@@ -3,4 +3,3 @@ pub mod KeepTexts
 pub mod KeepTaken
 pub mod KeepLaws
 pub mod NameSets
-pub mod RangeLists

@@ -2,7 +2,7 @@
 
 ghost use Rattle.std.specs.Prelude.{◌≡◌, ◌++◌, ◌∷◌, [], List, OnErr, OnOk};
 ghost use Rattle.logindefs.specs.declared.ranges.IdRange.{IdRange};
-ghost use Rattle.keep_text.specs.RangeLists.{lies_in_some};
+ghost use Rattle.hosts_join.specs.RangeLists.{lies_in_some};
 
 use logindefs::IdRange;
 use std::alloc::{AllocError, Global};

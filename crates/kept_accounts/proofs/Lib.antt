@@ -1,4 +1,3 @@
-pub mod RunLemmas
 pub mod PickedLemmas
 pub mod OtherLemmas
 pub mod ReservedLemmas

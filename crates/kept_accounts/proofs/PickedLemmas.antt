@@ -8,7 +8,7 @@ use Rattle.std.proofs.lemmas.List.Folds.{list_any-append}
 use Rattle.std.proofs.lemmas.Slice.Eq.{bytes_eq-Decides}
 use Rattle.hosts_join.specs.Accounts.{no_row}
 use Rattle.hosts_join.specs.declared.host.Host.{Host}
-use Rattle.keep_text.specs.RangeLists.{lies_in_some}
+use Rattle.hosts_join.specs.RangeLists.{lies_in_some}
 use Rattle.keep_text.specs.declared.keep_text.Kept.{Kept}
 use Rattle.kept_accounts.specs.Keeping.{is_among, is_kept, numbers_of, stays}
 use Rattle.kept_accounts.specs.Picked.{ArePicked, lets_stay}

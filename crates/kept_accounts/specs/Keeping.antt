@@ -7,7 +7,7 @@ use Rattle.std.specs.List.{list_all, list_any}
 use Rattle.logindefs.specs.declared.ranges.IdRange.{IdRange}
 use Rattle.hosts_join.specs.Kinds.{user_rows, group_rows}
 use Rattle.hosts_join.specs.declared.host.Host.{Host}
-use Rattle.keep_text.specs.RangeLists.{lies_in_some}
+use Rattle.hosts_join.specs.RangeLists.{lies_in_some}
 use Rattle.keep_text.specs.declared.keep_text.Kept.{Kept}
 use Rattle.keep_text.specs.declared.keep_text.KeepText.{KeepText}
 

@@ -2,6 +2,5 @@ pub mod Keeping
 pub mod Others
 pub mod Reserving
 pub mod Laws
-pub mod Runs
 pub mod Picked
 pub mod KindInside

@@ -2,7 +2,7 @@
 -- Words of the code and not of the subject: only private contracts and invariants cite them.
 use Rattle.std.specs.Prelude.{◌≡◌, ℕ, Bool, ◌&&◌, ◌||◌, List, bytes_eq}
 use Rattle.std.specs.List.{list_any}
-use Rattle.keep_text.specs.RangeLists.{lies_in_some}
+use Rattle.hosts_join.specs.RangeLists.{lies_in_some}
 use Rattle.keep_text.specs.declared.keep_text.Kept.{Kept}
 use Rattle.kept_accounts.specs.Keeping.{is_among}
 

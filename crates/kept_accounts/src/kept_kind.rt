@@ -6,8 +6,7 @@ ghost use Rattle.kept_accounts.specs.Reserving.{reserved_by, reserved_on};
 
 use crate::kept_names::kept_names;
 use crate::reserving::{UnownedNumber, by_name, push_ranges, push_unowned};
-use crate::runs::Runs;
-use hosts_join::{Host, Kind, Reserved};
+use hosts_join::{Host, Kind, Reserved, Runs};
 use keep_text::{Kept, NameSet};
 use std::alloc::{AllocError, Global};
 use std::marker::Model;

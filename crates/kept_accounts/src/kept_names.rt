@@ -2,12 +2,11 @@
 
 ghost use Rattle.std.specs.Prelude.{◌≡◌, ◌&&◌, ◌||◌, ◌++◌, ℕ, List, not, bytes_eq, flat_map};
 ghost use Rattle.std.specs.Prelude.{IfOk, OnOk};
-ghost use Rattle.keep_text.specs.RangeLists.{lies_in_some};
+ghost use Rattle.hosts_join.specs.RangeLists.{lies_in_some};
 ghost use Rattle.kept_accounts.specs.Keeping.{is_among, is_kept};
 ghost use Rattle.kept_accounts.specs.Picked.{ArePicked, lets_stay as row_lets_stay};
 
-use crate::runs::Runs;
-use hosts_join::{Host, Kind};
+use hosts_join::{Host, Kind, Runs};
 use keep_text::{Kept, NameSet};
 use std::alloc::{AllocError, Global};
 

@@ -7,7 +7,6 @@ mod kept_kind;
 mod kept_names;
 mod laws;
 mod reserving;
-mod runs;
 
 pub use kept_accounts::KeptAccounts;
 pub use kept_kind::KeptKind;

@@ -31,13 +31,15 @@ site = record {
 abbrev group : List ℕ → ℕ → Group
 group name gid = record { line = 1; name = name; password = []; gid = gid; members = [] }
 
--- a host whose group staff is 100, and wheel 200
+-- a host whose group staff is 100, and wheel 200, and which spares no number
 abbrev pub host : List ℕ → HostRanges → Host
 host name ranges = record {
   name = name;
   ranges = ranges;
   users = [];
   groups = group (codes "staff") 100 ∷ group (codes "wheel") 200 ∷ [];
+  spared_users = [];
+  spared_groups = [];
 }
 
 -- a comment, an empty line, numbers with leading zeros, and a last line without a newline

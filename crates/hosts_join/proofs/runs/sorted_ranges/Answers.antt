@@ -3,8 +3,8 @@ use Rattle.std.proofs.lemmas.Fn.{always_returns_same}
 use Rattle.std.proofs.lemmas.List.Sorted.{IsNonDecreasingBy-from_sort, list_any-IsPermutation}
 use Rattle.logindefs.specs.declared.ranges.IdRange.{IdRange}
 use Rattle.logindefs.specs.Ranges.{in_range}
-use Rattle.keep_text.specs.RangeLists.{lies_in_some}
-use Rattle.kept_accounts.proofs.runs.sorted_ranges.Goals as goal
+use Rattle.hosts_join.specs.RangeLists.{lies_in_some}
+use Rattle.hosts_join.proofs.runs.sorted_ranges.Goals as goal
 
 pub returns-clause-ascending : goal.returns-clause-ascending
 returns-clause-ascending c =

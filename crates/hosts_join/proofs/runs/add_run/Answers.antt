@@ -1,7 +1,7 @@
 use Rattle.std.proofs.Common.{◌++◌, ◌∷◌, [], List, ap, ◌∙◌}
 use Rattle.logindefs.specs.declared.ranges.IdRange.{IdRange}
-use Rattle.kept_accounts.proofs.RunLemmas.{longer-apart, longer-behind, longer-added, further-apart}
-use Rattle.kept_accounts.proofs.runs.add_run.Goals as goal
+use Rattle.hosts_join.proofs.RunLemmas.{longer-apart, longer-behind, longer-added, further-apart}
+use Rattle.hosts_join.proofs.runs.add_run.Goals as goal
 
 pub returns-then-range-last-clause-apart : goal.returns-then-range-last-clause-apart
 returns-then-range-last-clause-apart c =

@@ -13,29 +13,29 @@ use Rattle.std.proofs.lemmas.List.Quantifiers.{all_pairs_push}
 use Rattle.std.proofs.lemmas.List.Sorted.{IsPartitionedBy-leb}
 use Rattle.logindefs.specs.declared.ranges.IdRange.{IdRange}
 use Rattle.logindefs.specs.Ranges.{in_range}
-use Rattle.keep_text.specs.RangeLists.{lies_in_some}
-use Rattle.kept_accounts.specs.Runs.{IsBefore, AreRuns}
+use Rattle.hosts_join.specs.RangeLists.{lies_in_some}
+use Rattle.hosts_join.specs.RunsInside.{IsBefore, AreInOrder}
 
 -- ---- a range behind runs that begin no later
 
-front : (init : List IdRange) (last : IdRange) → AreRuns (init ++ last ∷ []) → AreRuns init
+front : (init : List IdRange) (last : IdRange) → AreInOrder (init ++ last ∷ []) → AreInOrder init
 front init last apart = λ i j d lt within.
     let further : i < length init = omega (arith, lt, within) in
     let here = apart i j d lt (omega (arith, within, length-append init (last ∷ []))) in
     subst (λ (r : IdRange). IsBefore r (get_or init j d)) (get_or_append_left init (last ∷ []) d i further)
     (subst (λ (r : IdRange). IsBefore (get_or (init ++ last ∷ []) i d) r) (get_or_append_left init (last ∷ []) d j within) here)
 
-before_last : (init : List IdRange) (last : IdRange) → AreRuns (init ++ last ∷ []) → (k : ℕ) (d : IdRange) → k < length init → IsBefore (get_or init k d) last
+before_last : (init : List IdRange) (last : IdRange) → AreInOrder (init ++ last ∷ []) → (k : ℕ) (d : IdRange) → k < length init → IsBefore (get_or init k d) last
 before_last init last apart k d lt =
     let here = apart k (length init) d lt (omega (arith, length-append init (last ∷ []))) in
     subst (λ (r : IdRange). IsBefore r last) (get_or_append_left init (last ∷ []) d k lt)
     (subst (λ (r : IdRange). IsBefore (get_or (init ++ last ∷ []) k d) r) (get_or-append_seam init last [] d) here)
 
-pub lengthened : (init : List IdRange) (last : IdRange) (high : ℕ) → AreRuns (init ++ last ∷ []) → AreRuns (init ++ record { low = last.low; high = high } ∷ [])
+pub lengthened : (init : List IdRange) (last : IdRange) (high : ℕ) → AreInOrder (init ++ last ∷ []) → AreInOrder (init ++ record { low = last.low; high = high } ∷ [])
 lengthened init last high apart =
     all_pairs_push IsBefore init (record { low = last.low; high = high }) (front init last apart) (before_last init last apart)
 
-pub further : (init : List IdRange) (last range : IdRange) → AreRuns (init ++ last ∷ []) → last.low ≤ range.low → last.high < range.low → AreRuns ((init ++ last ∷ []) ++ range ∷ [])
+pub further : (init : List IdRange) (last range : IdRange) → AreInOrder (init ++ last ∷ []) → last.low ≤ range.low → last.high < range.low → AreInOrder ((init ++ last ∷ []) ++ range ∷ [])
 further init last range apart begins ends =
     all_pairs_push IsBefore (init ++ last ∷ []) range apart (λ k d lt. by k d lt (within k lt))
   where
@@ -76,9 +76,9 @@ pub lies-push : (runs : List IdRange) (range : IdRange) (n : ℕ) → lies_in_so
 lies-push runs range n = list_any-append (λ r. in_range r n) runs (range ∷ []) ∙ ap (λ b. lies_in_some runs n || b) (or-false (in_range range n))
 
 -- old are runs whose last one is taken off, and new has one in its place
-pub longer-apart : (old init new : List IdRange) (last : IdRange) (high : ℕ) → old ≡ init ++ last ∷ [] → new ≡ init ++ record { low = last.low; high = high } ∷ [] → AreRuns old → AreRuns new
+pub longer-apart : (old init new : List IdRange) (last : IdRange) (high : ℕ) → old ≡ init ++ last ∷ [] → new ≡ init ++ record { low = last.low; high = high } ∷ [] → AreInOrder old → AreInOrder new
 longer-apart old init new last high old_is new_is apart =
-    subst (λ (rs : List IdRange). AreRuns rs) (sym new_is) (lengthened init last high (subst (λ (rs : List IdRange). AreRuns rs) old_is apart))
+    subst (λ (rs : List IdRange). AreInOrder rs) (sym new_is) (lengthened init last high (subst (λ (rs : List IdRange). AreInOrder rs) old_is apart))
 
 last-begins : (old init : List IdRange) (last range : IdRange) → old ≡ init ++ last ∷ [] → All (λ run. run.low ≤ range.low) old → All (λ run. run.low ≤ range.low) init × (last.low ≤ range.low)
 last-begins old init last range old_is behind = All-pop (λ (run : IdRange). run.low ≤ range.low) old init (Some last) old_is behind
@@ -95,20 +95,20 @@ longer-added old init new last range high old_is new_is high_is behind meets n =
     ∙ lies-longer init last range n (last-begins old init last range old_is behind).1 meets
     ∙ ap (λ (rs : List IdRange). lies_in_some rs n || in_range range n) (sym old_is)
 
-pub further-apart : (old init new : List IdRange) (last range : IdRange) → old ≡ init ++ last ∷ [] → new ≡ (init ++ last ∷ []) ++ range ∷ [] → AreRuns old → All (λ run. run.low ≤ range.low) old → last.high < range.low → AreRuns new
+pub further-apart : (old init new : List IdRange) (last range : IdRange) → old ≡ init ++ last ∷ [] → new ≡ (init ++ last ∷ []) ++ range ∷ [] → AreInOrder old → All (λ run. run.low ≤ range.low) old → last.high < range.low → AreInOrder new
 further-apart old init new last range old_is new_is apart behind ends =
-    subst (λ (rs : List IdRange). AreRuns rs) (sym new_is)
-    (further init last range (subst (λ (rs : List IdRange). AreRuns rs) old_is apart) (last-begins old init last range old_is behind).1 ends)
+    subst (λ (rs : List IdRange). AreInOrder rs) (sym new_is)
+    (further init last range (subst (λ (rs : List IdRange). AreInOrder rs) old_is apart) (last-begins old init last range old_is behind).1 ends)
 
 -- ---- ascending ranges, one by one
 
 -- runs have the numbers of the first k ranges, and begin no later than the next ones
 pub record Merged (sorted : List IdRange) (k : ℕ) (runs : List IdRange) : Type 0 where
-  pub apart : AreRuns runs
+  pub apart : AreInOrder runs
   pub behind : (j : ℕ) (d : IdRange) → k ≤ j → j < length sorted → All (λ run. run.low ≤ (get_or sorted j d).low) runs
   pub same : (n : ℕ) → lies_in_some runs n ≡ lies_in_some (take k sorted) n
 
-pub merged-more : (sorted runs after : List IdRange) (k : ℕ) (range : IdRange) → IsNonDecreasingBy (λ r. r.low) sorted → k < length sorted → range ≡ get_or sorted k range → AreRuns after → All (λ run. run.low ≤ range.low) after → ((n : ℕ) → lies_in_some after n ≡ (lies_in_some runs n || in_range range n)) → Merged sorted k runs → Merged sorted (k + 1) after
+pub merged-more : (sorted runs after : List IdRange) (k : ℕ) (range : IdRange) → IsNonDecreasingBy (λ r. r.low) sorted → k < length sorted → range ≡ get_or sorted k range → AreInOrder after → All (λ run. run.low ≤ range.low) after → ((n : ℕ) → lies_in_some after n ≡ (lies_in_some runs n || in_range range n)) → Merged sorted k runs → Merged sorted (k + 1) after
 merged-more sorted runs after k range ascending lt here apart behind added merged = record {
   apart = apart;
   behind = λ j d le within.
@@ -128,7 +128,7 @@ merged-end sorted runs k le merged n = merged.same n ∙ ap (λ (rs : List IdRan
 found-none : (runs : List IdRange) (n : ℕ) → IsPartitionPoint (λ run. leb run.low n ≡ true) (λ run. leb run.low n ≡ false) runs 0 → lies_in_some runs n ≡ false
 found-none runs n parted = list_any_none (λ r. in_range r n) runs (λ k e lt. ap (λ b. b && leb n (get_or runs k e).high) (parted.1 k e (omega arith) lt))
 
-found-at : (runs : List IdRange) (n m : ℕ) (d : IdRange) → AreRuns runs → m < length runs → IsPartitionPoint (λ run. leb run.low n ≡ true) (λ run. leb run.low n ≡ false) runs (m + 1) → lies_in_some runs n ≡ leb n (get_or runs m d).high
+found-at : (runs : List IdRange) (n m : ℕ) (d : IdRange) → AreInOrder runs → m < length runs → IsPartitionPoint (λ run. leb run.low n ≡ true) (λ run. leb run.low n ≡ false) runs (m + 1) → lies_in_some runs n ≡ leb n (get_or runs m d).high
 found-at runs n m d apart within parted = by (leb n (get_or runs m d).high) refl
   where
     begins : leb (get_or runs m d).low n ≡ true
@@ -155,7 +155,7 @@ found-at runs n m d apart within parted = by (leb n (get_or runs m d).high) refl
             ended k e (ap (λ (r : IdRange). leb n r.high) (ap (λ i. get_or runs i e) same ∙ get_or_default runs m e d (omega arith)) ∙ ends)
 
 -- lows of runs ascend
-lows : (runs : List IdRange) → AreRuns runs → IsNonDecreasingBy (λ run. run.low) runs
+lows : (runs : List IdRange) → AreInOrder runs → IsNonDecreasingBy (λ run. run.low) runs
 lows runs apart = λ i j d le lt. by i j d lt (cases_lt i j) le
   where
     by : (i j : ℕ) (d : IdRange) → j < length runs → (i < j) ⊎ (j ≤ i) → i ≤ j → (get_or runs i d).low ≤ (get_or runs j d).low
@@ -165,21 +165,21 @@ lows runs apart = λ i j d le lt. by i j d lt (cases_lt i j) le
         rw same (omega arith)
 
 -- a slice of the runs is parted by whether a run begins at most at n
-pub parts : (slice runs : List IdRange) (n : ℕ) → slice ≡ runs → AreRuns runs → IsPartitionedBy (λ run. leb run.low n) slice
-parts slice runs n same apart = IsPartitionedBy-leb (λ (run : IdRange). run.low) slice n (lows slice (subst (λ (rs : List IdRange). AreRuns rs) (sym same) apart))
+pub parts : (slice runs : List IdRange) (n : ℕ) → slice ≡ runs → AreInOrder runs → IsPartitionedBy (λ run. leb run.low n) slice
+parts slice runs n same apart = IsPartitionedBy-leb (λ (run : IdRange). run.low) slice n (lows slice (subst (λ (rs : List IdRange). AreInOrder rs) (sym same) apart))
 
--- runs stand for seen, and slice are the runs; begun of them begin at most at n
-pub lies-begun : (seen runs slice : List IdRange) (n begun : ℕ) (item : IdRange) → runs ≡ seen → slice ≡ runs → AreRuns runs → begun ≤ length slice → IsPartitionPoint (λ run. leb run.low n ≡ true) (λ run. leb run.low n ≡ false) slice begun → 0 < begun → item ≡ get_or runs (begun - 1) item → leb n item.high ≡ lies_in_some seen n
-lies-begun seen runs slice n begun item seen_is same apart within parted some here =
+-- slice are the runs; begun of them begin at most at n
+pub lies-begun : (runs slice : List IdRange) (n begun : ℕ) (item : IdRange) → slice ≡ runs → AreInOrder runs → begun ≤ length slice → IsPartitionPoint (λ run. leb run.low n ≡ true) (λ run. leb run.low n ≡ false) slice begun → 0 < begun → item ≡ get_or runs (begun - 1) item → leb n item.high ≡ lies_in_some runs n
+lies-begun runs slice n begun item same apart within parted some here =
     let m : begun - 1 + 1 ≡ begun = omega (arith, some) in
-    let found = found-at slice n (begun - 1) item (subst (λ (rs : List IdRange). AreRuns rs) (sym same) apart) (omega (arith, within, some))
+    let found = found-at slice n (begun - 1) item (subst (λ (rs : List IdRange). AreInOrder rs) (sym same) apart) (omega (arith, within, some))
     (subst (λ (k : ℕ). IsPartitionPoint (λ run. leb run.low n ≡ true) (λ run. leb run.low n ≡ false) slice k) (sym m) parted) in
     ap (λ (r : IdRange). leb n r.high) (here ∙ ap (λ (rs : List IdRange). get_or rs (begun - 1) item) (sym same)) ∙ sym found
-    ∙ ap (λ (rs : List IdRange). lies_in_some rs n) (same ∙ seen_is)
+    ∙ ap (λ (rs : List IdRange). lies_in_some rs n) same
 
-pub lies-none : (seen runs slice : List IdRange) (n begun : ℕ) → runs ≡ seen → slice ≡ runs → IsPartitionPoint (λ run. leb run.low n ≡ true) (λ run. leb run.low n ≡ false) slice begun → begun ≤ 0 → ltb 0 begun ≡ lies_in_some seen n
-lies-none seen runs slice n begun seen_is same parted none =
+pub lies-none : (runs slice : List IdRange) (n begun : ℕ) → slice ≡ runs → IsPartitionPoint (λ run. leb run.low n ≡ true) (λ run. leb run.low n ≡ false) slice begun → begun ≤ 0 → ltb 0 begun ≡ lies_in_some runs n
+lies-none runs slice n begun same parted none =
     let zero_is : begun ≡ 0 = omega (arith, none) in
     ap (λ (k : ℕ). ltb 0 k) zero_is
     ∙ sym (found-none slice n (subst (λ (k : ℕ). IsPartitionPoint (λ run. leb run.low n ≡ true) (λ run. leb run.low n ≡ false) slice k) zero_is parted))
-    ∙ ap (λ (rs : List IdRange). lies_in_some rs n) (same ∙ seen_is)
+    ∙ ap (λ (rs : List IdRange). lies_in_some rs n) same

@@ -1,5 +1,5 @@
 -- Ranges of numbers, as one set.
--- Source: this product's own formats.
+-- Source: this project's own rule.
 use Rattle.std.specs.Prelude.{ℕ, Bool, List}
 use Rattle.std.specs.List.{list_any}
 use Rattle.logindefs.specs.declared.ranges.IdRange.{IdRange}

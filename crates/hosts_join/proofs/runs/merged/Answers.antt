@@ -1,7 +1,7 @@
 use Rattle.std.proofs.Common.{◌<◌, length, arith}
 use Rattle.std.proofs.lemmas.List.{get_or_default}
-use Rattle.kept_accounts.proofs.RunLemmas.{Merged, merged-more, merged-end}
-use Rattle.kept_accounts.proofs.runs.merged.Goals as goal
+use Rattle.hosts_join.proofs.RunLemmas.{Merged, merged-more, merged-end}
+use Rattle.hosts_join.proofs.runs.merged.Goals as goal
 
 pub loop-range-preserved : goal.loop-range-preserved
 loop-range-preserved c =
