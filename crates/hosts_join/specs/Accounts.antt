@@ -1,6 +1,9 @@
 -- The accounts of one kind, users or groups, over all hosts of a site.
--- Source: passwd(5) and group(5) (rows with names and numbers); how hosts are joined is this project's own rule.
-use Rattle.std.specs.Prelude.{◌≡◌, ℕ, suc, ◌+◌, ◌<◌, ◌≤◌, Bool, false, not, ◌&&◌, ◌==◌, if◌then◌else◌, List, [], ◌∷◌, ◌++◌, map, length, filter, count_by, find, Option, Some, None}
+-- Source: passwd(5) and group(5) (rows with names and numbers); how hosts are joined is this
+-- project's own rule.
+use Rattle.std.specs.Prelude.{◌≡◌, ℕ, suc, ◌+◌, ◌<◌, ◌≤◌, Bool, false, not, ◌&&◌, ◌==◌}
+use Rattle.std.specs.Prelude.{if◌then◌else◌, List, [], ◌∷◌, ◌++◌, map, length, filter, count_by}
+use Rattle.std.specs.Prelude.{find, Option, Some, None}
 use Rattle.std.specs.Option.{option_map}
 use Rattle.std.specs.List.{list_any}
 use Rattle.std.specs.Str.{bytes_eq}
@@ -17,8 +20,8 @@ pub record HostEntry : Type 0 where
   pub regular : IdRange
   pub system : IdRange
 
--- one row of an account file: the place of its host in the list of hosts, a name, the number that the name has there, and what
--- that number is on that host. A Spot is a row without its name.
+-- one row of an account file: the place of its host in the list of hosts, a name, the number that
+-- the name has there, and what that number is on that host. A Spot is a row without its name.
 pub record Row : Type 0 where
   pub host : ℕ
   pub name : List ℕ
@@ -43,18 +46,29 @@ pub record Accounts : Type 0 where
   pub pins : List Pair
   pub reserved : List Reserved
 
--- On its own host a number is regular if it is in the regular range, system if it is in the system range, else pinning.
+-- On its own host a number is regular if it is in the regular range, system if it is in the system
+-- range, else pinning.
 abbrev pub standing_on : IdRange → IdRange → ℕ → Standing
-standing_on regular system v = if in_range regular v then Regular else (if in_range system v then System else Pinning)
+standing_on regular system v =
+    if in_range regular v then Regular else (if in_range system v then System else Pinning)
 
 -- the rows of the host that stands at the place
 abbrev pub host_rows : ℕ → IdRange → IdRange → List (List ℕ × ℕ) → List Row
-host_rows place regular system pairs = map (λ p. record { host = place; name = p.0; number = p.1; standing = standing_on regular system p.1 }) pairs
+host_rows place regular system pairs =
+    map (λ p. record {
+      host = place;
+      name = p.0;
+      number = p.1;
+      standing = standing_on regular system p.1;
+    }) pairs
 
 -- the rows of all hosts, where the first stands at the place
-abbrev pub rows_from : {H : Type 0} → (H → IdRange) → (H → IdRange) → (H → List (List ℕ × ℕ)) → ℕ → List H → List Row
+abbrev pub rows_from : {H : Type 0} → (H → IdRange) → (H → IdRange) → (H → List (List ℕ × ℕ)) → ℕ
+    → List H → List Row
 rows_from regular system pairs place [] = []
-rows_from regular system pairs place (h ∷ hs) = host_rows place (regular h) (system h) (pairs h) ++ rows_from regular system pairs (place + 1) hs
+rows_from regular system pairs place (h ∷ hs) =
+    host_rows place (regular h) (system h) (pairs h)
+    ++ rows_from regular system pairs (place + 1) hs
 
 -- each name where it appears first
 unfoldable pub first_appearances : List (List ℕ) → List (List ℕ)
@@ -70,7 +84,9 @@ spots_of rows n = map spot_of (filter (λ r. bytes_eq n r.name) rows)
 
 -- the accounts that the rows give
 unfoldable pub grouped : List Row → List Account
-grouped rows = map (λ n. record { name = n; spots = spots_of rows n }) (first_appearances (map (λ r. r.name) rows))
+grouped rows =
+    map (λ n. record { name = n; spots = spots_of rows n })
+    (first_appearances (map (λ r. r.name) rows))
 
 -- the number that an account has on a host
 abbrev pub number_on : Account → ℕ → Option ℕ
@@ -109,7 +125,9 @@ nobody = record { name = []; spots = [] }
 -- no two rows of one host have one number
 unfoldable pub AreNumberedApart : List Row → Type 0
 AreNumberedApart [] = Unit {0}
-AreNumberedApart (r ∷ rows) = (list_any (λ q. (q.host == r.host) && (q.number == r.number)) rows ≡ false) × AreNumberedApart rows
+AreNumberedApart (r ∷ rows) =
+    (list_any (λ q. (q.host == r.host) && (q.number == r.number)) rows ≡ false)
+    × AreNumberedApart rows
 
 -- the host is one of so many, and an account may have the number
 abbrev pub IsSpotAmong : ℕ → Spot → Type 0
@@ -122,7 +140,9 @@ no_row = ([], 0)
 -- no two rows of one host have one name
 unfoldable pub AreNamedApart : List Row → Type 0
 AreNamedApart [] = Unit {0}
-AreNamedApart (r ∷ rows) = (list_any (λ q. (q.host == r.host) && bytes_eq r.name q.name) rows ≡ false) × AreNamedApart rows
+AreNamedApart (r ∷ rows) =
+    (list_any (λ q. (q.host == r.host) && bytes_eq r.name q.name) rows ≡ false)
+    × AreNamedApart rows
 
 -- each host stands once
 unfoldable pub IsOnceEach : List Spot → Type 0

@@ -17,8 +17,8 @@ pub record PinPairs : Type 0 where
 abbrev pub no_pins : PinPairs
 no_pins = record { users = []; groups = []; reserved_users = []; reserved_groups = [] }
 
--- Each name has one pin, each number is one name's, and an account may have the number: 4294967295 is no id, as it tells
--- chown(2) to leave an owner as it is.
+-- Each name has one pin, each number is one name's, and an account may have the number: 4294967295
+-- is no id, as it tells chown(2) to leave an owner as it is.
 pub record ArePins (pairs : List Pair) : Type 0 where
   pub names_differ : AreDistinct (map (λ p. p.name) pairs)
   pub numbers_differ : AreDistinct (map (λ p. p.number) pairs)

@@ -1,6 +1,7 @@
 -- The pins text: its pairs, or its first fault.
 -- Source: this product's own formats.
-use Rattle.std.specs.Prelude.{ℕ, Bool, true, false, not, ◌&&◌, ◌==◌, List, [], length, Option, Some, None, is_some, Result, if◌then◌else◌, flat_map, nat_lt}
+use Rattle.std.specs.Prelude.{ℕ, Bool, true, false, not, ◌&&◌, ◌==◌, List, [], length, Option, Some}
+use Rattle.std.specs.Prelude.{None, is_some, Result, if◌then◌else◌, flat_map, nat_lt}
 use Rattle.std.specs.List.{list_any}
 use Rattle.idtext.specs.First.{first_fault, unless}
 use Rattle.idtext.specs.Faults.{line_number}
@@ -31,7 +32,8 @@ pins_on lines = record {
 
 -- neither the name nor the number stands in a pair
 abbrev pub is_new_pin : List Pair → List ℕ → ℕ → Bool
-is_new_pin pairs name number = not (list_any (λ p. number == p.number) pairs) && not (is_some (number_of pairs name))
+is_new_pin pairs name number =
+    not (list_any (λ p. number == p.number) pairs) && not (is_some (number_of pairs name))
 
 -- whether a line may stand after lines that give these pairs
 abbrev pub may_stand : PinPairs → PairLine → Bool

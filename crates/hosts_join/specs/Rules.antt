@@ -1,6 +1,9 @@
--- The rules of a site, for the accounts of one kind: which names are pinned, to what, and which numbers a free name may get.
+-- The rules of a site, for the accounts of one kind: which names are pinned, to what, and which
+-- numbers a free name may get.
 -- Source: this project's own rule.
-use Rattle.std.specs.Prelude.{ℕ, ◌^◌, Bool, true, false, not, ◌&&◌, ◌||◌, ◌==◌, nat_le, nat_lt, slice_get, if◌then◌else◌, List, [], ◌∷◌, ◌++◌, map, filter, count_by, find, Option, Some, None, Result, slice_index_or}
+use Rattle.std.specs.Prelude.{ℕ, ◌^◌, Bool, true, false, not, ◌&&◌, ◌||◌, ◌==◌, nat_le, nat_lt}
+use Rattle.std.specs.Prelude.{slice_get, if◌then◌else◌, List, [], ◌∷◌, ◌++◌, map, filter, count_by}
+use Rattle.std.specs.Prelude.{find, Option, Some, None, Result, slice_index_or}
 use Rattle.std.specs.Option.{option_map, option_to_list, option_and_then}
 use Rattle.std.specs.List.{list_any, list_all, flat_map}
 use Rattle.std.specs.Str.{bytes_eq}
@@ -13,7 +16,8 @@ use Rattle.hosts_join.specs.Count.{count_below}
 use Rattle.hosts_join.specs.declared.fault.PoolClass.{PoolClass}
 use Rattle.hosts_join.specs.declared.fault.PoolClass.TheVariants as pool
 use Rattle.hosts_join.specs.declared.fault.SiteFault.{SiteFault}
-use Rattle.hosts_join.specs.declared.fault.SiteFault.TheVariants.{PinDisagrees, PinReserved, PinClash, PoolTooSmall}
+use Rattle.hosts_join.specs.declared.fault.SiteFault.TheVariants.{PinDisagrees, PinReserved}
+use Rattle.hosts_join.specs.declared.fault.SiteFault.TheVariants.{PinClash, PoolTooSmall}
 use Rattle.hosts_join.specs.declared.Standing.{Standing}
 use Rattle.hosts_join.specs.declared.Standing.TheVariants as on
 use Rattle.hosts_join.specs.declared.Class.{Class}
@@ -32,11 +36,15 @@ is_regular on.Regular = true
 is_regular on.Pinning = false
 is_regular on.System = false
 
--- A Source is what pins a name to a number: a host, or the pins text, which comes before all hosts and is written None.
+-- A Source is what pins a name to a number: a host, or the pins text, which comes before all hosts
+-- and is written None.
 
 -- the pin of the text, and that of each host where the name is pinning
 abbrev pub sources_among : Option ℕ → List Spot → List Source
-sources_among pin spots = map (λ v. record { host = None; number = v }) (option_to_list pin) ++ map (λ s. record { host = Some s.host; number = s.number }) (filter (λ s. is_pinning s.standing) spots)
+sources_among pin spots =
+    map (λ v. record { host = None; number = v }) (option_to_list pin)
+    ++ map (λ s. record { host = Some s.host; number = s.number })
+    (filter (λ s. is_pinning s.standing) spots)
 
 -- what pins the account
 abbrev pub sources : List Pair → Account → List Source
@@ -50,7 +58,8 @@ first_source (p ∷ ps) = Some p
 abbrev pub first_pin : List Source → Option ℕ
 first_pin ps = option_map (λ p. p.number) (first_source ps)
 
--- A name with a pin is pinned to it. Else it is free: regular if it is regular on some host, else system.
+-- A name with a pin is pinned to it. Else it is free: regular if it is regular on some host, else
+-- system.
 abbrev pub class_by : List Source → List Spot → Class
 class_by (p ∷ ps) spots = Pinned p.number
 class_by [] spots = if list_any (λ s. is_regular s.standing) spots then Regular else System
@@ -107,12 +116,15 @@ is_given_away a v = is_taken (claims a) v || is_reserved a.reserved v
 abbrev pub is_id : ℕ → Bool
 is_id v = nat_le v 4294967294
 
--- The pool of a class: the numbers that lie in its range on every host and are not given away. A pinned name has the empty
--- pool. (The test `is_id` is for ranges made by hand: those of a login.defs hold no other number.)
+-- The pool of a class: the numbers that lie in its range on every host and are not given away. A
+-- pinned name has the empty pool. (The test `is_id` is for ranges made by hand: those of a
+-- login.defs hold no other number.)
 abbrev pub in_pool : Accounts → Class → ℕ → Bool
 in_pool a (Pinned v) w = false
-in_pool a Regular w = (is_id w && list_all (λ h. in_range h.regular w) a.hosts) && not (is_given_away a w)
-in_pool a System w = (is_id w && list_all (λ h. in_range h.system w) a.hosts) && not (is_given_away a w)
+in_pool a Regular w =
+    (is_id w && list_all (λ h. in_range h.regular w) a.hosts) && not (is_given_away a w)
+in_pool a System w =
+    (is_id w && list_all (λ h. in_range h.system w) a.hosts) && not (is_given_away a w)
 
 -- a name of the class has no pin
 abbrev pub is_free_class : Class → Bool
@@ -145,7 +157,9 @@ abbrev pub host_name : List HostEntry → Source → Option (List ℕ)
 host_name hosts s = option_and_then (λ h. option_map (λ e. e.name) (slice_get hosts h)) s.host
 
 abbrev pub disagrees : Which → List HostEntry → List Pair → Account → Option SiteFault
-disagrees kind hosts pins n = option_map (λ d. PinDisagrees kind n.name (host_name hosts d.0) (host_name hosts d.1)) (disagreement (sources pins n))
+disagrees kind hosts pins n =
+    option_map (λ d. PinDisagrees kind n.name (host_name hosts d.0) (host_name hosts d.1))
+    (disagreement (sources pins n))
 
 -- the first that reserves the number
 abbrev pub reserver : List Reserved → ℕ → Option Reserved
@@ -163,7 +177,9 @@ pub record Clash : Type 0 where
 
 -- each name whose number an earlier one has, with the first that has it
 abbrev pub repeat_of : List Pair → Pair → List Clash
-repeat_of before p = map (λ q. record { number = p.number; first = q.name; second = p.name }) (option_to_list (find (λ q. q.number == p.number) before))
+repeat_of before p =
+    map (λ q. record { number = p.number; first = q.name; second = p.name })
+    (option_to_list (find (λ q. q.number == p.number) before))
 
 unfoldable pub repeats : List Pair → List Pair → List Clash
 repeats before [] = []
@@ -197,7 +213,10 @@ class_served pool.Regular = Regular
 class_served pool.System = System
 
 abbrev pub too_small : Which → Accounts → PoolClass → Option SiteFault
-too_small kind a c = if nat_lt (pool_size a (class_served c)) (names_in a (class_served c)) then Some (PoolTooSmall kind c (names_in a (class_served c)) (pool_size a (class_served c))) else None
+too_small kind a c =
+    if nat_lt (pool_size a (class_served c)) (names_in a (class_served c))
+    then Some (PoolTooSmall kind c (names_in a (class_served c)) (pool_size a (class_served c)))
+    else None
 
 -- the first refusal: a name whose pins disagree, then a pin at a reserved number, then a number
 -- with two names, then a pool with fewer numbers than names

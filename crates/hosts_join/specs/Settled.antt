@@ -1,6 +1,7 @@
 -- What is settled of the names of one kind before they are joined.
 -- Words of the code and not of the subject: only private contracts cite them.
-use Rattle.std.specs.Prelude.{◌≡◌, ℕ, ◌≤◌, nat_lt, if◌then◌else◌, List, map, count_by, Option, Some, None}
+use Rattle.std.specs.Prelude.{◌≡◌, ℕ, ◌≤◌, nat_lt, if◌then◌else◌, List, map, count_by, Option, Some}
+use Rattle.std.specs.Prelude.{None}
 use Rattle.idtext.specs.First.{or_else}
 use Rattle.hosts_join.specs.declared.Class.{Class}
 use Rattle.hosts_join.specs.declared.Class.TheVariants.{Regular, System}
@@ -18,7 +19,8 @@ use Rattle.hosts_join.specs.Accounts.{Accounts, Pair}
 use Rattle.hosts_join.specs.Index.{accounts_in}
 use Rattle.hosts_join.specs.Pool.{run_size}
 use Rattle.hosts_join.specs.RangeLists.{lies_in_some}
-use Rattle.hosts_join.specs.Rules.{class_of, clash_of, claims, in_pool, names_in, pool_size, same_class}
+use Rattle.hosts_join.specs.Rules.{class_of, clash_of, claims, in_pool, names_in, pool_size}
+use Rattle.hosts_join.specs.Rules.{same_class}
 use Rattle.hosts_join.specs.Views.{entry_of}
 
 -- the accounts that the tables of a join stand for
@@ -43,7 +45,8 @@ pub record IsSettled (a : Accounts) (s : Settled) : Type 0 where
 
 -- what is wrong with a pool of so many numbers, whose class has so many names
 abbrev pub lacking : Which → PoolClass → ℕ → ℕ → Option SiteFault
-lacking kind class names numbers = if nat_lt numbers names then Some (PoolTooSmall kind class names numbers) else None
+lacking kind class names numbers =
+    if nat_lt numbers names then Some (PoolTooSmall kind class names numbers) else None
 
 -- the first pool that has fewer numbers than its class has names
 abbrev pub small_among : Which → List Class → PoolPair → Option SiteFault

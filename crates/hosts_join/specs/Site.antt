@@ -14,10 +14,13 @@ use Rattle.hosts_join.specs.declared.host.Host.{Host}
 use Rattle.hosts_join.specs.declared.reserving.Reserved.{Reserved}
 
 abbrev pub entry_on : (HostRanges → IdRange) → (HostRanges → IdRange) → Host → HostEntry
-entry_on regular system h = record { name = h.name; regular = regular h.ranges; system = system h.ranges }
+entry_on regular system h =
+    record { name = h.name; regular = regular h.ranges; system = system h.ranges }
 
--- the accounts of a kind: on each host its rows, which stand in its regular or its system range or in neither
-abbrev pub accounts_of : (HostRanges → IdRange) → (HostRanges → IdRange) → (Host → List (List ℕ × ℕ)) → List Host → List Pair → List Reserved → Accounts
+-- the accounts of a kind: on each host its rows, which stand in its regular or its system range or
+-- in neither
+abbrev pub accounts_of : (HostRanges → IdRange) → (HostRanges → IdRange)
+    → (Host → List (List ℕ × ℕ)) → List Host → List Pair → List Reserved → Accounts
 accounts_of regular system listed hosts pins reserved = record {
   hosts = map (entry_on regular system) hosts;
   names = grouped (rows_from (λ h. regular h.ranges) (λ h. system h.ranges) listed 0 hosts);
@@ -32,14 +35,21 @@ pub record Joined : Type 0 where
   pub hosts : ℕ
 
 abbrev pub users_of : List Host → PinPairs → Accounts
-users_of hosts pins = accounts_of (λ r. r.uid) (λ r. r.sys_uid) (λ h. user_rows h.users) hosts pins.users pins.reserved_users
+users_of hosts pins =
+    accounts_of (λ r. r.uid) (λ r. r.sys_uid) (λ h. user_rows h.users) hosts pins.users
+    pins.reserved_users
 
 abbrev pub groups_of : List Host → PinPairs → Accounts
-groups_of hosts pins = accounts_of (λ r. r.gid) (λ r. r.sys_gid) (λ h. group_rows h.groups) hosts pins.groups pins.reserved_groups
+groups_of hosts pins =
+    accounts_of (λ r. r.gid) (λ r. r.sys_gid) (λ h. group_rows h.groups) hosts pins.groups
+    pins.reserved_groups
 
 -- users first, then groups
 abbrev pub joined_site : List Host → PinPairs → Result Joined SiteFault
-joined_site hosts pins = joined User (users_of hosts pins) >>= λ users. joined Group (groups_of hosts pins) >>= λ groups. Ok (record { users = users; groups = groups; hosts = length hosts })
+joined_site hosts pins =
+    joined User (users_of hosts pins) >>= λ users.
+    joined Group (groups_of hosts pins) >>= λ groups.
+    Ok (record { users = users; groups = groups; hosts = length hosts })
 
 -- both kinds stand on the same hosts, at most 64
 pub record IsSite (site : Joined) : Type 0 where

@@ -2,8 +2,8 @@
 use crate::{Host, Pair, PairTable, Pins, Reserved, Which};
 use logindefs::{HostRanges, IdRange};
 
-/// Users or groups: what a host, its ranges and the pins have of the kind. No call takes memory, and
-/// each takes constant time.
+/// Users or groups: what a host, its ranges and the pins have of the kind. No call takes memory,
+/// and each takes constant time.
 pub trait Kind {
     ghost use Rattle.std.specs.Prelude.{◌≡◌, ℕ, ◌<◌, List, map, length, slice_index_or};
     ghost use Rattle.accounts.specs.Laws.{IsTable};
@@ -75,11 +75,14 @@ pub trait Kind {
     fn pick(uid: u32, gid: u32) -> u32
         ensures { result ≡ number_of uid gid };
 
-    // On one lawful host names are distinct, numbers are distinct, and no number is above 4294967294.
-    ghost table: { (h : Host) → IsLawfulHost h → IsTable (map (λ p. p.0) (listed h)) (map (λ p. p.1) (listed h)) };
+    // On one lawful host names are distinct, numbers are distinct, and no number is above
+    // 4294967294.
+    ghost table: { (h : Host) → IsLawfulHost h
+        → IsTable (map (λ p. p.0) (listed h)) (map (λ p. p.1) (listed h)) };
 
     // No number is both regular and system on one lawful host.
-    ghost apart: { (h : Host) → IsLawfulHost h → AreApart (regular_range h.ranges) (system_range h.ranges) };
+    ghost apart: { (h : Host) → IsLawfulHost h
+        → AreApart (regular_range h.ranges) (system_range h.ranges) };
 }
 
 /// The users of a passwd file.

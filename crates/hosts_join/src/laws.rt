@@ -1,18 +1,24 @@
 //! Laws of the join, each the contract of a call that does nothing.
-ghost use Rattle.hosts_join.specs.Laws.{JoinedSitesAreLawful, JoinedSitesKnowTheirHosts, JoinedSitesLeaveReserved, NothingReservedChangesNothing, ReadPinsArePins, ReadPinsReserveNothing};
+ghost use Rattle.hosts_join.specs.Laws.{JoinedSitesAreLawful, JoinedSitesKnowTheirHosts};
+ghost use Rattle.hosts_join.specs.Laws.{JoinedSitesLeaveReserved, JoinedSitesLeaveSpared};
+ghost use Rattle.hosts_join.specs.Laws.{NothingReservedChangesNothing};
+ghost use Rattle.hosts_join.specs.Laws.{ReadPinsArePins, ReadPinsReserveNothing};
 
-/// A site knows the accounts of each of its hosts: who has a number there is the account of the name that the host's own
-/// passwd, or group, gives that number, and where it gives it to no name no account has it.
+/// A site knows the accounts of each of its hosts: who has a number there is the account of the
+/// name that the host's own passwd, or group, gives that number, and where it gives it to no name
+/// no account has it.
 pub fn a_site_knows_its_hosts()
     ensures { JoinedSitesKnowTheirHosts }
 {}
 
-/// The accounts of a site that was joined from at most 64 lawful hosts, and from pins as a pins text gives them, are lawful.
+/// The accounts of a site that was joined from at most 64 lawful hosts, and from pins as a pins
+/// text gives them, are lawful.
 pub fn a_site_has_lawful_accounts()
     ensures { JoinedSitesAreLawful }
 {}
 
-/// In the pins that a text gives, names differ and numbers differ, in each kind, and an account may have each number.
+/// In the pins that a text gives, names differ and numbers differ, in each kind, and an account may
+/// have each number.
 pub fn pins_are_lawful()
     ensures { ReadPinsArePins }
 {}
@@ -21,6 +27,12 @@ pub fn pins_are_lawful()
 /// and the pins text keeps none for a name that no host has.
 pub fn a_site_leaves_reserved_numbers()
     ensures { JoinedSitesLeaveReserved }
+{}
+
+/// Where each host spares reserved numbers alone, no name of a joined site may be given a number
+/// that some host spares.
+pub fn a_site_leaves_spared_numbers()
+    ensures { JoinedSitesLeaveSpared }
 {}
 
 /// Where nothing is reserved, pools and refusals are as if nothing could be.

@@ -1,6 +1,6 @@
-//! The join of hosts that share files: the names of their users and of their groups, which of them are pinned to a
-//! number, and the numbers that the others may get. What passwd(5), group(5) and login.defs(5) say of one host is
-//! joined here into one site.
+//! The join of hosts that share files: the names of their users and of their groups, which of them
+//! are pinned to a number, and the numbers that the others may get. What passwd(5), group(5) and
+//! login.defs(5) say of one host is joined here into one site.
 #![tactic(auto)]
 
 mod checks;
@@ -29,7 +29,8 @@ pub use joining::{Site, join, join_kind};
 pub use kind::{Groups, Kind, Users};
 pub use laws::{
     a_site_has_lawful_accounts, a_site_knows_its_hosts, a_site_leaves_reserved_numbers,
-    nothing_reserved_changes_nothing, pins_are_lawful, read_pins_reserve_nothing,
+    a_site_leaves_spared_numbers, nothing_reserved_changes_nothing, pins_are_lawful,
+    read_pins_reserve_nothing,
 };
 use logindefs::IdRange;
 pub use names::Names;
@@ -50,8 +51,8 @@ pub enum Which {
     Group,
 }
 
-/// What a number is on its own host, by the ranges of its login.defs(5): regular, system, or in neither range, which
-/// pins the name to it.
+/// What a number is on its own host, by the ranges of its login.defs(5): regular, system, or in
+/// neither range, which pins the name to it.
 #[derive(Clone, Copy, Debug, PartialEq, Eq)]
 pub enum Standing {
     /// In the regular range.
@@ -85,7 +86,8 @@ impl Standing {
     }
 }
 
-/// What a name is over all hosts: pinned to a number, or free to get one of the regular or of the system pool.
+/// What a name is over all hosts: pinned to a number, or free to get one of the regular or of the
+/// system pool.
 #[derive(Clone, Copy, Debug, PartialEq, Eq)]
 pub enum Class {
     /// Pinned to this number.

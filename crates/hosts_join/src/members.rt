@@ -1,5 +1,6 @@
 //! What the tables of the join give: classes, claims and ranges.
-ghost use Rattle.std.specs.Prelude.{◌≡◌, ℕ, ◌&&◌, ◌++◌, Some, None, map, count_by, IfOk, IfErr, OnOk, IfSome};
+ghost use Rattle.std.specs.Prelude.{◌≡◌, ℕ, ◌&&◌, ◌++◌, Some, None, map, count_by, IfOk, IfErr};
+ghost use Rattle.std.specs.Prelude.{OnOk, IfSome};
 ghost use Rattle.std.specs.List.{list_all};
 ghost use Rattle.logindefs.specs.Ranges.{in_range};
 ghost use Rattle.hosts_join.specs.Rules as rules;
@@ -42,9 +43,14 @@ pub fn classes<'a>(
     pins: &PairTable<'a>,
 ) -> Result<Vec<Class>, SiteFault<'a>>
     requires { ArePaired index.now }
-    ensures classes { IfOk result (λ classes. classes.items ≡ map (rules.class_of pins.now) (accounts_in index.now)) }
-    ensures agreed { OnOk result (rules.first_some (rules.disagrees kind (map entry_of hosts.now) pins.now) (accounts_in index.now) ≡ None) }
-    ensures disagreed { IfErr result (λ e. IfSome (told e) (λ f. rules.first_some (rules.disagrees kind (map entry_of hosts.now) pins.now) (accounts_in index.now) ≡ Some f)) }
+    ensures classes { IfOk result (λ classes. classes.items
+        ≡ map (rules.class_of pins.now) (accounts_in index.now)) }
+    ensures agreed { OnOk result
+        (rules.first_some (rules.disagrees kind (map entry_of hosts.now) pins.now)
+        (accounts_in index.now) ≡ None) }
+    ensures disagreed { IfErr result (λ e. IfSome (told e)
+        (λ f. rules.first_some (rules.disagrees kind (map entry_of hosts.now) pins.now)
+        (accounts_in index.now) ≡ Some f)) }
 {
     let mut classes = Vec::new(alloc);
     for place in 0..index.len() {
@@ -73,7 +79,8 @@ fn pinned_names<'a>(
 ) -> Result<Vec<Pair<'a>>, AllocError>
     requires paired { ArePaired index.now }
     requires classes { classes.now ≡ map (rules.class_of pins.now) (accounts_in index.now) }
-    ensures { IfOk result (λ claims. pairs_of claims.items ≡ rules.pinned_names pins.now (accounts_in index.now)) }
+    ensures { IfOk result (λ claims. pairs_of claims.items
+        ≡ rules.pinned_names pins.now (accounts_in index.now)) }
 {
     let mut claims = Vec::new(alloc);
     for place in 0..classes.len() {
@@ -87,7 +94,8 @@ fn pinned_names<'a>(
     Ok(claims)
 }
 
-/// The numbers that are given away: to pinned names, and to names in the pins text that no host has.
+/// The numbers that are given away: to pinned names, and to names in the pins text that no host
+/// has.
 pub fn claims<'a>(
     alloc: Global,
     index: &Index<'a>,
@@ -96,7 +104,9 @@ pub fn claims<'a>(
 ) -> Result<Vec<Pair<'a>>, AllocError>
     requires paired { ArePaired index.now }
     requires classes { classes.now ≡ map (rules.class_of pins.now) (accounts_in index.now) }
-    ensures { IfOk result (λ claims. pairs_of claims.items ≡ rules.pinned_names pins.now (accounts_in index.now) ++ rules.absent_pins (accounts_in index.now) pins.now) }
+    ensures { IfOk result (λ claims. pairs_of claims.items
+        ≡ rules.pinned_names pins.now (accounts_in index.now)
+        ++ rules.absent_pins (accounts_in index.now) pins.now) }
 {
     let mut claims = pinned_names(alloc, index, classes, pins)?;
     for place in 0..pins.len() {
@@ -110,7 +120,8 @@ pub fn claims<'a>(
 
 /// The numbers that are regular on each of the hosts.
 pub fn common_regular(hosts: &[HostEntry<'_>]) -> IdRange
-    ensures { (v : ℕ) → in_range result v ≡ (rules.is_id v && list_all (λ h. in_range h.regular v) hosts.now) }
+    ensures { (v : ℕ) → in_range result v
+        ≡ (rules.is_id v && list_all (λ h. in_range h.regular v) hosts.now) }
 {
     let mut common = ANY_ID;
     for host in hosts {
@@ -121,7 +132,8 @@ pub fn common_regular(hosts: &[HostEntry<'_>]) -> IdRange
 
 /// The numbers that are system numbers on each of the hosts.
 pub fn common_system(hosts: &[HostEntry<'_>]) -> IdRange
-    ensures { (v : ℕ) → in_range result v ≡ (rules.is_id v && list_all (λ h. in_range h.system v) hosts.now) }
+    ensures { (v : ℕ) → in_range result v
+        ≡ (rules.is_id v && list_all (λ h. in_range h.system v) hosts.now) }
 {
     let mut common = ANY_ID;
     for host in hosts {

@@ -1,5 +1,6 @@
 //! The names of one kind over all hosts.
-ghost use Rattle.std.specs.Prelude.{◌≡◌, ℕ, List, ◌<◌, ◌≤◌, ◌&&◌, ◌||◌, ◌==◌, not, map, length, OnOk, IfOk, IfErr, IfSome, Some, None, count_by};
+ghost use Rattle.std.specs.Prelude.{◌≡◌, ℕ, List, ◌<◌, ◌≤◌, ◌&&◌, ◌||◌, ◌==◌, not, map, length};
+ghost use Rattle.std.specs.Prelude.{OnOk, IfOk, IfErr, IfSome, Some, None, count_by};
 ghost use Rattle.std.specs.List.{All, list_all, find};
 ghost use Rattle.std.specs.Option.{option_map};
 ghost use Rattle.idtext.specs.First.{Gives};
@@ -10,7 +11,8 @@ ghost use Rattle.hosts_join.specs.Index.{accounts_in, ArePaired};
 ghost use Rattle.hosts_join.specs.Rules as rules;
 ghost use Rattle.hosts_join.specs.Rules.{claim_fault, is_taken, is_reserved, is_id, joined};
 ghost use Rattle.hosts_join.specs.Settled.{ArePools, IsSettled, joined_from, lacking, small_among};
-ghost use Rattle.hosts_join.specs.Accounts.{AreNumberedApart, AreNamedApart, IsSpotAmong, grouped, spot_of, spots_of};
+ghost use Rattle.hosts_join.specs.Accounts.{AreNumberedApart, AreNamedApart, IsSpotAmong, grouped};
+ghost use Rattle.hosts_join.specs.Accounts.{spot_of, spots_of};
 ghost use Rattle.hosts_join.specs.PinPairs.{ArePins};
 ghost use Rattle.hosts_join.specs.Told.{told};
 ghost use Rattle.hosts_join.specs.declared.fault.SiteFault.TheVariants as refusal;
@@ -29,9 +31,10 @@ use idtext::Name;
 use std::alloc::{AllocError, Global};
 use std::marker::Model;
 
-/// The names of one kind, by index in order of first appearance: hosts in order, and on a host its rows in order. A
-/// contract sees the accounts that they were joined from: for its sake alone the hosts are kept, and
-/// a copy of the pins of the kind and of what is reserved. No call takes memory.
+/// The names of one kind, by index in order of first appearance: hosts in order, and on a host its
+/// rows in order. A contract sees the accounts that they were joined from: for its sake alone the
+/// hosts are kept, and a copy of the pins of the kind and of what is reserved. No call takes
+/// memory.
 pub struct Names<'a> {
     hosts: Vec<HostEntry<'a>>,
     given: Given<'a>,
@@ -43,7 +46,8 @@ pub struct Names<'a> {
     none: Pool,
 }
 
-// Written out, so that the proof of a function that lets names go has one call there, and not the parts of all tables.
+// Written out, so that the proof of a function that lets names go has one call there, and not the
+// parts of all tables.
 impl Drop for Names<'_> {
     fn drop(self) {
         let Names {
@@ -99,8 +103,12 @@ fn pools(
     claims: &[Pair<'_>],
     reserved: &[Reserved<'_>],
 ) -> Result<PoolPair, AllocError>
-    ensures regular { IfOk result (λ p. (v : ℕ) → lies_in_some p.regular v ≡ ((is_id v && list_all (λ h. in_range h.regular v) (map entry_of hosts.now)) && not (is_taken (pairs_of claims.now) v || is_reserved reserved.now v))) }
-    ensures system { IfOk result (λ p. (v : ℕ) → lies_in_some p.system v ≡ ((is_id v && list_all (λ h. in_range h.system v) (map entry_of hosts.now)) && not (is_taken (pairs_of claims.now) v || is_reserved reserved.now v))) }
+    ensures regular { IfOk result (λ p. (v : ℕ) → lies_in_some p.regular v
+        ≡ ((is_id v && list_all (λ h. in_range h.regular v) (map entry_of hosts.now))
+        && not (is_taken (pairs_of claims.now) v || is_reserved reserved.now v))) }
+    ensures system { IfOk result (λ p. (v : ℕ) → lies_in_some p.system v
+        ≡ ((is_id v && list_all (λ h. in_range h.system v) (map entry_of hosts.now))
+        && not (is_taken (pairs_of claims.now) v || is_reserved reserved.now v))) }
 {
     let away = given_away(alloc, claims, reserved)?;
     let regular = Pool::of(alloc, common_regular(hosts), away.as_slice())?;
@@ -135,7 +143,8 @@ fn copy_given<'a>(
 
 /// The refusal of a number that two names are pinned to.
 fn clash_fault<'a>(kind: Which, clash: Clash<'a>) -> SiteFault<'a>
-    ensures { result ≡ refusal.PinClash kind clash.entry.number clash.entry.first.now clash.entry.second.now }
+    ensures { result
+        ≡ refusal.PinClash kind clash.entry.number clash.entry.first.now clash.entry.second.now }
 {
     SiteFault::PinClash {
         kind,
@@ -153,7 +162,8 @@ fn check_claims<'a>(
     reserved: &[Reserved<'a>],
 ) -> Result<(), SiteFault<'a>>
     ensures good { OnOk result (claim_fault kind reserved.now (pairs_of claims.now) ≡ None) }
-    ensures fault { IfErr result (λ e. IfSome (told e) (λ f. claim_fault kind reserved.now (pairs_of claims.now) ≡ Some f)) }
+    ensures fault { IfErr result (λ e. IfSome (told e)
+        (λ f. claim_fault kind reserved.now (pairs_of claims.now) ≡ Some f)) }
 {
     check_reserved(alloc, kind, claims, reserved)?;
     match find_clash(alloc, claims)? {
@@ -175,8 +185,10 @@ fn pools_beside<'a>(
     requires paired { ArePaired index.now }
     requires classes { classes.now ≡ map (rules.class_of pins.now) (accounts_in index.now) }
     ensures pools { IfOk result (ArePools (joined_from hosts.now index.now pins.now reserved.now)) }
-    ensures good { OnOk result (claim_fault kind reserved.now (rules.claims (joined_from hosts.now index.now pins.now reserved.now)) ≡ None) }
-    ensures fault { IfErr result (λ e. IfSome (told e) (λ f. claim_fault kind reserved.now (rules.claims (joined_from hosts.now index.now pins.now reserved.now)) ≡ Some f)) }
+    ensures good { OnOk result (claim_fault kind reserved.now
+        (rules.claims (joined_from hosts.now index.now pins.now reserved.now)) ≡ None) }
+    ensures fault { IfErr result (λ e. IfSome (told e) (λ f. claim_fault kind reserved.now
+        (rules.claims (joined_from hosts.now index.now pins.now reserved.now)) ≡ Some f)) }
 {
     let claims = claims(alloc, index, classes, pins)?;
     check_claims(alloc, kind, claims.as_slice(), reserved)?;
@@ -212,7 +224,8 @@ fn small_pool<'a>(kind: Which, classes: &[Class], pools: &PoolPair) -> Option<Si
     pool_fault(kind, PoolClass::System, names, pools.system.len())
 }
 
-/// What is settled of names before they are joined: their classes, and the pools of those that are free.
+/// What is settled of names before they are joined: their classes, and the pools of those that are
+/// free.
 #[derive(Drop)]
 struct Settled {
     classes: Vec<Class>,
@@ -229,8 +242,10 @@ fn settle<'a>(
     reserved: &[Reserved<'a>],
 ) -> Result<Settled, SiteFault<'a>>
     requires { ArePaired index.now }
-    ensures exact { Gives (λ _. joined_from hosts.now index.now pins.now reserved.now) told result (joined kind (joined_from hosts.now index.now pins.now reserved.now)) }
-    ensures settled { IfOk result (IsSettled (joined_from hosts.now index.now pins.now reserved.now)) }
+    ensures exact { Gives (λ _. joined_from hosts.now index.now pins.now reserved.now) told result
+        (joined kind (joined_from hosts.now index.now pins.now reserved.now)) }
+    ensures settled { IfOk result
+        (IsSettled (joined_from hosts.now index.now pins.now reserved.now)) }
 {
     let classes = classes(alloc, kind, hosts, index, pins)?;
     let pools = pools_beside(
@@ -264,8 +279,16 @@ pub fn join_rows<'a>(
     requires among { All (λ r. IsSpotAmong (length hosts.items) (spot_of r)) (rows_of rows.now) }
     requires spots { (n : List ℕ) → length (spots_of (rows_of rows.now) n) ≤ 64 }
     requires pins { ArePins pins.now }
-    requires ranges { (v : ℕ) → list_all (λ h. in_range h.regular v) (map entry_of hosts.items) ≡ true → list_all (λ h. in_range h.system v) (map entry_of hosts.items) ≡ true → length rows.now ≡ 0 }
-    ensures { Gives (λ names. names) told result (joined kind (record { hosts = map entry_of hosts.entry.items; names = grouped (rows_of rows.now); pins = pins.now; reserved = reserved.now })) }
+    requires ranges { (v : ℕ)
+        → list_all (λ h. in_range h.regular v) (map entry_of hosts.items) ≡ true
+        → list_all (λ h. in_range h.system v) (map entry_of hosts.items) ≡ true
+        → length rows.now ≡ 0 }
+    ensures { Gives (λ names. names) told result (joined kind (record {
+      hosts = map entry_of hosts.entry.items;
+      names = grouped (rows_of rows.now);
+      pins = pins.now;
+      reserved = reserved.now;
+    })) }
 {
     let index = Index::of(alloc, rows)?;
     let given = copy_given(alloc, pins, reserved)?;
@@ -305,7 +328,8 @@ impl<'a> Names<'a> {
         self.index.name(index as usize)
     }
 
-    /// The hosts that have the name at an index, in order, at most 64, with its number on each. No cost.
+    /// The hosts that have the name at an index, in order, at most 64, with its number on each. No
+    /// cost.
     pub fn spots(&self, index: u32) -> &[Spot]
         requires { index < length self.now.names }
         ensures { result.now ≡ (account self.now index).spots }
@@ -313,8 +337,9 @@ impl<'a> Names<'a> {
         self.index.spots(index as usize)
     }
 
-    /// The class of the name at an index. A name is pinned by the pins text, or by a host on which its number is in
-    /// neither range; else it is regular if it is so on some host, else system. No cost.
+    /// The class of the name at an index. A name is pinned by the pins text, or by a host on which
+    /// its number is in neither range; else it is regular if it is so on some host, else system. No
+    /// cost.
     pub fn class(&self, index: u32) -> Class
         requires { index < length self.now.names }
         ensures { result ≡ rules.class_of self.now.pins (account self.now index) }
@@ -322,7 +347,8 @@ impl<'a> Names<'a> {
         self.classes[index as usize]
     }
 
-    /// The number of the name at an index on a host, or none where the host does not have it. A scan of its spots.
+    /// The number of the name at an index on a host, or none where the host does not have it. A
+    /// scan of its spots.
     pub fn at(&self, index: u32, host: u32) -> Option<u32>
         requires { index < length self.now.names }
         ensures { result ≡ number_on (account self.now index) host }
@@ -355,7 +381,8 @@ impl<'a> Names<'a> {
     pub fn pool(&self, class: Class) -> &Pool
         ensures members { (v : ℕ) → lies_in_some result.now v ≡ rules.in_pool self.now class v }
         ensures size { run_size result.now ≡ rules.pool_size self.now class }
-        ensures enough { rules.is_free_class class ≡ true → rules.names_in self.now class ≤ rules.pool_size self.now class }
+        ensures enough { rules.is_free_class class ≡ true
+            → rules.names_in self.now class ≤ rules.pool_size self.now class }
     {
         match class {
             Class::Regular => &self.regular,

@@ -39,8 +39,8 @@ fn pair(which: Which, text: &[u8]) -> PairLine<'_>
     }
 }
 
-/// What a line says: `user NAME NUMBER` or `group NAME NUMBER`, where the name is what stands between the first and
-/// the last space, or nothing. A few passes over the line.
+/// What a line says: `user NAME NUMBER` or `group NAME NUMBER`, where the name is what stands
+/// between the first and the last space, or nothing. A few passes over the line.
 #[tactic(auto, unfolding(crate::specs::PairLines::pair_line_of))]
 pub fn pair_line(line: &[u8]) -> PairLine<'_>
     ensures { result ≡ pair_line_of line.now }

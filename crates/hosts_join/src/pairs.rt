@@ -1,5 +1,6 @@
 //! Names with their numbers, in the order of their lines.
-ghost use Rattle.std.specs.Prelude.{◌≡◌, ◌<◌, [], length, slice_get, Some, IfOk, OnErr, ◌++◌, ◌∷◌, if◌then◌else◌, is_some, not};
+ghost use Rattle.std.specs.Prelude.{◌≡◌, ◌<◌, [], length, slice_get, Some, IfOk, OnErr, ◌++◌, ◌∷◌};
+ghost use Rattle.std.specs.Prelude.{if◌then◌else◌, is_some, not};
 
 use crate::Pair;
 use indexmap::IndexMap;
@@ -43,12 +44,15 @@ impl<'a> PairTable<'a> {
         }
     }
 
-    /// Adds a name with its number, and answers whether the name is new. A name that is there keeps its number. One
-    /// look-up by hash, and one entry. `AllocError` where a growth was refused; the names then stay.
+    /// Adds a name with its number, and answers whether the name is new. A name that is there keeps
+    /// its number. One look-up by hash, and one entry. `AllocError` where a growth was refused; the
+    /// names then stay.
     pub fn add(&mut self, name: &'a [u8], number: u32) -> Result<bool, AllocError>
         ensures err { OnErr result (self.new ≡ self.old) }
         ensures new { IfOk result (λ new. new ≡ not (is_some (number_of self.old name.now))) }
-        ensures ok { IfOk result (λ new. self.new ≡ (if new then self.old ++ record { name = name.now; number = number } ∷ [] else self.old)) }
+        ensures ok { IfOk result (λ new. self.new
+            ≡ (if new then self.old ++ record { name = name.now; number = number } ∷ []
+            else self.old)) }
     {
         if self.number(name).is_some() {
             return Ok(false);

@@ -16,9 +16,9 @@ use std::marker::Model;
 // The most lines of a pins text, skipped ones too.
 const MOST_LINES: u64 = 1048576;
 
-/// The pins of both kinds: names, of the site or not, with the numbers that they are to have. Names are slices of the
-/// pins text. In each kind names differ and numbers differ, and no number is above 4294967294. Beside
-/// them stand, for each kind, the numbers that no name is to be given.
+/// The pins of both kinds: names, of the site or not, with the numbers that they are to have. Names
+/// are slices of the pins text. In each kind names differ and numbers differ, and no number is
+/// above 4294967294. Beside them stand, for each kind, the numbers that no name is to be given.
 #[derive(Drop)]
 pub struct Pins<'a> {
     users: PairTable<'a>,
@@ -65,12 +65,14 @@ impl<'a> PinTable<'a> {
         }
     }
 
-    // Adds a name with its number, and answers whether both are new. Where one is not, the table is of no more use.
+    // Adds a name with its number, and answers whether both are new. Where one is not, the table is
+    // of no more use.
     fn add(&mut self, name: &'a [u8], number: u32) -> Result<bool, AllocError>
         requires table { IsPinTable self.old }
         requires id { number ≤ 4294967294 }
         ensures new { IfOk result (λ new. new ≡ is_new_pin self.old.pairs name.now number) }
-        ensures pairs { IfOk result (λ new. new ≡ true → self.new.pairs ≡ self.old.pairs ++ record { name = name.now; number = number } ∷ []) }
+        ensures pairs { IfOk result (λ new. new ≡ true → self.new.pairs
+            ≡ self.old.pairs ++ record { name = name.now; number = number } ∷ []) }
         ensures table { IfOk result (λ new. new ≡ true → IsPinTable self.new) }
     {
         let (_, new) = self.numbers.insert_full(number)?;
@@ -102,8 +104,10 @@ fn take_line<'a>(draft: &mut Draft<'a>, line: PairLine<'a>) -> Result<bool, Allo
     requires draft { IsDraft draft.old }
     requires id { IsIdLine line }
     ensures good { IfOk result (λ good. good ≡ may_stand (drafted draft.old) line.entry) }
-    ensures users { IfOk result (λ good. good ≡ true → draft.new.users.pairs ≡ draft.old.users.pairs ++ user_pair line.entry) }
-    ensures groups { IfOk result (λ good. good ≡ true → draft.new.groups.pairs ≡ draft.old.groups.pairs ++ group_pair line.entry) }
+    ensures users { IfOk result (λ good. good ≡ true
+        → draft.new.users.pairs ≡ draft.old.users.pairs ++ user_pair line.entry) }
+    ensures groups { IfOk result (λ good. good ≡ true
+        → draft.new.groups.pairs ≡ draft.old.groups.pairs ++ group_pair line.entry) }
     ensures draft { IfOk result (λ good. good ≡ true → IsDraft draft.new) }
 {
     match line {
@@ -145,13 +149,14 @@ fn take_lines<'a>(draft: &mut Draft<'a>, text: &'a [u8]) -> Result<(), PinsFault
 impl<'a> Pins<'a> {
     ghost use Rattle.hosts_join.specs.PinPairs.{ArePins};
 
-    /// Reads a pins text: lines `user NAME NUMBER` and `group NAME NUMBER`, where NAME is what stands between the first
-    /// and the last space, blank lines, and lines that begin with `#`. The empty text has no pins.
-    /// No text reserves numbers.
+    /// Reads a pins text: lines `user NAME NUMBER` and `group NAME NUMBER`, where NAME is what
+    /// stands between the first and the last space, blank lines, and lines that begin with `#`. The
+    /// empty text has no pins. No text reserves numbers.
     ///
-    /// Refused with `BadPins`, at its line, counted from 1, is the first line that is none of these, that gives a name or a
-    /// number a second time in its kind, or that is past the 1,048,576th; `Memory` where a growth was refused. One pass over
-    /// the text, with a few look-ups by hash for each line, and memory in step with the pins.
+    /// Refused with `BadPins`, at its line, counted from 1, is the first line that is none of
+    /// these, that gives a name or a number a second time in its kind, or that is past the
+    /// 1,048,576th; `Memory` where a growth was refused. One pass over the text, with a few
+    /// look-ups by hash for each line, and memory in step with the pins.
     pub fn read(alloc: Global, text: &'a [u8]) -> Result<Self, PinsFault>
         ensures { Gives (λ pins. pins) pins_told result (pins_of text.now) }
     {
@@ -172,7 +177,10 @@ impl<'a> Pins<'a> {
     /// The same pins, with these numbers reserved of each kind, in place of those that were: a join
     /// gives them to no name, and refuses a pin at one. The ranges may share numbers. No cost.
     pub fn with_reserved(self, users: Vec<Reserved<'a>>, groups: Vec<Reserved<'a>>) -> Pins<'a>
-        ensures { result ≡ record self.entry { reserved_users = users.entry.items; reserved_groups = groups.entry.items } }
+        ensures { result ≡ record self.entry {
+          reserved_users = users.entry.items;
+          reserved_groups = groups.entry.items;
+        } }
     {
         let Pins {
             users: user_pins,

@@ -1,6 +1,7 @@
 //! Numbers that no name is to be given.
 
-ghost use Rattle.std.specs.Prelude.{◌≡◌, ℕ, ◌<◌, ◌^◌, ◌||◌, map, not, None, Some, OnOk, IfOk, IfErr, IfSome};
+ghost use Rattle.std.specs.Prelude.{◌≡◌, ℕ, ◌<◌, ◌^◌, ◌||◌, map, not, None, Some, OnOk, IfOk};
+ghost use Rattle.std.specs.Prelude.{IfErr, IfSome};
 ghost use Rattle.hosts_join.specs.Pool.{AreAscending};
 ghost use Rattle.hosts_join.specs.RangeLists.{lies_in_some};
 ghost use Rattle.hosts_join.specs.Rules.{first_some, is_reserved, is_taken, pin_reserved};
@@ -84,7 +85,8 @@ pub fn copy_reserved<'a>(
 
 /// The numbers of claims, each a range by itself.
 fn claim_ranges(alloc: Global, claims: &[Pair<'_>]) -> Result<Vec<IdRange>, AllocError>
-    ensures { IfOk result (λ ranges. ranges.items ≡ map (λ p. record { low = p.number; high = p.number }) claims.now) }
+    ensures { IfOk result (λ ranges. ranges.items
+        ≡ map (λ p. record { low = p.number; high = p.number }) claims.now) }
 {
     claims
         .iter()
@@ -101,7 +103,8 @@ fn ascending_with(
     reserved: &[Reserved<'_>],
 ) -> Result<Vec<IdRange>, AllocError>
     ensures ascending { IfOk result (λ all. AreAscending all.items) }
-    ensures numbers { IfOk result (λ all. (v : ℕ) → lies_in_some all.items v ≡ (lies_in_some ranges.items v || is_reserved reserved.now v)) }
+    ensures numbers { IfOk result (λ all. (v : ℕ) → lies_in_some all.items v
+        ≡ (lies_in_some ranges.items v || is_reserved reserved.now v)) }
 {
     for one in reserved {
         ranges.push(one.numbers)?;
@@ -117,7 +120,8 @@ pub fn given_away(
     reserved: &[Reserved<'_>],
 ) -> Result<Vec<IdRange>, AllocError>
     ensures ascending { IfOk result (λ ranges. AreAscending ranges.items) }
-    ensures numbers { IfOk result (λ ranges. (v : ℕ) → lies_in_some ranges.items v ≡ (is_taken (pairs_of claims.now) v || is_reserved reserved.now v)) }
+    ensures numbers { IfOk result (λ ranges. (v : ℕ) → lies_in_some ranges.items v
+        ≡ (is_taken (pairs_of claims.now) v || is_reserved reserved.now v)) }
 {
     let ranges = claim_ranges(alloc, claims)?;
     ascending_with(ranges, reserved)
@@ -125,7 +129,8 @@ pub fn given_away(
 
 /// The numbers that are not reserved.
 fn free_numbers(alloc: Global, reserved: &[Reserved<'_>]) -> Result<Pool, AllocError>
-    ensures { IfOk result (λ free. (v : ℕ) → v < 2 ^ 32 → lies_in_some free v ≡ not (is_reserved reserved.now v)) }
+    ensures { IfOk result (λ free. (v : ℕ) → v < 2 ^ 32
+        → lies_in_some free v ≡ not (is_reserved reserved.now v)) }
 {
     let ranges = ascending_with(Vec::new(alloc), reserved)?;
     Pool::of(alloc, ANY_NUMBER, ranges.as_slice())
@@ -164,8 +169,10 @@ pub fn check_reserved<'a>(
     claims: &[Pair<'a>],
     reserved: &[Reserved<'a>],
 ) -> Result<(), SiteFault<'a>>
-    ensures good { OnOk result (first_some (pin_reserved kind reserved.now) (pairs_of claims.now) ≡ None) }
-    ensures fault { IfErr result (λ e. IfSome (told e) (λ f. first_some (pin_reserved kind reserved.now) (pairs_of claims.now) ≡ Some f)) }
+    ensures good { OnOk result
+        (first_some (pin_reserved kind reserved.now) (pairs_of claims.now) ≡ None) }
+    ensures fault { IfErr result (λ e. IfSome (told e)
+        (λ f. first_some (pin_reserved kind reserved.now) (pairs_of claims.now) ≡ Some f)) }
 {
     let free = free_numbers(alloc, reserved)?;
     for claim in claims {
