@@ -1,7 +1,7 @@
 -- One file more, counted at the row that has its number.
 use Rattle.std.proofs.Common.{◌≡◌, ℕ, zero, suc, ◌+◌, ◌<◌, ◌≤◌, Bool, true, false, cond, List, [], ◌∷◌, ◌++◌, length, map, set, get_or, Option, Some, None, refl, sym, ap, subst, ◌∙◌, arith, ◌==◌, replicate, position, nat_eq, inl, inr}
 use Rattle.std.specs.List.{All, count_by, find}
-use Rattle.std.specs.Prelude.{IfNone, IfSome, ◌||◌, is_none}
+use Rattle.std.specs.Prelude.{IfNone, IfSome, ◌||◌, is_none, not}
 use Rattle.std.specs.Option.{is_some, option_map}
 use Rattle.std.proofs.lemmas.Bool.{cases_Bool, eq-eqb, eqb-true, false_from_ne_true}
 use Rattle.std.proofs.lemmas.List.{length-map}
@@ -91,6 +91,17 @@ both_there true true e f u g = refl
 both_there true false e f u g = absurd (cc)
 both_there false group e f u g = absurd (cc)
 
+-- a number with a row, or spared
+pub refused_place : (place : Option ℕ) (none spared : Bool) → is_some place ≡ not none → none ≡ true → spared ≡ false → (is_some place || spared) ≡ false
+refused_place place none spared is there not_spared = ap (λ b. b || spared) (is ∙ ap not there) ∙ not_spared
+
+pub allowed_place : (place : Option ℕ) (none spared : Bool) → is_some place ≡ not none → none ≡ false → (is_some place || spared) ≡ true
+allowed_place place none spared is there = ap (λ b. b || spared) (is ∙ ap not there)
+
+pub spared_place : (place : Option ℕ) (spared : Bool) → spared ≡ true → (is_some place || spared) ≡ true
+spared_place (Some at) spared is = refl
+spared_place None spared is = is
+
 no_row : Passwd
 no_row = record { line = 0; name = []; password = []; uid = 0; gid = 0; comment = []; home = []; shell = [] }
 
@@ -138,19 +149,13 @@ module _ (host : Host) (file : Entry) where
   group_allowed place allowed here is = ap (λ b. b || spares_group host file.gid) (group_told place here) ∙ is
 
   pub user_refused : allows_uid host file.uid ≡ false → false ≡ is_none (owner_fault host [] file)
-  user_refused no = none_here (allows_uid host file.uid) (allows_gid host file.gid) _ _ no
+  user_refused refused = none_here (allows_uid host file.uid) (allows_gid host file.gid) _ _ refused
 
   pub group_refused : allows_gid host file.gid ≡ false → false ≡ is_none (owner_fault host [] file)
-  group_refused no = none_there (allows_uid host file.uid) (allows_gid host file.gid) _ _ no
+  group_refused refused = none_there (allows_uid host file.uid) (allows_gid host file.gid) _ _ refused
 
   pub both_allowed : allows_uid host file.uid ≡ true → allows_gid host file.gid ≡ true → true ≡ is_none (owner_fault host [] file)
   both_allowed user group = both_there (allows_uid host file.uid) (allows_gid host file.gid) _ _ user group
-
-  user_within : (place : ℕ) → user_place ≡ Some place → place < length host.users
-  user_within place here = (position-Some (λ (r : Passwd). nat_eq file.uid r.uid) host.users place no_row here).0
-
-  group_within : (place : ℕ) → group_place ≡ Some place → place < length host.groups
-  group_within place here = (position-Some (λ (r : Group). nat_eq file.gid r.gid) host.groups place no_group_row here).0
 
   one_user_more : (place : ℕ) (files : List Entry) → IsPasswdTable host.users → user_place ≡ Some place
       → (row_files host (files ++ file ∷ [])).users ≡ set (row_files host files).users place (get_or (row_files host files).users place 0 + 1)
@@ -180,14 +185,6 @@ module _ (host : Host) (file : Entry) where
       stays ∙ were ∙ sym (none_more (λ (r : Group). r.gid) (λ (e : Entry). e.gid) host.groups files file (no_group_row_there here))
 
   -- there is room at the place, if there is one
-  pub users_within : (place : Option ℕ) (files : List Entry) (old : List ℕ) → user_place ≡ place → old ≡ (row_files host files).users → IfSome place (λ at. at < length old)
-  users_within None files old here were = tt
-  users_within (Some place) files old here were = omega (arith, user_within place here, ap length were, length-map host.users (owned (λ (r : Passwd). r.uid) (λ (e : Entry). e.uid) files))
-
-  pub groups_within : (place : Option ℕ) (files : List Entry) (old : List ℕ) → group_place ≡ place → old ≡ (row_files host files).groups → IfSome place (λ at. at < length old)
-  groups_within None files old here were = tt
-  groups_within (Some place) files old here were = omega (arith, group_within place here, ap length were, length-map host.groups (owned (λ (r : Group). r.gid) (λ (e : Entry). e.gid) files))
-
   pub users_room : (place : Option ℕ) (files : List Entry) (old : List ℕ) (most : ℕ) → old ≡ (row_files host files).users → length files ≤ most → IfSome place (λ at. get_or old at 0 ≤ most)
   users_room None files old most were few = tt
   users_room (Some place) files old most were few = omega (arith, few, ap (λ ns. get_or ns place 0) were, room_at (λ (r : Passwd). r.uid) (λ (e : Entry). e.uid) host.users place files)

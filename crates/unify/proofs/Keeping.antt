@@ -9,7 +9,7 @@ use Rattle.std.proofs.lemmas.List.Elements.{All-map, All-filter, All-from_get_or
 use Rattle.hosts_join.specs.Accounts.{Account, Accounts, Pair, nobody}
 use Rattle.hosts_join.specs.Hosts.{spares_group, spares_user}
 use Rattle.hosts_join.specs.Kinds.{user_at, group_at}
-use Rattle.hosts_join.specs.Laws.{IsOwnedAsTold, LeavesReserved}
+use Rattle.hosts_join.specs.Laws.{IsOwnedAsTold, LeavesOut}
 use Rattle.hosts_join.specs.Lawful.{AreLawfulAccounts}
 use Rattle.hosts_join.specs.Pairs.{number_of}
 use Rattle.hosts_join.specs.Rules.{account, is_reserved}
@@ -70,7 +70,7 @@ pub record ArePairsOf (site : Joined) (m : Mappings) (printed : MapText) : Type 
   pub leaves : LeavesItsReserved site
 
 -- by the pairs a number that the host allows is renumbered to its new one
-new_number : (a : Accounts) (m : List ℕ) (pairs : List Pair) → SayMapping a m pairs → IsAdmissible a m → LeavesReserved a a.reserved
+new_number : (a : Accounts) (m : List ℕ) (pairs : List Pair) → SayMapping a m pairs → IsAdmissible a m → LeavesOut a (is_reserved a.reserved)
     → (h v : ℕ) (told : Option (List ℕ)) (spared : Bool) → IsOwnedAsTold a.names h v told → (spared ≡ true → is_reserved a.reserved v ≡ true) → (is_some told || spared) ≡ true
     → IsNewNumber told pairs v (renumbered a m h v)
 new_number a m pairs say ok leaves h v (Some name) spared is reserved allowed =

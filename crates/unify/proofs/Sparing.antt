@@ -7,7 +7,7 @@ use Rattle.logindefs.specs.declared.ranges.IdRange.{IdRange}
 use Rattle.hosts_join.specs.Accounts.{Account, Accounts, Pair, nobody, place_of}
 use Rattle.hosts_join.specs.Hosts.{SparesReserved, spares_group, spares_user}
 use Rattle.hosts_join.specs.Kinds.{user_at, group_at}
-use Rattle.hosts_join.specs.Laws.{LeavesReserved}
+use Rattle.hosts_join.specs.Laws.{LeavesOut}
 use Rattle.hosts_join.specs.Pairs.{number_of}
 use Rattle.hosts_join.specs.PinPairs.{PinPairs}
 use Rattle.hosts_join.specs.RangeLists.{lies_in_some}
@@ -60,8 +60,8 @@ leaves_reserved hosts pins joined is =
     let both = sites_leave_reserved hosts pins joined is in
     let made = site-is hosts pins joined is in
     record {
-      users = subst (LeavesReserved joined.users) (ap (λ (s : Joined). s.users.reserved) made) both.0;
-      groups = subst (LeavesReserved joined.groups) (ap (λ (s : Joined). s.groups.reserved) made) both.1;
+      users = subst (λ rs. LeavesOut joined.users (is_reserved rs)) (ap (λ (s : Joined). s.users.reserved) made) both.0;
+      groups = subst (λ rs. LeavesOut joined.groups (is_reserved rs)) (ap (λ (s : Joined). s.groups.reserved) made) both.1;
     }
 
 -- ---- the numbers of names
@@ -80,7 +80,7 @@ numbered_at a m pairs say n v h =
     let at = named_at a n (sym (say.names n) ∙ ap is_some h) in
     (at.0, at.1, at.2, some_one (number_at m at.0) v (sym (say.numbers at.0 at.1) ∙ ap (number_of pairs) (sym at.2) ∙ h))
 
-module _ (a : Accounts) (leaves : LeavesReserved a a.reserved) where
+module _ (a : Accounts) (leaves : LeavesOut a (is_reserved a.reserved)) where
   may_not : (i v : ℕ) → i < length a.names → (c : Class) → class_at a i ≡ c → MayHave a c v → is_reserved a.reserved v ≡ false
   may_not i v within (Pinned p) is may = leaves.pins i v within (is ∙ ap Pinned (sym may))
   may_not i v within Regular is may = leaves.pools Regular v may

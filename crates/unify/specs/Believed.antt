@@ -63,11 +63,14 @@ abbrev pub NumbersTellNames : Type 0
 NumbersTellNames = (users groups : Accounts) (m n : List ℕ) (printed : MapText) → HaveOneNumberEach users m printed.users → HaveOneNumberEach groups n printed.groups
     → (host other : Host) (tree other_tree : List ℕ → Option Owner) (file other_file : Entry)
     → (one : KeepsItsNames printed host tree file) (two : KeepsItsNames printed other other_tree other_file)
-    → ((one.now.uid ≡ two.now.uid) ↔ WereOne (user_at host.users file.uid) file.uid (user_at other.users other_file.uid) other_file.uid)
-    × ((one.now.gid ≡ two.now.gid) ↔ WereOne (group_at host.groups file.gid) file.gid (group_at other.groups other_file.gid) other_file.gid)
+    → ((one.now.uid ≡ two.now.uid) ↔ WereOne (user_at host.users file.uid) file.uid
+    (user_at other.users other_file.uid) other_file.uid)
+    × ((one.now.gid ≡ two.now.gid) ↔ WereOne (group_at host.groups file.gid) file.gid
+    (group_at other.groups other_file.gid) other_file.gid)
 
 -- The file has the numbers that the map gives to its user and to its group.
-pub record HasItsNames (map : MapText) (host : Host) (tree : List ℕ → Option Owner) (file : Entry) : Type 0 where
+pub record HasItsNames (map : MapText) (host : Host) (tree : List ℕ → Option Owner)
+    (file : Entry) : Type 0 where
   pub now : Owner
   pub here : tree file.path ≡ Some now
   pub user : List ℕ
@@ -79,4 +82,6 @@ pub record HasItsNames (map : MapText) (host : Host) (tree : List ℕ → Option
 
 -- So has a file that keeps its names, where it had a user and a group.
 abbrev pub NamedFilesHaveTheirNames : Type 0
-NamedFilesHaveTheirNames = (printed : MapText) (host : Host) (tree : List ℕ → Option Owner) (file : Entry) → KeepsItsNames printed host tree file → HaveAccounts host file.uid file.gid → HasItsNames printed host tree file
+NamedFilesHaveTheirNames = (printed : MapText) (host : Host) (tree : List ℕ → Option Owner)
+    (file : Entry) → KeepsItsNames printed host tree file → HaveAccounts host file.uid file.gid
+    → HasItsNames printed host tree file

@@ -41,10 +41,12 @@ pub record HaveOneNumberEach (a : Accounts) (m : List ℕ) (pairs : List Pair) :
   pub say : SayMapping a m pairs
   pub distinct : (name other : List ℕ) (v : ℕ) → number_of pairs name ≡ Some v → number_of pairs other ≡ Some v → name ≡ other
 
--- By the map the new number is that of the name that the old one had; one that had none stays, and is no name's.
+-- By the map the new number is that of the name that the old one had; one that had none stays, and
+-- is no name's.
 abbrev pub IsNewNumber : Option (List ℕ) → List Pair → ℕ → ℕ → Type 0
 IsNewNumber (Some name) pairs old new = number_of pairs name ≡ Some new
-IsNewNumber None pairs old new = (new ≡ old) × ((name : List ℕ) → number_of pairs name ≡ Some new → ⊥)
+IsNewNumber None pairs old new =
+    (new ≡ old) × ((name : List ℕ) → number_of pairs name ≡ Some new → ⊥)
 
 -- The file is there, and its uid and gid are the numbers that the map gives to the user and the group that it had: those that
 -- its host's own tables name for its numbers in the inventory. A number that they do not name is as it was, and no name's.

@@ -66,18 +66,23 @@ ReadSitesAreWhole = (texts : List HostText) (pins_text : List ℕ) (site : Whole
 abbrev pub OwnersAgree : Type 0
 OwnersAgree = (joined : Joined) (h : ℕ) (host : Host) (uid gid : ℕ) → KnowsHost joined h host → (unowned joined h uid gid ≡ None) ↔ HaveAccounts host uid gid
 
--- each file has a user and a group, by its host's own tables and as well by the accounts over all hosts
+-- each file has a user and a group, by its host's own tables and as well by the accounts over all
+-- hosts
 pub record HasAccountsForAll (site : WholeSite) : Type 0 where
-  pub by_tables : (h : ℕ) (host : Host) (files : List Entry) → slice_get site.hosts h ≡ Some (host, files) → All (λ f. HaveAccounts host f.uid f.gid) files
-  pub over_all_hosts : All (λ f. unowned site.joined f.host f.uid f.gid ≡ None) (files_of_site site)
+  pub by_tables : (h : ℕ) (host : Host) (files : List Entry) → slice_get site.hosts h ≡ Some (host, files)
+      → All (λ f. HaveAccounts host f.uid f.gid) files
+  pub over_all_hosts :
+      All (λ f. unowned site.joined f.host f.uid f.gid ≡ None) (files_of_site site)
 
 -- so it is where no host spares a number
 abbrev pub NothingSparedAllOwned : Type 0
-NothingSparedAllOwned = (site : WholeSite) → IsWhole site → All SparesNothing (hosts_in site) → HasAccountsForAll site
+NothingSparedAllOwned = (site : WholeSite) → IsWhole site
+    → All SparesNothing (hosts_in site) → HasAccountsForAll site
 
 -- and no host does that was read from texts
 abbrev pub ReadHostsSpareNothing : Type 0
-ReadHostsSpareNothing = (texts : List HostText) (pins_text : List ℕ) (site : WholeSite) → site_read texts pins_text ≡ Ok site → All SparesNothing (hosts_in site)
+ReadHostsSpareNothing = (texts : List HostText) (pins_text : List ℕ) (site : WholeSite)
+    → site_read texts pins_text ≡ Ok site → All SparesNothing (hosts_in site)
 
 -- what the texts of hosts say of a site, where there is no pins text
 abbrev pub site_without_pins : List HostText → Result WholeSite Fault

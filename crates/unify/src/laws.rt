@@ -1,7 +1,9 @@
 //! Laws of the definitions, each the contract of a call that does nothing.
-ghost use Rattle.unify.specs.Laws.{OwnersAgree, NothingSparedAllOwned, ReadHostsSpareNothing, ReadSitesAreWhole};
+ghost use Rattle.unify.specs.Laws.{OwnersAgree, ReadSitesAreWhole};
+ghost use Rattle.unify.specs.Laws.{NothingSparedAllOwned, ReadHostsSpareNothing};
 ghost use Rattle.unify.specs.Laws.{EmptyPinsAreNone, PassesReadTheSite, CostsAgree};
-ghost use Rattle.unify.specs.Believed.{OutcomesAreBelieved, DoneKeepsPrintedNames, RunsKeepNames, NumbersTellNames, NamedFilesHaveTheirNames};
+ghost use Rattle.unify.specs.Believed.{OutcomesAreBelieved, DoneKeepsPrintedNames, RunsKeepNames};
+ghost use Rattle.unify.specs.Believed.{NumbersTellNames, NamedFilesHaveTheirNames};
 ghost use Rattle.unify.specs.TwoPasses.{TwoPassesAreBelieved, SecondReadingIsBelieved, SecondReadingIsRight};
 ghost use Rattle.unify.specs.HostTexts.{HostsKeepOwnFiles, TablesAreOfTexts};
 ghost use Rattle.unify.specs.Agreeing.{PrintedCertificatesAreAccepted, PrintedMapsAreCounted, NoMapRewritesFewer, PrintedPlansAreRehearsed};

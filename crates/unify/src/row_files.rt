@@ -47,7 +47,8 @@ fn add_one(files: &mut Vec<u64>, place: Option<usize>)
     requires within { IfSome place (λ at. at < length files.old.items) }
     requires room { IfSome place (λ at. slice_index_or files.old.items at 0 ≤ 2147483648) }
     ensures counted { IfSome place
-        (λ at. files.new.items ≡ set files.old.items at (slice_index_or files.old.items at 0 + 1)) }
+        (λ at. files.new.items
+        ≡ set files.old.items at (slice_index_or files.old.items at 0 + 1)) }
     ensures stays { IfNone place (files.new.items ≡ files.old.items) }
 {
     if let Some(place) = place {
