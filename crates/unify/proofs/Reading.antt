@@ -35,7 +35,7 @@ use Rattle.unify_texts.specs.declared.bundle_line.FileName.TheVariants as file
 use Rattle.unify.specs.declared.host.Loaded.{Loaded}
 use Rattle.unify.specs.Count.{site_of}
 use Rattle.unify.specs.Hosts.{host_of, files_of, sparing_none}
-use Rattle.unify.specs.Laws.{IsReadHost, IsWhole, ReadHostsSpareNothing, ReadSitesAreWhole, NothingSparedAllOwned, OwnersAgree}
+use Rattle.unify.specs.Laws.{HaveAccounts, IsReadHost, IsWhole, ReadHostsSpareNothing, ReadSitesAreWhole, NothingSparedAllOwned, OwnersAgree}
 use Rattle.unify.specs.Outcomes.{hosts_in}
 use Rattle.unify.specs.Reading.{WholeSite, added_on, added_from, site_read}
 use Rattle.unify.specs.Sparing.{AreOwnedOrReserved, SparesNothing}
@@ -331,16 +331,17 @@ unowned-from joined start (here ∷ more) each_host =
     (unowned-from joined (start + 1) more (λ h host files at. subst (λ n. All (λ f. unowned joined n f.uid f.gid ≡ None) files) (omega arith) (each_host (suc h) host files at)))
 
 pub nothing_spared_all_owned : NothingSparedAllOwned
-nothing_spared_all_owned site whole none =
-    let have = λ (h : ℕ) (host : Host) (files : List Entry) (here : slice_get site.hosts h ≡ Some (host, files)).
-    let there : slice_get (hosts_in site) h ≡ Some host = slice_get-map (λ (x : Host × List Entry). x.0) site.hosts h ∙ ap (option_map (λ (x : Host × List Entry). x.0)) here in
-    let unsparing = all-at SparesNothing (hosts_in site) h host none there in
-    λ k d l. accounts_there host (get_or files k d).uid (get_or files k d).gid unsparing ((whole.each_host h host files here).allowed k d l) in
-    record {
-      by_tables = have;
-      over_all_hosts = unowned-from site.joined 0 site.hosts (λ h host files here k d l.
-          let f = get_or files k d in
-          let has = have h host files here k d l in
-          let from_zero : h ≡ 0 + h = omega arith in
-          subst (λ n. unowned site.joined n f.uid f.gid ≡ None) from_zero (owned-there site.joined h host f.uid f.gid (whole.each_host h host files here).known has.user has.group));
-    }
+nothing_spared_all_owned site whole none = record {
+  by_tables = have;
+  over_all_hosts = unowned-from site.joined 0 site.hosts (λ h host files here k d l.
+      let f = get_or files k d in
+      let has = have h host files here k d l in
+      let from_zero : h ≡ 0 + h = omega arith in
+      subst (λ n. unowned site.joined n f.uid f.gid ≡ None) from_zero (owned-there site.joined h host f.uid f.gid (whole.each_host h host files here).known has.user has.group));
+}
+  where
+    have : (h : ℕ) (host : Host) (files : List Entry) → slice_get site.hosts h ≡ Some (host, files) → All (λ f. HaveAccounts host f.uid f.gid) files
+    have h host files here =
+        let there : slice_get (hosts_in site) h ≡ Some host = slice_get-map (λ (x : Host × List Entry). x.0) site.hosts h ∙ ap (option_map (λ (x : Host × List Entry). x.0)) here in
+        let unsparing = all-at SparesNothing (hosts_in site) h host none there in
+        λ k d l. accounts_there host (get_or files k d).uid (get_or files k d).gid unsparing ((whole.each_host h host files here).allowed k d l)
