@@ -2,20 +2,17 @@
 use Rattle.std.proofs.Common.{◌≡◌, ◌⊎◌, ℕ, zero, suc, ◌+◌, ◌<◌, ◌≤◌, ◌↔◌, true, false, List, [], ◌∷◌, length, get_or, map, Option, Some, None, refl, sym, ap, subst, ◌∙◌, arith}
 use Rattle.std.specs.List.{slice_get}
 use Rattle.std.specs.Option.{is_some, option_map}
-use Rattle.std.specs.Str.{bytes_eq}
 use Rattle.std.proofs.lemmas.List.Elements.{All-weaker}
 use Rattle.std.proofs.lemmas.Option.{slice_get-map}
-use Rattle.hosts_join.specs.Accounts.{Account, Accounts, Pair, nobody, place_of}
+use Rattle.hosts_join.specs.Accounts.{Accounts, Pair}
+use Rattle.hosts_join.specs.Kinds.{user_at, group_at}
 use Rattle.hosts_join.specs.Pairs.{number_of}
-use Rattle.hosts_join.specs.Rules.{account, is_name}
+use Rattle.hosts_join.specs.Rules.{account}
 use Rattle.hosts_join.specs.Site.{Joined}
 use Rattle.hosts_join.specs.declared.host.Host.{Host}
-use Rattle.hosts_join.proofs.Grouping.{bytes_same}
-use Rattle.hosts_join.proofs.Pairing.{place-holds}
 use Rattle.mtree_inv.specs.declared.entry.Entry.{Entry}
-use Rattle.ownership.specs.Mappings.{IsAdmissible, Mappings, number_at}
+use Rattle.ownership.specs.Mappings.{IsAdmissible, Mappings}
 use Rattle.certcheck.specs.Reading.{certificate_in}
-use Rattle.certcheck.proofs.Missing.{any_is_place}
 use Rattle.certcheck.proofs.Spelled.{spelled_is_read}
 use Rattle.reown_plan.specs.Owners.{owner_of}
 use Rattle.reown_plan.specs.PlanData.{PlanData}
@@ -33,33 +30,20 @@ use Rattle.reown_runner.proofs.Runs.{runs_sound}
 use Rattle.unify_texts.specs.WrittenMap.{SayMapping}
 use Rattle.unify_texts.specs.declared.map_text.MapText.{MapText}
 use Rattle.unify.specs.declared.outcome.Outcome.{Outcome}
-use Rattle.unify.specs.Believed.{OutcomesAreBelieved, NumbersTellNames}
+use Rattle.unify.specs.Believed.{OutcomesAreBelieved, NamedFilesHaveTheirNames, NumbersTellNames, WereOne}
 use Rattle.unify.specs.Cost.{cost_of}
-use Rattle.unify.specs.Headline.{HaveOneNumberEach, PlanKeepsNames, IsNamedAsBefore, IsOldOrNamed, KeepsItsNames, fields, untouched}
+use Rattle.unify.specs.Headline.{HaveOneNumberEach, PlanKeepsNames, IsNamedAsBefore, IsNewNumber, IsOldOrNamed, KeepsItsNames, fields, untouched}
 use Rattle.unify.specs.Installed.{AreInstalled}
 use Rattle.unify.specs.Laws.{IsWhole}
 use Rattle.unify.specs.Outcomes.{IsOutcome, cost_in, hosts_in, plan_texts_from}
 use Rattle.unify.specs.Reading.{WholeSite}
 use Rattle.unify.proofs.Costs.{costs_agree}
 use Rattle.unify.proofs.Installed.{are_installed, named_as_before, old_or_named}
-use Rattle.unify.proofs.Keeping.{is_mapping, map_says_mappings, plan_is_old, keeps_names, old_or_kept}
+use Rattle.unify.proofs.Keeping.{ArePairsOf, is_mapping, map_says_mappings, plan_is_old, keeps_names, old_or_kept}
 use Rattle.unify.proofs.SiteRuns.{some_same}
+use Rattle.unify.proofs.Sparing.{numbered_at}
 
 -- ---- one number each
-
--- a name that stands among accounts is that of one of them
-named_at : (a : Accounts) (n : List ℕ) → is_name a.names n ≡ true → (i : ℕ) × (i < length a.names) × (n ≡ (account a i).name)
-named_at a n h = at (place_of a.names n) refl (ap is_some refl ∙ sym (any_is_place (λ (x : Account). bytes_eq n x.name) a.names) ∙ h)
-  where
-    at : (o : Option ℕ) → place_of a.names n ≡ o → is_some o ≡ true → (i : ℕ) × (i < length a.names) × (n ≡ (account a i).name)
-    at None e there = absurd (cc)
-    at (Some i) e there = let holds = place-holds (λ (x : Account). bytes_eq n x.name) a.names i nobody e in (i, holds.0, bytes_same n (account a i).name holds.1)
-
--- a name that has a number has it by its index
-numbered_at : (a : Accounts) (m : List ℕ) (pairs : List Pair) → SayMapping a m pairs → (n : List ℕ) (v : ℕ) → number_of pairs n ≡ Some v → (i : ℕ) × (i < length a.names) × (n ≡ (account a i).name) × (number_at m i ≡ v)
-numbered_at a m pairs say n v h =
-    let at = named_at a n (sym (say.names n) ∙ ap is_some h) in
-    (at.0, at.1, at.2, some_same (number_at m at.0) v (sym (say.numbers at.0 at.1) ∙ ap (number_of pairs) (sym at.2) ∙ h))
 
 one_number_each : (a : Accounts) (m : List ℕ) (pairs : List Pair) → IsAdmissible a m → SayMapping a m pairs → HaveOneNumberEach a m pairs
 one_number_each a m pairs ok say = record {
@@ -97,9 +81,9 @@ name_is site h host files here =
     let there : slice_get (hosts_in site) h ≡ Some host = slice_get-map (λ (x : Host × List Entry). x.0) site.hosts h ∙ ap (option_map (λ (x : Host × List Entry). x.0)) here in
     read_at (map (λ (x : Host). x.name) (hosts_in site)) h [] host.name (slice_get-map (λ (x : Host). x.name) (hosts_in site) h ∙ ap (option_map (λ (x : Host). x.name)) there)
 
-plan_keeps : (site : WholeSite) (outcome : Outcome) → IsWhole site → (o : IsOutcome site outcome) (printed : MapText) → SayMapping site.joined.users o.mappings.users printed.users → SayMapping site.joined.groups o.mappings.groups printed.groups
+plan_keeps : (site : WholeSite) (outcome : Outcome) → IsWhole site → (o : IsOutcome site outcome) (printed : MapText) → ArePairsOf site.joined o.mappings printed
     → (installed : AreInstalled site outcome o.mappings printed) → (h : ℕ) (host : Host) (files : List Entry) → slice_get site.hosts h ≡ Some (host, files) → PlanKeepsNames printed installed.passwd.rows installed.group.rows outcome.plans h host files
-plan_keeps site outcome whole o printed users groups installed h host files here =
+plan_keeps site outcome whole o printed are_pairs installed h host files here =
     let m = o.mappings in
     let is = whole.each_host h host files here in
     let records = plan_of site.joined m.users m.groups h files in
@@ -123,12 +107,12 @@ plan_keeps site outcome whole o printed users groups installed h host files here
       at_every_moment = λ asked runs end are image is_image.
           let safe = runs_sound (owner_in files) records lawful.distinct (untouched asked files) runs end start are in
           All-weaker (λ f. (image.owner f.path ≡ Some (owner_of f)) ⊎ KeepsItsNames printed host image.owner f) (IsOldOrNamed printed installed.passwd.rows installed.group.rows host image.owner) (old_or_named site outcome m printed installed host image.owner) files
-          (old_or_kept site.joined m printed users groups h host files is image (old_or_new (owner_in files) records image old (safe.safe image is_image)));
+          (old_or_kept site.joined m printed are_pairs h host files is image (old_or_new (owner_in files) records image old (safe.safe image is_image)));
       kept = λ asked runs end are done image is_image.
           let safe = runs_sound (owner_in files) records lawful.distinct (untouched asked files) runs end start are in
           let at_done : IsSafeInStep (owner_in files) records Done (cells_at end.state) = subst (λ p. IsSafeInStep (owner_in files) records p (cells_at end.state)) done safe in
           All-weaker (KeepsItsNames printed host image.owner) (IsNamedAsBefore printed installed.passwd.rows installed.group.rows host image.owner) (named_as_before site outcome m printed installed host image.owner) files
-          (keeps_names site.joined m printed users groups h host files is image.owner (done_image (owner_in files) records (cells_at end.state) at_done image is_image).1);
+          (keeps_names site.joined m printed are_pairs h host files is image.owner (done_image (owner_in files) records (cells_at end.state) at_done image is_image).1);
     }
 
 -- no other map changes fewer fields of files
@@ -144,6 +128,7 @@ outcomes_are_believed site outcome whole o =
     let back = map_says_mappings site outcome whole o in
     let ok = o.answered.least.admissible in
     let installed = are_installed site outcome whole o back.pairs back.users back.groups in
+    let are_pairs : ArePairsOf site.joined o.mappings back.pairs = record { users = back.users; groups = back.groups; admissible = ok; leaves = whole.leaves } in
     record {
       map = back.pairs;
       map_read = back.read;
@@ -158,7 +143,7 @@ outcomes_are_believed site outcome whole o =
       potentials_prove_it = o.answered.certified;
       cost_is_told = o.printed.cost ∙ sym (costs_agree site o.mappings back.pairs whole back.users back.groups);
       no_other_map_rewrites_fewer = none_fewer site outcome whole o back.pairs back.users back.groups;
-      a_plan_keeps_names = plan_keeps site outcome whole o back.pairs back.users back.groups installed;
+      a_plan_keeps_names = plan_keeps site outcome whole o back.pairs are_pairs installed;
     }
 
 -- ---- numbers and names
@@ -169,8 +154,35 @@ same_names a m pairs have name other v w one two = (
   (λ e. some_same v w (sym one ∙ ap (number_of pairs) e ∙ two)),
 )
 
+-- new numbers are one exactly where the old ones were one
+were_one : (a : Accounts) (m : List ℕ) (pairs : List Pair) → HaveOneNumberEach a m pairs → (told also : Option (List ℕ)) (number another v w : ℕ) → IsNewNumber told pairs number v → IsNewNumber also pairs another w
+    → (v ≡ w) ↔ WereOne told number also another
+were_one a m pairs have (Some name) (Some other) number another v w one two = same_names a m pairs have name other v w one two
+were_one a m pairs have (Some name) None number another v w one two = ((λ e. two.1 name (one ∙ ap (λ (n : ℕ). Some n) e)), (λ bad. absurd bad))
+were_one a m pairs have None (Some other) number another v w one two = ((λ e. one.1 other (two ∙ ap (λ (n : ℕ). Some n) (sym e))), (λ bad. absurd bad))
+were_one a m pairs have None None number another v w one two = ((λ e. sym one.0 ∙ e ∙ two.0), (λ e. one.0 ∙ e ∙ sym two.0))
+
 pub numbers_tell_names : NumbersTellNames
 numbers_tell_names users groups m n printed by_user by_group host other tree other_tree file other_file one two = (
-  same_names users m printed.users by_user one.user two.user one.now.uid two.now.uid one.has_user two.has_user,
-  same_names groups n printed.groups by_group one.group two.group one.now.gid two.now.gid one.has_group two.has_group,
+  were_one users m printed.users by_user (user_at host.users file.uid) (user_at other.users other_file.uid) file.uid other_file.uid one.now.uid two.now.uid one.user two.user,
+  were_one groups n printed.groups by_group (group_at host.groups file.gid) (group_at other.groups other_file.gid) file.gid other_file.gid one.now.gid two.now.gid one.group two.group,
 )
+
+named_before : (told : Option (List ℕ)) (pairs : List Pair) (number v : ℕ) → IsNewNumber told pairs number v → is_some told ≡ true → (name : List ℕ) × (told ≡ Some name) × (number_of pairs name ≡ Some v)
+named_before (Some name) pairs number v is there = (name, refl, is)
+named_before None pairs number v is there = absurd (cc)
+
+pub named_files_have_their_names : NamedFilesHaveTheirNames
+named_files_have_their_names printed host tree file kept has =
+    let user = named_before (user_at host.users file.uid) printed.users file.uid kept.now.uid kept.user has.user in
+    let group = named_before (group_at host.groups file.gid) printed.groups file.gid kept.now.gid kept.group has.group in
+    record {
+      now = kept.now;
+      here = kept.here;
+      user = user.0;
+      had_user = user.1;
+      has_user = user.2;
+      group = group.0;
+      had_group = group.1;
+      has_group = group.2;
+    }

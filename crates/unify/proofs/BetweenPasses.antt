@@ -8,7 +8,7 @@ use Rattle.std.proofs.lemmas.List.{length-map, take_more}
 use Rattle.std.proofs.lemmas.List.Elements.{All-head, All-map, All-tail}
 use Rattle.idtext.specs.First.{first_fault}
 use Rattle.hosts_join.specs.Checks.{is_host_name}
-use Rattle.hosts_join.specs.Hosts.{IsLawfulHost}
+use Rattle.hosts_join.specs.Hosts.{IsLawfulHost, SparesReserved}
 use Rattle.hosts_join.specs.Site.{Joined}
 use Rattle.hosts_join.specs.declared.host.Host.{Host}
 use Rattle.hosts_join.proofs.Refusals.{count_by-of-map}
@@ -33,7 +33,7 @@ use Rattle.unify.specs.SecondPass.{IsFreshTurn, IsSolvedFrom, IsSolving, SolvedV
 use Rattle.ownership.specs.HostFiles.{AreOfHost, AreRowCounts}
 use Rattle.ownership.proofs.HostFiles.{owned_few}
 use Rattle.unify.proofs.Adding.{added_from-push}
-use Rattle.unify.proofs.Ended.{AreFilesAt, AreOwned, IsOver, all_owned, over_stands, read_length}
+use Rattle.unify.proofs.Ended.{AreFilesAt, IsOver, all_few, over_stands, read_length}
 use Rattle.unify.proofs.Reading.{all-at, all-owned, read-host-of}
 use Rattle.unify.proofs.Whole.{hosts_held}
 
@@ -56,12 +56,14 @@ over_whole c joined ended whole over were =
       all-at (λ (h : Host). is_host_name h.name ≡ true) c.hosts k l.host whole.named here,
       all-at WasRead c.hosts k l.host whole.read here,
       all-at IsLawfulHost c.hosts k l.host whole.lawful here,
+      all-at (SparesReserved joined) c.hosts k l.host whole.spares here,
       whole.known k l.host here,
     )) in
     record {
       few_hosts = omega (arith, whole.few, over, read_length c ended were);
       together = subst (λ hs. AreJoined hs joined) (hosts_held c.hosts ended were.read (were.ended_are ∙ over) were.accepted).0 whole.together;
       lawful = whole.accounts;
+      leaves = whole.leaves;
       each_host = each_host;
       owned = all-owned joined were.read each_host;
     }
@@ -73,23 +75,23 @@ abbrev pub files_before : List (Host × List Entry) → ℕ → List Added
 files_before read index = added_from 0 (take index read)
 
 -- there are few
-few_before : (start : ℕ) (read : List (Host × List Entry)) (index : ℕ) → All (λ here. AreOwned here.0 here.1) read → length (added_from start (take index read)) ≤ length read * 16777216
-few_before start [] zero owned = omega arith
-few_before start [] (suc index) owned = omega arith
-few_before start (here ∷ read) zero owned = omega arith
-few_before start (here ∷ read) (suc index) owned = omega (
+few_before : (start : ℕ) (read : List (Host × List Entry)) (index : ℕ) → All (λ here. length here.1 ≤ 16777216) read → length (added_from start (take index read)) ≤ length read * 16777216
+few_before start [] zero few = omega arith
+few_before start [] (suc index) few = omega arith
+few_before start (here ∷ read) zero few = omega arith
+few_before start (here ∷ read) (suc index) few = omega (
   arith,
   length-append (map (added_on start) here.1) (added_from (start + 1) (take index read)),
   length-map here.1 (added_on start),
-  (All-head (λ (h : Host × List Entry). AreOwned h.0 h.1) here read owned).few,
-  few_before (start + 1) read index (All-tail (λ (h : Host × List Entry). AreOwned h.0 h.1) here read owned),
+  All-head (λ (h : Host × List Entry). length h.1 ≤ 16777216) here read few,
+  few_before (start + 1) read index (All-tail (λ (h : Host × List Entry). length h.1 ≤ 16777216) here read few),
 )
 
 pub room_before : (c : InventoriesValue) (joined : Joined) (counted : Counted) (ended : List (List ℕ)) (were : StandsFor c ended []) (index : ℕ) → IsOver c → length c.hosts ≤ 64 → counts.StandsFor joined counted (files_before were.read index)
     → (counted.user_files ≤ 1073741824) × (counted.group_files ≤ 1073741824)
 room_before c joined counted ended were index over few stands =
     let files = files_before were.read index in
-    let all : length files ≤ 1073741824 = omega (arith, few_before 0 were.read index (all_owned (loaded_from c.hosts ended) were.read were.accepted), read_length c ended were, over, few) in (
+    let all : length files ≤ 1073741824 = omega (arith, few_before 0 were.read index (all_few (loaded_from c.hosts ended) were.read were.accepted), read_length c ended were, over, few) in (
       omega (arith, stands.user_files, owned_few joined.users.names (λ f. f.uid) files, all),
       omega (arith, stands.group_files, owned_few joined.groups.names (λ f. f.gid) files, all),
     )
@@ -108,7 +110,7 @@ module _ (index : ℕ) (host : Host) (rows : RowFiles) (read : List (Host × Lis
   }
 
   pub few_here : length files_here ≤ 16777216
-  few_here = omega (arith, length-map at.files (added_on index), at.owned.few)
+  few_here = omega (arith, length-map at.files (added_on index), at.few)
 
   pub more_files : files_before read (index + 1) ≡ files_before read index ++ files_here
   more_files = ap (added_from 0) (take_more read index (host, []) at.within ∙ ap (λ (p : Host × List Entry). take index read ++ p ∷ []) at.here)

@@ -1,4 +1,5 @@
--- Two lists of files of which each row of a host's tables owns as many: whatever is asked of a file's number, as many pass.
+-- Two lists of files of which each row of a host's tables owns as many: whatever is asked of a file's number that only numbers of
+-- rows pass, as many pass.
 use Rattle.std.proofs.Common.{◌≡◌, ℕ, suc, ◌+◌, ◌<◌, Bool, true, false, cond, List, [], ◌∷◌, length, map, get_or, Some, refl, sym, ap, subst, ◌∙◌, arith, inl, inr, ◌==◌}
 use Rattle.std.specs.List.{All, count_by, find, slice_get, sum_by}
 use Rattle.std.specs.Option.{is_some}
@@ -57,6 +58,17 @@ module _ {R : Type 0} (number : R → ℕ) where
         let here : told n r ≡ 0 = ap (λ (b : Bool). cond {A = ℕ} (P (number r)) (cond {A = ℕ} b 1 0) 0) (All-head is r rows none) ∙ no_more (P (number r)) in
         omega (arith, sum_by-cons (told n) r rows, here, missed n rows (All-tail is r rows none))
 
+    -- none tells of a number that does not pass
+    unpassed : (n : ℕ) (rows : List R) → P n ≡ false → sum_by (told n) rows ≡ 0
+    unpassed n [] fails = refl
+    unpassed n (r ∷ rows) fails = omega (arith, sum_by-cons (told n) r rows, here, unpassed n rows fails)
+      where
+        here : told n r ≡ 0
+        here = elim (cases_Bool (n == number r)) [
+          | inl t ↦ ap (λ (b : Bool). cond {A = ℕ} b (cond {A = ℕ} (n == number r) 1 0) 0) (ap P (sym (eqb-true n (number r) t)) ∙ fails)
+          | inr f ↦ ap (λ (b : Bool). cond {A = ℕ} (P (number r)) (cond {A = ℕ} b 1 0) 0) f ∙ no_more (P (number r))
+        ]
+
     -- of rows that are numbered apart, one of which has the number, one tells of it
     hit : (n : ℕ) (rows : List R) → AreApart rows → is_some (find (λ r. n == number r) rows) ≡ true → sum_by (told n) rows ≡ cond {A = ℕ} (P n) 1 0
     hit n [] are there = absurd (cc)
@@ -70,6 +82,13 @@ module _ {R : Type 0} (number : R → ℕ) where
           let here : told n r ≡ 0 = ap (λ (b : Bool). cond {A = ℕ} (P (number r)) (cond {A = ℕ} b 1 0) 0) f ∙ no_more (P (number r)) in
           let later : is_some (find (λ q. n == number q) rows) ≡ true = rw f at there in
           omega (arith, sum_by-cons (told n) r rows, here, hit n rows are.1 later)
+    ]
+
+    -- where each number that passes is some row's
+    told_once : (n : ℕ) (rows : List R) → AreApart rows → (P n ≡ true → is_some (find (λ r. n == number r) rows) ≡ true) → sum_by (told n) rows ≡ cond {A = ℕ} (P n) 1 0
+    told_once n rows are there = elim (cases_Bool (P n)) [
+      | inl t ↦ hit n rows are (there t)
+      | inr f ↦ unpassed n rows f ∙ sym (ap (λ (b : Bool). cond {A = ℕ} b 1 0) f)
     ]
 
     module _ {E : Type 0} (of : E → ℕ) where
@@ -91,11 +110,10 @@ module _ {R : Type 0} (number : R → ℕ) where
           omega (arith, sum_by-cons (passing (e ∷ files)) r rows, sum_by-cons (told (of e)) r rows, sum_by-cons (passing files) r rows, here, one_more e files rows)
 
       -- the files that pass, counted row by row
-      pub by_rows : (rows : List R) → AreApart rows → (files : List E) → All (λ e. is_some (find (λ r. of e == number r) rows) ≡ true) files → count_by (λ e. P (of e)) files ≡ sum_by (passing files) rows
+      pub by_rows : (rows : List R) → AreApart rows → (files : List E) → ((n : ℕ) → P n ≡ true → is_some (find (λ r. n == number r) rows) ≡ true) → count_by (λ e. P (of e)) files ≡ sum_by (passing files) rows
       by_rows rows are [] there = sym (nothing rows)
       by_rows rows are (e ∷ files) there =
-          let is = λ (x : E). is_some (find (λ r. of x == number r) rows) ≡ true in
-          omega (arith, sum_by-cons (λ (x : E). cond {A = ℕ} (P (of x)) 1 0) e files, one_more e files rows, hit (of e) rows are (All-head is e files there), by_rows rows are files (All-tail is e files there))
+          omega (arith, sum_by-cons (λ (x : E). cond {A = ℕ} (P (of x)) 1 0) e files, one_more e files rows, told_once (of e) rows are (there (of e)), by_rows rows are files there)
 
       rows_same : (files others : List E) (rows : List R) → map (owned files) rows ≡ map (owned others) rows → sum_by (passing files) rows ≡ sum_by (passing others) rows
       rows_same files others [] same = refl
@@ -105,9 +123,9 @@ module _ {R : Type 0} (number : R → ℕ) where
           let here : passing files r ≡ passing others r = ap (λ n. cond {A = ℕ} (P (number r)) n 0) head in
           omega (arith, sum_by-cons (passing files) r rows, sum_by-cons (passing others) r rows, here, rows_same files others rows tail)
 
-      pub as_many : (rows : List R) → AreApart rows → (files others : List E) → All (λ e. is_some (find (λ r. of e == number r) rows) ≡ true) files → All (λ e. is_some (find (λ r. of e == number r) rows) ≡ true) others
+      pub as_many : (rows : List R) → AreApart rows → (files others : List E) → ((n : ℕ) → P n ≡ true → is_some (find (λ r. n == number r) rows) ≡ true)
           → map (owned files) rows ≡ map (owned others) rows → count_by (λ e. P (of e)) files ≡ count_by (λ e. P (of e)) others
-      as_many rows are files others there also same = by_rows rows are files there ∙ rows_same files others rows same ∙ sym (by_rows rows are others also)
+      as_many rows are files others there same = by_rows rows are files there ∙ rows_same files others rows same ∙ sym (by_rows rows are others there)
 
 -- ---- the files of all hosts
 

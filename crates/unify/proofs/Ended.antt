@@ -1,6 +1,5 @@
 -- Inventories of which no host is left.
 use Rattle.std.proofs.Common.{◌≡◌, ℕ, ◌+◌, ◌<◌, ◌≤◌, Bool, true, false, cond, List, [], ◌∷◌, ◌++◌, length, take, get_or, Option, Some, None, Ok, sym, ap, subst, ◌∙◌, arith}
-use Rattle.std.specs.Prelude.{is_some}
 use Rattle.std.specs.List.{All, slice_get}
 use Rattle.std.proofs.lemmas.List.{get_or-map, length-map, take_more}
 use Rattle.std.proofs.lemmas.List.Sums.{sum_by-le, sum_by_more_le}
@@ -19,11 +18,10 @@ use Rattle.unify.specs.declared.host.Loaded.{Loaded}
 use Rattle.unify.specs.Cost.{changed, cost_of, groups_changed, host_cost, is_number, users_changed}
 use Rattle.unify.specs.Count.{site_of}
 use Rattle.unify.specs.Hosts.{files_of}
-use Rattle.unify.specs.Laws.{HaveAccounts}
 use Rattle.unify.specs.Loading.{loaded_from}
 use Rattle.unify.specs.Passes.{AreComing, InventoriesValue, StandsFor, ended_in, fault_met, met_on}
 use Rattle.unify.specs.RowFiles.{RowFiles, row_files}
-use Rattle.unify.proofs.Owners.{files_read, owners-told}
+use Rattle.unify.proofs.Owners.{files_read}
 use Rattle.unify.proofs.Sites.{cost_more}
 use Rattle.unify.proofs.Whole.{hosts_held}
 
@@ -52,28 +50,14 @@ over_stands c coming over =
 
 -- ---- the files of each host
 
-pub record AreOwned (host : Host) (files : List Entry) : Type 0 where
-  pub owned : All (λ e. HaveAccounts host e.uid e.gid) files
-  pub few : length files ≤ 16777216
-
-owned_of : (l : Loaded) (files : List Entry) → files_of l ≡ Ok files → AreOwned l.host files
-owned_of l files are =
-    let text = files_read l files are in
-    record {
-      owned = λ k d m.
-          let f = get_or files k d in
-          let told = owners-told (is_some (user_at l.host.users f.uid)) (is_some (group_at l.host.groups f.gid)) _ _ (text.1 k d m) in
-          record { user = told.0; group = told.1 };
-      few = inventory-few 16777216 l.mtree files text.0;
-    }
-
-pub all_owned : (loaded : List Loaded) (read : List (Host × List Entry)) → each site_of loaded ≡ Ok read → All (λ here. AreOwned here.0 here.1) read
-all_owned loaded read are = λ k d within.
+-- an inventory has few
+pub all_few : (loaded : List Loaded) (read : List (Host × List Entry)) → each site_of loaded ≡ Ok read → All (λ here. length here.1 ≤ 16777216) read
+all_few loaded read are = λ k d within.
     let here = get_or read k d in
     let from = each-ok site_of loaded read are k here (slice_get-get_or read k d within) in
     let l = from.0 in
     let filed = bind_ok (files_of l) (λ fs. Ok (l.host, fs)) here from.2 in
-    subst (λ (p : Host × List Entry). AreOwned p.0 p.1) (ok_same (l.host, filed.0) here filed.2) (owned_of l filed.0 filed.1)
+    subst (λ (p : Host × List Entry). length p.1 ≤ 16777216) (ok_same (l.host, filed.0) here filed.2) (inventory-few 16777216 l.mtree filed.0 (files_read l filed.0 filed.1).0)
 
 pub read_length : (c : InventoriesValue) (ended : List (List ℕ)) (were : StandsFor c ended []) → length were.read ≡ ended_in c
 read_length c ended were = sym (ap length were.passed ∙ length-map were.read (λ (here : Host × List Entry). row_files here.0 here.1))
@@ -84,7 +68,7 @@ pub record AreFilesAt (read : List (Host × List Entry)) (index : ℕ) (host : H
   pub within : index < length read
   pub here : get_or read index (host, []) ≡ (host, files)
   pub rows_are : rows ≡ row_files host files
-  pub owned : AreOwned host files
+  pub few : length files ≤ 16777216
 
 pub files_at : (c : InventoriesValue) (ended : List (List ℕ)) → IsOver c → (were : StandsFor c ended []) (index : ℕ) (host : Host) (rows : RowFiles) → index < length c.passed → host ≡ get_or c.hosts index host → rows ≡ get_or c.passed index rows
     → AreFilesAt were.read index host rows
@@ -95,13 +79,13 @@ files_at c ended over were index host rows left host_is rows_are =
     let held = (hosts_held c.hosts ended read (were.ended_are ∙ over) were.accepted).0 in
     let host_here : host ≡ p.0 = host_is ∙ ap (λ (hs : List Host). get_or hs index host) held ∙ get_or-map (λ (h : Host × List Entry). h.0) read index (host, []) host within in
     let rows_here : rows ≡ row_files p.0 p.1 = rows_are ∙ ap (λ (rs : List RowFiles). get_or rs index rows) were.passed ∙ get_or-map (λ (here : Host × List Entry). row_files here.0 here.1) read index (host, []) rows within in
-    let all = all_owned (loaded_from c.hosts ended) read were.accepted in
+    let all = all_few (loaded_from c.hosts ended) read were.accepted in
     record {
       files = p.1;
       within = within;
       here = ap (λ (h : Host). (h, p.1)) (sym host_here);
       rows_are = rows_here ∙ ap (λ (h : Host). row_files h p.1) (sym host_here);
-      owned = subst (λ (h : Host). AreOwned h p.1) (sym host_here) (all index (host, []) within);
+      few = all index (host, []) within;
     }
 
 -- ---- the cost of a map
@@ -134,9 +118,9 @@ module _ (names : MapText) (read : List (Host × List Entry)) (index : ℕ) (hos
   cost_room loaded are few =
       let users : Host × List Entry → ℕ = λ p. users_changed names p.0 p.1 in
       let groups : Host × List Entry → ℕ = λ p. groups_changed names p.0 p.1 in
-      let owned = all_owned loaded read are in
-      let most_users = sum_by-le users 16777216 read (λ k d l. omega (arith, users_small names (get_or read k d).0 (get_or read k d).1, (owned k d l).few)) in
-      let most_groups = sum_by-le groups 16777216 read (λ k d l. omega (arith, groups_small names (get_or read k d).0 (get_or read k d).1, (owned k d l).few)) in
+      let few_each = all_few loaded read are in
+      let most_users = sum_by-le users 16777216 read (λ k d l. omega (arith, users_small names (get_or read k d).0 (get_or read k d).1, few_each k d l)) in
+      let most_groups = sum_by-le groups 16777216 read (λ k d l. omega (arith, groups_small names (get_or read k d).0 (get_or read k d).1, few_each k d l)) in
       let one = ap users at.here in
       let two = ap groups at.here in (
         omega (arith, sum_by_more_le users read index (host, []) at.within, most_users, one, ap (λ (k : Cost). k.users) is, ap (λ (k : Cost). k.users) so_far, few),

@@ -1,8 +1,8 @@
 -- A host's own passwd and group with their new numbers keep the names that a finished plan keeps.
-use Rattle.std.proofs.Common.{◌≡◌, inl, inr, ℕ, List, map, Option, Some, None, Ok, refl, sym, ap, ◌∙◌}
-use Rattle.std.specs.List.{slice_get}
+use Rattle.std.proofs.Common.{◌≡◌, inl, inr, ℕ, List, [], ◌∷◌, map, Option, Some, None, Ok, refl, sym, ap, subst, ◌∙◌}
+use Rattle.std.specs.List.{All, AllZip, slice_get}
 use Rattle.std.specs.Option.{option_map}
-use Rattle.std.proofs.lemmas.List.Elements.{All-weaker}
+use Rattle.std.proofs.lemmas.List.Elements.{All-cons, All-nil, All-weaker}
 use Rattle.std.proofs.lemmas.Option.{slice_get-map}
 use Rattle.idtext.specs.First.{each}
 use Rattle.idtext.proofs.OkLemmas.{bind_ok, each-ok, ok_same}
@@ -10,17 +10,21 @@ use Rattle.accounts.specs.Rows.{Passwd, Group}
 use Rattle.accounts.specs.Tables.{passwd_table, group_table}
 use Rattle.mtree_inv.specs.declared.entry.Entry.{Entry}
 use Rattle.hosts_join.specs.Checks.{hosts_checked}
+use Rattle.hosts_join.specs.Accounts.{Pair}
+use Rattle.hosts_join.specs.Kinds.{user_at, group_at}
+use Rattle.hosts_join.specs.Pairs.{number_of}
 use Rattle.hosts_join.specs.PinsText.{pins_of}
 use Rattle.hosts_join.specs.Site.{joined_site}
 use Rattle.hosts_join.specs.declared.host.Host.{Host}
 use Rattle.hosts_join.specs.declared.texts.HostText.{HostText}
-use Rattle.mergedfiles.specs.HostReadBack.{IsHostPasswd, IsHostGroup}
+use Rattle.mergedfiles.specs.HostReadBack.{IsHostPasswd, IsHostGroup, IsRenumberedGroup, IsRenumberedUser}
+use Rattle.mergedfiles.specs.ReadBack.{HasNumber}
 use Rattle.mergedfiles.proofs.HostUsers.{host_passwd_back}
 use Rattle.mergedfiles.proofs.HostGroups.{host_group_back}
 use Rattle.reown_plan.specs.declared.plan.Owner.{Owner}
 use Rattle.unify.specs.declared.host.Loaded.{Loaded}
 use Rattle.unify.specs.declared.outcome.Outcome.{Outcome}
-use Rattle.unify.specs.Headline.{Headline, IsNamedAsBefore, IsOldOrNamed}
+use Rattle.unify.specs.Headline.{Headline, IsNamedAsBefore, IsNewNumber, IsOldOrNamed}
 use Rattle.unify.specs.HostTexts.{HostsKeepOwnFiles, TablesAreOfTexts, own_passwd, own_group}
 use Rattle.unify.specs.Hosts.{host_of}
 use Rattle.unify.specs.Laws.{IsWhole}
@@ -28,20 +32,44 @@ use Rattle.unify.specs.Outcomes.{hosts_in}
 use Rattle.unify.specs.Passes.{BegunSite, site_begun}
 use Rattle.unify.specs.Reading.{WholeSite}
 use Rattle.unify.specs.Told.{in_site, in_pins}
-use Rattle.unify.proofs.Installed.{numbered, paired}
+use Rattle.unify.proofs.Installed.{numbered, paired, unnamed}
 use Rattle.unify.proofs.Reading.{tables-of}
+
+all_right : {X : Type 0} (R : X → X → Type 0) (P : X → Type 0) → ((x y : X) → R x y → P y) → (xs ys : List X) → AllZip R xs ys → All P ys
+all_right R P goes [] [] all = All-nil P
+all_right R P goes [] (y ∷ ys) all = absurd all
+all_right R P goes (x ∷ xs) [] all = absurd all
+all_right R P goes (x ∷ xs) (y ∷ ys) all = All-cons P y ys (goes x y all.0) (all_right R P goes xs ys all.1)
+
+-- a table in which the new rows name each new number as the old ones did, and no other number of a name, names it as told
+as_kept : (pairs : List Pair) (old new : ℕ) (at : Option (List ℕ)) (told : Option (List ℕ)) → ((name : List ℕ) → told ≡ Some name → number_of pairs name ≡ Some new → at ≡ Some name) → (((name : List ℕ) → number_of pairs name ≡ Some new → ⊥) → at ≡ None)
+    → IsNewNumber told pairs old new → at ≡ told
+as_kept pairs old new at (Some name) kept free is = kept name refl is
+as_kept pairs old new at None kept free is = free is.1
 
 module _ (site : WholeSite) (outcome : Outcome) (whole : IsWhole site) (believed : Headline site outcome) (host : Host) (text : HostText) where
   -- a file that has by the map the names that it had has them by the host's own new files
   named_by_own : (passwd : IsHostPasswd host site.joined believed.mappings text.passwd (own_passwd host site.joined believed.mappings text)) (group : IsHostGroup host site.joined believed.mappings text.group (own_group site.joined believed.mappings text))
-      → (users : List Passwd) (groups : List Group) (tree : List ℕ → Option Owner) (file : Entry) → IsNamedAsBefore believed.map users groups host tree file → IsNamedAsBefore believed.map passwd.rows group.rows host tree file
-  named_by_own passwd group users groups tree file named =
+      → (were_users : List Passwd) (were_groups : List Group) (tree : List ℕ → Option Owner) (file : Entry) → IsNamedAsBefore believed.map were_users were_groups host tree file → IsNamedAsBefore believed.map passwd.rows group.rows host tree file
+  named_by_own passwd group were_users were_groups tree file named =
       let m = believed.mappings in
       let by = named.by_map in
+      let users = site.joined.users in
+      let groups = site.joined.groups in
+      let say_users = believed.users_have_one_number_each.say in
+      let say_groups = believed.groups_have_one_number_each.say in
+      let user_rows : All (λ (row : Passwd). HasNumber users m.users row.name row.uid) passwd.rows =
+      all_right (IsRenumberedUser host site.joined m) (λ (row : Passwd). HasNumber users m.users row.name row.uid) (λ was row is. subst (λ n. HasNumber users m.users n row.uid) (sym is.name) is.uid) host.users passwd.rows passwd.by_row in
+      let group_rows : All (λ (row : Group). HasNumber groups m.groups row.name row.gid) group.rows =
+      all_right (IsRenumberedGroup site.joined m) (λ (row : Group). HasNumber groups m.groups row.name row.gid) (λ was row is. subst (λ n. HasNumber groups m.groups n row.gid) (sym is.name) is.gid) host.groups group.rows group.by_row in
       record {
         by_map = by;
-        user_is = passwd.names_are_kept file.uid by.now.uid by.user by.had_user (paired site.joined.users m.users believed.map.users believed.users_have_one_number_each.say by.user by.now.uid by.has_user);
-        group_is = group.names_are_kept file.gid by.now.gid by.group by.had_group (paired site.joined.groups m.groups believed.map.groups believed.groups_have_one_number_each.say by.group by.now.gid by.has_group);
+        user_is = as_kept believed.map.users file.uid by.now.uid (user_at passwd.rows by.now.uid) (user_at host.users file.uid)
+            (λ name had has. passwd.names_are_kept file.uid by.now.uid name had (paired users m.users believed.map.users say_users name by.now.uid has))
+            (unnamed (λ (row : Passwd). row.name) (λ (row : Passwd). row.uid) users m.users believed.map.users say_users by.now.uid passwd.rows user_rows) by.user;
+        group_is = as_kept believed.map.groups file.gid by.now.gid (group_at group.rows by.now.gid) (group_at host.groups file.gid)
+            (λ name had has. group.names_are_kept file.gid by.now.gid name had (paired groups m.groups believed.map.groups say_groups name by.now.gid has))
+            (unnamed (λ (row : Group). row.name) (λ (row : Group). row.gid) groups m.groups believed.map.groups say_groups by.now.gid group.rows group_rows) by.group;
       }
 
   old_or_own : (passwd : IsHostPasswd host site.joined believed.mappings text.passwd (own_passwd host site.joined believed.mappings text)) (group : IsHostGroup host site.joined believed.mappings text.group (own_group site.joined believed.mappings text))

@@ -1,5 +1,5 @@
 -- The merged passwd and group are read back, and say the map's pairs.
-use Rattle.std.proofs.Common.{◌≡◌, ◌⊎◌, ℕ, zero, suc, ◌==◌, true, List, [], ◌∷◌, get_or, Option, Some, refl, sym, ap, subst, ◌∙◌, inl, inr}
+use Rattle.std.proofs.Common.{◌≡◌, ◌⊎◌, ℕ, zero, suc, ◌==◌, true, List, [], ◌∷◌, get_or, Option, Some, None, refl, sym, ap, subst, ◌∙◌, inl, inr}
 use Rattle.std.specs.Prelude.{◌↔◌}
 use Rattle.std.specs.List.{All, find}
 use Rattle.std.specs.Option.{is_some, option_map}
@@ -10,6 +10,7 @@ use Rattle.std.proofs.lemmas.Option.{same_Some, slice_get-get_or}
 use Rattle.accounts.specs.Rows.{Passwd, Group}
 use Rattle.mtree_inv.specs.declared.entry.Entry.{Entry}
 use Rattle.hosts_join.specs.Accounts.{Account, Accounts, Pair, nobody, place_of}
+use Rattle.hosts_join.specs.Kinds.{user_at, group_at}
 use Rattle.hosts_join.specs.Pairs.{number_of}
 use Rattle.hosts_join.specs.Rules.{account, is_name}
 use Rattle.hosts_join.specs.declared.host.Host.{Host}
@@ -24,7 +25,7 @@ use Rattle.reown_plan.specs.Owners.{owner_of}
 use Rattle.unify_texts.specs.declared.map_text.MapText.{MapText}
 use Rattle.unify_texts.specs.WrittenMap.{SayMapping}
 use Rattle.unify.specs.declared.outcome.Outcome.{Outcome}
-use Rattle.unify.specs.Headline.{IsNamedAsBefore, IsOldOrNamed, KeepsItsNames}
+use Rattle.unify.specs.Headline.{IsNamedAsBefore, IsNewNumber, IsOldOrNamed, KeepsItsNames}
 use Rattle.unify.specs.Installed.{AreInstalled}
 use Rattle.unify.specs.Laws.{IsWhole}
 use Rattle.unify.specs.Outcomes.{IsOutcome, hosts_in}
@@ -75,6 +76,14 @@ module _ {Row : Type 0} (name : Row → List ℕ) (number : Row → ℕ) (a : Ac
     | inr f ↦ looked-up n v rows (All-tail (λ row. HasNumber a m (name row) (number row)) row rows all) (rw f at e)
   ]
 
+  -- a number that is no name's is that of no row
+  pub unnamed : (v : ℕ) (rows : List Row) → All (λ row. HasNumber a m (name row) (number row)) rows → ((n : List ℕ) → number_of pairs n ≡ Some v → ⊥) → option_map name (find (λ row. v == number row) rows) ≡ None
+  unnamed v rows all free = by (option_map name (find (λ row. v == number row) rows)) refl
+    where
+      by : (o : Option (List ℕ)) → option_map name (find (λ row. v == number row) rows) ≡ o → option_map name (find (λ row. v == number row) rows) ≡ None
+      by None e = e
+      by (Some n) e = absurd (free n (is-paired a m pairs say n v (looked-up n v rows all e)))
+
   pub agree : (rows : List Row) → All (λ row. HasNumber a m (name row) (number row)) rows → ((n : List ℕ) (v : ℕ) → HasNumber a m n v → option_map name (find (λ row. v == number row) rows) ≡ Some n)
       → (n : List ℕ) (v : ℕ) → (option_map name (find (λ row. v == number row) rows) ≡ Some n) ↔ (number_of pairs n ≡ Some v)
   agree rows all found n v = ((λ e. is-paired a m pairs say n v (looked-up n v rows all e)), (λ e. found n v (paired a m pairs say n v e)))
@@ -114,13 +123,22 @@ are_installed site outcome whole o printed say_users say_groups =
           (All-weaker (IsMergedGroup (hosts_in site) site.joined m) (λ row. HasNumber site.joined.groups m.groups row.name row.gid) (λ row is. is.gid) group.rows group.say.each_row) group.say.each_name;
     }
 
+-- tables that say the pairs name the new number as the old one was
+as_told : (pairs : List Pair) (at : ℕ → Option (List ℕ)) → ((name : List ℕ) (v : ℕ) → (at v ≡ Some name) ↔ (number_of pairs name ≡ Some v)) → (told : Option (List ℕ)) (old new : ℕ) → IsNewNumber told pairs old new → at new ≡ told
+as_told pairs at agree (Some name) old new is = (agree name new).1 is
+as_told pairs at agree None old new is = by (at new) refl
+  where
+    by : (o : Option (List ℕ)) → at new ≡ o → at new ≡ None
+    by None e = e
+    by (Some name) e = absurd (is.1 name ((agree name new).0 e))
+
 -- a file that has by the map the names that it had has them by these files
 pub named_as_before : (site : WholeSite) (outcome : Outcome) (m : Mappings) (printed : MapText) → (installed : AreInstalled site outcome m printed) → (host : Host) (tree : List ℕ → Option Owner) (file : Entry)
     → KeepsItsNames printed host tree file → IsNamedAsBefore printed installed.passwd.rows installed.group.rows host tree file
 named_as_before site outcome m printed installed host tree file kept = record {
   by_map = kept;
-  user_is = (installed.users_agree kept.user kept.now.uid).1 kept.has_user;
-  group_is = (installed.groups_agree kept.group kept.now.gid).1 kept.has_group;
+  user_is = as_told printed.users (λ uid. user_at installed.passwd.rows uid) installed.users_agree (user_at host.users file.uid) file.uid kept.now.uid kept.user;
+  group_is = as_told printed.groups (λ gid. group_at installed.group.rows gid) installed.groups_agree (group_at host.groups file.gid) file.gid kept.now.gid kept.group;
 }
 
 pub old_or_named : (site : WholeSite) (outcome : Outcome) (m : Mappings) (printed : MapText) → (installed : AreInstalled site outcome m printed) → (host : Host) (tree : List ℕ → Option Owner) (file : Entry)

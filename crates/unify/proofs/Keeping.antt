@@ -1,23 +1,25 @@
 -- Files that keep their names.
-use Rattle.std.proofs.Common.{◌≡◌, ◌⊎◌, inl, inr, ℕ, ◌<◌, ◌≤◌, true, List, length, get_or, Option, Some, None, refl, sym, ap, subst, ◌∙◌, arith}
+use Rattle.std.proofs.Common.{◌≡◌, ◌⊎◌, inl, inr, ℕ, ◌<◌, ◌≤◌, Bool, true, List, length, get_or, Option, Some, None, refl, sym, ap, subst, ◌∙◌, arith}
 use Rattle.std.specs.List.{All, filter, find}
 use Rattle.std.specs.Option.{is_some, option_map}
-use Rattle.std.specs.Prelude.{not}
+use Rattle.std.specs.Prelude.{not, ◌||◌}
 use Rattle.std.specs.Str.{bytes_eq}
 use Rattle.std.proofs.lemmas.Bool.{false_from_ne_true}
 use Rattle.std.proofs.lemmas.List.Elements.{All-map, All-filter, All-from_get_or}
 use Rattle.hosts_join.specs.Accounts.{Account, Accounts, Pair, nobody}
-use Rattle.hosts_join.specs.Laws.{IsOwnedAsTold}
+use Rattle.hosts_join.specs.Hosts.{spares_group, spares_user}
+use Rattle.hosts_join.specs.Kinds.{user_at, group_at}
+use Rattle.hosts_join.specs.Laws.{IsOwnedAsTold, LeavesOut}
 use Rattle.hosts_join.specs.Lawful.{AreLawfulAccounts}
 use Rattle.hosts_join.specs.Pairs.{number_of}
-use Rattle.hosts_join.specs.Rules.{account}
+use Rattle.hosts_join.specs.Rules.{account, is_reserved}
 use Rattle.hosts_join.specs.Site.{Joined}
 use Rattle.hosts_join.specs.declared.host.Host.{Host}
 use Rattle.hosts_join.proofs.Grouping.{bytes_same, bytes_refl}
 use Rattle.hosts_join.proofs.Pairing.{place-holds}
 use Rattle.mtree_inv.specs.Files.{HaveDistinctFiles}
 use Rattle.mtree_inv.specs.declared.entry.Entry.{Entry}
-use Rattle.ownership.specs.Mappings.{IsAdmissible, Mappings, number_under}
+use Rattle.ownership.specs.Mappings.{AreAdmissible, IsAdmissible, Mappings, number_under}
 use Rattle.assignment.proofs.Filled.{number_is_id}
 use Rattle.certcheck.proofs.Spots.{find_here}
 use Rattle.reown_plan.specs.declared.plan.Owner.{Owner}
@@ -33,10 +35,12 @@ use Rattle.unify_texts.specs.declared.map_text.MapText.{MapText}
 use Rattle.unify_texts.specs.WrittenMap.{SayMapping, IsMappingOf, ReadsBack}
 use Rattle.unify_texts.proofs.MapNames.{written_map_reads_back}
 use Rattle.unify.specs.declared.outcome.Outcome.{Outcome}
-use Rattle.unify.specs.Headline.{KeepsItsNames}
+use Rattle.unify.specs.Headline.{IsNewNumber, KeepsItsNames}
 use Rattle.unify.specs.Laws.{IsReadHost, IsWhole}
 use Rattle.unify.specs.Outcomes.{IsOutcome}
 use Rattle.unify.specs.Reading.{WholeSite}
+use Rattle.unify.specs.Sparing.{LeavesItsReserved}
+use Rattle.unify.proofs.Sparing.{unreserved}
 
 -- ---- the map
 
@@ -58,12 +62,23 @@ map_says_mappings site outcome whole o =
 
 -- ---- a file
 
--- the pairs give the name of a number on a host the new number
-named : (a : Accounts) (m : List ℕ) (pairs : List Pair) → SayMapping a m pairs → (h v : ℕ) (told : Option (List ℕ)) → is_some told ≡ true → IsOwnedAsTold a.names h v told → (name : List ℕ) × (told ≡ Some name) × (number_of pairs name ≡ Some (renumbered a m h v))
-named a m pairs say h v None there is = absurd (cc)
-named a m pairs say h v (Some name) there is =
+-- the pairs say mappings that leave what is reserved to no name
+pub record ArePairsOf (site : Joined) (m : Mappings) (printed : MapText) : Type 0 where
+  pub users : SayMapping site.users m.users printed.users
+  pub groups : SayMapping site.groups m.groups printed.groups
+  pub admissible : AreAdmissible site m
+  pub leaves : LeavesItsReserved site
+
+-- by the pairs a number that the host allows is renumbered to its new one
+new_number : (a : Accounts) (m : List ℕ) (pairs : List Pair) → SayMapping a m pairs → IsAdmissible a m → LeavesOut a (is_reserved a.reserved)
+    → (h v : ℕ) (told : Option (List ℕ)) (spared : Bool) → IsOwnedAsTold a.names h v told → (spared ≡ true → is_reserved a.reserved v ≡ true) → (is_some told || spared) ≡ true
+    → IsNewNumber told pairs v (renumbered a m h v)
+new_number a m pairs say ok leaves h v (Some name) spared is reserved allowed =
     let at = place-holds (λ (x : Account). bytes_eq name x.name) a.names is.0 nobody is.2 in
-    (name, refl, ap (number_of pairs) (bytes_same name (account a is.0).name at.1) ∙ say.numbers is.0 at.0 ∙ ap (λ o. Some (number_under m o v)) (sym is.1))
+    ap (number_of pairs) (bytes_same name (account a is.0).name at.1) ∙ say.numbers is.0 at.0 ∙ ap (λ o. Some (number_under m o v)) (sym is.1)
+new_number a m pairs say ok leaves h v None spared is reserved allowed =
+    let stays : renumbered a m h v ≡ v = ap (λ o. number_under m o v) is in
+    (stays, (λ name has. unreserved a leaves m pairs ok say name v (has ∙ ap (λ (n : ℕ). Some n) stays) (reserved allowed)))
 
 -- an inventory has each of its files at its owner
 inventory_has : (files : List Entry) → HaveDistinctFiles files → All (λ f. owner_in files f.path ≡ Some (owner_of f)) files
@@ -91,38 +106,32 @@ at_target to files distinct = λ k d l.
     ap (after_record found) (inventory_has files distinct k d l) ∙ after_same found (owner_of f) ∙ ap (λ (o : Owner). Some o) (owner_after-target to files distinct k d l)
 
 -- a file that has its owner after the plan keeps its names
-keeps_name : (site : Joined) (m : Mappings) (printed : MapText) → SayMapping site.users m.users printed.users → SayMapping site.groups m.groups printed.groups
+keeps_name : (site : Joined) (m : Mappings) (printed : MapText) → ArePairsOf site m printed
     → (h : ℕ) (host : Host) (files : List Entry) → IsReadHost site h host files
     → (owner : List ℕ → Option Owner) (k : ℕ) (d : Entry) → k < length files → owner (get_or files k d).path ≡ owner_after_plan (owner_in files) (plan_of site m.users m.groups h files) (get_or files k d).path
     → KeepsItsNames printed host owner (get_or files k d)
-keeps_name site m printed users groups h host files is owner k d l after =
+keeps_name site m printed are h host files is owner k d l after =
     let f = get_or files k d in
-    let has = is.owned k d l in
-    let user = named site.users m.users printed.users users h f.uid _ has.user (is.known.users f.uid) in
-    let group = named site.groups m.groups printed.groups groups h f.gid _ has.group (is.known.groups f.gid) in
+    let allowed = is.allowed k d l in
     record {
       now = target.target site m.users m.groups h f;
       here = after ∙ at_target (target.target site m.users m.groups h) files is.files_are.distinct k d l;
-      user = user.0;
-      had_user = user.1;
-      has_user = user.2;
-      group = group.0;
-      had_group = group.1;
-      has_group = group.2;
+      user = new_number site.users m.users printed.users are.users are.admissible.users are.leaves.users h f.uid (user_at host.users f.uid) (spares_user host f.uid) (is.known.users f.uid) (is.spares.users f.uid) allowed.user;
+      group = new_number site.groups m.groups printed.groups are.groups are.admissible.groups are.leaves.groups h f.gid (group_at host.groups f.gid) (spares_group host f.gid) (is.known.groups f.gid) (is.spares.groups f.gid) allowed.group;
     }
 
 -- a host whose files have their owners after the plan keeps the names of its files
-pub keeps_names : (site : Joined) (m : Mappings) (printed : MapText) → SayMapping site.users m.users printed.users → SayMapping site.groups m.groups printed.groups
+pub keeps_names : (site : Joined) (m : Mappings) (printed : MapText) → ArePairsOf site m printed
     → (h : ℕ) (host : Host) (files : List Entry) → IsReadHost site h host files
     → (owner : List ℕ → Option Owner) → ((path : List ℕ) → owner path ≡ owner_after_plan (owner_in files) (plan_of site m.users m.groups h files) path) → All (KeepsItsNames printed host owner) files
-keeps_names site m printed users groups h host files is owner after = λ k d l. keeps_name site m printed users groups h host files is owner k d l (after (get_or files k d).path)
+keeps_names site m printed are h host files is owner after = λ k d l. keeps_name site m printed are h host files is owner k d l (after (get_or files k d).path)
 
 -- where each path has its old or its new owner, each file is at its old one or keeps its names
-pub old_or_kept : (site : Joined) (m : Mappings) (printed : MapText) → SayMapping site.users m.users printed.users → SayMapping site.groups m.groups printed.groups
+pub old_or_kept : (site : Joined) (m : Mappings) (printed : MapText) → ArePairsOf site m printed
     → (h : ℕ) (host : Host) (files : List Entry) → IsReadHost site h host files
     → (image : Image) → ((path : List ℕ) → IsOldOrNew (owner_in files) (plan_of site m.users m.groups h files) image path) → All (λ f. (image.owner f.path ≡ Some (owner_of f)) ⊎ KeepsItsNames printed host image.owner f) files
-old_or_kept site m printed users groups h host files is image each = λ k d l.
+old_or_kept site m printed are h host files is image each = λ k d l.
     elim (each (get_or files k d).path) [
       | inl old ↦ inl (old ∙ inventory_has files is.files_are.distinct k d l)
-      | inr new ↦ inr (keeps_name site m printed users groups h host files is image.owner k d l new)
+      | inr new ↦ inr (keeps_name site m printed are h host files is image.owner k d l new)
     ]

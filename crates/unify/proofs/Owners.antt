@@ -1,7 +1,9 @@
--- Files with owners by their host's own tables have them among the site's accounts.
-use Rattle.std.proofs.Common.{◌≡◌, ℕ, Bool, true, false, cond, List, [], ◌∷◌, ◌++◌, get_or, Option, Some, None, Result, Ok, Err, refl, sym, ap, subst, ◌∙◌}
+-- Files with owners by their host's own tables have them among the site's accounts, and those with spared numbers have reserved
+-- ones.
+use Rattle.std.proofs.Common.{◌≡◌, ℕ, Bool, true, false, cond, List, [], ◌∷◌, ◌++◌, Option, Some, None, Result, Ok, Err, refl, sym, ap, subst, ◌∙◌}
 use Rattle.std.specs.List.{All}
 use Rattle.std.specs.Option.{is_some}
+use Rattle.std.specs.Prelude.{◌||◌}
 use Rattle.std.proofs.lemmas.List.Elements.{All-nil, All-cons}
 use Rattle.idtext.specs.First.{first_fault, or_else, unless}
 use Rattle.idtext.specs.declared.faults.TextFault.{TextFault}
@@ -9,6 +11,7 @@ use Rattle.idtext.proofs.OkLemmas.{bind_ok, ok_same, unless_ok}
 use Rattle.mtree_inv.specs.declared.entry.Entry.{Entry}
 use Rattle.mtree_inv.specs.Inventory.{inventory}
 use Rattle.hosts_join.specs.Accounts.{Account, owner}
+use Rattle.hosts_join.specs.Hosts.{SparesReserved, spares_group, spares_user}
 use Rattle.hosts_join.specs.Kinds.{user_at, group_at}
 use Rattle.hosts_join.specs.Laws.{IsOwnedAsTold, KnowsHost}
 use Rattle.hosts_join.specs.Site.{Joined}
@@ -17,7 +20,8 @@ use Rattle.ownership.specs.Faults.{unowned, uid_fault, gid_fault}
 use Rattle.unify_texts.specs.declared.bundle_line.FileName.{FileName}
 use Rattle.unify_texts.specs.declared.bundle_line.FileName.TheVariants as file
 use Rattle.unify.specs.declared.host.Loaded.{Loaded}
-use Rattle.unify.specs.Hosts.{owner_fault, files_of}
+use Rattle.unify.specs.Hosts.{allows_gid, allows_uid, owner_fault, files_of}
+use Rattle.unify.specs.Sparing.{AreAllowed, AreOwnedOrReserved}
 use Rattle.unify.specs.Told.{in_file}
 
 pub file_ok : {A : Type 0} (host : List ℕ) (name : FileName) (r : Result A TextFault) (x : A) → in_file host name r ≡ Ok x → r ≡ Ok x
@@ -48,7 +52,7 @@ files_read loaded files h =
       subst (λ fs. All (λ f. owner_fault loaded.host [] f ≡ None) fs) same (none_fails (owner_fault loaded.host []) [] first.0 checked.0),
     )
 
-owner-told : (names : List Account) (h v : ℕ) (told : Option (List ℕ)) → IsOwnedAsTold names h v told → is_some (owner names h v) ≡ is_some told
+pub owner-told : (names : List Account) (h v : ℕ) (told : Option (List ℕ)) → IsOwnedAsTold names h v told → is_some (owner names h v) ≡ is_some told
 owner-told names h v (Some name) is = ap is_some is.1
 owner-told names h v None is = ap is_some is
 
@@ -79,8 +83,17 @@ owners-told true true e f h = (refl, refl)
 owners-told true false e f h = absurd (cc)
 owners-told false group e f h = absurd (cc)
 
-pub all-owned : (site : Joined) (h : ℕ) (host : Host) (files : List Entry) → KnowsHost site h host → All (λ f. owner_fault host [] f ≡ None) files → All (λ f. unowned site h f.uid f.gid ≡ None) files
-all-owned site h host files knows none = λ k d l.
-    let f = get_or files k d in
-    let told = owners-told (is_some (user_at host.users f.uid)) (is_some (group_at host.groups f.gid)) _ _ (none k d l) in
-    owned-there site h host f.uid f.gid knows told.0 told.1
+-- the numbers of a file without an owner fault are allowed
+pub allowed : (host : Host) (file : Entry) → owner_fault host [] file ≡ None → AreAllowed host file.uid file.gid
+allowed host file none = let told = owners-told (allows_uid host file.uid) (allows_gid host file.gid) _ _ none in record { user = told.0; group = told.1 }
+
+or-weaker : (a b c d : Bool) → a ≡ c → (b ≡ true → d ≡ true) → (a || b) ≡ true → (c || d) ≡ true
+or-weaker true b c d same more h = ap (λ x. x || d) (sym same)
+or-weaker false b c d same more h = ap (λ x. x || d) (sym same) ∙ more h
+
+-- and by the accounts over all hosts they are owned or reserved
+pub owned-or-reserved : (site : Joined) (h : ℕ) (host : Host) (uid gid : ℕ) → KnowsHost site h host → SparesReserved site host → AreAllowed host uid gid → AreOwnedOrReserved site h uid gid
+owned-or-reserved site h host uid gid knows spares are = record {
+  user = or-weaker (is_some (user_at host.users uid)) (spares_user host uid) _ _ (sym (owner-told site.users.names h uid (user_at host.users uid) (knows.users uid))) (spares.users uid) are.user;
+  group = or-weaker (is_some (group_at host.groups gid)) (spares_group host gid) _ _ (sym (owner-told site.groups.names h gid (group_at host.groups gid) (knows.groups gid))) (spares.groups gid) are.group;
+}

@@ -17,7 +17,7 @@ use Rattle.logindefs.proofs.SetLemmas.{shared-both}
 use Rattle.mtree_inv.specs.declared.entry.Entry.{Entry}
 use Rattle.mtree_inv.proofs.LawfulLemmas.{inventory-files}
 use Rattle.hosts_join.specs.Checks.{hosts_checked, is_host_name, name_fault, primary_checked}
-use Rattle.hosts_join.specs.Hosts.{IsLawfulHost}
+use Rattle.hosts_join.specs.Hosts.{IsLawfulHost, SparesReserved}
 use Rattle.hosts_join.specs.Kinds.{user_at, group_at}
 use Rattle.hosts_join.specs.Laws.{KnowsHost}
 use Rattle.hosts_join.specs.PinPairs.{PinPairs}
@@ -34,11 +34,14 @@ use Rattle.ownership.specs.Files.{Added}
 use Rattle.unify_texts.specs.declared.bundle_line.FileName.TheVariants as file
 use Rattle.unify.specs.declared.host.Loaded.{Loaded}
 use Rattle.unify.specs.Count.{site_of}
-use Rattle.unify.specs.Hosts.{host_of, files_of}
-use Rattle.unify.specs.Laws.{IsReadHost, ReadSitesAreWhole, OwnersAgree}
+use Rattle.unify.specs.Hosts.{host_of, files_of, sparing_none}
+use Rattle.unify.specs.Laws.{HaveAccounts, IsReadHost, IsWhole, ReadHostsSpareNothing, ReadSitesAreWhole, NothingSparedAllOwned, OwnersAgree}
+use Rattle.unify.specs.Outcomes.{hosts_in}
 use Rattle.unify.specs.Reading.{WholeSite, added_on, added_from, site_read}
+use Rattle.unify.specs.Sparing.{AreOwnedOrReserved, SparesNothing}
 use Rattle.unify.specs.Told.{in_file, in_site, in_pins}
-use Rattle.unify.proofs.Owners.{file_ok, files_read, none_both, owned-there, owned-here, owners-told}
+use Rattle.unify.proofs.Owners.{allowed, file_ok, files_read, none_both, owned-there, owned-here, owned-or-reserved}
+use Rattle.unify.proofs.Sparing.{accounts_there, leaves_reserved, nothing_reserved}
 use Rattle.unify.proofs.Whole.{hosts-read, site_ok, together}
 
 pub owners_agree : OwnersAgree
@@ -72,7 +75,7 @@ host-lawful text loaded h =
     let ranges = bind_ok (in_file text.name file.LoginDefs (ranges_of text.logindefs)) _ loaded h in
     let users = bind_ok (in_file text.name file.Passwd (passwd_table text.passwd)) _ loaded ranges.2 in
     let groups = bind_ok (in_file text.name file.Group (group_table text.group)) _ loaded users.2 in
-    let made : Host = record { name = text.name; ranges = ranges.0; users = users.0; groups = groups.0 } in
+    let made : Host = sparing_none text.name ranges.0 users.0 groups.0 in
     let primary = bind_ok (in_site (primary_checked made)) _ loaded groups.2 in
     let all : Loaded = record { host = made; mtree = text.mtree } in
     subst (λ (l : Loaded). IsLawfulHost l.host) (ok_same all loaded primary.2)
@@ -89,7 +92,7 @@ host-read text loaded h =
     let ranges = bind_ok (in_file text.name file.LoginDefs (ranges_of text.logindefs)) _ loaded h in
     let users = bind_ok (in_file text.name file.Passwd (passwd_table text.passwd)) _ loaded ranges.2 in
     let groups = bind_ok (in_file text.name file.Group (group_table text.group)) _ loaded users.2 in
-    let made : Host = record { name = text.name; ranges = ranges.0; users = users.0; groups = groups.0 } in
+    let made : Host = sparing_none text.name ranges.0 users.0 groups.0 in
     let primary = bind_ok (in_site (primary_checked made)) _ loaded groups.2 in
     let all : Loaded = record { host = made; mtree = text.mtree } in
     subst (λ (l : Loaded). WasRead l.host) (ok_same all loaded primary.2)
@@ -101,6 +104,18 @@ host-read text loaded h =
       primary = site_ok (primary_checked made) primary.0 primary.1;
     })
 
+-- it spares nothing
+host-unsparing : (text : HostText) (loaded : Loaded) → host_of text ≡ Ok loaded → SparesNothing loaded.host
+unfolding host_of
+host-unsparing text loaded h =
+    let ranges = bind_ok (in_file text.name file.LoginDefs (ranges_of text.logindefs)) _ loaded h in
+    let users = bind_ok (in_file text.name file.Passwd (passwd_table text.passwd)) _ loaded ranges.2 in
+    let groups = bind_ok (in_file text.name file.Group (group_table text.group)) _ loaded users.2 in
+    let made : Host = sparing_none text.name ranges.0 users.0 groups.0 in
+    let primary = bind_ok (in_site (primary_checked made)) _ loaded groups.2 in
+    let all : Loaded = record { host = made; mtree = text.mtree } in
+    subst (λ (l : Loaded). SparesNothing l.host) (ok_same all loaded primary.2) (record { users = refl; groups = refl })
+
 -- its tables are those of its texts
 pub tables-of : (text : HostText) (loaded : Loaded) → host_of text ≡ Ok loaded → (passwd_table text.passwd ≡ Ok loaded.host.users) × (group_table text.group ≡ Ok loaded.host.groups)
 unfolding host_of
@@ -108,7 +123,7 @@ tables-of text loaded h =
     let ranges = bind_ok (in_file text.name file.LoginDefs (ranges_of text.logindefs)) _ loaded h in
     let users = bind_ok (in_file text.name file.Passwd (passwd_table text.passwd)) _ loaded ranges.2 in
     let groups = bind_ok (in_file text.name file.Group (group_table text.group)) _ loaded users.2 in
-    let made : Host = record { name = text.name; ranges = ranges.0; users = users.0; groups = groups.0 } in
+    let made : Host = sparing_none text.name ranges.0 users.0 groups.0 in
     let primary = bind_ok (in_site (primary_checked made)) _ loaded groups.2 in
     let same = ok_same (record { host = made; mtree = text.mtree }) loaded primary.2 in (
       file_ok text.name file.Passwd (passwd_table text.passwd) users.0 users.1 ∙ ap (λ (l : Loaded). Ok l.host.users) same,
@@ -122,7 +137,7 @@ as_loaded text loaded h =
     let ranges = bind_ok (in_file text.name file.LoginDefs (ranges_of text.logindefs)) _ loaded h in
     let users = bind_ok (in_file text.name file.Passwd (passwd_table text.passwd)) _ loaded ranges.2 in
     let groups = bind_ok (in_file text.name file.Group (group_table text.group)) _ loaded users.2 in
-    let made : Host = record { name = text.name; ranges = ranges.0; users = users.0; groups = groups.0 } in
+    let made : Host = sparing_none text.name ranges.0 users.0 groups.0 in
     let primary = bind_ok (in_site (primary_checked made)) _ loaded groups.2 in
     let all : Loaded = record { host = made; mtree = text.mtree } in
     let same : all ≡ loaded = ok_same all loaded primary.2 in
@@ -215,6 +230,13 @@ loaded-read texts loaded h =
     let from = each-ok host_of texts loaded h k (get_or loaded k d) (slice_get-get_or loaded k d l) in
     host-read from.0 (get_or loaded k d) from.2)
 
+pub loaded-unsparing : (texts : List HostText) (loaded : List Loaded) → each host_of texts ≡ Ok loaded → All SparesNothing (map (λ l. l.host) loaded)
+loaded-unsparing texts loaded h =
+    All-map SparesNothing (λ (l : Loaded). l.host) loaded
+    (λ k d l.
+    let from = each-ok host_of texts loaded h k (get_or loaded k d) (slice_get-get_or loaded k d l) in
+    host-unsparing from.0 (get_or loaded k d) from.2)
+
 -- the hosts that were loaded have the names that the list gives them
 pub loaded-named : (texts : List HostText) (loaded : List Loaded) → each host_of texts ≡ Ok loaded → All (λ t. is_host_name t.name ≡ true) texts → All (λ h. is_host_name h.name ≡ true) (map (λ l. l.host) loaded)
 loaded-named texts loaded h named =
@@ -225,7 +247,7 @@ loaded-named texts loaded h named =
 
 -- what is known of a host before its inventory is read
 abbrev pub IsKnownHost : Joined → ℕ → Host → Type 0
-IsKnownHost joined h host = (is_host_name host.name ≡ true) × WasRead host × IsLawfulHost host × KnowsHost joined h host
+IsKnownHost joined h host = (is_host_name host.name ≡ true) × WasRead host × IsLawfulHost host × SparesReserved joined host × KnowsHost joined h host
 
 -- a host of whom that is known, with the files of its inventory
 pub read-host : (joined : Joined) (h : ℕ) (l : Loaded) (files : List Entry) → files_of l ≡ Ok files → IsKnownHost joined h l.host → IsReadHost joined h l.host files
@@ -238,11 +260,9 @@ read-host joined h l files are knows =
       lawful = knows.2;
       files_are = found.0;
       few = found.1;
-      owned = λ k d m.
-          let f = get_or files k d in
-          let told = owners-told (is_some (user_at l.host.users f.uid)) (is_some (group_at l.host.groups f.gid)) _ _ (text.1 k d m) in
-          record { user = told.0; group = told.1 };
-      known = knows.3;
+      allowed = λ k d m. allowed l.host (get_or files k d) (text.1 k d m);
+      spares = knows.3;
+      known = knows.4;
     }
 
 -- hosts of whom that is known, with the files of their inventories
@@ -263,20 +283,21 @@ known-host texts pins_text site s h l here =
       all-at (λ (x : Host). is_host_name x.name ≡ true) hosts h l.host (loaded-named texts s.loaded s.hosts_are s.named) there,
       all-at WasRead hosts h l.host (loaded-read texts s.loaded s.hosts_are) there,
       all-at IsLawfulHost hosts h l.host lawful there,
+      nothing_reserved site.joined l.host (all-at SparesNothing hosts h l.host (loaded-unsparing texts s.loaded s.hosts_are) there),
       sites_know hosts s.pins site.joined lawful s.joined_is h l.host there,
     )
 
-all-from : (joined : Joined) (start : ℕ) (hosts : List (Host × List Entry)) → ((h : ℕ) (host : Host) (files : List Entry) → slice_get hosts h ≡ Some (host, files) → IsReadHost joined (start + h) host files) → All (λ f. unowned joined f.host f.uid f.gid ≡ None) (added_from start hosts)
-all-from joined start [] each_host = All-nil (λ (f : Added). unowned joined f.host f.uid f.gid ≡ None)
+all-from : (joined : Joined) (start : ℕ) (hosts : List (Host × List Entry)) → ((h : ℕ) (host : Host) (files : List Entry) → slice_get hosts h ≡ Some (host, files) → IsReadHost joined (start + h) host files) → All (λ f. AreOwnedOrReserved joined f.host f.uid f.gid) (added_from start hosts)
+all-from joined start [] each_host = All-nil (λ (f : Added). AreOwnedOrReserved joined f.host f.uid f.gid)
 all-from joined start (here ∷ more) each_host =
     let first : IsReadHost joined start here.0 here.1 = subst (λ n. IsReadHost joined n here.0 here.1) (omega arith) (each_host 0 here.0 here.1 refl) in
-    All-append (λ (f : Added). unowned joined f.host f.uid f.gid ≡ None) (map (added_on start) here.1) (added_from (start + 1) more)
-    (All-map (λ (f : Added). unowned joined f.host f.uid f.gid ≡ None) (added_on start) here.1
-    (λ k d l. let f = get_or here.1 k d in let has = first.owned k d l in owned-there joined start here.0 f.uid f.gid first.known has.user has.group))
+    All-append (λ (f : Added). AreOwnedOrReserved joined f.host f.uid f.gid) (map (added_on start) here.1) (added_from (start + 1) more)
+    (All-map (λ (f : Added). AreOwnedOrReserved joined f.host f.uid f.gid) (added_on start) here.1
+    (λ k d l. let f = get_or here.1 k d in owned-or-reserved joined start here.0 f.uid f.gid first.known first.spares (first.allowed k d l)))
     (all-from joined (start + 1) more (λ h host files at. subst (λ n. IsReadHost joined n host files) (omega arith) (each_host (suc h) host files at)))
 
--- the files of hosts that were read have their owners
-pub all-owned : (joined : Joined) (read : List (Host × List Entry)) → ((h : ℕ) (host : Host) (files : List Entry) → slice_get read h ≡ Some (host, files) → IsReadHost joined h host files) → All (λ f. unowned joined f.host f.uid f.gid ≡ None) (added_from 0 read)
+-- the files of hosts that were read have their owners, or reserved numbers
+pub all-owned : (joined : Joined) (read : List (Host × List Entry)) → ((h : ℕ) (host : Host) (files : List Entry) → slice_get read h ≡ Some (host, files) → IsReadHost joined h host files) → All (λ f. AreOwnedOrReserved joined f.host f.uid f.gid) (added_from 0 read)
 all-owned joined read each_host = all-from joined 0 read (λ h host files here. subst (λ n. IsReadHost joined n host files) (omega arith) (each_host h host files here))
 
 pub read_sites_are_whole : ReadSitesAreWhole
@@ -289,6 +310,38 @@ read_sites_are_whole texts pins_text site h =
       few_hosts = omega (arith, s.few, loaded, length-each site_of s.loaded site.hosts s.files_are);
       together = subst (λ hs. AreJoined hs site.joined) (sym (hosts-read s.loaded site.hosts s.files_are).0) (together hosts s.pins site.joined s.joined_is);
       lawful = sites_are_lawful hosts s.pins site.joined (omega (arith, s.few, loaded, length-map s.loaded (λ (l : Loaded). l.host))) (loaded-lawful texts s.loaded s.hosts_are) (pins_are_pins pins_text s.pins s.pins_are) s.joined_is;
+      leaves = leaves_reserved hosts s.pins site.joined s.joined_is;
       each_host = each_host;
       owned = all-owned site.joined site.hosts each_host;
     }
+
+-- ---- hosts that spare nothing
+
+pub read_hosts_spare_nothing : ReadHostsSpareNothing
+read_hosts_spare_nothing texts pins_text site h =
+    let s = steps texts pins_text site h in
+    subst (λ hs. All SparesNothing hs) (sym (hosts-read s.loaded site.hosts s.files_are).0) (loaded-unsparing texts s.loaded s.hosts_are)
+
+unowned-from : (joined : Joined) (start : ℕ) (hosts : List (Host × List Entry)) → ((h : ℕ) (host : Host) (files : List Entry) → slice_get hosts h ≡ Some (host, files) → All (λ f. unowned joined (start + h) f.uid f.gid ≡ None) files) → All (λ f. unowned joined f.host f.uid f.gid ≡ None) (added_from start hosts)
+unowned-from joined start [] each_host = All-nil (λ (f : Added). unowned joined f.host f.uid f.gid ≡ None)
+unowned-from joined start (here ∷ more) each_host =
+    let first : All (λ f. unowned joined start f.uid f.gid ≡ None) here.1 = subst (λ n. All (λ f. unowned joined n f.uid f.gid ≡ None) here.1) (omega arith) (each_host 0 here.0 here.1 refl) in
+    All-append (λ (f : Added). unowned joined f.host f.uid f.gid ≡ None) (map (added_on start) here.1) (added_from (start + 1) more)
+    (All-map (λ (f : Added). unowned joined f.host f.uid f.gid ≡ None) (added_on start) here.1 first)
+    (unowned-from joined (start + 1) more (λ h host files at. subst (λ n. All (λ f. unowned joined n f.uid f.gid ≡ None) files) (omega arith) (each_host (suc h) host files at)))
+
+pub nothing_spared_all_owned : NothingSparedAllOwned
+nothing_spared_all_owned site whole none = record {
+  by_tables = have;
+  over_all_hosts = unowned-from site.joined 0 site.hosts (λ h host files here k d l.
+      let f = get_or files k d in
+      let has = have h host files here k d l in
+      let from_zero : h ≡ 0 + h = omega arith in
+      subst (λ n. unowned site.joined n f.uid f.gid ≡ None) from_zero (owned-there site.joined h host f.uid f.gid (whole.each_host h host files here).known has.user has.group));
+}
+  where
+    have : (h : ℕ) (host : Host) (files : List Entry) → slice_get site.hosts h ≡ Some (host, files) → All (λ f. HaveAccounts host f.uid f.gid) files
+    have h host files here =
+        let there : slice_get (hosts_in site) h ≡ Some host = slice_get-map (λ (x : Host × List Entry). x.0) site.hosts h ∙ ap (option_map (λ (x : Host × List Entry). x.0)) here in
+        let unsparing = all-at SparesNothing (hosts_in site) h host none there in
+        λ k d l. accounts_there host (get_or files k d).uid (get_or files k d).gid unsparing ((whole.each_host h host files here).allowed k d l)

@@ -31,9 +31,10 @@ changed_is : (pairs : List Pair) (told : Option (List ℕ)) (number : ℕ) → c
 changed_is pairs None number = refl
 changed_is pairs (Some name) number = sym (one_if (is_number (number_of pairs name) number))
 
-there : {A B : Type 0} (f : A → B) (o : Option A) → is_some (option_map f o) ≡ true → is_some o ≡ true
-there f (Some x) h = refl
-there f None h = absurd (cc)
+-- a field changes only where its number is a row's
+there : {A : Type 0} (pairs : List Pair) (name : A → List ℕ) (o : Option A) (number : ℕ) → changes pairs (option_map name o) number ≡ true → is_some o ≡ true
+there pairs name (Some x) number h = refl
+there pairs name None number h = absurd (cc)
 
 sums_same : {A : Type 0} (f g : A → ℕ) (xs : List A) → All (λ x. f x ≡ g x) xs → sum_by f xs ≡ sum_by g xs
 sums_same f g [] same = refl
@@ -69,7 +70,7 @@ module _ {R : Type 0} (number : R → ℕ) (name : R → List ℕ) where
     abbrev pub first_fields : List R → ℕ → ℕ
     first_fields rows index = sum_by row_fields (take index rows)
 
-    module _ (rows : List R) (distinct : AreDistinct (map number rows)) (owned : All (λ e. is_some (name_at rows (of e)) ≡ true) files) where
+    module _ (rows : List R) (distinct : AreDistinct (map number rows)) where
       by_number : sum_by row_fields rows ≡ count_by (λ e. changes pairs (name_at rows (of e)) (of e)) files
       unfolding IsFoundIn
       by_number =
@@ -78,8 +79,7 @@ module _ {R : Type 0} (number : R → ℕ) (name : R → List ℕ) where
           let same : All (λ r. row_fields r ≡ passing number passes of files r) rows = λ k d l.
           let r = get_or rows k d in
           ap (λ o. cond {A = ℕ} (changes pairs (option_map name o) (number r)) (files_with of (number r) files) 0) (sym (found rows are k d l)) in
-          let placed : All (λ e. is_some (find (λ r. of e == number r) rows) ≡ true) files = λ k d l. there name (find (λ r. of (get_or files k d) == number r) rows) (owned k d l) in
-          sums_same row_fields (passing number passes of files) rows same ∙ sym (by_rows number passes of rows are files placed)
+          sums_same row_fields (passing number passes of files) rows same ∙ sym (by_rows number passes of rows are files (λ n. there pairs name (find (λ r. n == number r) rows) n))
 
       -- those of all rows are the fields that change
       pub all_fields : (index : ℕ) → length rows ≤ index → first_fields rows index ≡ sum_by (λ e. changed pairs (name_at rows (of e)) (of e)) files

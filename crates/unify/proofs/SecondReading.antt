@@ -1,20 +1,21 @@
 -- What was merged for one reading of a site's inventories is right for a later one of which each row owns as many files.
-use Rattle.std.proofs.Common.{◌≡◌, ℕ, ◌+◌, ◌*◌, ◌≤◌, suc, Bool, true, cond, List, [], ◌∷◌, length, map, get_or, Some, Result, Ok, Err, refl, sym, ap, subst, ◌∙◌, arith, ◌==◌, nat_le}
-use Rattle.std.specs.List.{All, count_by, find, slice_get}
+use Rattle.std.proofs.Common.{◌≡◌, ℕ, ◌+◌, ◌*◌, ◌≤◌, suc, Bool, true, cond, List, [], ◌∷◌, length, map, Option, Some, None, Result, Ok, Err, refl, sym, ap, subst, ◌∙◌, arith, ◌==◌, nat_le}
+use Rattle.std.specs.List.{count_by, find, slice_get}
 use Rattle.std.specs.Option.{is_some}
 use Rattle.std.specs.Prelude.{◌&&◌, if◌then◌else◌, nat_eq}
 use Rattle.std.proofs.lemmas.List.Sums.{sum_by-cons}
 use Rattle.std.proofs.lemmas.Option.{slice_get_within}
 use Rattle.idtext.proofs.OkLemmas.{ok_same}
 use Rattle.accounts.specs.Rows.{Passwd, Group}
-use Rattle.hosts_join.specs.Accounts.{Accounts, lines, owner}
+use Rattle.hosts_join.specs.Accounts.{Account, Accounts, lines, owner}
 use Rattle.hosts_join.specs.Count.{count_below}
+use Rattle.hosts_join.specs.Kinds.{user_at, group_at}
 use Rattle.hosts_join.specs.Rules.{account, class_at, is_free_class}
 use Rattle.hosts_join.specs.declared.host.Host.{Host}
 use Rattle.hosts_join.proofs.Refusals.{count_by-of-map}
 use Rattle.mtree_inv.specs.declared.entry.Entry.{Entry}
 use Rattle.ownership.specs.Costs.{AreLeast, ChangesFewestRows, changes, cost_of}
-use Rattle.ownership.specs.Files.{Added, File, has_there, owned_files, owns}
+use Rattle.ownership.specs.Files.{Added, File, has_there, is_place, owned_files, owns}
 use Rattle.ownership.specs.Mappings.{Mappings, number_at}
 use Rattle.ownership.specs.Sums.{sum_below}
 use Rattle.ownership.specs.Weights.{IsFilled, IsFresh, file_weight, free_weight, weight}
@@ -40,21 +41,33 @@ use Rattle.unify.specs.TwoPasses.{AreReadAgain, SecondReadingIsBelieved, SecondR
 use Rattle.unify.proofs.Agreeing.{item_at}
 use Rattle.unify.proofs.Counted.{mapped_some}
 use Rattle.unify.proofs.Counts.{apart, as_many, on_all}
+use Rattle.unify.proofs.Owners.{owner-told}
 use Rattle.unify.proofs.PassesBelieved.{two_passes_are_believed, with_plans}
 use Rattle.unify.proofs.Reading.{all-owned, read-host}
 use Rattle.unify.proofs.SiteRuns.{some_same}
 
--- ---- files of one kind of which as many pass, whatever is asked of their hosts and numbers
+-- ---- files of one kind of which as many pass, whatever is asked of their hosts and numbers that only an account's number passes
 
-abbrev AreAlike : List File → List File → Type 0
-AreAlike files others = (Q : File → Bool) → count_by Q files ≡ count_by Q others
+abbrev HasOwner : List Account → File → Type 0
+HasOwner names f = is_some (owner names f.host f.number) ≡ true
 
-module _ (a : Accounts) (files others : List File) (alike : AreAlike files others) where
+abbrev AreAlike : List Account → List File → List File → Type 0
+AreAlike names files others = (Q : File → Bool) → ((f : File) → Q f ≡ true → HasOwner names f) → count_by Q files ≡ count_by Q others
+
+changes_owned : (m : List ℕ) (o : Option ℕ) (v : ℕ) → changes m o v ≡ true → is_some o ≡ true
+changes_owned m (Some i) v h = refl
+changes_owned m None v h = absurd (cc)
+
+place_owned : (i : ℕ) (o : Option ℕ) (also : Bool) → (is_place i o && also) ≡ true → is_some o ≡ true
+place_owned i (Some j) also h = refl
+place_owned i None also h = absurd (cc)
+
+module _ (a : Accounts) (files others : List File) (alike : AreAlike a.names files others) where
   same_cost : (m : List ℕ) → cost_of a files m ≡ cost_of a others m
-  same_cost m = alike (λ f. changes m (owner a.names f.host f.number) f.number)
+  same_cost m = alike (λ f. changes m (owner a.names f.host f.number) f.number) (λ f passes. changes_owned m (owner a.names f.host f.number) f.number passes)
 
   same_weight : (i v : ℕ) → weight a files i v ≡ weight a others i v
-  same_weight i v = ap (λ k. file_weight a * k + lines (account a i) v) (alike (λ f. owns a.names i f && has_there a.names i v f.host))
+  same_weight i v = ap (λ k. file_weight a * k + lines (account a i) v) (alike (λ f. owns a.names i f && has_there a.names i v f.host) (λ f passes. place_owned i (owner a.names f.host f.number) (has_there a.names i v f.host) passes))
 
   same_weights : weight a files ≡ weight a others
   same_weights = λ j. λ i v. same_weight i v j
@@ -89,7 +102,7 @@ module _ (a : Accounts) (files others : List File) (alike : AreAlike files other
   same_figures m =
       let kept_is = ap (λ (w : ℕ → ℕ → ℕ). count_below (λ i. is_free_class (class_at a i) && nat_le 1 (w i (number_at m i))) (length a.names)) same_weights in
       let fresh_is = ap (λ (w : ℕ → ℕ → ℕ). count_below (λ i. is_free_class (class_at a i) && nat_eq (w i (number_at m i)) 0) (length a.names)) same_weights in
-      let files_are : owned_files a.names files ≡ owned_files a.names others = alike (λ f. is_some (owner a.names f.host f.number)) in
+      let files_are : owned_files a.names files ≡ owned_files a.names others = alike (λ f. is_some (owner a.names f.host f.number)) (λ f passes. passes) in
       let cost_is = same_cost m in
       let f = figures_of a files m in
       λ j. record { names = f.names; pinned = f.pinned; kept = kept_is j; fresh = fresh_is j; files = files_are j; changed_files = cost_is j; rows = f.rows; changed_rows = f.changed_rows }
@@ -127,7 +140,7 @@ module _ (first : WholeSite) (whole : IsWhole first) (hosts : List (Host × List
       let now = again.each_host h at.0.0 at.0.1 at.1 in
       let pair : (at.0.0, now.1) ≡ (host, files) = some_same (at.0.0, now.1) (host, files) (sym now.4 ∙ here) in
       subst (λ (p : Host × List Entry). IsReadHost first.joined h p.0 p.1) pair
-      (read-host first.joined h (record { host = at.0.0; mtree = now.0 }) now.1 (filed at.0.0 now.0 now.1 now.2) (was.named, was.read, was.lawful, was.known))
+      (read-host first.joined h (record { host = at.0.0; mtree = now.0 }) now.1 (filed at.0.0 now.0 now.1 now.2) (was.named, was.read, was.lawful, was.spares, was.known))
 
   pub still_whole : IsWhole last
   still_whole = record {
@@ -135,43 +148,53 @@ module _ (first : WholeSite) (whole : IsWhole first) (hosts : List (Host × List
     each_host = read_host;
     together = subst (λ hs. AreJoined hs first.joined) same_hosts whole.together;
     lawful = whole.lawful;
+    leaves = whole.leaves;
     owned = all-owned first.joined hosts read_host;
   }
 
   -- ---- as many files of each number on each host
 
-  user_there : (h : ℕ) (host : Host) (files : List Entry) → IsReadHost first.joined h host files → All (λ e. is_some (find (λ (r : Passwd). e.uid == r.uid) host.users) ≡ true) files
-  user_there h host files is = λ k d l. sym (mapped_some (λ (r : Passwd). r.name) (find (λ (r : Passwd). (get_or files k d).uid == r.uid) host.users)) ∙ (is.owned k d l).user
+  -- a number that is an account's on the host is a row's
+  user_there : (h : ℕ) (host : Host) (files : List Entry) → IsReadHost first.joined h host files → (n : ℕ) → HasOwner first.joined.users.names (record { host = 0 + h; number = n }) → is_some (find (λ (r : Passwd). n == r.uid) host.users) ≡ true
+  user_there h host files is n has =
+      let from_zero : 0 + h ≡ h = omega arith in
+      let here : HasOwner first.joined.users.names (record { host = h; number = n }) = subst (λ i. HasOwner first.joined.users.names (record { host = i; number = n })) from_zero has in
+      sym (mapped_some (λ (r : Passwd). r.name) (find (λ (r : Passwd). n == r.uid) host.users)) ∙ sym (owner-told first.joined.users.names h n (user_at host.users n) (is.known.users n)) ∙ here
 
-  users_on : (P : ℕ → Bool) (h : ℕ) (host : Host) (were files : List Entry) → IsReadHost first.joined h host were → IsReadHost first.joined h host files → HaveSameCounts host were files
-      → count_by (λ (e : Entry). P e.uid) were ≡ count_by (λ (e : Entry). P e.uid) files
-  users_on P h host were files was now same =
-      as_many (λ (r : Passwd). r.uid) P (λ (e : Entry). e.uid) host.users (apart (λ (r : Passwd). r.uid) host.users was.lawful.users.numbers_differ) were files (user_there h host were was) (user_there h host files now) (ap (λ (r : RowFiles). r.users) same)
+  users_on : (Q : File → Bool) → ((f : File) → Q f ≡ true → HasOwner first.joined.users.names f) → (h : ℕ) (host : Host) (were files : List Entry) → IsReadHost first.joined h host were → HaveSameCounts host were files
+      → count_by (λ (e : Entry). Q (record { host = 0 + h; number = e.uid })) were ≡ count_by (λ (e : Entry). Q (record { host = 0 + h; number = e.uid })) files
+  users_on Q owned h host were files was same =
+      as_many (λ (r : Passwd). r.uid) (λ v. Q (record { host = 0 + h; number = v })) (λ (e : Entry). e.uid) host.users (apart (λ (r : Passwd). r.uid) host.users was.lawful.users.numbers_differ) were files
+      (λ n passes. user_there h host were was n (owned (record { host = 0 + h; number = n }) passes)) (ap (λ (r : RowFiles). r.users) same)
 
-  group_there : (h : ℕ) (host : Host) (files : List Entry) → IsReadHost first.joined h host files → All (λ e. is_some (find (λ (r : Group). e.gid == r.gid) host.groups) ≡ true) files
-  group_there h host files is = λ k d l. sym (mapped_some (λ (r : Group). r.name) (find (λ (r : Group). (get_or files k d).gid == r.gid) host.groups)) ∙ (is.owned k d l).group
+  group_there : (h : ℕ) (host : Host) (files : List Entry) → IsReadHost first.joined h host files → (n : ℕ) → HasOwner first.joined.groups.names (record { host = 0 + h; number = n }) → is_some (find (λ (r : Group). n == r.gid) host.groups) ≡ true
+  group_there h host files is n has =
+      let from_zero : 0 + h ≡ h = omega arith in
+      let here : HasOwner first.joined.groups.names (record { host = h; number = n }) = subst (λ i. HasOwner first.joined.groups.names (record { host = i; number = n })) from_zero has in
+      sym (mapped_some (λ (r : Group). r.name) (find (λ (r : Group). n == r.gid) host.groups)) ∙ sym (owner-told first.joined.groups.names h n (group_at host.groups n) (is.known.groups n)) ∙ here
 
-  groups_on : (P : ℕ → Bool) (h : ℕ) (host : Host) (were files : List Entry) → IsReadHost first.joined h host were → IsReadHost first.joined h host files → HaveSameCounts host were files
-      → count_by (λ (e : Entry). P e.gid) were ≡ count_by (λ (e : Entry). P e.gid) files
-  groups_on P h host were files was now same =
-      as_many (λ (r : Group). r.gid) P (λ (e : Entry). e.gid) host.groups (apart (λ (r : Group). r.gid) host.groups was.lawful.groups.numbers_differ) were files (group_there h host were was) (group_there h host files now) (ap (λ (r : RowFiles). r.groups) same)
+  groups_on : (Q : File → Bool) → ((f : File) → Q f ≡ true → HasOwner first.joined.groups.names f) → (h : ℕ) (host : Host) (were files : List Entry) → IsReadHost first.joined h host were → HaveSameCounts host were files
+      → count_by (λ (e : Entry). Q (record { host = 0 + h; number = e.gid })) were ≡ count_by (λ (e : Entry). Q (record { host = 0 + h; number = e.gid })) files
+  groups_on Q owned h host were files was same =
+      as_many (λ (r : Group). r.gid) (λ v. Q (record { host = 0 + h; number = v })) (λ (e : Entry). e.gid) host.groups (apart (λ (r : Group). r.gid) host.groups was.lawful.groups.numbers_differ) were files
+      (λ n passes. group_there h host were was n (owned (record { host = 0 + h; number = n }) passes)) (ap (λ (r : RowFiles). r.groups) same)
 
-  users_alike : AreAlike (user_files first) (user_files last)
-  users_alike Q =
+  users_alike : AreAlike first.joined.users.names (user_files first) (user_files last)
+  users_alike Q owned =
       let G = λ (f : Added). Q (record { host = f.host; number = f.uid }) in
       count_by-of-map Q _ (files_of_site first)
       ∙ on_all G 0 first.hosts hosts again.one_each (λ k host were at.
       let now = again.each_host k host were at in
-      (now.1, now.4, users_on (λ v. Q (record { host = 0 + k; number = v })) k host were now.1 (whole.each_host k host were at) (read_host k host now.1 now.4) now.3))
+      (now.1, now.4, users_on Q owned k host were now.1 (whole.each_host k host were at) now.3))
       ∙ sym (count_by-of-map Q _ (files_of_site last))
 
-  groups_alike : AreAlike (group_files first) (group_files last)
-  groups_alike Q =
+  groups_alike : AreAlike first.joined.groups.names (group_files first) (group_files last)
+  groups_alike Q owned =
       let G = λ (f : Added). Q (record { host = f.host; number = f.gid }) in
       count_by-of-map Q _ (files_of_site first)
       ∙ on_all G 0 first.hosts hosts again.one_each (λ k host were at.
       let now = again.each_host k host were at in
-      (now.1, now.4, groups_on (λ v. Q (record { host = 0 + k; number = v })) k host were now.1 (whole.each_host k host were at) (read_host k host now.1 now.4) now.3))
+      (now.1, now.4, groups_on Q owned k host were now.1 (whole.each_host k host were at) now.3))
       ∙ sym (count_by-of-map Q _ (files_of_site last))
 
   -- ---- what was merged

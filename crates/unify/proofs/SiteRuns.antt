@@ -39,7 +39,7 @@ use Rattle.unify.specs.Outcomes.{IsOutcome, hosts_in}
 use Rattle.unify.specs.Reading.{WholeSite}
 use Rattle.unify.specs.SiteRuns.{DoneKeepsNames, EachIsOldOrNamed, runners_from, new_world}
 use Rattle.unify.proofs.Installed.{are_installed, named_as_before, old_or_named}
-use Rattle.unify.proofs.Keeping.{map_says_mappings, plan_is_old, keeps_names, old_or_kept}
+use Rattle.unify.proofs.Keeping.{ArePairsOf, map_says_mappings, plan_is_old, keeps_names, old_or_kept}
 
 pub some_same : {X : Type 0} (x y : X) → Some x ≡ Some y → x ≡ y
 some_same x y e = cc
@@ -77,15 +77,20 @@ tree_of keep here = record (new_mem here.1) { keep = keep }
 
 -- a map that is read from the printed one says the mappings
 says : (site : WholeSite) (outcome : Outcome) → IsWhole site → (merged : IsOutcome site outcome) (printed : MapText) → map_of outcome.map ≡ Ok printed
-    → SayMapping site.joined.users merged.mappings.users printed.users × SayMapping site.joined.groups merged.mappings.groups printed.groups
+    → ArePairsOf site.joined merged.mappings printed
 says site outcome whole merged printed read =
     let m = merged.mappings in
     let back = map_says_mappings site outcome whole merged in
     let same_map : back.pairs ≡ printed = ok_same back.pairs printed (sym back.read ∙ read) in
-    (subst (λ (p : MapText). SayMapping site.joined.users m.users p.users) same_map back.users, subst (λ (p : MapText). SayMapping site.joined.groups m.groups p.groups) same_map back.groups)
+    record {
+      users = subst (λ (p : MapText). SayMapping site.joined.users m.users p.users) same_map back.users;
+      groups = subst (λ (p : MapText). SayMapping site.joined.groups m.groups p.groups) same_map back.groups;
+      admissible = merged.answered.least.admissible;
+      leaves = whole.leaves;
+    }
 
 installed_by : (site : WholeSite) (outcome : Outcome) → IsWhole site → (merged : IsOutcome site outcome) (printed : MapText) → map_of outcome.map ≡ Ok printed → AreInstalled site outcome merged.mappings printed
-installed_by site outcome whole merged printed read = let say = says site outcome whole merged printed read in are_installed site outcome whole merged printed say.0 say.1
+installed_by site outcome whole merged printed read = let say = says site outcome whole merged printed read in are_installed site outcome whole merged printed say.users say.groups
 
 module _ (site : WholeSite) (outcome : Outcome) (whole : IsWhole site) (merged : IsOutcome site outcome) (printed : MapText) (read : map_of outcome.map ≡ Ok printed) (mappings : Mappings) (installed : AreInstalled site outcome mappings printed) where
   done_keeps : (h : ℕ) (host : Host) (files : List Entry) → slice_get site.hosts h ≡ Some (host, files)
@@ -95,7 +100,7 @@ module _ (site : WholeSite) (outcome : Outcome) (whole : IsWhole site) (merged :
       let say = says site outcome whole merged printed read in
       let after = (done_image (owner_in files) (plan_of site.joined merged.mappings.users merged.mappings.groups h files) (cells_of plan tree) finished image is_image).1 in
       All-weaker (KeepsItsNames printed host image.owner) (IsNamedAsBefore printed installed.passwd.rows installed.group.rows host image.owner) (named_as_before site outcome mappings printed installed host image.owner) files
-      (keeps_names site.joined merged.mappings printed say.0 say.1 h host files (whole.each_host h host files here) image.owner after)
+      (keeps_names site.joined merged.mappings printed say h host files (whole.each_host h host files here) image.owner after)
 
   -- a host's runner and tree, as far as the events lead: safe and in step
   host_went : (keep : Keep) (events : List Event) (refused : ℕ → Option RunFault) (runners : List RunnerData) (trees : List Mem) → EachGoes known_mem (new_world keep site merged.mappings) events refused (record { runners = runners; trees = trees })
@@ -129,7 +134,7 @@ module _ (site : WholeSite) (outcome : Outcome) (whole : IsWhole site) (merged :
       let mark = (start_of site m h files).mark in
       let went = host_went keep events refused runners trees goes h host files tree here at in
       All-weaker (λ f. (image.owner f.path ≡ Some (owner_of f)) ⊎ KeepsItsNames printed host image.owner f) (IsOldOrNamed printed installed.passwd.rows installed.group.rows host image.owner) (old_or_named site outcome mappings printed installed host image.owner) files
-      (old_or_kept site.joined m printed say.0 say.1 h host files is (seen_by mark tree image) (old_or_new (owner_in files) records (seen_by mark tree image) (plan_is_old site.joined m.users m.groups h files is.files_are.distinct) (went.2.safe (seen_by mark tree image) (is_seen plan mark tree image is_image))))
+      (old_or_kept site.joined m printed say h host files is (seen_by mark tree image) (old_or_new (owner_in files) records (seen_by mark tree image) (plan_is_old site.joined m.users m.groups h files is.files_are.distinct) (went.2.safe (seen_by mark tree image) (is_seen plan mark tree image is_image))))
 
   pub runs_keep : (keep : Keep) (events : List Event) (refused : ℕ → Option RunFault) (runners : List RunnerData) (trees : List Mem) → EachGoes known_mem (new_world keep site merged.mappings) events refused (record { runners = runners; trees = trees })
       → DoneKeepsNames site printed installed.passwd.rows installed.group.rows (map (λ runner. is_done runner.place) runners) trees

@@ -14,7 +14,7 @@ use Rattle.unify_texts.specs.declared.bundle_line.FileName.TheVariants as file
 use Rattle.unify_texts.specs.declared.fault.Fault.{Fault}
 use Rattle.unify.specs.declared.host.Loaded.{Loaded}
 use Rattle.unify.specs.Count.{site_of}
-use Rattle.unify.specs.Hosts.{host_of}
+use Rattle.unify.specs.Hosts.{host_of, sparing_none}
 use Rattle.unify.specs.Laws.{PassesReadTheSite}
 use Rattle.unify.specs.Loading.{loaded_from}
 use Rattle.unify.specs.Passes.{BegunSite, site_begun}
@@ -34,7 +34,7 @@ mtree-kept text loaded h =
     let ranges = bind_ok (in_file text.name file.LoginDefs (ranges_of text.logindefs)) _ loaded h in
     let users = bind_ok (in_file text.name file.Passwd (passwd_table text.passwd)) _ loaded ranges.2 in
     let groups = bind_ok (in_file text.name file.Group (group_table text.group)) _ loaded users.2 in
-    let made : Host = record { name = text.name; ranges = ranges.0; users = users.0; groups = groups.0 } in
+    let made : Host = sparing_none text.name ranges.0 users.0 groups.0 in
     let primary = bind_ok (in_site (primary_checked made)) _ loaded groups.2 in
     let all : Loaded = record { host = made; mtree = text.mtree } in
     ap (λ (l : Loaded). l.mtree) (ok_same all loaded primary.2)

@@ -1,6 +1,6 @@
 -- What a merge is believed for.
 -- Source: the assignment problem with its weak duality (Kuhn, Munkres); the sentence is this project's own.
-use Rattle.std.specs.Prelude.{◌≡◌, ◌⊎◌, ◌≤◌, ◌+◌, ℕ, false, List, Option, Some, Ok, IfSome, slice_get, All}
+use Rattle.std.specs.Prelude.{◌≡◌, ◌⊎◌, ◌≤◌, ◌+◌, ℕ, false, List, Option, Some, None, Ok, IfSome, slice_get, All}
 use Rattle.accounts.specs.Rows.{Passwd, Group}
 use Rattle.mtree_inv.specs.declared.entry.Entry.{Entry}
 use Rattle.hosts_join.specs.Accounts.{Accounts, Pair}
@@ -41,24 +41,28 @@ pub record HaveOneNumberEach (a : Accounts) (m : List ℕ) (pairs : List Pair) :
   pub say : SayMapping a m pairs
   pub distinct : (name other : List ℕ) (v : ℕ) → number_of pairs name ≡ Some v → number_of pairs other ≡ Some v → name ≡ other
 
+-- By the map the new number is that of the name that the old one had; one that had none stays, and
+-- is no name's.
+abbrev pub IsNewNumber : Option (List ℕ) → List Pair → ℕ → ℕ → Type 0
+IsNewNumber (Some name) pairs old new = number_of pairs name ≡ Some new
+IsNewNumber None pairs old new =
+    (new ≡ old) × ((name : List ℕ) → number_of pairs name ≡ Some new → ⊥)
+
 -- The file is there, and its uid and gid are the numbers that the map gives to the user and the group that it had: those that
--- its host's own tables name for its numbers in the inventory.
+-- its host's own tables name for its numbers in the inventory. A number that they do not name is as it was, and no name's.
 pub record KeepsItsNames (map : MapText) (host : Host) (tree : List ℕ → Option Owner) (file : Entry) : Type 0 where
   pub now : Owner
   pub here : tree file.path ≡ Some now
-  pub user : List ℕ
-  pub had_user : user_at host.users file.uid ≡ Some user
-  pub has_user : number_of map.users user ≡ Some now.uid
-  pub group : List ℕ
-  pub had_group : group_at host.groups file.gid ≡ Some group
-  pub has_group : number_of map.groups group ≡ Some now.gid
+  pub user : IsNewNumber (user_at host.users file.uid) map.users file.uid now.uid
+  pub group : IsNewNumber (group_at host.groups file.gid) map.groups file.gid now.gid
 
--- It keeps them by the merged passwd and group as well, which name its uid and gid as this user and this group.
+-- It keeps them by the merged passwd and group as well, which name its uid and gid as its host's own tables named those that it
+-- had, and name none that these did not.
 -- users, groups: the rows of the two files
 pub record IsNamedAsBefore (map : MapText) (users : List Passwd) (groups : List Group) (host : Host) (tree : List ℕ → Option Owner) (file : Entry) : Type 0 where
   pub by_map : KeepsItsNames map host tree file
-  pub user_is : user_at users by_map.now.uid ≡ Some by_map.user
-  pub group_is : group_at groups by_map.now.gid ≡ Some by_map.group
+  pub user_is : user_at users by_map.now.uid ≡ user_at host.users file.uid
+  pub group_is : group_at groups by_map.now.gid ≡ group_at host.groups file.gid
 
 -- It has the owner that the inventory tells, or is named as before.
 abbrev pub IsOldOrNamed : MapText → List Passwd → List Group → Host → (List ℕ → Option Owner) → Entry → Type 0
@@ -95,7 +99,7 @@ pub record PlanKeepsNames (map : MapText) (users : List Passwd) (groups : List G
 -- exactly one row for each name, with its number; no other such mapping rewrites fewer owner and group fields over all
 -- inventories, as the printed potentials prove; and while a host's plan is carried out, however often stopped, every file of it
 -- has its old owner, or by the map, and by the merged passwd and group, the user and group names it had; once the plan has
--- finished, every file has these names.
+-- finished, every file has these names. A uid or gid that had no name stays as it is, and is no name's.
 pub record Headline (site : WholeSite) (outcome : Outcome) : Type 0 where
   -- what is printed
   pub map : MapText

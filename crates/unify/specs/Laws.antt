@@ -7,7 +7,7 @@ use Rattle.mtree_inv.specs.declared.entry.Entry.{Entry}
 use Rattle.mtree_inv.specs.Files.{AreFiles}
 use Rattle.hosts_join.specs.PinPairs.{no_pins}
 use Rattle.hosts_join.specs.Checks.{hosts_checked, is_host_name}
-use Rattle.hosts_join.specs.Hosts.{IsLawfulHost}
+use Rattle.hosts_join.specs.Hosts.{IsLawfulHost, SparesReserved}
 use Rattle.hosts_join.specs.Kinds.{user_at, group_at}
 use Rattle.hosts_join.specs.Laws.{HasLawfulAccounts, KnowsHost}
 use Rattle.hosts_join.specs.Site.{Joined, joined_site}
@@ -26,6 +26,7 @@ use Rattle.unify.specs.Hosts.{host_of}
 use Rattle.unify.specs.Loading.{loaded_from}
 use Rattle.unify.specs.Outcomes.{cost_in, hosts_in}
 use Rattle.unify.specs.Passes.{site_begun}
+use Rattle.unify.specs.Sparing.{AreAllowed, AreOwnedOrReserved, LeavesItsReserved, SparesNothing}
 use Rattle.unify.specs.Told.{in_site}
 use Rattle.unify.specs.Reading.{WholeSite, files_of_site, site_read}
 
@@ -35,7 +36,8 @@ pub record HaveAccounts (host : Host) (uid gid : ℕ) : Type 0 where
   pub group : is_some (group_at host.groups gid) ≡ true
 
 -- A host that was read, with its files: its tables are those of a passwd and a group, and lawful, as its name is; no path
--- stands twice, each file has a user and a group, and the accounts over all hosts know its own.
+-- stands twice, each file has a user and a group, or numbers that the host spares; what it spares is reserved, and the
+-- accounts over all hosts know its own.
 -- h: its index
 pub record IsReadHost (joined : Joined) (h : ℕ) (host : Host) (files : List Entry) : Type 0 where
   pub named : is_host_name host.name ≡ true
@@ -43,7 +45,8 @@ pub record IsReadHost (joined : Joined) (h : ℕ) (host : Host) (files : List En
   pub lawful : IsLawfulHost host
   pub files_are : AreFiles files
   pub few : length files ≤ 16777216
-  pub owned : All (λ f. HaveAccounts host f.uid f.gid) files
+  pub allowed : All (λ f. AreAllowed host f.uid f.gid) files
+  pub spares : SparesReserved joined host
   pub known : KnowsHost joined h host
 
 pub record IsWhole (site : WholeSite) : Type 0 where
@@ -52,8 +55,9 @@ pub record IsWhole (site : WholeSite) : Type 0 where
   -- the accounts over all hosts were joined from these, with some pins
   pub together : AreJoined (hosts_in site) site.joined
   pub lawful : HasLawfulAccounts site.joined
-  -- each file has its owners among the accounts over all hosts
-  pub owned : All (λ f. unowned site.joined f.host f.uid f.gid ≡ None) (files_of_site site)
+  pub leaves : LeavesItsReserved site.joined
+  -- each file has its owners among the accounts over all hosts, or reserved numbers
+  pub owned : All (λ f. AreOwnedOrReserved site.joined f.host f.uid f.gid) (files_of_site site)
 
 abbrev pub ReadSitesAreWhole : Type 0
 ReadSitesAreWhole = (texts : List HostText) (pins_text : List ℕ) (site : WholeSite) → site_read texts pins_text ≡ Ok site → IsWhole site
@@ -61,6 +65,24 @@ ReadSitesAreWhole = (texts : List HostText) (pins_text : List ℕ) (site : Whole
 -- a file has its owners among the accounts over all hosts exactly where it has them by its host's own tables
 abbrev pub OwnersAgree : Type 0
 OwnersAgree = (joined : Joined) (h : ℕ) (host : Host) (uid gid : ℕ) → KnowsHost joined h host → (unowned joined h uid gid ≡ None) ↔ HaveAccounts host uid gid
+
+-- each file has a user and a group, by its host's own tables and as well by the accounts over all
+-- hosts
+pub record HasAccountsForAll (site : WholeSite) : Type 0 where
+  pub by_tables : (h : ℕ) (host : Host) (files : List Entry) → slice_get site.hosts h ≡ Some (host, files)
+      → All (λ f. HaveAccounts host f.uid f.gid) files
+  pub over_all_hosts :
+      All (λ f. unowned site.joined f.host f.uid f.gid ≡ None) (files_of_site site)
+
+-- so it is where no host spares a number
+abbrev pub NothingSparedAllOwned : Type 0
+NothingSparedAllOwned = (site : WholeSite) → IsWhole site
+    → All SparesNothing (hosts_in site) → HasAccountsForAll site
+
+-- and no host does that was read from texts
+abbrev pub ReadHostsSpareNothing : Type 0
+ReadHostsSpareNothing = (texts : List HostText) (pins_text : List ℕ) (site : WholeSite)
+    → site_read texts pins_text ≡ Ok site → All SparesNothing (hosts_in site)
 
 -- what the texts of hosts say of a site, where there is no pins text
 abbrev pub site_without_pins : List HostText → Result WholeSite Fault

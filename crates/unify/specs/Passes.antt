@@ -10,7 +10,7 @@ use Rattle.mtree_inv.specs.Inventory.{inventory_of_lines}
 use Rattle.mtree_inv.specs.Logical.{whole_lines}
 use Rattle.mtree_inv.specs.Standing as reader
 use Rattle.hosts_join.specs.Checks.{hosts_checked, is_host_name}
-use Rattle.hosts_join.specs.Hosts.{IsLawfulHost}
+use Rattle.hosts_join.specs.Hosts.{IsLawfulHost, SparesReserved}
 use Rattle.hosts_join.specs.Laws.{HasLawfulAccounts, KnowsItsHosts}
 use Rattle.hosts_join.specs.PinsText.{pins_of}
 use Rattle.hosts_join.specs.Site.{Joined, joined_site}
@@ -28,6 +28,7 @@ use Rattle.unify.specs.Hosts.{host_of, owner_fault, files_of}
 use Rattle.unify.specs.Count.{site_of}
 use Rattle.unify.specs.Loading.{loaded_from}
 use Rattle.unify.specs.RowFiles.{RowFiles, row_files}
+use Rattle.unify.specs.Sparing.{LeavesItsReserved}
 
 -- ---- what is read before the inventories
 
@@ -48,13 +49,15 @@ site_begun texts pins_text = do
   joined ← in_site (joined_site (map (λ l. l.host) loaded) pins)
   Ok (record { hosts = map (λ l. l.host) loaded; joined = joined })
 
--- hosts that were read, and what was joined from them
+-- hosts that were read, and spare reserved numbers alone, and what was joined from them
 pub record AreTogether (hosts : List Host) (joined : Joined) : Type 0 where
   pub few : length hosts ≤ 64
   pub read : All WasRead hosts
   pub lawful : All IsLawfulHost hosts
   pub together : AreJoined hosts joined
   pub known : KnowsItsHosts hosts joined
+  pub spares : All (SparesReserved joined) hosts
+  pub leaves : LeavesItsReserved joined
   pub accounts : HasLawfulAccounts joined
   pub named : All (λ h. is_host_name h.name ≡ true) hosts
 
@@ -75,7 +78,7 @@ is_read (Err f) = Err f
 abbrev pub lines_of : Host → List ℕ → Result (List Entry) Fault
 lines_of host text = in_file host.name file.Mtree (inventory_of_lines 16777216 (whole_lines text))
 
--- each of the files has an account, and so many of them each row owns; or this is the first that has none
+-- the host allows each of the files, and so many of them each row owns; or this is the first that it does not allow
 abbrev pub AreCounted : Host → RowFiles → Option Entry → List Entry → Type 0
 AreCounted host rows None files = (first_fault (owner_fault host) [] files ≡ None) × (rows ≡ row_files host files)
 AreCounted host rows (Some e) files = (f : Fault) × (owner_fault host [] e ≡ Some f) × (first_fault (owner_fault host) [] files ≡ Some f)
@@ -115,7 +118,7 @@ met_at host true fault unowned = Some (owner_told host unowned)
 met_at host false (Some f) unowned = Some (read_told host f)
 met_at host false None unowned = None
 
--- the fault that a host's turn came to: a reader fault, or at its end an unowned file
+-- the fault that a host's turn came to: a reader fault, or at its end a file that the host does not allow
 abbrev pub met_by : Host → Turn → Option Fault
 met_by host turn = met_at host turn.reader.is_finished turn.reader.fault turn.unowned
 

@@ -1,4 +1,4 @@
--- How many files each row of a host's tables owns.
+-- How many files each row of a host's tables owns. A file whose number has no row counts for none.
 -- Source: this project's own rule.
 use Rattle.std.specs.Prelude.{ℕ, ◌==◌, List, map, count_by}
 use Rattle.mtree_inv.specs.declared.entry.Entry.{Entry}

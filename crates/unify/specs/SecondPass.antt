@@ -30,7 +30,7 @@ abbrev pub or_changed : {A : Type 0} → Host → Result A Fault → Result A Fa
 or_changed host (Ok x) = Ok x
 or_changed host (Err f) = Err (InventoryChanged host.name)
 
--- the files of its whole lines so far, each of them owned
+-- the files of its whole lines so far, each of them allowed
 unfoldable pub owned_lines : Host → List ℕ → Result (List Entry) Fault
 owned_lines host text = do
   files ← lines_of host text
@@ -40,7 +40,7 @@ owned_lines host text = do
 abbrev pub second_lines : Host → List ℕ → Result (List Entry) Fault
 second_lines host text = or_changed host (owned_lines host text)
 
--- the files of the whole text, each of them owned
+-- the files of the whole text, each of them allowed
 abbrev pub second_files : Host → List ℕ → Result (List Entry) Fault
 second_files host text = or_changed host (files_of (record { host = host; mtree = text }))
 
@@ -89,7 +89,7 @@ pub record IsFreshTurn (turn : PlanTurn) : Type 0 where
   pub unbegun : turn.is_begun ≡ false
 
 -- of the second inventory of the host with the index this text has come, in which there is no fault so far and each file is
--- owned; and for it this much of a plan was appended
+-- allowed; and for it this much of a plan was appended
 pub record TurnsFor (host : Host) (joined : Joined) (merged : Merged) (index : ℕ) (turn : PlanTurn) (text planned : List ℕ) : Type 0 where
   pub goes : turn.stop ≡ None
   pub reading : reader.StandsFor turn.reader text

@@ -13,10 +13,10 @@ ghost use Rattle.unify_texts.specs.declared.fault.Fault.{Fault};
 ghost use Rattle.unify_texts.specs.declared.fault.Fault.TheVariants.{Line};
 ghost use Rattle.unify_texts.specs.Told.{told};
 ghost use Rattle.unify.specs.Told.{in_file, site_told, in_site};
-ghost use Rattle.unify.specs.Hosts.{host_of, owner_fault};
+ghost use Rattle.unify.specs.Hosts.{allows_gid, allows_uid, host_of, owner_fault, sparing_none};
 
 use accounts::{GroupTable, PasswdTable, read_group, read_passwd};
-use hosts_join::{Host, HostText, SiteFault, check_primary};
+use hosts_join::{Host, HostText, Runs, SiteFault, check_primary};
 use idtext::{ByteString, Name, ReadError, TextFault};
 use logindefs::{HostRanges, read_ranges};
 use mtree_inv::{Entry, Inventory, read_inventory};
@@ -159,7 +159,8 @@ fn primary_at<'a>(host: &Host<'a>) -> Result<(), Fault<'a>>
     }
 }
 
-// The tables of a host: login.defs, passwd and group. What is left to ask is whether each user's group is there.
+// The tables of a host, which spares no number: login.defs, passwd and group. What is left to ask is whether each user's
+// group is there.
 #[tactic(auto, unfolding(crate::specs::Hosts::host_of))]
 fn tables_at<'a>(alloc: Global, text: &'a HostText) -> Result<Host<'a>, Fault<'a>>
     ensures refused { IfErr result (λ e. IfSome (told e) (λ f. host_of text.now ≡ Err f)) }
@@ -176,6 +177,8 @@ fn tables_at<'a>(alloc: Global, text: &'a HostText) -> Result<Host<'a>, Fault<'a
         ranges,
         users,
         groups,
+        spared_users: Runs::none(alloc),
+        spared_groups: Runs::none(alloc),
     })
 }
 
@@ -223,8 +226,24 @@ pub fn group_named<'a>(groups: &GroupTable<'a>, gid: u32) -> Option<&'a [u8]>
     Some(row.name)
 }
 
-/// What is wrong with a file's owners: its uid or its gid is the number of no account of its host, the uid first. Two
-/// look-ups by hash; `AllocError` where memory for the path is refused.
+// Whether a file of the host may have the uid: it is a user's, or the host spares it. A look-up by hash, and where no user
+// has it a bisection.
+fn is_uid_allowed(host: &Host<'_>, uid: u32) -> bool
+    ensures { result ≡ allows_uid host.now uid }
+{
+    user_named(&host.users, uid).is_some() || host.spared_users.has(uid)
+}
+
+// Whether a file of the host may have the gid: it is a group's, or the host spares it.
+fn is_gid_allowed(host: &Host<'_>, gid: u32) -> bool
+    ensures { result ≡ allows_gid host.now gid }
+{
+    group_named(&host.groups, gid).is_some() || host.spared_groups.has(gid)
+}
+
+/// What is wrong with a file's owners: its uid or its gid is the number of no account of its host, and the host does not
+/// spare it, the uid first. Two look-ups by hash, and a bisection for a number that has no account; `AllocError` where
+/// memory for the path is refused.
 pub fn ownership_fault<'a>(
     alloc: Global,
     host: &Host<'a>,
@@ -232,14 +251,14 @@ pub fn ownership_fault<'a>(
 ) -> Result<Option<Fault<'a>>, AllocError>
     ensures { IfOk result (λ fault. fault ≡ owner_fault host.now [] file.now) }
 {
-    if user_named(&host.users, file.uid).is_none() {
+    if !is_uid_allowed(host, file.uid) {
         return Ok(Some(Fault::UnownedUid {
             host: Name::new(host.name.bytes()),
             uid: file.uid,
             path: ByteString::copy_of(alloc, file.path.bytes())?,
         }));
     }
-    if group_named(&host.groups, file.gid).is_none() {
+    if !is_gid_allowed(host, file.gid) {
         return Ok(Some(Fault::UnownedGid {
             host: Name::new(host.name.bytes()),
             gid: file.gid,

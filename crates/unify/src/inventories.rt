@@ -81,9 +81,9 @@ impl<'a> Inventories<'a> {
 
     /// Takes the next bytes of the inventory of the present host. Asked is that a host is left.
     ///
-    /// The answer is exactly the first reader fault of the whole logical lines so far, or want of memory; a file without
-    /// an account is told by `end_host`. A new fault that it answers is the one that is met. Once a fault is met, of either
-    /// call, the answer is always that one, or want of memory to tell it, and nothing changes.
+    /// The answer is exactly the first reader fault of the whole logical lines so far, or want of memory; a file that the
+    /// host does not allow is told by `end_host`. A new fault that it answers is the one that is met. Once a fault is met, of
+    /// either call, the answer is always that one, or want of memory to tell it, and nothing changes.
     ///
     /// One pass over the bytes, and two look-ups by hash for each file.
     pub fn piece(&mut self, bytes: &[u8]) -> Result<(), Fault<'a>>
@@ -102,8 +102,8 @@ impl<'a> Inventories<'a> {
 
     /// Ends the inventory of the present host. Asked is that a host is left.
     ///
-    /// The answer is exactly the first fault of the whole inventory, and else its first file without an account, uid
-    /// before gid; or want of memory. What is met then is such a fault too, that of the file where memory was wanting only
+    /// The answer is exactly the first fault of the whole inventory, and else its first file that the host does not allow,
+    /// uid before gid; or want of memory. What is met then is such a fault too, that of the file where memory was wanting only
     /// to tell it. Once a fault is met, of either call, the answer is always that one, or want of memory to tell it, and
     /// nothing changes. At most one line is still to be read here.
     pub fn end_host(&mut self) -> Result<(), Fault<'a>>

@@ -1,16 +1,26 @@
 //! Laws of the definitions, each the contract of a call that does nothing.
-ghost use Rattle.unify.specs.Laws.{OwnersAgree, ReadSitesAreWhole, EmptyPinsAreNone, PassesReadTheSite, CostsAgree};
-ghost use Rattle.unify.specs.Believed.{OutcomesAreBelieved, DoneKeepsPrintedNames, RunsKeepNames, NumbersTellNames};
+ghost use Rattle.unify.specs.Laws.{OwnersAgree, ReadSitesAreWhole};
+ghost use Rattle.unify.specs.Laws.{NothingSparedAllOwned, ReadHostsSpareNothing};
+ghost use Rattle.unify.specs.Laws.{EmptyPinsAreNone, PassesReadTheSite, CostsAgree};
+ghost use Rattle.unify.specs.Believed.{OutcomesAreBelieved, DoneKeepsPrintedNames, RunsKeepNames};
+ghost use Rattle.unify.specs.Believed.{NumbersTellNames, NamedFilesHaveTheirNames};
 ghost use Rattle.unify.specs.TwoPasses.{TwoPassesAreBelieved, SecondReadingIsBelieved, SecondReadingIsRight};
 ghost use Rattle.unify.specs.HostTexts.{HostsKeepOwnFiles, TablesAreOfTexts};
 ghost use Rattle.unify.specs.Agreeing.{PrintedCertificatesAreAccepted, PrintedMapsAreCounted, NoMapRewritesFewer, PrintedPlansAreRehearsed};
 
 /// Every site that was read is whole: it has at most 64 hosts, whose names are lawful, whose tables are those of a passwd
 /// and a group and lawful, and whose inventories have no path twice; the accounts over all hosts were joined from theirs
-/// with some pins, and are lawful; and each file has a user and a group, by its host's own tables and as well by the
-/// accounts over all hosts.
+/// with some pins, are lawful, and leave what is reserved to no name; and each file has a user and a group by its host's own
+/// tables, or numbers that the host spares, and as well by the accounts over all hosts, or reserved numbers.
 pub fn a_read_site_is_whole()
     ensures { ReadSitesAreWhole }
+{}
+
+/// Where no host spares a number each file has a user and a group, by its host's own tables and as well by the accounts over
+/// all hosts; and the hosts of a site that was read from texts spare none.
+pub fn nothing_spared_all_owned()
+    ensures owned { NothingSparedAllOwned }
+    ensures read { ReadHostsSpareNothing }
 {}
 
 /// A file has its owners among the accounts over all hosts exactly where it has them by its host's own tables.
@@ -22,7 +32,8 @@ pub fn owners_agree()
 /// number, in its pool or at its pin, and the passwd and group that are printed have exactly one row for each name, with
 /// its number; no other such mappings rewrite fewer owner and group fields, as the printed potentials prove; and while a
 /// host's plan is carried out, however often stopped, every file of it has its old owner, or by the map, and by that passwd
-/// and group, the names it had; once the plan has finished, every file has these names.
+/// and group, the names it had; once the plan has finished, every file has these names. A uid or gid that had no name stays
+/// as it is, and is no name's.
 pub fn outcomes_are_believed()
     ensures { OutcomesAreBelieved }
 {}
@@ -37,9 +48,14 @@ pub fn runs_keep_names()
 {}
 
 /// Two files, on any hosts, that keep their names have one uid exactly where their users had one name, and one gid exactly
-/// where their groups had one.
+/// where their groups had one; numbers that had no name are one where they were one.
 pub fn numbers_tell_names()
     ensures { NumbersTellNames }
+{}
+
+/// A file that keeps its names, and had a user and a group, has the numbers that the map gives to these.
+pub fn named_files_have_their_names()
+    ensures { NamedFilesHaveTheirNames }
 {}
 
 /// With an empty pins text a site reads as without one.

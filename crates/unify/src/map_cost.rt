@@ -10,7 +10,6 @@ ghost use Rattle.unify_texts.specs.Told.{told};
 ghost use Rattle.unify.specs.Cost.{changed, host_cost, is_number};
 ghost use Rattle.unify.specs.Begun.{IsBegunCost};
 ghost use Rattle.unify.specs.Costing.{cost_begun};
-ghost use Rattle.unify.specs.Laws.{HaveAccounts};
 ghost use Rattle.unify.specs.RowFiles.{row_files};
 
 use crate::counting::{Cost, check_list, check_names};
@@ -84,8 +83,8 @@ fn is_changed(names: &PairTable<'_>, name: &[u8], number: u32) -> bool
 // How many owner fields of a host's files the map changes, where so many files are owned by each row of its passwd.
 fn owner_fields(names: &PairTable<'_>, host: &Host<'_>, files: &[u64]) -> u64
     requires lawful { IsLawfulHost host.now }
-    requires counted { (here : List Entry) × (files.now ≡ (row_files host.now here).users) × All (λ e. HaveAccounts host.now e.uid e.gid) here × (length here ≤ 16777216) }
-    ensures { (here : List Entry) → files.now ≡ (row_files host.now here).users → All (λ e. HaveAccounts host.now e.uid e.gid) here → result ≡ sum_by (λ e. changed names.now (user_at host.now.users e.uid) e.uid) here }
+    requires counted { (here : List Entry) × (files.now ≡ (row_files host.now here).users) × (length here ≤ 16777216) }
+    ensures { (here : List Entry) → files.now ≡ (row_files host.now here).users → result ≡ sum_by (λ e. changed names.now (user_at host.now.users e.uid) e.uid) here }
 {
     let mut fields = 0;
     for (index, row) in host.users.rows().iter().enumerate() {
@@ -99,8 +98,8 @@ fn owner_fields(names: &PairTable<'_>, host: &Host<'_>, files: &[u64]) -> u64
 // How many group fields of a host's files the map changes, where so many files are owned by each row of its group.
 fn group_fields(names: &PairTable<'_>, host: &Host<'_>, files: &[u64]) -> u64
     requires lawful { IsLawfulHost host.now }
-    requires counted { (here : List Entry) × (files.now ≡ (row_files host.now here).groups) × All (λ e. HaveAccounts host.now e.uid e.gid) here × (length here ≤ 16777216) }
-    ensures { (here : List Entry) → files.now ≡ (row_files host.now here).groups → All (λ e. HaveAccounts host.now e.uid e.gid) here → result ≡ sum_by (λ e. changed names.now (group_at host.now.groups e.gid) e.gid) here }
+    requires counted { (here : List Entry) × (files.now ≡ (row_files host.now here).groups) × (length here ≤ 16777216) }
+    ensures { (here : List Entry) → files.now ≡ (row_files host.now here).groups → result ≡ sum_by (λ e. changed names.now (group_at host.now.groups e.gid) e.gid) here }
 {
     let mut fields = 0;
     for (index, row) in host.groups.rows().iter().enumerate() {
@@ -114,8 +113,8 @@ fn group_fields(names: &PairTable<'_>, host: &Host<'_>, files: &[u64]) -> u64
 // How many fields of a host's files the map changes, where so many files are owned by each of its rows.
 fn fields_on(names: &MapText<'_>, host: &Host<'_>, rows: &RowFiles) -> Cost
     requires lawful { IsLawfulHost host.now }
-    requires counted { (here : List Entry) × (rows.now ≡ row_files host.now here) × All (λ e. HaveAccounts host.now e.uid e.gid) here × (length here ≤ 16777216) }
-    ensures { (here : List Entry) → rows.now ≡ row_files host.now here → All (λ e. HaveAccounts host.now e.uid e.gid) here → result ≡ host_cost names.now host.now here }
+    requires counted { (here : List Entry) × (rows.now ≡ row_files host.now here) × (length here ≤ 16777216) }
+    ensures { (here : List Entry) → rows.now ≡ row_files host.now here → result ≡ host_cost names.now host.now here }
 {
     Cost {
         users: owner_fields(&names.users, host, rows.users.as_slice()),

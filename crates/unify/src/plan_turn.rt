@@ -111,7 +111,7 @@ fn plan_file(
     Ok(())
 }
 
-// Counts the files that wait, and appends their records, up to the first without an account.
+// Counts the files that wait, and appends their records, up to the first that the host does not allow.
 fn plan_waiting(
     turn: &mut PlanTurn,
     site: &Site<'_>,
@@ -159,8 +159,8 @@ fn read_on(
 }
 
 /// Takes the next piece of the second inventory of the host with the index, and appends to the host's plan. `Stop::Changed`
-/// is answered exactly where the whole lines so far have a fault, or a file without an account. After it stopped it always
-/// answers the same, and nothing changes. What is appended until then is a prefix of a plan without its `end` line. After
+/// is answered exactly where the whole lines so far have a fault, or a file that the host does not allow. After it stopped it
+/// always answers the same, and nothing changes. What is appended until then is a prefix of a plan without its `end` line. After
 /// the first piece the plan has its header.
 ///
 /// One pass over the piece, with a few look-ups by hash for each file.
@@ -219,8 +219,8 @@ fn read_end(
 }
 
 /// Takes the end of the second inventory of the host with the index, and appends what is left of the host's plan but its
-/// `end` line. `Stop::Changed` is answered exactly where the whole text has a fault, or a file without an account, or
-/// counts that are not those of the first pass. After it stopped it always answers the same, and nothing changes. What is
+/// `end` line. `Stop::Changed` is answered exactly where the whole text has a fault, or a file that the host does not allow,
+/// or counts that are not those of the first pass. After it stopped it always answers the same, and nothing changes. What is
 /// appended until then is a prefix of a plan without its `end` line.
 pub fn finish_plan(
     turn: &mut PlanTurn,

@@ -1,6 +1,6 @@
 //! How many files each row of a host's tables owns.
 
-ghost use Rattle.std.specs.Prelude.{◌≡◌, ◌+◌, ◌<◌, ◌≤◌, ◌++◌, ◌∷◌, [], List, length, set, slice_get, slice_index_or, is_none, Some, true, false, IfOk};
+ghost use Rattle.std.specs.Prelude.{◌≡◌, ◌+◌, ◌<◌, ◌≤◌, ◌++◌, ◌∷◌, [], List, length, set, slice_get, slice_index_or, is_none, Some, true, false, IfOk, IfSome, IfNone};
 ghost use Rattle.mtree_inv.specs.declared.entry.Entry.{Entry};
 ghost use Rattle.hosts_join.specs.declared.host.Host.{Host};
 ghost use Rattle.unify.specs.Hosts.{owner_fault};
@@ -42,28 +42,36 @@ pub fn no_files(alloc: Global, hosts: &[Host<'_>], index: usize) -> Result<RowFi
     }
 }
 
-// Counts one file more at a place.
-fn add_one(files: &mut Vec<u64>, place: usize)
-    requires within { place < length files.old.items }
-    requires room { slice_index_or files.old.items place 0 ≤ 2147483648 }
-    ensures { files.new.items ≡ set files.old.items place (slice_index_or files.old.items place 0 + 1) }
+// Counts one file more at a place, if there is one.
+fn add_one(files: &mut Vec<u64>, place: Option<usize>)
+    requires within { IfSome place (λ at. at < length files.old.items) }
+    requires room { IfSome place (λ at. slice_index_or files.old.items at 0 ≤ 2147483648) }
+    ensures counted { IfSome place
+        (λ at. files.new.items
+        ≡ set files.old.items at (slice_index_or files.old.items at 0 + 1)) }
+    ensures stays { IfNone place (files.new.items ≡ files.old.items) }
 {
-    files[place] += 1;
+    if let Some(place) = place {
+        files[place] += 1;
+    }
 }
 
-/// Counts a file for the rows that own it, and says whether it has both: else nothing changes. Two look-ups by hash.
+/// Counts a file for the rows that own it, and says whether the host allows both of its numbers: else nothing changes. Two
+/// look-ups by hash, and a bisection for a number that has no row.
 pub fn count_file(rows: &mut RowFiles, host: &Host<'_>, file: &Entry) -> bool
     requires { (files : List Entry) × (rows.old ≡ row_files host.now files) × (length files ≤ 2147483648) }
     ensures owned { result ≡ is_none (owner_fault host.now [] file.now) }
     ensures counted { result ≡ true → (files : List Entry) → rows.old ≡ row_files host.now files → rows.new ≡ row_files host.now (files ++ file.now ∷ []) }
     ensures unowned { result ≡ false → rows.new ≡ rows.old }
 {
-    let Some(user) = host.users.place_of_number(file.uid) else {
+    let user = host.users.place_of_number(file.uid);
+    if user.is_none() && !host.spared_users.has(file.uid) {
         return false;
-    };
-    let Some(group) = host.groups.place_of_number(file.gid) else {
+    }
+    let group = host.groups.place_of_number(file.gid);
+    if group.is_none() && !host.spared_groups.has(file.gid) {
         return false;
-    };
+    }
     add_one(&mut rows.users, user);
     add_one(&mut rows.groups, group);
     true

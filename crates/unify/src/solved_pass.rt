@@ -78,8 +78,8 @@ impl<'a> Solved<'a> {
     /// Takes the next bytes of the second inventory of the present host, and appends to the plan of the host. Asked is that
     /// a host is left.
     ///
-    /// `Fault::InventoryChanged` is answered exactly where the whole logical lines so far have a fault, or a file without
-    /// an account. After a fault of either call, want of memory too, it is always that one, and nothing changes. Behind a
+    /// `Fault::InventoryChanged` is answered exactly where the whole logical lines so far have a fault, or a file that the
+    /// host does not allow. After a fault of either call, want of memory too, it is always that one, and nothing changes. Behind a
     /// fault all that the calls for this host have appended is a prefix of a plan without its `end` line, for files that
     /// the text has before its first fault. The first piece appends the header, even if it is empty.
     ///
@@ -110,8 +110,8 @@ impl<'a> Solved<'a> {
 
     /// Ends the second inventory of the present host, and its plan. Asked is that a host is left.
     ///
-    /// `Fault::InventoryChanged` is answered exactly where the whole inventory has a fault, or a file without an account,
-    /// or where a user or a group of the host owns not as many of its files as in the first pass. After a fault of
+    /// `Fault::InventoryChanged` is answered exactly where the whole inventory has a fault, or a file that the host does not
+    /// allow, or where a user or a group of the host owns not as many of its files as in the first pass. After a fault of
     /// either call, want of memory too, it is always that one, and nothing changes. Behind a fault all that the calls for
     /// this host have appended is a prefix of a plan without its `end` line, for files that the text has before its first
     /// fault.

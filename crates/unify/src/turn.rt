@@ -19,8 +19,8 @@ use mtree_inv::{Entry, Reader};
 use std::alloc::Global;
 use unify_texts::{Fault, FileName};
 
-/// The reader of a host's inventory, how many of its files each row of the host's tables owns, and the first file without
-/// an account.
+/// The reader of a host's inventory, how many of its files each row of the host's tables owns, and the first file that the
+/// host does not allow.
 #[derive(Drop)]
 pub struct Turn {
     pub reader: Reader,
@@ -49,7 +49,8 @@ pub fn read_fault<'a>(host: &Host<'a>, fault: ReadError) -> Fault<'a>
     }
 }
 
-/// The fault of a file without an account, or want of memory for its path. Two look-ups by hash.
+/// The fault of a file that the host does not allow, or want of memory for its path. Two look-ups by hash, and a bisection
+/// for a number that has no account.
 pub fn tell_owner<'a>(alloc: Global, host: &Host<'a>, unowned: &Option<Entry>) -> Fault<'a>
     ensures { IsToldAs (owner_told host.now unowned.now) result }
 {
@@ -71,7 +72,7 @@ fn drain(reader: &mut Reader)
     while let Some(_) = reader.next_entry() {}
 }
 
-// Counts the files that wait, up to the first without an account.
+// Counts the files that wait, up to the first that the host does not allow.
 fn count_waiting(host: &Host<'_>, from: &mut Reader, rows: &mut RowFiles) -> Option<Entry>
     requires { (files : List Entry) × (rows.old ≡ row_files host.now files) × (length files + length from.old.waiting ≤ 2147483648) }
     ensures stays { from.new ≡ record from.old { waiting = [] } }
@@ -87,7 +88,7 @@ fn count_waiting(host: &Host<'_>, from: &mut Reader, rows: &mut RowFiles) -> Opt
     None
 }
 
-// Counts the files that wait, unless there was a file without an account before.
+// Counts the files that wait, unless there was one before that the host does not allow.
 fn count_new(turn: &mut Turn, host: &Host<'_>)
     requires { IfNone turn.old.unowned ((files : List Entry) × (turn.old.rows ≡ row_files host.now files) × (length files + length turn.old.reader.waiting ≤ 2147483648)) }
     ensures stays { turn.new.reader ≡ record turn.old.reader { waiting = [] } }
@@ -102,8 +103,8 @@ fn count_new(turn: &mut Turn, host: &Host<'_>)
 }
 
 /// Takes the next piece of the inventory of the host. The answer is the first fault of the whole lines so far, and no file
-/// without an account is told. A new fault is the one that is met. After a fault it is always that one, or want of memory
-/// to tell it.
+/// that the host does not allow is told. A new fault is the one that is met. After a fault it is always that one, or want of
+/// memory to tell it.
 ///
 /// One pass over the piece, with two look-ups by hash for each file.
 pub fn feed_turn<'a>(
@@ -129,8 +130,8 @@ pub fn feed_turn<'a>(
     Ok(())
 }
 
-/// Takes the end of the inventory of the host. The answer is the first fault of the whole text, and else the first file
-/// without an account; one of them, or want of memory, is what is met. After a fault it is always that one, or want of
+/// Takes the end of the inventory of the host. The answer is the first fault of the whole text, and else the first file that
+/// the host does not allow; one of them, or want of memory, is what is met. After a fault it is always that one, or want of
 /// memory to tell it. After `Ok` the turn is over, and every further call would be answered with want of memory.
 pub fn end_turn<'a>(alloc: Global, turn: &mut Turn, host: &Host<'a>) -> Result<(), Fault<'a>>
     requires { met_by host.now turn.old ≡ None → (text : List ℕ) × TurnsFor host.now turn.old text }

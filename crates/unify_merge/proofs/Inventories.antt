@@ -19,7 +19,7 @@ use Rattle.unify_texts.specs.declared.fault.Fault.{Fault}
 use Rattle.unify.specs.declared.host.Loaded.{Loaded}
 use Rattle.unify.specs.Costing.{BegunCost, cost_begun}
 use Rattle.unify.specs.Count.{names_checked, site_of}
-use Rattle.unify.specs.Hosts.{host_of}
+use Rattle.unify.specs.Hosts.{host_of, sparing_none}
 use Rattle.unify.specs.Loading.{loaded_from}
 use Rattle.unify.specs.Passes.{BegunSite, site_begun}
 use Rattle.unify.specs.Reading.{site_read}
@@ -73,7 +73,7 @@ host-with h text =
     first-step (in_file h.name file.LoginDefs (ranges_of h.logindefs)) _ _ (with_text text)
     (λ ranges r. first-step (in_file h.name file.Passwd (passwd_table h.passwd)) _ _ (with_text text)
     (λ users u. first-step (in_file h.name file.Group (group_table h.group)) _ _ (with_text text)
-    (λ groups g. first-step (in_site (primary_checked (record { name = h.name; ranges = ranges; users = users; groups = groups }))) _ _ (with_text text)
+    (λ groups g. first-step (in_site (primary_checked (sparing_none h.name ranges users groups))) _ _ (with_text text)
     (λ primary p. refl))))
 
 -- the hosts that were loaded, with these inventories

@@ -5,22 +5,26 @@ use Rattle.unify.proofs.host.tables_at.Goals as goal
 
 pub returns-clause-accepted : goal.returns-clause-accepted
 returns-clause-accepted c =
-    let host : Host = record { name = c.new.result; ranges = c.in_ok-ranges.ranges; users = c.in_ok-users.users; groups = c.in_ok-groups.groups } in
+    let host : Host = record { name = c.new.result; ranges = c.in_ok-ranges.ranges; users = c.in_ok-users.users; groups = c.in_ok-groups.groups; spared_users = c.none.result; spared_groups = c.none-2.result } in
     let are : AreRead c.args.text.now host = record {
       name = c.new.ensures ∙ c.bytes-name.ensures;
       ranges = rw (c.bytes-name.ensures, c.bytes.ensures) at c.in_ok-ranges.ensures.exact;
       users = rw (c.bytes-name.ensures, c.bytes-2.ensures) at c.in_ok-users.ensures.exact;
       groups = rw (c.bytes-name.ensures, c.bytes-3.ensures) at c.in_ok-groups.ensures.exact;
+      spared_users = c.none.ensures;
+      spared_groups = c.none-2.ensures;
     } in
     λ u h. primary_accepted c.args.text.now host u are h
 
 pub returns-clause-unchecked : goal.returns-clause-unchecked
 returns-clause-unchecked c =
-    let host : Host = record { name = c.new.result; ranges = c.in_ok-ranges.ranges; users = c.in_ok-users.users; groups = c.in_ok-groups.groups } in
+    let host : Host = record { name = c.new.result; ranges = c.in_ok-ranges.ranges; users = c.in_ok-users.users; groups = c.in_ok-groups.groups; spared_users = c.none.result; spared_groups = c.none-2.result } in
     let are : AreRead c.args.text.now host = record {
       name = c.new.ensures ∙ c.bytes-name.ensures;
       ranges = rw (c.bytes-name.ensures, c.bytes.ensures) at c.in_ok-ranges.ensures.exact;
       users = rw (c.bytes-name.ensures, c.bytes-2.ensures) at c.in_ok-users.ensures.exact;
       groups = rw (c.bytes-name.ensures, c.bytes-3.ensures) at c.in_ok-groups.ensures.exact;
+      spared_users = c.none.ensures;
+      spared_groups = c.none-2.ensures;
     } in
     λ f h. primary_refused c.args.text.now host f are h

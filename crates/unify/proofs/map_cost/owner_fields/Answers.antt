@@ -14,8 +14,8 @@ overflow_add-fields c =
     let said = c.is_changed.ensures ∙ (λ i. is_changed names ((c.row.view_is i).name) ((c.row.view_is i).uid)) in
     let so_far = c.loop-index.invariant here c.requires.counted.1 in
     let more = one_changed (λ r. r.uid) (λ r. r.name) names (λ e. e.uid) here rows c.args.files.now c.requires.counted.1 index c.loop-index.fields c.row-item.result c.is_changed.result within is said so_far c.if-is_changed.true in
-    let few = few_fields (λ r. r.uid) (λ r. r.name) names (λ e. e.uid) here rows c.requires.lawful.users.numbers_differ (λ k d l. (c.requires.counted.2 k d l).user) (index + 1) in
-    omega (arith, more, few, c.requires.counted.3)
+    let few = few_fields (λ r. r.uid) (λ r. r.name) names (λ e. e.uid) here rows c.requires.lawful.users.numbers_differ (index + 1) in
+    omega (arith, more, few, c.requires.counted.2)
 
 pub loop-index-preserved : goal.loop-index-preserved
 loop-index-preserved c = λ here are.
@@ -34,7 +34,7 @@ loop-index-preserved c = λ here are.
     ]
 
 pub returns : goal.returns
-returns c = λ here are owned.
+returns c = λ here are.
     c.loop-index.invariant here are
-    ∙ all_fields (λ r. r.uid) (λ r. r.name) c.args.names.now (λ e. e.uid) here c.args.host.now.users c.requires.lawful.users.numbers_differ (λ k d l. (owned k d l).user) c.loop-index.index
+    ∙ all_fields (λ r. r.uid) (λ r. r.name) c.args.names.now (λ e. e.uid) here c.args.host.now.users c.requires.lawful.users.numbers_differ c.loop-index.index
     (omega (arith, c.loop-index-test.false, ap length c.rows-row-items.ensures.rows))

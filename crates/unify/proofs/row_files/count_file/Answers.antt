@@ -1,58 +1,57 @@
-use Rattle.std.proofs.Common.{◌≡◌, ◌+◌, get_or, set, length, sym, ap, ◌∙◌, arith}
-use Rattle.std.proofs.lemmas.List.{length-map}
+use Rattle.std.proofs.Common.{◌≡◌, true, sym, ap, ◌∙◌}
+use Rattle.hosts_join.specs.Hosts.{spares_group, spares_user}
+use Rattle.unify.specs.Hosts.{allows_gid, allows_uid}
 use Rattle.unify.specs.RowFiles.{RowFiles, row_files}
-use Rattle.unify.proofs.FileCounts.{both_owners, no_group, no_user, one_group_more, one_user_more, room_at, group_within, user_within}
+use Rattle.unify.proofs.FileCounts.{allowed_place, both_allowed, group_allowed, group_refused, groups_more, groups_room, refused_place, spared_place, user_allowed, user_refused, users_more, users_room}
 use Rattle.unify.proofs.row_files.count_file.Goals as goal
+use Rattle.unify.proofs.row_files.count_file.Goals.{else-is_none-via-then-is_none+else-not-has, else-is_none-via-else-is_none, else-is_none-2-via-then-is_none-2+else-not-has-2, else-is_none-2-via-else-is_none-2}
 
-pub returns-in_default-clause-owned : goal.returns-in_default-clause-owned
-returns-in_default-clause-owned c = no_user c.args.host.now c.args.file.now (sym c.place_of_number.ensures.place ∙ c.in_default.is)
-
-pub returns-in_default-place_of_number-clause-owned : goal.returns-in_default-place_of_number-clause-owned
-returns-in_default-place_of_number-clause-owned c = no_group c.args.host.now c.args.file.now (sym c.place_of_number-2.ensures.place ∙ c.in_default-place_of_number.is)
-
-pub add_one-requires-clause-within : goal.add_one-requires-clause-within
-add_one-requires-clause-within c =
+pub returns-then-not-has-clause-owned : goal.returns-then-not-has-clause-owned
+returns-then-not-has-clause-owned c =
     let host = c.args.host.now in
-    let here = c.requires in
-    let rows : c.rows.inside.users.items ≡ (row_files host here.0).users = ap (λ (r : RowFiles). r.users) (c.rows.view_is ∙ here.1) in
-    let many : length (row_files host here.0).users ≡ length host.users = length-map host.users _ in
-    omega (arith, ap length rows, many, user_within host c.args.file.now c.in-Some.user (sym c.place_of_number.ensures.place ∙ c.in-Some.is))
+    let file = c.args.file.now in
+    let place = c.place_of_number-user.result in
+    let spared = sym c.has.ensures ∙ c.if-not-has.true in
+    user_refused host file (user_allowed host file place _ (sym c.place_of_number-user.ensures.place) (refused_place place c.is_none.result (spares_user host file.uid) c.is_none.ensures c.if-is_none.true spared))
 
-pub add_one-requires-2-clause-within : goal.add_one-requires-2-clause-within
-add_one-requires-2-clause-within c =
+pub returns-then-not-has-2-clause-owned : goal.returns-then-not-has-2-clause-owned
+returns-then-not-has-2-clause-owned c =
     let host = c.args.host.now in
-    let here = c.requires in
-    let rows : c.rows.inside.groups.items ≡ (row_files host here.0).groups = ap (λ (r : RowFiles). r.groups) (c.rows.view_is ∙ here.1) in
-    let many : length (row_files host here.0).groups ≡ length host.groups = length-map host.groups _ in
-    omega (arith, ap length rows, many, group_within host c.args.file.now c.in-Some-place_of_number.group (sym c.place_of_number-2.ensures.place ∙ c.in-Some-place_of_number.is))
+    let file = c.args.file.now in
+    let place = c.place_of_number-group.result in
+    let spared = sym c.has-then-is_none-2.ensures ∙ c.if-not-has-2.true in
+    group_refused host file (group_allowed host file place _ (sym c.place_of_number-group.ensures.place) (refused_place place c.is_none-2.result (spares_group host file.gid) c.is_none-2.ensures c.if-is_none-2.true spared))
 
 pub add_one-requires-clause-room : goal.add_one-requires-clause-room
 add_one-requires-clause-room c =
-    let host = c.args.host.now in
     let here = c.requires in
-    let rows : c.rows.inside.users.items ≡ (row_files host here.0).users = ap (λ (r : RowFiles). r.users) (c.rows.view_is ∙ here.1) in
-    let few = room_at (λ r. r.uid) (λ e. e.uid) host.users c.in-Some.user here.0 in
-    omega (arith, ap (λ ns. get_or ns c.in-Some.user 0) rows, few, here.2)
+    users_room c.args.host.now c.args.file.now c.place_of_number-user.result here.0 c.rows.inside.users.items 2147483648 (ap (λ (r : RowFiles). r.users) (c.rows.view_is ∙ here.1)) here.2
 
 pub add_one-requires-2-clause-room : goal.add_one-requires-2-clause-room
 add_one-requires-2-clause-room c =
-    let host = c.args.host.now in
     let here = c.requires in
-    let rows : c.rows.inside.groups.items ≡ (row_files host here.0).groups = ap (λ (r : RowFiles). r.groups) (c.rows.view_is ∙ here.1) in
-    let few = room_at (λ r. r.gid) (λ e. e.gid) host.groups c.in-Some-place_of_number.group here.0 in
-    omega (arith, ap (λ ns. get_or ns c.in-Some-place_of_number.group 0) rows, few, here.2)
+    groups_room c.args.host.now c.args.file.now c.place_of_number-group.result here.0 c.rows.inside.groups.items 2147483648 (ap (λ (r : RowFiles). r.groups) (c.rows.view_is ∙ here.1)) here.2
 
 pub returns-clause-owned : goal.returns-clause-owned
-returns-clause-owned c = both_owners c.args.host.now c.args.file.now c.in-Some.user c.in-Some-place_of_number.group (sym c.place_of_number.ensures.place ∙ c.in-Some.is) (sym c.place_of_number-2.ensures.place ∙ c.in-Some-place_of_number.is)
+returns-clause-owned c =
+    let host = c.args.host.now in
+    let file = c.args.file.now in
+    let user = c.place_of_number-user.result in
+    let group = c.place_of_number-group.result in
+    let user_is : allows_uid host file.uid ≡ true = user_allowed host file user true (sym c.place_of_number-user.ensures.place) (elim c.else-is_none.branch [
+      | else-is_none-via-then-is_none+else-not-has w ↦ spared_place user (spares_user host file.uid) (sym w.has.ensures ∙ w.if-not-has.false)
+      | else-is_none-via-else-is_none w ↦ allowed_place user c.is_none.result (spares_user host file.uid) c.is_none.ensures w.if-is_none.false
+    ]) in
+    let group_is : allows_gid host file.gid ≡ true = group_allowed host file group true (sym c.place_of_number-group.ensures.place) (elim c.else-is_none-2.branch [
+      | else-is_none-2-via-then-is_none-2+else-not-has-2 w ↦ spared_place group (spares_group host file.gid) (sym w.has-then-is_none-2.ensures ∙ w.if-not-has-2.false)
+      | else-is_none-2-via-else-is_none-2 w ↦ allowed_place group c.is_none-2.result (spares_group host file.gid) c.is_none-2.ensures w.if-is_none-2.false
+    ]) in
+    both_allowed host file user_is group_is
 
 pub returns-clause-counted : goal.returns-clause-counted
 returns-clause-counted c = λ yes files is.
     let host = c.args.host.now in
     let file = c.args.file.now in
-    let user = c.in-Some.user in
-    let group = c.in-Some-place_of_number.group in
-    let users_were : c.rows.inside.users.items ≡ (row_files host files).users = ap (λ (r : RowFiles). r.users) (c.rows.view_is ∙ is) in
-    let groups_were : c.rows.inside.groups.items ≡ (row_files host files).groups = ap (λ (r : RowFiles). r.groups) (c.rows.view_is ∙ is) in
-    let users = c.add_one.ensures ∙ ap (λ ns. set ns user (get_or ns user 0 + 1)) users_were ∙ sym (one_user_more host file user files c.place_of_number.ensures.table (sym c.place_of_number.ensures.place ∙ c.in-Some.is)) in
-    let groups = c.add_one-2.ensures ∙ ap (λ ns. set ns group (get_or ns group 0 + 1)) groups_were ∙ sym (one_group_more host file group files c.place_of_number-2.ensures.table (sym c.place_of_number-2.ensures.place ∙ c.in-Some-place_of_number.is)) in
+    let users = users_more host file c.place_of_number-user.result files c.rows.inside.users.items c.add_one.new.files.items c.place_of_number-user.ensures.table (sym c.place_of_number-user.ensures.place) (ap (λ (r : RowFiles). r.users) (c.rows.view_is ∙ is)) c.add_one.ensures.counted c.add_one.ensures.stays in
+    let groups = groups_more host file c.place_of_number-group.result files c.rows.inside.groups.items c.add_one-2.new.files.items c.place_of_number-group.ensures.table (sym c.place_of_number-group.ensures.place) (ap (λ (r : RowFiles). r.groups) (c.rows.view_is ∙ is)) c.add_one-2.ensures.counted c.add_one-2.ensures.stays in
     λ i. record { users = users i; groups = groups i }

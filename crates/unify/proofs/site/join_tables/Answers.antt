@@ -1,10 +1,12 @@
 use Rattle.std.proofs.Common.{◌≡◌, ◌≤◌, Ok, refl, sym, ap, ◌∙◌, arith, length, map}
+use Rattle.std.proofs.lemmas.List.Elements.{All-weaker}
 use Rattle.std.proofs.lemmas.Result.{err_from_is_err_and}
 use Rattle.idtext.specs.First.{each}
 use Rattle.idtext.proofs.OkLemmas.{bind_ok}
 use Rattle.hosts_join.proofs.Knowing.{sites_know}
 use Rattle.hosts_join.proofs.SiteLemmas.{sites_are_lawful, pins_are_pins}
 use Rattle.hosts_join.specs.Checks.{hosts_checked}
+use Rattle.hosts_join.specs.Hosts.{SparesReserved}
 use Rattle.hosts_join.specs.PinPairs.{PinPairs}
 use Rattle.hosts_join.specs.PinsText.{pins_of}
 use Rattle.hosts_join.specs.Site.{joined_site}
@@ -12,9 +14,11 @@ use Rattle.unify_texts.specs.Told.{told}
 use Rattle.unify.specs.declared.host.Loaded.{Loaded}
 use Rattle.unify.specs.Hosts.{host_of}
 use Rattle.unify.specs.Passes.{pinned_site, site_begun}
+use Rattle.unify.specs.Sparing.{SparesNothing}
 use Rattle.unify.specs.Told.{in_pins, in_site}
 use Rattle.unify.proofs.Faults.{passed_on}
-use Rattle.unify.proofs.Reading.{loaded-named, loaded-read, pins-ok, texts-named}
+use Rattle.unify.proofs.Reading.{loaded-named, loaded-read, loaded-unsparing, pins-ok, texts-named}
+use Rattle.unify.proofs.Sparing.{leaves_reserved, nothing_reserved}
 use Rattle.unify.proofs.Whole.{begun_is, join_refused, list_refused, site_ok, tables_refused, together}
 use Rattle.unify.proofs.site.join_tables.Goals as goal
 
@@ -70,6 +74,8 @@ returns-clause-begun c =
           lawful = lawful;
           together = together hosts pins.0 site joined;
           known = sites_know hosts pins.0 site lawful joined;
+          spares = All-weaker SparesNothing (SparesReserved site) (nothing_reserved site) hosts (rw read.2 (loaded-unsparing texts read.0 read.1));
+          leaves = leaves_reserved hosts pins.0 site joined;
           accounts = sites_are_lawful hosts pins.0 site few lawful (pins_are_pins c.args.pins.now pins.0 (pins-ok (pins_of c.args.pins.now) pins.0 pins.1)) joined;
           named = rw read.2 (loaded-named texts read.0 read.1 named);
         };

@@ -28,7 +28,7 @@ fields_on-here-requires-clause-counted c =
     let left : index < length v.passed = omega (arith, c.loop-index-test.true, ap length c.deref-rows-items.ensures.value) in
     let s = over_stands v c.self.invariant over in
     let at = files_at v s.0 over s.1 index c.index.result.now c.rows-item.result left c.index.ensures rows_are in
-    (at.files, at.rows_are, at.owned.owned, at.owned.few)
+    (at.files, at.rows_are, at.few)
 
 pub overflow_add-cost : goal.overflow_add-cost
 overflow_add-cost c =
@@ -41,7 +41,7 @@ overflow_add-cost c =
     let so_far : IsCostBefore v names c.loop-index.cost index = rw (← c.self.view_is) at c.loop-index.invariant in
     let s = over_stands v c.self.invariant over in
     let at = files_at v s.0 over s.1 index c.index.result.now c.rows-item.result left c.index.ensures rows_are in
-    let is = c.fields_on-here.ensures at.files at.rows_are at.owned.owned in
+    let is = c.fields_on-here.ensures at.files at.rows_are in
     let room = cost_room names s.1.read index c.index.result.now c.rows-item.result c.loop-index.cost c.fields_on-here.result at (so_far s.0 s.1) is (loaded_from v.hosts s.0) s.1.accepted (omega (arith, read_length v s.0 s.1, over, c.self.invariant.few)) in
     omega (arith, room.0)
 
@@ -56,7 +56,7 @@ overflow_add-cost-in-loop-index c =
     let so_far : IsCostBefore v names c.loop-index.cost index = rw (← c.self.view_is) at c.loop-index.invariant in
     let s = over_stands v c.self.invariant over in
     let at = files_at v s.0 over s.1 index c.index.result.now c.rows-item.result left c.index.ensures rows_are in
-    let is = c.fields_on-here.ensures at.files at.rows_are at.owned.owned in
+    let is = c.fields_on-here.ensures at.files at.rows_are in
     let room = cost_room names s.1.read index c.index.result.now c.rows-item.result c.loop-index.cost c.fields_on-here.result at (so_far s.0 s.1) is (loaded_from v.hosts s.0) s.1.accepted (omega (arith, read_length v s.0 s.1, over, c.self.invariant.few)) in
     omega (arith, room.1)
 
@@ -71,7 +71,7 @@ loop-index-preserved c =
     let so_far : IsCostBefore v names c.loop-index.cost index = rw (← c.self.view_is) at c.loop-index.invariant in
     rw (← c.self.view_is) (λ ended were.
     let at = files_at v ended over were index c.index.result.now c.rows-item.result left c.index.ensures rows_are in
-    one_host_more names were.read index c.index.result.now c.rows-item.result c.loop-index.cost c.fields_on-here.result at (so_far ended were) (c.fields_on-here.ensures at.files at.rows_are at.owned.owned))
+    one_host_more names were.read index c.index.result.now c.rows-item.result c.loop-index.cost c.fields_on-here.result at (so_far ended were) (c.fields_on-here.ensures at.files at.rows_are))
 
 pub returns : goal.returns
 returns c =
