@@ -15,23 +15,38 @@ use Rattle.unify.specs.Outcomes.{IsOutcome}
 use Rattle.unify.specs.Reading.{WholeSite, site_read}
 use Rattle.unify.specs.Rehearsing.{IsRehearsed}
 
--- a check of the same texts accepts the certificate that a merge prints, with the cost that the merge tells
+-- a check of the same texts accepts the certificate that a merge prints, with the cost that the
+-- merge tells
 abbrev pub PrintedCertificatesAreAccepted : Type 0
-PrintedCertificatesAreAccepted = (texts : List HostText) (pins_text : List ℕ) (site : WholeSite) (outcome : Outcome) → site_read texts pins_text ≡ Ok site → IsOutcome site outcome
+PrintedCertificatesAreAccepted =
+    (texts : List HostText) (pins_text : List ℕ) (site : WholeSite) (outcome : Outcome)
+    → site_read texts pins_text ≡ Ok site → IsOutcome site outcome
     → verified texts pins_text outcome.certificate ≡ Ok (fields outcome.cost)
 
 -- a count of the map that a merge prints answers the cost that the merge tells
 abbrev pub PrintedMapsAreCounted : Type 0
-PrintedMapsAreCounted = (texts : List HostText) (pins_text : List ℕ) (site : WholeSite) (outcome : Outcome) → site_read texts pins_text ≡ Ok site → IsOutcome site outcome
+PrintedMapsAreCounted =
+    (texts : List HostText) (pins_text : List ℕ) (site : WholeSite) (outcome : Outcome)
+    → site_read texts pins_text ≡ Ok site → IsOutcome site outcome
     → count_of texts outcome.map ≡ Ok outcome.cost
 
--- no map of the hosts' names to distinct numbers, in their pools or at their pins, rewrites fewer fields than a check accepts
+-- no map of the hosts' names to distinct numbers, in their pools or at their pins, rewrites fewer
+-- fields than a check accepts
 abbrev pub NoMapRewritesFewer : Type 0
-NoMapRewritesFewer = (texts : List HostText) (pins_text text : List ℕ) (cost : ℕ) → (is : IsVerified texts pins_text text cost) → (other : MapText) (m : Mappings)
-    → HaveOneNumberEach is.site.joined.users m.users other.users → HaveOneNumberEach is.site.joined.groups m.groups other.groups → cost ≤ fields (cost_of other is.site.hosts)
+NoMapRewritesFewer =
+    (texts : List HostText) (pins_text text : List ℕ) (cost : ℕ)
+    → (is : IsVerified texts pins_text text cost) → (other : MapText) (m : Mappings)
+    → HaveOneNumberEach is.site.joined.users m.users other.users
+    → HaveOneNumberEach is.site.joined.groups m.groups other.groups
+    → cost ≤ fields (cost_of other is.site.hosts)
 
--- a rehearsal of the plan that a merge prints for a host, over the host's inventory, answers how many records it has
+-- a rehearsal of the plan that a merge prints for a host, over the host's inventory, answers how
+-- many records it has
 abbrev pub PrintedPlansAreRehearsed : Type 0
-PrintedPlansAreRehearsed = (texts : List HostText) (pins_text : List ℕ) (site : WholeSite) (outcome : Outcome) → site_read texts pins_text ≡ Ok site → IsOutcome site outcome
-    → (h : ℕ) (text : HostText) (plan : List ℕ) → slice_get texts h ≡ Some text → slice_get outcome.plans h ≡ Some plan
-    → (told : PlanData) × ReadsAs plan (Ok told) × IsRehearsed plan text.mtree (Ok (length told.records))
+PrintedPlansAreRehearsed =
+    (texts : List HostText) (pins_text : List ℕ) (site : WholeSite) (outcome : Outcome)
+    → site_read texts pins_text ≡ Ok site → IsOutcome site outcome
+    → (h : ℕ) (text : HostText) (plan : List ℕ) → slice_get texts h ≡ Some text
+    → slice_get outcome.plans h ≡ Some plan
+    → (told : PlanData) × ReadsAs plan (Ok told)
+    × IsRehearsed plan text.mtree (Ok (length told.records))

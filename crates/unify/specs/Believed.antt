@@ -30,25 +30,43 @@ use Rattle.unify.specs.SiteRuns.{new_world, DoneKeepsNames, EachIsOldOrNamed}
 
 -- what a merge may answer for a site is believed
 abbrev pub OutcomesAreBelieved : Type 0
-OutcomesAreBelieved = (site : WholeSite) (outcome : Outcome) → IsWhole site → IsOutcome site outcome → Headline site outcome
+OutcomesAreBelieved =
+    (site : WholeSite) (outcome : Outcome) → IsWhole site → IsOutcome site outcome
+    → Headline site outcome
 
--- Where the plans of a merge were carried out on trees in memory as far as any events lead, refused or not, the files of a host
--- that is done have the names that they had, by the map that the merge printed, and by the passwd and group; those of any
--- other host have these names or their old owners.
+-- Where the plans of a merge were carried out on trees in memory as far as any events lead, refused
+-- or not, the files of a host that is done have the names that they had, by the map that the merge
+-- printed, and by the passwd and group; those of any other host have these names or their old
+-- owners.
 abbrev pub RunsKeepNames : Type 0
-RunsKeepNames = (keep : Keep) (events : List Event) (site : WholeSite) (outcome : Outcome) → IsWhole site → (merged : IsOutcome site outcome)
-    → (printed : MapText) → map_of outcome.map ≡ Ok printed → (refused : ℕ → Option RunFault) (runners : List RunnerData) (trees : List Mem)
-    → EachGoes known_mem (new_world keep site merged.mappings) events refused (record { runners = runners; trees = trees })
-    → (installed : AreInstalled site outcome merged.mappings printed) × EachIsOldOrNamed site printed installed.passwd.rows installed.group.rows trees
-    × DoneKeepsNames site printed installed.passwd.rows installed.group.rows (map (λ runner. is_done runner.place) runners) trees
+RunsKeepNames =
+    (keep : Keep) (events : List Event) (site : WholeSite) (outcome : Outcome) → IsWhole site
+    → (merged : IsOutcome site outcome)
+    → (printed : MapText) → map_of outcome.map ≡ Ok printed
+    → (refused : ℕ → Option RunFault) (runners : List RunnerData) (trees : List Mem)
+    → EachGoes known_mem (new_world keep site merged.mappings) events refused
+    (record { runners = runners; trees = trees })
+    → (installed : AreInstalled site outcome merged.mappings printed)
+    × EachIsOldOrNamed site printed installed.passwd.rows installed.group.rows trees
+    × DoneKeepsNames site printed installed.passwd.rows installed.group.rows
+    (map (λ runner. is_done runner.place) runners) trees
 
--- Whatever tree carried out the printed plan of a host, with whatever stops and failed calls: where it is safe and in step at
--- the end, as a runner's calls keep it, every file has the names that it had, whatever a further stop leaves.
+-- Whatever tree carried out the printed plan of a host, with whatever stops and failed calls: where
+-- it is safe and in step at the end, as a runner's calls keep it, every file has the names that it
+-- had, whatever a further stop leaves.
 abbrev pub DoneKeepsPrintedNames : Type 0
-DoneKeepsPrintedNames = (site : WholeSite) (outcome : Outcome) → IsWhole site → (merged : IsOutcome site outcome) (printed : MapText) → map_of outcome.map ≡ Ok printed
+DoneKeepsPrintedNames =
+    (site : WholeSite) (outcome : Outcome) → IsWhole site
+    → (merged : IsOutcome site outcome) (printed : MapText) → map_of outcome.map ≡ Ok printed
     → (h : ℕ) (host : Host) (files : List Entry) → slice_get site.hosts h ≡ Some (host, files)
-    → (plan : PlanMark) (tree : TreeData) → IsSafeInStep (owner_in files) (plan_of site.joined merged.mappings.users merged.mappings.groups h files) Done (cells_of plan tree)
-    → (image : Image) → IsImage (cells_of plan tree) image → (installed : AreInstalled site outcome merged.mappings printed) × All (IsNamedAsBefore printed installed.passwd.rows installed.group.rows host image.owner) files
+    → (plan : PlanMark) (tree : TreeData)
+    → IsSafeInStep (owner_in files)
+    (plan_of site.joined merged.mappings.users merged.mappings.groups h files) Done
+    (cells_of plan tree)
+    → (image : Image) → IsImage (cells_of plan tree) image
+    → (installed : AreInstalled site outcome merged.mappings printed)
+    × All (IsNamedAsBefore printed installed.passwd.rows installed.group.rows host image.owner)
+    files
 
 -- Two numbers, on any hosts, had one name; or none, and are one.
 abbrev pub WereOne : Option (List ℕ) → ℕ → Option (List ℕ) → ℕ → Type 0
@@ -57,12 +75,16 @@ WereOne None number None another = number ≡ another
 WereOne (Some name) number None another = ⊥
 WereOne None number (Some other) another = ⊥
 
--- Two files, on any hosts, that keep their names under one map have one uid exactly where their users had one name, and one gid
--- exactly where their groups had one; numbers that had no name are one where they were one.
+-- Two files, on any hosts, that keep their names under one map have one uid exactly where their
+-- users had one name, and one gid exactly where their groups had one; numbers that had no name are
+-- one where they were one.
 abbrev pub NumbersTellNames : Type 0
-NumbersTellNames = (users groups : Accounts) (m n : List ℕ) (printed : MapText) → HaveOneNumberEach users m printed.users → HaveOneNumberEach groups n printed.groups
+NumbersTellNames =
+    (users groups : Accounts) (m n : List ℕ) (printed : MapText)
+    → HaveOneNumberEach users m printed.users → HaveOneNumberEach groups n printed.groups
     → (host other : Host) (tree other_tree : List ℕ → Option Owner) (file other_file : Entry)
-    → (one : KeepsItsNames printed host tree file) (two : KeepsItsNames printed other other_tree other_file)
+    → (one : KeepsItsNames printed host tree file)
+    (two : KeepsItsNames printed other other_tree other_file)
     → ((one.now.uid ≡ two.now.uid) ↔ WereOne (user_at host.users file.uid) file.uid
     (user_at other.users other_file.uid) other_file.uid)
     × ((one.now.gid ≡ two.now.gid) ↔ WereOne (group_at host.groups file.gid) file.gid

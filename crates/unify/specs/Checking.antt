@@ -1,6 +1,7 @@
--- What a check of a certificate answers: the cost, or the first fault: those of the site, then the certificate's text, then
--- the check.
--- Source: the assignment problem with its weak duality (Kuhn, Munkres); the order of faults is this project's own rule.
+-- What a check of a certificate answers: the cost, or the first fault: those of the site, then the
+-- certificate's text, then the check.
+-- Source: the assignment problem with its weak duality (Kuhn, Munkres); the order of faults is this
+-- project's own rule.
 use Rattle.std.specs.Prelude.{◌≡◌, ℕ, List, Result, Ok}
 use Rattle.idtext.specs.First.{◌>>=◌}
 use Rattle.hosts_join.specs.declared.texts.HostText.{HostText}
@@ -17,10 +18,12 @@ abbrev pub checked : WholeSite → Result Certificate Fault → Result ℕ Fault
 checked site certificate = certificate >>= λ c. in_check (answer site.joined (files_of_site site) c)
 
 unfoldable pub verified : List HostText → List ℕ → List ℕ → Result ℕ Fault
-verified texts pins_text text = site_read texts pins_text >>= λ site. checked site (in_certificate (certificate_in text))
+verified texts pins_text text =
+    site_read texts pins_text >>= λ site. checked site (in_certificate (certificate_in text))
 
--- What a yes means: the texts say a site and a certificate of exactly its names; its mappings are admissible, its potentials
--- certify them, no admissible mappings cost less, and this is their cost.
+-- What a yes means: the texts say a site and a certificate of exactly its names; its mappings are
+-- admissible, its potentials certify them, no admissible mappings cost less, and this is their
+-- cost.
 pub record IsVerified (texts : List HostText) (pins_text text : List ℕ) (cost : ℕ) : Type 0 where
   pub site : WholeSite
   pub read : site_read texts pins_text ≡ Ok site

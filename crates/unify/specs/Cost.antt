@@ -20,15 +20,22 @@ changed mapping (Some owner) number = if is_number (number_of mapping owner) num
 
 -- the changed fields of a host's files
 abbrev pub users_changed : MapText → Host → List Entry → ℕ
-users_changed map host files = sum_by (λ file. changed map.users (user_at host.users file.uid) file.uid) files
+users_changed map host files =
+    sum_by (λ file. changed map.users (user_at host.users file.uid) file.uid) files
 
 abbrev pub groups_changed : MapText → Host → List Entry → ℕ
-groups_changed map host files = sum_by (λ file. changed map.groups (group_at host.groups file.gid) file.gid) files
+groups_changed map host files =
+    sum_by (λ file. changed map.groups (group_at host.groups file.gid) file.gid) files
 
 -- the cost of one host's files
 abbrev pub host_cost : MapText → Host → List Entry → Cost
-host_cost map host files = record { users = users_changed map host files; groups = groups_changed map host files }
+host_cost map host files =
+    record { users = users_changed map host files; groups = groups_changed map host files }
 
 -- the cost: over every file of every host
 abbrev pub cost_of : MapText → List (Host × List Entry) → Cost
-cost_of map sites = record { users = sum_by (λ site. users_changed map site.0 site.1) sites; groups = sum_by (λ site. groups_changed map site.0 site.1) sites }
+cost_of map sites =
+    record {
+      users = sum_by (λ site. users_changed map site.0 site.1) sites;
+      groups = sum_by (λ site. groups_changed map site.0 site.1) sites;
+    }

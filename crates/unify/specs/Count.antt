@@ -1,7 +1,8 @@
--- The answer to count, or the first fault: the host list; host by host its files but the inventory; the map; host by host the
--- inventory and its owners.
+-- The answer to count, or the first fault: the host list; host by host its files but the inventory;
+-- the map; host by host the inventory and its owners.
 -- Source: this project's own rule.
-use Rattle.std.specs.Prelude.{ℕ, Bool, List, Result, Ok, Err, map, is_some, find, bytes_eq, if◌then◌else◌, ◌&&◌}
+use Rattle.std.specs.Prelude.{ℕ, Bool, List, Result, Ok, Err, map, is_some, find, bytes_eq}
+use Rattle.std.specs.Prelude.{if◌then◌else◌, ◌&&◌}
 use Rattle.std.specs.List.{list_all, list_any}
 use Rattle.idtext.specs.First.{◌>>=◌, each}
 use Rattle.hosts_join.specs.declared.texts.HostText.{HostText}
@@ -37,13 +38,19 @@ has_group name host = is_some (find (λ row. bytes_eq name row.name) host.groups
 
 -- the names of the map are exactly the names of the hosts
 abbrev pub is_user_map : List Pair → List Host → Bool
-is_user_map pairs hosts = list_all (λ host. are_users_mapped pairs host.users) hosts && list_all (λ p. list_any (has_user p.name) hosts) pairs
+is_user_map pairs hosts =
+    list_all (λ host. are_users_mapped pairs host.users) hosts
+    && list_all (λ p. list_any (has_user p.name) hosts) pairs
 
 abbrev pub is_group_map : List Pair → List Host → Bool
-is_group_map pairs hosts = list_all (λ host. are_groups_mapped pairs host.groups) hosts && list_all (λ p. list_any (has_group p.name) hosts) pairs
+is_group_map pairs hosts =
+    list_all (λ host. are_groups_mapped pairs host.groups) hosts
+    && list_all (λ p. list_any (has_group p.name) hosts) pairs
 
 abbrev pub names_checked : MapText → List Host → Result (Unit {0}) Fault
-names_checked pairs hosts = if is_user_map pairs.users hosts && is_group_map pairs.groups hosts then Ok tt else Err (BadMap 0)
+names_checked pairs hosts =
+    if is_user_map pairs.users hosts && is_group_map pairs.groups hosts then Ok tt
+    else Err (BadMap 0)
 
 -- a host with the files of its inventory
 abbrev pub site_of : Loaded → Result (Host × List Entry) Fault

@@ -10,11 +10,15 @@ use Rattle.unify.specs.declared.outcome.Outcome.{Outcome}
 use Rattle.unify.specs.Outcomes.{hosts_in}
 use Rattle.unify.specs.Reading.{WholeSite}
 
--- The merged passwd and group have exactly one row for each name, with the number that the mappings give it, and say exactly
--- the map's pairs: they name a number as a user, or as a group, where the map gives this name this number, and nowhere else.
+-- The merged passwd and group have exactly one row for each name, with the number that the mappings
+-- give it, and say exactly the map's pairs: they name a number as a user, or as a group, where the
+-- map gives this name this number, and nowhere else.
 -- map: the printed map, as it is read
-pub record AreInstalled (site : WholeSite) (outcome : Outcome) (m : Mappings) (map : MapText) : Type 0 where
+pub record AreInstalled (site : WholeSite) (outcome : Outcome) (m : Mappings) (map : MapText) : Type
+    0 where
   pub passwd : IsMergedPasswd (hosts_in site) site.joined m outcome.passwd
   pub group : IsMergedGroupFile (hosts_in site) site.joined m outcome.group
-  pub users_agree : (name : List ℕ) (uid : ℕ) → (user_at passwd.rows uid ≡ Some name) ↔ (number_of map.users name ≡ Some uid)
-  pub groups_agree : (name : List ℕ) (gid : ℕ) → (group_at group.rows gid ≡ Some name) ↔ (number_of map.groups name ≡ Some gid)
+  pub users_agree : (name : List ℕ) (uid : ℕ) → (user_at passwd.rows uid ≡ Some name)
+      ↔ (number_of map.users name ≡ Some uid)
+  pub groups_agree : (name : List ℕ) (gid : ℕ) → (group_at group.rows gid ≡ Some name)
+      ↔ (number_of map.groups name ≡ Some gid)

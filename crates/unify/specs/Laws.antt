@@ -1,6 +1,7 @@
 -- What holds of every site that was read.
 -- Source: this project's own rule.
-use Rattle.std.specs.Prelude.{◌≡◌, ◌≤◌, ◌↔◌, ℕ, true, List, [], length, map, Some, None, Result, Ok, is_some, slice_get}
+use Rattle.std.specs.Prelude.{◌≡◌, ◌≤◌, ◌↔◌, ℕ, true, List, [], length, map, Some, None, Result, Ok}
+use Rattle.std.specs.Prelude.{is_some, slice_get}
 use Rattle.std.specs.List.{All}
 use Rattle.idtext.specs.First.{◌>>=◌, each}
 use Rattle.mtree_inv.specs.declared.entry.Entry.{Entry}
@@ -35,9 +36,9 @@ pub record HaveAccounts (host : Host) (uid gid : ℕ) : Type 0 where
   pub user : is_some (user_at host.users uid) ≡ true
   pub group : is_some (group_at host.groups gid) ≡ true
 
--- A host that was read, with its files: its tables are those of a passwd and a group, and lawful, as its name is; no path
--- stands twice, each file has a user and a group, or numbers that the host spares; what it spares is reserved, and the
--- accounts over all hosts know its own.
+-- A host that was read, with its files: its tables are those of a passwd and a group, and lawful,
+-- as its name is; no path stands twice, each file has a user and a group, or numbers that the host
+-- spares; what it spares is reserved, and the accounts over all hosts know its own.
 -- h: its index
 pub record IsReadHost (joined : Joined) (h : ℕ) (host : Host) (files : List Entry) : Type 0 where
   pub named : is_host_name host.name ≡ true
@@ -51,7 +52,8 @@ pub record IsReadHost (joined : Joined) (h : ℕ) (host : Host) (files : List En
 
 pub record IsWhole (site : WholeSite) : Type 0 where
   pub few_hosts : length site.hosts ≤ 64
-  pub each_host : (h : ℕ) (host : Host) (files : List Entry) → slice_get site.hosts h ≡ Some (host, files) → IsReadHost site.joined h host files
+  pub each_host : (h : ℕ) (host : Host) (files : List Entry)
+      → slice_get site.hosts h ≡ Some (host, files) → IsReadHost site.joined h host files
   -- the accounts over all hosts were joined from these, with some pins
   pub together : AreJoined (hosts_in site) site.joined
   pub lawful : HasLawfulAccounts site.joined
@@ -60,16 +62,22 @@ pub record IsWhole (site : WholeSite) : Type 0 where
   pub owned : All (λ f. AreOwnedOrReserved site.joined f.host f.uid f.gid) (files_of_site site)
 
 abbrev pub ReadSitesAreWhole : Type 0
-ReadSitesAreWhole = (texts : List HostText) (pins_text : List ℕ) (site : WholeSite) → site_read texts pins_text ≡ Ok site → IsWhole site
+ReadSitesAreWhole =
+    (texts : List HostText) (pins_text : List ℕ) (site : WholeSite)
+    → site_read texts pins_text ≡ Ok site → IsWhole site
 
--- a file has its owners among the accounts over all hosts exactly where it has them by its host's own tables
+-- a file has its owners among the accounts over all hosts exactly where it has them by its host's
+-- own tables
 abbrev pub OwnersAgree : Type 0
-OwnersAgree = (joined : Joined) (h : ℕ) (host : Host) (uid gid : ℕ) → KnowsHost joined h host → (unowned joined h uid gid ≡ None) ↔ HaveAccounts host uid gid
+OwnersAgree =
+    (joined : Joined) (h : ℕ) (host : Host) (uid gid : ℕ) → KnowsHost joined h host
+    → (unowned joined h uid gid ≡ None) ↔ HaveAccounts host uid gid
 
 -- each file has a user and a group, by its host's own tables and as well by the accounts over all
 -- hosts
 pub record HasAccountsForAll (site : WholeSite) : Type 0 where
-  pub by_tables : (h : ℕ) (host : Host) (files : List Entry) → slice_get site.hosts h ≡ Some (host, files)
+  pub by_tables : (h : ℕ) (host : Host) (files : List Entry)
+      → slice_get site.hosts h ≡ Some (host, files)
       → All (λ f. HaveAccounts host f.uid f.gid) files
   pub over_all_hosts :
       All (λ f. unowned site.joined f.host f.uid f.gid ≡ None) (files_of_site site)
@@ -97,11 +105,21 @@ site_without_pins texts = do
 abbrev pub EmptyPinsAreNone : Type 0
 EmptyPinsAreNone = (texts : List HostText) → site_read texts [] ≡ site_without_pins texts
 
--- what the texts of hosts say of a site is what comes before the inventories, and then, host by host, what the inventories say
+-- what the texts of hosts say of a site is what comes before the inventories, and then, host by
+-- host, what the inventories say
 abbrev pub PassesReadTheSite : Type 0
-PassesReadTheSite = (texts : List HostText) (pins_text : List ℕ) → site_read texts pins_text ≡ (site_begun texts pins_text >>= λ begun. each site_of (loaded_from begun.hosts (map (λ t. t.mtree) texts)) >>= λ hosts. Ok (record { hosts = hosts; joined = begun.joined }))
+PassesReadTheSite =
+    (texts : List HostText) (pins_text : List ℕ)
+    → site_read texts pins_text
+    ≡ (site_begun texts pins_text
+    >>= λ begun. each site_of (loaded_from begun.hosts (map (λ t. t.mtree) texts))
+    >>= λ hosts. Ok (record { hosts = hosts; joined = begun.joined }))
 
--- the cost of a map, by its pairs and each host's own tables, is the cost of its mappings, by the accounts over all hosts
+-- the cost of a map, by its pairs and each host's own tables, is the cost of its mappings, by the
+-- accounts over all hosts
 abbrev pub CostsAgree : Type 0
-CostsAgree = (site : WholeSite) (m : Mappings) (printed : MapText) → IsWhole site → SayMapping site.joined.users m.users printed.users → SayMapping site.joined.groups m.groups printed.groups
+CostsAgree =
+    (site : WholeSite) (m : Mappings) (printed : MapText) → IsWhole site
+    → SayMapping site.joined.users m.users printed.users
+    → SayMapping site.joined.groups m.groups printed.groups
     → cost_of printed site.hosts ≡ cost_in site m

@@ -1,5 +1,5 @@
 -- The lines that tell what a command answered.
--- Source: this product's own formats.
+-- Source: this project's own formats.
 use Rattle.std.specs.Prelude.{ℕ, List, [], ◌∷◌, ◌++◌, codes, decimal, flat_map}
 use Rattle.idtext.specs.Pieces.{lines}
 use Rattle.hosts_join.specs.declared.texts.HostText.{HostText}
@@ -9,7 +9,9 @@ use Rattle.unify.specs.declared.site_files.NamedText.{NamedText}
 use Rattle.unify.specs.declared.site_files.SiteFiles.{SiteFiles}
 
 abbrev pub cost_lines : Cost → List ℕ
-cost_lines cost = codes "user-fields " ++ decimal cost.users ++ codes "\ngroup-fields " ++ decimal cost.groups ++ 10 ∷ []
+cost_lines cost =
+    codes "user-fields " ++ decimal cost.users ++ codes "\ngroup-fields " ++ decimal cost.groups
+    ++ 10 ∷ []
 
 -- a certificate that is accepted, with its cost
 abbrev pub accepted_line : ℕ → List ℕ
@@ -31,13 +33,16 @@ file_lines name text = codes "file " ++ name ++ 10 ∷ flat_map barred (lines te
 abbrev pub plan_lines : List HostText → List (List ℕ) → List ℕ
 plan_lines [] plans = []
 plan_lines (host ∷ hosts) [] = []
-plan_lines (host ∷ hosts) (plan ∷ plans) = file_lines (codes "plan." ++ host.name) plan ++ plan_lines hosts plans
+plan_lines (host ∷ hosts) (plan ∷ plans) =
+    file_lines (codes "plan." ++ host.name) plan ++ plan_lines hosts plans
 
 -- what a merge writes: a file for each text, and then for each plan
 abbrev pub merge_lines : List HostText → Outcome → List ℕ
 merge_lines hosts outcome =
-    file_lines (codes "passwd") outcome.passwd ++ file_lines (codes "group") outcome.group ++ file_lines (codes "map") outcome.map
-    ++ file_lines (codes "certificate") outcome.certificate ++ file_lines (codes "report") outcome.report ++ plan_lines hosts outcome.plans
+    file_lines (codes "passwd") outcome.passwd ++ file_lines (codes "group") outcome.group
+    ++ file_lines (codes "map") outcome.map
+    ++ file_lines (codes "certificate") outcome.certificate
+    ++ file_lines (codes "report") outcome.report ++ plan_lines hosts outcome.plans
 
 -- files behind one another
 abbrev pub named_lines : List NamedText → List ℕ

@@ -14,10 +14,12 @@ use Rattle.unify.specs.Reading.{WholeSite, files_of_site}
 abbrev pub loaded_from : List Host → List (List ℕ) → List Loaded
 loaded_from [] mtrees = []
 loaded_from (host ∷ hosts) [] = []
-loaded_from (host ∷ hosts) (mtree ∷ mtrees) = record { host = host; mtree = mtree } ∷ loaded_from hosts mtrees
+loaded_from (host ∷ hosts) (mtree ∷ mtrees) =
+    record { host = host; mtree = mtree } ∷ loaded_from hosts mtrees
 
 -- what is kept of a site whose files were counted: the hosts, the accounts, and the counts
-pub record HoldsCounted (site : WholeSite) (hosts : List Host) (joined : Joined) (counted : Counted) : Type 0 where
+pub record HoldsCounted (site : WholeSite) (hosts : List Host) (joined : Joined) (counted : Counted)
+    : Type 0 where
   pub hosts_are : hosts ≡ map (λ h. h.0) site.hosts
   pub joined_is : joined ≡ site.joined
   pub together : AreJoined hosts joined

@@ -11,8 +11,10 @@ use Rattle.unify.specs.Reading.{WholeSite}
 abbrev pub mappings_in : Merged → Mappings
 mappings_in merged = record { users = merged.users; groups = merged.groups }
 
--- the texts tell the mappings and the certificate as soon as the plans are there, of which there is none as yet
-pub record IsPrintedButPlans (site : WholeSite) (m : Mappings) (c : Certificate) (outcome : Outcome) : Type 0 where
+-- the texts tell the mappings and the certificate as soon as the plans are there, of which there is
+-- none as yet
+pub record IsPrintedButPlans (site : WholeSite) (m : Mappings) (c : Certificate) (outcome : Outcome)
+    : Type 0 where
   pub no_plans : outcome.plans ≡ []
   pub printed : IsPrinted site m c (record outcome { plans = plan_texts site m })
 

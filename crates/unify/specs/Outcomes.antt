@@ -32,33 +32,44 @@ user_files site = by_user (files_of_site site)
 abbrev pub group_files : WholeSite → List File
 group_files site = by_group (files_of_site site)
 
--- how many owner fields and how many group fields the mappings change, over every file of every host
+-- how many owner fields and how many group fields the mappings change, over every file of every
+-- host
 abbrev pub cost_in : WholeSite → Mappings → Cost
-cost_in site m = record { users = cost_of site.joined.users (user_files site) m.users; groups = cost_of site.joined.groups (group_files site) m.groups }
+cost_in site m =
+    record {
+      users = cost_of site.joined.users (user_files site) m.users;
+      groups = cost_of site.joined.groups (group_files site) m.groups;
+    }
 
 -- the plan texts of hosts, where the first stands at the index
 abbrev pub plan_texts_from : List Host → Joined → Mappings → ℕ → List (List Entry) → List (List ℕ)
 plan_texts_from hosts site m index [] = []
-plan_texts_from hosts site m index (files ∷ more) = plan.spelling (host_plan hosts site m.users m.groups index files) ∷ plan_texts_from hosts site m (index + 1) more
+plan_texts_from hosts site m index (files ∷ more) =
+    plan.spelling (host_plan hosts site m.users m.groups index files)
+    ∷ plan_texts_from hosts site m (index + 1) more
 
 abbrev pub plan_texts : WholeSite → Mappings → List (List ℕ)
 plan_texts site m = plan_texts_from (hosts_in site) site.joined m 0 (map (λ h. h.1) site.hosts)
 
--- Mappings that cost the least, and among those change the fewest account rows; names whose numbers weigh nothing have, in
--- byte order, the smallest that are left; and the certificate certifies them.
+-- Mappings that cost the least, and among those change the fewest account rows; names whose numbers
+-- weigh nothing have, in byte order, the smallest that are left; and the certificate certifies
+-- them.
 pub record AreAnswered (site : WholeSite) (m : Mappings) (c : Certificate) : Type 0 where
   pub least : AreLeast site.joined (files_of_site site) m
   pub fewest_user_rows : ChangesFewestRows site.joined.users (user_files site) m.users
   pub fewest_group_rows : ChangesFewestRows site.joined.groups (group_files site) m.groups
-  pub filled_users : IsFilled site.joined.users (IsFresh site.joined.users (user_files site) m.users) m.users
-  pub filled_groups : IsFilled site.joined.groups (IsFresh site.joined.groups (group_files site) m.groups) m.groups
+  pub filled_users : IsFilled site.joined.users
+      (IsFresh site.joined.users (user_files site) m.users) m.users
+  pub filled_groups : IsFilled site.joined.groups
+      (IsFresh site.joined.groups (group_files site) m.groups) m.groups
   pub certified : AreCertified site.joined (files_of_site site) c
   pub certificate_has : mappings_of site.joined c ≡ m
   pub user_side : IsSide c.users
   pub group_side : IsSide c.groups
 
 -- The texts tell the mappings and the certificate.
-pub record IsPrinted (site : WholeSite) (m : Mappings) (c : Certificate) (outcome : Outcome) : Type 0 where
+pub record IsPrinted (site : WholeSite) (m : Mappings) (c : Certificate) (outcome : Outcome) : Type
+    0 where
   pub passwd : outcome.passwd ≡ merged_users (hosts_in site) site.joined m.users m.groups
   pub group : outcome.group ≡ merged_groups (hosts_in site) site.joined m.groups
   pub map_is : outcome.map ≡ map_text site.joined m

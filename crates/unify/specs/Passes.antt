@@ -1,7 +1,8 @@
--- Inventories that come in pieces, host by host, and of which no text is kept: what comes before them, and their files
--- counted by the rows of their host's own tables.
+-- Inventories that come in pieces, host by host, and of which no text is kept: what comes before
+-- them, and their files counted by the rows of their host's own tables.
 -- Source: this project's own rule.
-use Rattle.std.specs.Prelude.{◌≡◌, ◌≤◌, ◌⊎◌, ℕ, Bool, true, false, List, [], map, length, All, Option, Some, None, Result, Ok, Err, slice_get}
+use Rattle.std.specs.Prelude.{◌≡◌, ◌≤◌, ◌⊎◌, ℕ, Bool, true, false, List, [], map, length, All}
+use Rattle.std.specs.Prelude.{Option, Some, None, Result, Ok, Err, slice_get}
 use Rattle.idtext.specs.First.{◌>>=◌, each, first_fault}
 use Rattle.idtext.specs.declared.faults.ReadError.{ReadError}
 use Rattle.idtext.specs.declared.faults.ReadError.TheVariants as read
@@ -36,11 +37,14 @@ pub record BegunSite : Type 0 where
   pub hosts : List Host
   pub joined : Joined
 
--- the accounts over all hosts, by the pins of a text: the pins text; the join, users and then groups
+-- the accounts over all hosts, by the pins of a text: the pins text; the join, users and then
+-- groups
 abbrev pub pinned_site : List Host → List ℕ → Result Joined Fault
-pinned_site hosts pins_text = in_pins (pins_of pins_text) >>= λ pins. in_site (joined_site hosts pins)
+pinned_site hosts pins_text =
+    in_pins (pins_of pins_text) >>= λ pins. in_site (joined_site hosts pins)
 
--- the host list; host by host its files but the inventory; the pins text; the join, users and then groups
+-- the host list; host by host its files but the inventory; the pins text; the join, users and then
+-- groups
 unfoldable pub site_begun : List HostText → List ℕ → Result BegunSite Fault
 site_begun texts pins_text = do
   listed ← in_site (hosts_checked texts)
@@ -78,10 +82,14 @@ is_read (Err f) = Err f
 abbrev pub lines_of : Host → List ℕ → Result (List Entry) Fault
 lines_of host text = in_file host.name file.Mtree (inventory_of_lines 16777216 (whole_lines text))
 
--- the host allows each of the files, and so many of them each row owns; or this is the first that it does not allow
+-- the host allows each of the files, and so many of them each row owns; or this is the first that
+-- it does not allow
 abbrev pub AreCounted : Host → RowFiles → Option Entry → List Entry → Type 0
-AreCounted host rows None files = (first_fault (owner_fault host) [] files ≡ None) × (rows ≡ row_files host files)
-AreCounted host rows (Some e) files = (f : Fault) × (owner_fault host [] e ≡ Some f) × (first_fault (owner_fault host) [] files ≡ Some f)
+AreCounted host rows None files =
+    (first_fault (owner_fault host) [] files ≡ None) × (rows ≡ row_files host files)
+AreCounted host rows (Some e) files =
+    (f : Fault) × (owner_fault host [] e ≡ Some f)
+    × (first_fault (owner_fault host) [] files ≡ Some f)
 
 -- of the inventory of the host this text has come, in which there is no reader fault so far
 pub record TurnsFor (host : Host) (turn : Turn) (text : List ℕ) : Type 0 where
@@ -118,7 +126,8 @@ met_at host true fault unowned = Some (owner_told host unowned)
 met_at host false (Some f) unowned = Some (read_told host f)
 met_at host false None unowned = None
 
--- the fault that a host's turn came to: a reader fault, or at its end a file that the host does not allow
+-- the fault that a host's turn came to: a reader fault, or at its end a file that the host does not
+-- allow
 abbrev pub met_by : Host → Turn → Option Fault
 met_by host turn = met_at host turn.reader.is_finished turn.reader.fault turn.unowned
 
@@ -133,12 +142,13 @@ TellsFault f (Err e) = IsToldAs f e
 
 -- the first fault of a whole inventory, or want of memory
 abbrev pub IsFaultOf : Host → List ℕ → Fault → Type 0
-IsFaultOf host text f = (f ≡ Memory) ⊎ (is_read (files_of (record { host = host; mtree = text })) ≡ Err f)
+IsFaultOf host text f =
+    (f ≡ Memory) ⊎ (is_read (files_of (record { host = host; mtree = text })) ≡ Err f)
 
 -- ---- the inventories of all hosts
 
--- what contracts see of inventories that come in pieces: the hosts, how many files each row owns of each host whose inventory
--- was ended, and the turn of the next host
+-- what contracts see of inventories that come in pieces: the hosts, how many files each row owns of
+-- each host whose inventory was ended, and the turn of the next host
 pub record InventoriesValue : Type 0 where
   pub hosts : List Host
   pub passed : List RowFiles
@@ -152,8 +162,8 @@ ended_in c = length c.passed
 abbrev pub ArePassed : List RowFiles → List (Host × List Entry) → Type 0
 ArePassed passed read = passed ≡ map (λ here. row_files here.0 here.1) read
 
--- the inventories of the first hosts were ended with these texts, each of which was accepted, and of the next host this
--- text has come
+-- the inventories of the first hosts were ended with these texts, each of which was accepted, and
+-- of the next host this text has come
 pub record StandsFor (c : InventoriesValue) (ended : List (List ℕ)) (text : List ℕ) : Type 0 where
   pub read : List (Host × List Entry)
   pub accepted : each site_of (loaded_from c.hosts ended) ≡ Ok read
@@ -174,7 +184,8 @@ pub record AreComing (c : InventoriesValue) : Type 0 where
   pub few : length c.hosts ≤ 64
   pub lawful : All IsLawfulHost c.hosts
   pub within : ended_in c ≤ length c.hosts
-  pub standing : fault_met c ≡ None → (ended : List (List ℕ)) × (text : List ℕ) × StandsFor c ended text
+  pub standing : fault_met c ≡ None → (ended : List (List ℕ)) × (text : List ℕ)
+      × StandsFor c ended text
 
 -- inventories of these hosts, of which none has come
 pub record AreAtStart (hosts : List Host) (c : InventoriesValue) : Type 0 where

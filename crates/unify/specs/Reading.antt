@@ -1,5 +1,6 @@
--- What the texts of hosts and a pins text say of a site, or the first fault: the host list; host by host its files but the
--- inventory; the pins text; the join, users and then groups; host by host the inventory and its owners.
+-- What the texts of hosts and a pins text say of a site, or the first fault: the host list; host by
+-- host its files but the inventory; the pins text; the join, users and then groups; host by host
+-- the inventory and its owners.
 -- Source: this project's own rule.
 use Rattle.std.specs.Prelude.{ℕ, ◌+◌, List, [], ◌∷◌, ◌++◌, map, Result, Ok}
 use Rattle.idtext.specs.First.{◌>>=◌, each}
@@ -15,7 +16,8 @@ use Rattle.unify.specs.Told.{in_site, in_pins}
 use Rattle.unify.specs.Hosts.{host_of}
 use Rattle.unify.specs.Count.{site_of}
 
--- a site that was read: its hosts with the files of their inventories, and the accounts over all hosts
+-- a site that was read: its hosts with the files of their inventories, and the accounts over all
+-- hosts
 pub record WholeSite : Type 0 where
   pub hosts : List (Host × List Entry)
   pub joined : Joined

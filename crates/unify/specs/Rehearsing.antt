@@ -1,6 +1,8 @@
--- What a rehearsal of a plan answers: the plan is carried out on a tree in memory that is as the inventory tells.
+-- What a rehearsal of a plan answers: the plan is carried out on a tree in memory that is as the
+-- inventory tells.
 -- Source: this project's own rule.
-use Rattle.std.specs.Prelude.{◌≡◌, ℕ, ◌||◌, List, [], length, Option, Some, None, Result, Ok, Err, IfSome, if◌then◌else◌}
+use Rattle.std.specs.Prelude.{◌≡◌, ℕ, ◌||◌, List, [], length, Option, Some, None, Result, Ok, Err}
+use Rattle.std.specs.Prelude.{IfSome, if◌then◌else◌}
 use Rattle.idtext.specs.First.{◌>>=◌, first_fault, unless}
 use Rattle.mtree_inv.specs.declared.entry.Entry.{Entry}
 use Rattle.mtree_inv.specs.Inventory.{inventory}
@@ -17,7 +19,8 @@ use Rattle.unify.specs.Told.{in_file, in_plan}
 -- the file of a record is there, at its old or its new owner
 abbrev pub found_fault : PlanRecord → Option Owner → Option Fault
 found_fault r None = Some (Missing r.path)
-found_fault r (Some has) = if owner_eq has r.before || owner_eq has r.after then None else Some (Foreign r.path)
+found_fault r (Some has) =
+    if owner_eq has r.before || owner_eq has r.after then None else Some (Foreign r.path)
 
 abbrev pub record_fault : List Entry → List PlanRecord → PlanRecord → Option Fault
 record_fault files before r = found_fault r (owner_in files r.path)

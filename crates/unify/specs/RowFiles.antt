@@ -16,4 +16,8 @@ files_with number v files = count_by (λ e. number e == v) files
 
 -- how many of the files the rows of the host own
 abbrev pub row_files : Host → List Entry → RowFiles
-row_files host files = record { users = map (λ r. files_with (λ e. e.uid) r.uid files) host.users; groups = map (λ r. files_with (λ e. e.gid) r.gid files) host.groups }
+row_files host files =
+    record {
+      users = map (λ r. files_with (λ e. e.uid) r.uid files) host.users;
+      groups = map (λ r. files_with (λ e. e.gid) r.gid files) host.groups;
+    }

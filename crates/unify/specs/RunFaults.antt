@@ -11,5 +11,6 @@ use Rattle.unify_texts.specs.declared.fault.Fault.TheVariants as fault
 abbrev pub run_told : List PlanRecord → RunFault → Option Fault
 run_told records run.Device = Some fault.Device
 run_told records (run.Missing i) = option_map (λ r. fault.Missing r.path) (slice_get records i)
-run_told records (run.Unfinished i) = option_map (λ r. fault.Unfinished r.path) (slice_get records i)
+run_told records (run.Unfinished i) =
+    option_map (λ r. fault.Unfinished r.path) (slice_get records i)
 run_told records (run.Foreign i) = option_map (λ r. fault.Foreign r.path) (slice_get records i)

@@ -1,6 +1,7 @@
 -- Inventories that come a second time in pieces, host by host, while plans are appended.
 -- Source: this project's own rule.
-use Rattle.std.specs.Prelude.{◌≡◌, ◌≤◌, ◌⊎◌, ℕ, Bool, true, false, List, [], ◌++◌, length, Option, Some, None, Result, Ok, Err, slice_get}
+use Rattle.std.specs.Prelude.{◌≡◌, ◌≤◌, ◌⊎◌, ℕ, Bool, true, false, List, [], ◌++◌, length, Option}
+use Rattle.std.specs.Prelude.{Some, None, Result, Ok, Err, slice_get}
 use Rattle.idtext.specs.First.{◌>>=◌, first_fault, unless}
 use Rattle.idtext.specs.declared.faults.ReadError.{ReadError}
 use Rattle.idtext.specs.declared.faults.ReadError.TheVariants as read
@@ -52,23 +53,30 @@ HaveSameCounts host files others = row_files host files ≡ row_files host other
 
 -- the plan of a host for these of its files, without the `end` line
 abbrev pub plan_before_end : Host → Joined → Merged → ℕ → List Entry → List ℕ
-plan_before_end host joined merged index files = head host.name ++ lines (plan_of joined merged.users merged.groups index files)
+plan_before_end host joined merged index files =
+    head host.name ++ lines (plan_of joined merged.users merged.groups index files)
 
 -- nothing as yet, or the plan for the files so far, which has no `end` line
 abbrev pub planned_so_far : Host → Joined → Merged → ℕ → Bool → List Entry → List ℕ
 planned_so_far host joined merged index false files = []
 planned_so_far host joined merged index true files = plan_before_end host joined merged index files
 
--- a prefix of a plan without its `end` line: nothing as yet, or the plan for the first of the files that the text has before
--- its first fault
+-- a prefix of a plan without its `end` line: nothing as yet, or the plan for the first of the files
+-- that the text has before its first fault
 abbrev pub IsUnfinished : Host → Joined → Merged → ℕ → List ℕ → List ℕ → Type 0
 IsUnfinished host joined merged index text planned =
-    (planned ≡ []) ⊎ ((files : List Entry) × (rest : List Entry) × (reader.files_before_fault 16777216 text ≡ files ++ rest) × AreFiles files
+    (planned ≡ [])
+    ⊎ ((files : List Entry) × (rest : List Entry)
+    × (reader.files_before_fault 16777216 text ≡ files ++ rest) × AreFiles files
     × (planned ≡ plan_before_end host joined merged index files))
 
 -- the whole plan of a host for these files
 abbrev pub whole_plan : Host → Joined → Merged → ℕ → List Entry → List ℕ
-whole_plan host joined merged index files = spelling (record { host = host.name; records = plan_of joined merged.users merged.groups index files })
+whole_plan host joined merged index files =
+    spelling (record {
+      host = host.name;
+      records = plan_of joined merged.users merged.groups index files;
+    })
 
 -- ---- the turn of a host
 
@@ -88,9 +96,10 @@ pub record IsFreshTurn (turn : PlanTurn) : Type 0 where
   pub none : turn.reader.files ≡ []
   pub unbegun : turn.is_begun ≡ false
 
--- of the second inventory of the host with the index this text has come, in which there is no fault so far and each file is
--- allowed; and for it this much of a plan was appended
-pub record TurnsFor (host : Host) (joined : Joined) (merged : Merged) (index : ℕ) (turn : PlanTurn) (text planned : List ℕ) : Type 0 where
+-- of the second inventory of the host with the index this text has come, in which there is no fault
+-- so far and each file is allowed; and for it this much of a plan was appended
+pub record TurnsFor (host : Host) (joined : Joined) (merged : Merged) (index : ℕ) (turn : PlanTurn)
+    (text planned : List ℕ) : Type 0 where
   pub goes : turn.stop ≡ None
   pub reading : reader.StandsFor turn.reader text
   pub most : turn.reader.most ≡ 16777216
@@ -102,8 +111,10 @@ pub record TurnsFor (host : Host) (joined : Joined) (merged : Merged) (index : �
   pub none_unbegun : turn.is_begun ≡ false → turn.reader.files ≡ []
   pub planned_is : planned ≡ planned_so_far host joined merged index turn.is_begun turn.reader.files
 
--- the second inventory was ended with this text, and the plan for it but the `end` line was appended
-pub record IsAccepted (host : Host) (joined : Joined) (merged : Merged) (index : ℕ) (text planned : List ℕ) : Type 0 where
+-- the second inventory was ended with this text, and the plan for it but the `end` line was
+-- appended
+pub record IsAccepted (host : Host) (joined : Joined) (merged : Merged) (index : ℕ)
+    (text planned : List ℕ) : Type 0 where
   pub files : List Entry
   pub are : second_files host text ≡ Ok files
   pub planned_is : planned ≡ plan_before_end host joined merged index files
@@ -115,8 +126,9 @@ abbrev pub stop_told : Host → Stop → Fault
 stop_told host stop.Changed = InventoryChanged host.name
 stop_told host stop.Memory = Memory
 
--- what contracts see of a second pass: the hosts, their accounts together, how many files each row of each host owned in the
--- first pass, what was merged, how many inventories were ended a second time, and the turn of the next host
+-- what contracts see of a second pass: the hosts, their accounts together, how many files each row
+-- of each host owned in the first pass, what was merged, how many inventories were ended a second
+-- time, and the turn of the next host
 pub record SolvedValue : Type 0 where
   pub hosts : List Host
   pub joined : Joined
@@ -125,7 +137,8 @@ pub record SolvedValue : Type 0 where
   pub ended : ℕ
   pub turn : PlanTurn
 
--- of the second inventory of the next host this text has come, and for it this much of a plan was appended
+-- of the second inventory of the next host this text has come, and for it this much of a plan was
+-- appended
 abbrev pub StandsFor : SolvedValue → Host → List ℕ → List ℕ → Type 0
 StandsFor s host text planned = TurnsFor host s.joined s.merged s.ended s.turn text planned
 
@@ -144,14 +157,16 @@ pub record IsSolving (s : SolvedValue) : Type 0 where
   pub for_site : AreForSite s.joined s.merged.users s.merged.groups
   pub within : s.ended ≤ length s.hosts
   pub passed_are : length s.passed ≡ length s.hosts
-  pub standing : (host : Host) → slice_get s.hosts s.ended ≡ Some host → s.turn.stop ≡ None → (text : List ℕ) × (planned : List ℕ) × StandsFor s host text planned
+  pub standing : (host : Host) → slice_get s.hosts s.ended ≡ Some host → s.turn.stop ≡ None
+      → (text : List ℕ) × (planned : List ℕ) × StandsFor s host text planned
 
--- a second pass of which no inventory has come, behind a first pass of which each was ended: what was merged is right for the
--- texts of that
+-- a second pass of which no inventory has come, behind a first pass of which each was ended: what
+-- was merged is right for the texts of that
 pub record IsSolvedFrom (c : InventoriesValue) (joined : Joined) (s : SolvedValue) : Type 0 where
   pub hosts : s.hosts ≡ c.hosts
   pub joined_is : s.joined ≡ joined
   pub passed : s.passed ≡ c.passed
   pub ended : s.ended ≡ 0
   pub stands : (host : Host) → slice_get s.hosts 0 ≡ Some host → StandsFor s host [] []
-  pub merged : (ended : List (List ℕ)) → (were : first.StandsFor c ended []) → IsMerged (record { hosts = were.read; joined = joined }) s.merged
+  pub merged : (ended : List (List ℕ)) → (were : first.StandsFor c ended [])
+      → IsMerged (record { hosts = were.read; joined = joined }) s.merged

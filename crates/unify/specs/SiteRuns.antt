@@ -1,6 +1,7 @@
 -- What a rehearsal of a whole site answers.
 -- Source: this project's own rule.
-use Rattle.std.specs.Prelude.{◌≡◌, ℕ, ◌+◌, Bool, true, List, [], ◌∷◌, map, length, Some, None, slice_get, All}
+use Rattle.std.specs.Prelude.{◌≡◌, ℕ, ◌+◌, Bool, true, List, [], ◌∷◌, map, length, Some, None}
+use Rattle.std.specs.Prelude.{slice_get, All}
 use Rattle.accounts.specs.Rows.{Passwd, Group}
 use Rattle.mtree_inv.specs.declared.entry.Entry.{Entry}
 use Rattle.hosts_join.specs.declared.host.Host.{Host}
@@ -23,34 +24,51 @@ use Rattle.unify.specs.Reading.{WholeSite}
 -- a runner at its start for each host's plan, where the first host stands at the index
 abbrev pub runners_from : WholeSite → Mappings → ℕ → List (Host × List Entry) → List RunnerData
 runners_from site m h [] = []
-runners_from site m h (here ∷ more) = starting (host_plan (hosts_in site) site.joined m.users m.groups h here.1) ∷ runners_from site m (h + 1) more
+runners_from site m h (here ∷ more) =
+    starting (host_plan (hosts_in site) site.joined m.users m.groups h here.1)
+    ∷ runners_from site m (h + 1) more
 
 -- trees in memory as the inventories tell them
 abbrev pub new_trees : Keep → WholeSite → List Mem
 new_trees keep site = map (λ here. record (new_mem here.1) { keep = keep }) site.hosts
 
 abbrev pub new_world : Keep → WholeSite → Mappings → World Mem
-new_world keep site m = record { runners = runners_from site m 0 site.hosts; trees = new_trees keep site }
+new_world keep site m =
+    record { runners = runners_from site m 0 site.hosts; trees = new_trees keep site }
 
--- on a host that is done every file has the names that it had, whatever a further stop leaves, as any plan sees it
--- users, groups: the rows of the merged passwd and group
-abbrev pub DoneKeepsNames : WholeSite → MapText → List Passwd → List Group → List Bool → List Mem → Type 0
-DoneKeepsNames site map users groups done trees = (h : ℕ) (host : Host) (files : List Entry) (tree : Mem) → slice_get site.hosts h ≡ Some (host, files) → slice_get done h ≡ Some true → slice_get trees h ≡ Some tree
-    → (plan : PlanMark) (image : Image) → IsImage (cells_of plan (known_mem tree)) image → All (IsNamedAsBefore map users groups host image.owner) files
+-- on a host that is done every file has the names that it had, whatever a further stop leaves, as
+-- any plan sees it users, groups: the rows of the merged passwd and group
+abbrev pub DoneKeepsNames : WholeSite → MapText → List Passwd → List Group → List Bool → List Mem
+    → Type 0
+DoneKeepsNames site map users groups done trees =
+    (h : ℕ) (host : Host) (files : List Entry) (tree : Mem)
+    → slice_get site.hosts h ≡ Some (host, files) → slice_get done h ≡ Some true
+    → slice_get trees h ≡ Some tree
+    → (plan : PlanMark) (image : Image) → IsImage (cells_of plan (known_mem tree)) image
+    → All (IsNamedAsBefore map users groups host image.owner) files
 
--- on every host, done or not, every file has its old owner or the names that it had, whatever a further stop leaves
+-- on every host, done or not, every file has its old owner or the names that it had, whatever a
+-- further stop leaves
 abbrev pub EachIsOldOrNamed : WholeSite → MapText → List Passwd → List Group → List Mem → Type 0
-EachIsOldOrNamed site map users groups trees = (h : ℕ) (host : Host) (files : List Entry) (tree : Mem) → slice_get site.hosts h ≡ Some (host, files) → slice_get trees h ≡ Some tree
-    → (plan : PlanMark) (image : Image) → IsImage (cells_of plan (known_mem tree)) image → All (IsOldOrNamed map users groups host image.owner) files
+EachIsOldOrNamed site map users groups trees =
+    (h : ℕ) (host : Host) (files : List Entry) (tree : Mem)
+    → slice_get site.hosts h ≡ Some (host, files) → slice_get trees h ≡ Some tree
+    → (plan : PlanMark) (image : Image) → IsImage (cells_of plan (known_mem tree)) image
+    → All (IsOldOrNamed map users groups host image.owner) files
 
--- A site that was merged, and whose plans went on as far as these events lead, each host by its own, none of them refused.
-pub record IsSiteRun (keep : Keep) (events : List Event) (site : WholeSite) (run : SiteRun) : Type 0 where
-  pub merged : IsOutcome site run.outcome
-  pub believed : Headline site run.outcome
-  pub runners : List RunnerData
-  pub a_runner_each : length runners ≡ length site.hosts
-  pub a_tree_each : length run.trees.items ≡ length site.hosts
-  pub went : EachGoes known_mem (new_world keep site merged.mappings) events (λ host. None) (record { runners = runners; trees = run.trees.items })
-  pub done : run.done.items ≡ map (λ runner. is_done runner.place) runners
-  pub at_this_moment : EachIsOldOrNamed site believed.map believed.installed.passwd.rows believed.installed.group.rows run.trees.items
-  pub names_kept : DoneKeepsNames site believed.map believed.installed.passwd.rows believed.installed.group.rows run.done.items run.trees.items
+-- A site that was merged, and whose plans went on as far as these events lead, each host by its
+-- own, none of them refused.
+pub record IsSiteRun (keep : Keep) (events : List Event) (site : WholeSite) (run : SiteRun) : Type 0
+  where
+    pub merged : IsOutcome site run.outcome
+    pub believed : Headline site run.outcome
+    pub runners : List RunnerData
+    pub a_runner_each : length runners ≡ length site.hosts
+    pub a_tree_each : length run.trees.items ≡ length site.hosts
+    pub went : EachGoes known_mem (new_world keep site merged.mappings) events (λ host. None)
+        (record { runners = runners; trees = run.trees.items })
+    pub done : run.done.items ≡ map (λ runner. is_done runner.place) runners
+    pub at_this_moment : EachIsOldOrNamed site believed.map believed.installed.passwd.rows
+        believed.installed.group.rows run.trees.items
+    pub names_kept : DoneKeepsNames site believed.map believed.installed.passwd.rows
+        believed.installed.group.rows run.done.items run.trees.items

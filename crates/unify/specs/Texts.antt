@@ -43,11 +43,12 @@ pub record IsOfSite (texts : List HostText) (site : WholeSite) (s : SolvedValue)
   pub accepted : each site_of (loaded_from s.hosts (mtrees texts)) ≡ Ok site.hosts
 
 -- the turn of the host has come, whose inventory is this text again
-pub record IsTurnOf (s : SolvedValue) (host : Host) (text : List ℕ) (files : List Entry) : Type 0 where
-  pub here : slice_get s.hosts s.ended ≡ Some host
-  pub passed : slice_get s.passed s.ended ≡ Some (row_files host files)
-  pub accepted : files_of (record { host = host; mtree = text }) ≡ Ok files
-  pub stands : second.StandsFor s host [] []
+pub record IsTurnOf (s : SolvedValue) (host : Host) (text : List ℕ) (files : List Entry) : Type 0
+  where
+    pub here : slice_get s.hosts s.ended ≡ Some host
+    pub passed : slice_get s.passed s.ended ≡ Some (row_files host files)
+    pub accepted : files_of (record { host = host; mtree = text }) ≡ Ok files
+    pub stands : second.StandsFor s host [] []
 
 -- what was merged for the site, with the whole plan of each host
 pub record IsPlanned (site : WholeSite) (merged : Merged) (outcome : Outcome) : Type 0 where

@@ -6,14 +6,18 @@ ghost use Rattle.idtext.specs.First.{Gives};
 ghost use Rattle.hosts_join.specs.Checks.{hosts_checked};
 ghost use Rattle.unify_texts.specs.Told.{told};
 ghost use Rattle.unify.specs.Told.{in_site};
-ghost use Rattle.unify.specs.Count.{are_users_mapped as users_mapped, are_groups_mapped as groups_mapped, has_user as host_has_user, has_group as host_has_group, is_user_map, is_group_map, names_checked};
+ghost use Rattle.unify.specs.Count.{are_users_mapped as users_mapped};
+ghost use Rattle.unify.specs.Count.{are_groups_mapped as groups_mapped, has_user as host_has_user};
+ghost use Rattle.unify.specs.Count.{has_group as host_has_group, is_user_map, is_group_map};
+ghost use Rattle.unify.specs.Count.{names_checked};
 
 use crate::host::site_fault;
 use accounts::{GroupRow, PasswdRow};
 use hosts_join::{Host, HostText, PairTable, check_hosts};
 use unify_texts::{Fault, MapText};
 
-/// How many fields of files change: one for a file whose user's number changes, and one for a file whose group's does.
+/// How many fields of files change: one for a file whose user's number changes, and one for a file
+/// whose group's does.
 #[derive(Clone, Copy, Debug, PartialEq, Eq)]
 pub struct Cost {
     pub users: u64,
@@ -131,7 +135,8 @@ fn is_map_of_groups(names: &PairTable<'_>, hosts: &[Host<'_>]) -> bool
     host_groups_have_numbers(names, hosts) && pairs_are_groups(names, hosts)
 }
 
-/// Checks that the names of the map are exactly those of the hosts. A look-up by hash on each host for each of its names.
+/// Checks that the names of the map are exactly those of the hosts. A look-up by hash on each host
+/// for each of its names.
 pub fn check_names<'a>(names: &MapText<'_>, hosts: &[Host<'_>]) -> Result<(), Fault<'a>>
     ensures { Gives (λ x. x) told result (names_checked names.now hosts.now) }
 {

@@ -1,6 +1,7 @@
 //! What the texts of a host say.
 
-ghost use Rattle.std.specs.Prelude.{◌≡◌, ◌≤◌, [], length, Ok, Err, IfOk, IfErr, IfSome, All, option_map};
+ghost use Rattle.std.specs.Prelude.{◌≡◌, ◌≤◌, [], length, Ok, Err, IfOk, IfErr, IfSome, All};
+ghost use Rattle.std.specs.Prelude.{option_map};
 ghost use Rattle.idtext.specs.First.{Gives, each};
 ghost use Rattle.accounts.specs.Laws.{IsPasswdTable, IsGroupTable};
 ghost use Rattle.accounts.specs.Tables.{passwd_table, group_table};
@@ -45,7 +46,8 @@ pub fn line_fault(host: &[u8], file: FileName, fault: TextFault) -> Fault<'_>
     }
 }
 
-/// A fault of the host list, of the primary groups or of the join, as the program tells it. Constant time.
+/// A fault of the host list, of the primary groups or of the join, as the program tells it.
+/// Constant time.
 pub fn site_fault(fault: SiteFault<'_>) -> Fault<'_>
     ensures { result ≡ site_told fault.entry }
 {
@@ -104,7 +106,8 @@ pub fn site_fault(fault: SiteFault<'_>) -> Fault<'_>
 
 // The ranges of a host.
 fn ranges_at<'a>(host: &'a [u8], text: &[u8]) -> Result<HostRanges, Fault<'a>>
-    ensures exact { Gives (λ x. x) told result (in_file host.now FileName.LoginDefs (ranges_of text.now)) }
+    ensures exact { Gives (λ x. x) told result
+        (in_file host.now FileName.LoginDefs (ranges_of text.now)) }
     ensures lawful { IfOk result IsHostRanges }
 {
     match read_ranges(text) {
@@ -115,7 +118,8 @@ fn ranges_at<'a>(host: &'a [u8], text: &[u8]) -> Result<HostRanges, Fault<'a>>
 
 // The users of a host.
 fn users_at<'a>(alloc: Global, host: &'a [u8], text: &'a [u8]) -> Result<PasswdTable<'a>, Fault<'a>>
-    ensures exact { Gives (λ x. x) told result (in_file host.now FileName.Passwd (passwd_table text.now)) }
+    ensures exact { Gives (λ x. x) told result
+        (in_file host.now FileName.Passwd (passwd_table text.now)) }
     ensures lawful { IfOk result (λ table. IsPasswdTable table) }
 {
     match read_passwd(alloc, text) {
@@ -127,7 +131,8 @@ fn users_at<'a>(alloc: Global, host: &'a [u8], text: &'a [u8]) -> Result<PasswdT
 
 // The groups of a host.
 fn groups_at<'a>(alloc: Global, host: &'a [u8], text: &'a [u8]) -> Result<GroupTable<'a>, Fault<'a>>
-    ensures exact { Gives (λ x. x) told result (in_file host.now FileName.Group (group_table text.now)) }
+    ensures exact { Gives (λ x. x) told result
+        (in_file host.now FileName.Group (group_table text.now)) }
     ensures lawful { IfOk result (λ table. IsGroupTable table) }
 {
     match read_group(alloc, text) {
@@ -139,7 +144,8 @@ fn groups_at<'a>(alloc: Global, host: &'a [u8], text: &'a [u8]) -> Result<GroupT
 
 /// The files of a host: its inventory of at most 16,777,216 files. One pass over the text.
 pub fn inventory_at<'a>(alloc: Global, host: &'a [u8], text: &[u8]) -> Result<Inventory, Fault<'a>>
-    ensures exact { Gives (λ files. files) told result (in_file host.now FileName.Mtree (inventory 16777216 text.now)) }
+    ensures exact { Gives (λ files. files) told result
+        (in_file host.now FileName.Mtree (inventory 16777216 text.now)) }
     ensures few { IfOk result (λ files. length files ≤ 16777216) }
 {
     match read_inventory(alloc, text, MOST_FILES) {
@@ -159,13 +165,16 @@ fn primary_at<'a>(host: &Host<'a>) -> Result<(), Fault<'a>>
     }
 }
 
-// The tables of a host, which spares no number: login.defs, passwd and group. What is left to ask is whether each user's
-// group is there.
+// The tables of a host, which spares no number: login.defs, passwd and group. What is left to ask
+// is whether each user's group is there.
 #[tactic(auto, unfolding(crate::specs::Hosts::host_of))]
 fn tables_at<'a>(alloc: Global, text: &'a HostText) -> Result<Host<'a>, Fault<'a>>
     ensures refused { IfErr result (λ e. IfSome (told e) (λ f. host_of text.now ≡ Err f)) }
-    ensures accepted { IfOk result (λ host. (u : Unit {0}) → in_site (primary_checked host) ≡ Ok u → host_of text.now ≡ Ok (record { host = host; mtree = text.now.mtree })) }
-    ensures unchecked { IfOk result (λ host. (f : Fault) → in_site (primary_checked host) ≡ Err f → host_of text.now ≡ Err f) }
+    ensures accepted { IfOk result
+        (λ host. (u : Unit {0}) → in_site (primary_checked host) ≡ Ok u
+        → host_of text.now ≡ Ok (record { host = host; mtree = text.now.mtree })) }
+    ensures unchecked { IfOk result
+        (λ host. (f : Fault) → in_site (primary_checked host) ≡ Err f → host_of text.now ≡ Err f) }
     ensures lawful { IfOk result (λ host. IsLawfulHost host) }
 {
     let name = text.name.bytes();
@@ -182,8 +191,9 @@ fn tables_at<'a>(alloc: Global, text: &'a HostText) -> Result<Host<'a>, Fault<'a
     })
 }
 
-/// Reads a host's files but its inventory: login.defs, passwd, group, and then whether each user's group is there. It
-/// refuses with the first fault in this order. One pass over each text; the tables borrow them.
+/// Reads a host's files but its inventory: login.defs, passwd, group, and then whether each user's
+/// group is there. It refuses with the first fault in this order. One pass over each text; the
+/// tables borrow them.
 pub fn load_host<'a>(alloc: Global, text: &'a HostText) -> Result<Loaded<'a>, Fault<'a>>
     ensures exact { Gives (λ x. x) told result (host_of text.now) }
     ensures lawful { IfOk result (λ loaded. IsLawfulHost loaded.host) }
@@ -196,8 +206,8 @@ pub fn load_host<'a>(alloc: Global, text: &'a HostText) -> Result<Loaded<'a>, Fa
     })
 }
 
-/// Reads the files of all hosts but their inventories, host by host, up to the first fault. One pass over each text; the
-/// tables borrow them.
+/// Reads the files of all hosts but their inventories, host by host, up to the first fault. One
+/// pass over each text; the tables borrow them.
 pub fn load_hosts<'a>(alloc: Global, texts: &'a [HostText]) -> Result<Vec<Loaded<'a>>, Fault<'a>>
     ensures exact { Gives (λ hosts. hosts.items) told result (each host_of texts.now) }
     ensures len { IfOk result (λ hosts. length hosts.items ≡ length texts.now) }
@@ -226,8 +236,8 @@ pub fn group_named<'a>(groups: &GroupTable<'a>, gid: u32) -> Option<&'a [u8]>
     Some(row.name)
 }
 
-// Whether a file of the host may have the uid: it is a user's, or the host spares it. A look-up by hash, and where no user
-// has it a bisection.
+// Whether a file of the host may have the uid: it is a user's, or the host spares it. A look-up by
+// hash, and where no user has it a bisection.
 fn is_uid_allowed(host: &Host<'_>, uid: u32) -> bool
     ensures { result ≡ allows_uid host.now uid }
 {
@@ -241,9 +251,9 @@ fn is_gid_allowed(host: &Host<'_>, gid: u32) -> bool
     group_named(&host.groups, gid).is_some() || host.spared_groups.has(gid)
 }
 
-/// What is wrong with a file's owners: its uid or its gid is the number of no account of its host, and the host does not
-/// spare it, the uid first. Two look-ups by hash, and a bisection for a number that has no account; `AllocError` where
-/// memory for the path is refused.
+/// What is wrong with a file's owners: its uid or its gid is the number of no account of its host,
+/// and the host does not spare it, the uid first. Two look-ups by hash, and a bisection for a
+/// number that has no account; `AllocError` where memory for the path is refused.
 pub fn ownership_fault<'a>(
     alloc: Global,
     host: &Host<'a>,

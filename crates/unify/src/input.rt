@@ -18,13 +18,14 @@ pub enum ReadFault {
     Memory,
 }
 
-/// Reads all that there is, unless it is too much, in at most one read more than its bytes and at most one byte more
-/// than a bundle may have.
+/// Reads all that there is, unless it is too much, in at most one read more than its bytes and at
+/// most one byte more than a bundle may have.
 pub fn read_input<R: Source>(alloc: Global, reader: &mut R) -> Result<Vec<u8>, ReadFault>
     ensures few { IfOk result (λ input. length input.items ≤ most_bundle_bytes) }
     ensures all { IfOk result (λ input. IfSome (R.left reader.old) (λ left. left ≡ input.items)) }
     ensures fine { IfOk result (λ _. R.has_failed reader.new ≡ R.has_failed reader.old) }
-    ensures failed { IfErr result (λ fault. IsReadTold (R.left reader.old) (R.has_failed reader.new) fault) }
+    ensures failed { IfErr result
+        (λ fault. IsReadTold (R.left reader.old) (R.has_failed reader.new) fault) }
     ensures taken { TakesAtMost 268435457 (R.left reader.old) (R.left reader.new) }
 {
     let mut input = Vec::new(alloc);

@@ -1,6 +1,8 @@
-//! The inventories of a site's hosts, which come in pieces: their files are counted for the rows of their host's tables.
+//! The inventories of a site's hosts, which come in pieces: their files are counted for the rows of
+//! their host's tables.
 
-ghost use Rattle.std.specs.Prelude.{◌≡◌, ◌+◌, ◌≤◌, ◌++◌, ◌∷◌, [], length, All, Some, IfOk, OnOk, OnErr, slice_get};
+ghost use Rattle.std.specs.Prelude.{◌≡◌, ◌+◌, ◌≤◌, ◌++◌, ◌∷◌, [], length, All, Some, IfOk, OnOk};
+ghost use Rattle.std.specs.Prelude.{OnErr, slice_get};
 ghost use Rattle.hosts_join.specs.Hosts.{IsLawfulHost};
 ghost use Rattle.hosts_join.specs.declared.host.Host.{Host};
 ghost use Rattle.unify.specs.Passes.{AreAtStart, TurnsFor};
@@ -15,9 +17,9 @@ use std::marker::Model;
 use std::mem;
 use unify_texts::Fault;
 
-/// Inventories that come in pieces, host by host, and whose files are counted. It keeps the tables of the hosts, which
-/// borrow their texts, how many files each row owns of each host that was ended, and of the present inventory each path
-/// once; no text of an inventory is kept.
+/// Inventories that come in pieces, host by host, and whose files are counted. It keeps the tables
+/// of the hosts, which borrow their texts, how many files each row owns of each host that was
+/// ended, and of the present inventory each path once; no text of an inventory is kept.
 #[derive(Drop)]
 pub struct Inventories<'a> {
     pub(crate) alloc: Global,
@@ -33,19 +35,25 @@ impl<'a> Model for Inventories<'a> {
 
     ghost view = { λ c. record { hosts = c.hosts.items; passed = c.passed.items; turn = c.turn } };
 
-    ghost invariant = { λ c. AreComing (record { hosts = c.hosts.items; passed = c.passed.items; turn = c.turn }) };
+    ghost invariant = { λ c. AreComing
+        (record { hosts = c.hosts.items; passed = c.passed.items; turn = c.turn }) };
 }
 
-// Notes how many files each row of the present host owns, and begins the turn of the host behind it, if there is one.
+// Notes how many files each row of the present host owns, and begins the turn of the host behind
+// it, if there is one.
 fn next_host(
     alloc: Global,
     hosts: &[Host<'_>],
     passed: &mut Vec<RowFiles>,
     turn: &mut Turn,
 ) -> Result<(), AllocError>
-    ensures refused { OnErr result ((passed.new.items ≡ passed.old.items) × (turn.new.reader ≡ turn.old.reader) × (turn.new.unowned ≡ turn.old.unowned)) }
+    ensures refused { OnErr result
+        ((passed.new.items ≡ passed.old.items) × (turn.new.reader ≡ turn.old.reader)
+        × (turn.new.unowned ≡ turn.old.unowned)) }
     ensures passed { OnOk result (passed.new.items ≡ passed.old.items ++ turn.old.rows ∷ []) }
-    ensures next { OnOk result ((host : Host) → slice_get hosts.now (length passed.old.items + 1) ≡ Some host → TurnsFor host turn.new []) }
+    ensures next { OnOk result
+        ((host : Host) → slice_get hosts.now (length passed.old.items + 1) ≡ Some host
+        → TurnsFor host turn.new []) }
 {
     let next = no_files(alloc, hosts, passed.len() + 1)?;
     let rows = mem::replace(&mut turn.rows, next);
@@ -56,15 +64,18 @@ fn next_host(
 }
 
 impl<'a> Inventories<'a> {
-    ghost use Rattle.std.specs.Prelude.{◌≡◌, ◌+◌, ◌-◌, ◌<◌, ◌≤◌, ◌++◌, ◌∷◌, [], ℕ, List, length, Some, IfSome, IfNone, IfErr, OnOk, MatchResult, slice_get};
+    ghost use Rattle.std.specs.Prelude.{◌≡◌, ◌+◌, ◌-◌, ◌<◌, ◌≤◌, ◌++◌, ◌∷◌, [], ℕ, List, length};
+    ghost use Rattle.std.specs.Prelude.{Some, IfSome, IfNone, IfErr, OnOk, MatchResult, slice_get};
     ghost use Rattle.idtext.specs.First.{Gives};
     ghost use Rattle.hosts_join.specs.declared.host.Host.{Host};
     ghost use Rattle.unify_texts.specs.declared.fault.Fault.{Fault};
     ghost use Rattle.unify_texts.specs.Told.{told};
     ghost use Rattle.unify.specs.Hosts.{files_of};
-    ghost use Rattle.unify.specs.Passes.{is_read, lines_of, StandsFor, ended_in, fault_met, IsToldAs, TellsFault, IsFaultOf};
+    ghost use Rattle.unify.specs.Passes.{is_read, lines_of, StandsFor, ended_in, fault_met};
+    ghost use Rattle.unify.specs.Passes.{IsToldAs, TellsFault, IsFaultOf};
 
-    /// The inventories of these hosts, of which none has come. Memory in step with the rows of a host.
+    /// The inventories of these hosts, of which none has come. Memory in step with the rows of a
+    /// host.
     pub fn of(alloc: Global, hosts: Vec<Host<'a>>) -> Result<Inventories<'a>, AllocError>
         requires few { length hosts.items ≤ 64 }
         requires lawful { All IsLawfulHost hosts.items }
@@ -81,18 +92,27 @@ impl<'a> Inventories<'a> {
 
     /// Takes the next bytes of the inventory of the present host. Asked is that a host is left.
     ///
-    /// The answer is exactly the first reader fault of the whole logical lines so far, or want of memory; a file that the
-    /// host does not allow is told by `end_host`. A new fault that it answers is the one that is met. Once a fault is met, of
-    /// either call, the answer is always that one, or want of memory to tell it, and nothing changes.
+    /// The answer is exactly the first reader fault of the whole logical lines so far, or want of
+    /// memory; a file that the host does not allow is told by `end_host`. A new fault that it
+    /// answers is the one that is met. Once a fault is met, of either call, the answer is always
+    /// that one, or want of memory to tell it, and nothing changes.
     ///
     /// One pass over the bytes, and two look-ups by hash for each file.
     pub fn piece(&mut self, bytes: &[u8]) -> Result<(), Fault<'a>>
         requires left { ended_in self.old < length self.old.hosts }
-        ensures told { (ended : List (List ℕ)) (text : List ℕ) (host : Host) → StandsFor self.old ended text → slice_get self.old.hosts (ended_in self.old) ≡ Some host → Gives (λ _. tt) told result (is_read (lines_of host (text ++ bytes.now))) }
-        ensures stands { OnOk result ((ended : List (List ℕ)) (text : List ℕ) → StandsFor self.old ended text → StandsFor self.new ended (text ++ bytes.now)) }
-        ensures met { IfNone (fault_met self.old) (IfErr result (λ e. fault_met self.new ≡ Some e)) }
-        ensures failed { IfErr result (λ e. (f : Fault) × (fault_met self.new ≡ Some f) × IsToldAs f e) }
-        ensures again { IfSome (fault_met self.old) (λ f. TellsFault f result × (self.new ≡ self.old)) }
+        ensures told { (ended : List (List ℕ)) (text : List ℕ) (host : Host)
+            → StandsFor self.old ended text
+            → slice_get self.old.hosts (ended_in self.old) ≡ Some host
+            → Gives (λ _. tt) told result (is_read (lines_of host (text ++ bytes.now))) }
+        ensures stands { OnOk result
+            ((ended : List (List ℕ)) (text : List ℕ) → StandsFor self.old ended text
+            → StandsFor self.new ended (text ++ bytes.now)) }
+        ensures met { IfNone (fault_met self.old)
+            (IfErr result (λ e. fault_met self.new ≡ Some e)) }
+        ensures failed { IfErr result
+            (λ e. (f : Fault) × (fault_met self.new ≡ Some f) × IsToldAs f e) }
+        ensures again { IfSome (fault_met self.old)
+            (λ f. TellsFault f result × (self.new ≡ self.old)) }
         ensures site { self.new ≡ record self.old { turn = self.new.turn } }
     {
         let index = self.passed.len();
@@ -102,18 +122,31 @@ impl<'a> Inventories<'a> {
 
     /// Ends the inventory of the present host. Asked is that a host is left.
     ///
-    /// The answer is exactly the first fault of the whole inventory, and else its first file that the host does not allow,
-    /// uid before gid; or want of memory. What is met then is such a fault too, that of the file where memory was wanting only
-    /// to tell it. Once a fault is met, of either call, the answer is always that one, or want of memory to tell it, and
-    /// nothing changes. At most one line is still to be read here.
+    /// The answer is exactly the first fault of the whole inventory, and else its first file that
+    /// the host does not allow, uid before gid; or want of memory. What is met then is such a fault
+    /// too, that of the file where memory was wanting only to tell it. Once a fault is met, of
+    /// either call, the answer is always that one, or want of memory to tell it, and nothing
+    /// changes. At most one line is still to be read here.
     pub fn end_host(&mut self) -> Result<(), Fault<'a>>
         requires left { ended_in self.old < length self.old.hosts }
-        ensures told { (ended : List (List ℕ)) (text : List ℕ) (host : Host) → StandsFor self.old ended text → slice_get self.old.hosts (ended_in self.old) ≡ Some host → Gives (λ _. tt) told result (is_read (files_of (record { host = host; mtree = text }))) }
-        ensures stands { OnOk result ((ended : List (List ℕ)) (text : List ℕ) → StandsFor self.old ended text → StandsFor self.new (ended ++ text ∷ []) []) }
-        ensures met { (ended : List (List ℕ)) (text : List ℕ) (host : Host) → StandsFor self.old ended text → slice_get self.old.hosts (ended_in self.old) ≡ Some host → IfErr result (λ _. IfSome (fault_met self.new) (IsFaultOf host text)) }
-        ensures failed { IfErr result (λ e. (f : Fault) × (fault_met self.new ≡ Some f) × IsToldAs f e) }
-        ensures again { IfSome (fault_met self.old) (λ f. TellsFault f result × (self.new ≡ self.old)) }
-        ensures left { MatchResult result (λ _. ended_in self.new ≡ ended_in self.old + 1) (λ _. self.new.passed ≡ self.old.passed) }
+        ensures told { (ended : List (List ℕ)) (text : List ℕ) (host : Host)
+            → StandsFor self.old ended text
+            → slice_get self.old.hosts (ended_in self.old) ≡ Some host
+            → Gives (λ _. tt) told result
+            (is_read (files_of (record { host = host; mtree = text }))) }
+        ensures stands { OnOk result
+            ((ended : List (List ℕ)) (text : List ℕ) → StandsFor self.old ended text
+            → StandsFor self.new (ended ++ text ∷ []) []) }
+        ensures met { (ended : List (List ℕ)) (text : List ℕ) (host : Host)
+            → StandsFor self.old ended text
+            → slice_get self.old.hosts (ended_in self.old) ≡ Some host
+            → IfErr result (λ _. IfSome (fault_met self.new) (IsFaultOf host text)) }
+        ensures failed { IfErr result
+            (λ e. (f : Fault) × (fault_met self.new ≡ Some f) × IsToldAs f e) }
+        ensures again { IfSome (fault_met self.old)
+            (λ f. TellsFault f result × (self.new ≡ self.old)) }
+        ensures left { MatchResult result (λ _. ended_in self.new ≡ ended_in self.old + 1)
+            (λ _. self.new.passed ≡ self.old.passed) }
         ensures site { self.new.hosts ≡ self.old.hosts }
     {
         let index = self.passed.len();

@@ -33,7 +33,9 @@ fn counts_of(
     requires together { AreTogether inventories.now.hosts site.now }
     requires none_left { ended_in inventories.now ≡ length inventories.now.hosts }
     ensures made { IfOk result (IsMadeFor site.now) }
-    ensures counted { IfOk result (λ counts. (ended : List (List ℕ)) (were : StandsFor inventories.now ended []) → counters.StandsFor site.now counts (added_from 0 were.read)) }
+    ensures counted { IfOk result
+        (λ counts. (ended : List (List ℕ)) (were : StandsFor inventories.now ended [])
+        → counters.StandsFor site.now counts (added_from 0 were.read)) }
 {
     let mut counts = Counts::new(alloc, site)?;
     for (index, rows) in inventories.passed.iter().enumerate() {
@@ -56,23 +58,33 @@ fn solve_counted(
     site: &Site<'_>,
     counts: &Counts,
 ) -> Result<(Merged, PlanTurn), AllocError>
-    requires { (whole : WholeSite) × IsWhole whole × HoldsCounted whole hosts.now site.now counts.now }
-    ensures merged { IfOk result (λ solved. (whole : WholeSite) → HoldsCounted whole hosts.now site.now counts.now → IsMerged whole solved.0) }
+    requires { (whole : WholeSite) × IsWhole whole
+        × HoldsCounted whole hosts.now site.now counts.now }
+    ensures merged { IfOk result
+        (λ solved. (whole : WholeSite) → HoldsCounted whole hosts.now site.now counts.now
+        → IsMerged whole solved.0) }
     ensures fresh { IfOk result (λ solved. IsFreshTurn solved.1) }
-    ensures rows { IfOk result (λ solved. (host : Host) → slice_get hosts.now 0 ≡ Some host → solved.1.rows ≡ row_files host []) }
+    ensures rows { IfOk result
+        (λ solved. (host : Host) → slice_get hosts.now 0 ≡ Some host
+        → solved.1.rows ≡ row_files host []) }
 {
     let merged = merge_counted(alloc, hosts, site, counts)?;
     let rows = no_files(alloc, hosts, 0)?;
     Ok((merged, new_turn(alloc, rows)))
 }
 
-// What is merged of a site whose inventories were ended, and the turn of the first host in the second pass.
+// What is merged of a site whose inventories were ended, and the turn of the first host in the
+// second pass.
 fn solve_site(alloc: Global, begun: &JoinedSite<'_>) -> Result<(Merged, PlanTurn), AllocError>
     requires together { AreTogether begun.now.inventories.hosts begun.now.site }
     requires none_left { ended_in begun.now.inventories ≡ length begun.now.inventories.hosts }
-    ensures merged { IfOk result (λ solved. (ended : List (List ℕ)) (were : StandsFor begun.now.inventories ended []) → IsMerged (record { hosts = were.read; joined = begun.now.site }) solved.0) }
+    ensures merged { IfOk result
+        (λ solved. (ended : List (List ℕ)) (were : StandsFor begun.now.inventories ended [])
+        → IsMerged (record { hosts = were.read; joined = begun.now.site }) solved.0) }
     ensures fresh { IfOk result (λ solved. IsFreshTurn solved.1) }
-    ensures rows { IfOk result (λ solved. (host : Host) → slice_get begun.now.inventories.hosts 0 ≡ Some host → solved.1.rows ≡ row_files host []) }
+    ensures rows { IfOk result
+        (λ solved. (host : Host) → slice_get begun.now.inventories.hosts 0 ≡ Some host
+        → solved.1.rows ≡ row_files host []) }
 {
     let counts = counts_of(alloc, &begun.inventories, &begun.site)?;
     solve_counted(alloc, &begun.inventories.hosts, &begun.site, &counts)
@@ -88,15 +100,18 @@ impl<'a> JoinedSite<'a> {
     ghost use Rattle.unify.specs.Passes.{AreTogether, StandsFor, ended_in};
     ghost use Rattle.unify.specs.SecondPass.{IsSolvedFrom};
 
-    /// Merges the site whose inventories were ended. Asked is that no host is left, and that the accounts are those of the
-    /// hosts.
+    /// Merges the site whose inventories were ended. Asked is that no host is left, and that the
+    /// accounts are those of the hosts.
     ///
-    /// A refusal, which is want of memory, hands the same value back, and `solve` may be called again. Its time is near
-    /// linear in the names and account rows but for the solver, which is near linear where few numbers are contested.
+    /// A refusal, which is want of memory, hands the same value back, and `solve` may be called
+    /// again. Its time is near linear in the names and account rows but for the solver, which is
+    /// near linear where few numbers are contested.
     pub fn solve(self) -> Result<Solved<'a>, JoinedSite<'a>>
         requires together { AreTogether self.inventories.hosts self.site }
         requires none_left { ended_in self.inventories ≡ length self.inventories.hosts }
-        ensures { MatchResult result (λ solved. IsSolvedFrom self.entry.inventories self.entry.site solved) (λ back. back ≡ self.entry) }
+        ensures { MatchResult result
+            (λ solved. IsSolvedFrom self.entry.inventories self.entry.site solved)
+            (λ back. back ≡ self.entry) }
     {
         let alloc = self.inventories.alloc;
         let Ok((merged, turn)) = solve_site(alloc, &self) else {
@@ -115,17 +130,20 @@ impl<'a> JoinedSite<'a> {
         })
     }
 
-    /// What a certificate's text says of the site whose inventories were ended: how many owner and group fields its
-    /// mappings change, where it proves that no admissible mappings change fewer. Asked is that no host is left, and that
-    /// the accounts are those of the hosts.
+    /// What a certificate's text says of the site whose inventories were ended: how many owner and
+    /// group fields its mappings change, where it proves that no admissible mappings change fewer.
+    /// Asked is that no host is left, and that the accounts are those of the hosts.
     ///
-    /// It refuses with the first fault in this order: the certificate's text, by line; the check, users before groups.
-    /// `Fault::Memory` is a growth that was refused. Near linear in the account rows, the rows' counters and the
-    /// certificate's lines.
+    /// It refuses with the first fault in this order: the certificate's text, by line; the check,
+    /// users before groups. `Fault::Memory` is a growth that was refused. Near linear in the
+    /// account rows, the rows' counters and the certificate's lines.
     pub fn verify(&self, certificate: &'a [u8]) -> Result<u64, Fault<'a>>
         requires together { AreTogether self.now.inventories.hosts self.now.site }
         requires none_left { ended_in self.now.inventories ≡ length self.now.inventories.hosts }
-        ensures { (ended : List (List ℕ)) (were : StandsFor self.now.inventories ended []) → Gives (λ cost. cost) told result (checked (record { hosts = were.read; joined = self.now.site }) (in_certificate (certificate_in certificate.now))) }
+        ensures { (ended : List (List ℕ)) (were : StandsFor self.now.inventories ended [])
+            → Gives (λ cost. cost) told result
+            (checked (record { hosts = were.read; joined = self.now.site })
+            (in_certificate (certificate_in certificate.now))) }
     {
         let alloc = self.inventories.alloc;
         let counts = counts_of(alloc, &self.inventories, &self.site)?;

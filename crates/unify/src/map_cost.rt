@@ -20,7 +20,8 @@ use hosts_join::{Host, HostText, PairTable};
 use std::alloc::Global;
 use unify_texts::{Fault, MapText, read_map};
 
-/// The inventories of a site's hosts, and a map of exactly the names of these. It borrows the texts.
+/// The inventories of a site's hosts, and a map of exactly the names of these. It borrows the
+/// texts.
 #[derive(Drop)]
 pub struct MappedSite<'a> {
     pub inventories: Inventories<'a>,
@@ -40,7 +41,8 @@ fn map_tables<'a>(
     texts: &'a [HostText],
     map: &'a [u8],
 ) -> Result<MappedHosts<'a>, Fault<'a>>
-    ensures begun { Yields (λ begun held. (held.hosts.items ≡ begun.hosts) × (held.names ≡ begun.names)) told result (cost_begun texts.now map.now) }
+    ensures begun { Yields (λ begun held. (held.hosts.items ≡ begun.hosts)
+        × (held.names ≡ begun.names)) told result (cost_begun texts.now map.now) }
     ensures len { IfOk result (λ held. length held.hosts.items ≡ length texts.now) }
     ensures few { IfOk result (λ held. length held.hosts.items ≤ 64) }
     ensures lawful { IfOk result (λ held. All IsLawfulHost held.hosts.items) }
@@ -52,11 +54,13 @@ fn map_tables<'a>(
     Ok(MappedHosts { hosts, names })
 }
 
-/// Reads what comes before the inventories of a site that a map is counted for; the texts of these are not looked at.
+/// Reads what comes before the inventories of a site that a map is counted for; the texts of these
+/// are not looked at.
 ///
-/// It refuses with the first fault in this order: the host list; host by host login.defs, passwd, group and the primary
-/// groups; the map, by line, and then at line 0 where its names are not exactly the hosts' names. `Fault::Memory` is a
-/// growth that was refused. One pass over each text, and the map's names are looked up on each host.
+/// It refuses with the first fault in this order: the host list; host by host login.defs, passwd,
+/// group and the primary groups; the map, by line, and then at line 0 where its names are not
+/// exactly the hosts' names. `Fault::Memory` is a growth that was refused. One pass over each text,
+/// and the map's names are looked up on each host.
 pub fn begin_count<'a>(
     alloc: Global,
     texts: &'a [HostText],
@@ -80,11 +84,14 @@ fn is_changed(names: &PairTable<'_>, name: &[u8], number: u32) -> bool
     }
 }
 
-// How many owner fields of a host's files the map changes, where so many files are owned by each row of its passwd.
+// How many owner fields of a host's files the map changes, where so many files are owned by each
+// row of its passwd.
 fn owner_fields(names: &PairTable<'_>, host: &Host<'_>, files: &[u64]) -> u64
     requires lawful { IsLawfulHost host.now }
-    requires counted { (here : List Entry) × (files.now ≡ (row_files host.now here).users) × (length here ≤ 16777216) }
-    ensures { (here : List Entry) → files.now ≡ (row_files host.now here).users → result ≡ sum_by (λ e. changed names.now (user_at host.now.users e.uid) e.uid) here }
+    requires counted { (here : List Entry) × (files.now ≡ (row_files host.now here).users)
+        × (length here ≤ 16777216) }
+    ensures { (here : List Entry) → files.now ≡ (row_files host.now here).users
+        → result ≡ sum_by (λ e. changed names.now (user_at host.now.users e.uid) e.uid) here }
 {
     let mut fields = 0;
     for (index, row) in host.users.rows().iter().enumerate() {
@@ -95,11 +102,14 @@ fn owner_fields(names: &PairTable<'_>, host: &Host<'_>, files: &[u64]) -> u64
     fields
 }
 
-// How many group fields of a host's files the map changes, where so many files are owned by each row of its group.
+// How many group fields of a host's files the map changes, where so many files are owned by each
+// row of its group.
 fn group_fields(names: &PairTable<'_>, host: &Host<'_>, files: &[u64]) -> u64
     requires lawful { IsLawfulHost host.now }
-    requires counted { (here : List Entry) × (files.now ≡ (row_files host.now here).groups) × (length here ≤ 16777216) }
-    ensures { (here : List Entry) → files.now ≡ (row_files host.now here).groups → result ≡ sum_by (λ e. changed names.now (group_at host.now.groups e.gid) e.gid) here }
+    requires counted { (here : List Entry) × (files.now ≡ (row_files host.now here).groups)
+        × (length here ≤ 16777216) }
+    ensures { (here : List Entry) → files.now ≡ (row_files host.now here).groups
+        → result ≡ sum_by (λ e. changed names.now (group_at host.now.groups e.gid) e.gid) here }
 {
     let mut fields = 0;
     for (index, row) in host.groups.rows().iter().enumerate() {
@@ -110,11 +120,14 @@ fn group_fields(names: &PairTable<'_>, host: &Host<'_>, files: &[u64]) -> u64
     fields
 }
 
-// How many fields of a host's files the map changes, where so many files are owned by each of its rows.
+// How many fields of a host's files the map changes, where so many files are owned by each of its
+// rows.
 fn fields_on(names: &MapText<'_>, host: &Host<'_>, rows: &RowFiles) -> Cost
     requires lawful { IsLawfulHost host.now }
-    requires counted { (here : List Entry) × (rows.now ≡ row_files host.now here) × (length here ≤ 16777216) }
-    ensures { (here : List Entry) → rows.now ≡ row_files host.now here → result ≡ host_cost names.now host.now here }
+    requires counted { (here : List Entry) × (rows.now ≡ row_files host.now here)
+        × (length here ≤ 16777216) }
+    ensures { (here : List Entry) → rows.now ≡ row_files host.now here
+        → result ≡ host_cost names.now host.now here }
 {
     Cost {
         users: owner_fields(&names.users, host, rows.users.as_slice()),
@@ -129,11 +142,13 @@ impl<'a> MappedSite<'a> {
     ghost use Rattle.unify.specs.Loading.{loaded_from};
     ghost use Rattle.unify.specs.Passes.{StandsFor, ended_in};
 
-    /// How many owner and group fields of the files the map changes. Asked is that no host is left. One pass over the
-    /// account rows, with a look-up by hash for each; it takes no memory.
+    /// How many owner and group fields of the files the map changes. Asked is that no host is left.
+    /// One pass over the account rows, with a look-up by hash for each; it takes no memory.
     pub fn cost(&self) -> Cost
         requires none_left { ended_in self.now.inventories ≡ length self.now.inventories.hosts }
-        ensures { (ended : List (List ℕ)) → StandsFor self.now.inventories ended [] → total_of self.now.names (each site_of (loaded_from self.now.inventories.hosts ended)) ≡ Ok result }
+        ensures { (ended : List (List ℕ)) → StandsFor self.now.inventories ended []
+            → total_of self.now.names (each site_of (loaded_from self.now.inventories.hosts ended))
+            ≡ Ok result }
     {
         let mut cost = Cost {
             users: 0,

@@ -47,7 +47,8 @@ fn push_file(out: &mut Vec<u8>, name: &[u8], text: &ByteString) -> Result<(), Al
 
 // Appends the plan of a host, as the file plan.NAME.
 fn push_plan(out: &mut Vec<u8>, host: &HostText, plan: &ByteString) -> Result<(), AllocError>
-    ensures { OnOk result (out.new.items ≡ out.old.items ++ file_lines (codes "plan." ++ host.now.name) plan.now) }
+    ensures { OnOk result
+        (out.new.items ≡ out.old.items ++ file_lines (codes "plan." ++ host.now.name) plan.now) }
 {
     out.extend_from_slice(b"file plan.")?;
     out.extend_from_slice(host.name.bytes())?;
@@ -98,8 +99,8 @@ fn site_text(alloc: Global, hosts: &[HostText], files: &SiteFiles) -> Result<Vec
     Ok(text)
 }
 
-/// What goes out for a merge of these hosts with these pins: the files of its outcome, or the fault line with its status.
-/// An error is a growth that was refused.
+/// What goes out for a merge of these hosts with these pins: the files of its outcome, or the fault
+/// line with its status. An error is a growth that was refused.
 ///
 /// Beside what `consolidate` takes, it is one pass over the texts of the outcome.
 pub fn merge_reply(alloc: Global, hosts: &[HostText], pins: &[u8]) -> Result<Reply, AllocError>

@@ -49,7 +49,12 @@ fn cost_under(site: &Site<'_>, counts: &Counts, users: &Mapping, groups: &Mappin
     requires made { IsMadeFor site.now counts.now }
     requires users { length users.now ≡ length site.now.users.names }
     requires groups { length groups.now ≡ length site.now.groups.names }
-    ensures { (files : List Added) → StandsFor site.now counts.now files → result ≡ record { users = cost_of site.now.users (by_user files) users.now; groups = cost_of site.now.groups (by_group files) groups.now } }
+    ensures { (files : List Added) → StandsFor site.now counts.now files
+        → result
+        ≡ record {
+          users = cost_of site.now.users (by_user files) users.now;
+          groups = cost_of site.now.groups (by_group files) groups.now;
+        } }
 {
     let user_figures = figures_under(site.users(), counts.users(), counts.user_files(), users);
     let group_figures = figures_under(site.groups(), counts.groups(), counts.group_files(), groups);
@@ -68,7 +73,8 @@ fn map_of(
 ) -> Result<ByteString, AllocError>
     requires users { length users.now ≡ length site.now.users.names }
     requires groups { length groups.now ≡ length site.now.groups.names }
-    ensures { IfOk result (λ text. text ≡ map_text site.now (record { users = users.now; groups = groups.now })) }
+    ensures { IfOk result
+        (λ text. text ≡ map_text site.now (record { users = users.now; groups = groups.now })) }
 {
     let mut text = Vec::new(alloc);
     push_map(alloc, &mut text, site, users, groups)?;
@@ -84,7 +90,11 @@ fn solve_site<'a>(
     requires { IsMadeFor site.now counts.now }
     ensures users { IfOk result (λ found. length found.users ≡ length site.now.users.names) }
     ensures groups { IfOk result (λ found. length found.groups ≡ length site.now.groups.names) }
-    ensures answered { IfOk result (λ found. (whole : WholeSite) → site.now ≡ whole.joined → StandsFor whole.joined counts.now (files_of_site whole) → AreAnswered whole (record { users = found.users; groups = found.groups }) found.certificate) }
+    ensures answered { IfOk result
+        (λ found. (whole : WholeSite) → site.now ≡ whole.joined
+        → StandsFor whole.joined counts.now (files_of_site whole)
+        → AreAnswered whole (record { users = found.users; groups = found.groups })
+        found.certificate) }
 {
     let Ok(users) = solve_names(alloc, site.users(), counts.users()) else {
         return Err(AllocError);
@@ -132,7 +142,13 @@ fn write_accounts(
     requires lawful { All IsLawfulHost hosts.now }
     requires users { length certified.now.users ≡ length site.now.users.names }
     requires groups { length certified.now.groups ≡ length site.now.groups.names }
-    ensures { OnOk result (outcome.new ≡ record outcome.old { passwd = merged_users hosts.now site.now certified.now.users certified.now.groups; group = merged_groups hosts.now site.now certified.now.groups }) }
+    ensures { OnOk result
+        (outcome.new
+        ≡ record outcome.old {
+          passwd =
+              merged_users hosts.now site.now certified.now.users certified.now.groups;
+          group = merged_groups hosts.now site.now certified.now.groups;
+        }) }
 {
     let passwd = passwd_text(alloc, hosts, site, &certified.users, &certified.groups)?;
     outcome.passwd = ByteString::from_vec(passwd);
@@ -150,7 +166,13 @@ fn write_numbers(
 ) -> Result<(), AllocError>
     requires users { length certified.now.users ≡ length site.now.users.names }
     requires groups { length certified.now.groups ≡ length site.now.groups.names }
-    ensures { OnOk result (outcome.new ≡ record outcome.old { map = map_text site.now (record { users = certified.now.users; groups = certified.now.groups }); certificate = spelling certified.now.certificate }) }
+    ensures { OnOk result
+        (outcome.new
+        ≡ record outcome.old {
+          map =
+              map_text site.now (record { users = certified.now.users; groups = certified.now.groups });
+          certificate = spelling certified.now.certificate;
+        }) }
 {
     outcome.map = map_of(alloc, site, &certified.users, &certified.groups)?;
     let certificate = write_certificate(alloc, &certified.certificate)?;
@@ -172,7 +194,18 @@ fn write_changes(
     requires made { IsMadeFor site.now counts.now }
     requires users { length certified.now.users ≡ length site.now.users.names }
     requires groups { length certified.now.groups ≡ length site.now.groups.names }
-    ensures { OnOk result ((files : List Added) → StandsFor site.now counts.now files → outcome.new ≡ record outcome.old { report = report_of hosts.now site.now files (record { users = certified.now.users; groups = certified.now.groups }); cost = record { users = cost_of site.now.users (by_user files) certified.now.users; groups = cost_of site.now.groups (by_group files) certified.now.groups } }) }
+    ensures { OnOk result ((files : List Added) → StandsFor site.now counts.now files
+        → outcome.new
+        ≡ record outcome.old {
+          report =
+              report_of hosts.now site.now files
+              (record { users = certified.now.users; groups = certified.now.groups });
+          cost =
+              record {
+                users = cost_of site.now.users (by_user files) certified.now.users;
+                groups = cost_of site.now.groups (by_group files) certified.now.groups;
+              };
+        }) }
 {
     let report = report_text(
         alloc,
@@ -187,7 +220,8 @@ fn write_changes(
     Ok(())
 }
 
-// What a merge of a site that was counted writes, by its mappings and their certificate, but for the plans.
+// What a merge of a site that was counted writes, by its mappings and their certificate, but for
+// the plans.
 fn texts_of(
     alloc: Global,
     hosts: &[Host<'_>],
@@ -198,7 +232,11 @@ fn texts_of(
     requires holds { (whole : WholeSite) × HoldsCounted whole hosts.now site.now counts.now }
     requires users { length certified.now.users ≡ length site.now.users.names }
     requires groups { length certified.now.groups ≡ length site.now.groups.names }
-    ensures { IfOk result (λ outcome. (whole : WholeSite) → HoldsCounted whole hosts.now site.now counts.now → IsPrintedButPlans whole (record { users = certified.now.users; groups = certified.now.groups }) certified.now.certificate outcome) }
+    ensures { IfOk result (λ outcome. (whole : WholeSite)
+        → HoldsCounted whole hosts.now site.now counts.now
+        → IsPrintedButPlans whole
+        (record { users = certified.now.users; groups = certified.now.groups })
+        certified.now.certificate outcome) }
 {
     let mut outcome = nothing_written(alloc);
     write_accounts(alloc, hosts, site, certified, &mut outcome)?;
@@ -207,16 +245,18 @@ fn texts_of(
     Ok(outcome)
 }
 
-/// What a merge of a site that was counted gives but for its plans. Asked is that the site is whole. It fails for want of
-/// memory alone.
+/// What a merge of a site that was counted gives but for its plans. Asked is that the site is
+/// whole. It fails for want of memory alone.
 pub fn merge_counted(
     alloc: Global,
     hosts: &[Host<'_>],
     site: &Site<'_>,
     counts: &Counts,
 ) -> Result<Merged, AllocError>
-    requires { (whole : WholeSite) × IsWhole whole × HoldsCounted whole hosts.now site.now counts.now }
-    ensures { IfOk result (λ merged. (whole : WholeSite) → HoldsCounted whole hosts.now site.now counts.now → IsMerged whole merged) }
+    requires { (whole : WholeSite) × IsWhole whole
+        × HoldsCounted whole hosts.now site.now counts.now }
+    ensures { IfOk result (λ merged. (whole : WholeSite)
+        → HoldsCounted whole hosts.now site.now counts.now → IsMerged whole merged) }
 {
     let certified = solve_site(alloc, site, counts)?;
     let outcome = texts_of(alloc, hosts, site, counts, &certified)?;

@@ -36,8 +36,8 @@ impl TextList {
         self.texts.as_slice()
     }
 
-    /// Appends a text, in constant time but for growth. `AllocError` where a growth was refused; the texts are then as
-    /// before.
+    /// Appends a text, in constant time but for growth. `AllocError` where a growth was refused;
+    /// the texts are then as before.
     pub fn push(&mut self, text: ByteString) -> Result<(), AllocError>
         ensures pushed { OnOk result (self.new ≡ self.old ++ text ∷ []) }
         ensures err { OnErr result (self.new ≡ self.old) }

@@ -1,6 +1,8 @@
 //! The inventory of one host a second time, in pieces, and its plan.
 
-ghost use Rattle.std.specs.Prelude.{◌≡◌, ◌+◌, ◌≤◌, ◌++◌, ◌∷◌, ℕ, List, [], length, All, true, if◌then◌else◌, is_ok, slice_get, Some, None, Ok, Err, IfSome, IfErr, OnOk, OnErr, MatchResult};
+ghost use Rattle.std.specs.Prelude.{◌≡◌, ◌+◌, ◌≤◌, ◌++◌, ◌∷◌, ℕ, List, [], length, All, true};
+ghost use Rattle.std.specs.Prelude.{if◌then◌else◌, is_ok, slice_get, Some, None, Ok, Err, IfSome};
+ghost use Rattle.std.specs.Prelude.{IfErr, OnOk, OnErr, MatchResult};
 ghost use Rattle.mtree_inv.specs.Standing as standing;
 ghost use Rattle.mtree_inv.specs.declared.entry.Entry.{Entry};
 ghost use Rattle.hosts_join.specs.Laws.{KnowsHost};
@@ -12,7 +14,8 @@ ghost use Rattle.unify_texts.specs.declared.fault.Fault.{Fault};
 ghost use Rattle.unify.specs.declared.plan_turn.Stop.TheVariants as stop;
 ghost use Rattle.unify.specs.Hosts.{owner_fault};
 ghost use Rattle.unify.specs.RowFiles.{row_files};
-ghost use Rattle.unify.specs.SecondPass.{HaveSameCounts, IsAccepted, IsFreshTurn, IsUnfinished, TurnsFor, owned_lines, second_files, stop_of};
+ghost use Rattle.unify.specs.SecondPass.{HaveSameCounts, IsAccepted, IsFreshTurn, IsUnfinished};
+ghost use Rattle.unify.specs.SecondPass.{TurnsFor, owned_lines, second_files, stop_of};
 
 use crate::host::MOST_FILES;
 use crate::merging::Merged;
@@ -51,8 +54,8 @@ impl From<ReadError> for Stop {
     }
 }
 
-/// The reader of a host's inventory, how many of its files each row of the host's tables owns, whether its plan has its
-/// header, and why the reading ended early, if it did.
+/// The reader of a host's inventory, how many of its files each row of the host's tables owns,
+/// whether its plan has its header, and why the reading ended early, if it did.
 #[derive(Drop)]
 pub struct PlanTurn {
     pub reader: Reader,
@@ -76,8 +79,12 @@ pub fn new_turn(alloc: Global, rows: RowFiles) -> PlanTurn
 
 // Appends the header of the plan, unless it has it.
 fn begin_plan(turn: &mut PlanTurn, host: &Host<'_>, plan: &mut Vec<u8>) -> Result<(), AllocError>
-    ensures turn { turn.new ≡ (if is_ok result then record turn.old { is_begun = true } else turn.old) }
-    ensures plan { plan.new.items ≡ (if is_ok result then (if turn.old.is_begun then plan.old.items else plan.old.items ++ head host.now.name) else plan.old.items) }
+    ensures turn { turn.new
+        ≡ (if is_ok result then record turn.old { is_begun = true } else turn.old) }
+    ensures plan { plan.new.items
+        ≡ (if is_ok result
+        then (if turn.old.is_begun then plan.old.items else plan.old.items ++ head host.now.name)
+        else plan.old.items) }
 {
     if !turn.is_begun {
         push_plan_head(plan, host.name.bytes())?;
@@ -96,13 +103,20 @@ fn plan_file(
     file: &Entry,
     plan: &mut Vec<u8>,
 ) -> Result<(), Stop>
-    requires room { (files : List Entry) × (rows.old ≡ row_files host.now files) × (length files ≤ 2147483648) }
+    requires room { (files : List Entry) × (rows.old ≡ row_files host.now files)
+        × (length files ≤ 2147483648) }
     requires known { KnowsHost site.now index host.now }
     requires for_site { AreForSite site.now merged.now.users merged.now.groups }
     ensures owned { OnOk result (owner_fault host.now [] file.now ≡ None) }
-    ensures counted { OnOk result ((files : List Entry) → rows.old ≡ row_files host.now files → rows.new ≡ row_files host.now (files ++ file.now ∷ [])) }
-    ensures plan { plan.new.items ≡ (if is_ok result then plan.old.items ++ lines (plan_of site.now merged.now.users merged.now.groups index (file.now ∷ [])) else plan.old.items) }
-    ensures changed { result ≡ Err stop.Changed → (fault : Fault) × (owner_fault host.now [] file.now ≡ Some fault) }
+    ensures counted { OnOk result
+        ((files : List Entry) → rows.old ≡ row_files host.now files
+        → rows.new ≡ row_files host.now (files ++ file.now ∷ [])) }
+    ensures plan { plan.new.items
+        ≡ (if is_ok result then plan.old.items
+        ++ lines (plan_of site.now merged.now.users merged.now.groups index (file.now ∷ []))
+        else plan.old.items) }
+    ensures changed { result ≡ Err stop.Changed → (fault : Fault)
+        × (owner_fault host.now [] file.now ≡ Some fault) }
 {
     if !count_file(rows, host, file) {
         return Err(Stop::Changed);
@@ -111,7 +125,8 @@ fn plan_file(
     Ok(())
 }
 
-// Counts the files that wait, and appends their records, up to the first that the host does not allow.
+// Counts the files that wait, and appends their records, up to the first that the host does not
+// allow.
 fn plan_waiting(
     turn: &mut PlanTurn,
     site: &Site<'_>,
@@ -120,15 +135,31 @@ fn plan_waiting(
     host: &Host<'_>,
     plan: &mut Vec<u8>,
 ) -> Result<(), Stop>
-    requires room { (files : List Entry) × (turn.old.rows ≡ row_files host.now files) × (length files + length turn.old.reader.waiting ≤ 2147483648) }
+    requires room { (files : List Entry) × (turn.old.rows ≡ row_files host.now files)
+        × (length files + length turn.old.reader.waiting ≤ 2147483648) }
     requires known { KnowsHost site.now index host.now }
     requires for_site { AreForSite site.now merged.now.users merged.now.groups }
-    ensures turn { OnOk result (turn.new ≡ record turn.old { reader = record turn.old.reader { waiting = [] }; rows = turn.new.rows }) }
-    ensures stands { OnOk result ((text : List ℕ) → standing.StandsFor turn.old.reader text → standing.StandsFor turn.new.reader text) }
-    ensures owned { OnOk result (All (λ f. owner_fault host.now [] f ≡ None) turn.old.reader.waiting) }
-    ensures counted { OnOk result ((files : List Entry) → turn.old.rows ≡ row_files host.now files → turn.new.rows ≡ row_files host.now (files ++ turn.old.reader.waiting)) }
-    ensures planned { (done : List Entry) × (left : List Entry) × (turn.old.reader.waiting ≡ done ++ left) × (plan.new.items ≡ plan.old.items ++ lines (plan_of site.now merged.now.users merged.now.groups index done)) × OnOk result (left ≡ []) }
-    ensures changed { result ≡ Err stop.Changed → (fault : Fault) × (first_fault (owner_fault host.now) [] turn.old.reader.waiting ≡ Some fault) }
+    ensures turn { OnOk result
+        (turn.new
+        ≡ record turn.old {
+          reader = record turn.old.reader { waiting = [] };
+          rows = turn.new.rows;
+        }) }
+    ensures stands { OnOk result
+        ((text : List ℕ) → standing.StandsFor turn.old.reader text
+        → standing.StandsFor turn.new.reader text) }
+    ensures owned { OnOk result
+        (All (λ f. owner_fault host.now [] f ≡ None) turn.old.reader.waiting) }
+    ensures counted { OnOk result
+        ((files : List Entry) → turn.old.rows ≡ row_files host.now files
+        → turn.new.rows ≡ row_files host.now (files ++ turn.old.reader.waiting)) }
+    ensures planned { (done : List Entry) × (left : List Entry)
+        × (turn.old.reader.waiting ≡ done ++ left)
+        × (plan.new.items ≡ plan.old.items
+        ++ lines (plan_of site.now merged.now.users merged.now.groups index done))
+        × OnOk result (left ≡ []) }
+    ensures changed { result ≡ Err stop.Changed → (fault : Fault)
+        × (first_fault (owner_fault host.now) [] turn.old.reader.waiting ≡ Some fault) }
 {
     while let Some(file) = turn.reader.next_entry() {
         plan_file(&mut turn.rows, site, merged, index, host, &file, plan)?;
@@ -146,11 +177,23 @@ fn read_on(
     bytes: &[u8],
     plan: &mut Vec<u8>,
 ) -> Result<(), Stop>
-    requires goes { (text : List ℕ) × (planned : List ℕ) × TurnsFor host.now site.now merged.now index turn.old text planned }
+    requires goes { (text : List ℕ) × (planned : List ℕ)
+        × TurnsFor host.now site.now merged.now index turn.old text planned }
     requires known { KnowsHost site.now index host.now }
     requires for_site { AreForSite site.now merged.now.users merged.now.groups }
-    ensures told { (text planned : List ℕ) → TurnsFor host.now site.now merged.now index turn.old text planned → MatchResult result (λ _. (files : List Entry) × (owned_lines host.now (text ++ bytes.now) ≡ Ok files)) (λ s. s ≡ stop.Changed → (f : Fault) × (owned_lines host.now (text ++ bytes.now) ≡ Err f)) }
-    ensures stands { (text planned : List ℕ) → TurnsFor host.now site.now merged.now index turn.old text planned → (more : List ℕ) × (plan.new.items ≡ plan.old.items ++ more) × MatchResult result (λ _. TurnsFor host.now site.now merged.now index turn.new (text ++ bytes.now) (planned ++ more)) (λ _. IsUnfinished host.now site.now merged.now index (text ++ bytes.now) (planned ++ more)) }
+    ensures told { (text planned : List ℕ)
+        → TurnsFor host.now site.now merged.now index turn.old text planned
+        → MatchResult result
+        (λ _. (files : List Entry) × (owned_lines host.now (text ++ bytes.now) ≡ Ok files))
+        (λ s. s ≡ stop.Changed → (f : Fault) × (owned_lines host.now (text ++ bytes.now) ≡ Err f)) }
+    ensures stands { (text planned : List ℕ)
+        → TurnsFor host.now site.now merged.now index turn.old text planned → (more : List ℕ)
+        × (plan.new.items ≡ plan.old.items ++ more)
+        × MatchResult result
+        (λ _. TurnsFor host.now site.now merged.now index turn.new (text ++ bytes.now)
+        (planned ++ more))
+        (λ _. IsUnfinished host.now site.now merged.now index (text ++ bytes.now)
+        (planned ++ more)) }
     ensures begun { OnOk result (turn.new.is_begun ≡ true) }
 {
     begin_plan(turn, host, plan)?;
@@ -158,10 +201,11 @@ fn read_on(
     plan_waiting(turn, site, merged, index, host, plan)
 }
 
-/// Takes the next piece of the second inventory of the host with the index, and appends to the host's plan. `Stop::Changed`
-/// is answered exactly where the whole lines so far have a fault, or a file that the host does not allow. After it stopped it
-/// always answers the same, and nothing changes. What is appended until then is a prefix of a plan without its `end` line. After
-/// the first piece the plan has its header.
+/// Takes the next piece of the second inventory of the host with the index, and appends to the
+/// host's plan. `Stop::Changed` is answered exactly where the whole lines so far have a fault, or a
+/// file that the host does not allow. After it stopped it always answers the same, and nothing
+/// changes. What is appended until then is a prefix of a plan without its `end` line. After the
+/// first piece the plan has its header.
 ///
 /// One pass over the piece, with a few look-ups by hash for each file.
 pub fn feed_plan(
@@ -173,14 +217,27 @@ pub fn feed_plan(
     bytes: &[u8],
     plan: &mut Vec<u8>,
 ) -> Result<(), Stop>
-    requires goes { turn.old.stop ≡ None → (text : List ℕ) × (planned : List ℕ) × TurnsFor host.now site.now merged.now index turn.old text planned }
+    requires goes { turn.old.stop ≡ None → (text : List ℕ) × (planned : List ℕ)
+        × TurnsFor host.now site.now merged.now index turn.old text planned }
     requires known { KnowsHost site.now index host.now }
     requires for_site { AreForSite site.now merged.now.users merged.now.groups }
-    ensures told { (text planned : List ℕ) → TurnsFor host.now site.now merged.now index turn.old text planned → MatchResult result (λ _. (files : List Entry) × (owned_lines host.now (text ++ bytes.now) ≡ Ok files)) (λ s. s ≡ stop.Changed → (f : Fault) × (owned_lines host.now (text ++ bytes.now) ≡ Err f)) }
-    ensures stands { (text planned : List ℕ) → TurnsFor host.now site.now merged.now index turn.old text planned → (more : List ℕ) × (plan.new.items ≡ plan.old.items ++ more) × MatchResult result (λ _. TurnsFor host.now site.now merged.now index turn.new (text ++ bytes.now) (planned ++ more)) (λ _. IsUnfinished host.now site.now merged.now index (text ++ bytes.now) (planned ++ more)) }
+    ensures told { (text planned : List ℕ)
+        → TurnsFor host.now site.now merged.now index turn.old text planned
+        → MatchResult result
+        (λ _. (files : List Entry) × (owned_lines host.now (text ++ bytes.now) ≡ Ok files))
+        (λ s. s ≡ stop.Changed → (f : Fault) × (owned_lines host.now (text ++ bytes.now) ≡ Err f)) }
+    ensures stands { (text planned : List ℕ)
+        → TurnsFor host.now site.now merged.now index turn.old text planned → (more : List ℕ)
+        × (plan.new.items ≡ plan.old.items ++ more)
+        × MatchResult result
+        (λ _. TurnsFor host.now site.now merged.now index turn.new (text ++ bytes.now)
+        (planned ++ more))
+        (λ _. IsUnfinished host.now site.now merged.now index (text ++ bytes.now)
+        (planned ++ more)) }
     ensures begun { OnOk result (turn.new.is_begun ≡ true) }
     ensures stopped { IfErr result (λ s. turn.new.stop ≡ Some s) }
-    ensures again { IfSome turn.old.stop (λ s. (result ≡ Err s) × (turn.new ≡ turn.old) × (plan.new ≡ plan.old)) }
+    ensures again { IfSome turn.old.stop
+        (λ s. (result ≡ Err s) × (turn.new ≡ turn.old) × (plan.new ≡ plan.old)) }
 {
     if let Some(stop) = turn.stop {
         return Err(stop);
@@ -192,7 +249,8 @@ pub fn feed_plan(
     read
 }
 
-// Reads the end behind what was read, and compares how many files each row owns with the first pass.
+// Reads the end behind what was read, and compares how many files each row owns with the first
+// pass.
 fn read_end(
     turn: &mut PlanTurn,
     site: &Site<'_>,
@@ -202,11 +260,24 @@ fn read_end(
     first: &RowFiles,
     plan: &mut Vec<u8>,
 ) -> Result<(), Stop>
-    requires goes { (text : List ℕ) × (planned : List ℕ) × TurnsFor host.now site.now merged.now index turn.old text planned }
+    requires goes { (text : List ℕ) × (planned : List ℕ)
+        × TurnsFor host.now site.now merged.now index turn.old text planned }
     requires known { KnowsHost site.now index host.now }
     requires for_site { AreForSite site.now merged.now.users merged.now.groups }
-    ensures told { (text planned : List ℕ) (were : List Entry) → TurnsFor host.now site.now merged.now index turn.old text planned → first.now ≡ row_files host.now were → MatchResult result (λ _. (files : List Entry) × (second_files host.now text ≡ Ok files) × HaveSameCounts host.now were files) (λ s. s ≡ stop.Changed → (files : List Entry) → second_files host.now text ≡ Ok files → HaveSameCounts host.now were files → ⊥) }
-    ensures stands { (text planned : List ℕ) → TurnsFor host.now site.now merged.now index turn.old text planned → (more : List ℕ) × (plan.new.items ≡ plan.old.items ++ more) × MatchResult result (λ _. IsAccepted host.now site.now merged.now index text (planned ++ more)) (λ _. IsUnfinished host.now site.now merged.now index text (planned ++ more)) }
+    ensures told { (text planned : List ℕ) (were : List Entry)
+        → TurnsFor host.now site.now merged.now index turn.old text planned
+        → first.now ≡ row_files host.now were
+        → MatchResult result
+        (λ _. (files : List Entry) × (second_files host.now text ≡ Ok files)
+        × HaveSameCounts host.now were files)
+        (λ s. s ≡ stop.Changed → (files : List Entry) → second_files host.now text ≡ Ok files
+        → HaveSameCounts host.now were files → ⊥) }
+    ensures stands { (text planned : List ℕ)
+        → TurnsFor host.now site.now merged.now index turn.old text planned → (more : List ℕ)
+        × (plan.new.items ≡ plan.old.items ++ more)
+        × MatchResult result
+        (λ _. IsAccepted host.now site.now merged.now index text (planned ++ more))
+        (λ _. IsUnfinished host.now site.now merged.now index text (planned ++ more)) }
 {
     begin_plan(turn, host, plan)?;
     turn.reader.finish()?;
@@ -218,10 +289,11 @@ fn read_end(
     }
 }
 
-/// Takes the end of the second inventory of the host with the index, and appends what is left of the host's plan but its
-/// `end` line. `Stop::Changed` is answered exactly where the whole text has a fault, or a file that the host does not allow,
-/// or counts that are not those of the first pass. After it stopped it always answers the same, and nothing changes. What is
-/// appended until then is a prefix of a plan without its `end` line.
+/// Takes the end of the second inventory of the host with the index, and appends what is left of
+/// the host's plan but its `end` line. `Stop::Changed` is answered exactly where the whole text has
+/// a fault, or a file that the host does not allow, or counts that are not those of the first pass.
+/// After it stopped it always answers the same, and nothing changes. What is appended until then is
+/// a prefix of a plan without its `end` line.
 pub fn finish_plan(
     turn: &mut PlanTurn,
     site: &Site<'_>,
@@ -231,13 +303,27 @@ pub fn finish_plan(
     first: &RowFiles,
     plan: &mut Vec<u8>,
 ) -> Result<(), Stop>
-    requires goes { turn.old.stop ≡ None → (text : List ℕ) × (planned : List ℕ) × TurnsFor host.now site.now merged.now index turn.old text planned }
+    requires goes { turn.old.stop ≡ None → (text : List ℕ) × (planned : List ℕ)
+        × TurnsFor host.now site.now merged.now index turn.old text planned }
     requires known { KnowsHost site.now index host.now }
     requires for_site { AreForSite site.now merged.now.users merged.now.groups }
-    ensures told { (text planned : List ℕ) (were : List Entry) → TurnsFor host.now site.now merged.now index turn.old text planned → first.now ≡ row_files host.now were → MatchResult result (λ _. (files : List Entry) × (second_files host.now text ≡ Ok files) × HaveSameCounts host.now were files) (λ s. s ≡ stop.Changed → (files : List Entry) → second_files host.now text ≡ Ok files → HaveSameCounts host.now were files → ⊥) }
-    ensures stands { (text planned : List ℕ) → TurnsFor host.now site.now merged.now index turn.old text planned → (more : List ℕ) × (plan.new.items ≡ plan.old.items ++ more) × MatchResult result (λ _. IsAccepted host.now site.now merged.now index text (planned ++ more)) (λ _. IsUnfinished host.now site.now merged.now index text (planned ++ more)) }
+    ensures told { (text planned : List ℕ) (were : List Entry)
+        → TurnsFor host.now site.now merged.now index turn.old text planned
+        → first.now ≡ row_files host.now were
+        → MatchResult result
+        (λ _. (files : List Entry) × (second_files host.now text ≡ Ok files)
+        × HaveSameCounts host.now were files)
+        (λ s. s ≡ stop.Changed → (files : List Entry) → second_files host.now text ≡ Ok files
+        → HaveSameCounts host.now were files → ⊥) }
+    ensures stands { (text planned : List ℕ)
+        → TurnsFor host.now site.now merged.now index turn.old text planned → (more : List ℕ)
+        × (plan.new.items ≡ plan.old.items ++ more)
+        × MatchResult result
+        (λ _. IsAccepted host.now site.now merged.now index text (planned ++ more))
+        (λ _. IsUnfinished host.now site.now merged.now index text (planned ++ more)) }
     ensures stopped { IfErr result (λ s. turn.new.stop ≡ Some s) }
-    ensures again { IfSome turn.old.stop (λ s. (result ≡ Err s) × (turn.new ≡ turn.old) × (plan.new ≡ plan.old)) }
+    ensures again { IfSome turn.old.stop
+        (λ s. (result ≡ Err s) × (turn.new ≡ turn.old) × (plan.new ≡ plan.old)) }
 {
     if let Some(stop) = turn.stop {
         return Err(stop);
@@ -249,8 +335,8 @@ pub fn finish_plan(
     read
 }
 
-/// Appends the `end` line to a plan, and begins the turn of the host at the next index, if there is one. Where memory is
-/// refused turn and plan are as before.
+/// Appends the `end` line to a plan, and begins the turn of the host at the next index, if there is
+/// one. Where memory is refused turn and plan are as before.
 pub fn next_turn(
     alloc: Global,
     turn: &mut PlanTurn,
@@ -259,9 +345,11 @@ pub fn next_turn(
     plan: &mut Vec<u8>,
 ) -> Result<(), AllocError>
     ensures fresh { OnOk result (IsFreshTurn turn.new) }
-    ensures rows { OnOk result ((host : Host) → slice_get hosts.now next ≡ Some host → turn.new.rows ≡ row_files host []) }
+    ensures rows { OnOk result
+        ((host : Host) → slice_get hosts.now next ≡ Some host → turn.new.rows ≡ row_files host []) }
     ensures failed { OnErr result (turn.new ≡ turn.old) }
-    ensures plan { plan.new.items ≡ (if is_ok result then plan.old.items ++ end else plan.old.items) }
+    ensures plan { plan.new.items
+        ≡ (if is_ok result then plan.old.items ++ end else plan.old.items) }
 {
     let rows = no_files(alloc, hosts, next)?;
     push_plan_end(plan)?;

@@ -20,8 +20,8 @@ fn records_text(alloc: Global, records: u32) -> Result<Vec<u8>, AllocError>
     Ok(text)
 }
 
-/// What goes out for a rehearsal of a plan on an inventory: its two lines, or the fault line with its status. An error is
-/// a growth that was refused. It takes what `rehearse` takes, and a line.
+/// What goes out for a rehearsal of a plan on an inventory: its two lines, or the fault line with
+/// its status. An error is a growth that was refused. It takes what `rehearse` takes, and a line.
 pub fn rehearse_reply(alloc: Global, plan: &[u8], mtree: &[u8]) -> Result<Reply, AllocError>
     ensures { IfOk result (λ reply. Answers (IsRehearsalTold plan.now mtree.now) (reply_of reply)) }
 {

@@ -1,6 +1,7 @@
 //! Carrying a plan out on a tree in memory.
 
-ghost use Rattle.std.specs.Prelude.{◌≡◌, ◌≤◌, ℕ, [], length, map, Some, Ok, Err, IfOk, IfSome, IsSome, MatchResult};
+ghost use Rattle.std.specs.Prelude.{◌≡◌, ◌≤◌, ℕ, [], length, map, Some, Ok, Err, IfOk, IfSome};
+ghost use Rattle.std.specs.Prelude.{IsSome, MatchResult};
 ghost use Rattle.idtext.specs.First.{Gives, first_fault, unless};
 ghost use Rattle.reown_plan.specs.Reading.{ReadsAs};
 ghost use Rattle.reown_plan.specs.Records.{record_of};
@@ -19,7 +20,9 @@ use unify_texts::Fault;
 
 // The plan of a text.
 fn plan_at<'a>(alloc: Global, text: &'a [u8]) -> Result<Plan<'a>, Fault<'a>>
-    ensures { MatchResult result (λ plan. ReadsAs text.now (Ok plan)) (λ fault. IfSome (told fault) (λ f. (offset : ℕ) × (f ≡ BadPlan offset) × ReadsAs text.now (Err offset))) }
+    ensures { MatchResult result (λ plan. ReadsAs text.now (Ok plan))
+        (λ fault. IfSome (told fault)
+        (λ f. (offset : ℕ) × (f ≡ BadPlan offset) × ReadsAs text.now (Err offset))) }
 {
     match Plan::read(alloc, text) {
         Ok(plan) => Ok(plan),
@@ -35,7 +38,8 @@ fn run_fault<'a>(
     fault: RunFault,
 ) -> Result<Fault<'a>, AllocError>
     requires { IsSome (run_told (map record_of records.now) fault) }
-    ensures { IfOk result (λ told_fault. run_told (map record_of records.now) fault ≡ Some told_fault) }
+    ensures { IfOk result
+        (λ told_fault. run_told (map record_of records.now) fault ≡ Some told_fault) }
 {
     match fault {
         RunFault::Device => Ok(Fault::Device),
@@ -51,7 +55,9 @@ fn run_fault<'a>(
 // Carries a plan out on a tree in memory that is as its inventory.
 fn carry_out<'a>(alloc: Global, plan: &Plan<'a>, files: &Inventory) -> Result<u32, Fault<'a>>
     requires { length files.now ≤ 16777216 }
-    ensures { Gives (λ n. n) told result (unless (first_fault (record_fault files.now) [] plan.now.records) (length plan.now.records)) }
+    ensures { Gives (λ n. n) told result
+        (unless (first_fault (record_fault files.now) [] plan.now.records)
+        (length plan.now.records)) }
 {
     let records = plan.records();
     let mut tree = MemTree::new(alloc, files)?;
@@ -72,11 +78,12 @@ fn rehearse_plan<'a>(alloc: Global, plan: &Plan<'a>, mtree: &'a [u8]) -> Result<
     }
 }
 
-/// Carries a plan out on a tree in memory that is as an inventory tells, and answers how many records the plan has.
+/// Carries a plan out on a tree in memory that is as an inventory tells, and answers how many
+/// records the plan has.
 ///
-/// It refuses with the first fault in this order: the plan's text, by byte; the inventory's, by line, told with the host
-/// of the plan; and the first record whose file is absent or is at neither of its two owners. `Fault::Memory` is a growth
-/// that was refused.
+/// It refuses with the first fault in this order: the plan's text, by byte; the inventory's, by
+/// line, told with the host of the plan; and the first record whose file is absent or is at neither
+/// of its two owners. `Fault::Memory` is a growth that was refused.
 ///
 /// It reads each text once, sorts a copy of the paths of the files, and looks the path of each
 /// record up at most twice. A look-up takes a comparison of paths for each binary digit of the

@@ -8,7 +8,8 @@ ghost use Rattle.reown_plan.specs.PlanData.{PlanData};
 ghost use Rattle.reown_plan.specs.Spelling.{spelling, IsLawful};
 ghost use Rattle.reown_runner.specs.Campaign.{host_of, is_done};
 ghost use Rattle.unify_texts.specs.Told.{told};
-ghost use Rattle.unify.specs.Carrying.{AreInventoriesOf, AreReady, AreCarriedOut, AreSpelledFor, new_tree_of};
+ghost use Rattle.unify.specs.Carrying.{AreInventoriesOf, AreReady, AreCarriedOut, AreSpelledFor};
+ghost use Rattle.unify.specs.Carrying.{new_tree_of};
 ghost use Rattle.unify.specs.Laws.{IsWhole};
 ghost use Rattle.unify.specs.Outcomes.{IsOutcome};
 ghost use Rattle.unify.specs.Reading.{WholeSite, site_read};
@@ -67,7 +68,8 @@ fn mtrees_of<'a>(alloc: Global, texts: &'a [HostText]) -> Result<Vec<Name<'a>>, 
 // A tree as an inventory that was read before.
 fn new_tree(alloc: Global, mtree: &[u8], keep: Keep) -> Result<MemTree, AllocError>
     requires { (files : List Entry) × (inventory 16777216 mtree.now ≡ Ok files) }
-    ensures { IfOk result (λ tree. (files : List Entry) × (inventory 16777216 mtree.now ≡ Ok files) × (tree ≡ new_tree_of keep files)) }
+    ensures { IfOk result (λ tree. (files : List Entry) × (inventory 16777216 mtree.now ≡ Ok files)
+        × (tree ≡ new_tree_of keep files)) }
 {
     let files = read_again(alloc, mtree)?;
     let mut tree = MemTree::new(alloc, &files)?;
@@ -78,7 +80,9 @@ fn new_tree(alloc: Global, mtree: &[u8], keep: Keep) -> Result<MemTree, AllocErr
 // Trees as inventories that were read before, one after the other.
 fn new_trees(alloc: Global, mtrees: &[Name<'_>], keep: Keep) -> Result<Vec<MemTree>, AllocError>
     requires { (files : List (List Entry)) × (each (inventory 16777216) mtrees.now ≡ Ok files) }
-    ensures { IfOk result (λ trees. (files : List (List Entry)) → each (inventory 16777216) mtrees.now ≡ Ok files → trees.items ≡ map (new_tree_of keep) files) }
+    ensures { IfOk result (λ trees. (files : List (List Entry))
+        → each (inventory 16777216) mtrees.now ≡ Ok files
+        → trees.items ≡ map (new_tree_of keep) files) }
 {
     let mut trees = Vec::with_capacity(alloc, mtrees.len())?;
     for mtree in mtrees {
@@ -102,7 +106,8 @@ fn read_plan(alloc: Global, text: &[u8]) -> Result<Plan<'_>, AllocError>
 // The plans that texts spell.
 fn read_plans(alloc: Global, texts: &TextList) -> Result<Vec<Plan<'_>>, AllocError>
     requires { (plans : List PlanData) × All IsLawful plans × (texts.now ≡ map spelling plans) }
-    ensures { IfOk result (λ read. (plans : List PlanData) → All IsLawful plans → texts.now ≡ map spelling plans → read.items ≡ plans) }
+    ensures { IfOk result (λ read. (plans : List PlanData) → All IsLawful plans
+        → texts.now ≡ map spelling plans → read.items ≡ plans) }
 {
     let spelled = texts.texts();
     let mut plans = Vec::with_capacity(alloc, spelled.len())?;
@@ -119,7 +124,8 @@ fn done_of(
     hosts: usize,
 ) -> Result<Vec<bool>, AllocError>
     requires { hosts ≡ length campaign.now.runners }
-    ensures { IfOk result (λ done. done.items ≡ map (λ runner. is_done runner.place) campaign.now.runners) }
+    ensures { IfOk result
+        (λ done. done.items ≡ map (λ runner. is_done runner.place) campaign.now.runners) }
 {
     let mut done = Vec::with_capacity(alloc, hosts)?;
     for host in 0..hosts {
@@ -137,7 +143,8 @@ fn carry_out(
 ) -> Result<CarriedOut, AllocError>
     requires ready { AreReady plans.now trees.items }
     requires hosts { All (λ event. host_of event < length trees.items) events.now }
-    ensures { IfOk result (λ end. AreCarriedOut plans.now trees.items events.now end.done.items end.trees.items) }
+    ensures { IfOk result
+        (λ end. AreCarriedOut plans.now trees.items events.now end.done.items end.trees.items) }
 {
     let Ok(mut campaign) = Campaign::new(alloc, plans, trees) else {
         return Err(AllocError);
@@ -153,7 +160,8 @@ fn carry_out(
     })
 }
 
-// Carries the plans that texts spell out on trees as inventories that were read before. No event is refused.
+// Carries the plans that texts spell out on trees as inventories that were read before. No event is
+// refused.
 fn carry_out_texts(
     alloc: Global,
     mtrees: &[Name<'_>],
@@ -161,9 +169,13 @@ fn carry_out_texts(
     keep: Keep,
     events: &[Event],
 ) -> Result<CarriedOut, AllocError>
-    requires plans { (files : List (List Entry)) × (plans : List PlanData) × AreSpelledFor keep mtrees.now texts.now files plans }
+    requires plans { (files : List (List Entry)) × (plans : List PlanData)
+        × AreSpelledFor keep mtrees.now texts.now files plans }
     requires hosts { All (λ event. host_of event < length mtrees.now) events.now }
-    ensures { IfOk result (λ end. (files : List (List Entry)) (plans : List PlanData) → AreSpelledFor keep mtrees.now texts.now files plans → AreCarriedOut plans (map (new_tree_of keep) files) events.now end.done.items end.trees.items) }
+    ensures { IfOk result (λ end. (files : List (List Entry)) (plans : List PlanData)
+        → AreSpelledFor keep mtrees.now texts.now files plans
+        → AreCarriedOut plans (map (new_tree_of keep) files) events.now end.done.items
+        end.trees.items) }
 {
     let trees = new_trees(alloc, mtrees, keep)?;
     let plans = read_plans(alloc, texts)?;
@@ -178,9 +190,12 @@ fn run_of<'a>(
     keep: Keep,
     events: &[Event],
 ) -> Result<SiteRun, Fault<'a>>
-    requires merged { (site : WholeSite) × IsWhole site × AreInventoriesOf texts.now site × IsOutcome site outcome }
+    requires merged { (site : WholeSite) × IsWhole site × AreInventoriesOf texts.now site
+        × IsOutcome site outcome }
     requires hosts { All (λ event. host_of event < length texts.now) events.now }
-    ensures { (site : WholeSite) → IsWhole site → AreInventoriesOf texts.now site → IsOutcome site outcome → MatchResult result (IsSiteRun keep events.now site) (λ e. told e ≡ None) }
+    ensures { (site : WholeSite) → IsWhole site → AreInventoriesOf texts.now site
+        → IsOutcome site outcome
+        → MatchResult result (IsSiteRun keep events.now site) (λ e. told e ≡ None) }
 {
     let mtrees = mtrees_of(alloc, texts)?;
     let carried = carry_out_texts(alloc, &mtrees, &outcome.plans, keep, events)?;
@@ -191,14 +206,15 @@ fn run_of<'a>(
     })
 }
 
-/// Merges a site, and carries its plans out on trees in memory that are as the inventories tell, as far as the events lead:
-/// an advance is one step of a host's plan, and after a stop a tree has what the choice keeps of what was pending. Asked is
-/// that each event is for a host of the site.
+/// Merges a site, and carries its plans out on trees in memory that are as the inventories tell, as
+/// far as the events lead: an advance is one step of a host's plan, and after a stop a tree has
+/// what the choice keeps of what was pending. Asked is that each event is for a host of the site.
 ///
-/// It refuses with the first fault of `consolidate`, and else for want of memory alone: no event is refused.
+/// It refuses with the first fault of `consolidate`, and else for want of memory alone: no event is
+/// refused.
 ///
-/// It takes the time of `consolidate`, reads each inventory and each plan once more, and makes one step an event. The
-/// trees of all hosts are in memory at once.
+/// It takes the time of `consolidate`, reads each inventory and each plan once more, and makes one
+/// step an event. The trees of all hosts are in memory at once.
 pub fn rehearse_site<'a>(
     alloc: Global,
     hosts: &'a [HostText],

@@ -40,7 +40,8 @@ fn status_of_fault(fault: &Fault<'_>) -> u8
 
 /// The line that tells a fault, with its status, unless memory is wanting.
 pub fn refused(alloc: Global, fault: &Fault<'_>) -> Result<Reply, AllocError>
-    ensures { IfOk result (λ reply. (told fault.now ≡ Some fault.now) × (reply_of reply ≡ answered (Err fault.now))) }
+    ensures { IfOk result (λ reply. (told fault.now ≡ Some fault.now)
+        × (reply_of reply ≡ answered (Err fault.now))) }
 {
     if matches!(fault, Fault::Memory) {
         return Err(AllocError);
@@ -75,8 +76,8 @@ pub fn cost_reply(alloc: Global, cost: Cost) -> Result<Reply, AllocError>
     })
 }
 
-/// What goes out for a count of these hosts with this map: the two lines, or the fault line with its status. An error is
-/// a growth that was refused. It takes what `count` takes, and a line.
+/// What goes out for a count of these hosts with this map: the two lines, or the fault line with
+/// its status. An error is a growth that was refused. It takes what `count` takes, and a line.
 pub fn count_reply(alloc: Global, hosts: &[HostText], map: &[u8]) -> Result<Reply, AllocError>
     ensures { IfOk result (λ reply. reply_of reply ≡ answered (counted hosts.now map.now)) }
 {
@@ -106,15 +107,17 @@ pub fn accepted_reply(alloc: Global, cost: u64) -> Result<Reply, AllocError>
     })
 }
 
-/// What goes out for a check of a certificate of these hosts with these pins: its line, or the fault line with its
-/// status. An error is a growth that was refused. It takes what `verify` takes, and a line.
+/// What goes out for a check of a certificate of these hosts with these pins: its line, or the
+/// fault line with its status. An error is a growth that was refused. It takes what `verify` takes,
+/// and a line.
 pub fn check_reply(
     alloc: Global,
     hosts: &[HostText],
     pins: &[u8],
     certificate: &[u8],
 ) -> Result<Reply, AllocError>
-    ensures { IfOk result (λ reply. reply_of reply ≡ answered (checked hosts.now pins.now certificate.now)) }
+    ensures { IfOk result
+        (λ reply. reply_of reply ≡ answered (checked hosts.now pins.now certificate.now)) }
 {
     match verify(alloc, hosts, pins, certificate) {
         Ok(cost) => accepted_reply(alloc, cost),

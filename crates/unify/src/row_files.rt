@@ -1,6 +1,8 @@
 //! How many files each row of a host's tables owns.
 
-ghost use Rattle.std.specs.Prelude.{◌≡◌, ◌+◌, ◌<◌, ◌≤◌, ◌++◌, ◌∷◌, [], List, length, set, slice_get, slice_index_or, is_none, Some, true, false, IfOk, IfSome, IfNone};
+ghost use Rattle.std.specs.Prelude.{◌≡◌, ◌+◌, ◌<◌, ◌≤◌, ◌++◌, ◌∷◌, [], List, length, set};
+ghost use Rattle.std.specs.Prelude.{slice_get, slice_index_or, is_none, Some, true, false, IfOk};
+ghost use Rattle.std.specs.Prelude.{IfSome, IfNone};
 ghost use Rattle.mtree_inv.specs.declared.entry.Entry.{Entry};
 ghost use Rattle.hosts_join.specs.declared.host.Host.{Host};
 ghost use Rattle.unify.specs.Hosts.{owner_fault};
@@ -28,7 +30,8 @@ impl Model for RowFiles {
 
 /// No file of the host at the index; nothing if no host is there. Memory in step with its rows.
 pub fn no_files(alloc: Global, hosts: &[Host<'_>], index: usize) -> Result<RowFiles, AllocError>
-    ensures { IfOk result (λ rows. (host : Host) → slice_get hosts.now index ≡ Some host → rows ≡ row_files host []) }
+    ensures { IfOk result (λ rows. (host : Host) → slice_get hosts.now index ≡ Some host
+        → rows ≡ row_files host []) }
 {
     match hosts.get(index) {
         Some(host) => Ok(RowFiles {
@@ -56,12 +59,14 @@ fn add_one(files: &mut Vec<u64>, place: Option<usize>)
     }
 }
 
-/// Counts a file for the rows that own it, and says whether the host allows both of its numbers: else nothing changes. Two
-/// look-ups by hash, and a bisection for a number that has no row.
+/// Counts a file for the rows that own it, and says whether the host allows both of its numbers:
+/// else nothing changes. Two look-ups by hash, and a bisection for a number that has no row.
 pub fn count_file(rows: &mut RowFiles, host: &Host<'_>, file: &Entry) -> bool
-    requires { (files : List Entry) × (rows.old ≡ row_files host.now files) × (length files ≤ 2147483648) }
+    requires { (files : List Entry) × (rows.old ≡ row_files host.now files)
+        × (length files ≤ 2147483648) }
     ensures owned { result ≡ is_none (owner_fault host.now [] file.now) }
-    ensures counted { result ≡ true → (files : List Entry) → rows.old ≡ row_files host.now files → rows.new ≡ row_files host.now (files ++ file.now ∷ []) }
+    ensures counted { result ≡ true → (files : List Entry) → rows.old ≡ row_files host.now files
+        → rows.new ≡ row_files host.now (files ++ file.now ∷ []) }
     ensures unowned { result ≡ false → rows.new ≡ rows.old }
 {
     let user = host.users.place_of_number(file.uid);

@@ -66,9 +66,11 @@ fn join_pinned<'a>(alloc: Global, hosts: &[Host<'a>], pins: &'a [u8]) -> Result<
     join_hosts(alloc, hosts, &pins)
 }
 
-/// Reads the files of all hosts but their inventories, as `load_hosts` does, and keeps the tables alone.
+/// Reads the files of all hosts but their inventories, as `load_hosts` does, and keeps the tables
+/// alone.
 pub fn load_tables<'a>(alloc: Global, texts: &'a [HostText]) -> Result<Vec<Host<'a>>, Fault<'a>>
-    ensures read { Yields (λ loaded hosts. hosts.items ≡ map (λ l. l.host) loaded) told result (each host_of texts.now) }
+    ensures read { Yields (λ loaded hosts. hosts.items ≡ map (λ l. l.host) loaded) told result
+        (each host_of texts.now) }
     ensures len { IfOk result (λ hosts. length hosts.items ≡ length texts.now) }
     ensures lawful { IfOk result (λ hosts. All IsLawfulHost hosts.items) }
 {
@@ -91,11 +93,13 @@ fn join_tables<'a>(
     Ok(JoinedHosts { hosts, site })
 }
 
-/// Reads of a site what comes before the inventories: the files of each host but its inventory, the pins text and the join.
+/// Reads of a site what comes before the inventories: the files of each host but its inventory, the
+/// pins text and the join.
 ///
-/// It refuses with the first fault in this order: the host list; host by host login.defs, passwd, group and the primary
-/// groups; the pins text, by line; the join, users before groups. `Fault::Memory` is a growth that was refused. One pass
-/// over each text; the inventories are not read.
+/// It refuses with the first fault in this order: the host list; host by host login.defs, passwd,
+/// group and the primary groups; the pins text, by line; the join, users before groups.
+/// `Fault::Memory` is a growth that was refused. One pass over each text; the inventories are not
+/// read.
 pub fn begin_site<'a>(
     alloc: Global,
     host_texts: &'a [HostText],

@@ -14,9 +14,10 @@ use std::alloc::{AllocError, Global};
 use std::marker::Model;
 use unify_texts::Fault;
 
-/// A site that was merged, whose inventories come a second time in pieces, host by host, while plans are appended. It
-/// keeps the tables of the hosts, what was merged, how many files each of their rows owned in the first pass and owns so far
-/// in this one, and of the present inventory each path once; no text of an inventory and no plan is kept.
+/// A site that was merged, whose inventories come a second time in pieces, host by host, while
+/// plans are appended. It keeps the tables of the hosts, what was merged, how many files each of
+/// their rows owned in the first pass and owns so far in this one, and of the present inventory
+/// each path once; no text of an inventory and no plan is kept.
 #[derive(Drop)]
 pub struct Solved<'a> {
     pub(crate) alloc: Global,
@@ -33,9 +34,24 @@ impl<'a> Model for Solved<'a> {
 
     ghost Value = { SolvedValue };
 
-    ghost view = { λ s. record { hosts = s.hosts.items; joined = s.site; passed = s.passed.items; merged = s.merged; ended = s.ended; turn = s.turn } };
+    ghost view = { λ s. record {
+      hosts = s.hosts.items;
+      joined = s.site;
+      passed = s.passed.items;
+      merged = s.merged;
+      ended = s.ended;
+      turn = s.turn;
+    } };
 
-    ghost invariant = { λ s. IsSolving (record { hosts = s.hosts.items; joined = s.site; passed = s.passed.items; merged = s.merged; ended = s.ended; turn = s.turn }) };
+    ghost invariant = { λ s. IsSolving
+        (record {
+          hosts = s.hosts.items;
+          joined = s.site;
+          passed = s.passed.items;
+          merged = s.merged;
+          ended = s.ended;
+          turn = s.turn;
+        }) };
 }
 
 // Why the reading of a host's second inventory ended, as it is told.
@@ -49,7 +65,9 @@ fn stopped<'a>(host: &Host<'a>, stop: Stop) -> Fault<'a>
 }
 
 impl<'a> Solved<'a> {
-    ghost use Rattle.std.specs.Prelude.{◌≡◌, ◌+◌, ◌-◌, ◌<◌, ◌≤◌, ◌++◌, [], ℕ, length, true, Ok, Err, Some, IfSome, IfOk, IfErr, OnOk, MatchResult, slice_get};
+    ghost use Rattle.std.specs.Prelude.{◌≡◌, ◌+◌, ◌-◌, ◌<◌, ◌≤◌, ◌++◌, [], ℕ, length, true, Ok};
+    ghost use Rattle.std.specs.Prelude.{Err, Some, IfSome, IfOk, IfErr, OnOk, MatchResult};
+    ghost use Rattle.std.specs.Prelude.{slice_get};
     ghost use Rattle.idtext.specs.First.{Gives};
     ghost use Rattle.mtree_inv.specs.declared.entry.Entry.{Entry};
     ghost use Rattle.hosts_join.specs.declared.host.Host.{Host};
@@ -58,7 +76,8 @@ impl<'a> Solved<'a> {
     ghost use Rattle.unify_texts.specs.declared.fault.Fault.TheVariants.{InventoryChanged};
     ghost use Rattle.unify.specs.Passes.{is_read};
     ghost use Rattle.unify.specs.RowFiles.{RowFiles, row_files};
-    ghost use Rattle.unify.specs.SecondPass.{HaveSameCounts, IsUnfinished, StandsFor, fault_met, second_files, second_lines, whole_plan};
+    ghost use Rattle.unify.specs.SecondPass.{HaveSameCounts, IsUnfinished, StandsFor, fault_met};
+    ghost use Rattle.unify.specs.SecondPass.{second_files, second_lines, whole_plan};
 
     /// What was merged; its list of plans is empty. No cost.
     pub fn outcome(&self) -> &Outcome
@@ -75,22 +94,34 @@ impl<'a> Solved<'a> {
         merged.outcome
     }
 
-    /// Takes the next bytes of the second inventory of the present host, and appends to the plan of the host. Asked is that
-    /// a host is left.
+    /// Takes the next bytes of the second inventory of the present host, and appends to the plan of
+    /// the host. Asked is that a host is left.
     ///
-    /// `Fault::InventoryChanged` is answered exactly where the whole logical lines so far have a fault, or a file that the
-    /// host does not allow. After a fault of either call, want of memory too, it is always that one, and nothing changes. Behind a
-    /// fault all that the calls for this host have appended is a prefix of a plan without its `end` line, for files that
-    /// the text has before its first fault. The first piece appends the header, even if it is empty.
+    /// `Fault::InventoryChanged` is answered exactly where the whole logical lines so far have a
+    /// fault, or a file that the host does not allow. After a fault of either call, want of memory
+    /// too, it is always that one, and nothing changes. Behind a fault all that the calls for this
+    /// host have appended is a prefix of a plan without its `end` line, for files that the text has
+    /// before its first fault. The first piece appends the header, even if it is empty.
     ///
     /// One pass over the bytes, and a few look-ups by hash for each file.
     pub fn piece(&mut self, bytes: &[u8], plan: &mut Vec<u8>) -> Result<(), Fault<'a>>
         requires left { self.old.ended < length self.old.hosts }
-        ensures told { (host : Host) (text planned : List ℕ) → slice_get self.old.hosts self.old.ended ≡ Some host → StandsFor self.old host text planned → Gives (λ _. tt) told result (is_read (second_lines host (text ++ bytes.now))) }
-        ensures planned { (host : Host) (text planned : List ℕ) → slice_get self.old.hosts self.old.ended ≡ Some host → StandsFor self.old host text planned → (more : List ℕ) × (plan.new.items ≡ plan.old.items ++ more) × MatchResult result (λ _. StandsFor self.new host (text ++ bytes.now) (planned ++ more)) (λ _. IsUnfinished host self.old.joined self.old.merged self.old.ended (text ++ bytes.now) (planned ++ more)) }
+        ensures told { (host : Host) (text planned : List ℕ)
+            → slice_get self.old.hosts self.old.ended ≡ Some host
+            → StandsFor self.old host text planned
+            → Gives (λ _. tt) told result (is_read (second_lines host (text ++ bytes.now))) }
+        ensures planned { (host : Host) (text planned : List ℕ)
+            → slice_get self.old.hosts self.old.ended ≡ Some host
+            → StandsFor self.old host text planned → (more : List ℕ)
+            × (plan.new.items ≡ plan.old.items ++ more)
+            × MatchResult result
+            (λ _. StandsFor self.new host (text ++ bytes.now) (planned ++ more))
+            (λ _. IsUnfinished host self.old.joined self.old.merged self.old.ended
+            (text ++ bytes.now) (planned ++ more)) }
         ensures begun { OnOk result (self.new.turn.is_begun ≡ true) }
         ensures stopped { IfErr result (λ e. fault_met self.new ≡ Some e) }
-        ensures again { IfSome (fault_met self.old) (λ f. (result ≡ Err f) × (self.new ≡ self.old) × (plan.new ≡ plan.old)) }
+        ensures again { IfSome (fault_met self.old)
+            (λ f. (result ≡ Err f) × (self.new ≡ self.old) × (plan.new ≡ plan.old)) }
         ensures site { self.new ≡ record self.old { turn = self.new.turn } }
     {
         let host = &self.hosts[self.ended];
@@ -110,19 +141,43 @@ impl<'a> Solved<'a> {
 
     /// Ends the second inventory of the present host, and its plan. Asked is that a host is left.
     ///
-    /// `Fault::InventoryChanged` is answered exactly where the whole inventory has a fault, or a file that the host does not
-    /// allow, or where a user or a group of the host owns not as many of its files as in the first pass. After a fault of
-    /// either call, want of memory too, it is always that one, and nothing changes. Behind a fault all that the calls for
-    /// this host have appended is a prefix of a plan without its `end` line, for files that the text has before its first
-    /// fault.
+    /// `Fault::InventoryChanged` is answered exactly where the whole inventory has a fault, or a
+    /// file that the host does not allow, or where a user or a group of the host owns not as many
+    /// of its files as in the first pass. After a fault of either call, want of memory too, it is
+    /// always that one, and nothing changes. Behind a fault all that the calls for this host have
+    /// appended is a prefix of a plan without its `end` line, for files that the text has before
+    /// its first fault.
     pub fn end_host(&mut self, plan: &mut Vec<u8>) -> Result<(), Fault<'a>>
         requires left { self.old.ended < length self.old.hosts }
-        ensures told { (host : Host) (first : RowFiles) (were : List Entry) (text planned : List ℕ) → slice_get self.old.hosts self.old.ended ≡ Some host → slice_get self.old.passed self.old.ended ≡ Some first → first ≡ row_files host were → StandsFor self.old host text planned → MatchResult result (λ _. (files : List Entry) × (second_files host text ≡ Ok files) × HaveSameCounts host were files) (λ e. IfSome (told e) (λ f. (f ≡ InventoryChanged host.name) × ((files : List Entry) → second_files host text ≡ Ok files → HaveSameCounts host were files → ⊥))) }
-        ensures planned { (host : Host) (text planned : List ℕ) → slice_get self.old.hosts self.old.ended ≡ Some host → StandsFor self.old host text planned → (more : List ℕ) × (plan.new.items ≡ plan.old.items ++ more) × MatchResult result (λ _. (files : List Entry) × (second_files host text ≡ Ok files) × (planned ++ more ≡ whole_plan host self.old.joined self.old.merged self.old.ended files)) (λ _. IsUnfinished host self.old.joined self.old.merged self.old.ended text (planned ++ more)) }
-        ensures next { OnOk result ((host : Host) → slice_get self.new.hosts self.new.ended ≡ Some host → StandsFor self.new host [] []) }
-        ensures left { MatchResult result (λ _. self.new.ended ≡ self.old.ended + 1) (λ _. self.new.ended ≡ self.old.ended) }
+        ensures told { (host : Host) (first : RowFiles) (were : List Entry) (text planned : List ℕ)
+            → slice_get self.old.hosts self.old.ended ≡ Some host
+            → slice_get self.old.passed self.old.ended ≡ Some first → first ≡ row_files host were
+            → StandsFor self.old host text planned
+            → MatchResult result
+            (λ _. (files : List Entry) × (second_files host text ≡ Ok files)
+            × HaveSameCounts host were files)
+            (λ e. IfSome (told e)
+            (λ f. (f ≡ InventoryChanged host.name)
+            × ((files : List Entry) → second_files host text ≡ Ok files
+            → HaveSameCounts host were files → ⊥))) }
+        ensures planned { (host : Host) (text planned : List ℕ)
+            → slice_get self.old.hosts self.old.ended ≡ Some host
+            → StandsFor self.old host text planned → (more : List ℕ)
+            × (plan.new.items ≡ plan.old.items ++ more)
+            × MatchResult result
+            (λ _. (files : List Entry) × (second_files host text ≡ Ok files)
+            × (planned ++ more
+            ≡ whole_plan host self.old.joined self.old.merged self.old.ended files))
+            (λ _. IsUnfinished host self.old.joined self.old.merged self.old.ended text
+            (planned ++ more)) }
+        ensures next { OnOk result
+            ((host : Host) → slice_get self.new.hosts self.new.ended ≡ Some host
+            → StandsFor self.new host [] []) }
+        ensures left { MatchResult result (λ _. self.new.ended ≡ self.old.ended + 1)
+            (λ _. self.new.ended ≡ self.old.ended) }
         ensures stopped { IfErr result (λ e. fault_met self.new ≡ Some e) }
-        ensures again { IfSome (fault_met self.old) (λ f. (result ≡ Err f) × (self.new ≡ self.old) × (plan.new ≡ plan.old)) }
+        ensures again { IfSome (fault_met self.old)
+            (λ f. (result ≡ Err f) × (self.new ≡ self.old) × (plan.new ≡ plan.old)) }
         ensures site { self.new ≡ record self.old { ended = self.new.ended; turn = self.new.turn } }
     {
         let host = &self.hosts[self.ended];
@@ -152,19 +207,24 @@ impl<'a> Solved<'a> {
         Ok(())
     }
 
-    /// A host's own passwd with its new numbers, of the text that its table was read from: in the line of each user the
-    /// uid is the new number of its name and the gid that of its primary group, and every other byte is as it was. Of any
-    /// other text the uid of a name that no host has stays, and so does a gid that is of no group of the host. Asked is that
-    /// there is a host with the index.
+    /// A host's own passwd with its new numbers, of the text that its table was read from: in the
+    /// line of each user the uid is the new number of its name and the gid that of its primary
+    /// group, and every other byte is as it was. Of any other text the uid of a name that no host
+    /// has stays, and so does a gid that is of no group of the host. Asked is that there is a host
+    /// with the index.
     ///
-    /// One pass over the text, with three look-ups by hash for each user. Memory for the new text alone.
+    /// One pass over the text, with three look-ups by hash for each user. Memory for the new text
+    /// alone.
     ///
     /// # Errors
     ///
     /// `AllocError` where memory is refused.
     pub fn host_passwd(&self, index: usize, text: &[u8]) -> Result<Vec<u8>, AllocError>
         requires within { index < length self.now.hosts }
-        ensures { IfOk result (λ new. (host : Host) → slice_get self.now.hosts index ≡ Some host → new.items ≡ host_users host self.now.joined self.now.merged.users self.now.merged.groups text.now) }
+        ensures { IfOk result
+            (λ new. (host : Host) → slice_get self.now.hosts index ≡ Some host
+            → new.items ≡ host_users host self.now.joined self.now.merged.users
+            self.now.merged.groups text.now) }
     {
         host_passwd_text(
             self.alloc,
@@ -176,17 +236,19 @@ impl<'a> Solved<'a> {
         )
     }
 
-    /// A host's own group with its new numbers, of the text that its table was read from: in the line of each group the gid
-    /// is the new number of its name, and every other byte is as it was. Of any other text the gid of a name that no host has
-    /// stays.
+    /// A host's own group with its new numbers, of the text that its table was read from: in the
+    /// line of each group the gid is the new number of its name, and every other byte is as it was.
+    /// Of any other text the gid of a name that no host has stays.
     ///
-    /// One pass over the text, with one look-up by hash for each group. Memory for the new text alone.
+    /// One pass over the text, with one look-up by hash for each group. Memory for the new text
+    /// alone.
     ///
     /// # Errors
     ///
     /// `AllocError` where memory is refused.
     pub fn host_group(&self, text: &[u8]) -> Result<Vec<u8>, AllocError>
-        ensures { IfOk result (λ new. new.items ≡ host_groups self.now.joined self.now.merged.groups text.now) }
+        ensures { IfOk result
+            (λ new. new.items ≡ host_groups self.now.joined self.now.merged.groups text.now) }
     {
         host_group_text(self.alloc, text, &self.site, &self.merged.groups)
     }

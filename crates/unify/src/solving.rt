@@ -27,8 +27,10 @@ fn side_for<'a>(
     names: &Names<'a>,
     solution: &Solution,
 ) -> Result<Side<'a>, AllocError>
-    requires { IsSolutionFor names.now solution.now.mapping solution.now.y.items solution.now.z.items }
-    ensures side { IfOk result (IsSideOf names.now solution.now.mapping solution.now.y.items solution.now.z.items) }
+    requires { IsSolutionFor names.now solution.now.mapping solution.now.y.items
+        solution.now.z.items }
+    ensures side { IfOk result
+        (IsSideOf names.now solution.now.mapping solution.now.y.items solution.now.z.items) }
     ensures ordered { IfOk result IsSide }
 {
     side_of(
@@ -40,9 +42,9 @@ fn side_for<'a>(
     )
 }
 
-/// The mapping of the names that changes the fewest fields of files, and among those the fewest account rows, with its
-/// certificate. Asked is that the counters were made for the names. It fails for want of memory alone; its cost is that
-/// of `solve`.
+/// The mapping of the names that changes the fewest fields of files, and among those the fewest
+/// account rows, with its certificate. Asked is that the counters were made for the names. It fails
+/// for want of memory alone; its cost is that of `solve`.
 pub fn solve_names<'a>(
     alloc: Global,
     names: &Names<'a>,
@@ -51,7 +53,9 @@ pub fn solve_names<'a>(
     requires made { AreMadeFor names.now.names counts.now }
     requires few { AreWithin counts.now 2147483648 }
     ensures len { IfOk result (λ s. length s.mapping ≡ length names.now.names) }
-    ensures solved { IfOk result (λ s. (files : List File) → CountFiles names.now.names counts.now files → IsSolved names.now files s.mapping s.side) }
+    ensures solved { IfOk result
+        (λ s. (files : List File) → CountFiles names.now.names counts.now files
+        → IsSolved names.now files s.mapping s.side) }
 {
     let rows = Rows::build(alloc, names, counts)?;
     let solution = solve(alloc, &rows)?;

@@ -1,4 +1,5 @@
-//! Where a bundle comes from, and where its answer goes: each notes whether a call on it has failed.
+//! Where a bundle comes from, and where its answer goes: each notes whether a call on it has
+//! failed.
 
 ghost use Rattle.std.specs.Prelude.{◌≡◌, true, OnOk, OnErr};
 ghost use Rattle.std.specs.Io.Buffered.{writer_buffer, writer_contents};
@@ -8,7 +9,8 @@ use std::io::{BufWriter, Read, Write};
 
 /// A source of bytes that notes whether a read has failed.
 pub trait Source {
-    ghost use Rattle.std.specs.Prelude.{◌≡◌, ◌≤◌, ℕ, List, Option, Bool, true, length, IfOk, OnOk, OnErr};
+    ghost use Rattle.std.specs.Prelude.{◌≡◌, ◌≤◌, ℕ, List, Option, Bool, true, length, IfOk, OnOk};
+    ghost use Rattle.std.specs.Prelude.{OnErr};
     ghost use Rattle.std.specs.Io.KnownBytes.{ReadConsumes};
 
     // The bytes that are left to read, where they are known.
@@ -17,8 +19,8 @@ pub trait Source {
     // Whether a read has failed.
     ghost has_failed: { Self → Bool };
 
-    /// Reads some bytes to the front of the buffer, and answers how many: none only at the end, or where the buffer
-    /// has no room. An error, an interrupted read too, is a failed read.
+    /// Reads some bytes to the front of the buffer, and answers how many: none only at the end, or
+    /// where the buffer has no room. An error, an interrupted read too, is a failed read.
     fn read(&mut self, buffer: &mut [u8]) -> io::Result<usize>
         ensures bound { IfOk result (λ n. n ≤ length buffer.old) }
         ensures bytes { ReadConsumes (left self.old) (left self.new) result buffer.new }
@@ -40,7 +42,8 @@ pub trait Sink {
     // Whether a write has failed.
     ghost has_failed: { Self → Bool };
 
-    /// Writes all the bytes, and hands on what it buffered. After an error nothing is said of how many went out.
+    /// Writes all the bytes, and hands on what it buffered. After an error nothing is said of how
+    /// many went out.
     fn write_all(&mut self, bytes: &[u8]) -> io::Result<()>
         ensures bytes { OnOk result (Appends (contents self.old) (contents self.new) bytes.now) }
         ensures handed_on { OnOk result (waiting self.new ≡ []) }
@@ -48,7 +51,8 @@ pub trait Sink {
         ensures err { OnErr result (has_failed self.new ≡ true) };
 }
 
-/// A reader or a buffered writer of the standard library, with a note of whether a call on it has failed.
+/// A reader or a buffered writer of the standard library, with a note of whether a call on it has
+/// failed.
 #[derive(Drop)]
 pub struct Watched<T> {
     pub inner: T,

@@ -1,6 +1,7 @@
 //! The inventory of one host, which comes in pieces and whose files are counted.
 
-ghost use Rattle.std.specs.Prelude.{◌≡◌, ◌+◌, ◌≤◌, ◌++◌, ℕ, List, [], length, Some, None, IfSome, IfNone, IfErr, OnOk};
+ghost use Rattle.std.specs.Prelude.{◌≡◌, ◌+◌, ◌≤◌, ◌++◌, ℕ, List, [], length, Some, None, IfSome};
+ghost use Rattle.std.specs.Prelude.{IfNone, IfErr, OnOk};
 ghost use Rattle.idtext.specs.First.{Gives};
 ghost use Rattle.mtree_inv.specs.Standing as standing;
 ghost use Rattle.mtree_inv.specs.declared.entry.Entry.{Entry};
@@ -8,7 +9,9 @@ ghost use Rattle.unify_texts.specs.declared.fault.Fault.{Fault};
 ghost use Rattle.unify_texts.specs.declared.fault.Fault.TheVariants.{Memory};
 ghost use Rattle.unify_texts.specs.Told.{told};
 ghost use Rattle.unify.specs.Hosts.{files_of};
-ghost use Rattle.unify.specs.Passes.{is_read, lines_of, AreCounted, TurnsFor, IsAccepted, read_told, owner_told, met_by, IsToldAs, TellsFault, IsFaultOf};
+ghost use Rattle.unify.specs.Passes.{is_read, lines_of, AreCounted, TurnsFor, IsAccepted};
+ghost use Rattle.unify.specs.Passes.{read_told, owner_told, met_by, IsToldAs, TellsFault};
+ghost use Rattle.unify.specs.Passes.{IsFaultOf};
 ghost use Rattle.unify.specs.RowFiles.{row_files};
 
 use crate::host::{MOST_FILES, line_fault, ownership_fault};
@@ -19,8 +22,8 @@ use mtree_inv::{Entry, Reader};
 use std::alloc::Global;
 use unify_texts::{Fault, FileName};
 
-/// The reader of a host's inventory, how many of its files each row of the host's tables owns, and the first file that the
-/// host does not allow.
+/// The reader of a host's inventory, how many of its files each row of the host's tables owns, and
+/// the first file that the host does not allow.
 #[derive(Drop)]
 pub struct Turn {
     pub reader: Reader,
@@ -49,8 +52,8 @@ pub fn read_fault<'a>(host: &Host<'a>, fault: ReadError) -> Fault<'a>
     }
 }
 
-/// The fault of a file that the host does not allow, or want of memory for its path. Two look-ups by hash, and a bisection
-/// for a number that has no account.
+/// The fault of a file that the host does not allow, or want of memory for its path. Two look-ups
+/// by hash, and a bisection for a number that has no account.
 pub fn tell_owner<'a>(alloc: Global, host: &Host<'a>, unowned: &Option<Entry>) -> Fault<'a>
     ensures { IsToldAs (owner_told host.now unowned.now) result }
 {
@@ -67,17 +70,21 @@ pub fn tell_owner<'a>(alloc: Global, host: &Host<'a>, unowned: &Option<Entry>) -
 // Drops the files that wait.
 fn drain(reader: &mut Reader)
     ensures stays { reader.new ≡ record reader.old { waiting = [] } }
-    ensures stands { (text : List ℕ) → standing.StandsFor reader.old text → standing.StandsFor reader.new text }
+    ensures stands { (text : List ℕ) → standing.StandsFor reader.old text
+        → standing.StandsFor reader.new text }
 {
     while let Some(_) = reader.next_entry() {}
 }
 
 // Counts the files that wait, up to the first that the host does not allow.
 fn count_waiting(host: &Host<'_>, from: &mut Reader, rows: &mut RowFiles) -> Option<Entry>
-    requires { (files : List Entry) × (rows.old ≡ row_files host.now files) × (length files + length from.old.waiting ≤ 2147483648) }
+    requires { (files : List Entry) × (rows.old ≡ row_files host.now files)
+        × (length files + length from.old.waiting ≤ 2147483648) }
     ensures stays { from.new ≡ record from.old { waiting = [] } }
-    ensures stands { (text : List ℕ) → standing.StandsFor from.old text → standing.StandsFor from.new text }
-    ensures counted { (files : List Entry) → AreCounted host.now rows.old None files → AreCounted host.now rows.new result (files ++ from.old.waiting) }
+    ensures stands { (text : List ℕ) → standing.StandsFor from.old text
+        → standing.StandsFor from.new text }
+    ensures counted { (files : List Entry) → AreCounted host.now rows.old None files
+        → AreCounted host.now rows.new result (files ++ from.old.waiting) }
 {
     while let Some(entry) = from.next_entry() {
         if !count_file(rows, host, &entry) {
@@ -90,10 +97,15 @@ fn count_waiting(host: &Host<'_>, from: &mut Reader, rows: &mut RowFiles) -> Opt
 
 // Counts the files that wait, unless there was one before that the host does not allow.
 fn count_new(turn: &mut Turn, host: &Host<'_>)
-    requires { IfNone turn.old.unowned ((files : List Entry) × (turn.old.rows ≡ row_files host.now files) × (length files + length turn.old.reader.waiting ≤ 2147483648)) }
+    requires { IfNone turn.old.unowned
+        ((files : List Entry) × (turn.old.rows ≡ row_files host.now files)
+        × (length files + length turn.old.reader.waiting ≤ 2147483648)) }
     ensures stays { turn.new.reader ≡ record turn.old.reader { waiting = [] } }
-    ensures stands { (text : List ℕ) → standing.StandsFor turn.old.reader text → standing.StandsFor turn.new.reader text }
-    ensures counted { (files : List Entry) → AreCounted host.now turn.old.rows turn.old.unowned files → AreCounted host.now turn.new.rows turn.new.unowned (files ++ turn.old.reader.waiting) }
+    ensures stands { (text : List ℕ) → standing.StandsFor turn.old.reader text
+        → standing.StandsFor turn.new.reader text }
+    ensures counted { (files : List Entry)
+        → AreCounted host.now turn.old.rows turn.old.unowned files
+        → AreCounted host.now turn.new.rows turn.new.unowned (files ++ turn.old.reader.waiting) }
 {
     if let Some(_) = &turn.unowned {
         drain(&mut turn.reader);
@@ -102,9 +114,9 @@ fn count_new(turn: &mut Turn, host: &Host<'_>)
     turn.unowned = count_waiting(host, &mut turn.reader, &mut turn.rows);
 }
 
-/// Takes the next piece of the inventory of the host. The answer is the first fault of the whole lines so far, and no file
-/// that the host does not allow is told. A new fault is the one that is met. After a fault it is always that one, or want of
-/// memory to tell it.
+/// Takes the next piece of the inventory of the host. The answer is the first fault of the whole
+/// lines so far, and no file that the host does not allow is told. A new fault is the one that is
+/// met. After a fault it is always that one, or want of memory to tell it.
 ///
 /// One pass over the piece, with two look-ups by hash for each file.
 pub fn feed_turn<'a>(
@@ -114,11 +126,17 @@ pub fn feed_turn<'a>(
     bytes: &[u8],
 ) -> Result<(), Fault<'a>>
     requires { met_by host.now turn.old ≡ None → (text : List ℕ) × TurnsFor host.now turn.old text }
-    ensures told { (text : List ℕ) → TurnsFor host.now turn.old text → Gives (λ _. tt) told result (is_read (lines_of host.now (text ++ bytes.now))) }
-    ensures stands { OnOk result ((text : List ℕ) → TurnsFor host.now turn.old text → TurnsFor host.now turn.new (text ++ bytes.now)) }
-    ensures met { IfNone (met_by host.now turn.old) (IfErr result (λ e. met_by host.now turn.new ≡ Some e)) }
-    ensures failed { IfErr result (λ e. (f : Fault) × (met_by host.now turn.new ≡ Some f) × IsToldAs f e) }
-    ensures again { IfSome (met_by host.now turn.old) (λ f. TellsFault f result × (turn.new ≡ turn.old)) }
+    ensures told { (text : List ℕ) → TurnsFor host.now turn.old text
+        → Gives (λ _. tt) told result (is_read (lines_of host.now (text ++ bytes.now))) }
+    ensures stands { OnOk result
+        ((text : List ℕ) → TurnsFor host.now turn.old text
+        → TurnsFor host.now turn.new (text ++ bytes.now)) }
+    ensures met { IfNone (met_by host.now turn.old)
+        (IfErr result (λ e. met_by host.now turn.new ≡ Some e)) }
+    ensures failed { IfErr result
+        (λ e. (f : Fault) × (met_by host.now turn.new ≡ Some f) × IsToldAs f e) }
+    ensures again { IfSome (met_by host.now turn.old)
+        (λ f. TellsFault f result × (turn.new ≡ turn.old)) }
 {
     if turn.reader.is_finished() {
         return Err(tell_owner(alloc, host, &turn.unowned));
@@ -130,18 +148,25 @@ pub fn feed_turn<'a>(
     Ok(())
 }
 
-/// Takes the end of the inventory of the host. The answer is the first fault of the whole text, and else the first file that
-/// the host does not allow; one of them, or want of memory, is what is met. After a fault it is always that one, or want of
-/// memory to tell it. After `Ok` the turn is over, and every further call would be answered with want of memory.
+/// Takes the end of the inventory of the host. The answer is the first fault of the whole text, and
+/// else the first file that the host does not allow; one of them, or want of memory, is what is
+/// met. After a fault it is always that one, or want of memory to tell it. After `Ok` the turn is
+/// over, and every further call would be answered with want of memory.
 pub fn end_turn<'a>(alloc: Global, turn: &mut Turn, host: &Host<'a>) -> Result<(), Fault<'a>>
     requires { met_by host.now turn.old ≡ None → (text : List ℕ) × TurnsFor host.now turn.old text }
-    ensures told { (text : List ℕ) → TurnsFor host.now turn.old text → Gives (λ _. tt) told result (is_read (files_of (record { host = host.now; mtree = text }))) }
-    ensures accepted { OnOk result ((text : List ℕ) → TurnsFor host.now turn.old text → IsAccepted host.now turn.new text) }
+    ensures told { (text : List ℕ) → TurnsFor host.now turn.old text
+        → Gives (λ _. tt) told result
+        (is_read (files_of (record { host = host.now; mtree = text }))) }
+    ensures accepted { OnOk result
+        ((text : List ℕ) → TurnsFor host.now turn.old text → IsAccepted host.now turn.new text) }
     ensures ended { OnOk result (met_by host.now turn.new ≡ Some Memory) }
     ensures none { OnOk result (turn.new.unowned ≡ None) }
-    ensures met { (text : List ℕ) → TurnsFor host.now turn.old text → IfErr result (λ _. IfSome (met_by host.now turn.new) (IsFaultOf host.now text)) }
-    ensures failed { IfErr result (λ e. (f : Fault) × (met_by host.now turn.new ≡ Some f) × IsToldAs f e) }
-    ensures again { IfSome (met_by host.now turn.old) (λ f. TellsFault f result × (turn.new ≡ turn.old)) }
+    ensures met { (text : List ℕ) → TurnsFor host.now turn.old text
+        → IfErr result (λ _. IfSome (met_by host.now turn.new) (IsFaultOf host.now text)) }
+    ensures failed { IfErr result
+        (λ e. (f : Fault) × (met_by host.now turn.new ≡ Some f) × IsToldAs f e) }
+    ensures again { IfSome (met_by host.now turn.old)
+        (λ f. TellsFault f result × (turn.new ≡ turn.old)) }
 {
     if turn.reader.is_finished() {
         return Err(tell_owner(alloc, host, &turn.unowned));

@@ -35,7 +35,8 @@ fn check_fault(fault: CheckFault<'_>) -> Fault<'_>
 
 // The certificate of a text.
 fn certificate_at<'a>(alloc: Global, text: &'a [u8]) -> Result<Certificate<'a>, Fault<'a>>
-    ensures { Gives (λ certificate. certificate) told result (in_certificate (certificate_in text.now)) }
+    ensures { Gives (λ certificate. certificate) told result
+        (in_certificate (certificate_in text.now)) }
 {
     match read_certificate(alloc, text) {
         Ok(certificate) => Ok(certificate),
@@ -53,7 +54,9 @@ fn check_site<'a>(
 ) -> Result<u64, Fault<'a>>
     requires made { IsMadeFor site.now counts.now }
     requires stands { (files : List Added) × StandsFor site.now counts.now files }
-    ensures { (files : List Added) → StandsFor site.now counts.now files → Gives (λ cost. cost) told result (in_check (check_answer site.now files certificate.now)) }
+    ensures { (files : List Added) → StandsFor site.now counts.now files
+        → Gives (λ cost. cost) told result
+        (in_check (check_answer site.now files certificate.now)) }
 {
     match check(alloc, site, counts, certificate) {
         Ok(cost) => Ok(cost),
@@ -61,11 +64,12 @@ fn check_site<'a>(
     }
 }
 
-/// What a certificate's text says of a site whose files were counted. Asked is that the counters are of its files.
+/// What a certificate's text says of a site whose files were counted. Asked is that the counters
+/// are of its files.
 ///
-/// It refuses with the first fault in this order: the certificate's text, by line; the check, users before groups.
-/// `Fault::Memory` is a growth that was refused. Near linear in the account rows, the counters and the certificate's
-/// lines.
+/// It refuses with the first fault in this order: the certificate's text, by line; the check, users
+/// before groups. `Fault::Memory` is a growth that was refused. Near linear in the account rows,
+/// the counters and the certificate's lines.
 pub fn verify_counted<'a>(
     alloc: Global,
     site: &Site<'a>,
@@ -74,7 +78,10 @@ pub fn verify_counted<'a>(
 ) -> Result<u64, Fault<'a>>
     requires made { IsMadeFor site.now counts.now }
     requires stands { (files : List Added) × StandsFor site.now counts.now files }
-    ensures { (whole : WholeSite) → site.now ≡ whole.joined → StandsFor site.now counts.now (files_of_site whole) → Gives (λ cost. cost) told result (checked whole (in_certificate (certificate_in certificate.now))) }
+    ensures { (whole : WholeSite) → site.now ≡ whole.joined
+        → StandsFor site.now counts.now (files_of_site whole)
+        → Gives (λ cost. cost) told result
+        (checked whole (in_certificate (certificate_in certificate.now))) }
 {
     match certificate_at(alloc, certificate) {
         Ok(certificate) => check_site(alloc, site, counts, &certificate),
@@ -82,13 +89,14 @@ pub fn verify_counted<'a>(
     }
 }
 
-/// How many owner and group fields the mappings of a certificate change, where the certificate proves that no admissible
-/// mappings change fewer; it may be written by anybody.
+/// How many owner and group fields the mappings of a certificate change, where the certificate
+/// proves that no admissible mappings change fewer; it may be written by anybody.
 ///
-/// It refuses with the first fault in this order: those of `read_site`; the certificate's text, by line; the check, users
-/// before groups. `Fault::Memory` is a growth that was refused.
+/// It refuses with the first fault in this order: those of `read_site`; the certificate's text, by
+/// line; the check, users before groups. `Fault::Memory` is a growth that was refused.
 ///
-/// It reads each text once, and takes time near linear in account rows, files and the certificate's lines.
+/// It reads each text once, and takes time near linear in account rows, files and the certificate's
+/// lines.
 #[tactic(auto, unfolding(crate::specs::Checking::verified))]
 pub fn verify<'a>(
     alloc: Global,

@@ -7,27 +7,35 @@ use Rattle.unify_texts.specs.declared.fault.Fault.{Fault}
 use Rattle.unify.specs.Checking.{IsVerified, verified}
 use Rattle.unify.specs.Passes.{BegunSite, site_begun}
 use Rattle.unify_merge.specs.Ledger.{Ledger}
-use Rattle.unify_merge.specs.FirstReading.{IsInventoryFault, IsTooLarge, WereEachRead, with_inventories}
+use Rattle.unify_merge.specs.FirstReading.{IsInventoryFault, IsTooLarge, WereEachRead}
+use Rattle.unify_merge.specs.FirstReading.{with_inventories}
 use Rattle.unify_merge.specs.declared.fault.MergeFault.{MergeFault}
 use Rattle.unify_merge.specs.declared.fault.MergeFault.TheVariants.{Failed, TooLarge, Refused}
 
--- The inventory of each host was read once. With these this is the cost that a check answers, and it means what a yes does.
-pub record HasChecked (hosts : List HostText) (pins certificate : List ℕ) (old new : Ledger) (cost : ℕ) : Type 0 where
+-- The inventory of each host was read once. With these this is the cost that a check answers, and
+-- it means what a yes does.
+pub record HasChecked (hosts : List HostText) (pins certificate : List ℕ) (old new : Ledger)
+    (cost : ℕ) : Type 0 where
   pub texts : List (List ℕ)
   pub were_read : WereEachRead hosts texts old new
   pub answer : verified (with_inventories hosts texts) pins certificate ≡ Ok cost
   pub means : IsVerified (with_inventories hosts texts) pins certificate cost
 
--- The first fault of what was read: of the tables or the pins; of an inventory; or, where each of these was read, that
--- which a check answers with them.
+-- The first fault of what was read: of the tables or the pins; of an inventory; or, where each of
+-- these was read, that which a check answers with them.
 abbrev pub IsCheckFault : List HostText → List ℕ → List ℕ → Ledger → Ledger → Fault → Type 0
 IsCheckFault hosts pins certificate old new f =
     ((site_begun hosts pins ≡ Err f) × (new ≡ old))
-    ⊎ (((begun : BegunSite) × (site_begun hosts pins ≡ Ok begun) × IsInventoryFault begun.hosts old new f)
-    ⊎ ((texts : List (List ℕ)) × WereEachRead hosts texts old new × (verified (with_inventories hosts texts) pins certificate ≡ Err f)))
+    ⊎ (((begun : BegunSite) × (site_begun hosts pins ≡ Ok begun)
+    × IsInventoryFault begun.hosts old new f)
+    ⊎ ((texts : List (List ℕ)) × WereEachRead hosts texts old new
+    × (verified (with_inventories hosts texts) pins certificate ≡ Err f)))
 
--- why a check ended early: a call failed, an inventory is too large, or what was read is refused; or memory was wanting
-abbrev pub StopsCheck : List HostText → List ℕ → List ℕ → Ledger → Ledger → Bool → MergeFault → Type 0
+-- why a check ended early: a call failed, an inventory is too large, or what was read is refused;
+-- or memory was wanting
+abbrev pub StopsCheck : List HostText → List ℕ → List ℕ → Ledger → Ledger → Bool → MergeFault
+    → Type 0
 StopsCheck hosts pins certificate old new failed Failed = failed ≡ true
 StopsCheck hosts pins certificate old new failed TooLarge = IsTooLarge new
-StopsCheck hosts pins certificate old new failed (Refused e) = IfSome (told e) (IsCheckFault hosts pins certificate old new)
+StopsCheck hosts pins certificate old new failed (Refused e) =
+    IfSome (told e) (IsCheckFault hosts pins certificate old new)

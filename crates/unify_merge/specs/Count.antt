@@ -8,12 +8,14 @@ use Rattle.unify.specs.declared.counting.Cost.{Cost}
 use Rattle.unify.specs.Costing.{BegunCost, cost_begun}
 use Rattle.unify.specs.Count.{count_of}
 use Rattle.unify_merge.specs.Ledger.{Ledger}
-use Rattle.unify_merge.specs.FirstReading.{IsInventoryFault, IsTooLarge, WereEachRead, with_inventories}
+use Rattle.unify_merge.specs.FirstReading.{IsInventoryFault, IsTooLarge, WereEachRead}
+use Rattle.unify_merge.specs.FirstReading.{with_inventories}
 use Rattle.unify_merge.specs.declared.fault.MergeFault.{MergeFault}
 use Rattle.unify_merge.specs.declared.fault.MergeFault.TheVariants.{Failed, TooLarge, Refused}
 
 -- The inventory of each host was read once. With these this is the cost that a count answers.
-pub record HasCounted (hosts : List HostText) (map_text : List ℕ) (old new : Ledger) (cost : Cost) : Type 0 where
+pub record HasCounted (hosts : List HostText) (map_text : List ℕ) (old new : Ledger) (cost : Cost)
+    : Type 0 where
   pub texts : List (List ℕ)
   pub were_read : WereEachRead hosts texts old new
   pub answer : count_of (with_inventories hosts texts) map_text ≡ Ok cost
@@ -22,10 +24,13 @@ pub record HasCounted (hosts : List HostText) (map_text : List ℕ) (old new : L
 abbrev pub IsCountFault : List HostText → List ℕ → Ledger → Ledger → Fault → Type 0
 IsCountFault hosts map_text old new f =
     ((cost_begun hosts map_text ≡ Err f) × (new ≡ old))
-    ⊎ ((begun : BegunCost) × (cost_begun hosts map_text ≡ Ok begun) × IsInventoryFault begun.hosts old new f)
+    ⊎ ((begun : BegunCost) × (cost_begun hosts map_text ≡ Ok begun)
+    × IsInventoryFault begun.hosts old new f)
 
--- why a count ended early: a call failed, an inventory is too large, or what was read is refused; or memory was wanting
+-- why a count ended early: a call failed, an inventory is too large, or what was read is refused;
+-- or memory was wanting
 abbrev pub StopsCount : List HostText → List ℕ → Ledger → Ledger → Bool → MergeFault → Type 0
 StopsCount hosts map_text old new failed Failed = failed ≡ true
 StopsCount hosts map_text old new failed TooLarge = IsTooLarge new
-StopsCount hosts map_text old new failed (Refused e) = IfSome (told e) (IsCountFault hosts map_text old new)
+StopsCount hosts map_text old new failed (Refused e) =
+    IfSome (told e) (IsCountFault hosts map_text old new)

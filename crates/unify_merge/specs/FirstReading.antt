@@ -1,6 +1,7 @@
 -- The inventories as they are read the first time, and counted.
 -- Source: this project's own rule.
-use Rattle.std.specs.Prelude.{◌≡◌, ℕ, ◌+◌, ◌<◌, ◌⊎◌, Bool, true, List, [], ◌∷◌, ◌++◌, length, Some, Ok, Err, IfSome, slice_get}
+use Rattle.std.specs.Prelude.{◌≡◌, ℕ, ◌+◌, ◌<◌, ◌⊎◌, Bool, true, List, [], ◌∷◌, ◌++◌, length, Some}
+use Rattle.std.specs.Prelude.{Ok, Err, IfSome, slice_get}
 use Rattle.idtext.specs.First.{each}
 use Rattle.mtree_inv.specs.declared.entry.Entry.{Entry}
 use Rattle.hosts_join.specs.declared.host.Host.{Host}
@@ -20,11 +21,13 @@ use Rattle.unify_merge.specs.declared.fault.MergeFault.TheVariants.{Failed, TooL
 -- those of the inventories of hosts, where the first host has the index
 abbrev pub readings_from : ℕ → List (List ℕ) → List Reading
 readings_from host [] = []
-readings_from host (text ∷ texts) = record { host = host; text = text } ∷ readings_from (host + 1) texts
+readings_from host (text ∷ texts) =
+    record { host = host; text = text } ∷ readings_from (host + 1) texts
 
 -- behind some readings that of a host has come to this text, and goes on
 abbrev pub IsReading : List Reading → ℕ → List ℕ → Ledger → Type 0
-IsReading before host text l = (l.read ≡ before) × (l.reading ≡ Some (record { host = host; text = text }))
+IsReading before host text l =
+    (l.read ≡ before) × (l.reading ≡ Some (record { host = host; text = text }))
 
 -- it has come to its end
 abbrev pub HasRead : List Reading → ℕ → List ℕ → Ledger → Type 0
@@ -32,7 +35,9 @@ HasRead before host text l = l.read ≡ before ++ record { host = host; text = t
 
 -- the inventory that is read has more bytes than an input file may have
 abbrev pub IsTooLarge : Ledger → Type 0
-IsTooLarge l = (host : ℕ) × (text : List ℕ) × (l.reading ≡ Some (record { host = host; text = text })) × (4294967295 < length text)
+IsTooLarge l =
+    (host : ℕ) × (text : List ℕ) × (l.reading ≡ Some (record { host = host; text = text }))
+    × (4294967295 < length text)
 
 -- nothing was written in between
 abbrev pub ReadsOnly : Ledger → Ledger → Type 0
@@ -40,24 +45,27 @@ ReadsOnly old new = new ≡ record old { read = new.read; reading = new.reading 
 
 -- ---- the first reading of an inventory
 
--- The first fault of the inventory of a host: of its whole lines so far, where its reading ends early; or of the
--- whole of it.
+-- The first fault of the inventory of a host: of its whole lines so far, where its reading ends
+-- early; or of the whole of it.
 -- index: that of the host
 abbrev pub IsFirstFault : Host → ℕ → List Reading → Ledger → Fault → Type 0
 IsFirstFault host index before l f = (text : List ℕ)
     × ((IsReading before index text l × (is_read (lines_of host text) ≡ Err f))
-    ⊎ (HasRead before index text l × (is_read (files_of (record { host = host; mtree = text })) ≡ Err f)))
+    ⊎ (HasRead before index text l
+    × (is_read (files_of (record { host = host; mtree = text })) ≡ Err f)))
 
--- why it ended early: a call failed, the inventory is too large, or it has a fault; or memory was wanting
+-- why it ended early: a call failed, the inventory is too large, or it has a fault; or memory was
+-- wanting
 abbrev pub StopsFirst : Host → ℕ → List Reading → Ledger → Bool → MergeFault → Type 0
 StopsFirst host index before l failed Failed = failed ≡ true
 StopsFirst host index before l failed TooLarge = IsTooLarge l
-StopsFirst host index before l failed (Refused e) = IfSome (told e) (IsFirstFault host index before l)
+StopsFirst host index before l failed (Refused e) =
+    IfSome (told e) (IsFirstFault host index before l)
 
 -- ---- those of all inventories
 
--- the inventories of the first hosts were read as these texts, each of which is accepted, and that of the next has
--- this fault
+-- the inventories of the first hosts were read as these texts, each of which is accepted, and that
+-- of the next has this fault
 pub record IsInventoryFault (hosts : List Host) (old new : Ledger) (f : Fault) : Type 0 where
   pub texts : List (List ℕ)
   pub read : List (Host × List Entry)
@@ -78,9 +86,11 @@ StopsCounting hosts old new failed (Refused e) = IfSome (told e) (IsInventoryFau
 abbrev pub with_inventories : List HostText → List (List ℕ) → List HostText
 with_inventories [] texts = []
 with_inventories (host ∷ hosts) [] = []
-with_inventories (host ∷ hosts) (text ∷ texts) = record host { mtree = text } ∷ with_inventories hosts texts
+with_inventories (host ∷ hosts) (text ∷ texts) =
+    record host { mtree = text } ∷ with_inventories hosts texts
 
 -- the inventory of each host was read once, in order, as these texts
-pub record WereEachRead (hosts : List HostText) (texts : List (List ℕ)) (old new : Ledger) : Type 0 where
-  pub one_each : length texts ≡ length hosts
-  pub readings : new.read ≡ old.read ++ readings_from 0 texts
+pub record WereEachRead (hosts : List HostText) (texts : List (List ℕ)) (old new : Ledger) : Type 0
+  where
+    pub one_each : length texts ≡ length hosts
+    pub readings : new.read ≡ old.read ++ readings_from 0 texts

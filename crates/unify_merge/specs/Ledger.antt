@@ -1,6 +1,7 @@
 -- What was read and written, as the calls tell it that succeeded.
 -- Source: this project's own rule.
-use Rattle.std.specs.Prelude.{◌≡◌, ℕ, Bool, true, false, List, [], ◌∷◌, ◌++◌, map, Option, Some, None}
+use Rattle.std.specs.Prelude.{◌≡◌, ℕ, Bool, true, false, List, [], ◌∷◌, ◌++◌, map, Option, Some}
+use Rattle.std.specs.Prelude.{None}
 use Rattle.unify.specs.declared.site_files.NamedText.{NamedText}
 
 -- a reading of the inventory of the host with the index, as far as it went
@@ -14,15 +15,23 @@ pub record Ledger : Type 0 where
   pub reading : Option Reading
   -- whether what an earlier merge left was cleared away
   pub is_clear : Bool
-  -- the names of the files that were begun, in order; the files that were finished, in order; and the one that is
-  -- written, as far as it was
+  -- the names of the files that were begun, in order; the files that were finished, in order; and
+  -- the one that is written, as far as it was
   pub begun : List (List ℕ)
   pub finished : List NamedText
   pub writing : Option NamedText
 
 -- nothing was read or written as yet
 abbrev pub nothing : Ledger
-nothing = record { read = []; reading = None; is_clear = false; begun = []; finished = []; writing = None }
+nothing =
+    record {
+      read = [];
+      reading = None;
+      is_clear = false;
+      begun = [];
+      finished = [];
+      writing = None;
+    }
 
 -- ---- reading
 
@@ -32,7 +41,8 @@ reading_so_far host text l = record l { reading = Some (record { host = host; te
 
 -- behind a whole reading
 abbrev pub after_reading : ℕ → List ℕ → Ledger → Ledger
-after_reading host text l = record l { read = l.read ++ record { host = host; text = text } ∷ []; reading = None }
+after_reading host text l =
+    record l { read = l.read ++ record { host = host; text = text } ∷ []; reading = None }
 
 -- the reading goes on with these bytes, and ends with none
 abbrev pub read_on : List ℕ → Option Reading → Ledger → Ledger
@@ -73,7 +83,12 @@ with_finished l = finished_on l.writing l
 
 -- behind whole files
 abbrev pub after_files : List NamedText → Ledger → Ledger
-after_files files l = record l { begun = l.begun ++ map (λ file. file.name) files; finished = l.finished ++ files; writing = None }
+after_files files l =
+    record l {
+      begun = l.begun ++ map (λ file. file.name) files;
+      finished = l.finished ++ files;
+      writing = None;
+    }
 
 -- ---- an early end
 

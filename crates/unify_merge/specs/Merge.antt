@@ -1,6 +1,7 @@
 -- What a merge does, from the bytes that it reads to the bytes of each file.
 -- Source: this project's own rule.
-use Rattle.std.specs.Prelude.{◌≡◌, ℕ, ◌⊎◌, Bool, true, List, [], ◌∷◌, ◌++◌, length, map, codes, Some, Ok, Err, IfSome, slice_get}
+use Rattle.std.specs.Prelude.{◌≡◌, ℕ, ◌⊎◌, Bool, true, List, [], ◌∷◌, ◌++◌, length, map, codes}
+use Rattle.std.specs.Prelude.{Some, Ok, Err, IfSome, slice_get}
 use Rattle.idtext.specs.First.{each}
 use Rattle.mtree_inv.specs.declared.entry.Entry.{Entry}
 use Rattle.hosts_join.specs.declared.host.Host.{Host}
@@ -23,7 +24,8 @@ use Rattle.unify.specs.SecondPass.{SolvedValue, StandsFor}
 use Rattle.unify_merge.specs.Ledger.{Ledger, after_files, cleared}
 use Rattle.unify_merge.specs.FirstReading.{IsInventoryFault, IsTooLarge, ReadsOnly, readings_from}
 use Rattle.unify_merge.specs.HostFiles.{host_names}
-use Rattle.unify_merge.specs.SecondReading.{IsPlannedAgain, IsSiteChange, WereRead, plan_files, plan_name}
+use Rattle.unify_merge.specs.SecondReading.{IsPlannedAgain, IsSiteChange, WereRead, plan_files}
+use Rattle.unify_merge.specs.SecondReading.{plan_name}
 use Rattle.unify_merge.specs.declared.fault.MergeFault.{MergeFault}
 use Rattle.unify_merge.specs.declared.fault.MergeFault.TheVariants.{Failed, TooLarge, Refused}
 
@@ -32,15 +34,21 @@ use Rattle.unify_merge.specs.declared.fault.MergeFault.TheVariants.{Failed, TooL
 -- those of the whole site that are written before those of the hosts
 abbrev pub first_files : Outcome → List NamedText
 first_files outcome =
-    record { name = codes "passwd"; text = outcome.passwd } ∷ record { name = codes "group"; text = outcome.group }
-    ∷ record { name = codes "map"; text = outcome.map } ∷ record { name = codes "certificate"; text = outcome.certificate } ∷ []
+    record { name = codes "passwd"; text = outcome.passwd }
+    ∷ record { name = codes "group"; text = outcome.group }
+    ∷ record { name = codes "map"; text = outcome.map }
+    ∷ record { name = codes "certificate"; text = outcome.certificate } ∷ []
 
 abbrev pub report_file : Outcome → NamedText
 report_file outcome = record { name = codes "report"; text = outcome.report }
 
--- all of them, in the order in which they are written, where the hosts were read from the texts and have these numbers
+-- all of them, in the order in which they are written, where the hosts were read from the texts and
+-- have these numbers
 abbrev pub merged_files : List HostText → BegunSite → Mappings → Outcome → List NamedText
-merged_files texts begun m outcome = first_files outcome ++ (plan_files texts outcome.plans ++ (host_files begun.joined m texts begun.hosts ++ report_file outcome ∷ []))
+merged_files texts begun m outcome =
+    first_files outcome
+    ++ (plan_files texts outcome.plans
+    ++ (host_files begun.joined m texts begun.hosts ++ report_file outcome ∷ []))
 
 -- the names of those before the report, in this order
 abbrev pub first_names : List (List ℕ)
@@ -52,12 +60,15 @@ names_before_report texts = first_names ++ (map plan_name texts ++ host_names te
 -- ---- a merge that succeeds
 
 -- the inventories of a site, as they were read
-pub record AreInventories (hosts : List Host) (texts : List (List ℕ)) (read : List (Host × List Entry)) : Type 0 where
+pub record AreInventories (hosts : List Host) (texts : List (List ℕ))
+    (read : List (Host × List Entry)) : Type 0 where
   pub one_each : length texts ≡ length hosts
   pub accepted : each site_of (loaded_from hosts texts) ≡ Ok read
 
--- the tables and the pins were read, and the inventory of each host once; what was merged is right for that reading
-pub record HasSolved (texts : List HostText) (pins : List ℕ) (old new : Ledger) (s : SolvedValue) : Type 0 where
+-- the tables and the pins were read, and the inventory of each host once; what was merged is right
+-- for that reading
+pub record HasSolved (texts : List HostText) (pins : List ℕ) (old new : Ledger) (s : SolvedValue)
+    : Type 0 where
   pub begun : BegunSite
   pub begun_is : site_begun texts pins ≡ Ok begun
   pub first : List (List ℕ)
@@ -73,17 +84,28 @@ pub record HasSolved (texts : List HostText) (pins : List ℕ) (old new : Ledger
   pub none_ended : s.ended ≡ 0
   pub stands : (host : Host) → slice_get s.hosts 0 ≡ Some host → StandsFor s host [] []
 
--- the inventories were read again, and what was merged stands in its files, with plans for that reading
-pub record HasWritten (names : List HostText) (s : SolvedValue) (read : List (Host × List Entry)) (old new : Ledger) (cost : Cost) : Type 0 where
+-- the inventories were read again, and what was merged stands in its files, with plans for that
+-- reading
+pub record HasWritten (names : List HostText) (s : SolvedValue) (read : List (Host × List Entry))
+    (old new : Ledger) (cost : Cost) : Type 0 where
   pub site : IsPlannedAgain s read
   pub readings : new.read ≡ old.read ++ readings_from 0 site.texts
-  pub files : new ≡ record (after_files (merged_files names (record { hosts = s.hosts; joined = s.joined }) (mappings_in s.merged) (record s.merged.outcome { plans = site.plans })) (cleared old)) { read = new.read; reading = new.reading; writing = new.writing }
+  pub files : new
+      ≡ record (after_files
+      (merged_files names (record { hosts = s.hosts; joined = s.joined }) (mappings_in s.merged)
+      (record s.merged.outcome { plans = site.plans })) (cleared old)) {
+        read = new.read;
+        reading = new.reading;
+        writing = new.writing;
+      }
   pub cost_is : cost ≡ s.merged.outcome.cost
 
--- The tables and the pins were read; the inventory of each host was read twice, and is accepted both times. What
--- was merged is right for the second reading, and has the headline of it; and each host's own passwd and group with
--- their new numbers keep the names of its files as well. It stands in its files, which are all that was written.
-pub record HasMerged (texts : List HostText) (pins : List ℕ) (old new : Ledger) (cost : Cost) : Type 0 where
+-- The tables and the pins were read; the inventory of each host was read twice, and is accepted
+-- both times. What was merged is right for the second reading, and has the headline of it; and each
+-- host's own passwd and group with their new numbers keep the names of its files as well. It stands
+-- in its files, which are all that was written.
+pub record HasMerged (texts : List HostText) (pins : List ℕ) (old new : Ledger) (cost : Cost) : Type
+    0 where
   pub begun : BegunSite
   pub begun_is : site_begun texts pins ≡ Ok begun
   pub first : List (List ℕ)
@@ -98,13 +120,16 @@ pub record HasMerged (texts : List HostText) (pins : List ℕ) (old new : Ledger
   pub is_believed : Headline (record { hosts = are; joined = begun.joined }) outcome
   pub own_files : EachKeepsOwnFiles (record { hosts = are; joined = begun.joined }) outcome
       is_believed texts
-  pub files : new ≡ record (after_files (merged_files texts begun is_believed.mappings outcome) (cleared old)) { read = new.read; reading = new.reading; writing = new.writing }
+  pub files : new
+      ≡ record (after_files (merged_files texts begun is_believed.mappings outcome)
+      (cleared old)) { read = new.read; reading = new.reading; writing = new.writing }
   pub cost_is : cost ≡ outcome.cost
 
 -- ---- a merge that is refused
 
 -- every inventory was read once and accepted, and one of them has changed when it is read again
-pub record IsSecondFault (texts : List HostText) (pins : List ℕ) (old new : Ledger) (f : Fault) : Type 0 where
+pub record IsSecondFault (texts : List HostText) (pins : List ℕ) (old new : Ledger) (f : Fault)
+    : Type 0 where
   pub begun : BegunSite
   pub begun_is : site_begun texts pins ≡ Ok begun
   pub first : List (List ℕ)
@@ -112,15 +137,17 @@ pub record IsSecondFault (texts : List HostText) (pins : List ℕ) (old new : Le
   pub first_read : AreInventories begun.hosts first were
   pub change : IsSiteChange were (record old { read = old.read ++ readings_from 0 first }) new f
 
--- The first fault of what was read: of the tables or the pins, or of an inventory, and then nothing was written; or
--- a change of an inventory between its readings.
+-- The first fault of what was read: of the tables or the pins, or of an inventory, and then nothing
+-- was written; or a change of an inventory between its readings.
 abbrev pub IsMergeFault : List HostText → List ℕ → Ledger → Ledger → Fault → Type 0
 IsMergeFault texts pins old new f =
     ((site_begun texts pins ≡ Err f) × ReadsOnly old new)
-    ⊎ (((begun : BegunSite) × (site_begun texts pins ≡ Ok begun) × IsInventoryFault begun.hosts old new f × ReadsOnly old new)
+    ⊎ (((begun : BegunSite) × (site_begun texts pins ≡ Ok begun)
+    × IsInventoryFault begun.hosts old new f × ReadsOnly old new)
     ⊎ IsSecondFault texts pins old new f)
 
--- why a merge ended early: a call failed, an inventory is too large, or what was read is refused; or memory was wanting
+-- why a merge ended early: a call failed, an inventory is too large, or what was read is refused;
+-- or memory was wanting
 abbrev pub StopsMerge : List HostText → List ℕ → Ledger → Ledger → Bool → MergeFault → Type 0
 StopsMerge texts pins old new failed Failed = failed ≡ true
 StopsMerge texts pins old new failed TooLarge = IsTooLarge new

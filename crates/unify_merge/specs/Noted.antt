@@ -1,6 +1,7 @@
 -- What a call that succeeded makes of the ledger.
 use Rattle.std.specs.Prelude.{[], ◌∷◌}
-use Rattle.unify_merge.specs.Ledger.{Ledger, reading_so_far, with_piece, cleared, with_begun, with_bytes, with_finished, after_files}
+use Rattle.unify_merge.specs.Ledger.{Ledger, reading_so_far, with_piece, cleared, with_begun}
+use Rattle.unify_merge.specs.Ledger.{with_bytes, with_finished, after_files}
 use Rattle.unify_merge.specs.declared.log.Call.{Call}
 use Rattle.unify_merge.specs.declared.log.Call.TheVariants as call
 

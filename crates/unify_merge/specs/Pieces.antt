@@ -8,11 +8,14 @@ use Rattle.unify_merge.specs.declared.fault.MergeFault.TheVariants.{Failed, TooL
 -- the reading goes on with bytes, or comes to its end
 -- left, less: how many bytes more it may have before and behind them
 abbrev pub GoesOn : Reading → List ℕ → ℕ → ℕ → Ledger → Ledger → Bool → Type 0
-GoesOn r bytes left less old new true = (new ≡ reading_so_far r.host (r.text ++ bytes) old) × (less + length bytes ≡ left) × (less < left)
+GoesOn r bytes left less old new true =
+    (new ≡ reading_so_far r.host (r.text ++ bytes) old) × (less + length bytes ≡ left)
+    × (less < left)
 GoesOn r bytes left less old new false = new ≡ after_reading r.host r.text old
 
 -- the call failed, or more bytes came than may come
 abbrev pub EndsEarly : Reading → List ℕ → ℕ → Ledger → Ledger → Bool → MergeFault → Type 0
 EndsEarly r bytes left old new failed Failed = (failed ≡ true) × (new ≡ old)
-EndsEarly r bytes left old new failed TooLarge = (new ≡ reading_so_far r.host (r.text ++ bytes) old) × (left < length bytes)
+EndsEarly r bytes left old new failed TooLarge =
+    (new ≡ reading_so_far r.host (r.text ++ bytes) old) × (left < length bytes)
 EndsEarly r bytes left old new failed (Refused e) = ⊥

@@ -1,6 +1,7 @@
 -- The inventories as they are read the second time, while plans are written.
 -- Source: this project's own rule.
-use Rattle.std.specs.Prelude.{◌≡◌, ℕ, ◌⊎◌, Bool, true, List, [], ◌∷◌, ◌++◌, length, map, codes, Some, Ok, Err, IfSome, slice_get}
+use Rattle.std.specs.Prelude.{◌≡◌, ℕ, ◌⊎◌, Bool, true, List, [], ◌∷◌, ◌++◌, length, map, codes}
+use Rattle.std.specs.Prelude.{Some, Ok, Err, IfSome, slice_get}
 use Rattle.idtext.specs.First.{each}
 use Rattle.mtree_inv.specs.declared.entry.Entry.{Entry}
 use Rattle.hosts_join.specs.declared.host.Host.{Host}
@@ -13,7 +14,8 @@ use Rattle.unify.specs.Loading.{loaded_from}
 use Rattle.unify.specs.Passes.{ArePassed, is_read}
 use Rattle.unify.specs.RowFiles.{row_files}
 use Rattle.unify.specs.SecondPass as second
-use Rattle.unify.specs.SecondPass.{HaveSameCounts, SolvedValue, second_files, second_lines, whole_plan}
+use Rattle.unify.specs.SecondPass.{HaveSameCounts, SolvedValue, second_files, second_lines}
+use Rattle.unify.specs.SecondPass.{whole_plan}
 use Rattle.unify.specs.TwoPasses.{AreReadAgain, AreWholePlans}
 use Rattle.unify.specs.declared.site_files.NamedText.{NamedText}
 use Rattle.unify_merge.specs.Ledger.{Ledger, Reading, after_files}
@@ -29,34 +31,44 @@ pub record IsTurnOf (s : SolvedValue) (host : Host) (were : List Entry) : Type 0
   pub passed : slice_get s.passed s.ended ≡ Some (row_files host were)
   pub stands : second.StandsFor s host [] []
 
--- The inventory of a host is not what it was: its whole lines so far have a fault, or a file without an account; or
--- the whole of it has, or a user or a group of the host owns not as many of its files as before.
+-- The inventory of a host is not what it was: its whole lines so far have a fault, or a file
+-- without an account; or the whole of it has, or a user or a group of the host owns not as many of
+-- its files as before.
 -- index: that of the host
 abbrev pub IsChange : Host → List Entry → ℕ → List Reading → Ledger → Type 0
 IsChange host were index before l = (text : List ℕ)
     × ((IsReading before index text l × (f : Fault) × (is_read (second_lines host text) ≡ Err f))
-    ⊎ (HasRead before index text l × ((files : List Entry) → second_files host text ≡ Ok files → HaveSameCounts host were files → ⊥)))
+    ⊎ (HasRead before index text l
+    × ((files : List Entry) → second_files host text ≡ Ok files → HaveSameCounts host were files
+    → ⊥)))
 
 -- the change as it is told
 abbrev pub IsChangeFault : Host → List Entry → ℕ → List Reading → Ledger → Fault → Type 0
-IsChangeFault host were index before l f = (f ≡ InventoryChanged host.name) × IsChange host were index before l
+IsChangeFault host were index before l f =
+    (f ≡ InventoryChanged host.name) × IsChange host were index before l
 
 -- why a piece of it, behind which this much had come, or its end was refused
 abbrev pub StopsPiece : Host → List ℕ → Bool → MergeFault → Type 0
 StopsPiece host text failed Failed = failed ≡ true
 StopsPiece host text failed TooLarge = ⊥
-StopsPiece host text failed (Refused e) = IfSome (told e) (λ f. (f ≡ InventoryChanged host.name) × (g : Fault) × (is_read (second_lines host text) ≡ Err g))
+StopsPiece host text failed (Refused e) =
+    IfSome (told e) (λ f. (f ≡ InventoryChanged host.name) × (g : Fault)
+    × (is_read (second_lines host text) ≡ Err g))
 
 abbrev pub StopsEnd : Host → List Entry → List ℕ → Bool → MergeFault → Type 0
 StopsEnd host were text failed Failed = failed ≡ true
 StopsEnd host were text failed TooLarge = ⊥
-StopsEnd host were text failed (Refused e) = IfSome (told e) (λ f. (f ≡ InventoryChanged host.name) × ((files : List Entry) → second_files host text ≡ Ok files → HaveSameCounts host were files → ⊥))
+StopsEnd host were text failed (Refused e) =
+    IfSome (told e) (λ f. (f ≡ InventoryChanged host.name)
+    × ((files : List Entry) → second_files host text ≡ Ok files → HaveSameCounts host were files
+    → ⊥))
 
 -- why it ended early
 abbrev pub StopsSecond : Host → List Entry → ℕ → List Reading → Ledger → Bool → MergeFault → Type 0
 StopsSecond host were index before l failed Failed = failed ≡ true
 StopsSecond host were index before l failed TooLarge = IsTooLarge l
-StopsSecond host were index before l failed (Refused e) = IfSome (told e) (IsChangeFault host were index before l)
+StopsSecond host were index before l failed (Refused e) =
+    IfSome (told e) (IsChangeFault host were index before l)
 
 -- only the file that is written has changed
 abbrev pub WritesOnly : Ledger → Ledger → Type 0
@@ -64,28 +76,36 @@ WritesOnly old new = new ≡ record old { writing = new.writing }
 
 -- and the readings
 abbrev pub IsWithinFile : Ledger → Ledger → Type 0
-IsWithinFile old new = new ≡ record old { read = new.read; reading = new.reading; writing = new.writing }
+IsWithinFile old new =
+    new ≡ record old { read = new.read; reading = new.reading; writing = new.writing }
 
 -- the text was read, whose files each user and each group of the host owns as many of as before
-pub record IsReadAgain (host : Host) (were : List Entry) (text : List ℕ) (files : List Entry) : Type 0 where
+pub record IsReadAgain (host : Host) (were : List Entry) (text : List ℕ) (files : List Entry) : Type
+    0 where
   pub accepted : second_files host text ≡ Ok files
   pub same : HaveSameCounts host were files
 
 -- it was, and the plan for its files is what is written so far
-pub record IsPlanned (s : SolvedValue) (host : Host) (were : List Entry) (name : List ℕ) (old new : Ledger) : Type 0 where
+pub record IsPlanned (s : SolvedValue) (host : Host) (were : List Entry) (name : List ℕ)
+    (old new : Ledger) : Type 0 where
   pub text : List ℕ
   pub files : List Entry
   pub again : IsReadAgain host were text files
   pub readings : HasRead old.read s.ended text new
-  pub written : new.writing ≡ Some (record { name = name; text = whole_plan host s.joined s.merged s.ended files })
+  pub written : new.writing
+      ≡ Some (record { name = name; text = whole_plan host s.joined s.merged s.ended files })
 
 -- it was, and the plan for its files is a file now
-pub record HasPlan (s : SolvedValue) (host : Host) (were : List Entry) (name : List ℕ) (old new : Ledger) : Type 0 where
+pub record HasPlan (s : SolvedValue) (host : Host) (were : List Entry) (name : List ℕ)
+    (old new : Ledger) : Type 0 where
   pub text : List ℕ
   pub files : List Entry
   pub again : IsReadAgain host were text files
   pub readings : HasRead old.read s.ended text new
-  pub written : new ≡ record (after_files (record { name = name; text = whole_plan host s.joined s.merged s.ended files } ∷ []) old) { read = new.read; reading = new.reading }
+  pub written : new
+      ≡ record (after_files
+      (record { name = name; text = whole_plan host s.joined s.merged s.ended files } ∷ [])
+      old) { read = new.read; reading = new.reading }
 
 -- ---- those of all inventories
 
@@ -97,15 +117,17 @@ plan_name host = codes "plan." ++ host.name
 abbrev pub plan_files : List HostText → List (List ℕ) → List NamedText
 plan_files [] plans = []
 plan_files (host ∷ hosts) [] = []
-plan_files (host ∷ hosts) (plan ∷ plans) = record { name = plan_name host; text = plan } ∷ plan_files hosts plans
+plan_files (host ∷ hosts) (plan ∷ plans) =
+    record { name = plan_name host; text = plan } ∷ plan_files hosts plans
 
 -- the inventories of the hosts were read before with these files
 pub record WereRead (s : SolvedValue) (read : List (Host × List Entry)) : Type 0 where
   pub hosts : map (λ h. h.0) read ≡ s.hosts
   pub passed : ArePassed s.passed read
 
--- The inventories of the hosts were read again as these texts, of which each user and each group of each host owns
--- as many files as before, and the plan of each host is for the files that it has now.
+-- The inventories of the hosts were read again as these texts, of which each user and each group of
+-- each host owns as many files as before, and the plan of each host is for the files that it has
+-- now.
 pub record IsPlannedAgain (s : SolvedValue) (read : List (Host × List Entry)) : Type 0 where
   pub texts : List (List ℕ)
   pub one_each : length texts ≡ length s.hosts
@@ -116,18 +138,25 @@ pub record IsPlannedAgain (s : SolvedValue) (read : List (Host × List Entry)) :
   pub whole : AreWholePlans (record { hosts = again; joined = s.joined }) s.merged plans
 
 -- they were read so, and these plans are files now
-pub record ArePlanned (names : List HostText) (s : SolvedValue) (read : List (Host × List Entry)) (old new : Ledger) : Type 0 where
+pub record ArePlanned (names : List HostText) (s : SolvedValue) (read : List (Host × List Entry))
+    (old new : Ledger) : Type 0 where
   pub site : IsPlannedAgain s read
   pub readings : new.read ≡ old.read ++ readings_from 0 site.texts
-  pub files : new ≡ record (after_files (plan_files names site.plans) old) { read = new.read; reading = new.reading; writing = new.writing }
+  pub files : new
+      ≡ record (after_files (plan_files names site.plans) old) {
+        read = new.read;
+        reading = new.reading;
+        writing = new.writing;
+      }
 
 -- the inventories of the first hosts were read again, and that of the next is not what it was
-pub record IsSiteChange (read : List (Host × List Entry)) (old new : Ledger) (f : Fault) : Type 0 where
-  pub texts : List (List ℕ)
-  pub host : Host
-  pub were : List Entry
-  pub here : slice_get read (length texts) ≡ Some (host, were)
-  pub change : IsChangeFault host were (length texts) (old.read ++ readings_from 0 texts) new f
+pub record IsSiteChange (read : List (Host × List Entry)) (old new : Ledger) (f : Fault) : Type 0
+  where
+    pub texts : List (List ℕ)
+    pub host : Host
+    pub were : List Entry
+    pub here : slice_get read (length texts) ≡ Some (host, were)
+    pub change : IsChangeFault host were (length texts) (old.read ++ readings_from 0 texts) new f
 
 -- why they ended early
 abbrev pub StopsPlanning : List (Host × List Entry) → Ledger → Ledger → Bool → MergeFault → Type 0

@@ -11,16 +11,18 @@ use hosts_join::HostText;
 use std::alloc::Global;
 use unify::begin_site;
 
-/// How many owner and group fields of files the mappings of a certificate change, where the certificate proves that no
-/// admissible mappings change fewer; it may be written by anybody. The tables of the hosts, the pins and the certificate
-/// are given as texts, and the inventories are read from the files, once; those among the texts are not looked at.
+/// How many owner and group fields of files the mappings of a certificate change, where the
+/// certificate proves that no admissible mappings change fewer; it may be written by anybody. The
+/// tables of the hosts, the pins and the certificate are given as texts, and the inventories are
+/// read from the files, once; those among the texts are not looked at.
 ///
-/// Each inventory is read when its host's turn comes, piece by piece, and none is kept. It stops early where a call on
-/// the files fails, where an inventory has more than 4,294,967,295 bytes, at the first fault of what is read, in the
-/// order of `verify`, or where a growth is refused (`Fault::Memory`).
+/// Each inventory is read when its host's turn comes, piece by piece, and none is kept. It stops
+/// early where a call on the files fails, where an inventory has more than 4,294,967,295 bytes, at
+/// the first fault of what is read, in the order of `verify`, or where a growth is refused
+/// (`Fault::Memory`).
 ///
-/// One pass over each inventory, with two look-ups by hash for each file; the rest is near linear in the account rows
-/// and the certificate's lines.
+/// One pass over each inventory, with two look-ups by hash for each file; the rest is near linear
+/// in the account rows and the certificate's lines.
 pub fn check_files<'a, F: ReadFiles>(
     alloc: Global,
     files: &mut F,
@@ -28,8 +30,11 @@ pub fn check_files<'a, F: ReadFiles>(
     pins: &'a [u8],
     certificate: &'a [u8],
 ) -> Result<u64, MergeFault<'a>>
-    ensures checked { IfOk result (HasChecked hosts.now pins.now certificate.now (F.ledger files.old) (F.ledger files.new)) }
-    ensures stopped { IfErr result (StopsCheck hosts.now pins.now certificate.now (F.ledger files.old) (F.ledger files.new) (F.has_failed files.new)) }
+    ensures checked { IfOk result
+        (HasChecked hosts.now pins.now certificate.now (F.ledger files.old) (F.ledger files.new)) }
+    ensures stopped { IfErr result
+        (StopsCheck hosts.now pins.now certificate.now (F.ledger files.old) (F.ledger files.new)
+        (F.has_failed files.new)) }
     ensures reads { ReadsOnly (F.ledger files.old) (F.ledger files.new) }
 {
     let mut begun = begin_site(alloc, hosts, pins)?;

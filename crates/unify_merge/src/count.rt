@@ -11,23 +11,29 @@ use hosts_join::HostText;
 use std::alloc::Global;
 use unify::{Cost, begin_count};
 
-/// How many owner and group fields of files the numbers of a map text change, for any map whose names are exactly those of
-/// the hosts; it need keep no pin and no pool. The tables of the hosts and the map are given as texts, and the inventories
-/// are read from the files, once; those among the texts are not looked at.
+/// How many owner and group fields of files the numbers of a map text change, for any map whose
+/// names are exactly those of the hosts; it need keep no pin and no pool. The tables of the hosts
+/// and the map are given as texts, and the inventories are read from the files, once; those among
+/// the texts are not looked at.
 ///
-/// Each inventory is read when its host's turn comes, piece by piece, and none is kept. It stops early where a call on
-/// the files fails, where an inventory has more than 4,294,967,295 bytes, at the first fault of what is read, in the
-/// order of `count`, or where a growth is refused (`Fault::Memory`).
+/// Each inventory is read when its host's turn comes, piece by piece, and none is kept. It stops
+/// early where a call on the files fails, where an inventory has more than 4,294,967,295 bytes, at
+/// the first fault of what is read, in the order of `count`, or where a growth is refused
+/// (`Fault::Memory`).
 ///
-/// One pass over each inventory, with two look-ups by hash for each file; the map's names are looked up on each host.
+/// One pass over each inventory, with two look-ups by hash for each file; the map's names are
+/// looked up on each host.
 pub fn count_files<'a, F: ReadFiles>(
     alloc: Global,
     files: &mut F,
     hosts: &'a [HostText],
     map: &'a [u8],
 ) -> Result<Cost, MergeFault<'a>>
-    ensures counted { IfOk result (HasCounted hosts.now map.now (F.ledger files.old) (F.ledger files.new)) }
-    ensures stopped { IfErr result (StopsCount hosts.now map.now (F.ledger files.old) (F.ledger files.new) (F.has_failed files.new)) }
+    ensures counted { IfOk result
+        (HasCounted hosts.now map.now (F.ledger files.old) (F.ledger files.new)) }
+    ensures stopped { IfErr result
+        (StopsCount hosts.now map.now (F.ledger files.old) (F.ledger files.new)
+        (F.has_failed files.new)) }
     ensures reads { ReadsOnly (F.ledger files.old) (F.ledger files.new) }
 {
     let mut begun = begin_count(alloc, hosts, map)?;

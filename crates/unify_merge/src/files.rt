@@ -4,8 +4,8 @@
 #[derive(Clone, Copy, Debug, PartialEq, Eq)]
 pub struct CallFailed;
 
-/// The inventories that a command reads. A call that fails has done nothing that counts. What a call costs is for the
-/// files to say.
+/// The inventories that a command reads. A call that fails has done nothing that counts. What a
+/// call costs is for the files to say.
 pub trait ReadFiles {
     ghost use Rattle.std.specs.Prelude.{◌≡◌, ℕ, Bool, true, [], OnOk, OnErr};
     ghost use Rattle.unify_merge.specs.Ledger.{Ledger, reading_so_far, with_piece};
@@ -24,7 +24,8 @@ pub trait ReadFiles {
 
     /// Replaces the bytes by the next of the reading; by none only at its end.
     fn piece(&mut self, bytes: &mut Vec<u8>) -> Result<(), CallFailed>
-        ensures read { OnOk result (ledger self.new ≡ with_piece bytes.new.items (ledger self.old)) }
+        ensures read { OnOk result
+            (ledger self.new ≡ with_piece bytes.new.items (ledger self.old)) }
         ensures none { OnErr result (ledger self.new ≡ ledger self.old) }
         ensures failed { OnErr result (has_failed self.new ≡ true) };
 }
@@ -32,10 +33,11 @@ pub trait ReadFiles {
 /// The inventories that a merge reads, and the files that it writes.
 pub trait MergeFiles: ReadFiles {
     ghost use Rattle.std.specs.Prelude.{◌≡◌, true, [], ◌∷◌, OnOk, OnErr};
-    ghost use Rattle.unify_merge.specs.Ledger.{cleared, with_begun, with_bytes, with_finished, after_files};
+    ghost use Rattle.unify_merge.specs.Ledger.{cleared, with_begun, with_bytes, with_finished};
+    ghost use Rattle.unify_merge.specs.Ledger.{after_files};
 
-    /// Clears away what an earlier merge left: its report first, and what it wrote for each host, also for hosts that are
-    /// no more.
+    /// Clears away what an earlier merge left: its report first, and what it wrote for each host,
+    /// also for hosts that are no more.
     fn clear(&mut self) -> Result<(), CallFailed>
         ensures clear { OnOk result (Self.ledger self.new ≡ cleared (Self.ledger self.old)) }
         ensures none { OnErr result (Self.ledger self.new ≡ Self.ledger self.old) }
@@ -44,26 +46,32 @@ pub trait MergeFiles: ReadFiles {
     /// Begins a file. What has its name stays until it is finished.
     fn begin(&mut self, name: &[u8]) -> Result<(), CallFailed>
         requires clear { (Self.ledger self.old).is_clear ≡ true }
-        ensures begun { OnOk result (Self.ledger self.new ≡ with_begun name.now (Self.ledger self.old)) }
+        ensures begun { OnOk result
+            (Self.ledger self.new ≡ with_begun name.now (Self.ledger self.old)) }
         ensures none { OnErr result (Self.ledger self.new ≡ Self.ledger self.old) }
         ensures failed { OnErr result (Self.has_failed self.new ≡ true) };
 
     /// Appends bytes to the file.
     fn append(&mut self, bytes: &[u8]) -> Result<(), CallFailed>
-        ensures written { OnOk result (Self.ledger self.new ≡ with_bytes bytes.now (Self.ledger self.old)) }
+        ensures written { OnOk result
+            (Self.ledger self.new ≡ with_bytes bytes.now (Self.ledger self.old)) }
         ensures none { OnErr result (Self.ledger self.new ≡ Self.ledger self.old) }
         ensures failed { OnErr result (Self.has_failed self.new ≡ true) };
 
     /// Gives the file its name, with all its bytes.
     fn finish(&mut self) -> Result<(), CallFailed>
-        ensures finished { OnOk result (Self.ledger self.new ≡ with_finished (Self.ledger self.old)) }
+        ensures finished { OnOk result
+            (Self.ledger self.new ≡ with_finished (Self.ledger self.old)) }
         ensures none { OnErr result (Self.ledger self.new ≡ Self.ledger self.old) }
         ensures failed { OnErr result (Self.has_failed self.new ≡ true) };
 
     /// Writes the last file whole, when all others are settled where they stand, and settles it.
     fn seal(&mut self, name: &[u8], text: &[u8]) -> Result<(), CallFailed>
         requires clear { (Self.ledger self.old).is_clear ≡ true }
-        ensures sealed { OnOk result (Self.ledger self.new ≡ after_files (record { name = name.now; text = text.now } ∷ []) (Self.ledger self.old)) }
+        ensures sealed { OnOk result
+            (Self.ledger self.new
+            ≡ after_files (record { name = name.now; text = text.now } ∷ [])
+            (Self.ledger self.old)) }
         ensures none { OnErr result (Self.ledger self.new ≡ Self.ledger self.old) }
         ensures failed { OnErr result (Self.has_failed self.new ≡ true) };
 }

@@ -1,9 +1,11 @@
 //! A reading of the inventories of all hosts: their files are counted.
 
-ghost use Rattle.std.specs.Prelude.{◌≡◌, ◌+◌, ◌<◌, ◌++◌, ◌∷◌, [], ℕ, List, length, Some, slice_get, OnOk, IfErr};
+ghost use Rattle.std.specs.Prelude.{◌≡◌, ◌+◌, ◌<◌, ◌++◌, ◌∷◌, [], ℕ, List, length, Some, slice_get};
+ghost use Rattle.std.specs.Prelude.{OnOk, IfErr};
 ghost use Rattle.hosts_join.specs.declared.host.Host.{Host};
 ghost use Rattle.unify.specs.Passes.{StandsFor, ended_in};
-ghost use Rattle.unify_merge.specs.FirstReading.{HasRead, ReadsOnly, StopsCounting, StopsFirst, readings_from};
+ghost use Rattle.unify_merge.specs.FirstReading.{HasRead, ReadsOnly, StopsCounting, StopsFirst};
+ghost use Rattle.unify_merge.specs.FirstReading.{readings_from};
 
 use crate::fault::MergeFault;
 use crate::files::ReadFiles;
@@ -18,9 +20,17 @@ fn count_reading<'a, F: ReadFiles>(
     bytes: &mut Vec<u8>,
 ) -> Result<(), MergeFault<'a>>
     requires left { ended_in inventories.old < length inventories.old.hosts }
-    requires begun { (F.ledger files.old).reading ≡ Some (record { host = ended_in inventories.old; text = [] }) }
-    ensures counted { OnOk result ((ended : List (List ℕ)) → StandsFor inventories.old ended [] → (text : List ℕ) × StandsFor inventories.new (ended ++ text ∷ []) [] × HasRead (F.ledger files.old).read (ended_in inventories.old) text (F.ledger files.new)) }
-    ensures stopped { IfErr result (λ fault. (ended : List (List ℕ)) (host : Host) → StandsFor inventories.old ended [] → slice_get inventories.old.hosts (ended_in inventories.old) ≡ Some host → StopsFirst host (ended_in inventories.old) (F.ledger files.old).read (F.ledger files.new) (F.has_failed files.new) fault) }
+    requires begun { (F.ledger files.old).reading
+        ≡ Some (record { host = ended_in inventories.old; text = [] }) }
+    ensures counted { OnOk result
+        ((ended : List (List ℕ)) → StandsFor inventories.old ended [] → (text : List ℕ)
+        × StandsFor inventories.new (ended ++ text ∷ []) []
+        × HasRead (F.ledger files.old).read (ended_in inventories.old) text (F.ledger files.new)) }
+    ensures stopped { IfErr result
+        (λ fault. (ended : List (List ℕ)) (host : Host) → StandsFor inventories.old ended []
+        → slice_get inventories.old.hosts (ended_in inventories.old) ≡ Some host
+        → StopsFirst host (ended_in inventories.old) (F.ledger files.old).read (F.ledger files.new)
+        (F.has_failed files.new) fault) }
     ensures reads { ReadsOnly (F.ledger files.old) (F.ledger files.new) }
     ensures ended { OnOk result (ended_in inventories.new ≡ ended_in inventories.old + 1) }
     ensures site { inventories.new.hosts ≡ inventories.old.hosts }
@@ -42,8 +52,15 @@ fn count_host<'a, F: ReadFiles>(
 ) -> Result<(), MergeFault<'a>>
     requires next { index ≡ ended_in inventories.old }
     requires left { index < length inventories.old.hosts }
-    ensures counted { OnOk result ((ended : List (List ℕ)) → StandsFor inventories.old ended [] → (text : List ℕ) × StandsFor inventories.new (ended ++ text ∷ []) [] × HasRead (F.ledger files.old).read index text (F.ledger files.new)) }
-    ensures stopped { IfErr result (λ fault. (ended : List (List ℕ)) (host : Host) → StandsFor inventories.old ended [] → slice_get inventories.old.hosts index ≡ Some host → StopsFirst host index (F.ledger files.old).read (F.ledger files.new) (F.has_failed files.new) fault) }
+    ensures counted { OnOk result
+        ((ended : List (List ℕ)) → StandsFor inventories.old ended [] → (text : List ℕ)
+        × StandsFor inventories.new (ended ++ text ∷ []) []
+        × HasRead (F.ledger files.old).read index text (F.ledger files.new)) }
+    ensures stopped { IfErr result
+        (λ fault. (ended : List (List ℕ)) (host : Host) → StandsFor inventories.old ended []
+        → slice_get inventories.old.hosts index ≡ Some host
+        → StopsFirst host index (F.ledger files.old).read (F.ledger files.new)
+        (F.has_failed files.new) fault) }
     ensures reads { ReadsOnly (F.ledger files.old) (F.ledger files.new) }
     ensures ended { OnOk result (ended_in inventories.new ≡ index + 1) }
     ensures site { inventories.new.hosts ≡ inventories.old.hosts }
@@ -59,8 +76,12 @@ pub fn count_hosts<'a, F: ReadFiles>(
     inventories: &mut Inventories<'a>,
 ) -> Result<(), MergeFault<'a>>
     requires start { StandsFor inventories.old [] [] }
-    ensures counted { OnOk result ((texts : List (List ℕ)) × StandsFor inventories.new texts [] × ((F.ledger files.new).read ≡ (F.ledger files.old).read ++ readings_from 0 texts)) }
-    ensures stopped { IfErr result (λ fault. StopsCounting inventories.old.hosts (F.ledger files.old) (F.ledger files.new) (F.has_failed files.new) fault) }
+    ensures counted { OnOk result
+        ((texts : List (List ℕ)) × StandsFor inventories.new texts []
+        × ((F.ledger files.new).read ≡ (F.ledger files.old).read ++ readings_from 0 texts)) }
+    ensures stopped { IfErr result
+        (λ fault. StopsCounting inventories.old.hosts (F.ledger files.old) (F.ledger files.new)
+        (F.has_failed files.new) fault) }
     ensures reads { ReadsOnly (F.ledger files.old) (F.ledger files.new) }
     ensures ended { OnOk result (ended_in inventories.new ≡ length inventories.new.hosts) }
     ensures site { inventories.new.hosts ≡ inventories.old.hosts }

@@ -1,6 +1,7 @@
 //! Each host's own passwd and group with their new numbers are written.
 
-ghost use Rattle.std.specs.Prelude.{◌≡◌, ◌<◌, ◌++◌, ◌∷◌, [], codes, length, true, Some, slice_get, IfOk, OnOk, IfErr, OnErr, MatchResult};
+ghost use Rattle.std.specs.Prelude.{◌≡◌, ◌<◌, ◌++◌, ◌∷◌, [], codes, length, true, Some, slice_get};
+ghost use Rattle.std.specs.Prelude.{IfOk, OnOk, IfErr, OnErr, MatchResult};
 ghost use Rattle.hosts_join.specs.declared.host.Host.{Host};
 ghost use Rattle.unify.specs.HostTexts.{group_file, host_files, passwd_file};
 ghost use Rattle.unify.specs.Merging.{mappings_in};
@@ -23,9 +24,13 @@ fn write_text<'a, F: MergeFiles>(
     text: &[u8],
 ) -> Result<(), MergeFault<'a>>
     requires clear { (F.ledger files.old).is_clear ≡ true }
-    ensures written { OnOk result (F.ledger files.new ≡ after_files (record { name = start.now ++ host.now.name; text = text.now } ∷ []) (F.ledger files.old)) }
+    ensures written { OnOk result
+        (F.ledger files.new
+        ≡ after_files (record { name = start.now ++ host.now.name; text = text.now } ∷ [])
+        (F.ledger files.old)) }
     ensures stopped { IfErr result (StopsWriting (F.has_failed files.new)) }
-    ensures begun { OnErr result (HasBegun ((start.now ++ host.now.name) ∷ []) (F.ledger files.old) (F.ledger files.new)) }
+    ensures begun { OnErr result
+        (HasBegun ((start.now ++ host.now.name) ∷ []) (F.ledger files.old) (F.ledger files.new)) }
 {
     let name = host_file_name(alloc, start, host)?;
     write_file(files, &name, text)?;
@@ -42,9 +47,16 @@ fn write_passwd<'a, F: MergeFiles>(
 ) -> Result<(), MergeFault<'a>>
     requires clear { (F.ledger files.old).is_clear ≡ true }
     requires within { index < length solved.now.hosts }
-    ensures written { OnOk result ((here : Host) → slice_get solved.now.hosts index ≡ Some here → F.ledger files.new ≡ after_files (passwd_file here solved.now.joined (mappings_in solved.now.merged) host.now ∷ []) (F.ledger files.old)) }
+    ensures written { OnOk result
+        ((here : Host) → slice_get solved.now.hosts index ≡ Some here
+        → F.ledger files.new
+        ≡ after_files
+        (passwd_file here solved.now.joined (mappings_in solved.now.merged) host.now ∷ [])
+        (F.ledger files.old)) }
     ensures stopped { IfErr result (StopsWriting (F.has_failed files.new)) }
-    ensures begun { OnErr result (HasBegun ((codes "passwd." ++ host.now.name) ∷ []) (F.ledger files.old) (F.ledger files.new)) }
+    ensures begun { OnErr result
+        (HasBegun ((codes "passwd." ++ host.now.name) ∷ []) (F.ledger files.old)
+        (F.ledger files.new)) }
 {
     let text = solved.host_passwd(index, host.passwd.bytes())?;
     write_text(alloc, files, b"passwd.", host, &text)
@@ -58,9 +70,14 @@ fn write_group<'a, F: MergeFiles>(
     host: &HostText,
 ) -> Result<(), MergeFault<'a>>
     requires clear { (F.ledger files.old).is_clear ≡ true }
-    ensures written { OnOk result (F.ledger files.new ≡ after_files (group_file solved.now.joined (mappings_in solved.now.merged) host.now ∷ []) (F.ledger files.old)) }
+    ensures written { OnOk result
+        (F.ledger files.new
+        ≡ after_files (group_file solved.now.joined (mappings_in solved.now.merged) host.now ∷ [])
+        (F.ledger files.old)) }
     ensures stopped { IfErr result (StopsWriting (F.has_failed files.new)) }
-    ensures begun { OnErr result (HasBegun ((codes "group." ++ host.now.name) ∷ []) (F.ledger files.old) (F.ledger files.new)) }
+    ensures begun { OnErr result
+        (HasBegun ((codes "group." ++ host.now.name) ∷ []) (F.ledger files.old)
+        (F.ledger files.new)) }
 {
     let text = solved.host_group(host.group.bytes())?;
     write_text(alloc, files, b"group.", host, &text)
@@ -76,9 +93,16 @@ fn write_host<'a, F: MergeFiles>(
 ) -> Result<(), MergeFault<'a>>
     requires clear { (F.ledger files.old).is_clear ≡ true }
     requires within { index < length solved.now.hosts }
-    ensures written { OnOk result ((here : Host) → slice_get solved.now.hosts index ≡ Some here → F.ledger files.new ≡ after_files (passwd_file here solved.now.joined (mappings_in solved.now.merged) host.now ∷ group_file solved.now.joined (mappings_in solved.now.merged) host.now ∷ []) (F.ledger files.old)) }
+    ensures written { OnOk result
+        ((here : Host) → slice_get solved.now.hosts index ≡ Some here
+        → F.ledger files.new
+        ≡ after_files
+        (passwd_file here solved.now.joined (mappings_in solved.now.merged) host.now
+        ∷ group_file solved.now.joined (mappings_in solved.now.merged) host.now ∷ [])
+        (F.ledger files.old)) }
     ensures stopped { IfErr result (StopsWriting (F.has_failed files.new)) }
-    ensures begun { OnErr result (HasBegun (own_names host.now) (F.ledger files.old) (F.ledger files.new)) }
+    ensures begun { OnErr result
+        (HasBegun (own_names host.now) (F.ledger files.old) (F.ledger files.new)) }
 {
     write_passwd(alloc, files, solved, index, host)?;
     write_group(alloc, files, solved, host)
@@ -93,9 +117,14 @@ pub fn write_hosts<'a, F: MergeFiles>(
 ) -> Result<(), MergeFault<'a>>
     requires clear { (F.ledger files.old).is_clear ≡ true }
     requires each { length hosts.now ≡ length solved.now.hosts }
-    ensures written { OnOk result (HasFiles (host_files solved.now.joined (mappings_in solved.now.merged) hosts.now solved.now.hosts) (F.ledger files.old) (F.ledger files.new)) }
+    ensures written { OnOk result
+        (HasFiles
+        (host_files solved.now.joined (mappings_in solved.now.merged) hosts.now solved.now.hosts)
+        (F.ledger files.old) (F.ledger files.new)) }
     ensures stopped { IfErr result (StopsWriting (F.has_failed files.new)) }
-    ensures begun { MatchResult result (λ _. (F.ledger files.new).begun ≡ (F.ledger files.old).begun ++ host_names hosts.now) (λ _. HasBegun (host_names hosts.now) (F.ledger files.old) (F.ledger files.new)) }
+    ensures begun { MatchResult result
+        (λ _. (F.ledger files.new).begun ≡ (F.ledger files.old).begun ++ host_names hosts.now)
+        (λ _. HasBegun (host_names hosts.now) (F.ledger files.old) (F.ledger files.new)) }
     ensures clear { OnOk result ((F.ledger files.new).is_clear ≡ true) }
 {
     for (index, host) in hosts.iter().enumerate() {

@@ -1,4 +1,5 @@
-//! The merge that people run: from the bytes that are read to the bytes of each file that is written.
+//! The merge that people run: from the bytes that are read to the bytes of each file that is
+//! written.
 #![tactic(auto)]
 
 mod check;

@@ -1,6 +1,7 @@
 //! A merge, from the bytes that it reads to the bytes of each file.
 
-ghost use Rattle.std.specs.Prelude.{◌≡◌, ◌∷◌, [], List, length, true, Some, slice_get, IfOk, OnOk, IfErr, OnErr};
+ghost use Rattle.std.specs.Prelude.{◌≡◌, ◌∷◌, [], List, length, true, Some, slice_get, IfOk, OnOk};
+ghost use Rattle.std.specs.Prelude.{IfErr, OnErr};
 ghost use Rattle.mtree_inv.specs.declared.entry.Entry.{Entry};
 ghost use Rattle.hosts_join.specs.declared.host.Host.{Host};
 ghost use Rattle.unify_texts.specs.declared.fault.Fault.TheVariants.{Memory};
@@ -9,7 +10,8 @@ ghost use Rattle.unify.specs.SecondPass.{IsSolvedFrom, StandsFor};
 ghost use Rattle.unify_merge.specs.Ledger.{HasBegun, after_files};
 ghost use Rattle.unify_merge.specs.FirstReading.{ReadsOnly};
 ghost use Rattle.unify_merge.specs.SecondReading.{StopsPlanning, WereRead};
-ghost use Rattle.unify_merge.specs.Merge.{HasMerged, HasSolved, HasWritten, StopsMerge, first_files, first_names, names_before_report};
+ghost use Rattle.unify_merge.specs.Merge.{HasMerged, HasSolved, HasWritten, StopsMerge};
+ghost use Rattle.unify_merge.specs.Merge.{first_files, first_names, names_before_report};
 ghost use Rattle.unify_merge.specs.declared.fault.MergeFault.TheVariants.{Refused};
 
 use crate::fault::MergeFault;
@@ -26,7 +28,8 @@ use unify_texts::Fault;
 // Writes the files of the whole site that come before those of the hosts.
 fn write_first<F: MergeFiles>(files: &mut F, outcome: &Outcome) -> Result<(), CallFailed>
     requires clear { (F.ledger files.old).is_clear ≡ true }
-    ensures written { OnOk result (F.ledger files.new ≡ after_files (first_files outcome.now) (F.ledger files.old)) }
+    ensures written { OnOk result
+        (F.ledger files.new ≡ after_files (first_files outcome.now) (F.ledger files.old)) }
     ensures failed { OnErr result (F.has_failed files.new ≡ true) }
     ensures begun { OnErr result (HasBegun first_names (F.ledger files.old) (F.ledger files.new)) }
 {
@@ -56,8 +59,11 @@ fn solve_hosts<'a, F: MergeFiles>(
     hosts: &'a [HostText],
     pins: &'a [u8],
 ) -> Result<Solved<'a>, MergeFault<'a>>
-    ensures solved { IfOk result (HasSolved hosts.now pins.now (F.ledger files.old) (F.ledger files.new)) }
-    ensures stopped { IfErr result (StopsMerge hosts.now pins.now (F.ledger files.old) (F.ledger files.new) (F.has_failed files.new)) }
+    ensures solved { IfOk result
+        (HasSolved hosts.now pins.now (F.ledger files.old) (F.ledger files.new)) }
+    ensures stopped { IfErr result
+        (StopsMerge hosts.now pins.now (F.ledger files.old) (F.ledger files.new)
+        (F.has_failed files.new)) }
     ensures reads { ReadsOnly (F.ledger files.old) (F.ledger files.new) }
 {
     let mut begun = begin_site(alloc, hosts, pins)?;
@@ -65,8 +71,8 @@ fn solve_hosts<'a, F: MergeFiles>(
     solve(begun)
 }
 
-// Writes what was merged, with the plans, each host's own files and the report, and hands out how many fields of files
-// change.
+// Writes what was merged, with the plans, each host's own files and the report, and hands out how
+// many fields of files change.
 fn write_merged<'a, F: MergeFiles>(
     alloc: Global,
     files: &mut F,
@@ -75,10 +81,17 @@ fn write_merged<'a, F: MergeFiles>(
 ) -> Result<Cost, MergeFault<'a>>
     requires start { solved.old.ended ≡ 0 }
     requires each { length hosts.now ≡ length solved.old.hosts }
-    requires stands { (host : Host) → slice_get solved.old.hosts 0 ≡ Some host → StandsFor solved.old host [] [] }
-    ensures written { IfOk result (λ cost. (read : List (Host × List Entry)) → WereRead solved.old read → HasWritten hosts.now solved.old read (F.ledger files.old) (F.ledger files.new) cost) }
-    ensures stopped { IfErr result (λ fault. (read : List (Host × List Entry)) → WereRead solved.old read → StopsPlanning read (F.ledger files.old) (F.ledger files.new) (F.has_failed files.new) fault) }
-    ensures begun { OnErr result (HasBegun (names_before_report hosts.now) (F.ledger files.old) (F.ledger files.new)) }
+    requires stands { (host : Host) → slice_get solved.old.hosts 0 ≡ Some host
+        → StandsFor solved.old host [] [] }
+    ensures written { IfOk result
+        (λ cost. (read : List (Host × List Entry)) → WereRead solved.old read
+        → HasWritten hosts.now solved.old read (F.ledger files.old) (F.ledger files.new) cost) }
+    ensures stopped { IfErr result
+        (λ fault. (read : List (Host × List Entry)) → WereRead solved.old read
+        → StopsPlanning read (F.ledger files.old) (F.ledger files.new) (F.has_failed files.new)
+        fault) }
+    ensures begun { OnErr result
+        (HasBegun (names_before_report hosts.now) (F.ledger files.old) (F.ledger files.new)) }
 {
     files.clear()?;
     write_first(files, solved.outcome())?;
@@ -88,27 +101,34 @@ fn write_merged<'a, F: MergeFiles>(
     Ok(solved.outcome().cost)
 }
 
-/// Merges hosts, whose tables and pins are given as texts, and whose inventories are read from the files, twice;
-/// and writes the files of the merge. It hands out how many fields of files change.
+/// Merges hosts, whose tables and pins are given as texts, and whose inventories are read from the
+/// files, twice; and writes the files of the merge. It hands out how many fields of files change.
 ///
-/// Each inventory is read when its host's turn comes, piece by piece. Nothing is written before the hosts are
-/// merged; then the files of an earlier merge are cleared away, and passwd, group, map, certificate, the plan of
-/// each host, each host's own passwd and group with their new numbers and the report are written, in this order. It stops
-/// early where a call on the files fails, where an inventory has more than 4,294,967,295 bytes, at the first fault of
-/// what is read, where an inventory has changed when it is read the second time (`Fault::InventoryChanged`), or where
-/// a growth is refused (`Fault::Memory`); no file was begun then but the first of these, and no report.
+/// Each inventory is read when its host's turn comes, piece by piece. Nothing is written before the
+/// hosts are merged; then the files of an earlier merge are cleared away, and passwd, group, map,
+/// certificate, the plan of each host, each host's own passwd and group with their new numbers and
+/// the report are written, in this order. It stops early where a call on the files fails, where an
+/// inventory has more than 4,294,967,295 bytes, at the first fault of what is read, where an
+/// inventory has changed when it is read the second time (`Fault::InventoryChanged`), or where a
+/// growth is refused (`Fault::Memory`); no file was begun then but the first of these, and no
+/// report.
 ///
-/// Two passes over each inventory, with two look-ups by hash for each file; the rest is near linear in the names and
-/// account rows, but for the solver, which is near linear where few numbers are contested.
+/// Two passes over each inventory, with two look-ups by hash for each file; the rest is near linear
+/// in the names and account rows, but for the solver, which is near linear where few numbers are
+/// contested.
 pub fn merge_files<'a, F: MergeFiles>(
     alloc: Global,
     files: &mut F,
     hosts: &'a [HostText],
     pins: &'a [u8],
 ) -> Result<Cost, MergeFault<'a>>
-    ensures merged { IfOk result (HasMerged hosts.now pins.now (F.ledger files.old) (F.ledger files.new)) }
-    ensures stopped { IfErr result (StopsMerge hosts.now pins.now (F.ledger files.old) (F.ledger files.new) (F.has_failed files.new)) }
-    ensures begun { OnErr result (HasBegun (names_before_report hosts.now) (F.ledger files.old) (F.ledger files.new)) }
+    ensures merged { IfOk result
+        (HasMerged hosts.now pins.now (F.ledger files.old) (F.ledger files.new)) }
+    ensures stopped { IfErr result
+        (StopsMerge hosts.now pins.now (F.ledger files.old) (F.ledger files.new)
+        (F.has_failed files.new)) }
+    ensures begun { OnErr result
+        (HasBegun (names_before_report hosts.now) (F.ledger files.old) (F.ledger files.new)) }
 {
     let mut solved = solve_hosts(alloc, files, hosts, pins)?;
     write_merged(alloc, files, &mut solved, hosts)

@@ -18,8 +18,14 @@ pub fn next_piece<'a, F: ReadFiles>(
     bytes: &mut Vec<u8>,
     left: &mut u64,
 ) -> Result<bool, MergeFault<'a>>
-    ensures read { IfOk result (λ is_more. (r : Reading) → (F.ledger files.old).reading ≡ Some r → GoesOn r bytes.new.items left.old left.new (F.ledger files.old) (F.ledger files.new) is_more) }
-    ensures stopped { IfErr result (λ fault. (r : Reading) → (F.ledger files.old).reading ≡ Some r → EndsEarly r bytes.new.items left.old (F.ledger files.old) (F.ledger files.new) (F.has_failed files.new) fault) }
+    ensures read { IfOk result
+        (λ is_more. (r : Reading) → (F.ledger files.old).reading ≡ Some r
+        → GoesOn r bytes.new.items left.old left.new (F.ledger files.old) (F.ledger files.new)
+        is_more) }
+    ensures stopped { IfErr result
+        (λ fault. (r : Reading) → (F.ledger files.old).reading ≡ Some r
+        → EndsEarly r bytes.new.items left.old (F.ledger files.old) (F.ledger files.new)
+        (F.has_failed files.new) fault) }
 {
     files.piece(bytes)?;
     let count = bytes.len() as u64;

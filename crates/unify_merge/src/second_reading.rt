@@ -1,12 +1,16 @@
 //! The second reading of the inventories: plans are written.
 
-ghost use Rattle.std.specs.Prelude.{◌≡◌, ◌+◌, ◌<◌, ◌++◌, ◌∷◌, [], ℕ, List, length, map, true, Some, slice_get, IfOk, OnOk, IfErr, OnErr, MatchResult};
+ghost use Rattle.std.specs.Prelude.{◌≡◌, ◌+◌, ◌<◌, ◌++◌, ◌∷◌, [], ℕ, List, length, map, true, Some};
+ghost use Rattle.std.specs.Prelude.{slice_get, IfOk, OnOk, IfErr, OnErr, MatchResult};
 ghost use Rattle.mtree_inv.specs.declared.entry.Entry.{Entry};
 ghost use Rattle.hosts_join.specs.declared.host.Host.{Host};
 ghost use Rattle.unify.specs.RowFiles.{row_files};
 ghost use Rattle.unify.specs.SecondPass.{StandsFor, whole_plan};
 ghost use Rattle.unify_merge.specs.Ledger.{HasBegun, with_bytes};
-ghost use Rattle.unify_merge.specs.SecondReading.{ArePlanned, HasPlan, IsPlanned, IsReadAgain, IsTurnOf, IsWithinFile, StopsEnd, StopsPiece, StopsPlanning, StopsSecond, WereRead, WritesOnly, plan_name};
+ghost use Rattle.unify_merge.specs.SecondReading.{ArePlanned, HasPlan, IsPlanned, IsReadAgain};
+ghost use Rattle.unify_merge.specs.SecondReading.{IsTurnOf, IsWithinFile, StopsEnd, StopsPiece};
+ghost use Rattle.unify_merge.specs.SecondReading.{StopsPlanning, StopsSecond, WereRead, WritesOnly};
+ghost use Rattle.unify_merge.specs.SecondReading.{plan_name};
 
 use crate::fault::MergeFault;
 use crate::files::MergeFiles;
@@ -30,8 +34,17 @@ fn plan_piece<'a, F: MergeFiles>(
     plan: &mut Vec<u8>,
 ) -> Result<(), MergeFault<'a>>
     requires left { solved.old.ended < length solved.old.hosts }
-    ensures told { IfErr result (λ fault. (host : Host) (text planned : List ℕ) → slice_get solved.old.hosts solved.old.ended ≡ Some host → StandsFor solved.old host text planned → StopsPiece host (text ++ bytes.now) (F.has_failed files.new) fault) }
-    ensures planned { OnOk result ((host : Host) (text planned : List ℕ) → slice_get solved.old.hosts solved.old.ended ≡ Some host → StandsFor solved.old host text planned → (more : List ℕ) × (F.ledger files.new ≡ with_bytes more (F.ledger files.old)) × StandsFor solved.new host (text ++ bytes.now) (planned ++ more)) }
+    ensures told { IfErr result
+        (λ fault. (host : Host) (text planned : List ℕ)
+        → slice_get solved.old.hosts solved.old.ended ≡ Some host
+        → StandsFor solved.old host text planned
+        → StopsPiece host (text ++ bytes.now) (F.has_failed files.new) fault) }
+    ensures planned { OnOk result
+        ((host : Host) (text planned : List ℕ)
+        → slice_get solved.old.hosts solved.old.ended ≡ Some host
+        → StandsFor solved.old host text planned → (more : List ℕ)
+        × (F.ledger files.new ≡ with_bytes more (F.ledger files.old))
+        × StandsFor solved.new host (text ++ bytes.now) (planned ++ more)) }
     ensures none { OnErr result (F.ledger files.new ≡ F.ledger files.old) }
     ensures writes { WritesOnly (F.ledger files.old) (F.ledger files.new) }
     ensures site { solved.new ≡ record solved.old { turn = solved.new.turn } }
@@ -49,13 +62,29 @@ fn end_plan<'a, F: MergeFiles>(
     plan: &mut Vec<u8>,
 ) -> Result<(), MergeFault<'a>>
     requires left { solved.old.ended < length solved.old.hosts }
-    ensures told { IfErr result (λ fault. (host : Host) (were : List Entry) (text planned : List ℕ) → slice_get solved.old.hosts solved.old.ended ≡ Some host → slice_get solved.old.passed solved.old.ended ≡ Some (row_files host were) → StandsFor solved.old host text planned → StopsEnd host were text (F.has_failed files.new) fault) }
-    ensures planned { OnOk result ((host : Host) (were : List Entry) (text planned : List ℕ) → slice_get solved.old.hosts solved.old.ended ≡ Some host → slice_get solved.old.passed solved.old.ended ≡ Some (row_files host were) → StandsFor solved.old host text planned → (more : List ℕ) × (F.ledger files.new ≡ with_bytes more (F.ledger files.old)) × (found : List Entry) × IsReadAgain host were text found × (planned ++ more ≡ whole_plan host solved.old.joined solved.old.merged solved.old.ended found)) }
+    ensures told { IfErr result
+        (λ fault. (host : Host) (were : List Entry) (text planned : List ℕ)
+        → slice_get solved.old.hosts solved.old.ended ≡ Some host
+        → slice_get solved.old.passed solved.old.ended ≡ Some (row_files host were)
+        → StandsFor solved.old host text planned
+        → StopsEnd host were text (F.has_failed files.new) fault) }
+    ensures planned { OnOk result
+        ((host : Host) (were : List Entry) (text planned : List ℕ)
+        → slice_get solved.old.hosts solved.old.ended ≡ Some host
+        → slice_get solved.old.passed solved.old.ended ≡ Some (row_files host were)
+        → StandsFor solved.old host text planned → (more : List ℕ)
+        × (F.ledger files.new ≡ with_bytes more (F.ledger files.old)) × (found : List Entry)
+        × IsReadAgain host were text found
+        × (planned ++ more ≡ whole_plan host solved.old.joined solved.old.merged solved.old.ended
+        found)) }
     ensures none { OnErr result (F.ledger files.new ≡ F.ledger files.old) }
     ensures writes { WritesOnly (F.ledger files.old) (F.ledger files.new) }
-    ensures next { OnOk result ((host : Host) → slice_get solved.new.hosts solved.new.ended ≡ Some host → StandsFor solved.new host [] []) }
+    ensures next { OnOk result
+        ((host : Host) → slice_get solved.new.hosts solved.new.ended ≡ Some host
+        → StandsFor solved.new host [] []) }
     ensures ended { OnOk result (solved.new.ended ≡ solved.old.ended + 1) }
-    ensures site { solved.new ≡ record solved.old { ended = solved.new.ended; turn = solved.new.turn } }
+    ensures site { solved.new
+        ≡ record solved.old { ended = solved.new.ended; turn = solved.new.turn } }
 {
     plan.clear();
     solved.end_host(plan)?;
@@ -70,14 +99,25 @@ fn plan_reading<'a, F: MergeFiles>(
     buffers: &mut Buffers,
 ) -> Result<(), MergeFault<'a>>
     requires left { solved.old.ended < length solved.old.hosts }
-    requires begun { (F.ledger files.old).reading ≡ Some (record { host = solved.old.ended; text = [] }) }
-    requires file { (name : List ℕ) × ((F.ledger files.old).writing ≡ Some (record { name = name; text = [] })) }
-    ensures planned { OnOk result ((host : Host) (were : List Entry) (name : List ℕ) → IsTurnOf solved.old host were → (F.ledger files.old).writing ≡ Some (record { name = name; text = [] }) → IsPlanned solved.old host were name (F.ledger files.old) (F.ledger files.new)) }
-    ensures stopped { IfErr result (λ fault. (host : Host) (were : List Entry) → IsTurnOf solved.old host were → StopsSecond host were solved.old.ended (F.ledger files.old).read (F.ledger files.new) (F.has_failed files.new) fault) }
+    requires begun { (F.ledger files.old).reading
+        ≡ Some (record { host = solved.old.ended; text = [] }) }
+    requires file { (name : List ℕ)
+        × ((F.ledger files.old).writing ≡ Some (record { name = name; text = [] })) }
+    ensures planned { OnOk result
+        ((host : Host) (were : List Entry) (name : List ℕ) → IsTurnOf solved.old host were
+        → (F.ledger files.old).writing ≡ Some (record { name = name; text = [] })
+        → IsPlanned solved.old host were name (F.ledger files.old) (F.ledger files.new)) }
+    ensures stopped { IfErr result
+        (λ fault. (host : Host) (were : List Entry) → IsTurnOf solved.old host were
+        → StopsSecond host were solved.old.ended (F.ledger files.old).read (F.ledger files.new)
+        (F.has_failed files.new) fault) }
     ensures kept { IsWithinFile (F.ledger files.old) (F.ledger files.new) }
-    ensures next { OnOk result ((host : Host) → slice_get solved.new.hosts solved.new.ended ≡ Some host → StandsFor solved.new host [] []) }
+    ensures next { OnOk result
+        ((host : Host) → slice_get solved.new.hosts solved.new.ended ≡ Some host
+        → StandsFor solved.new host [] []) }
     ensures ended { OnOk result (solved.new.ended ≡ solved.old.ended + 1) }
-    ensures site { solved.new ≡ record solved.old { ended = solved.new.ended; turn = solved.new.turn } }
+    ensures site { solved.new
+        ≡ record solved.old { ended = solved.new.ended; turn = solved.new.turn } }
 {
     let mut left = MOST_BYTES;
     while next_piece(files, &mut buffers.bytes, &mut left)? {
@@ -86,7 +126,8 @@ fn plan_reading<'a, F: MergeFiles>(
     end_plan(files, solved, &mut buffers.plan)
 }
 
-// Reads the inventory of the next host once more, and writes the host's plan as a file of this name.
+// Reads the inventory of the next host once more, and writes the host's plan as a file of this
+// name.
 fn plan_host<'a, F: MergeFiles>(
     files: &mut F,
     solved: &mut Solved<'a>,
@@ -97,13 +138,23 @@ fn plan_host<'a, F: MergeFiles>(
     requires clear { (F.ledger files.old).is_clear ≡ true }
     requires next { index ≡ solved.old.ended }
     requires left { index < length solved.old.hosts }
-    ensures planned { OnOk result ((host : Host) (were : List Entry) → IsTurnOf solved.old host were → HasPlan solved.old host were name.now (F.ledger files.old) (F.ledger files.new)) }
-    ensures stopped { IfErr result (λ fault. (host : Host) (were : List Entry) → IsTurnOf solved.old host were → StopsSecond host were index (F.ledger files.old).read (F.ledger files.new) (F.has_failed files.new) fault) }
+    ensures planned { OnOk result
+        ((host : Host) (were : List Entry) → IsTurnOf solved.old host were
+        → HasPlan solved.old host were name.now (F.ledger files.old) (F.ledger files.new)) }
+    ensures stopped { IfErr result
+        (λ fault. (host : Host) (were : List Entry) → IsTurnOf solved.old host were
+        → StopsSecond host were index (F.ledger files.old).read (F.ledger files.new)
+        (F.has_failed files.new) fault) }
     ensures clear { OnOk result ((F.ledger files.new).is_clear ≡ true) }
-    ensures begun { MatchResult result (λ _. (F.ledger files.new).begun ≡ (F.ledger files.old).begun ++ name.now ∷ []) (λ _. HasBegun (name.now ∷ []) (F.ledger files.old) (F.ledger files.new)) }
-    ensures next { OnOk result ((host : Host) → slice_get solved.new.hosts solved.new.ended ≡ Some host → StandsFor solved.new host [] []) }
+    ensures begun { MatchResult result
+        (λ _. (F.ledger files.new).begun ≡ (F.ledger files.old).begun ++ name.now ∷ [])
+        (λ _. HasBegun (name.now ∷ []) (F.ledger files.old) (F.ledger files.new)) }
+    ensures next { OnOk result
+        ((host : Host) → slice_get solved.new.hosts solved.new.ended ≡ Some host
+        → StandsFor solved.new host [] []) }
     ensures ended { OnOk result (solved.new.ended ≡ index + 1) }
-    ensures site { solved.new ≡ record solved.old { ended = solved.new.ended; turn = solved.new.turn } }
+    ensures site { solved.new
+        ≡ record solved.old { ended = solved.new.ended; turn = solved.new.turn } }
 {
     files.begin(name)?;
     files.open(index)?;
@@ -124,13 +175,24 @@ fn plan_named<'a, F: MergeFiles>(
     requires clear { (F.ledger files.old).is_clear ≡ true }
     requires next { index ≡ solved.old.ended }
     requires left { index < length solved.old.hosts }
-    ensures planned { OnOk result ((here : Host) (were : List Entry) → IsTurnOf solved.old here were → HasPlan solved.old here were (plan_name host.now) (F.ledger files.old) (F.ledger files.new)) }
-    ensures stopped { IfErr result (λ fault. (here : Host) (were : List Entry) → IsTurnOf solved.old here were → StopsSecond here were index (F.ledger files.old).read (F.ledger files.new) (F.has_failed files.new) fault) }
+    ensures planned { OnOk result
+        ((here : Host) (were : List Entry) → IsTurnOf solved.old here were
+        → HasPlan solved.old here were (plan_name host.now) (F.ledger files.old)
+        (F.ledger files.new)) }
+    ensures stopped { IfErr result
+        (λ fault. (here : Host) (were : List Entry) → IsTurnOf solved.old here were
+        → StopsSecond here were index (F.ledger files.old).read (F.ledger files.new)
+        (F.has_failed files.new) fault) }
     ensures clear { OnOk result ((F.ledger files.new).is_clear ≡ true) }
-    ensures begun { MatchResult result (λ _. (F.ledger files.new).begun ≡ (F.ledger files.old).begun ++ plan_name host.now ∷ []) (λ _. HasBegun (plan_name host.now ∷ []) (F.ledger files.old) (F.ledger files.new)) }
-    ensures next { OnOk result ((here : Host) → slice_get solved.new.hosts solved.new.ended ≡ Some here → StandsFor solved.new here [] []) }
+    ensures begun { MatchResult result
+        (λ _. (F.ledger files.new).begun ≡ (F.ledger files.old).begun ++ plan_name host.now ∷ [])
+        (λ _. HasBegun (plan_name host.now ∷ []) (F.ledger files.old) (F.ledger files.new)) }
+    ensures next { OnOk result
+        ((here : Host) → slice_get solved.new.hosts solved.new.ended ≡ Some here
+        → StandsFor solved.new here [] []) }
     ensures ended { OnOk result (solved.new.ended ≡ index + 1) }
-    ensures site { solved.new ≡ record solved.old { ended = solved.new.ended; turn = solved.new.turn } }
+    ensures site { solved.new
+        ≡ record solved.old { ended = solved.new.ended; turn = solved.new.turn } }
 {
     let name = host_file_name(alloc, b"plan.", host)?;
     plan_host(files, solved, index, &name, buffers)
@@ -146,12 +208,21 @@ pub fn plan_hosts<'a, F: MergeFiles>(
     requires clear { (F.ledger files.old).is_clear ≡ true }
     requires start { solved.old.ended ≡ 0 }
     requires each { length hosts.now ≡ length solved.old.hosts }
-    requires stands { (host : Host) → slice_get solved.old.hosts 0 ≡ Some host → StandsFor solved.old host [] [] }
-    ensures planned { OnOk result ((read : List (Host × List Entry)) → WereRead solved.old read → ArePlanned hosts.now solved.old read (F.ledger files.old) (F.ledger files.new)) }
-    ensures stopped { IfErr result (λ fault. (read : List (Host × List Entry)) → WereRead solved.old read → StopsPlanning read (F.ledger files.old) (F.ledger files.new) (F.has_failed files.new) fault) }
+    requires stands { (host : Host) → slice_get solved.old.hosts 0 ≡ Some host
+        → StandsFor solved.old host [] [] }
+    ensures planned { OnOk result
+        ((read : List (Host × List Entry)) → WereRead solved.old read
+        → ArePlanned hosts.now solved.old read (F.ledger files.old) (F.ledger files.new)) }
+    ensures stopped { IfErr result
+        (λ fault. (read : List (Host × List Entry)) → WereRead solved.old read
+        → StopsPlanning read (F.ledger files.old) (F.ledger files.new) (F.has_failed files.new)
+        fault) }
     ensures clear { OnOk result ((F.ledger files.new).is_clear ≡ true) }
-    ensures begun { MatchResult result (λ _. (F.ledger files.new).begun ≡ (F.ledger files.old).begun ++ map plan_name hosts.now) (λ _. HasBegun (map plan_name hosts.now) (F.ledger files.old) (F.ledger files.new)) }
-    ensures site { solved.new ≡ record solved.old { ended = solved.new.ended; turn = solved.new.turn } }
+    ensures begun { MatchResult result
+        (λ _. (F.ledger files.new).begun ≡ (F.ledger files.old).begun ++ map plan_name hosts.now)
+        (λ _. HasBegun (map plan_name hosts.now) (F.ledger files.old) (F.ledger files.new)) }
+    ensures site { solved.new
+        ≡ record solved.old { ended = solved.new.ended; turn = solved.new.turn } }
 {
     let mut buffers = Buffers {
         bytes: Vec::new(alloc),

@@ -8,9 +8,12 @@ use crate::files::{CallFailed, MergeFiles};
 /// Writes a file whole.
 pub fn write_file<F: MergeFiles>(files: &mut F, name: &[u8], text: &[u8]) -> Result<(), CallFailed>
     requires clear { (F.ledger files.old).is_clear ≡ true }
-    ensures written { OnOk result (F.ledger files.new ≡ after_files (record { name = name.now; text = text.now } ∷ []) (F.ledger files.old)) }
+    ensures written { OnOk result
+        (F.ledger files.new ≡ after_files (record { name = name.now; text = text.now } ∷ [])
+        (F.ledger files.old)) }
     ensures failed { OnErr result (F.has_failed files.new ≡ true) }
-    ensures begun { OnErr result (HasBegun (name.now ∷ []) (F.ledger files.old) (F.ledger files.new)) }
+    ensures begun { OnErr result
+        (HasBegun (name.now ∷ []) (F.ledger files.old) (F.ledger files.new)) }
 {
     files.begin(name)?;
     files.append(text)?;
