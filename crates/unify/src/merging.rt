@@ -169,8 +169,8 @@ fn write_numbers(
     ensures { OnOk result
         (outcome.new
         ≡ record outcome.old {
-          map =
-              map_text site.now (record { users = certified.now.users; groups = certified.now.groups });
+          map = map_text site.now
+              (record { users = certified.now.users; groups = certified.now.groups });
           certificate = spelling certified.now.certificate;
         }) }
 {
