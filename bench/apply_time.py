@@ -4,9 +4,10 @@
     bench/apply_time.py [FILES [FOLDER]]
 
 Makes FILES files (200,000) below a new folder in FOLDER, a thousand in a directory, all of one owner, and a plan that gives them
-another. Prints the seconds of each command: an inventory, find with chown there and back, the plan, a second inventory, the two
+another. Prints the seconds and the peak memory of each command: an inventory, find with chown there and back, the plan, a second inventory, the two
 verified, the first verified with the tree that is there, the plan once more, its files counted, and the plan taken back.
 """
+import multiprocessing
 import os
 import pathlib
 import shutil
@@ -36,19 +37,31 @@ def make_tree(root, count):
 
 
 def timed(what, words, folder, out=subprocess.DEVNULL):
-    """Runs a command, and prints its seconds."""
+    """Runs a command, and prints its seconds and its peak memory."""
     os.sync()
     began = time.monotonic()
-    ran = subprocess.run(words, cwd=folder, stdin=subprocess.DEVNULL, stdout=out)
-    print(f"{what:20} {time.monotonic() - began:8.2f} s{'  FAILED' if ran.returncode else ''}", flush=True)
+    command = subprocess.Popen(words, cwd=folder, stdin=subprocess.DEVNULL, stdout=out)
+    _, status, used = os.wait4(command.pid, 0)
+    seconds = time.monotonic() - began
+    print(f"{what:20} {seconds:8.2f} s {used.ru_maxrss / 1024:6.0f} MiB{'  FAILED' if status else ''}", flush=True)
+
+
+def make(folder, count):
+    """Makes the tree and its plan."""
+    numbers = " ".join(map(str, (*OLD, *NEW)))
+    with open(folder / "plan", "w") as plan:
+        plan.write("unify plan 1 timed\n")
+        plan.writelines(f"{numbers} {len(path)} {path}\n" for path in make_tree(folder / "tree", count))
+        plan.write("end\n")
 
 
 def run(folder, count):
     """Makes the tree and times each command."""
     root = folder / "tree"
-    paths = make_tree(root, count)
-    head = f"unify plan 1 timed\n{''.join(f'{OLD[0]} {OLD[1]} {NEW[0]} {NEW[1]} {len(path)} {path}' + chr(10) for path in paths)}end\n"
-    (folder / "plan").write_text(head)
+    # In a process of its own: the peak memory of a command is not told lower than that of the one that started it.
+    maker = multiprocessing.Process(target=make, args=(folder, count))
+    maker.start()
+    maker.join()
     for (uid, gid), passwd, group in ACCOUNTS.values():
         (folder / passwd).write_text(f"root:x:0:0::/:/bin/sh\nalice:x:{uid}:{gid}::/:/bin/sh\n")
         (folder / group).write_text(f"root:x:0:\nalice:x:{gid}:\n")
