@@ -3,6 +3,7 @@
 
 mod campaigns;
 mod failures;
+mod joins;
 mod keep_texts;
 mod kept_accounts;
 mod marks;
