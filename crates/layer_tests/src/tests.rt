@@ -5,7 +5,7 @@ mod campaigns;
 mod failures;
 mod joins;
 mod keep_texts;
-mod kept_accounts;
+mod kept_on_hosts;
 mod marks;
 mod readers;
 mod reserved_numbers;

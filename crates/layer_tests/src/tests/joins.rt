@@ -3,7 +3,7 @@
 ghost use Rattle.std.specs.Prelude.{◌≤◌, length, All, IfOk};
 ghost use Rattle.hosts_join.specs.Hosts.{IsLawfulHost};
 
-use crate::tests::kept_accounts::{A, B, kept_by, left_of};
+use crate::tests::kept_on_hosts::{A, B, kept_by, left_of};
 use crate::tests::reserved_numbers::{By, Numbers, is_reserved, reserved_gids, reserved_uids};
 use hosts_join::{Class, Host, Names, Pins, PoolClass, SiteFault, Which, join};
 use keep_text::{KeepText, read_keep};

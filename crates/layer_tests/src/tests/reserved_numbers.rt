@@ -1,6 +1,6 @@
 //! The numbers that stay as they are on two hosts, and so are given to no name.
 
-use crate::tests::kept_accounts::{both_hosts, kept_by};
+use crate::tests::kept_on_hosts::{both_hosts, kept_by};
 use hosts_join::{Groups, Reserved, Reserver, Users};
 use idtext::Name;
 use keep_text::{KeepText, read_keep};
