@@ -17,7 +17,7 @@ fn both_left(alloc: Global, keep: &KeepText<'_>) -> Result<Vec<Host<'static>>, F
     ensures lawful { IfOk result (λ hosts. All IsLawfulHost hosts.items) }
 {
     let kept = kept_by(alloc, keep)?;
-    let mut hosts = Vec::new(alloc);
+    let mut hosts: Vec<Host<'static>> = Vec::new(alloc);
     hosts.push(left_of(alloc, keep, &kept, A)?)?;
     hosts.push(left_of(alloc, keep, &kept, B)?)?;
     Ok(hosts)
@@ -88,20 +88,19 @@ fn is_pin_reserved(fault: &SiteFault<'_>, (which, pinned, at, reserved): Reserve
     }
 }
 
-// Whether the join is refused for the pin, unless memory was refused.
+// Whether the join is refused for the pin.
 fn refuses_pin(
     alloc: Global,
-    hosts: &[Host<'_>],
-    pins: &Pins<'_>,
+    hosts: &[Host<'static>],
+    pins: &Pins<'static>,
     expected: ReservedPin,
-) -> Result<bool, AllocError>
+) -> bool
     requires few { length hosts.now ≤ 64 }
     requires lawful { All IsLawfulHost hosts.now }
 {
     match join(alloc, hosts, pins) {
-        Ok(_) => Ok(false),
-        Err(SiteFault::Memory) => Err(AllocError),
-        Err(fault) => Ok(is_pin_reserved(&fault, expected)),
+        Ok(_site) => false,
+        Err(fault) => is_pin_reserved(&fault, expected),
     }
 }
 
@@ -159,7 +158,7 @@ fn a_pin_at_a_reserved_number_is_refused(rt: HostRuntime) -> Result<(), Fail> {
         let keep = read_keep(rt.alloc(), text)?;
         let hosts = both_left(rt.alloc(), &keep)?;
         let pins = pins_beside(rt.alloc(), &keep, pins_text)?;
-        assert!(rt; refuses_pin(rt.alloc(), &hosts, &pins, expected)?);
+        assert!(rt; refuses_pin(rt.alloc(), &hosts, &pins, expected));
     }
     Ok(())
 }
