@@ -3,9 +3,12 @@
 
 mod campaigns;
 mod failures;
+mod joins;
 mod keep_texts;
+mod kept_on_hosts;
 mod marks;
 mod readers;
+mod reserved_numbers;
 mod stops;
 
 use mtree_inv::read_inventory;
