@@ -3,7 +3,6 @@
 
 mod campaigns;
 mod failures;
-mod joins;
 mod keep_texts;
 mod kept_on_hosts;
 mod marks;
