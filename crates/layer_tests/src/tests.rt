@@ -4,8 +4,10 @@
 mod campaigns;
 mod failures;
 mod keep_texts;
+mod kept_on_hosts;
 mod marks;
 mod readers;
+mod reserved_numbers;
 mod stops;
 
 use mtree_inv::read_inventory;
