@@ -14,7 +14,7 @@ use Rattle.hosts_join.specs.Laws.{HasLawfulAccounts, KnowsHost}
 use Rattle.hosts_join.specs.Site.{Joined, joined_site}
 use Rattle.hosts_join.specs.declared.host.Host.{Host}
 use Rattle.hosts_join.specs.declared.texts.HostText.{HostText}
-use Rattle.mergedfiles.specs.ReadBack.{WasRead}
+use Rattle.mergedfiles.specs.InPart.{WasReadInPart}
 use Rattle.mergedfiles.specs.Together.{AreJoined}
 use Rattle.ownership.specs.Faults.{unowned}
 use Rattle.ownership.specs.Mappings.{Mappings}
@@ -36,13 +36,13 @@ pub record HaveAccounts (host : Host) (uid gid : ℕ) : Type 0 where
   pub user : is_some (user_at host.users uid) ≡ true
   pub group : is_some (group_at host.groups gid) ≡ true
 
--- A host that was read, with its files: its tables are those of a passwd and a group, and lawful,
--- as its name is; no path stands twice, each file has a user and a group, or numbers that the host
+-- A host that was read, with its files: its rows are some of those of a passwd and a group, and its
+-- tables are lawful, as its name is; no path stands twice, each file has a user and a group, or numbers that the host
 -- spares; what it spares is reserved, and the accounts over all hosts know its own.
 -- h: its index
 pub record IsReadHost (joined : Joined) (h : ℕ) (host : Host) (files : List Entry) : Type 0 where
   pub named : is_host_name host.name ≡ true
-  pub read : WasRead host
+  pub read : WasReadInPart host
   pub lawful : IsLawfulHost host
   pub files_are : AreFiles files
   pub few : length files ≤ 16777216

@@ -17,7 +17,7 @@ use Rattle.hosts_join.specs.PinsText.{pins_of}
 use Rattle.hosts_join.specs.Site.{Joined, joined_site}
 use Rattle.hosts_join.specs.declared.host.Host.{Host}
 use Rattle.hosts_join.specs.declared.texts.HostText.{HostText}
-use Rattle.mergedfiles.specs.ReadBack.{WasRead}
+use Rattle.mergedfiles.specs.InPart.{WasReadInPart}
 use Rattle.mergedfiles.specs.Together.{AreJoined}
 use Rattle.unify_texts.specs.declared.bundle_line.FileName.TheVariants as file
 use Rattle.unify_texts.specs.declared.fault.Fault.{Fault}
@@ -56,7 +56,7 @@ site_begun texts pins_text = do
 -- hosts that were read, and spare reserved numbers alone, and what was joined from them
 pub record AreTogether (hosts : List Host) (joined : Joined) : Type 0 where
   pub few : length hosts ≤ 64
-  pub read : All WasRead hosts
+  pub read : All WasReadInPart hosts
   pub lawful : All IsLawfulHost hosts
   pub together : AreJoined hosts joined
   pub known : KnowsItsHosts hosts joined
