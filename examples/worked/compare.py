@@ -7,8 +7,8 @@ README.md beside this file has the form of the examples. Also compared: examples
 each prefix of merge/root-only.bundle, the whole one byte a read, inputs and outputs that fail, the command line, certificates,
 plans and inventories that end too early, each merge with the hosts' own files, and by words with directories, inventories of many pieces and
 one that changes or goes while it is read twice, the texts and the inventories of texts.py, and the merges of 300 small generated
-sites, of 40 contested ones and of all triples of users with few files, whose cost has to be the least of all admissible mappings,
-and what the check of the printed certificate answers.
+sites, of 300 with keep texts, of 40 contested ones and of all triples of users with few files, whose cost has to be the least of all
+admissible mappings, and what the check of the printed certificate answers.
 
 Prints the first difference and ends with status 1 there; else the last line tells how many examples there were.
 """
@@ -25,6 +25,7 @@ import time
 
 from command_line import command_lines
 from cut_texts import cut_texts
+from kept_sites import some_kept_site
 from sites import all_triples, contested_sites, some_site
 from texts import inventories, read_by_words, refused_texts, told_of, without_last_newlines
 from words import Bundle, merged_by_bundle, merged_by_words, merged_while_changing, own_lines, with_hosts
@@ -328,6 +329,38 @@ def compare_sites(program):
     return merged
 
 
+def compare_kept(program, name, site):
+    """The merge of a site with a keep text, with the hosts' own files: as that of any site over the names that are not kept; the
+    plans and the own files to the byte; one passwd and one group exactly where no name is kept; and what its map is counted as."""
+    compare_merged(program, name, site)
+    _, answer = answered(program, site.bundle())
+    users, groups = site.kinds()
+    mappings = [kind.named_in(answer) for kind in (users, groups)]
+    wanted = site.answer(users, groups, mappings)
+    want(f"{name}, its plans and own files, for\n{site.bundle()}", wanted, answer[-len(wanted) :])
+    files = re.findall(r"^file (\S+)$", answer, re.M)[:5]
+    first = [] if users.kept_names or groups.kept_names else ["passwd", "group"]
+    want(f"{name}, its files", [*first, "map", "certificate", "report"], files[: len(first) + 3])
+    map_text = re.search(r"^file map\n(?:\|.*\n)*", answer, re.M).group()
+    count = "run count\n" + map_text + site.bundle().partition("\n")[2]
+    told = "".join(f"{kind.name}-fields {kind.least()[0]}\n" for kind in (users, groups))
+    want(f"{name}, its map counted", (0, told), answered(program, count))
+
+
+def compare_kept_sites(program):
+    """Merges sites with keep texts, and tells how many could be merged."""
+    chance = random.Random(2026)
+    merged = 0
+    for number in range(SITES):
+        site = some_kept_site(chance)
+        if refusal := site.refusal():
+            want(f"kept site {number}, for\n{site.bundle()}", (1, refusal), answered(program, site.bundle()))
+        else:
+            compare_kept(program, f"kept site {number}", site)
+            merged += 1
+    return merged
+
+
 def compare_contested_sites(program):
     """Merges sites where every user wants the number of others on each host, and tells how many there were."""
     sites = list(contested_sites(random.Random(2026)))
@@ -367,15 +400,17 @@ def main(words):
     compare_inventories(program)
     compare_changing(program)
     compare_gone(program)
-    merged = compare_sites(program)
+    merged, kept = compare_sites(program), compare_kept_sites(program)
     contested = compare_contested_sites(program)
     small = compare_small_sites(program)
     want_at_least(LEAST_FILES, len(files), "examples that are files")
     want_at_least(LEAST_BY_WORDS, by_words, "merges by words")
     want_at_least(LEAST_BY_LINE, by_line, "command lines")
     want_at_least(LEAST_CUT, cut, "cut certificates, plans and inventories")
-    want("generated sites, more than half merged, but not all", True, SITES // 2 < merged < SITES)
+    for many in (merged, kept):
+        want("generated sites, more than half merged, but not all", True, SITES // 2 < many < SITES)
     print(f"generated sites: {merged} merged at the least cost, {SITES - merged} refused for two pins or a small pool")
+    print(f"generated sites with keep texts: {kept} merged at the least cost, {SITES - kept} refused")
     print(f"contested sites: {contested} merged at the least cost")
     print(f"small sites: {small} triples of users merged at the least cost")
     print(f"cut certificates, plans and inventories: {cut} as the definitions say")

@@ -27,12 +27,19 @@ class Kind:
 
     def mapping_in(self, answer):
         """The mapping in a merge's answer; none if it is not admissible."""
+        mapping = {name: number for name, number in self.named_in(answer).items() if name != "users"}
+        return mapping if self.is_admissible(mapping) else None
+
+    def named_in(self, answer):
+        """The map in a merge's answer, as it stands there."""
         lines = re.findall(rf"^\|{self.name} (\S+) (\d+)$", answer.partition("file certificate\n")[0], re.M)
-        mapping = {name: int(number) for name, number in lines if name != "users"}
+        return {name: int(number) for name, number in lines}
+
+    def is_admissible(self, mapping):
         if sorted(mapping) != sorted(self.seen) or len(set(mapping.values())) < len(mapping):
-            return None
+            return False
         kept = all(mapping[name] == number for name, number in self.pins.items())
-        return mapping if kept and all(mapping[name] in self.pool for name in self.free) else None
+        return kept and all(mapping[name] in self.pool for name in self.free)
 
     def cost(self, mapping):
         """How many fields of files, and how many rows, a mapping changes."""
