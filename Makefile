@@ -25,9 +25,10 @@ HOSTS = a=$(STORED)/a b=$(STORED)/b
 TABLES = $(STORED)/b/passwd $(STORED)/b/group
 REFUSED = build/refused
 
-# As many proofs side by side as there are processors, and as memory has room for at 3 GB each.
+# How many proofs go side by side. With 18 GB rt chooses, and gives a proof that all others wait for the processors that are idle.
+# With less it would let a large proof wait for memory that none needs: then as many as there are processors, at 3 GB each.
 LANES ?= $(shell awk -v most=$$(nproc) '/^MemAvailable/ { fit = int($$2 / 3000000); \
-	print fit < 1 ? 1 : fit < most ? fit : most }' /proc/meminfo)
+	if ($$2 < 18000000) print fit < 1 ? 1 : fit < most ? fit : most }' /proc/meminfo)
 # What make quick calls changed: whatever differs from this commit.
 SINCE ?= HEAD
 
