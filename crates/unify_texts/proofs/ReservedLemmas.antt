@@ -1,5 +1,5 @@
 -- The lines of what is reserved are read back.
-use Rattle.std.proofs.Common.{◌≡◌, ℕ, ◌+◌, ◌/◌, ◌%◌, ◌<◌, ◌≤◌, ◌==◌, ◌&&◌, not, Bool, true, false, cond, List, [], ◌∷◌, ◌++◌, length, map, flat_map, decimal, All, Option, Some, refl, sym, ap, ◌∙◌, append_assoc, append-nil, arith}
+use Rattle.std.proofs.Common.{◌≡◌, ℕ, ◌+◌, ◌/◌, ◌%◌, ◌<◌, ◌≤◌, ◌==◌, ◌&&◌, not, Bool, true, false, cond, List, [], ◌∷◌, ◌++◌, length, map, flat_map, decimal, Option, Some, refl, sym, ap, ◌∙◌, append_assoc, append-nil, arith}
 use Rattle.std.specs.Prelude.{nat_le, option_map, filter, codes}
 use Rattle.std.specs.List.{AllByRecursion, slice_split}
 use Rattle.std.proofs.lemmas.Bool.{and_parts, leb-true, ne_eqb}
@@ -14,14 +14,13 @@ use Rattle.idtext.specs.Words.{is_filled, is_white, words}
 use Rattle.idtext.proofs.EscapeLemmas.{escape-other, escape-plain, escaped-back}
 use Rattle.idtext.proofs.NumberLemmas.{decimal-back}
 use Rattle.idtext.proofs.PieceLemmas.{lines-empty}
-use Rattle.hosts_join.specs.Site.{Joined}
 use Rattle.hosts_join.specs.declared.Which.{Which}
 use Rattle.hosts_join.specs.declared.Which.TheVariants.{User, Group}
 use Rattle.hosts_join.specs.declared.reserving.Reserved.{Reserved}
 use Rattle.hosts_join.specs.declared.reserving.Reserver.{Reserver}
 use Rattle.hosts_join.specs.declared.reserving.Reserver.TheVariants as by
 use Rattle.logindefs.specs.declared.ranges.IdRange.{IdRange}
-use Rattle.unify_texts.specs.ReservedLines.{reserved_line, reserved_lines, reserved_words}
+use Rattle.unify_texts.specs.ReservedLines.{reserved_line, reserved_words}
 use Rattle.unify_texts.specs.ReservedBack.{IsShown, IsTellable, IsToldBy, ReservedLinesReadBack, Told, one_number, range_between, reserved_said, told_by}
 use Rattle.unify_texts.specs.Words.{shown, spaced, which_word}
 use Rattle.unify_texts.proofs.MapBack.{Lacks, decimal-lacks, lacks-append, one_line}
