@@ -225,7 +225,7 @@ module _ (first : WholeSite) (whole : IsWhole first) (hosts : List (Host × List
       let user_cost = same_cost users (user_files first) (user_files last) users_alike m.users in
       let group_cost = same_cost groups (group_files first) (group_files last) groups_alike m.groups in
       let report : report_of (hosts_in first) first.joined (files_of_site first) m ≡ report_of (hosts_in last) first.joined (files_of_site last) m = λ j.
-      report_lines (length (same_hosts j)) (user_figures j) (group_figures j) (site_differences (same_hosts j) first.joined) in
+      report_lines first.joined (length (same_hosts j)) (user_figures j) (group_figures j) (site_differences (same_hosts j) first.joined) in
       let cost : cost_in first m ≡ cost_in last m = λ j. record { users = user_cost j; groups = group_cost j } in
       record {
         certificate = c;

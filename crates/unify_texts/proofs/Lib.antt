@@ -6,3 +6,4 @@ pub mod MapLines
 pub mod ReportLemmas
 pub mod MapBack
 pub mod MapNames
+pub mod ReservedLemmas

@@ -43,10 +43,10 @@ line_is kind p =
     ∙ sym (append_assoc (which_word kind) (32 ∷ (p.name ++ 32 ∷ decimal p.number)) (10 ∷ []))
 
 -- none of the bytes is the one
-abbrev Lacks : ℕ → List ℕ → Type 0
+abbrev pub Lacks : ℕ → List ℕ → Type 0
 Lacks b bytes = AllByRecursion (λ c. (c == b) ≡ false) bytes
 
-lacks-append : (b : ℕ) (xs ys : List ℕ) → Lacks b xs → Lacks b ys → Lacks b (xs ++ ys)
+pub lacks-append : (b : ℕ) (xs ys : List ℕ) → Lacks b xs → Lacks b ys → Lacks b (xs ++ ys)
 lacks-append b [] ys p q = q
 lacks-append b (x ∷ xs) ys p q = (p.0, lacks-append b xs ys p.1 q)
 
@@ -55,7 +55,7 @@ digits-lack : (b : ℕ) → 10 ≤ digit_value b → (ds : List ℕ) → AllDigi
 digits-lack b other [] all = tt
 digits-lack b other (c ∷ cs) all = (ne_eqb c b (λ e. let low : digit_value b < 10 = rw (← e) all.0 in omega (arith, low, other)), digits-lack b other cs all.1)
 
-decimal-lacks : (b v : ℕ) → 10 ≤ digit_value b → v ≤ 4294967294 → Lacks b (decimal v)
+pub decimal-lacks : (b v : ℕ) → 10 ≤ digit_value b → v ≤ 4294967294 → Lacks b (decimal v)
 decimal-lacks b v other small = digits-lack b other (decimal v) (decimal_is_IsNumeral v (omega (arith, small))).0.1
 
 name-lacks : (n : List ℕ) → list_any is_separator n ≡ false → Lacks 10 n
@@ -109,7 +109,7 @@ first_piece : (line rest : List ℕ) → Lacks 10 line → pieces 10 (line ++ 10
 unfolding pieces
 first_piece line rest lacks = slice_split_at (λ b. b == 10) line 10 rest (All-from_recursion (λ b. (b == 10) ≡ false) line lacks) refl
 
-one_line : (line rest : List ℕ) → Lacks 10 line → lines_of (line ++ 10 ∷ rest) ≡ line ∷ lines_of rest
+pub one_line : (line rest : List ℕ) → Lacks 10 line → lines_of (line ++ 10 ∷ rest) ≡ line ∷ lines_of rest
 one_line line rest lacks = lines-cut (line ++ 10 ∷ rest) line rest (first_piece line rest lacks)
 
 text_lines : (kind : Which) (ps : List Pair) (rest : List ℕ) → AllByRecursion IsPair ps → lines_of (flat_map (map_line kind) ps ++ rest) ≡ map (bare kind) ps ++ lines_of rest

@@ -60,10 +60,11 @@ file_said line name is =
     (λ _. choose line (bytes_eq name (codes "certificate")) _ _ (λ h. word (codes "certificate") h)
     (λ _. choose line (bytes_eq name (codes "plan")) _ _ (λ h. word (codes "plan") h)
     (λ _. choose line (bytes_eq name (codes "pins")) _ _ (λ h. word (codes "pins") h)
+    (λ _. choose line (bytes_eq name (codes "keep")) _ _ (λ h. word (codes "keep") h)
     (λ _. choose line (bytes_eq name (codes "mtree")) _ _ (λ h. word (codes "mtree") h)
     (λ _. choose line (bytes_eq name (codes "passwd")) _ _ (λ h. word (codes "passwd") h)
     (λ _. choose line (bytes_eq name (codes "group")) _ _ (λ h. word (codes "group") h)
-    (λ _. choose line (bytes_eq name (codes "login.defs")) (File file.LoginDefs) Wrong (λ h. word (codes "login.defs") h) (λ _. tt))))))))
+    (λ _. choose line (bytes_eq name (codes "login.defs")) (File file.LoginDefs) Wrong (λ h. word (codes "login.defs") h) (λ _. tt)))))))))
 
 line_said : (line : List ℕ) → IsSaid line (bundle_line_of line)
 unfolding bundle_line_of
@@ -93,6 +94,7 @@ file_read file.Map = refl
 file_read file.Certificate = refl
 file_read file.Plan = refl
 file_read file.Pins = refl
+file_read file.Keep = refl
 file_read file.Mtree = refl
 file_read file.Passwd = refl
 file_read file.Group = refl

@@ -17,6 +17,7 @@ file_word file.Map = codes "map"
 file_word file.Certificate = codes "certificate"
 file_word file.Plan = codes "plan"
 file_word file.Pins = codes "pins"
+file_word file.Keep = codes "keep"
 file_word file.Mtree = codes "mtree"
 file_word file.Passwd = codes "passwd"
 file_word file.Group = codes "group"
@@ -34,10 +35,11 @@ file_index file.Map = 0
 file_index file.Certificate = 1
 file_index file.Plan = 2
 file_index file.Pins = 3
-file_index file.Mtree = 4
-file_index file.Passwd = 5
-file_index file.Group = 6
-file_index file.LoginDefs = 7
+file_index file.Keep = 4
+file_index file.Mtree = 5
+file_index file.Passwd = 6
+file_index file.Group = 7
+file_index file.LoginDefs = 8
 
 abbrev pub same_file : FileName → FileName → Bool
 same_file a b = file_index a == file_index b
@@ -50,6 +52,7 @@ file_named name =
     else if bytes_eq name (codes "certificate") then File file.Certificate
     else if bytes_eq name (codes "plan") then File file.Plan
     else if bytes_eq name (codes "pins") then File file.Pins
+    else if bytes_eq name (codes "keep") then File file.Keep
     else if bytes_eq name (codes "mtree") then File file.Mtree
     else if bytes_eq name (codes "passwd") then File file.Passwd
     else if bytes_eq name (codes "group") then File file.Group

@@ -2,6 +2,7 @@
 
 ghost use Rattle.unify_texts.specs.BundleSpelling.{ReadsWhatIsSpelled, SpelledIsRead};
 ghost use Rattle.unify_texts.specs.BundleSpelling.{FirstBadIsTold};
+ghost use Rattle.unify_texts.specs.ReservedBack.{ReservedLinesReadBack};
 ghost use Rattle.unify_texts.specs.WrittenMap.{WrittenMapsReadBack};
 
 /// A text is read as a bundle exactly where its lines spell one, and as that one. Where they spell
@@ -16,4 +17,12 @@ pub fn bundles_are_spelled()
 /// number, and no other name has one.
 pub fn written_maps_read_back()
     ensures { WrittenMapsReadBack }
+{}
+
+/// The lines that a report has of what is reserved are read, word by word, as exactly what they
+/// were written for: of which kind, which numbers, and who reserves them, a host and a name byte
+/// for byte. Asked is that the numbers are such as an account may have, that a name, or a host with
+/// files without an account, reserves one number, and that no name is empty.
+pub fn reserved_lines_read_back()
+    ensures { ReservedLinesReadBack }
 {}

@@ -12,6 +12,7 @@ mod map_text;
 mod place_list;
 mod places;
 mod report;
+mod reserved;
 mod words;
 
 pub use bundle::{Bundle, read_bundle};
@@ -19,8 +20,9 @@ pub use bundle_line::{Command, FileName};
 pub use fault::Fault;
 pub use fault_text::push_fault;
 pub use figures::{Figures, figures_under};
-pub use laws::{bundles_are_spelled, written_maps_read_back};
+pub use laws::{bundles_are_spelled, reserved_lines_read_back, written_maps_read_back};
 pub use map_text::{MapText, push_map, read_map};
 pub use place_list::PlaceList;
 pub use places::{FileList, NamedFile, Place};
 pub use report::report_text;
+pub use reserved::keeps_a_name;

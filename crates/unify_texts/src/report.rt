@@ -8,8 +8,9 @@ ghost use Rattle.ownership.specs.Files.{Added};
 ghost use Rattle.unify_texts.specs.Report as report;
 
 use crate::figures::{Figures, figures_under};
+use crate::reserved::push_reserved_lines;
 use crate::words::{Word, kind_word, push_line};
-use hosts_join::{Host, Site};
+use hosts_join::{Host, Reserved, Site};
 use mergedfiles::{Difference, Field, differences};
 use ownership::{Counts, Mapping};
 use std::alloc::{AllocError, Global};
@@ -78,19 +79,35 @@ fn push_differences(out: &mut Vec<u8>, told: &[Difference<'_>]) -> Result<(), Al
     Ok(())
 }
 
+// The version of a report: whether it has lines of what is reserved.
+fn version_word(users: &[Reserved<'_>], groups: &[Reserved<'_>]) -> &'static str
+    ensures { result.now ≡ report.report_version users.now groups.now }
+{
+    match (users, groups) {
+        ([], []) => "2",
+        _ => "3",
+    }
+}
+
 // The lines of a report.
 fn report_lines(
     alloc: Global,
+    site: &Site<'_>,
     hosts: usize,
     users: &Figures,
     groups: &Figures,
     told: &[Difference<'_>],
 ) -> Result<Vec<u8>, AllocError>
     ensures { IfOk result
-        (λ text. text.items ≡ report.report_lines hosts users.now groups.now told.now) }
+        (λ text. text.items ≡ report.report_lines site.now hosts users.now groups.now told.now) }
 {
     let mut text = Vec::new(alloc);
-    push_line(&mut text, "unify", &[Word::Text("report"), Word::Text("2")])?;
+    let version = version_word(site.users().reserved(), site.groups().reserved());
+    push_line(
+        &mut text,
+        "unify",
+        &[Word::Text("report"), Word::Text(version)],
+    )?;
     push_line(&mut text, "hosts", &[Word::Number(hosts as u128)])?;
     push_names(&mut text, "users", users)?;
     push_names(&mut text, "groups", groups)?;
@@ -103,6 +120,7 @@ fn report_lines(
     )?;
     push_change(&mut text, "user-lines", users.changed_rows, users.rows)?;
     push_change(&mut text, "group-lines", groups.changed_rows, groups.rows)?;
+    push_reserved_lines(&mut text, site)?;
     push_differences(&mut text, told)?;
     push_line(&mut text, "end", &[])?;
     Ok(text)
@@ -110,8 +128,9 @@ fn report_lines(
 
 /// The report of a mapping of a site's users and one of its groups: how many hosts there are; for
 /// each kind how many names are pinned, keep a number that they have on some host, or have a fresh
-/// one; how many owner fields of the files, and how many account rows, change; and each field in
-/// which a later host differs from the first. Names are escaped.
+/// one; how many owner fields of the files, and how many account rows, change; what no name is to
+/// be given, and who reserves it, where something is; and each field in which a later host differs
+/// from the first. Names are escaped.
 ///
 /// Asked is that the site was joined from these hosts, that the counters were made for it, and that
 /// there is one number for each name. Where the counters stand for files, the report is that of
@@ -140,5 +159,12 @@ pub fn report_text(
     let user_figures = figures_under(site.users(), counts.users(), counts.user_files(), users);
     let group_figures = figures_under(site.groups(), counts.groups(), counts.group_files(), groups);
     let told = differences(alloc, hosts, site)?;
-    report_lines(alloc, hosts.len(), &user_figures, &group_figures, &told)
+    report_lines(
+        alloc,
+        site,
+        hosts.len(),
+        &user_figures,
+        &group_figures,
+        &told,
+    )
 }
