@@ -5,6 +5,7 @@ pub mod Maps
 pub mod WrittenMap
 pub mod Figures
 pub mod Staying
+pub mod ReservedLines
 pub mod Report
 pub mod Told
 pub mod BundleLines

@@ -12,6 +12,7 @@ mod map_text;
 mod place_list;
 mod places;
 mod report;
+mod reserved;
 mod words;
 
 pub use bundle::{Bundle, read_bundle};
@@ -24,3 +25,4 @@ pub use map_text::{MapText, push_map, read_map};
 pub use place_list::PlaceList;
 pub use places::{FileList, NamedFile, Place};
 pub use report::report_text;
+pub use reserved::keeps_a_name;
