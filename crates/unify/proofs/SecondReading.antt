@@ -248,6 +248,7 @@ module _ (first : WholeSite) (whole : IsWhole first) (hosts : List (Host × List
           printed = record {
             passwd = told.passwd ∙ ap (λ hs. merged_users hs first.joined m.users m.groups) same_hosts;
             group = told.group ∙ ap (λ hs. merged_groups hs first.joined m.groups) same_hosts;
+            keeps = told.keeps;
             map_is = told.map_is;
             certificate = told.certificate;
             report = told.report ∙ report;

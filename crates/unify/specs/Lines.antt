@@ -1,6 +1,6 @@
 -- The lines that tell what a command answered.
 -- Source: this project's own formats.
-use Rattle.std.specs.Prelude.{ℕ, List, [], ◌∷◌, ◌++◌, codes, decimal, flat_map}
+use Rattle.std.specs.Prelude.{ℕ, List, [], ◌∷◌, ◌++◌, if◌then◌else◌, codes, decimal, flat_map}
 use Rattle.idtext.specs.Pieces.{lines}
 use Rattle.hosts_join.specs.declared.texts.HostText.{HostText}
 use Rattle.unify.specs.declared.counting.Cost.{Cost}
@@ -36,11 +36,16 @@ plan_lines (host ∷ hosts) [] = []
 plan_lines (host ∷ hosts) (plan ∷ plans) =
     file_lines (codes "plan." ++ host.name) plan ++ plan_lines hosts plans
 
+-- the one passwd and the one group, where no name is kept
+abbrev pub account_lines : Outcome → List ℕ
+account_lines outcome =
+    if outcome.keeps_names then []
+    else file_lines (codes "passwd") outcome.passwd ++ file_lines (codes "group") outcome.group
+
 -- what a merge writes: a file for each text, and then for each plan
 abbrev pub merge_lines : List HostText → Outcome → List ℕ
 merge_lines hosts outcome =
-    file_lines (codes "passwd") outcome.passwd ++ file_lines (codes "group") outcome.group
-    ++ file_lines (codes "map") outcome.map
+    account_lines outcome ++ file_lines (codes "map") outcome.map
     ++ file_lines (codes "certificate") outcome.certificate
     ++ file_lines (codes "report") outcome.report ++ plan_lines hosts outcome.plans
 

@@ -17,6 +17,7 @@ use Rattle.mergedfiles.specs.Texts.{merged_users, merged_groups}
 use Rattle.reown_plan.specs.Spelling as plan
 use Rattle.reown_plan.specs.Target.{host_plan}
 use Rattle.unify_texts.specs.Report.{report_of}
+use Rattle.unify_texts.specs.ReservedLines.{keeps_a_name}
 use Rattle.unify_texts.specs.WrittenMap.{map_text}
 use Rattle.unify.specs.declared.counting.Cost.{Cost}
 use Rattle.unify.specs.declared.outcome.Outcome.{Outcome}
@@ -67,11 +68,13 @@ pub record AreAnswered (site : WholeSite) (m : Mappings) (c : Certificate) : Typ
   pub user_side : IsSide c.users
   pub group_side : IsSide c.groups
 
--- The texts tell the mappings and the certificate.
+-- The texts tell the mappings and the certificate. Where a name is kept on a host, passwd and group
+-- stand for the other names alone.
 pub record IsPrinted (site : WholeSite) (m : Mappings) (c : Certificate) (outcome : Outcome) : Type
     0 where
   pub passwd : outcome.passwd ≡ merged_users (hosts_in site) site.joined m.users m.groups
   pub group : outcome.group ≡ merged_groups (hosts_in site) site.joined m.groups
+  pub keeps : outcome.keeps_names ≡ keeps_a_name site.joined
   pub map_is : outcome.map ≡ map_text site.joined m
   pub certificate : outcome.certificate ≡ certificates.spelling c
   pub report : outcome.report ≡ report_of (hosts_in site) site.joined (files_of_site site) m

@@ -2,8 +2,8 @@
 
 ghost use Rattle.std.specs.Prelude.{◌≡◌, ◌++◌, OnOk, IfOk, flat_map, codes};
 ghost use Rattle.idtext.specs.Pieces.{lines};
-ghost use Rattle.unify.specs.Lines.{barred, file_lines, merge_lines, named_lines, plan_lines};
-ghost use Rattle.unify.specs.Lines.{site_lines};
+ghost use Rattle.unify.specs.Lines.{account_lines, barred, file_lines, merge_lines, named_lines};
+ghost use Rattle.unify.specs.Lines.{plan_lines, site_lines};
 ghost use Rattle.unify.specs.Output.{Answers, IsMergeTold, IsMergeWithHostsTold};
 ghost use Rattle.unify.specs.Replies.{reply_of};
 
@@ -45,6 +45,17 @@ fn push_file(out: &mut Vec<u8>, name: &[u8], text: &ByteString) -> Result<(), Al
     push_text(out, text.bytes())
 }
 
+// Appends the one passwd and the one group, unless a name is kept.
+fn push_accounts(out: &mut Vec<u8>, outcome: &Outcome) -> Result<(), AllocError>
+    ensures { OnOk result (out.new.items ≡ out.old.items ++ account_lines outcome.now) }
+{
+    if outcome.keeps_names {
+        return Ok(());
+    }
+    push_file(out, b"passwd", &outcome.passwd)?;
+    push_file(out, b"group", &outcome.group)
+}
+
 // Appends the plan of a host, as the file plan.NAME.
 fn push_plan(out: &mut Vec<u8>, host: &HostText, plan: &ByteString) -> Result<(), AllocError>
     ensures { OnOk result
@@ -71,8 +82,7 @@ fn outcome_text(alloc: Global, hosts: &[HostText], outcome: &Outcome) -> Result<
     ensures { IfOk result (λ text. text.items ≡ merge_lines hosts.now outcome.now) }
 {
     let mut text = Vec::new(alloc);
-    push_file(&mut text, b"passwd", &outcome.passwd)?;
-    push_file(&mut text, b"group", &outcome.group)?;
+    push_accounts(&mut text, outcome)?;
     push_file(&mut text, b"map", &outcome.map)?;
     push_file(&mut text, b"certificate", &outcome.certificate)?;
     push_file(&mut text, b"report", &outcome.report)?;

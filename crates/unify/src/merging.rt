@@ -9,6 +9,7 @@ ghost use Rattle.certcheck.specs.Spelling.{spelling};
 ghost use Rattle.mergedfiles.specs.Texts.{merged_users, merged_groups};
 ghost use Rattle.mergedfiles.specs.Together.{AreJoined};
 ghost use Rattle.unify_texts.specs.Report.{report_of};
+ghost use Rattle.unify_texts.specs.ReservedLines as reserved;
 ghost use Rattle.unify_texts.specs.WrittenMap.{map_text};
 ghost use Rattle.unify.specs.Loading.{HoldsCounted};
 ghost use Rattle.unify.specs.Laws.{IsWhole};
@@ -25,7 +26,7 @@ use idtext::ByteString;
 use mergedfiles::{group_text, passwd_text};
 use ownership::{Counts, Mapping};
 use std::alloc::{AllocError, Global};
-use unify_texts::{figures_under, push_map, report_text};
+use unify_texts::{figures_under, keeps_a_name, push_map, report_text};
 
 /// What a merge gives for a site but for its plans, and the mappings that these go by.
 #[derive(Drop)]
@@ -119,6 +120,7 @@ fn nothing_written(alloc: Global) -> Outcome
     Outcome {
         passwd: ByteString::new(alloc),
         group: ByteString::new(alloc),
+        keeps_names: false,
         map: ByteString::new(alloc),
         certificate: ByteString::new(alloc),
         report: ByteString::new(alloc),
@@ -130,7 +132,7 @@ fn nothing_written(alloc: Global) -> Outcome
     }
 }
 
-// Writes passwd and group by mappings.
+// Writes passwd and group by mappings, and whether a name is kept, which then stands in neither.
 fn write_accounts(
     alloc: Global,
     hosts: &[Host<'_>],
@@ -148,12 +150,14 @@ fn write_accounts(
           passwd =
               merged_users hosts.now site.now certified.now.users certified.now.groups;
           group = merged_groups hosts.now site.now certified.now.groups;
+          keeps_names = reserved.keeps_a_name site.now;
         }) }
 {
     let passwd = passwd_text(alloc, hosts, site, &certified.users, &certified.groups)?;
     outcome.passwd = ByteString::from_vec(passwd);
     let group = group_text(alloc, hosts, site, &certified.users, &certified.groups)?;
     outcome.group = ByteString::from_vec(group);
+    outcome.keeps_names = keeps_a_name(site);
     Ok(())
 }
 

@@ -54,6 +54,9 @@ pub struct Outcome {
     pub passwd: ByteString,
     /// One group for all hosts.
     pub group: ByteString,
+    /// Whether a name of the hosts is kept, which then has no one number: passwd and group are not
+    /// written then.
+    pub keeps_names: bool,
     /// The number of each name.
     pub map: ByteString,
     /// The same numbers, with the potentials that prove them the best.

@@ -1,7 +1,7 @@
 //! Warnings of what a merge gives: users and groups that are one by their name, and may have been
 //! two.
 
-use crate::files::{FileFault, read_file_in};
+use crate::files::{FileFault, holds, read_file_in};
 use crate::warnings::{MOST_LINES, MOST_NAMES, Part, warn, warn_of_more, warn_of_pins};
 use accounts::{GroupRow, GroupTable, PasswdRow, PasswdTable, read_group, read_passwd};
 use hosts_join::{HostText, PairTable};
@@ -498,12 +498,16 @@ fn warn_of_texts(
     }
 }
 
-// Warns of users and groups by the passwd and the group that a merge wrote.
+// Warns of users and groups by the passwd and the group that a merge wrote. It wrote none where a
+// name of the hosts is kept.
 fn warn_of_merged_users(
     rt: &HostRuntime,
     hosts: &[HostText],
     directory: &str,
 ) -> Result<(), FileFault> {
+    if !holds(rt, directory, "passwd")? {
+        return Ok(());
+    }
     let passwd = read_file_in(rt, directory, "passwd")?;
     let group = read_file_in(rt, directory, "group")?;
     Ok(warn_of_texts(rt, hosts, passwd.bytes(), group.bytes())?)

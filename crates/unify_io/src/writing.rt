@@ -178,12 +178,15 @@ fn remove_temporary(rt: &HostRuntime, directory: &str) -> Result<(), FileFault> 
 }
 
 /// Begins to write a merge of the hosts that words name into a directory: the report, the hosts'
-/// own files and the plans of an earlier merge go before any of its other files does, and the
-/// directory has a mark until the new report stands.
+/// own files and the plans of an earlier merge go before any of its other files does, then its
+/// passwd and group, which not every merge writes; and the directory has a mark until the new report
+/// stands.
 pub fn begin_output(rt: &HostRuntime, directory: &str, words: &[&str]) -> Result<(), FileFault> {
     mark(rt, directory)?;
     remove(rt, directory, "report")?;
     remove_of_hosts(rt, directory, words)?;
+    remove(rt, directory, "passwd")?;
+    remove(rt, directory, "group")?;
     remove_temporary(rt, directory)?;
     sync_directory(rt, directory)
 }

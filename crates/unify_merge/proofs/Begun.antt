@@ -1,8 +1,11 @@
 -- Files that were begun, in their order.
-use Rattle.std.proofs.Common.{◌≡◌, ◌++◌, ◌∷◌, [], ℕ, zero, suc, List, map, take, drop, Some, Result, Ok, Err, sym, ap, ◌∙◌, append_assoc, append-nil}
+use Rattle.std.proofs.Common.{◌≡◌, ◌++◌, ◌∷◌, [], ℕ, zero, suc, Bool, true, false, List, map, take, drop, Some, Result, Ok, Err, refl, sym, ap, ◌∙◌, append_assoc, append-nil}
 use Rattle.std.specs.Prelude.{OnErr}
 use Rattle.std.specs.List.{slice_get}
-use Rattle.unify_merge.specs.Ledger.{HasBegun, Ledger}
+use Rattle.unify.specs.declared.outcome.Outcome.{Outcome}
+use Rattle.unify_merge.specs.Ledger.{HasBegun, Ledger, after_files, cleared}
+use Rattle.unify_merge.specs.HostFiles.{HasFiles}
+use Rattle.unify_merge.specs.Merge.{account_files, account_names, first_files, first_names}
 
 -- an error, and what follows from one
 pub on_err : {T E : Type 0} (r : Result T E) (P : Type 0) → P → OnErr r P
@@ -39,3 +42,28 @@ pub map_from : {A B : Type 0} (f : A → B) (xs : List A) (k : ℕ) (x : A) → 
 map_from f [] k x here = absurd (cc)
 map_from f (y ∷ xs) zero x here = let same : y ≡ x = (cc) in ap (λ z. f z ∷ map f xs) same
 map_from f (y ∷ xs) (suc k) x here = ap (λ ys. f y ∷ ys) (map_from f xs k x here)
+
+-- ---- the first files
+
+pub names_of_accounts : (o : Outcome) → map (λ file. file.name) (account_files o) ≡ account_names o.keeps_names
+names_of_accounts o = names_where o.keeps_names
+  where
+    names_where : (keeps : Bool) → map (λ file. file.name) (account_files (record o { keeps_names = keeps })) ≡ account_names keeps
+    names_where true = refl
+    names_where false = refl
+
+names_of_first : (o : Outcome) → map (λ file. file.name) (first_files o) ≡ first_names o.keeps_names
+names_of_first o = names_where o.keeps_names
+  where
+    names_where : (keeps : Bool) → map (λ file. file.name) (first_files (record o { keeps_names = keeps })) ≡ first_names keeps
+    names_where true = refl
+    names_where false = refl
+
+-- they were begun
+pub accounts_begun : (o : Outcome) (old new : Ledger) → HasFiles (account_files o) old new → new.begun ≡ old.begun ++ account_names o.keeps_names
+accounts_begun o old new written = ap (λ (l : Ledger). l.begun) written ∙ ap (λ ns. old.begun ++ ns) (names_of_accounts o)
+
+pub first_begun : (o told : Outcome) (old mid new : Ledger) → told ≡ o → mid ≡ cleared old → new ≡ after_files (first_files told) mid → new.begun ≡ old.begun ++ first_names o.keeps_names
+first_begun o told old mid new same clear written =
+    let names = names_of_first told ∙ ap (λ (x : Outcome). first_names x.keeps_names) same in
+    ap (λ (l : Ledger). l.begun) written ∙ ap (λ ns. mid.begun ++ ns) names ∙ ap (λ (l : Ledger). l.begun ++ first_names o.keeps_names) clear

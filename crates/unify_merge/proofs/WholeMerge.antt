@@ -10,6 +10,7 @@ use Rattle.hosts_join.specs.Site.{Joined}
 use Rattle.hosts_join.specs.declared.host.Host.{Host}
 use Rattle.hosts_join.specs.declared.texts.HostText.{HostText}
 use Rattle.ownership.specs.Mappings.{Mappings}
+use Rattle.unify_texts.specs.ReservedLines.{keeps_a_name}
 use Rattle.unify_texts.specs.Told.{told}
 use Rattle.unify_texts.specs.declared.fault.Fault.{Fault}
 use Rattle.unify.specs.declared.counting.Cost.{Cost}
@@ -33,7 +34,7 @@ use Rattle.unify_merge.specs.Ledger.{Ledger, Reading, after_files, cleared}
 use Rattle.unify_merge.specs.FirstReading.{IsInventoryFault, ReadsOnly, StopsCounting, readings_from}
 use Rattle.unify_merge.specs.HostFiles.{HasFiles, StopsWriting}
 use Rattle.unify_merge.specs.SecondReading.{IsChangeFault, StopsPlanning, plan_files}
-use Rattle.unify_merge.specs.Merge.{HasMerged, HasSolved, HasWritten, StopsMerge, first_files, merged_files, report_file}
+use Rattle.unify_merge.specs.Merge.{HasMerged, HasSolved, HasWritten, StopsMerge, first_files, keeps_begun, keeps_in, merged_files, report_file}
 use Rattle.unify_merge.specs.declared.fault.MergeFault.{MergeFault}
 use Rattle.unify_merge.specs.declared.fault.MergeFault.TheVariants.{Failed, TooLarge, Refused}
 use Rattle.unify_merge.proofs.Planned.{files_more}
@@ -120,6 +121,10 @@ has_solved texts pins begun over site s old new read stands is same joined none_
       none_ended = from.ended;
       stands = from.stands;
     }
+
+-- whether a name is kept is seen before the inventories are read
+pub keeps_as_begun : (texts : List HostText) (pins : List ℕ) (old new : Ledger) (s : SolvedValue) → HasSolved texts pins old new s → s.merged.outcome.keeps_names ≡ keeps_in texts pins
+keeps_as_begun texts pins old new s h = h.merged.printed.printed.keeps ∙ ap keeps_a_name h.joined ∙ sym (ap keeps_begun h.begun_is)
 
 -- what was merged is right and believed, and stands in its files
 record IsMergedFor (texts : List HostText) (begun : BegunSite) (are : List (Host × List Entry)) (outcome : Outcome) (old new : Ledger) : Type 0 where

@@ -1,12 +1,13 @@
 -- What a merge does, from the bytes that it reads to the bytes of each file.
 -- Source: this project's own rule.
-use Rattle.std.specs.Prelude.{◌≡◌, ℕ, ◌⊎◌, Bool, true, List, [], ◌∷◌, ◌++◌, length, map, codes}
-use Rattle.std.specs.Prelude.{Some, Ok, Err, IfSome, slice_get}
+use Rattle.std.specs.Prelude.{◌≡◌, ℕ, ◌⊎◌, Bool, true, false, List, [], ◌∷◌, ◌++◌, length, map}
+use Rattle.std.specs.Prelude.{if◌then◌else◌, codes, Some, Result, Ok, Err, IfSome, slice_get}
 use Rattle.idtext.specs.First.{each}
 use Rattle.mtree_inv.specs.declared.entry.Entry.{Entry}
 use Rattle.hosts_join.specs.declared.host.Host.{Host}
 use Rattle.hosts_join.specs.declared.texts.HostText.{HostText}
 use Rattle.ownership.specs.Mappings.{Mappings}
+use Rattle.unify_texts.specs.ReservedLines.{keeps_a_name}
 use Rattle.unify_texts.specs.Told.{told}
 use Rattle.unify_texts.specs.declared.fault.Fault.{Fault}
 use Rattle.unify.specs.declared.counting.Cost.{Cost}
@@ -31,12 +32,18 @@ use Rattle.unify_merge.specs.declared.fault.MergeFault.TheVariants.{Failed, TooL
 
 -- ---- the files of a merge
 
+-- the one passwd and the one group, where no name is kept
+abbrev pub account_files : Outcome → List NamedText
+account_files outcome =
+    if outcome.keeps_names then []
+    else record { name = codes "passwd"; text = outcome.passwd }
+    ∷ record { name = codes "group"; text = outcome.group } ∷ []
+
 -- those of the whole site that are written before those of the hosts
 abbrev pub first_files : Outcome → List NamedText
 first_files outcome =
-    record { name = codes "passwd"; text = outcome.passwd }
-    ∷ record { name = codes "group"; text = outcome.group }
-    ∷ record { name = codes "map"; text = outcome.map }
+    account_files outcome
+    ++ record { name = codes "map"; text = outcome.map }
     ∷ record { name = codes "certificate"; text = outcome.certificate } ∷ []
 
 abbrev pub report_file : Outcome → NamedText
@@ -50,12 +57,24 @@ merged_files texts begun m outcome =
     ++ (plan_files texts outcome.plans
     ++ (host_files begun.joined m texts begun.hosts ++ report_file outcome ∷ []))
 
--- the names of those before the report, in this order
-abbrev pub first_names : List (List ℕ)
-first_names = codes "passwd" ∷ codes "group" ∷ codes "map" ∷ codes "certificate" ∷ []
+-- the names of those before the report, in this order, where a name of the hosts is kept or none is
+abbrev pub account_names : Bool → List (List ℕ)
+account_names keeps = if keeps then [] else codes "passwd" ∷ codes "group" ∷ []
 
-abbrev pub names_before_report : List HostText → List (List ℕ)
-names_before_report texts = first_names ++ (map plan_name texts ++ host_names texts)
+abbrev pub first_names : Bool → List (List ℕ)
+first_names keeps = account_names keeps ++ codes "map" ∷ codes "certificate" ∷ []
+
+abbrev pub names_before_report : Bool → List HostText → List (List ℕ)
+names_before_report keeps texts = first_names keeps ++ (map plan_name texts ++ host_names texts)
+
+-- whether a name is kept, by the tables and the pins as they are read; none is where they are
+-- refused
+abbrev pub keeps_begun : Result BegunSite Fault → Bool
+keeps_begun (Ok begun) = keeps_a_name begun.joined
+keeps_begun (Err f) = false
+
+abbrev pub keeps_in : List HostText → List ℕ → Bool
+keeps_in texts pins = keeps_begun (site_begun texts pins)
 
 -- ---- a merge that succeeds
 

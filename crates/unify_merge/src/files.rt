@@ -36,8 +36,8 @@ pub trait MergeFiles: ReadFiles {
     ghost use Rattle.unify_merge.specs.Ledger.{cleared, with_begun, with_bytes, with_finished};
     ghost use Rattle.unify_merge.specs.Ledger.{after_files};
 
-    /// Clears away what an earlier merge left: its report first, and what it wrote for each host,
-    /// also for hosts that are no more.
+    /// Clears away what an earlier merge left: its report first, what it wrote for each host, also
+    /// for hosts that are no more, and its passwd and group.
     fn clear(&mut self) -> Result<(), CallFailed>
         ensures clear { OnOk result (Self.ledger self.new ≡ cleared (Self.ledger self.old)) }
         ensures none { OnErr result (Self.ledger self.new ≡ Self.ledger self.old) }

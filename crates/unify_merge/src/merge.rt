@@ -9,9 +9,11 @@ ghost use Rattle.unify.specs.Passes.{AreTogether, ended_in};
 ghost use Rattle.unify.specs.SecondPass.{IsSolvedFrom, StandsFor};
 ghost use Rattle.unify_merge.specs.Ledger.{HasBegun, after_files};
 ghost use Rattle.unify_merge.specs.FirstReading.{ReadsOnly};
+ghost use Rattle.unify_merge.specs.HostFiles.{HasFiles};
 ghost use Rattle.unify_merge.specs.SecondReading.{StopsPlanning, WereRead};
 ghost use Rattle.unify_merge.specs.Merge.{HasMerged, HasSolved, HasWritten, StopsMerge};
-ghost use Rattle.unify_merge.specs.Merge.{first_files, first_names, names_before_report};
+ghost use Rattle.unify_merge.specs.Merge.{account_files, account_names, first_files, first_names};
+ghost use Rattle.unify_merge.specs.Merge.{keeps_in, names_before_report};
 ghost use Rattle.unify_merge.specs.declared.fault.MergeFault.TheVariants.{Refused};
 
 use crate::fault::MergeFault;
@@ -25,16 +27,34 @@ use std::alloc::Global;
 use unify::{Cost, JoinedSite, Outcome, Solved, begin_site};
 use unify_texts::Fault;
 
+// Writes the one passwd and the one group, unless a name is kept.
+fn write_accounts<F: MergeFiles>(files: &mut F, outcome: &Outcome) -> Result<(), CallFailed>
+    requires clear { (F.ledger files.old).is_clear ≡ true }
+    ensures written { OnOk result
+        (HasFiles (account_files outcome.now) (F.ledger files.old) (F.ledger files.new)) }
+    ensures failed { OnErr result (F.has_failed files.new ≡ true) }
+    ensures begun { OnErr result
+        (HasBegun (account_names outcome.now.keeps_names) (F.ledger files.old)
+        (F.ledger files.new)) }
+{
+    if outcome.keeps_names {
+        return Ok(());
+    }
+    write_file(files, b"passwd", outcome.passwd.bytes())?;
+    write_file(files, b"group", outcome.group.bytes())
+}
+
 // Writes the files of the whole site that come before those of the hosts.
 fn write_first<F: MergeFiles>(files: &mut F, outcome: &Outcome) -> Result<(), CallFailed>
     requires clear { (F.ledger files.old).is_clear ≡ true }
     ensures written { OnOk result
         (F.ledger files.new ≡ after_files (first_files outcome.now) (F.ledger files.old)) }
     ensures failed { OnErr result (F.has_failed files.new ≡ true) }
-    ensures begun { OnErr result (HasBegun first_names (F.ledger files.old) (F.ledger files.new)) }
+    ensures begun { OnErr result
+        (HasBegun (first_names outcome.now.keeps_names) (F.ledger files.old)
+        (F.ledger files.new)) }
 {
-    write_file(files, b"passwd", outcome.passwd.bytes())?;
-    write_file(files, b"group", outcome.group.bytes())?;
+    write_accounts(files, outcome)?;
     write_file(files, b"map", outcome.map.bytes())?;
     write_file(files, b"certificate", outcome.certificate.bytes())
 }
@@ -91,7 +111,8 @@ fn write_merged<'a, F: MergeFiles>(
         → StopsPlanning read (F.ledger files.old) (F.ledger files.new) (F.has_failed files.new)
         fault) }
     ensures begun { OnErr result
-        (HasBegun (names_before_report hosts.now) (F.ledger files.old) (F.ledger files.new)) }
+        (HasBegun (names_before_report solved.old.merged.outcome.keeps_names hosts.now)
+        (F.ledger files.old) (F.ledger files.new)) }
 {
     files.clear()?;
     write_first(files, solved.outcome())?;
@@ -105,13 +126,13 @@ fn write_merged<'a, F: MergeFiles>(
 /// files, twice; and writes the files of the merge. It hands out how many fields of files change.
 ///
 /// Each inventory is read when its host's turn comes, piece by piece. Nothing is written before the
-/// hosts are merged; then the files of an earlier merge are cleared away, and passwd, group, map,
-/// certificate, the plan of each host, each host's own passwd and group with their new numbers and
-/// the report are written, in this order. It stops early where a call on the files fails, where an
-/// inventory has more than 4,294,967,295 bytes, at the first fault of what is read, where an
-/// inventory has changed when it is read the second time (`Fault::InventoryChanged`), or where a
-/// growth is refused (`Fault::Memory`); no file was begun then but the first of these, and no
-/// report.
+/// hosts are merged; then the files of an earlier merge are cleared away, and these are written, in
+/// this order: passwd and group, unless a name of the hosts is kept; map, certificate, the plan of
+/// each host, each host's own passwd and group with their new numbers, and the report. It stops
+/// early where a call on the files fails, where an inventory has more than 4,294,967,295 bytes, at
+/// the first fault of what is read, where an inventory has changed when it is read the second time
+/// (`Fault::InventoryChanged`), or where a growth is refused (`Fault::Memory`); no file was begun
+/// then but the first of these, and no report.
 ///
 /// Two passes over each inventory, with two look-ups by hash for each file; the rest is near linear
 /// in the names and account rows, but for the solver, which is near linear where few numbers are
@@ -128,7 +149,8 @@ pub fn merge_files<'a, F: MergeFiles>(
         (StopsMerge hosts.now pins.now (F.ledger files.old) (F.ledger files.new)
         (F.has_failed files.new)) }
     ensures begun { OnErr result
-        (HasBegun (names_before_report hosts.now) (F.ledger files.old) (F.ledger files.new)) }
+        (HasBegun (names_before_report (keeps_in hosts.now pins.now) hosts.now)
+        (F.ledger files.old) (F.ledger files.new)) }
 {
     let mut solved = solve_hosts(alloc, files, hosts, pins)?;
     write_merged(alloc, files, &mut solved, hosts)

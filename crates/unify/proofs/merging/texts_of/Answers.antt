@@ -5,6 +5,7 @@ use Rattle.ownership.specs.Costs.{cost_of}
 use Rattle.ownership.specs.Mappings.{Mappings}
 use Rattle.mergedfiles.specs.Texts.{merged_users, merged_groups}
 use Rattle.unify_texts.specs.Report.{report_of}
+use Rattle.unify_texts.specs.ReservedLines.{keeps_a_name}
 use Rattle.unify_texts.specs.WrittenMap.{map_text}
 use Rattle.unify.specs.declared.counting.Cost.{Cost}
 use Rattle.unify.specs.declared.outcome.Outcome.{Outcome}
@@ -31,6 +32,9 @@ returns c = λ whole holds.
         group =
             ap (λ (o : Outcome). o.group) changes ∙ ap (λ (o : Outcome). o.group) numbers ∙ ap (λ (o : Outcome). o.group) accounts
             ∙ ap (λ hs. merged_groups hs c.args.site.now m.groups) hosts ∙ ap (λ s. merged_groups (hosts_in whole) s m.groups) joined;
+        keeps =
+            ap (λ (o : Outcome). o.keeps_names) changes ∙ ap (λ (o : Outcome). o.keeps_names) numbers ∙ ap (λ (o : Outcome). o.keeps_names) accounts
+            ∙ ap keeps_a_name joined;
         map_is = ap (λ (o : Outcome). o.map) changes ∙ ap (λ (o : Outcome). o.map) numbers ∙ ap (λ s. map_text s m) joined;
         certificate = ap (λ (o : Outcome). o.certificate) changes ∙ ap (λ (o : Outcome). o.certificate) numbers;
         report =

@@ -1,8 +1,8 @@
-use Rattle.std.proofs.Common.{ap}
+use Rattle.std.proofs.Common.{ap, subst}
 use Rattle.unify_merge.specs.Ledger.{HasBegun, Ledger}
-use Rattle.unify_merge.specs.Merge.{names_before_report}
+use Rattle.unify_merge.specs.Merge.{keeps_in, names_before_report}
 use Rattle.unify_merge.proofs.Begun.{begun_from, on_err_goes}
-use Rattle.unify_merge.proofs.WholeMerge.{has_merged, if_ok, written_stopped}
+use Rattle.unify_merge.proofs.WholeMerge.{has_merged, if_ok, keeps_as_begun, written_stopped}
 use Rattle.unify_merge.proofs.Readings.{if_err}
 use Rattle.unify_merge.proofs.merge.merge_files.Goals as goal
 
@@ -23,8 +23,15 @@ returns-clause-stopped g c =
 
 pub returns-clause-begun : goal.returns-clause-begun
 returns-clause-begun g c =
-    let names = names_before_report c.args.hosts.now in
+    let texts = c.args.hosts.now in
+    let pins = c.args.pins.now in
+    let s = c.in_ok-solved.solved in
+    let names = names_before_report s.merged.outcome.keeps_names texts in
+    let all = names_before_report (keeps_in texts pins) texts in
     let old = g.F.ReadFiles.ledger c.args.files.now in
     let mid = g.F.ReadFiles.ledger c.solve_hosts.new.files in
     let new = g.F.ReadFiles.ledger c.write_merged.new.files in
-    on_err_goes c.write_merged.result (HasBegun names mid new) (HasBegun names old new) (begun_from names old mid new (ap (λ (l : Ledger). l.begun) c.in_ok-solved.ensures.reads)) c.write_merged.ensures.begun
+    let keeps = keeps_as_begun texts pins old mid s c.in_ok-solved.ensures.solved in
+    on_err_goes c.write_merged.result (HasBegun names mid new) (HasBegun all old new)
+    (λ begun. subst (λ k. HasBegun (names_before_report k texts) old new) keeps (begun_from names old mid new (ap (λ (l : Ledger). l.begun) c.in_ok-solved.ensures.reads) begun))
+    c.write_merged.ensures.begun

@@ -1,5 +1,6 @@
 use Rattle.std.proofs.Common.{◌≡◌, ◌++◌, ◌∷◌, [], length, map, sym, ap, subst, ◌∙◌, append_assoc}
 use Rattle.std.proofs.lemmas.Result.{err_from_is_err_and}
+use Rattle.unify.specs.declared.outcome.Outcome.{Outcome}
 use Rattle.unify.specs.Merging.{mappings_in}
 use Rattle.unify.specs.SecondPass.{SolvedValue}
 use Rattle.unify_merge.specs.Ledger.{HasBegun, Ledger, after_files, cleared}
@@ -8,7 +9,7 @@ use Rattle.unify_merge.specs.HostFiles.{HasFiles, host_names}
 use Rattle.unify_merge.specs.Merge.{first_files, first_names, names_before_report, report_file}
 use Rattle.unify_merge.specs.FirstReading.{readings_from}
 use Rattle.unify_merge.specs.SecondReading.{plan_name}
-use Rattle.unify_merge.proofs.Begun.{begun_all, begun_behind, begun_from, begun_front, on_err}
+use Rattle.unify_merge.proofs.Begun.{begun_all, begun_behind, begun_from, begun_front, first_begun, on_err}
 use Rattle.unify_merge.proofs.WholeMerge.{merged_all, planning_same, writing_stopped}
 use Rattle.unify_merge.proofs.merge.write_merged.Goals as goal
 
@@ -57,45 +58,51 @@ returns-clause-written g c = λ read was.
 pub returns-in_err-write_first-clause-begun : goal.returns-in_err-write_first-clause-begun
 returns-in_err-write_first-clause-begun g c =
     let texts = c.args.hosts.now in
+    let keeps = c.args.solved.now.merged.outcome.keeps_names in
     let old = g.F.ReadFiles.ledger c.args.files.now in
     let mid = g.F.ReadFiles.ledger c.clear.new.self in
     let new = g.F.ReadFiles.ledger c.write_first.new.files in
-    on_err c.from_residual-in_err-write_first.result (HasBegun (names_before_report texts) old new)
-    (begun_from (names_before_report texts) old mid new (ap (λ (l : Ledger). l.begun) c.in_ok-clear.ensures.clear) (begun_front first_names (map plan_name texts ++ host_names texts) mid new c.in_err-write_first.ensures.begun))
+    let first = subst (λ (o : Outcome). HasBegun (first_names o.keeps_names) mid new) c.outcome.ensures c.in_err-write_first.ensures.begun in
+    on_err c.from_residual-in_err-write_first.result (HasBegun (names_before_report keeps texts) old new)
+    (begun_from (names_before_report keeps texts) old mid new (ap (λ (l : Ledger). l.begun) c.in_ok-clear.ensures.clear) (begun_front (first_names keeps) (map plan_name texts ++ host_names texts) mid new first))
 
 pub returns-in_err-plan_hosts-clause-begun : goal.returns-in_err-plan_hosts-clause-begun
 returns-in_err-plan_hosts-clause-begun g c =
     let texts = c.args.hosts.now in
+    let keeps = c.args.solved.now.merged.outcome.keeps_names in
     let plans = map plan_name texts in
     let old = g.F.ReadFiles.ledger c.args.files.now in
     let mid = g.F.ReadFiles.ledger c.write_first.new.files in
     let new = g.F.ReadFiles.ledger c.plan_hosts.new.files in
-    let begun = ap (λ (l : Ledger). l.begun) c.in_ok-write_first.ensures.written ∙ ap (λ (l : Ledger). l.begun ++ first_names) c.in_ok-clear.ensures.clear in
-    on_err c.from_residual-in_err-plan_hosts.result (HasBegun (names_before_report texts) old new)
-    (begun_behind first_names (plans ++ host_names texts) old mid new begun (begun_front plans (host_names texts) mid new c.in_err-plan_hosts.ensures.begun))
+    let begun = first_begun c.args.solved.now.merged.outcome c.outcome.result.now old (g.F.ReadFiles.ledger c.clear.new.self) mid c.outcome.ensures c.in_ok-clear.ensures.clear c.in_ok-write_first.ensures.written in
+    on_err c.from_residual-in_err-plan_hosts.result (HasBegun (names_before_report keeps texts) old new)
+    (begun_behind (first_names keeps) (plans ++ host_names texts) old mid new begun (begun_front plans (host_names texts) mid new c.in_err-plan_hosts.ensures.begun))
 
 pub returns-in_err-write_hosts-clause-begun : goal.returns-in_err-write_hosts-clause-begun
 returns-in_err-write_hosts-clause-begun g c =
     let texts = c.args.hosts.now in
+    let keeps = c.args.solved.now.merged.outcome.keeps_names in
     let plans = map plan_name texts in
     let old = g.F.ReadFiles.ledger c.args.files.now in
     let first = g.F.ReadFiles.ledger c.write_first.new.files in
     let mid = g.F.ReadFiles.ledger c.plan_hosts.new.files in
     let new = g.F.ReadFiles.ledger c.write_hosts.new.files in
-    let begun = ap (λ (l : Ledger). l.begun) c.in_ok-write_first.ensures.written ∙ ap (λ (l : Ledger). l.begun ++ first_names) c.in_ok-clear.ensures.clear in
-    on_err c.from_residual-in_err-write_hosts.result (HasBegun (names_before_report texts) old new)
-    (begun_behind first_names (plans ++ host_names texts) old first new begun (begun_behind plans (host_names texts) first mid new c.in_ok-plan_hosts.ensures.begun c.in_err-write_hosts.ensures.begun))
+    let begun = first_begun c.args.solved.now.merged.outcome c.outcome.result.now old (g.F.ReadFiles.ledger c.clear.new.self) first c.outcome.ensures c.in_ok-clear.ensures.clear c.in_ok-write_first.ensures.written in
+    on_err c.from_residual-in_err-write_hosts.result (HasBegun (names_before_report keeps texts) old new)
+    (begun_behind (first_names keeps) (plans ++ host_names texts) old first new begun (begun_behind plans (host_names texts) first mid new c.in_ok-plan_hosts.ensures.begun c.in_err-write_hosts.ensures.begun))
 
 pub returns-in_err-seal-clause-begun : goal.returns-in_err-seal-clause-begun
 returns-in_err-seal-clause-begun g c =
     let texts = c.args.hosts.now in
+    let keeps = c.args.solved.now.merged.outcome.keeps_names in
     let hosts = host_names texts in
     let plans = map plan_name texts in
     let old = g.F.ReadFiles.ledger c.args.files.now in
+    let first = g.F.ReadFiles.ledger c.write_first.new.files in
     let new = g.F.ReadFiles.ledger c.seal.new.self in
-    let begun = ap (λ (l : Ledger). l.begun) c.in_ok-write_first.ensures.written ∙ ap (λ (l : Ledger). l.begun ++ first_names) c.in_ok-clear.ensures.clear in
+    let begun = first_begun c.args.solved.now.merged.outcome c.outcome.result.now old (g.F.ReadFiles.ledger c.clear.new.self) first c.outcome.ensures c.in_ok-clear.ensures.clear c.in_ok-write_first.ensures.written in
     let planned = c.in_ok-plan_hosts.ensures.begun ∙ ap (λ ns. ns ++ plans) begun in
     let own = c.in_ok-write_hosts.ensures.begun ∙ ap (λ ns. ns ++ hosts) planned in
-    let all = own ∙ append_assoc (old.begun ++ first_names) plans hosts ∙ append_assoc old.begun first_names (plans ++ hosts) in
-    on_err c.from_residual-in_err-seal.result (HasBegun (names_before_report texts) old new)
-    (begun_all (names_before_report texts) old new (ap (λ (l : Ledger). l.begun) c.in_err-seal.ensures.none ∙ all))
+    let all = own ∙ append_assoc (old.begun ++ first_names keeps) plans hosts ∙ append_assoc old.begun (first_names keeps) (plans ++ hosts) in
+    on_err c.from_residual-in_err-seal.result (HasBegun (names_before_report keeps texts) old new)
+    (begun_all (names_before_report keeps texts) old new (ap (λ (l : Ledger). l.begun) c.in_err-seal.ensures.none ∙ all))
