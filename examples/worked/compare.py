@@ -341,6 +341,7 @@ def compare_kept(program, name, site):
     files = re.findall(r"^file (\S+)$", answer, re.M)[:5]
     first = [] if users.kept_names or groups.kept_names else ["passwd", "group"]
     want(f"{name}, its files", [*first, "map", "certificate", "report"], files[: len(first) + 3])
+    want(f"{name}, by words", merged_by_bundle(0, answer), merged_by_words(program, Bundle(site.bundle())))
     map_text = re.search(r"^file map\n(?:\|.*\n)*", answer, re.M).group()
     count = "run count\n" + map_text + site.bundle().partition("\n")[2]
     told = "".join(f"{kind.name}-fields {kind.least()[0]}\n" for kind in (users, groups))

@@ -33,12 +33,12 @@ def bytes_of(text):
 
 
 class Bundle:
-    """The texts of a bundle before its hosts, the pins text among them, if it has one, and its hosts with their files."""
+    """The texts of a bundle before its hosts, a pins text and a keep text among them, if it has them, and its hosts with their
+    files."""
 
     def __init__(self, text):
         head, hosts = sections(text.split("\n")[1:-1], "host")
         self.texts = texts_of(head)
-        self.pins = self.texts.get("pins")
         self.hosts = [(name, texts_of(lines)) for name, lines in hosts]
 
     def is_for_words(self):
@@ -48,9 +48,10 @@ class Bundle:
     def lay_out(self, room):
         """Writes the files into a directory for each host, and hands out the words that name them in the room."""
         words = []
-        if self.pins is not None:
-            (room / "pins").write_bytes(bytes_of(self.pins))
-            words = ["--pins", "pins"]
+        for name in ("pins", "keep"):
+            if name in self.texts:
+                (room / name).write_bytes(bytes_of(self.texts[name]))
+                words += [f"--{name}", name]
         words.append("out")
         (room / "out").mkdir()
         for index, (name, texts) in enumerate(self.hosts):
@@ -86,13 +87,18 @@ def accounts_in(text):
 
 
 def own_files(texts, users, groups):
-    """A host's own passwd and group with the numbers of a map, given by name."""
+    """A host's own passwd and group with the numbers of a map, given by name; a name that the map has not keeps its number."""
     named = {int(fields[2]): fields[0] for _, fields in reversed([*accounts_in(texts.get("group", ""))]) if fields}
     passwd, group = [], []
     for line, fields in accounts_in(texts.get("passwd", "")):
-        passwd.append(":".join([*fields[:2], users[fields[0]], groups[named[int(fields[3])]], *fields[4:]]) if fields else line)
+        if fields:
+            name, _, uid, gid = fields[:4]
+            fields[2:4] = users.get(name, uid), groups.get(named[int(gid)], gid)
+        passwd.append(":".join(fields) if fields else line)
     for line, fields in accounts_in(texts.get("group", "")):
-        group.append(":".join([*fields[:2], groups[fields[0]], *fields[3:]]) if fields else line)
+        if fields:
+            fields[2] = groups.get(fields[0], fields[2])
+        group.append(":".join(fields) if fields else line)
     return "\n".join(passwd), "\n".join(group)
 
 
