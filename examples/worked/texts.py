@@ -157,7 +157,6 @@ def read_by_words(program, inventory):
 def without_last_newlines(text):
     """A bundle each of whose texts ends without a newline, as only those by words can."""
     bundle = Bundle(text)
-    for name, text in bundle.texts.items():
-        bundle.texts[name] = text.removesuffix("\n")
+    bundle.texts = {name: it.removesuffix("\n") for name, it in bundle.texts.items()}
     bundle.hosts = [(name, {file: it.removesuffix("\n") for file, it in texts.items()}) for name, texts in bundle.hosts]
     return bundle
