@@ -33,12 +33,12 @@ def bytes_of(text):
 
 
 class Bundle:
-    """The texts of a bundle before its hosts, the pins text among them, if it has one, and its hosts with their files."""
+    """The texts of a bundle before its hosts, a pins text and a keep text among them, if it has them, and its hosts with their files."""
 
     def __init__(self, text):
         head, hosts = sections(text.split("\n")[1:-1], "host")
         self.texts = texts_of(head)
-        self.pins = self.texts.get("pins")
+        self.pins, self.keep = self.texts.get("pins"), self.texts.get("keep")
         self.hosts = [(name, texts_of(lines)) for name, lines in hosts]
 
     def is_for_words(self):
@@ -48,9 +48,10 @@ class Bundle:
     def lay_out(self, room):
         """Writes the files into a directory for each host, and hands out the words that name them in the room."""
         words = []
-        if self.pins is not None:
-            (room / "pins").write_bytes(bytes_of(self.pins))
-            words = ["--pins", "pins"]
+        for option, text in (("pins", self.pins), ("keep", self.keep)):
+            if text is not None:
+                (room / option).write_bytes(bytes_of(text))
+                words += [f"--{option}", option]
         words.append("out")
         (room / "out").mkdir()
         for index, (name, texts) in enumerate(self.hosts):
