@@ -26,7 +26,7 @@ TRY = ["rt", "try", "--steps", "1"]
 # How many words name files before those that name hosts; -o stands for the first.
 FILES_FIRST = {"merge": 1, "check": 1, "count": 1, "rehearse": 2, "apply": 2, "verify": 2, "inventory": sys.maxsize}
 # How many words behind an option name files.
-FILES_BEHIND = {"--pins": 1, "--output": 1, "-o": 1, "--mark": 1, "--was": 2, "--now": 2}
+FILES_BEHIND = {"--pins": 1, "--keep": 1, "--output": 1, "-o": 1, "--mark": 1, "--was": 2, "--now": 2}
 
 
 def run_cases(cases):

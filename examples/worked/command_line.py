@@ -24,6 +24,7 @@ TEXTS = {
     "pins": "user bob 1005\n",
     "bad": "no line of any text\n",
     "cut-pins": "user bob 1005",
+    "cut-keep": "users 0 999",
     "cut-map": (STORED / "map").read_text().rstrip("\n"),
     "near-pins": "user alcie 1006\nuser bobby 1007\ngroup user 7\ngroup usres 8\n",
     "other-pins": "group wheel 7\n\nuser bob 1005\nuser carol\tx 1006\n",
@@ -32,6 +33,7 @@ NOTHING_COUNTED = "user-fields 0\ngroup-fields 0\n"
 BARE = "".join(f"unify: warning: host b has no {what}\n" for what in ("users", "groups", "files"))
 RETURNS = "".join(f"unify: warning: host a has lines in {file} that end in a carriage return\n" for file in ("passwd", "group"))
 CUT = "unify: warning: file cut-pins has no newline at its end\n"
+CUT_KEEP = CUT.replace("pins", "keep")
 TAKEN = "unify: warning: numbers of users that were another user's on some host: 1\n"
 NOBODY = "unify: warning: pin of {} is for a name that no host has{}\n".format
 ALICE = "alice:x:1001:100:{}:/home/alice:/bin/sh\n".format
@@ -81,6 +83,10 @@ WRITTEN = {
     "lost": HEAD + BOBS.splitlines(True)[0] + END,
     "cut-before": HEAD + HEAD + BOBS + END,
 }
+# A file that no user of b owns, what is told of it, and what is told behind that to whoever looks on.
+UNOWNED = {"unowned": "./file uid=7 gid=100\n"}
+UNOWNED_TOLD = "unify: 25 UnownedUid host b uid 7 file\n"
+MAY_STAY = "unify: accounts and numbers that may differ from host to host can be left as they are: --keep FILE\n"
 WAS_CUT = "unify: 45 CutInventory host b mtree line {}\n".format
 # Hosts that are a without a file, and one whose passwd is refused and that has no inventory.
 LACKING = {"lacks-passwd": "passwd", "lacks-group": "group", "lacks-mtree": "mtree", "refused": "mtree"}
@@ -130,9 +136,9 @@ TABLE = [
         ("unify", "count", "merge", "check", "rehearse", "inventory", "apply", "verify", "--help", "--version"),
         "",
     ),
-    ("count --help", 0, ("MAP", "HOST"), ""),
-    ("merge --help", 0, ("--pins", "--output", "--quiet", "OUT", "HOST"), ""),
-    ("check --help", 0, ("--pins", "CERTIFICATE", "HOST"), ""),
+    ("count --help", 0, ("--keep", "MAP", "HOST"), ""),
+    ("merge --help", 0, ("--pins", "--keep", "--output", "--quiet", "OUT", "HOST"), ""),
+    ("check --help", 0, ("--pins", "--keep", "CERTIFICATE", "HOST"), ""),
     ("rehearse --help", 0, ("PLAN", "MTREE"), ""),
     ("inventory --help", 0, ("ROOT", "-x", "--one-file-system"), ""),
     ("apply --help", 0, ("--check", "--reverse", "--mark", "--host", "--quiet", "--progress", "PLAN", "ROOT"), ""),
@@ -152,6 +158,8 @@ TABLE = [
     ("merge", 2, "", ("OUT", "HOST")),
     ("merge out", 2, "", ("HOST",)),
     ("merge out a b --pins", 2, "", ("--pins",)),
+    ("merge out a b --keep", 2, "", ("--keep",)),
+    ("rehearse --keep pins plan b/mtree", 2, "", ("--keep",)),
     ("merge -o", 2, "", ("--output",)),
     ("merge -o out", 2, "", "unify: no HOST\n"),
     ("check", 2, "", ("CERTIFICATE", "HOST")),
@@ -284,6 +292,8 @@ TABLE = [
     ("count map a=returns b", 0, COUNTED, RETURNS),
     ("count -q map a=returns b", 0, COUNTED, ""),
     ("count cut-map a b", 0, COUNTED, "unify: warning: file cut-map has no newline at its end\n"),
+    ("count --keep cut-keep map a b", 0, COUNTED, CUT_KEEP),
+    ("count -q --keep cut-keep map a b", 0, COUNTED, ""),
     ("count map a b=bare", 1, "", BARE + "unify: 40 BadMap line 0\n"),
     ("count --quiet map a b=bare", 1, "", "unify: 40 BadMap line 0\n"),
     ("merge out a=returns b", 0, COUNTED, RETURNS + TAKEN),
@@ -291,6 +301,7 @@ TABLE = [
     ("merge -q out a b=bare", 0, NOTHING_COUNTED, ""),
     ("merge --pins cut-pins out a b", 0, COUNTED, CUT + TAKEN),
     ("merge --pins cut-pins --quiet out a b", 0, COUNTED, ""),
+    ("merge --keep cut-keep --pins cut-pins out a b", 0, COUNTED, CUT + CUT_KEEP + TAKEN),
     (
         "merge --pins other-pins out a b",
         0,
@@ -339,12 +350,17 @@ TABLE = [
     ("merge -q out a=again b=again", 0, NOTHING_COUNTED, ""),
     ("check --pins cut-pins good a=returns b", 4, "", CUT + RETURNS + "unify: 32 PinBroken user bob\n"),
     ("check -q --pins cut-pins good a=returns b", 4, "", "unify: 32 PinBroken user bob\n"),
+    ("check --keep cut-keep good a=returns b", 0, "accepted 2\n", CUT_KEEP + RETURNS),
     # Refused texts, and certificates that are rejected.
     ("count bad a b", 1, "", "unify: 40 BadMap line 1\n"),
     ("count map a", 1, "", "unify: 40 BadMap line 0\n"),
     ("count map a=a a=b", 1, "", "unify: 19 HostTwice a\n"),
+    ("count map a b=unowned", 1, "", UNOWNED_TOLD),
     ("count map .a=a", 1, "", "unify: 18 BadHostName .a\n"),
     ("merge --pins bad out a b", 1, "", "unify: 43 BadPins line 1\n"),
+    ("merge --pins bad --keep bad out a b", 1, "", "unify: 46 BadKeep line 1\n"),
+    ("check --keep bad good a b", 1, "", "unify: 46 BadKeep line 1\n"),
+    ("count --keep bad bad a b", 1, "", "unify: 46 BadKeep line 1\n"),
     ("merge out refused", 1, "", "unify: 1 BadFields host refused passwd line 1\n"),
     ("check bad a b", 1, "", "unify: 28 BadCertificate line 1\n"),
     ("check --pins pins good a b", 4, "", "unify: 32 PinBroken user bob\n"),
@@ -371,6 +387,9 @@ TABLE = [
     ("check none a b", 3, "", "unify: file none: No such file or directory\n"),
     ("check --pins none good a b", 3, "", "unify: file none: No such file or directory\n"),
     ("merge --pins none out a b", 3, "", "unify: file none: No such file or directory\n"),
+    ("count --keep none map a b", 3, "", "unify: file none: No such file or directory\n"),
+    ("check --keep none good a b", 3, "", "unify: file none: No such file or directory\n"),
+    ("merge --keep none out a b", 3, "", "unify: file none: No such file or directory\n"),
     ("merge out lacks-mtree", 3, "", "unify: file lacks-mtree/mtree: No such file or directory\n"),
     ("count map a=dangling b", 3, "", "unify: file dangling/login.defs: No such file or directory\n"),
     ("count a a b", 3, "", "unify: file a: Is a directory\n"),
@@ -388,8 +407,14 @@ TABLE = [
     ("check none --pins later x", 3, "", "unify: file none: No such file or directory\n"),
     ("check --pins later none x", 3, "", "unify: file none: No such file or directory\n"),
     ("check bad x --pins none", 3, "", "unify: file none: No such file or directory\n"),
+    ("check bad x --keep later --pins none", 3, "", "unify: file none: No such file or directory\n"),
+    ("check bad x --pins bad --keep none", 3, "", "unify: file none: No such file or directory\n"),
+    ("count none x --keep later", 3, "", "unify: file none: No such file or directory\n"),
+    ("count bad x --keep none", 3, "", "unify: file none: No such file or directory\n"),
     ("check --pins bad bad x", 3, "", "unify: file x/passwd: No such file or directory\n"),
     ("merge out y --pins none", 3, "", "unify: file none: No such file or directory\n"),
+    ("merge out y --keep later --pins none", 3, "", "unify: file none: No such file or directory\n"),
+    ("merge out y --pins bad --keep none", 3, "", "unify: file none: No such file or directory\n"),
     ("merge out a y", 3, "", "unify: file y/passwd: No such file or directory\n"),
     ("merge out lacks-mtree lacks-passwd", 3, "", "unify: file lacks-passwd/passwd: No such file or directory\n"),
     ("merge out .a=lacks-mtree", 1, "", "unify: 18 BadHostName .a\n"),
@@ -402,6 +427,15 @@ TABLE = [
     ("merge b a b", 2, "", "unify: output b: the directory of host b\n"),
     ("rehearse none later", 3, "", "unify: file none: No such file or directory\n"),
     ("rehearse bad none", 3, "", "unify: file none: No such file or directory\n"),
+]
+# Words, the exit status, and what is told where standard error is a terminal.
+LOOKED_AT = [
+    ("count map a b=unowned", 1, UNOWNED_TOLD + MAY_STAY),
+    ("count -q map a b=unowned", 1, UNOWNED_TOLD),
+    ("check good a b=unowned", 1, UNOWNED_TOLD + MAY_STAY),
+    ("merge out a b=unowned", 1, UNOWNED_TOLD + MAY_STAY),
+    ("merge -q out a b=unowned", 1, UNOWNED_TOLD),
+    ("count map a", 1, "unify: 40 BadMap line 0\n"),
 ]
 # Words that have an answer for standard output, which is full.
 UNWRITTEN = [
@@ -436,7 +470,7 @@ def lay_out(room):
         (room / host).mkdir()
         for file, text in zip(("passwd", "group", "mtree"), (*tables, "./file uid=1001 gid=100\n")):
             (room / host / file).write_text(text)
-    for host, mtree in WRITTEN.items():
+    for host, mtree in (WRITTEN | UNOWNED).items():
         shutil.copytree(STORED / "b", room / host)
         (room / host / "mtree").write_text(mtree)
     shutil.copytree(room / "web", room / "again")
@@ -491,6 +525,19 @@ def on_terminal(program):
     return came.returncode, came.stdout.decode(), came.stderr.decode()
 
 
+def told_on_terminal(program, words):
+    """The status for some words, and what is told where standard error is a terminal."""
+    ours, theirs = os.openpty()
+    with tempfile.TemporaryDirectory() as name, open(ours, "rb", buffering=0) as screen:
+        room = pathlib.Path(name)
+        lay_out(room)
+        (room / "out").mkdir()
+        with open(theirs, "wb") as err:
+            came = subprocess.run([program, *words.split()], cwd=room, stdin=subprocess.DEVNULL, stdout=err, stderr=err, timeout=120)
+            told = screen.read(65536)
+    return came.returncode, told.decode("latin-1").replace("\r\n", "\n")
+
+
 def command_lines(program):
     """For each line of words: a name, what is wanted, and what came."""
     stored = (STORED.parents[1] / "crates/unify_cli/stdout").read_text()
@@ -501,6 +548,8 @@ def command_lines(program):
         merged = status == 0 and isinstance(words, str) and words.startswith("merge") and "--help" not in words
         wanted = status, out, err, MERGED if merged else set()
         yield f"unify {words}", wanted, (came, agreed(out, came_out), agreed(err, came_err), written)
+    for words, status, told in LOOKED_AT:
+        yield f"unify {words}, on a terminal", (status, told), told_on_terminal(program, words)
     for words in UNWRITTEN:
         with open("/dev/full", "wb") as full:
             came = in_new_room(program, words, full)

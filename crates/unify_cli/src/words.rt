@@ -12,8 +12,8 @@ use unify::{Cost, Reply, accepted_reply, cost_reply, refused, rehearse_reply};
 use unify_apply::run_apply;
 use unify_io::{
     FileFault, SeenHosts, command_line, file_fault_told, memory_refused, no_host, open_output,
-    print_answer, read_file, read_hosts_tables, see_hosts, warn_of_end, warn_of_hosts_tables,
-    warn_of_merge, warn_of_seen, write_failed, wrong_words,
+    print_answer, read_file, read_hosts_tables, read_named, see_hosts, tell_of_keep, warn_of_end,
+    warn_of_hosts_tables, warn_of_merge, warn_of_seen, write_failed, wrong_words,
 };
 use unify_merge::{MergeFault, check_files, count_files, merge_files};
 use unify_texts::Fault;
@@ -36,41 +36,42 @@ fn print_accepted(rt: &HostRuntime, sum: u64) -> Result<u8, FileFault> {
     Ok(print_reply(rt, &reply))
 }
 
-// Prints why what was read is refused.
-fn print_refused(rt: &HostRuntime, fault: &Fault<'_>) -> Result<u8, FileFault> {
+// Prints why what was read is refused. Unless it is to be quiet it tells of keep texts, where one
+// may help and somebody looks on.
+fn print_refused(rt: &HostRuntime, fault: &Fault<'_>, is_quiet: bool) -> Result<u8, FileFault> {
     let reply = refused(rt.alloc(), fault)?;
-    Ok(print_reply(rt, &reply))
-}
-
-// The pins text, empty where none is named.
-fn read_pins(rt: &HostRuntime, matches: &ArgMatches<'_>) -> Result<ByteString, FileFault> {
-    match matches.get_str("pins") {
-        Some(path) => read_file(rt, path),
-        None => Ok(ByteString::new(rt.alloc())),
+    let status = print_reply(rt, &reply);
+    if !is_quiet {
+        tell_of_keep(rt, fault);
     }
+    Ok(status)
 }
 
-// Warns of a text that may have been cut, and of what was seen of hosts.
-fn warn_of_texts(
+// Warns of texts that may have been cut: of one, and of the keep text.
+fn warn_of_ends(
     rt: &HostRuntime,
+    matches: &ArgMatches<'_>,
     path: &str,
     text: &ByteString,
-    seen: &SeenHosts,
+    keep: &ByteString,
 ) -> Result<(), AllocError> {
     warn_of_end(rt, path, text)?;
-    warn_of_seen(rt, seen)
+    warn_of_end(rt, matches.get_str("keep").unwrap_or(""), keep)
 }
 
-// Looks at the hosts that words name, and warns of them and of a text, unless it is to be quiet.
+// Looks at the hosts that words name, and warns of them, of a text and of the keep text, unless it
+// is to be quiet.
 fn see_named(
     rt: &HostRuntime,
     matches: &ArgMatches<'_>,
     path: &str,
     text: &ByteString,
+    keep: &ByteString,
 ) -> Result<SeenHosts, FileFault> {
     let seen = see_hosts(rt, matches.get_strs("HOST").unwrap_or(&[]))?;
     if !matches.get_flag("quiet") {
-        warn_of_texts(rt, path, text, &seen)?;
+        warn_of_ends(rt, matches, path, text, keep)?;
+        warn_of_seen(rt, &seen)?;
     }
     Ok(seen)
 }
@@ -81,9 +82,10 @@ fn reading_refused(
     rt: &HostRuntime,
     files: &HostFiles<'_>,
     fault: &MergeFault<'_>,
+    is_quiet: bool,
 ) -> Result<u8, FileFault> {
     match fault {
-        MergeFault::Refused(fault) => print_refused(rt, fault),
+        MergeFault::Refused(fault) => print_refused(rt, fault, is_quiet),
         MergeFault::TooLarge => Err(files.too_large()),
         MergeFault::Failed => Err(files.fault()),
     }
@@ -95,31 +97,33 @@ fn count_by(
     files: &mut HostFiles<'_>,
     hosts: &[HostText],
     map: &ByteString,
+    is_quiet: bool,
 ) -> Result<u8, FileFault> {
     match count_files(rt.alloc(), files, hosts, map.bytes()) {
         Ok(cost) => print_cost(rt, cost),
-        Err(fault) => reading_refused(rt, files, &fault),
+        Err(fault) => reading_refused(rt, files, &fault, is_quiet),
     }
 }
 
 // Counts by a map of the hosts that words name.
-fn count_text(
+fn count_texts(
     rt: &HostRuntime,
     matches: &ArgMatches<'_>,
-    path: &str,
     map: &ByteString,
+    keep: &ByteString,
 ) -> Result<u8, FileFault> {
-    let seen = see_named(rt, matches, path, map)?;
+    let path = matches.get_str("MAP").unwrap_or("");
+    let seen = see_named(rt, matches, path, map, keep)?;
     let words = matches.get_strs("HOST").unwrap_or(&[]);
     let mut files = HostFiles::new(rt, words);
-    count_by(rt, &mut files, &seen.hosts, map)
+    count_by(rt, &mut files, &seen.hosts, map, matches.get_flag("quiet"))
 }
 
-// count [--quiet] MAP HOST...
+// count [--quiet] [--keep FILE] MAP HOST...
 fn run_count(rt: &HostRuntime, matches: &ArgMatches<'_>) -> Result<u8, FileFault> {
-    let path = matches.get_str("MAP").unwrap_or("");
-    let map = read_file(rt, path)?;
-    count_text(rt, matches, path, &map)
+    let map = read_file(rt, matches.get_str("MAP").unwrap_or(""))?;
+    let keep = read_named(rt, matches, "keep")?;
+    count_texts(rt, matches, &map, &keep)
 }
 
 // Prints what a check of a certificate of hosts with these files gives.
@@ -129,10 +133,11 @@ fn check_by(
     hosts: &[HostText],
     certificate: &ByteString,
     pins: &ByteString,
+    is_quiet: bool,
 ) -> Result<u8, FileFault> {
     match check_files(rt.alloc(), files, hosts, pins.bytes(), certificate.bytes()) {
         Ok(sum) => print_accepted(rt, sum),
-        Err(fault) => reading_refused(rt, files, &fault),
+        Err(fault) => reading_refused(rt, files, &fault, is_quiet),
     }
 }
 
@@ -142,19 +147,22 @@ fn check_texts(
     matches: &ArgMatches<'_>,
     certificate: &ByteString,
     pins: &ByteString,
+    keep: &ByteString,
 ) -> Result<u8, FileFault> {
     let path = matches.get_str("pins").unwrap_or("");
-    let seen = see_named(rt, matches, path, pins)?;
+    let seen = see_named(rt, matches, path, pins, keep)?;
     let words = matches.get_strs("HOST").unwrap_or(&[]);
     let mut files = HostFiles::new(rt, words);
-    check_by(rt, &mut files, &seen.hosts, certificate, pins)
+    let is_quiet = matches.get_flag("quiet");
+    check_by(rt, &mut files, &seen.hosts, certificate, pins, is_quiet)
 }
 
-// check [--quiet] [--pins FILE] CERTIFICATE HOST...
+// check [--quiet] [--pins FILE] [--keep FILE] CERTIFICATE HOST...
 fn run_check(rt: &HostRuntime, matches: &ArgMatches<'_>) -> Result<u8, FileFault> {
     let certificate = read_file(rt, matches.get_str("CERTIFICATE").unwrap_or(""))?;
-    let pins = read_pins(rt, matches)?;
-    check_texts(rt, matches, &certificate, &pins)
+    let pins = read_named(rt, matches, "pins")?;
+    let keep = read_named(rt, matches, "keep")?;
+    check_texts(rt, matches, &certificate, &pins, &keep)
 }
 
 // Prints what a rehearsal of a plan on an inventory gives.
@@ -195,9 +203,10 @@ fn merge_words_into(
     directory: &str,
     words: &[&str],
 ) -> Result<u8, FileFault> {
-    let pins = read_pins(rt, matches)?;
+    let pins = read_named(rt, matches, "pins")?;
+    let keep = read_named(rt, matches, "keep")?;
     let hosts = read_hosts_tables(rt, words)?;
-    merge_texts(rt, matches, directory, words, &hosts, &pins)
+    merge_texts(rt, matches, directory, words, &hosts, &pins, &keep)
 }
 
 // Prints why a merge ended early.
@@ -205,10 +214,11 @@ fn merge_refused(
     rt: &HostRuntime,
     files: &SiteFiles<'_>,
     fault: &MergeFault<'_>,
+    is_quiet: bool,
 ) -> Result<u8, FileFault> {
     files.discard();
     match fault {
-        MergeFault::Refused(fault) => print_refused(rt, fault),
+        MergeFault::Refused(fault) => print_refused(rt, fault, is_quiet),
         MergeFault::TooLarge => Err(files.too_large()),
         MergeFault::Failed => Err(files.fault()),
     }
@@ -220,8 +230,10 @@ fn warn_before(
     matches: &ArgMatches<'_>,
     hosts: &[HostText],
     pins: &ByteString,
+    keep: &ByteString,
 ) -> Result<(), AllocError> {
-    warn_of_end(rt, matches.get_str("pins").unwrap_or(""), pins)?;
+    let path = matches.get_str("pins").unwrap_or("");
+    warn_of_ends(rt, matches, path, pins, keep)?;
     warn_of_hosts_tables(rt, hosts)
 }
 
@@ -237,7 +249,7 @@ fn merge_by(
 ) -> Result<u8, FileFault> {
     let cost = match merge_files(rt.alloc(), files, hosts, pins.bytes()) {
         Ok(cost) => cost,
-        Err(fault) => return merge_refused(rt, files, &fault),
+        Err(fault) => return merge_refused(rt, files, &fault, is_quiet),
     };
     if !is_quiet {
         warn_of_merge(rt, hosts, directory, pins.bytes(), files.file_lines())?;
@@ -253,10 +265,11 @@ fn merge_texts(
     words: &[&str],
     hosts: &[HostText],
     pins: &ByteString,
+    keep: &ByteString,
 ) -> Result<u8, FileFault> {
     let is_quiet = matches.get_flag("quiet");
     if !is_quiet {
-        warn_before(rt, matches, hosts, pins)?;
+        warn_before(rt, matches, hosts, pins, keep)?;
     }
     let mut files = SiteFiles::new(rt, directory, words, is_quiet);
     merge_by(rt, &mut files, directory, hosts, pins, is_quiet)
@@ -286,8 +299,8 @@ fn merge_into_named(
     merge_into(rt, matches, directory, &words)
 }
 
-// merge [--quiet] [--pins FILE] OUT HOST..., or the same with -o OUT HOST..., where the first word
-// is that of a host too.
+// merge [--quiet] [--pins FILE] [--keep FILE] OUT HOST..., or the same with -o OUT HOST..., where
+// the first word is that of a host too.
 fn run_merge(rt: &HostRuntime, matches: &ArgMatches<'_>) -> Result<u8, FileFault> {
     let Some(first) = matches.get_str("OUT") else {
         return Err(no_host(rt));

@@ -83,6 +83,14 @@ const PINS: Argument = Argument {
     ..FLAG
 };
 
+// --keep FILE
+const KEEP: Argument = Argument {
+    name: "keep",
+    form: Form::Value("FILE"),
+    help: "names and ranges of numbers that stay as they are on each host",
+    ..FLAG
+};
+
 // HOST..., one or more.
 const HOSTS: Argument = Argument {
     name: "HOST",
@@ -92,13 +100,14 @@ const HOSTS: Argument = Argument {
     ..WORD
 };
 
-// count [--quiet] MAP HOST...
+// count [--quiet] [--keep FILE] MAP HOST...
 const COUNT: Subcommand = Subcommand {
     name: "count",
     about: "Counts the owner and group fields of files that a map would change",
     usage: None,
     arguments: &[
         QUIET,
+        KEEP,
         Argument {
             name: "MAP",
             help: "the map: a line for each user and each group, as merge writes it",
@@ -108,17 +117,18 @@ const COUNT: Subcommand = Subcommand {
     ],
 };
 
-// merge [--quiet] [--pins FILE] OUT HOST..., or the same with -o OUT HOST...
+// merge [--quiet] [--pins FILE] [--keep FILE] OUT HOST..., or the same with -o OUT HOST...
 const MERGE: Subcommand = Subcommand {
     name: "merge",
     about: "Merges the accounts of hosts so that as few owner and group fields as possible change",
     usage: Some(
-        "unify merge [--quiet] [--pins FILE] OUT HOST...\n       \
-        unify merge [--quiet] [--pins FILE] -o DIR HOST...",
+        "unify merge [--quiet] [--pins FILE] [--keep FILE] OUT HOST...\n       \
+        unify merge [--quiet] [--pins FILE] [--keep FILE] -o DIR HOST...",
     ),
     arguments: &[
         QUIET,
         PINS,
+        KEEP,
         Argument {
             name: "output",
             form: Form::Value("DIR"),
@@ -139,7 +149,7 @@ const MERGE: Subcommand = Subcommand {
     ],
 };
 
-// check [--quiet] [--pins FILE] CERTIFICATE HOST...
+// check [--quiet] [--pins FILE] [--keep FILE] CERTIFICATE HOST...
 const CHECK: Subcommand = Subcommand {
     name: "check",
     about: "Checks that no map changes fewer owner and group fields than that of a certificate",
@@ -147,6 +157,7 @@ const CHECK: Subcommand = Subcommand {
     arguments: &[
         QUIET,
         PINS,
+        KEEP,
         Argument {
             name: "CERTIFICATE",
             help: "the certificate of a map",

@@ -4,6 +4,7 @@ ghost use Rattle.std.specs.Prelude.{◌≡◌, length, IfOk};
 
 use crate::inventory::look_through;
 use crate::report::file_failed;
+use clap::ArgMatches;
 use hosts_join::HostText;
 use idtext::ByteString;
 use std::alloc::{AllocError, AllocFailed};
@@ -65,6 +66,19 @@ pub fn read_file(rt: &HostRuntime, path: &str) -> Result<ByteString, FileFault> 
         return Err(file_failed(rt, path, &too_large()));
     }
     Ok(ByteString::from_vec(bytes))
+}
+
+/// The text of the file that an option names, as `pins` or `keep`; the empty text where it is
+/// absent.
+pub fn read_named(
+    rt: &HostRuntime,
+    matches: &ArgMatches<'_>,
+    option: &str,
+) -> Result<ByteString, FileFault> {
+    match matches.get_str(option) {
+        Some(path) => read_file(rt, path),
+        None => Ok(ByteString::new(rt.alloc())),
+    }
 }
 
 /// The text of a file in a directory.

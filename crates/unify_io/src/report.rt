@@ -7,7 +7,8 @@ use clap::Error;
 use idtext::push_escaped;
 use std::alloc::AllocError;
 use std::io;
-use std::io::Write;
+use std::io::{IsTerminal, Write};
+use unify_texts::Fault;
 
 /// A growth was refused before a bundle was read; what is told of a bundle stands on standard
 /// output.
@@ -160,6 +161,27 @@ pub fn output_refused(rt: &HostRuntime, directory: &str, fault: OutputFault<'_>)
         return FileFault::Memory;
     }
     tell_of(rt, "output", directory.as_bytes(), &said_of(fault), 2)
+}
+
+// Whether a refusal is of accounts or numbers that a keep text can leave as they are.
+fn is_of_what_may_stay(fault: &Fault<'_>) -> bool {
+    matches!(
+        fault,
+        Fault::PinDisagrees { .. }
+            | Fault::PinClash { .. }
+            | Fault::UnownedUid { .. }
+            | Fault::UnownedGid { .. }
+    )
+}
+
+/// Tells of keep texts behind a refusal that one may take away, where standard error is a terminal.
+pub fn tell_of_keep(rt: &HostRuntime, fault: &Fault<'_>) {
+    if is_of_what_may_stay(fault) && rt.stderr().is_terminal() {
+        let _ = rt.eprintln(
+            "unify: accounts and numbers that may differ from host to host \
+            can be left as they are: --keep FILE",
+        );
+    }
 }
 
 /// No word names a host.

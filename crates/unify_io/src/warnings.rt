@@ -175,7 +175,7 @@ pub fn warn_of_seen(rt: &HostRuntime, seen: &SeenHosts) -> Result<(), AllocError
     warn_of_each_empty(rt, &seen.hosts, &seen.have_files)
 }
 
-/// Warns of a map or a pins text that may have been cut.
+/// Warns of a map, a pins text or a keep text that may have been cut.
 pub fn warn_of_end(rt: &HostRuntime, path: &str, text: &ByteString) -> Result<(), AllocError> {
     if text.bytes().is_empty() || text.bytes().ends_with(b"\n") {
         return Ok(());
