@@ -5,9 +5,10 @@
 
 Makes a tree in a new folder below DIR: regular files, links, pipes, sockets, directories, files with the set-user-ID and
 set-group-ID bit, hard links, and names with spaces, newlines and letters beyond ASCII. The plan exchanges two owners. The program
-is killed with SIGKILL after random times and started again until it ends; after each kill every file has to be at its old or
-its new owner. Then the same with --reverse, and what has to be refused. With strace it is also killed between the change of an
-owner, which clears the set-user-ID and set-group-ID bit, and the call that sets the mode back, and these bits are counted.
+is killed with SIGKILL after random times and started again until it ends; after each kill every file has to be at its old or its
+new owner. Then the same with --reverse, and what has to be refused, a name that is not UTF-8 too. With strace it is also killed
+between the change of an owner, which clears the set-user-ID and set-group-ID bit, and the call that sets the mode back, and these
+bits are counted.
 Ends with status 1 where anything was otherwise.
 """
 import argparse
@@ -238,6 +239,27 @@ class Bench:
         good = came.returncode == status and told in came.stderr and came.stdout == "" and seen(self.root, self.owners)[0] == before
         say(f"{what}: status {came.returncode}, {came.stderr.strip()}", good)
 
+    def no_text(self):
+        """Plans with a name that is not UTF-8, as the last name of a path and on the way: they are refused before anything is
+        written, and so they are by --check and --reverse. The file is there, at its old owner."""
+        whole, folder = self.plan.read_bytes(), os.fsencode(self.root) + b"/d\xff"
+        os.mkdir(folder)
+        for path, told in ((b"d\xff/file", r"d\377/file"), (b"d0/o\xffd d", r"d0/o\377d\040d")):
+            file = os.fsencode(self.root) + b"/" + path
+            open(file, "w").close()
+            os.lchown(file, *ONE)
+            record = b"%d %d %d %d %d %s\n" % (*ONE, *OTHER, len(path), path)
+            self.plan.write_bytes(whole.removesuffix(b"end\n") + record + b"end\n")
+            for flags in ((), ("--check",), ("--reverse",)):
+                what = " ".join(["a name that is not UTF-8", *flags])
+                self.refused(what, flags, 1, f"unify: file {told}: a name that is not UTF-8\n")
+                found, marks = os.lstat(file), [mark.name for mark in self.room.glob("plan?*")]
+                good = (found.st_uid, found.st_gid) == ONE and not marks
+                say(f"  its owner as before: {(found.st_uid, found.st_gid) == ONE}, written beside the plan: {marks}", good)
+            os.unlink(file)
+        os.rmdir(folder)
+        self.plan.write_bytes(whole)
+
     def refusals(self):
         """What is refused with nothing changed; all files are at their old owners before."""
         path = next(path for path in self.owners if "regular" in path)
@@ -291,6 +313,7 @@ def main():
         bench = Bench(str(pathlib.Path(args.program).resolve()), room, owners, "bench-host")
         print(f"{len(owners)} planned files")
         bench.refusals()
+        bench.no_text()
         took = bench.seconds()
         if shutil.which("strace"):
             bench.foreign_modes()

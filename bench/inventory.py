@@ -1,19 +1,20 @@
 #!/usr/bin/env python3
 """Which names come back from the inventories that `unify inventory` writes: every byte that is a text by itself, and letters of two,
-three and four bytes, in the five places of escapes.py, in a folder and as the name of a folder.
+three and four bytes, in the five places of escapes.py, in a folder and as the name of a folder; and what the first line tells.
 
     bench/inventory.py [PROGRAM]
 
 PROGRAM is what `make program` built, if none is named. A path is right if the plan of a merge has it, and os.walk too. Then it
-tells what `unify verify` finds of the inventory and the tree, and what is said of names that are no text, and lists /usr, which it
+tells what `unify verify` finds of the inventory and the tree, and what is said of names that are not UTF-8, and lists /usr, which it
 times.
 """
 import os
 import pathlib
+import re
 import subprocess
 import sys
 
-from escapes import PLACES, fresh, read_back
+from escapes import ESCAPE, PLACES, byte_of, fresh, read_back
 from measure import HERE, UNIFY, timed
 
 LETTERS = [bytes([byte]) for byte in range(1, 128) if byte != ord("/")] + [letter.encode() for letter in "é\u0085\u2028漢\U0001f600"]
@@ -42,6 +43,14 @@ def paths_below(folder, root):
     return found
 
 
+def parted(text):
+    """The host and the roots that the first line of an inventory tells, and all lines behind it. The time, which is between the
+    two, has to have its form."""
+    head, _, lines = text.partition(b"\n")
+    host, _, roots = re.fullmatch(rb"# unify inventory 1 (\S*) (\d{4}-\d\d-\d\dT\d\d:\d\d:\d\dZ) (.*)", head).groups()
+    return ESCAPE.sub(byte_of, host), [ESCAPE.sub(byte_of, root) for root in roots.split(b" ")], lines
+
+
 def verify(program, room, listed, tree):
     """What the program tells of an inventory and the tree that is there."""
     (room / "listed").write_bytes(listed)
@@ -60,12 +69,14 @@ def main():
     there = {root + path[len(b"tree") :] for path in paths_below(folder, b"tree")}
     came, refused = read_back(program, room, listed.stdout)
     print(f"{len(there)} paths: {len(there & came)} right, {refused} refused, {len(came - there)} other paths, {len(listed.stderr)} bytes told")
+    host, roots, lines = parted(listed.stdout)
+    print(f"first line: this host {host == os.fsencode(os.uname().nodename)}, the root as it was named {roots == [os.fsencode(tree)]}")
     verified = verify(program, room, listed.stdout, tree)
     print(f"verified with the tree: status {verified.returncode}, {', '.join(verified.stdout.splitlines())}")
     for name in NO_TEXT:
         open(os.fsencode(tree) + b"/folders/" + name, "w").close()
     again = subprocess.run(words, capture_output=True)
-    print(f"{len(NO_TEXT)} names that are no text: status {again.returncode}, the same files {again.stdout == listed.stdout}, told:")
+    print(f"{len(NO_TEXT)} names that are not UTF-8: status {again.returncode}, the same files {parted(again.stdout)[2] == lines}, told:")
     print(again.stderr.decode().replace(str(tree), "TREE"), end="")
     seconds, mebibytes, text = timed([program, "inventory", "-x", "/usr"])
     print(f"/usr: {text.splitlines()[-1]}, {seconds:.2f} s, {mebibytes:.0f} MiB")

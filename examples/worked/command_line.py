@@ -4,9 +4,11 @@ The words name files of a room, a folder that is made for them: the hosts a and 
 and the texts and hosts below."""
 import os
 import pathlib
+import re
 import shutil
 import subprocess
 import tempfile
+import time
 
 STORED = pathlib.Path(__file__).resolve().parents[1] / "stored-count"
 COUNTED = "user-fields 2\ngroup-fields 0\n"
@@ -60,7 +62,13 @@ OWN_TEXTS = {
     "own-group": f"mine:x:{os.getgid()}:\n",
     "other-passwd": f"other:x:{os.getuid()}:{os.getgid()}::/:/bin/sh\nme:x:4000000001:{os.getgid()}::/:/bin/sh\n",
 }
-MACHINE = f"# unify inventory 1 {os.uname().nodename}\n"
+# The first line of an inventory of this machine, with a word for the time when it was made.
+TIME = "YYYY-MM-DDTHH:MM:SSZ"
+MACHINE = f"# unify inventory 1 {os.uname().nodename} {TIME} {{}}\n".format
+MADE = re.compile(r"(# unify inventory 1 \S+ )(\d{4}-\d\d-\d\dT\d\d:\d\d:\d\dZ) ")
+# A root with which that line is as long as a line of an inventory may be, and roots that are too long together.
+LONG = "x" * (65536 - len(MACHINE("")))
+ROOTS = [f"{number:0100}" for number in range(700)]
 TREE_LINES = (
     f"./tree type=dir {OWNED}\n./tree/new\\012line type=dir {OWNED}\n"
     f"./tree/new\\012line/a\\040b\\134#\\303\\251\\134 type=file {OWNED}\n"
@@ -75,7 +83,8 @@ COMMENTS = "unify: warning: user {} has another comment on host {} than on {}\n"
 AGAIN = "# of alice\n./file uid=1001 gid=100\n/set uid=1001 gid=100\n\n  ./file \\\n  type=file\n. type=dir\nfile\n..\nother\n"
 # The files of b in inventories that unify writes: whole, two one behind the other, cut behind a line, with a line lost, and cut
 # before another.
-HEAD, BOBS, END = "# unify inventory 1 b\n", "./bob1 type=file uid=1001 gid=100\n./bob2 type=file uid=1001 gid=100\n", "# end 2\n"
+HEAD = "# unify inventory 1 b 2026-01-02T03:04:05Z /\n"
+BOBS, END = "./bob1 type=file uid=1001 gid=100\n./bob2 type=file uid=1001 gid=100\n", "# end 2\n"
 WRITTEN = {
     "whole": HEAD + BOBS + END,
     "joined": HEAD + "# end 0\n" + HEAD + BOBS + END,
@@ -114,7 +123,7 @@ VERIFY_OTHER = "verify --was own-passwd own-group --now other-passwd own-group {
 SEEN = "before {}\nafter {}\nmissing {}\nforeign {}\nset-id {}\nlinked {}\nmounts 0\n".format
 FOUND = "kept {}\nmissing {}\nchanged {}\nnew {}\nunnamed {}\nleft {}\n".format
 # Inventories of the files of the room: as they are; with a file that is gone, and without one that has come; and of the folder
-# with a name that is no text.
+# with a name that is not UTF-8.
 VERIFIED |= OWN_TEXTS | {
     "tree-before": TREE_LINES,
     "tree-once": TREE_LINES.splitlines(True)[0] + f"./tree/gone {OWNED}\n./tree/other uid=4000000001 gid=4000000001\n",
@@ -196,28 +205,31 @@ TABLE = [
     ("merge -q out a b=joined", 0, COUNTED, ""),
     ("rehearse plan whole/mtree", 0, "records 2\ndone\n", ""),
     # Inventories of files of the room. What cannot be listed is told, and the rest is written.
-    ("inventory tree", 0, MACHINE + TREE_LINES + "# end 3\n", ""),
-    ("inventory -x linked/. ./tree//", 0, MACHINE + LINKED_LINES + TREE_LINES + "# end 5\n", ""),
-    ("inventory --one-file-system linked", 0, MACHINE + LINKED_LINES + "# end 2\n", ""),
+    ("inventory tree", 0, MACHINE("tree") + TREE_LINES + "# end 3\n", ""),
+    ("inventory -x linked/. ./tree//", 0, MACHINE("linked/. ./tree//") + LINKED_LINES + TREE_LINES + "# end 5\n", ""),
+    ("inventory --one-file-system linked", 0, MACHINE("linked") + LINKED_LINES + "# end 2\n", ""),
     (
         ["inventory", "linked/to nothing", "tree"],
         3,
-        MACHINE + TREE_LINES + "# end 3\n",
+        MACHINE("linked/to\\040nothing tree") + TREE_LINES + "# end 3\n",
         "unify: file linked/to\\040nothing: not a directory\n",
     ),
-    ("inventory none tree", 3, MACHINE + TREE_LINES + "# end 3\n", "unify: file none: No such file or directory\n"),
-    ("inventory map", 3, MACHINE + "# end 0\n", "unify: file map: not a directory\n"),
+    ("inventory none tree", 3, MACHINE("none tree") + TREE_LINES + "# end 3\n", "unify: file none: No such file or directory\n"),
+    ("inventory map", 3, MACHINE("map") + "# end 0\n", "unify: file map: not a directory\n"),
     (
         "inventory odd-name linked",
         3,
-        MACHINE + f"./odd-name type=dir {OWNED}\n" + LINKED_LINES + "# end 3\n",
-        "unify: file odd-name: a name in it is not text\n",
+        MACHINE("odd-name linked") + f"./odd-name type=dir {OWNED}\n" + LINKED_LINES + "# end 3\n",
+        "unify: file odd-name: a name in it is not UTF-8\n",
     ),
+    (["inventory", LONG], 3, MACHINE(LONG) + "# end 0\n", f"unify: file {LONG}: File name too long\n"),
+    (["inventory", LONG + "x"], 2, "", f"unify: root {LONG}x: the roots are too long for a line\n"),
+    (["inventory", *ROOTS], 2, "", f"unify: root {ROOTS[-1]}: the roots are too long for a line\n"),
     ("inventory tree linked/../tree", 2, "", "unify: root linked/../tree: a part of it is ..\n"),
     (["inventory", "tree", ""], 2, "", "unify: root -: an empty word\n"),
     ("inventory tree linked ./tree/none", 2, "", "unify: root ./tree/none: it lies in tree\n"),
     ("inventory linked . tree", 2, "", "unify: root linked: it lies in .\n"),
-    ("inventory tree treehouse", 3, MACHINE + TREE_LINES + "# end 3\n", "unify: file treehouse: No such file or directory\n"),
+    ("inventory tree treehouse", 3, MACHINE("tree treehouse") + TREE_LINES + "# end 3\n", "unify: file treehouse: No such file or directory\n"),
     ("apply --check -q own-plan .", 0, SEEN(1, 1, 0, 0, 0, 0), ""),
     ("apply --check -q near-plan .", 0, SEEN(1, 0, 0, 0, 0, 0), ""),
     ("apply --check -q --reverse near-plan .", 0, SEEN(0, 1, 0, 0, 0, 0), ""),
@@ -277,7 +289,7 @@ TABLE = [
         VERIFY_OWN("odd-before", "odd-name"),
         3,
         FOUND(1, 1, 0, 0, 0, 0),
-        "unify: file odd-name: a name in it is not text\nunify: missing odd-name/gone\n",
+        "unify: file odd-name: a name in it is not UTF-8\nunify: missing odd-name/gone\n",
     ),
     (VERIFY_OWN("tree-before", "tree/../tree"), 2, "", "unify: root tree/../tree: a part of it is ..\n"),
     (VERIFY_OWN("tree-before", "to-tree"), 3, "", "unify: file to-tree: Is a directory\n"),
@@ -500,6 +512,17 @@ def ran(program, words, folder, out=subprocess.PIPE):
     return came.returncode, (came.stdout or b"").decode("latin-1"), came.stderr.decode("latin-1")
 
 
+def seconds_since(begun):
+    """The times that a clock told in UTC since a time, each second once."""
+    return [time.strftime("%Y-%m-%dT%H:%M:%SZ", time.gmtime(second)) for second in range(int(begun), int(time.time()) + 1)]
+
+
+def without_time(text, begun):
+    """A text, with a word for the time in the first line of an inventory that was made since a time."""
+    first = MADE.match(text)
+    return text[: first.start(2)] + TIME + text[first.end(2) :] if first and first[2] in seconds_since(begun) else text
+
+
 def agreed(wanted, came):
     """What came; or what was wanted, where that is what a text has to hold and it does."""
     return wanted if isinstance(wanted, tuple) and all(part in came for part in wanted) else came
@@ -511,7 +534,9 @@ def in_new_room(program, words, out=subprocess.PIPE):
         room = pathlib.Path(name)
         lay_out(room)
         (room / "out").mkdir()
-        return *ran(program, words, room, out), {path.name for path in (room / "out").iterdir()}
+        begun = time.time()
+        status, told, failed = ran(program, words, room, out)
+        return status, without_time(told, begun), failed, {path.name for path in (room / "out").iterdir()}
 
 
 def on_terminal(program):

@@ -75,7 +75,7 @@ def cut_inventories(program, room):
     texts = bundle_of("rehearse/swap-rehearsed").texts
     (room / "plan").write_text(texts["plan"])
     files = texts["mtree"].splitlines(True)
-    lines = ["# unify inventory 1 a\n", *files, f"# end {len(files)}\n"]
+    lines = ["# unify inventory 1 a 2026-01-02T03:04:05Z /\n", *files, f"# end {len(files)}\n"]
     fronts = ["".join(lines[:count]) for count in range(1, len(lines))]
     for front in [*fronts, fronts[-1] + "# end", fronts[-1] + "# end ", *(fronts[-1] + f"# end {it}\n" for it in ("", 5, 60, 606))]:
         (room / "mtree").write_text(front)

@@ -4,6 +4,7 @@
 //! and not proved.
 #![tactic(auto)]
 
+mod clock;
 mod listing;
 mod output;
 mod roots;

@@ -1,5 +1,6 @@
 //! The inventory as it goes to standard output.
 
+use crate::roots::NamedRoot;
 use crate::sink::FileSink;
 use idtext::MOST_BYTES;
 use inventory_text::{FileKind, push_end, push_entry, push_head};
@@ -43,10 +44,25 @@ impl<'r> Output<'r> {
         }
     }
 
-    /// Writes the first line.
-    pub fn head(&mut self, host: &[u8]) -> Result<(), FileFault> {
-        push_head(&mut self.line, host)?;
-        self.put_line()
+    /// Writes the first line, and says whether it could: not where it would have more bytes than a
+    /// line of an inventory may have.
+    pub fn head(
+        &mut self,
+        host: &[u8],
+        time: &[u8],
+        roots: &[NamedRoot<'_>],
+    ) -> Result<bool, FileFault> {
+        let mut words = Vec::new(self.rt.alloc());
+        for root in roots {
+            words.push(root.word.as_bytes())?;
+        }
+        push_head(&mut self.line, host, time, &words)?;
+        if self.line.len() > MOST_BYTES + 1 {
+            self.line.clear();
+            return Ok(false);
+        }
+        self.put_line()?;
+        Ok(true)
     }
 
     /// Writes the last line, and all that is still to be written.

@@ -1,8 +1,10 @@
 //! The command.
 
+use crate::clock::time_text;
 use crate::listing::list_files;
 use crate::output::Output;
-use crate::roots::named_roots;
+use crate::roots::{NamedRoot, named_roots};
+use crate::telling::{RootFault, root_refused};
 use clap::ArgMatches;
 use unify_io::{FileFault, read_file};
 
@@ -17,13 +19,30 @@ fn first_line(text: &[u8]) -> &[u8] {
     }
 }
 
+// Writes the first line. Roots that do not fit into it are refused.
+fn write_head(
+    rt: &HostRuntime,
+    output: &mut Output<'_>,
+    roots: &[NamedRoot<'_>],
+) -> Result<(), FileFault> {
+    let host = read_file(rt, HOST_NAME)?;
+    let time = time_text(rt)?;
+    if output.head(first_line(host.bytes()), time.as_bytes(), roots)? {
+        return Ok(());
+    }
+    let word = match roots.last() {
+        Some(root) => root.word,
+        None => "",
+    };
+    Err(root_refused(rt, word, RootFault::TooLong))
+}
+
 /// Writes the inventory of the files below each ROOT to standard output, and hands out the exit
 /// status: 3 where something was left out, which is told on standard error.
 pub fn run_inventory(rt: &HostRuntime, matches: &ArgMatches<'_>) -> Result<u8, FileFault> {
     let roots = named_roots(rt, matches.get_strs("ROOT").unwrap_or(&[]))?;
-    let host = read_file(rt, HOST_NAME)?;
     let mut output = Output::new(rt)?;
-    output.head(first_line(host.bytes()))?;
+    write_head(rt, &mut output, &roots)?;
     let stays = matches.get_flag("one-file-system");
     let is_whole = list_files(rt, &roots, stays, &mut output)?;
     output.end()?;

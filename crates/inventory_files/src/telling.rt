@@ -27,6 +27,8 @@ pub enum RootFault<'a> {
     HasDotDot,
     /// It lies in this other one, or is the same.
     Inside(&'a str),
+    /// With the roots before it, it does not fit into the first line of an inventory.
+    TooLong,
 }
 
 // What is said of trouble.
@@ -36,7 +38,7 @@ fn said_of(trouble: Trouble) -> Said<'static> {
             Some(number) => return Said::System(number),
             None => "it cannot be had",
         },
-        Trouble::NotText => "a name in it is not text",
+        Trouble::NotText => "a name in it is not UTF-8",
         Trouble::NotDirectory => "not a directory",
         Trouble::Exchanged => "exchanged while it was opened",
         Trouble::TooLong => "the path is too long",
@@ -62,6 +64,7 @@ pub fn root_refused(rt: &HostRuntime, root: &str, fault: RootFault<'_>) -> FileF
         RootFault::Empty => ("an empty word", ""),
         RootFault::HasDotDot => ("a part of it is ..", ""),
         RootFault::Inside(other) => ("it lies in ", other),
+        RootFault::TooLong => ("the roots are too long for a line", ""),
     };
     let parts = [Said::Text(text), Said::Name(other.as_bytes())];
     tell_of(rt, "root", root.as_bytes(), &parts, 2)

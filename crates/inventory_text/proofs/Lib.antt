@@ -1,4 +1,5 @@
 pub mod Escaped
 pub mod Visible
 pub mod Entries
+pub mod Heads
 pub mod Texts

@@ -10,7 +10,6 @@ use Rattle.std.proofs.lemmas.List.Elements.{All-head, All-tail, All-nil, All-con
 use Rattle.std.proofs.lemmas.List.Splits.{slice_split_at}
 use Rattle.std.proofs.lemmas.List.Sums.{sum_by-append, sum_by-cons}
 use Rattle.std.proofs.lemmas.Slice.Eq.{bytes_eq-Decides}
-use Rattle.idtext.specs.Escapes.{escaped}
 use Rattle.idtext.specs.Faults.{line_number}
 use Rattle.idtext.specs.First.{first_fault, or_else, unless, ◌>>=◌}
 use Rattle.idtext.specs.Numbers.{greatest_id, id_of}
@@ -31,11 +30,12 @@ use Rattle.mtree_inv.specs.Whole.{files_given, is_beginning, is_cut, is_ended, i
 use Rattle.mtree_inv.proofs.EndLemmas.{ended-newlines}
 use Rattle.mtree_inv.proofs.FileLemmas.{after_said, files_of-snoc}
 use Rattle.mtree_inv.proofs.RunLemmas.{kinds-snoc}
-use Rattle.inventory_text.specs.Writing.{ended, end_line, gid_word, head_line, name_word, spaced, type_word, uid_word}
+use Rattle.inventory_text.specs.Writing.{Head, ended, end_line, gid_word, head_line, name_word, spaced, type_word, uid_word, words_text}
 use Rattle.inventory_text.specs.Listed.{Listed, IsListed, cut_text, entries_text, files_of, inventory_text, line_of}
 use Rattle.inventory_text.specs.ReadBack.{CutInventoriesAreRefused, InventoriesReadBack}
+use Rattle.inventory_text.proofs.Heads.{words-end, words-printed}
 use Rattle.inventory_text.proofs.Entries.{entry-named, keywords, kind-visible, line-kind}
-use Rattle.inventory_text.proofs.Visible.{decimal-end, decimal-short, decimal-visible, ends-append, ends-either, ends-escaped, escaped-visible, is_printed, is_visible, printed-append, visible-printed}
+use Rattle.inventory_text.proofs.Visible.{decimal-end, decimal-short, decimal-visible, ends-append, ends-either, escaped-visible, is_printed, is_visible, printed-append, visible-printed}
 
 -- ---- a line by itself
 
@@ -55,12 +55,14 @@ short-kind : (line : List ℕ) (kind : Kind) → kind_of_text line ≡ kind → 
 unfolding kind_of
 short-kind line kind is short number = ap (λ (long : Bool). cond long TooLong (kind_of_text line)) (le-ltb most_bytes (length line) short) ∙ is
 
-head-reads : (host : List ℕ) → length (head_line host) ≤ most_bytes → Reads (head_line host) Begins
-head-reads host short = record {
-  printed = printed-append (codes "# unify inventory 1 ") (escaped host) refl (visible-printed (escaped host) (escaped-visible host));
-  ends = ends-either (codes "# unify inventory 1 ") (escaped host) refl (ends-escaped host);
-  kind_is = short-kind (head_line host) Begins refl short;
-}
+head-reads : (head : Head) → length (head_line head) ≤ most_bytes → Reads (head_line head) Begins
+head-reads head short =
+    let words : List (List ℕ) = head.host ∷ head.time ∷ head.roots in
+    record {
+      printed = printed-append (codes "# unify inventory 1") (words_text words) refl (words-printed words);
+      ends = ends-either (codes "# unify inventory 1") (words_text words) refl (words-end words);
+      kind_is = short-kind (head_line head) Begins refl short;
+    }
 
 end-says : (count : ℕ) → count < 2 ^ 64 → Says (end_line count) (Counts (decimal count)) None
 end-says count small = record {
@@ -364,15 +366,15 @@ is-ended listed few =
 
 pub text-back : InventoriesReadBack
 unfolding inventory
-text-back most host listed are few small short =
+text-back most head listed are few small short =
     let items : List Item = entry_items listed (end_item listed ∷ []) in
-    let whole : List Item = record { line = head_line host; kind = Begins; said = None } ∷ items in
-    let first = head-reads host short in
+    let whole : List Item = record { line = head_line head; kind = Begins; said = None } ∷ items in
+    let first = head-reads head short in
     let all : AllSay items = entries-say listed (end_item listed ∷ []) are.each (end-says (length listed) (omega (arith, small)), tt) in
     let said : all_said items ≡ files_of listed = entries-said listed (end_item listed ∷ []) ∙ append-nil (files_of listed) in
-    let text : text_of whole ≡ inventory_text host listed = ap (λ (t : List ℕ). ended (head_line host) ++ t) (entries-text listed (end_item listed ∷ []) ∙ ap (λ (t : List ℕ). entries_text listed ++ t) (append-nil (ended (end_line (length listed))))) in
-    let read = text-taken most (head_line host) items first all (subst HaveDistinctFiles (sym said) are.distinct) (omega (arith, few, ap length said, files-count listed)) in
-    let ended_there : is_cut (kinds (logical_lines (text_of whole))) ≡ false = cut-is (head_line host) items first all ∙ ap not (is-ended listed small) in
+    let text : text_of whole ≡ inventory_text head listed = ap (λ (t : List ℕ). ended (head_line head) ++ t) (entries-text listed (end_item listed ∷ []) ∙ ap (λ (t : List ℕ). entries_text listed ++ t) (append-nil (ended (end_line (length listed))))) in
+    let read = text-taken most (head_line head) items first all (subst HaveDistinctFiles (sym said) are.distinct) (omega (arith, few, ap length said, files-count listed)) in
+    let ended_there : is_cut (kinds (logical_lines (text_of whole))) ≡ false = cut-is (head_line head) items first all ∙ ap not (is-ended listed small) in
     ap (inventory most) (sym text)
     ∙ ap (λ (r : Result (List Entry) TextFault). r >>= λ files. unless (end_fault (text_of whole)) files) read
     ∙ ap (λ (b : Bool). unless (cond b (Some (record { code = CutInventory; line = line_number (length (ended_lines (text_of whole))) })) None) (all_said items)) ended_there
@@ -380,15 +382,15 @@ text-back most host listed are few small short =
 
 pub cut-refused : CutInventoriesAreRefused
 unfolding inventory
-cut-refused most host listed are few short =
+cut-refused most head listed are few short =
     let items : List Item = entry_items listed [] in
-    let whole : List Item = record { line = head_line host; kind = Begins; said = None } ∷ items in
-    let first = head-reads host short in
+    let whole : List Item = record { line = head_line head; kind = Begins; said = None } ∷ items in
+    let first = head-reads head short in
     let all : AllSay items = entries-say listed [] are.each tt in
     let said : all_said items ≡ files_of listed = entries-said listed [] ∙ append-nil (files_of listed) in
-    let text : text_of whole ≡ cut_text host listed = ap (λ (t : List ℕ). ended (head_line host) ++ t) (entries-text listed [] ∙ append-nil (entries_text listed)) in
-    let read = text-taken most (head_line host) items first all (subst HaveDistinctFiles (sym said) are.distinct) (omega (arith, few, ap length said, files-count listed)) in
-    let cut : is_cut (kinds (logical_lines (text_of whole))) ≡ true = cut-is (head_line host) items first all ∙ ap (λ (o : Option ℕ). not (is_number o (files_given (item_kinds items)))) (none-told listed) in
+    let text : text_of whole ≡ cut_text head listed = ap (λ (t : List ℕ). ended (head_line head) ++ t) (entries-text listed [] ∙ append-nil (entries_text listed)) in
+    let read = text-taken most (head_line head) items first all (subst HaveDistinctFiles (sym said) are.distinct) (omega (arith, few, ap length said, files-count listed)) in
+    let cut : is_cut (kinds (logical_lines (text_of whole))) ≡ true = cut-is (head_line head) items first all ∙ ap (λ (o : Option ℕ). not (is_number o (files_given (item_kinds items)))) (none-told listed) in
     let lines : length (ended_lines (text_of whole)) ≡ length listed + 1 = omega (arith, ended-newlines (text_of whole), text-newlines whole (first, all-read items all), entries-count listed []) in
     ap (inventory most) (sym text)
     ∙ ap (λ (r : Result (List Entry) TextFault). r >>= λ files. unless (end_fault (text_of whole)) files) read

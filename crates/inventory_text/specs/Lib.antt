@@ -1,3 +1,4 @@
 pub mod Writing
+pub mod Heads
 pub mod Listed
 pub mod ReadBack

@@ -8,7 +8,7 @@ use Rattle.mtree_inv.specs.declared.entry.Entry.{Entry}
 use Rattle.mtree_inv.specs.Files.{IsLawfulFile, HaveDistinctFiles}
 use Rattle.mtree_inv.specs.Paths.{is_bad_component, is_kept}
 use Rattle.inventory_text.specs.declared.kind.FileKind.{FileKind}
-use Rattle.inventory_text.specs.Writing.{ended, end_line, entry_line, head_line}
+use Rattle.inventory_text.specs.Writing.{Head, ended, end_line, entry_line, head_line}
 
 -- a file with its owner, and what it is
 pub record Listed : Type 0 where
@@ -25,13 +25,13 @@ abbrev pub entries_text : List Listed → List ℕ
 entries_text listed = flat_map (λ (l : Listed). ended (line_of l)) listed
 
 -- the inventory of a host's files
-abbrev pub inventory_text : List ℕ → List Listed → List ℕ
-inventory_text host listed =
-    ended (head_line host) ++ (entries_text listed ++ ended (end_line (length listed)))
+abbrev pub inventory_text : Head → List Listed → List ℕ
+inventory_text head listed =
+    ended (head_line head) ++ (entries_text listed ++ ended (end_line (length listed)))
 
 -- the same, cut behind these files: its last line lacks
-abbrev pub cut_text : List ℕ → List Listed → List ℕ
-cut_text host listed = ended (head_line host) ++ entries_text listed
+abbrev pub cut_text : Head → List Listed → List ℕ
+cut_text head listed = ended (head_line head) ++ entries_text listed
 
 -- a name of a path: not empty, neither `.` nor `..`, without a slash and a NUL byte
 pub record IsName (name : List ℕ) : Type 0 where

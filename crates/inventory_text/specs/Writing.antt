@@ -1,7 +1,7 @@
 -- How an inventory is written.
 -- Source: mtree(5), full entries, comments, and the keywords `type`, `uid` and `gid`; the first
 -- and the last line, and that each path begins with `./`, are this project's own form.
-use Rattle.std.specs.Prelude.{ℕ, List, [], ◌∷◌, ◌++◌, codes, decimal}
+use Rattle.std.specs.Prelude.{ℕ, List, [], ◌∷◌, ◌++◌, codes, decimal, flat_map}
 use Rattle.idtext.specs.Escapes.{escaped}
 use Rattle.inventory_text.specs.declared.kind.FileKind.{FileKind}
 use Rattle.inventory_text.specs.declared.kind.FileKind.TheVariants.{Block, Character, Directory}
@@ -39,9 +39,20 @@ abbrev pub entry_line : List ℕ → ℕ → ℕ → FileKind → List ℕ
 entry_line path uid gid kind =
     spaced (name_word path) (spaced (type_word kind) (spaced (uid_word uid) (gid_word gid)))
 
--- the first line, a comment that names the host
-abbrev pub head_line : List ℕ → List ℕ
-head_line host = codes "# unify inventory 1 " ++ escaped host
+-- what the first line tells: the host, when the inventory was begun, and the roots whose files it
+-- lists, as the command was given them
+pub record Head : Type 0 where
+  pub host : List ℕ
+  pub time : List ℕ
+  pub roots : List (List ℕ)
+
+-- words with a space in front of each, and each byte of them visible
+abbrev pub words_text : List (List ℕ) → List ℕ
+words_text words = flat_map (λ word. 32 ∷ escaped word) words
+
+-- the first line, a comment: the host, the time and the roots
+abbrev pub head_line : Head → List ℕ
+head_line head = codes "# unify inventory 1" ++ words_text (head.host ∷ head.time ∷ head.roots)
 
 -- the last line, a comment with the number of files
 abbrev pub end_line : ℕ → List ℕ

@@ -1,7 +1,13 @@
 //! Laws over what this crate writes, by the definitions by which inventories are read. The
 //! functions do nothing: what they ensure is known wherever one is called.
 ghost use Rattle.inventory_text.specs.ReadBack.{CutInventoriesAreRefused, EntriesReadBack};
-ghost use Rattle.inventory_text.specs.ReadBack.{InventoriesReadBack};
+ghost use Rattle.inventory_text.specs.ReadBack.{HeadsReadBack, InventoriesReadBack};
+
+/// The first line tells the host, the time and the roots that it was written for, whatever bytes
+/// they have.
+pub fn heads_read_back()
+    ensures { HeadsReadBack }
+{}
 
 /// The line of a file is read as an entry of this file, with its path and its owner's numbers,
 /// whatever lines stand before it.

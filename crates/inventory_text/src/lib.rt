@@ -3,11 +3,15 @@
 //! can have, whatever bytes its names are of. One that was cut between two lines is refused.
 #![tactic(auto)]
 
+mod head;
 mod kind;
 mod laws;
 mod parts;
 mod writing;
 
+pub use head::push_head;
 pub use kind::FileKind;
-pub use laws::{cut_inventories_are_refused, entries_read_back, inventories_read_back};
-pub use writing::{push_end, push_entry, push_head};
+pub use laws::{
+    cut_inventories_are_refused, entries_read_back, heads_read_back, inventories_read_back,
+};
+pub use writing::{push_end, push_entry};

@@ -1,25 +1,12 @@
-//! The lines of an inventory.
+//! The lines of an inventory behind its first one.
 ghost use Rattle.std.specs.Prelude.{◌≡◌, ◌++◌, is_ok, if◌then◌else◌};
-ghost use Rattle.inventory_text.specs.Writing.{ended, end_line, entry_line, head_line};
+ghost use Rattle.inventory_text.specs.Writing.{ended, end_line, entry_line};
 
 use crate::kind::FileKind;
 use crate::parts::push_with_escaped;
 use idtext::push_parts;
 use itoa::Buffer;
 use std::alloc::AllocError;
-
-/// Appends the first line of a host's inventory, a comment that names the host, with each byte of
-/// the name visible. One pass over the name.
-///
-/// # Errors
-///
-/// Where memory is refused; the text is then as it was.
-pub fn push_head(text: &mut Vec<u8>, host: &[u8]) -> Result<(), AllocError>
-    ensures { text.new.items
-        ≡ (if is_ok result then text.old.items ++ ended (head_line host.now) else text.old.items) }
-{
-    push_with_escaped(text, b"# unify inventory 1 ", host, &[b"\n".as_slice()])
-}
 
 /// Appends the line of a file: its path from the starting directory, any bytes, with each of them
 /// visible, and its kind and its owner's numbers.
