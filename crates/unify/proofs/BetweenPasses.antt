@@ -1,5 +1,5 @@
 -- From the end of a first pass to counters of all hosts, and to a second pass.
-use Rattle.std.proofs.Common.{◌≡◌, ℕ, zero, suc, true, length-append, length-take, ◌+◌, ◌*◌, ◌<◌, ◌≤◌, ◌==◌, List, [], ◌∷◌, ◌++◌, length, map, take, Some, Result, Ok, Err, refl, sym, ap, subst, ◌∙◌, arith}
+use Rattle.std.proofs.Common.{◌≡◌, ℕ, zero, suc, true, length-append, length-take, ◌+◌, ◌*◌, ◌≤◌, ◌==◌, List, [], ◌∷◌, ◌++◌, length, map, take, Some, Result, Ok, Err, refl, sym, ap, subst, ◌∙◌, arith}
 use Rattle.std.specs.Prelude.{IfOk}
 use Rattle.std.specs.declared.alloc.AllocError.{AllocError}
 use Rattle.std.specs.List.{All, slice_get}
@@ -12,7 +12,7 @@ use Rattle.hosts_join.specs.Hosts.{IsLawfulHost, SparesReserved}
 use Rattle.hosts_join.specs.Site.{Joined}
 use Rattle.hosts_join.specs.declared.host.Host.{Host}
 use Rattle.hosts_join.proofs.Refusals.{count_by-of-map}
-use Rattle.mergedfiles.specs.ReadBack.{WasRead}
+use Rattle.mergedfiles.specs.InPart.{WasReadInPart}
 use Rattle.mergedfiles.specs.Together.{AreJoined}
 use Rattle.mtree_inv.specs.declared.entry.Entry.{Entry}
 use Rattle.ownership.specs.Counts as counts
@@ -54,7 +54,7 @@ over_whole c joined ended whole over were =
     (λ k l at.
     let here = loaded_host c.hosts ended k l at in (
       all-at (λ (h : Host). is_host_name h.name ≡ true) c.hosts k l.host whole.named here,
-      all-at WasRead c.hosts k l.host whole.read here,
+      all-at WasReadInPart c.hosts k l.host whole.read here,
       all-at IsLawfulHost c.hosts k l.host whole.lawful here,
       all-at (SparesReserved joined) c.hosts k l.host whole.spares here,
       whole.known k l.host here,

@@ -1,10 +1,10 @@
 -- What was read is whole.
 use Rattle.std.proofs.Common.{◌≡◌, ℕ, zero, suc, ◌+◌, ◌≤◌, Bool, true, false, not, cond, List, [], ◌∷◌, ◌++◌, length, map, get_or, Option, Some, None, Result, Ok, Err, refl, sym, ap, subst, ◌∙◌, arith, inl, inr, ◌==◌, nat_lt}
 use Rattle.std.specs.List.{All, slice_get}
-use Rattle.std.specs.Option.{is_some, option_map}
+use Rattle.std.specs.Option.{option_map}
 use Rattle.std.proofs.lemmas.Bool.{cases_Bool, both_ways, and_from, false_from_ne_true, ltb-false}
 use Rattle.std.proofs.lemmas.List.{length-map}
-use Rattle.std.proofs.lemmas.List.Elements.{All-nil, All-cons, All-head, All-tail, All-append, All-map}
+use Rattle.std.proofs.lemmas.List.Elements.{All-nil, All-cons, All-head, All-tail, All-append, All-contains_itself, All-map, All-weaker}
 use Rattle.std.proofs.lemmas.Option.{slice_get-map, slice_get-get_or}
 use Rattle.idtext.specs.First.{each, first_fault}
 use Rattle.idtext.proofs.OkLemmas.{bind_ok, ok_same, unless_ok, length-each, each-ok}
@@ -18,7 +18,6 @@ use Rattle.mtree_inv.specs.declared.entry.Entry.{Entry}
 use Rattle.mtree_inv.proofs.LawfulLemmas.{inventory-files}
 use Rattle.hosts_join.specs.Checks.{hosts_checked, is_host_name, name_fault, primary_checked}
 use Rattle.hosts_join.specs.Hosts.{IsLawfulHost, SparesReserved}
-use Rattle.hosts_join.specs.Kinds.{user_at, group_at}
 use Rattle.hosts_join.specs.Laws.{KnowsHost}
 use Rattle.hosts_join.specs.PinPairs.{PinPairs}
 use Rattle.hosts_join.specs.PinsText.{pins_of}
@@ -27,6 +26,7 @@ use Rattle.hosts_join.specs.declared.host.Host.{Host}
 use Rattle.hosts_join.specs.declared.texts.HostText.{HostText}
 use Rattle.hosts_join.proofs.Knowing.{sites_know}
 use Rattle.hosts_join.proofs.SiteLemmas.{sites_are_lawful, pins_are_pins}
+use Rattle.mergedfiles.specs.InPart.{WasReadInPart}
 use Rattle.mergedfiles.specs.ReadBack.{WasRead}
 use Rattle.mergedfiles.specs.Together.{AreJoined}
 use Rattle.ownership.specs.Faults.{unowned}
@@ -35,7 +35,7 @@ use Rattle.unify_texts.specs.declared.bundle_line.FileName.TheVariants as file
 use Rattle.unify.specs.declared.host.Loaded.{Loaded}
 use Rattle.unify.specs.Count.{site_of}
 use Rattle.unify.specs.Hosts.{host_of, files_of, sparing_none}
-use Rattle.unify.specs.Laws.{HaveAccounts, IsReadHost, IsWhole, ReadHostsSpareNothing, ReadSitesAreWhole, NothingSparedAllOwned, OwnersAgree}
+use Rattle.unify.specs.Laws.{HaveAccounts, IsReadHost, ReadHostsSpareNothing, ReadSitesAreWhole, NothingSparedAllOwned, OwnersAgree}
 use Rattle.unify.specs.Outcomes.{hosts_in}
 use Rattle.unify.specs.Reading.{WholeSite, added_on, added_from, site_read}
 use Rattle.unify.specs.Sparing.{AreOwnedOrReserved, SparesNothing}
@@ -103,6 +103,19 @@ host-read text loaded h =
       groups = file_ok text.name file.Group (group_table text.group) groups.0 groups.1;
       primary = site_ok (primary_checked made) primary.0 primary.1;
     })
+
+-- so some of its rows, which are all, are those of a passwd and of a group
+read-in-part : (host : Host) → WasRead host → WasReadInPart host
+read-in-part host was = record {
+  passwd = was.passwd;
+  all_users = host.users;
+  users = was.users;
+  each_user = All-contains_itself host.users;
+  group = was.group;
+  all_groups = host.groups;
+  groups = was.groups;
+  each_group = All-contains_itself host.groups;
+}
 
 -- it spares nothing
 host-unsparing : (text : HostText) (loaded : Loaded) → host_of text ≡ Ok loaded → SparesNothing loaded.host
@@ -230,6 +243,9 @@ loaded-read texts loaded h =
     let from = each-ok host_of texts loaded h k (get_or loaded k d) (slice_get-get_or loaded k d l) in
     host-read from.0 (get_or loaded k d) from.2)
 
+pub loaded-in-part : (texts : List HostText) (loaded : List Loaded) → each host_of texts ≡ Ok loaded → All WasReadInPart (map (λ l. l.host) loaded)
+loaded-in-part texts loaded h = All-weaker WasRead WasReadInPart read-in-part (map (λ (l : Loaded). l.host) loaded) (loaded-read texts loaded h)
+
 pub loaded-unsparing : (texts : List HostText) (loaded : List Loaded) → each host_of texts ≡ Ok loaded → All SparesNothing (map (λ l. l.host) loaded)
 loaded-unsparing texts loaded h =
     All-map SparesNothing (λ (l : Loaded). l.host) loaded
@@ -247,7 +263,7 @@ loaded-named texts loaded h named =
 
 -- what is known of a host before its inventory is read
 abbrev pub IsKnownHost : Joined → ℕ → Host → Type 0
-IsKnownHost joined h host = (is_host_name host.name ≡ true) × WasRead host × IsLawfulHost host × SparesReserved joined host × KnowsHost joined h host
+IsKnownHost joined h host = (is_host_name host.name ≡ true) × WasReadInPart host × IsLawfulHost host × SparesReserved joined host × KnowsHost joined h host
 
 -- a host of whom that is known, with the files of its inventory
 pub read-host : (joined : Joined) (h : ℕ) (l : Loaded) (files : List Entry) → files_of l ≡ Ok files → IsKnownHost joined h l.host → IsReadHost joined h l.host files
@@ -281,7 +297,7 @@ known-host texts pins_text site s h l here =
     let lawful = loaded-lawful texts s.loaded s.hosts_are in
     let there : slice_get hosts h ≡ Some l.host = slice_get-map (λ (l : Loaded). l.host) s.loaded h ∙ ap (option_map (λ (l : Loaded). l.host)) here in (
       all-at (λ (x : Host). is_host_name x.name ≡ true) hosts h l.host (loaded-named texts s.loaded s.hosts_are s.named) there,
-      all-at WasRead hosts h l.host (loaded-read texts s.loaded s.hosts_are) there,
+      all-at WasReadInPart hosts h l.host (loaded-in-part texts s.loaded s.hosts_are) there,
       all-at IsLawfulHost hosts h l.host lawful there,
       nothing_reserved site.joined l.host (all-at SparesNothing hosts h l.host (loaded-unsparing texts s.loaded s.hosts_are) there),
       sites_know hosts s.pins site.joined lawful s.joined_is h l.host there,

@@ -17,7 +17,7 @@ use Rattle.unify.specs.declared.counting.Cost.{Cost}
 use Rattle.unify.specs.declared.outcome.Outcome.{Outcome}
 use Rattle.unify.specs.Count.{site_of}
 use Rattle.unify.specs.Headline.{Headline}
-use Rattle.unify.specs.HostTexts.{host_files}
+use Rattle.unify.specs.HostTexts.{AreJoinedInFull, host_files}
 use Rattle.unify.specs.Laws.{IsWhole}
 use Rattle.unify.specs.Loading.{loaded_from}
 use Rattle.unify.specs.Merging.{IsMerged, mappings_in}
@@ -26,7 +26,7 @@ use Rattle.unify.specs.Passes.{AreTogether, BegunSite, InventoriesValue, StandsF
 use Rattle.unify.specs.Reading.{WholeSite}
 use Rattle.unify.specs.SecondPass.{IsSolvedFrom, SolvedValue}
 use Rattle.unify.proofs.BetweenPasses.{over_whole}
-use Rattle.unify.proofs.HostTexts.{hosts_keep_own_files, tables_are_of_texts}
+use Rattle.unify.proofs.HostTexts.{begun_sites_are_in_full, tables_are_of_texts, text_keeps}
 use Rattle.unify.proofs.OwnFiles.{same_mappings}
 use Rattle.unify.proofs.SecondReading.{second_reading_is_believed, second_reading_is_right, still_whole}
 use Rattle.unify.proofs.Whole.{hosts_held}
@@ -174,10 +174,10 @@ has_merged texts pins s old mid new cost h reads w =
       outcome = outcome;
       is_right = merged.right;
       is_believed = merged.believed;
-      own_files = λ k host files text at there.
+      own_files = λ k host files text loaded at there is_told.
           let here : slice_get h.begun.hosts k ≡ Some host = ap (λ hs. slice_get hs k) (sym held) ∙ slice_get-map first w.site.again k ∙ ap (option_map first) at in
-          let tables = tables_are_of_texts texts pins h.begun k host text h.begun_is here there in
-          hosts_keep_own_files site outcome merged.whole merged.believed k host files text at tables.0 tables.1;
+          text_keeps site outcome merged.whole merged.believed k host files text loaded at (tables_are_of_texts texts pins h.begun k host text h.begun_is here there) is_told;
+      in_full = subst (λ (hs : List Host). AreJoinedInFull hs texts) (sym held) (begun_sites_are_in_full texts pins h.begun h.begun_is);
       files = merged.files;
       cost_is = w.cost_is;
     }

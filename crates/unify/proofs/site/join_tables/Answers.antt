@@ -17,7 +17,7 @@ use Rattle.unify.specs.Passes.{pinned_site, site_begun}
 use Rattle.unify.specs.Sparing.{SparesNothing}
 use Rattle.unify.specs.Told.{in_pins, in_site}
 use Rattle.unify.proofs.Faults.{passed_on}
-use Rattle.unify.proofs.Reading.{loaded-named, loaded-read, loaded-unsparing, pins-ok, texts-named}
+use Rattle.unify.proofs.Reading.{loaded-in-part, loaded-named, loaded-unsparing, pins-ok, texts-named}
 use Rattle.unify.proofs.Sparing.{leaves_reserved, nothing_reserved}
 use Rattle.unify.proofs.Whole.{begun_is, join_refused, list_refused, site_ok, tables_refused, together}
 use Rattle.unify.proofs.site.join_tables.Goals as goal
@@ -70,7 +70,7 @@ returns-clause-begun c =
         joined = refl;
         whole = record {
           few = few;
-          read = rw read.2 (loaded-read texts read.0 read.1);
+          read = rw read.2 (loaded-in-part texts read.0 read.1);
           lawful = lawful;
           together = together hosts pins.0 site joined;
           known = sites_know hosts pins.0 site lawful joined;
