@@ -4,7 +4,6 @@ use Rattle.std.specs.List.{All, count_by, find}
 use Rattle.std.specs.Prelude.{IfNone, IfSome, ◌||◌, is_none, not}
 use Rattle.std.specs.Option.{is_some, option_map}
 use Rattle.std.proofs.lemmas.Bool.{cases_Bool, eq-eqb, eqb-true, false_from_ne_true}
-use Rattle.std.proofs.lemmas.List.{length-map}
 use Rattle.std.proofs.lemmas.List.Elements.{All-cons, All-head, All-nil, All-tail}
 use Rattle.std.proofs.lemmas.List.Sums.{count_by-le-length, sum_by_push}
 use Rattle.std.proofs.lemmas.List.Quantifiers.{position-Some}

@@ -1,5 +1,5 @@
 -- The files that a reader has are the first of those of its text, whatever follows.
-use Rattle.std.proofs.Common.{◌≡◌, ℕ, Bool, true, false, List, [], ◌∷◌, ◌++◌, Option, Some, None, Ok, refl, sym, ap, subst, ◌∙◌, append-nil}
+use Rattle.std.proofs.Common.{◌≡◌, ℕ, Bool, true, false, List, [], ◌++◌, Option, None, Ok, refl, sym, ap, subst, ◌∙◌, append-nil}
 use Rattle.idtext.specs.declared.faults.ReadError.{ReadError}
 use Rattle.idtext.proofs.OkLemmas.{unless_ok}
 use Rattle.mtree_inv.specs.declared.entry.Entry.{Entry}

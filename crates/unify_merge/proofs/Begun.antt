@@ -33,6 +33,10 @@ begun_behind before names old mid new all b = record {
 pub begun_from : (names : List (List ℕ)) (old mid new : Ledger) → mid.begun ≡ old.begun → HasBegun names mid new → HasBegun names old new
 begun_from names old mid new same b = record { first = b.first; left = b.left; are = b.are; begun = b.begun ∙ ap (λ ns. ns ++ b.first) same }
 
+-- none was begun
+pub begun_none : (names : List (List ℕ)) (old new : Ledger) → new.begun ≡ old.begun → HasBegun names old new
+begun_none names old new same = record { first = []; left = names; are = refl; begun = same ∙ sym (append-nil old.begun) }
+
 -- all were begun
 pub begun_all : (names : List (List ℕ)) (old new : Ledger) → new.begun ≡ old.begun ++ names → HasBegun names old new
 begun_all names old new all = record { first = names; left = []; are = sym (append-nil names); begun = all }
@@ -59,10 +63,11 @@ names_of_first o = names_where o.keeps_names
     names_where true = refl
     names_where false = refl
 
--- they were begun
+-- passwd and group were begun, unless a name is kept
 pub accounts_begun : (o : Outcome) (old new : Ledger) → HasFiles (account_files o) old new → new.begun ≡ old.begun ++ account_names o.keeps_names
 accounts_begun o old new written = ap (λ (l : Ledger). l.begun) written ∙ ap (λ ns. old.begun ++ ns) (names_of_accounts o)
 
+-- the first files were begun behind what was cleared away
 pub first_begun : (o told : Outcome) (old mid new : Ledger) → told ≡ o → mid ≡ cleared old → new ≡ after_files (first_files told) mid → new.begun ≡ old.begun ++ first_names o.keeps_names
 first_begun o told old mid new same clear written =
     let names = names_of_first told ∙ ap (λ (x : Outcome). first_names x.keeps_names) same in

@@ -1,7 +1,7 @@
 use Rattle.std.proofs.Common.{◌≡◌, true, sym, ap, ◌∙◌}
 use Rattle.hosts_join.specs.Hosts.{spares_group, spares_user}
 use Rattle.unify.specs.Hosts.{allows_gid, allows_uid}
-use Rattle.unify.specs.RowFiles.{RowFiles, row_files}
+use Rattle.unify.specs.RowFiles.{RowFiles}
 use Rattle.unify.proofs.FileCounts.{allowed_place, both_allowed, group_allowed, group_refused, groups_more, groups_room, refused_place, spared_place, user_allowed, user_refused, users_more, users_room}
 use Rattle.unify.proofs.row_files.count_file.Goals as goal
 use Rattle.unify.proofs.row_files.count_file.Goals.{else-is_none-via-then-is_none+else-not-has, else-is_none-via-else-is_none, else-is_none-2-via-then-is_none-2+else-not-has-2, else-is_none-2-via-else-is_none-2}

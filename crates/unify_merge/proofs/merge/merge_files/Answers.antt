@@ -1,7 +1,7 @@
 use Rattle.std.proofs.Common.{ap, subst}
 use Rattle.unify_merge.specs.Ledger.{HasBegun, Ledger}
 use Rattle.unify_merge.specs.Merge.{keeps_in, names_before_report}
-use Rattle.unify_merge.proofs.Begun.{begun_from, on_err_goes}
+use Rattle.unify_merge.proofs.Begun.{begun_from, begun_none, on_err, on_err_goes}
 use Rattle.unify_merge.proofs.WholeMerge.{has_merged, if_ok, keeps_as_begun, written_stopped}
 use Rattle.unify_merge.proofs.Readings.{if_err}
 use Rattle.unify_merge.proofs.merge.merge_files.Goals as goal
@@ -20,6 +20,13 @@ returns-clause-stopped g c =
     if_err c.write_merged.result _ _ (λ fault stopped.
     written_stopped c.args.hosts.now c.args.pins.now (g.F.ReadFiles.ledger c.args.files.now) (g.F.ReadFiles.ledger c.solve_hosts.new.files) (g.F.ReadFiles.ledger now) c.in_ok-solved.solved (g.F.ReadFiles.has_failed now) fault h (stopped h.were h.was_read))
     c.write_merged.ensures.stopped
+
+pub returns-in_err-solved-clause-begun : goal.returns-in_err-solved-clause-begun
+returns-in_err-solved-clause-begun g c =
+    let names = names_before_report (keeps_in c.args.hosts.now c.args.pins.now) c.args.hosts.now in
+    let old = g.F.ReadFiles.ledger c.args.files.now in
+    let new = g.F.ReadFiles.ledger c.solve_hosts.new.files in
+    on_err c.from_residual.result (HasBegun names old new) (begun_none names old new (ap (λ (l : Ledger). l.begun) c.in_err-solved.ensures.reads))
 
 pub returns-clause-begun : goal.returns-clause-begun
 returns-clause-begun g c =
