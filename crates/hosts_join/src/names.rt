@@ -32,9 +32,9 @@ use std::alloc::{AllocError, Global};
 use std::marker::Model;
 
 /// The names of one kind, by index in order of first appearance: hosts in order, and on a host its
-/// rows in order. A contract sees the accounts that they were joined from: for its sake alone the
-/// hosts are kept, and a copy of the pins of the kind and of what is reserved. No call takes
-/// memory.
+/// rows in order, with a copy of what is reserved. A contract sees the accounts that they were
+/// joined from: for its sake alone the hosts are kept, and a copy of the pins of the kind. No call
+/// takes memory.
 pub struct Names<'a> {
     hosts: Vec<HostEntry<'a>>,
     given: Given<'a>,
@@ -389,6 +389,14 @@ impl<'a> Names<'a> {
             Class::System => &self.system,
             Class::Pinned(_) => &self.none,
         }
+    }
+
+    /// The numbers that no name is to be given, in the order in which they were given with the pins,
+    /// and who keeps each from being given. No cost.
+    pub fn reserved(&self) -> &[Reserved<'a>]
+        ensures { result.now ≡ self.now.reserved }
+    {
+        self.given.reserved.as_slice()
     }
 
     /// How many account rows of the kind there are on all hosts. No cost.

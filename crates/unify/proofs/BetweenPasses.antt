@@ -23,8 +23,8 @@ use Rattle.unify.specs.declared.merging.Merged.{Merged}
 use Rattle.unify.specs.declared.plan_turn.PlanTurn.{PlanTurn}
 use Rattle.unify.specs.Hosts.{owner_fault}
 use Rattle.unify.specs.Laws.{IsWhole}
-use Rattle.unify.specs.Loading.{HoldsCounted, loaded_from}
-use Rattle.unify.specs.Merging.{IsMerged}
+use Rattle.unify.specs.Loading.{loaded_from}
+use Rattle.unify.specs.Merging.{HoldsCounted, IsMerged}
 use Rattle.unify.specs.Passes.{AreComing, AreTogether, InventoriesValue, StandsFor}
 use Rattle.unify.specs.Reading.{WholeSite, added_from, added_on}
 use Rattle.unify.specs.RowFiles.{RowFiles, row_files}

@@ -11,6 +11,7 @@ use Rattle.mergedfiles.specs.HostFiles.{host_users, host_groups}
 use Rattle.mergedfiles.specs.HostReadBack.{IsHostPasswd, IsHostGroup}
 use Rattle.unify_texts.specs.declared.map_text.MapText.{MapText}
 use Rattle.unify.specs.declared.outcome.Outcome.{Outcome}
+use Rattle.unify.specs.declared.rules.SiteRules.{SiteRules}
 use Rattle.unify.specs.declared.site_files.NamedText.{NamedText}
 use Rattle.unify.specs.declared.site_files.SiteFiles.{SiteFiles}
 use Rattle.unify.specs.Headline.{Headline, PlanKeepsNames}
@@ -65,8 +66,8 @@ HostsKeepOwnFiles = (site : WholeSite) (outcome : Outcome) → IsWhole site
 
 -- these are the texts that a site was read from, at the index of the host
 abbrev pub TablesAreOfTexts : Type 0
-TablesAreOfTexts = (texts : List HostText) (pins : List ℕ) (begun : BegunSite) (h : ℕ)
-    (host : Host) (text : HostText) → site_begun texts pins ≡ Ok begun
+TablesAreOfTexts = (texts : List HostText) (rules : SiteRules) (begun : BegunSite) (h : ℕ)
+    (host : Host) (text : HostText) → site_begun texts rules ≡ Ok begun
     → slice_get begun.hosts h ≡ Some host → slice_get texts h ≡ Some text
     → (passwd_table text.passwd ≡ Ok host.users) × (group_table text.group ≡ Ok host.groups)
 

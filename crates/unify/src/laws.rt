@@ -1,7 +1,8 @@
 //! Laws of the definitions, each the contract of a call that does nothing.
 ghost use Rattle.unify.specs.Laws.{OwnersAgree, ReadSitesAreWhole};
 ghost use Rattle.unify.specs.Laws.{NothingSparedAllOwned, ReadHostsSpareNothing};
-ghost use Rattle.unify.specs.Laws.{EmptyPinsAreNone, PassesReadTheSite, CostsAgree};
+ghost use Rattle.unify.specs.Laws.{EmptyKeepCountsAll, EmptyKeepIsNone, EmptyPinsAreNone};
+ghost use Rattle.unify.specs.Laws.{PassesReadTheSite, CostsAgree};
 ghost use Rattle.unify.specs.Believed.{OutcomesAreBelieved, DoneKeepsPrintedNames, RunsKeepNames};
 ghost use Rattle.unify.specs.Believed.{NumbersTellNames, NamedFilesHaveTheirNames};
 ghost use Rattle.unify.specs.TwoPasses.{TwoPassesAreBelieved, SecondReadingIsBelieved};
@@ -20,8 +21,8 @@ pub fn a_read_site_is_whole()
 {}
 
 /// Where no host spares a number each file has a user and a group, by its host's own tables and as
-/// well by the accounts over all hosts; and the hosts of a site that was read from texts spare
-/// none.
+/// well by the accounts over all hosts; and the hosts of a site that was read with an empty keep
+/// text spare none.
 pub fn nothing_spared_all_owned()
     ensures owned { NothingSparedAllOwned }
     ensures read { ReadHostsSpareNothing }
@@ -70,6 +71,12 @@ pub fn named_files_have_their_names()
 /// With an empty pins text a site reads as without one.
 pub fn empty_pins_are_none()
     ensures { EmptyPinsAreNone }
+{}
+
+/// With an empty keep text a site reads as without one, and a count answers as without one.
+pub fn an_empty_keep_is_none()
+    ensures sites { EmptyKeepIsNone }
+    ensures counts { EmptyKeepCountsAll }
 {}
 
 /// A site is read as its tables, and then, host by host, its inventories, so that two passes over

@@ -8,7 +8,7 @@ use hosts_join::HostText;
 use idtext::ByteString;
 use inventory_files::run_inventory;
 use std::alloc::AllocError;
-use unify::{Cost, Reply, accepted_reply, cost_reply, refused, rehearse_reply};
+use unify::{Cost, Reply, SiteRules, accepted_reply, cost_reply, refused, rehearse_reply};
 use unify_apply::run_apply;
 use unify_io::{
     FileFault, SeenHosts, command_line, file_fault_told, memory_refused, no_host, open_output,
@@ -96,7 +96,7 @@ fn count_by(
     hosts: &[HostText],
     map: &ByteString,
 ) -> Result<u8, FileFault> {
-    match count_files(rt.alloc(), files, hosts, map.bytes()) {
+    match count_files(rt.alloc(), files, hosts, b"", map.bytes()) {
         Ok(cost) => print_cost(rt, cost),
         Err(fault) => reading_refused(rt, files, &fault),
     }
@@ -130,7 +130,8 @@ fn check_by(
     certificate: &ByteString,
     pins: &ByteString,
 ) -> Result<u8, FileFault> {
-    match check_files(rt.alloc(), files, hosts, pins.bytes(), certificate.bytes()) {
+    let rules = SiteRules::of_pins(pins.bytes());
+    match check_files(rt.alloc(), files, hosts, &rules, certificate.bytes()) {
         Ok(sum) => print_accepted(rt, sum),
         Err(fault) => reading_refused(rt, files, &fault),
     }
@@ -235,7 +236,8 @@ fn merge_by(
     pins: &ByteString,
     is_quiet: bool,
 ) -> Result<u8, FileFault> {
-    let cost = match merge_files(rt.alloc(), files, hosts, pins.bytes()) {
+    let rules = SiteRules::of_pins(pins.bytes());
+    let cost = match merge_files(rt.alloc(), files, hosts, &rules) {
         Ok(cost) => cost,
         Err(fault) => return merge_refused(rt, files, &fault),
     };
