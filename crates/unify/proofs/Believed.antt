@@ -82,7 +82,7 @@ name_is site h host files here =
     read_at (map (λ (x : Host). x.name) (hosts_in site)) h [] host.name (slice_get-map (λ (x : Host). x.name) (hosts_in site) h ∙ ap (option_map (λ (x : Host). x.name)) there)
 
 plan_keeps : (site : WholeSite) (outcome : Outcome) → IsWhole site → (o : IsOutcome site outcome) (printed : MapText) → ArePairsOf site.joined o.mappings printed
-    → (installed : AreInstalled site outcome o.mappings printed) → (h : ℕ) (host : Host) (files : List Entry) → slice_get site.hosts h ≡ Some (host, files) → PlanKeepsNames printed installed.passwd.rows installed.group.rows outcome.plans h host files
+    → (installed : AreInstalled site outcome o.mappings printed) → (h : ℕ) (host : Host) (files : List Entry) → slice_get site.hosts h ≡ Some (host, files) → PlanKeepsNames printed installed.passwd.rows installed.group.rows outcome.plans h host host files
 plan_keeps site outcome whole o printed are_pairs installed h host files here =
     let m = o.mappings in
     let is = whole.each_host h host files here in
@@ -106,12 +106,12 @@ plan_keeps site outcome whole o printed are_pairs installed h host files here =
           device_alone (owner_in files) records lawful.distinct there events refused end run (runs_sound (owner_in files) records lawful.distinct (untouched asked files) runs there start are);
       at_every_moment = λ asked runs end are image is_image.
           let safe = runs_sound (owner_in files) records lawful.distinct (untouched asked files) runs end start are in
-          All-weaker (λ f. (image.owner f.path ≡ Some (owner_of f)) ⊎ KeepsItsNames printed host image.owner f) (IsOldOrNamed printed installed.passwd.rows installed.group.rows host image.owner) (old_or_named site outcome m printed installed host image.owner) files
+          All-weaker (λ f. (image.owner f.path ≡ Some (owner_of f)) ⊎ KeepsItsNames printed host image.owner f) (IsOldOrNamed printed installed.passwd.rows installed.group.rows host host image.owner) (old_or_named site outcome m printed installed host image.owner) files
           (old_or_kept site.joined m printed are_pairs h host files is image (old_or_new (owner_in files) records image old (safe.safe image is_image)));
       kept = λ asked runs end are done image is_image.
           let safe = runs_sound (owner_in files) records lawful.distinct (untouched asked files) runs end start are in
           let at_done : IsSafeInStep (owner_in files) records Done (cells_at end.state) = subst (λ p. IsSafeInStep (owner_in files) records p (cells_at end.state)) done safe in
-          All-weaker (KeepsItsNames printed host image.owner) (IsNamedAsBefore printed installed.passwd.rows installed.group.rows host image.owner) (named_as_before site outcome m printed installed host image.owner) files
+          All-weaker (KeepsItsNames printed host image.owner) (IsNamedAsBefore printed installed.passwd.rows installed.group.rows host host image.owner) (named_as_before site outcome m printed installed host image.owner) files
           (keeps_names site.joined m printed are_pairs h host files is image.owner (done_image (owner_in files) records (cells_at end.state) at_done image is_image).1);
     }
 

@@ -1,94 +1,103 @@
 -- A host's own passwd and group with their new numbers keep the names that a finished plan keeps.
-use Rattle.std.proofs.Common.{◌≡◌, inl, inr, ℕ, List, [], ◌∷◌, map, Option, Some, None, Ok, refl, sym, ap, subst, ◌∙◌}
-use Rattle.std.specs.List.{All, AllZip, slice_get}
+use Rattle.std.proofs.Common.{◌≡◌, inl, inr, ℕ, List, [], map, Option, Some, None, Ok, refl, sym, ap, subst, ◌∙◌}
+use Rattle.std.specs.List.{Contains, slice_get}
 use Rattle.std.specs.Option.{option_map}
-use Rattle.std.proofs.lemmas.List.Elements.{All-cons, All-nil, All-weaker}
-use Rattle.std.proofs.lemmas.Option.{slice_get-map}
-use Rattle.idtext.specs.First.{each}
+use Rattle.std.proofs.lemmas.List.Elements.{All-weaker}
+use Rattle.std.proofs.lemmas.Option.{get_or_from_slice_get, slice_get-map, slice_get_within}
 use Rattle.idtext.proofs.OkLemmas.{bind_ok, each-ok, ok_same}
 use Rattle.accounts.specs.Rows.{Passwd, Group}
-use Rattle.accounts.specs.Tables.{passwd_table, group_table}
 use Rattle.mtree_inv.specs.declared.entry.Entry.{Entry}
+use Rattle.hosts_join.specs.Accounts.{Accounts, Pair}
 use Rattle.hosts_join.specs.Checks.{hosts_checked}
-use Rattle.hosts_join.specs.Accounts.{Pair}
 use Rattle.hosts_join.specs.Kinds.{user_at, group_at}
-use Rattle.hosts_join.specs.Pairs.{number_of}
-use Rattle.hosts_join.specs.PinsText.{pins_of}
-use Rattle.hosts_join.specs.Site.{joined_site}
+use Rattle.hosts_join.specs.PinPairs.{PinPairs}
+use Rattle.hosts_join.specs.Site.{Joined, joined_site}
 use Rattle.hosts_join.specs.declared.host.Host.{Host}
 use Rattle.hosts_join.specs.declared.texts.HostText.{HostText}
-use Rattle.mergedfiles.specs.HostReadBack.{IsHostPasswd, IsHostGroup, IsRenumberedGroup, IsRenumberedUser}
-use Rattle.mergedfiles.specs.ReadBack.{HasNumber}
-use Rattle.mergedfiles.proofs.HostUsers.{host_passwd_back}
-use Rattle.mergedfiles.proofs.HostGroups.{host_group_back}
+use Rattle.mergedfiles.specs.FullTables.{AreNumberedRows, IsFullGroupFile, IsFullPasswd, IsNumberedHost, IsRenumbered}
+use Rattle.ownership.specs.Mappings.{Mappings}
+use Rattle.mergedfiles.proofs.HostUsers.{full_passwd_back}
+use Rattle.mergedfiles.proofs.HostGroups.{full_group_back}
 use Rattle.reown_plan.specs.declared.plan.Owner.{Owner}
+use Rattle.unify_texts.specs.WrittenMap.{SayMapping}
 use Rattle.unify.specs.declared.host.Loaded.{Loaded}
 use Rattle.unify.specs.declared.outcome.Outcome.{Outcome}
+use Rattle.unify.specs.declared.rules.SiteRules.{SiteRules}
 use Rattle.unify.specs.Headline.{Headline, IsNamedAsBefore, IsNewNumber, IsOldOrNamed}
-use Rattle.unify.specs.HostTexts.{HostsKeepOwnFiles, TablesAreOfTexts, own_passwd, own_group}
+use Rattle.unify.specs.HostTexts.{AreJoinedInFull, BegunSitesAreInFull, HostsKeepOwnFiles, IsJoinedInFull, IsJoinedPart, IsTextOf, KeepsOwnFiles, ReadSitesAreInFull, TablesAreOfTexts, own_passwd, own_group}
 use Rattle.unify.specs.Hosts.{host_of}
 use Rattle.unify.specs.Laws.{IsWhole}
+use Rattle.unify.specs.Others.{Others, others_loaded, pinned_site, reserving}
 use Rattle.unify.specs.Outcomes.{hosts_in}
 use Rattle.unify.specs.Passes.{BegunSite, site_begun}
-use Rattle.unify.specs.Reading.{WholeSite}
-use Rattle.unify.specs.Told.{in_site, in_pins}
-use Rattle.unify.proofs.Installed.{numbered, paired, unnamed}
-use Rattle.unify.proofs.Reading.{tables-of}
+use Rattle.unify.specs.Reading.{WholeSite, site_read}
+use Rattle.unify.specs.Told.{in_site}
+use Rattle.unify.proofs.InFull.{numbered_rows, own_group_in_full, own_passwd_in_full, primary_groups}
+use Rattle.unify.proofs.Installed.{is-paired, mapped-there, paired}
+use Rattle.unify.proofs.KeptPart.{kept_part}
+use Rattle.unify.proofs.Others.{left}
+use Rattle.unify.proofs.Reading.{loaded-read, tables-of}
+use Rattle.unify.proofs.ReadSites.{AreLoaded, all-joined, are-loaded, are-pinned, hosts-are, reserved-are, steps}
 
-all_right : {X : Type 0} (R : X → X → Type 0) (P : X → Type 0) → ((x y : X) → R x y → P y) → (xs ys : List X) → AllZip R xs ys → All P ys
-all_right R P goes [] [] all = All-nil P
-all_right R P goes [] (y ∷ ys) all = absurd all
-all_right R P goes (x ∷ xs) [] all = absurd all
-all_right R P goes (x ∷ xs) (y ∷ ys) all = All-cons P y ys (goes x y all.0) (all_right R P goes xs ys all.1)
+-- ---- names
 
--- a table in which the new rows name each new number as the old ones did, and no other number of a name, names it as told
-as_kept : (pairs : List Pair) (old new : ℕ) (at : Option (List ℕ)) (told : Option (List ℕ)) → ((name : List ℕ) → told ≡ Some name → number_of pairs name ≡ Some new → at ≡ Some name) → (((name : List ℕ) → number_of pairs name ≡ Some new → ⊥) → at ≡ None)
-    → IsNewNumber told pairs old new → at ≡ told
-as_kept pairs old new at (Some name) kept free is = kept name refl is
-as_kept pairs old new at None kept free is = free is.1
+-- what is by the pairs the new number of a name is its number, and what is no name's is given to none
+by_pairs : (a : Accounts) (m : List ℕ) (pairs : List Pair) → SayMapping a m pairs → (told : Option (List ℕ)) (old new : ℕ) → IsNewNumber told pairs old new → IsRenumbered a m told old new
+by_pairs a m pairs say (Some name) old new is = paired a m pairs say name new is
+by_pairs a m pairs say None old new is = (is.0, λ name has. is.1 name (is-paired a m pairs say name new has))
 
-module _ (site : WholeSite) (outcome : Outcome) (whole : IsWhole site) (believed : Headline site outcome) (host : Host) (text : HostText) where
+module _ (site : WholeSite) (outcome : Outcome) (believed : Headline site outcome) (full host : Host) (text : HostText) where
   -- a file that has by the map the names that it had has them by the host's own new files
-  named_by_own : (passwd : IsHostPasswd host site.joined believed.mappings text.passwd (own_passwd host site.joined believed.mappings text)) (group : IsHostGroup host site.joined believed.mappings text.group (own_group site.joined believed.mappings text))
-      → (were_users : List Passwd) (were_groups : List Group) (tree : List ℕ → Option Owner) (file : Entry) → IsNamedAsBefore believed.map were_users were_groups host tree file → IsNamedAsBefore believed.map passwd.rows group.rows host tree file
+  named_by_own : (passwd : IsFullPasswd site.joined believed.mappings full host text.passwd (own_passwd host site.joined believed.mappings text)) (group : IsFullGroupFile site.joined believed.mappings full host text.group (own_group site.joined believed.mappings text))
+      → (were_users : List Passwd) (were_groups : List Group) (tree : List ℕ → Option Owner) (file : Entry) → IsNamedAsBefore believed.map were_users were_groups host host tree file → IsNamedAsBefore believed.map passwd.rows group.rows full host tree file
   named_by_own passwd group were_users were_groups tree file named =
       let m = believed.mappings in
       let by = named.by_map in
-      let users = site.joined.users in
-      let groups = site.joined.groups in
-      let say_users = believed.users_have_one_number_each.say in
-      let say_groups = believed.groups_have_one_number_each.say in
-      let user_rows : All (λ (row : Passwd). HasNumber users m.users row.name row.uid) passwd.rows =
-      all_right (IsRenumberedUser host site.joined m) (λ (row : Passwd). HasNumber users m.users row.name row.uid) (λ was row is. subst (λ n. HasNumber users m.users n row.uid) (sym is.name) is.uid) host.users passwd.rows passwd.by_row in
-      let group_rows : All (λ (row : Group). HasNumber groups m.groups row.name row.gid) group.rows =
-      all_right (IsRenumberedGroup site.joined m) (λ (row : Group). HasNumber groups m.groups row.name row.gid) (λ was row is. subst (λ n. HasNumber groups m.groups n row.gid) (sym is.name) is.gid) host.groups group.rows group.by_row in
       record {
         by_map = by;
-        user_is = as_kept believed.map.users file.uid by.now.uid (user_at passwd.rows by.now.uid) (user_at host.users file.uid)
-            (λ name had has. passwd.names_are_kept file.uid by.now.uid name had (paired users m.users believed.map.users say_users name by.now.uid has))
-            (unnamed (λ (row : Passwd). row.name) (λ (row : Passwd). row.uid) users m.users believed.map.users say_users by.now.uid passwd.rows user_rows) by.user;
-        group_is = as_kept believed.map.groups file.gid by.now.gid (group_at group.rows by.now.gid) (group_at host.groups file.gid)
-            (λ name had has. group.names_are_kept file.gid by.now.gid name had (paired groups m.groups believed.map.groups say_groups name by.now.gid has))
-            (unnamed (λ (row : Group). row.name) (λ (row : Group). row.gid) groups m.groups believed.map.groups say_groups by.now.gid group.rows group_rows) by.group;
+        user_is = passwd.names_are_kept file.uid by.now.uid (by_pairs site.joined.users m.users believed.map.users believed.users_have_one_number_each.say (user_at host.users file.uid) file.uid by.now.uid by.user);
+        group_is = group.names_are_kept file.gid by.now.gid (by_pairs site.joined.groups m.groups believed.map.groups believed.groups_have_one_number_each.say (group_at host.groups file.gid) file.gid by.now.gid by.group);
       }
 
-  old_or_own : (passwd : IsHostPasswd host site.joined believed.mappings text.passwd (own_passwd host site.joined believed.mappings text)) (group : IsHostGroup host site.joined believed.mappings text.group (own_group site.joined believed.mappings text))
-      → (users : List Passwd) (groups : List Group) (tree : List ℕ → Option Owner) (file : Entry) → IsOldOrNamed believed.map users groups host tree file → IsOldOrNamed believed.map passwd.rows group.rows host tree file
+  old_or_own : (passwd : IsFullPasswd site.joined believed.mappings full host text.passwd (own_passwd host site.joined believed.mappings text)) (group : IsFullGroupFile site.joined believed.mappings full host text.group (own_group site.joined believed.mappings text))
+      → (users : List Passwd) (groups : List Group) (tree : List ℕ → Option Owner) (file : Entry) → IsOldOrNamed believed.map users groups host host tree file → IsOldOrNamed believed.map passwd.rows group.rows full host tree file
   old_or_own passwd group users groups tree file (inl old) = inl old
   old_or_own passwd group users groups tree file (inr named) = inr (named_by_own passwd group users groups tree file named)
 
-pub hosts_keep_own_files : HostsKeepOwnFiles
-hosts_keep_own_files site outcome whole believed h host files text here users groups =
+-- ---- own files
+
+-- no name has the number of a row that is kept
+numbered_part : (site : WholeSite) (outcome : Outcome) → IsWhole site → (believed : Headline site outcome) (full host : Host) → IsJoinedPart site.joined full host → IsNumberedHost site.joined believed.mappings full host
+numbered_part site outcome whole believed full host part =
     let m = believed.mappings in
-    let is = numbered site m whole believed.users_have_one_number_each.admissible believed.groups_have_one_number_each.admissible in
-    let there : slice_get (hosts_in site) h ≡ Some host = slice_get-map (λ (x : Host × List Entry). x.0) site.hosts h ∙ ap (option_map (λ (x : Host × List Entry). x.0)) here in
-    let passwd : IsHostPasswd host site.joined m text.passwd (own_passwd host site.joined m text) = host_passwd_back (hosts_in site) site.joined m h host text.passwd is there users in
-    let group : IsHostGroup host site.joined m text.group (own_group site.joined m text) = host_group_back (hosts_in site) site.joined m h host text.group is there groups in
+    let printed = believed.map in
+    let users = believed.users_have_one_number_each in
+    let groups = believed.groups_have_one_number_each in
+    record {
+      users = numbered_rows (λ (row : Passwd). row.name) (λ (row : Passwd). row.uid) site.joined.users m.users printed.users full.users host.users whole.lawful.users users.admissible users.say whole.leaves.users part.users;
+      groups = numbered_rows (λ (row : Group). row.name) (λ (row : Group). row.gid) site.joined.groups m.groups printed.groups full.groups host.groups whole.lawful.groups groups.admissible groups.say whole.leaves.groups part.groups;
+    }
+
+-- all rows were joined
+all_numbered : (site : Joined) (m : Mappings) (full host : Host) → IsNumberedHost site m full host → IsJoinedInFull full host → IsNumberedHost site m host host
+all_numbered site m full host is all = record {
+  users = subst (λ (rows : List Passwd). AreNumberedRows (λ (row : Passwd). row.name) (λ (row : Passwd). row.uid) site.users m.users rows host.users) all.users is.users;
+  groups = subst (λ (rows : List Group). AreNumberedRows (λ (row : Group). row.name) (λ (row : Group). row.gid) site.groups m.groups rows host.groups) all.groups is.groups;
+}
+
+pub hosts_keep_own_files : HostsKeepOwnFiles
+hosts_keep_own_files site outcome whole believed h full host files text here part users groups =
+    let m = believed.mappings in
+    let known = whole.each_host h host files here in
+    let is = numbered_part site outcome whole believed full host part in
+    let passwd : IsFullPasswd site.joined m full host text.passwd (own_passwd host site.joined m text) = full_passwd_back site.joined m full host text.passwd is users in
+    let group : IsFullGroupFile site.joined m full host text.group (own_group site.joined m text) = full_group_back site.joined m full host text.group is groups in
     let kept = believed.a_plan_keeps_names h host files here in
     let merged = believed.installed in
     record {
       passwd = passwd;
       group = group;
+      primary_kept = primary_groups site.joined m full host text.passwd (own_passwd host site.joined m text) text.group (own_group site.joined m text) is passwd group;
       a_plan_keeps_names = record {
         plan = kept.plan;
         printed = kept.printed;
@@ -97,36 +106,131 @@ hosts_keep_own_files site outcome whole believed h host files text here users gr
         begins = kept.begins;
         only_the_device_refuses = kept.only_the_device_refuses;
         at_every_moment = λ asked runs end are image is_image.
-            All-weaker (IsOldOrNamed believed.map merged.passwd.rows merged.group.rows host image.owner) (IsOldOrNamed believed.map passwd.rows group.rows host image.owner)
-            (old_or_own site outcome whole believed host text passwd group merged.passwd.rows merged.group.rows image.owner) files (kept.at_every_moment asked runs end are image is_image);
+            All-weaker (IsOldOrNamed believed.map merged.passwd.rows merged.group.rows host host image.owner) (IsOldOrNamed believed.map passwd.rows group.rows full host image.owner)
+            (old_or_own site outcome believed full host text passwd group merged.passwd.rows merged.group.rows image.owner) files (kept.at_every_moment asked runs end are image is_image);
         kept = λ asked runs end are done image is_image.
-            All-weaker (IsNamedAsBefore believed.map merged.passwd.rows merged.group.rows host image.owner) (IsNamedAsBefore believed.map passwd.rows group.rows host image.owner)
-            (named_by_own site outcome whole believed host text passwd group merged.passwd.rows merged.group.rows image.owner) files (kept.kept asked runs end are done image is_image);
+            All-weaker (IsNamedAsBefore believed.map merged.passwd.rows merged.group.rows host host image.owner) (IsNamedAsBefore believed.map passwd.rows group.rows full host image.owner)
+            (named_by_own site outcome believed full host text passwd group merged.passwd.rows merged.group.rows image.owner) files (kept.kept asked runs end are done image is_image);
       };
+      passwd_in_full = λ was all.
+          own_passwd_in_full site.joined m h host known.lawful known.known (all_numbered site.joined m full host is all) was text.passwd (users ∙ ap (λ (rows : List Passwd). Ok rows) all.users);
+      group_in_full = λ all.
+          own_group_in_full site.joined m h host known.lawful known.known (all_numbered site.joined m full host is all) text.group (groups ∙ ap (λ (rows : List Group). Ok rows) all.groups);
     }
 
--- ---- the texts of a host's tables
+-- the text of a host tells what its own files are made of
+pub text_keeps : (site : WholeSite) (outcome : Outcome) → IsWhole site → (believed : Headline site outcome) (h : ℕ) (host : Host) (files : List Entry) (text : HostText) (loaded : Loaded) → slice_get site.hosts h ≡ Some (host, files)
+    → IsTextOf site.joined host text → host_of text ≡ Ok loaded → KeepsOwnFiles site believed.mappings believed.map outcome.plans h loaded.host host files text
+text_keeps site outcome whole believed h host files text loaded here is told =
+    let same : is.loaded ≡ loaded = ok_same is.loaded loaded (sym is.told ∙ told) in
+    subst (λ (l : Loaded). KeepsOwnFiles site believed.mappings believed.map outcome.plans h l.host host files text) same
+    (hosts_keep_own_files site outcome whole believed h is.loaded.host host files text here is.part is.passwd is.group)
 
-loaded-there : (o : Option Loaded) (host : Host) → option_map (λ l. l.host) o ≡ Some host → (l : Loaded) × (o ≡ Some l) × (l.host ≡ host)
-loaded-there None host h = absurd (cc)
-loaded-there (Some l) host h = (l, refl, (cc))
+-- ---- the texts of a host's tables
 
 same_text : (o : Option HostText) (one other : HostText) → o ≡ Some one → o ≡ Some other → one ≡ other
 same_text o one other h k = cc
 
-pub tables_are_of_texts : TablesAreOfTexts
+-- an index that has an item
+there-at : {X : Type 0} (xs : List X) (k : ℕ) (x : X) → slice_get xs k ≡ Some x → Contains xs x
+there-at xs k x here = (k, slice_get_within xs k x here, get_or_from_slice_get xs k x x here)
+
+-- what is joined of hosts that were loaded from texts
+module _ (texts : List HostText) (keep_text : List ℕ) (others : Others) (from : AreLoaded texts keep_text others) where
+  abbrev full : List Host
+  full = map (λ l. l.host) from.loaded
+
+  -- a text is that of the host at its index
+  told_at : (h : ℕ) (l : Loaded) (text : HostText) → slice_get from.loaded h ≡ Some l → slice_get texts h ≡ Some text → host_of text ≡ Ok l
+  told_at h l text here there =
+      let back = each-ok host_of texts from.loaded from.hosts_are h l here in
+      ap host_of (sym (same_text (slice_get texts h) back.0 text back.1 there)) ∙ back.2
+
+  host_at : (h : ℕ) (host : Host) → slice_get full h ≡ Some host → (l : Loaded) × (slice_get from.loaded h ≡ Some l) × (l.host ≡ host)
+  host_at h host here = mapped-there (λ (l : Loaded). l.host) (slice_get from.loaded h) host (sym (slice_get-map (λ (l : Loaded). l.host) from.loaded h) ∙ here)
+
+  pub text_of : (pins_text : List ℕ) (joined : Joined) → pinned_site others pins_text ≡ Ok joined
+      → (h : ℕ) (host : Host) (text : HostText) → slice_get others.hosts h ≡ Some host → slice_get texts h ≡ Some text → IsTextOf joined host text
+  text_of pins_text joined joined_is h host text here there =
+      let keep = from.by.keep in
+      let same : map (left keep full) full ≡ others.hosts = ap (λ (o : Others). o.hosts) from.by.are in
+      let left_at = mapped-there (left keep full) (slice_get full h) host (sym (slice_get-map (left keep full) full h) ∙ ap (λ (hs : List Host). slice_get hs h) same ∙ here) in
+      let at = host_at h left_at.0 left_at.1 in
+      let told = told_at h at.0 text at.1 there in
+      let tables = tables-of text at.0 told in
+      let pinned = are-pinned others pins_text joined joined_is in
+      let pins : PinPairs = reserving others pinned.pins in
+      let reserved = reserved-are others pins_text joined pinned in
+      let whole : joined_site (map (left keep full) full) pins ≡ Ok joined = ap (λ (hs : List Host). joined_site hs pins) same ∙ pinned.joined_is in
+      let part = kept_part keep full pins joined left_at.0 (there-at full h left_at.0 left_at.1) whole (ap (λ (o : Others). o.reserved_users) from.by.are ∙ reserved.0) (ap (λ (o : Others). o.reserved_groups) from.by.are ∙ reserved.1) in
+      record {
+        loaded = at.0;
+        told = told;
+        passwd = tables.0;
+        group = tables.1;
+        part = subst (λ (x : Host). IsJoinedPart joined x host) (sym at.2) (subst (IsJoinedPart joined left_at.0) left_at.2 part);
+      }
+
+  loaded_in_full : AreJoinedInFull full texts
+  loaded_in_full = record {
+    read = loaded-read texts from.loaded from.hosts_are;
+    each_host = λ h host text l here there told.
+        let at = host_at h host here in
+        let same : l ≡ at.0 = ok_same l at.0 (sym told ∙ told_at h at.0 text at.1 there) in
+        let is : l.host ≡ host = ap (λ (x : Loaded). x.host) same ∙ at.2 in
+        record { users = ap (λ (x : Host). x.users) is; groups = ap (λ (x : Host). x.groups) is };
+  }
+
+-- with an empty keep text all rows are joined
+all_in_full : (texts : List HostText) (others : Others) → others_loaded texts [] ≡ Ok others → AreJoinedInFull others.hosts texts
+all_in_full texts others o =
+    let from = are-loaded texts [] others o in
+    subst (λ (hs : List Host). AreJoinedInFull hs texts) (ap (λ (x : Others). x.hosts) (all-joined texts others from o)) (loaded_in_full texts [] others from)
+
+-- ---- a site, before its inventories are read
+
+record BegunSteps (texts : List HostText) (rules : SiteRules) (begun : BegunSite) : Type 0 where
+  others : Others
+  others_are : others_loaded texts rules.keep ≡ Ok others
+  joined_is : pinned_site others rules.pins ≡ Ok begun.joined
+  hosts : others.hosts ≡ begun.hosts
+
+begun_steps : (texts : List HostText) (rules : SiteRules) (begun : BegunSite) → site_begun texts rules ≡ Ok begun → BegunSteps texts rules begun
 unfolding site_begun
-tables_are_of_texts texts pins begun h host text is here there =
+begun_steps texts rules begun is =
     let listed = bind_ok (in_site (hosts_checked texts)) _ begun is in
-    let loading = bind_ok (each host_of texts) _ begun listed.2 in
-    let pinning = bind_ok (in_pins (pins_of pins)) _ begun loading.2 in
-    let joining = bind_ok (in_site (joined_site (map (λ (l : Loaded). l.host) loading.0) pinning.0)) _ begun pinning.2 in
-    let made : BegunSite = record { hosts = map (λ (l : Loaded). l.host) loading.0; joined = joining.0 } in
-    let hosts : made.hosts ≡ begun.hosts = ap (λ (b : BegunSite). b.hosts) (ok_same made begun joining.2) in
-    let loaded = loaded-there (slice_get loading.0 h) host (sym (slice_get-map (λ (l : Loaded). l.host) loading.0 h) ∙ ap (λ (hs : List Host). slice_get hs h) hosts ∙ here) in
-    let from = each-ok host_of texts loading.0 loading.1 h loaded.0 loaded.1 in
-    let same : from.0 ≡ text = same_text (slice_get texts h) from.0 text from.1 there in
-    let tables = tables-of from.0 loaded.0 from.2 in (
-      ap (λ (t : HostText). passwd_table t.passwd) (sym same) ∙ tables.0 ∙ ap (λ (x : Host). Ok x.users) loaded.2,
-      ap (λ (t : HostText). group_table t.group) (sym same) ∙ tables.1 ∙ ap (λ (x : Host). Ok x.groups) loaded.2,
-    )
+    let others = bind_ok (others_loaded texts rules.keep) _ begun listed.2 in
+    let joining = bind_ok (pinned_site others.0 rules.pins) _ begun others.2 in
+    let made : BegunSite = record { hosts = others.0.hosts; joined = joining.0 } in
+    subst (BegunSteps texts rules) (ok_same made begun joining.2)
+    (record {
+      others = others.0;
+      others_are = others.1;
+      joined_is = joining.1;
+      hosts = refl;
+    })
+
+pub tables_are_of_texts : TablesAreOfTexts
+tables_are_of_texts texts rules begun h host text is here there =
+    let s = begun_steps texts rules begun is in
+    text_of texts rules.keep s.others (are-loaded texts rules.keep s.others s.others_are) rules.pins begun.joined s.joined_is h host text (ap (λ (hs : List Host). slice_get hs h) s.hosts ∙ here) there
+
+pub begun_sites_are_in_full : BegunSitesAreInFull
+begun_sites_are_in_full texts pins begun is =
+    let s = begun_steps texts (record { pins = pins; keep = [] }) begun is in
+    subst (λ (hs : List Host). AreJoinedInFull hs texts) s.hosts (all_in_full texts s.others s.others_are)
+
+-- ---- a site that was read
+
+pub site_texts : (texts : List HostText) (rules : SiteRules) (site : WholeSite) → site_read texts rules ≡ Ok site → (h : ℕ) (host : Host) (files : List Entry) (text : HostText) → slice_get site.hosts h ≡ Some (host, files) → slice_get texts h ≡ Some text → IsTextOf site.joined host text
+site_texts texts rules site read h host files text here there =
+    let s = steps texts rules site read in
+    let first = λ (x : Host × List Entry). x.0 in
+    let at : slice_get (hosts_in site) h ≡ Some host = slice_get-map first site.hosts h ∙ ap (option_map first) here in
+    text_of texts rules.keep s.others (are-loaded texts rules.keep s.others s.others_are) rules.pins site.joined s.joined_is h host text (ap (λ (hs : List Host). slice_get hs h) (hosts-are texts rules site s) ∙ at) there
+
+pub read_sites_are_in_full : ReadSitesAreInFull
+read_sites_are_in_full texts pins site read =
+    let rules : SiteRules = record { pins = pins; keep = [] } in
+    let s = steps texts rules site read in
+    subst (λ (hs : List Host). AreJoinedInFull hs texts) (hosts-are texts rules site s) (all_in_full texts s.others s.others_are)

@@ -2,8 +2,7 @@
 use Rattle.std.proofs.Common.{◌≡◌, ◌++◌, ◌∷◌, [], ℕ, zero, suc, List, take, None, Some, Result, Ok, Err, refl, sym, ap, subst, ◌∙◌}
 use Rattle.std.specs.Prelude.{MatchResult}
 use Rattle.std.specs.List.{slice_get}
-use Rattle.idtext.proofs.OkLemmas.{bind_ok, each-ok, ok_same}
-use Rattle.accounts.specs.Tables.{passwd_table, group_table}
+use Rattle.idtext.proofs.OkLemmas.{ok_same}
 use Rattle.mtree_inv.specs.declared.entry.Entry.{Entry}
 use Rattle.hosts_join.specs.Site.{Joined}
 use Rattle.hosts_join.specs.declared.host.Host.{Host}
@@ -16,19 +15,18 @@ use Rattle.unify_texts.specs.Told.{told}
 use Rattle.unify_texts.specs.declared.fault.Fault.{Fault}
 use Rattle.unify.specs.declared.merging.Merged.{Merged}
 use Rattle.unify.specs.declared.outcome.Outcome.{Outcome}
+use Rattle.unify.specs.declared.rules.SiteRules.{SiteRules}
 use Rattle.unify.specs.declared.site_files.NamedText.{NamedText}
 use Rattle.unify.specs.declared.site_files.SiteFiles.{SiteFiles}
-use Rattle.unify.specs.Count.{site_of}
 use Rattle.unify.specs.Headline.{Headline}
-use Rattle.unify.specs.Hosts.{files_of, host_of}
 use Rattle.unify.specs.HostTexts.{AreSiteFiles, group_file, host_files, passwd_file}
 use Rattle.unify.specs.Merging.{IsMerged, mappings_in}
 use Rattle.unify.specs.Outcomes.{hosts_in}
 use Rattle.unify.specs.Reading.{WholeSite, site_read}
 use Rattle.unify.specs.Texts.{ArePlannedWithOwn}
-use Rattle.unify.proofs.HostTexts.{hosts_keep_own_files}
+use Rattle.unify.proofs.HostTexts.{site_texts, text_keeps}
 use Rattle.unify.proofs.PassesBelieved.{two_passes_are_believed, with_plans}
-use Rattle.unify.proofs.Reading.{read_sites_are_whole, steps, tables-of}
+use Rattle.unify.proofs.ReadSites.{read_sites_are_whole}
 use Rattle.unify.proofs.SiteRuns.{some_same}
 
 -- ---- the files of one host more
@@ -62,26 +60,9 @@ same_mappings site merged last plans is joined believed =
     let same : believed.certificate ≡ c = ok_same believed.certificate c (sym believed.certificate_read ∙ read) in
     sym believed.potentials_are_of_these ∙ (λ j. mappings_of (joined j) (same j)) ∙ is.answered.certificate_has
 
--- the tables of a site that was read are those of its texts, index by index
-site_tables : (texts : List HostText) (pins : List ℕ) (site : WholeSite) → site_read texts pins ≡ Ok site → (h : ℕ) (host : Host) (files : List Entry) (text : HostText) → slice_get site.hosts h ≡ Some (host, files) → slice_get texts h ≡ Some text
-    → (passwd_table text.passwd ≡ Ok host.users) × (group_table text.group ≡ Ok host.groups)
-site_tables texts pins site read h host files text here there =
-    let s = steps texts pins site read in
-    let from = each-ok site_of s.loaded site.hosts s.files_are h (host, files) here in
-    let l = from.0 in
-    let filed = bind_ok (files_of l) (λ fs. Ok (l.host, fs)) (host, files) from.2 in
-    let pair : (l.host, filed.0) ≡ (host, files) = ok_same (l.host, filed.0) (host, files) filed.2 in
-    let mine : l.host ≡ host = ap (λ (p : Host × List Entry). p.0) pair in
-    let back = each-ok host_of texts s.loaded s.hosts_are h l from.1 in
-    let same : back.0 ≡ text = some_same back.0 text (sym back.1 ∙ there) in
-    let tables = tables-of back.0 l back.2 in (
-      ap (λ (t : HostText). passwd_table t.passwd) (sym same) ∙ tables.0 ∙ ap (λ (x : Host). Ok x.users) mine,
-      ap (λ (t : HostText). group_table t.group) (sym same) ∙ tables.1 ∙ ap (λ (x : Host). Ok x.groups) mine,
-    )
-
-are_site_files : (texts : List HostText) (pins : List ℕ) (site : WholeSite) (merged : Merged) (files : SiteFiles) → site_read texts pins ≡ Ok site → IsMerged site merged → ArePlannedWithOwn texts site merged files → AreSiteFiles texts site files
-are_site_files texts pins site merged files read is planned =
-    let whole = read_sites_are_whole texts pins site read in
+are_site_files : (texts : List HostText) (rules : SiteRules) (site : WholeSite) (merged : Merged) (files : SiteFiles) → site_read texts rules ≡ Ok site → IsMerged site merged → ArePlannedWithOwn texts site merged files → AreSiteFiles texts site files
+are_site_files texts rules site merged files read is planned =
+    let whole = read_sites_are_whole texts rules site read in
     let plans = planned.planned.plans in
     let outcome : Outcome = record merged.outcome { plans = plans } in
     let believed : Headline site outcome = two_passes_are_believed site merged plans whole is planned.planned.are_whole in
@@ -91,14 +72,13 @@ are_site_files texts pins site merged files read is planned =
     (record {
       is_right = with_plans site merged plans is planned.planned.are_whole;
       is_believed = believed;
-      own_files = λ h host entries text here there.
-          let tables = site_tables texts pins site read h host entries text here there in
-          hosts_keep_own_files site outcome whole believed h host entries text here tables.0 tables.1;
+      own_files = λ h host entries text loaded here there told.
+          text_keeps site outcome whole believed h host entries text loaded here (site_texts texts rules site read h host entries text here there) told;
       own_are = planned.own_are ∙ ap (λ (m : Mappings). host_files site.joined m texts (hosts_in site)) (sym (same_mappings site merged site plans is refl believed));
     })
 
 -- what is right for the site that was read, or want of memory
-pub site_files_right : (texts : List HostText) (pins : List ℕ) (site : WholeSite) (merged : Merged) → site_read texts pins ≡ Ok site → IsMerged site merged → (result : Result SiteFiles Fault) → MatchResult result (ArePlannedWithOwn texts site merged) (λ e. told e ≡ None)
+pub site_files_right : (texts : List HostText) (rules : SiteRules) (site : WholeSite) (merged : Merged) → site_read texts rules ≡ Ok site → IsMerged site merged → (result : Result SiteFiles Fault) → MatchResult result (ArePlannedWithOwn texts site merged) (λ e. told e ≡ None)
     → MatchResult result (AreSiteFiles texts site) (λ e. told e ≡ None)
-site_files_right texts pins site merged read is (Ok files) planned = are_site_files texts pins site merged files read is planned
-site_files_right texts pins site merged read is (Err e) none = none
+site_files_right texts rules site merged read is (Ok files) planned = are_site_files texts rules site merged files read is planned
+site_files_right texts rules site merged read is (Err e) none = none

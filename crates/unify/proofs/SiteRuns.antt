@@ -95,11 +95,11 @@ installed_by site outcome whole merged printed read = let say = says site outcom
 module _ (site : WholeSite) (outcome : Outcome) (whole : IsWhole site) (merged : IsOutcome site outcome) (printed : MapText) (read : map_of outcome.map ≡ Ok printed) (mappings : Mappings) (installed : AreInstalled site outcome mappings printed) where
   done_keeps : (h : ℕ) (host : Host) (files : List Entry) → slice_get site.hosts h ≡ Some (host, files)
       → (plan : PlanMark) (tree : TreeData) → IsSafeInStep (owner_in files) (plan_of site.joined merged.mappings.users merged.mappings.groups h files) Done (cells_of plan tree)
-      → (image : Image) → IsImage (cells_of plan tree) image → All (IsNamedAsBefore printed installed.passwd.rows installed.group.rows host image.owner) files
+      → (image : Image) → IsImage (cells_of plan tree) image → All (IsNamedAsBefore printed installed.passwd.rows installed.group.rows host host image.owner) files
   done_keeps h host files here plan tree finished image is_image =
       let say = says site outcome whole merged printed read in
       let after = (done_image (owner_in files) (plan_of site.joined merged.mappings.users merged.mappings.groups h files) (cells_of plan tree) finished image is_image).1 in
-      All-weaker (KeepsItsNames printed host image.owner) (IsNamedAsBefore printed installed.passwd.rows installed.group.rows host image.owner) (named_as_before site outcome mappings printed installed host image.owner) files
+      All-weaker (KeepsItsNames printed host image.owner) (IsNamedAsBefore printed installed.passwd.rows installed.group.rows host host image.owner) (named_as_before site outcome mappings printed installed host image.owner) files
       (keeps_names site.joined merged.mappings printed say h host files (whole.each_host h host files here) image.owner after)
 
   -- a host's runner and tree, as far as the events lead: safe and in step
@@ -133,7 +133,7 @@ module _ (site : WholeSite) (outcome : Outcome) (whole : IsWhole site) (merged :
       let say = says site outcome whole merged printed read in
       let mark = (start_of site m h files).mark in
       let went = host_went keep events refused runners trees goes h host files tree here at in
-      All-weaker (λ f. (image.owner f.path ≡ Some (owner_of f)) ⊎ KeepsItsNames printed host image.owner f) (IsOldOrNamed printed installed.passwd.rows installed.group.rows host image.owner) (old_or_named site outcome mappings printed installed host image.owner) files
+      All-weaker (λ f. (image.owner f.path ≡ Some (owner_of f)) ⊎ KeepsItsNames printed host image.owner f) (IsOldOrNamed printed installed.passwd.rows installed.group.rows host host image.owner) (old_or_named site outcome mappings printed installed host image.owner) files
       (old_or_kept site.joined m printed say h host files is (seen_by mark tree image) (old_or_new (owner_in files) records (seen_by mark tree image) (plan_is_old site.joined m.users m.groups h files is.files_are.distinct) (went.2.safe (seen_by mark tree image) (is_seen plan mark tree image is_image))))
 
   pub runs_keep : (keep : Keep) (events : List Event) (refused : ℕ → Option RunFault) (runners : List RunnerData) (trees : List Mem) → EachGoes known_mem (new_world keep site merged.mappings) events refused (record { runners = runners; trees = trees })

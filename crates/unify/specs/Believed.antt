@@ -65,7 +65,7 @@ DoneKeepsPrintedNames =
     (cells_of plan tree)
     → (image : Image) → IsImage (cells_of plan tree) image
     → (installed : AreInstalled site outcome merged.mappings printed)
-    × All (IsNamedAsBefore printed installed.passwd.rows installed.group.rows host image.owner)
+    × All (IsNamedAsBefore printed installed.passwd.rows installed.group.rows host host image.owner)
     files
 
 -- Two numbers, on any hosts, had one name; or none, and are one.

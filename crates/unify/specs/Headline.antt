@@ -62,20 +62,22 @@ pub record KeepsItsNames (map : MapText) (host : Host) (tree : List ℕ → Opti
   pub user : IsNewNumber (user_at host.users file.uid) map.users file.uid now.uid
   pub group : IsNewNumber (group_at host.groups file.gid) map.groups file.gid now.gid
 
--- It keeps them by the merged passwd and group as well, which name its uid and gid as its host's
--- own tables named those that it had, and name none that these did not.
+-- It keeps them by a passwd and a group as well, which name its uid and gid as the tables of the
+-- host named those that it had, and name none that these did not.
 -- users, groups: the rows of the two files
-pub record IsNamedAsBefore (map : MapText) (users : List Passwd) (groups : List Group) (host : Host)
-    (tree : List ℕ → Option Owner) (file : Entry) : Type 0 where
+-- was: the host by whose tables the names are told
+-- host: what was joined of it, which is what the map goes by
+pub record IsNamedAsBefore (map : MapText) (users : List Passwd) (groups : List Group)
+    (was host : Host) (tree : List ℕ → Option Owner) (file : Entry) : Type 0 where
   pub by_map : KeepsItsNames map host tree file
-  pub user_is : user_at users by_map.now.uid ≡ user_at host.users file.uid
-  pub group_is : group_at groups by_map.now.gid ≡ group_at host.groups file.gid
+  pub user_is : user_at users by_map.now.uid ≡ user_at was.users file.uid
+  pub group_is : group_at groups by_map.now.gid ≡ group_at was.groups file.gid
 
 -- It has the owner that the inventory tells, or is named as before.
-abbrev pub IsOldOrNamed : MapText → List Passwd → List Group → Host → (List ℕ → Option Owner)
-    → Entry → Type 0
-IsOldOrNamed map users groups host tree file =
-    (tree file.path ≡ Some (owner_of file)) ⊎ IsNamedAsBefore map users groups host tree file
+abbrev pub IsOldOrNamed : MapText → List Passwd → List Group → Host → Host
+    → (List ℕ → Option Owner) → Entry → Type 0
+IsOldOrNamed map users groups was host tree file =
+    (tree file.path ≡ Some (owner_of file)) ⊎ IsNamedAsBefore map users groups was host tree file
 
 -- how many fields of files change: owner fields and group fields
 abbrev pub fields : Cost → ℕ
@@ -95,10 +97,12 @@ untouched asked files =
 -- are carried out, in runs one after the other with any stops and failed calls: only the device
 -- refuses a further run; at every moment, whatever a stop leaves, every file has its old owner or
 -- the names that it had; and once the plan is done, every file has these names.
--- users, groups: the rows of the merged passwd and group
+-- users, groups: the rows of a passwd and a group
 -- h: the index of the host
+-- was: the host by whose tables the names are told
+-- host: what was joined of it
 pub record PlanKeepsNames (map : MapText) (users : List Passwd) (groups : List Group)
-    (plans : List (List ℕ)) (h : ℕ) (host : Host) (files : List Entry) : Type 0 where
+    (plans : List (List ℕ)) (h : ℕ) (was host : Host) (files : List Entry) : Type 0 where
   pub plan : List ℕ
   pub printed : slice_get plans h ≡ Some plan
   pub records : List PlanRecord
@@ -111,11 +115,11 @@ pub record PlanKeepsNames (map : MapText) (users : List Passwd) (groups : List G
   pub at_every_moment : (asked : ℕ) (runs : List (List HostEvent)) (end : run.Host)
       → AreRuns records (untouched asked files) runs end
       → (image : Image) → IsImage (cells_at end.state) image
-      → All (IsOldOrNamed map users groups host image.owner) files
+      → All (IsOldOrNamed map users groups was host image.owner) files
   pub kept : (asked : ℕ) (runs : List (List HostEvent)) (end : run.Host)
       → AreRuns records (untouched asked files) runs end → end.place ≡ Done
       → (image : Image) → IsImage (cells_at end.state) image
-      → All (IsNamedAsBefore map users groups host image.owner) files
+      → All (IsNamedAsBefore map users groups was host image.owner) files
 
 -- The map gives every user and group name one distinct number, in its pool or at its pin, and the
 -- merged passwd and group have exactly one row for each name, with its number; no other such
@@ -149,4 +153,5 @@ pub record Headline (site : WholeSite) (outcome : Outcome) : Type 0 where
   -- names are kept
   pub a_plan_keeps_names : (h : ℕ) (host : Host) (files : List Entry)
       → slice_get site.hosts h ≡ Some (host, files)
-      → PlanKeepsNames map installed.passwd.rows installed.group.rows outcome.plans h host files
+      → PlanKeepsNames map installed.passwd.rows installed.group.rows outcome.plans h host host
+      files

@@ -42,8 +42,9 @@ pub record HaveAccounts (host : Host) (uid gid : ℕ) : Type 0 where
   pub group : is_some (group_at host.groups gid) ≡ true
 
 -- A host that was read, with its files: its rows are some of those of a passwd and a group, and its
--- tables are lawful, as its name is; no path stands twice, each file has a user and a group, or numbers that the host
--- spares; what it spares is reserved, and the accounts over all hosts know its own.
+-- tables are lawful, as its name is; no path stands twice, each file has a user and a group, or
+-- numbers that the host spares; what it spares is reserved, and the accounts over all hosts know
+-- its own.
 -- h: its index
 pub record IsReadHost (joined : Joined) (h : ℕ) (host : Host) (files : List Entry) : Type 0 where
   pub named : is_host_name host.name ≡ true

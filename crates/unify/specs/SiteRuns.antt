@@ -45,7 +45,7 @@ DoneKeepsNames site map users groups done trees =
     → slice_get site.hosts h ≡ Some (host, files) → slice_get done h ≡ Some true
     → slice_get trees h ≡ Some tree
     → (plan : PlanMark) (image : Image) → IsImage (cells_of plan (known_mem tree)) image
-    → All (IsNamedAsBefore map users groups host image.owner) files
+    → All (IsNamedAsBefore map users groups host host image.owner) files
 
 -- on every host, done or not, every file has its old owner or the names that it had, whatever a
 -- further stop leaves
@@ -54,7 +54,7 @@ EachIsOldOrNamed site map users groups trees =
     (h : ℕ) (host : Host) (files : List Entry) (tree : Mem)
     → slice_get site.hosts h ≡ Some (host, files) → slice_get trees h ≡ Some tree
     → (plan : PlanMark) (image : Image) → IsImage (cells_of plan (known_mem tree)) image
-    → All (IsOldOrNamed map users groups host image.owner) files
+    → All (IsOldOrNamed map users groups host host image.owner) files
 
 -- A site that was merged, and whose plans went on as far as these events lead, each host by its
 -- own, none of them refused.

@@ -7,15 +7,17 @@ ghost use Rattle.unify.specs.Believed.{OutcomesAreBelieved, DoneKeepsPrintedName
 ghost use Rattle.unify.specs.Believed.{NumbersTellNames, NamedFilesHaveTheirNames};
 ghost use Rattle.unify.specs.TwoPasses.{TwoPassesAreBelieved, SecondReadingIsBelieved};
 ghost use Rattle.unify.specs.TwoPasses.{SecondReadingIsRight};
-ghost use Rattle.unify.specs.HostTexts.{HostsKeepOwnFiles, TablesAreOfTexts};
+ghost use Rattle.unify.specs.HostTexts.{BegunSitesAreInFull, HostsKeepOwnFiles};
+ghost use Rattle.unify.specs.HostTexts.{ReadSitesAreInFull, TablesAreOfTexts};
 ghost use Rattle.unify.specs.Agreeing.{PrintedCertificatesAreAccepted, PrintedMapsAreCounted};
 ghost use Rattle.unify.specs.Agreeing.{NoMapRewritesFewer, PrintedPlansAreRehearsed};
 
-/// Every site that was read is whole: it has at most 64 hosts, whose names are lawful, whose tables
-/// are those of a passwd and a group and lawful, and whose inventories have no path twice; the
-/// accounts over all hosts were joined from theirs with some pins, are lawful, and leave what is
-/// reserved to no name; and each file has a user and a group by its host's own tables, or numbers
-/// that the host spares, and as well by the accounts over all hosts, or reserved numbers.
+/// Every site that was read is whole: it has at most 64 hosts, whose names are lawful, whose rows
+/// are some of those of a passwd and a group, whose tables are lawful, and whose inventories have
+/// no path twice; the accounts over all hosts were joined from theirs with some pins, are lawful,
+/// and leave what is reserved to no name; and each file has a user and a group by its host's own
+/// tables, or numbers that the host spares, and as well by the accounts over all hosts, or reserved
+/// numbers.
 pub fn a_read_site_is_whole()
     ensures { ReadSitesAreWhole }
 {}
@@ -101,12 +103,16 @@ pub fn second_reading_is_believed()
 {}
 
 /// Where what was merged has the headline, each host's own passwd and group with their new numbers
-/// are, line by line, those of the host but for the numbers; and what the headline says of the
-/// host's plan holds with these two in place of the merged ones. The texts are those that the
-/// tables of the hosts were read from, each at the index of its host.
+/// are, line by line, those of the host but for the numbers of what was joined of it; each user has
+/// the primary group that it had; and what the headline says of the host's plan holds with these
+/// two in place of the merged ones, by the names that the host has in full. The texts are those
+/// that the tables of the hosts were read from, each at the index of its host. With an empty keep
+/// text all rows of each host were joined, and so every line has the new numbers of its names.
 pub fn hosts_keep_own_files()
     ensures keep { HostsKeepOwnFiles }
     ensures texts { TablesAreOfTexts }
+    ensures begun { BegunSitesAreInFull }
+    ensures read { ReadSitesAreInFull }
 {}
 
 /// The cost of a map by its pairs and each host's own tables, which `count` answers, is that of its

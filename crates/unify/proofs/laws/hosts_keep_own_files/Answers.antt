@@ -6,3 +6,9 @@ returns-clause-keep c = own.hosts_keep_own_files
 
 pub returns-clause-texts : goal.returns-clause-texts
 returns-clause-texts c = own.tables_are_of_texts
+
+pub returns-clause-begun : goal.returns-clause-begun
+returns-clause-begun c = own.begun_sites_are_in_full
+
+pub returns-clause-read : goal.returns-clause-read
+returns-clause-read c = own.read_sites_are_in_full

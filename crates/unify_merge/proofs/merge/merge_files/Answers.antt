@@ -10,7 +10,7 @@ pub returns-clause-merged : goal.returns-clause-merged
 returns-clause-merged g c =
     let h = c.in_ok-solved.ensures.solved in
     if_ok c.write_merged.result _ _ (λ cost written.
-    has_merged c.args.hosts.now c.args.pins.now c.in_ok-solved.solved (g.F.ReadFiles.ledger c.args.files.now) (g.F.ReadFiles.ledger c.solve_hosts.new.files) (g.F.ReadFiles.ledger c.write_merged.new.files) cost h c.in_ok-solved.ensures.reads (written h.were h.was_read))
+    has_merged c.args.hosts.now c.args.rules.now c.in_ok-solved.solved (g.F.ReadFiles.ledger c.args.files.now) (g.F.ReadFiles.ledger c.solve_hosts.new.files) (g.F.ReadFiles.ledger c.write_merged.new.files) cost h c.in_ok-solved.ensures.reads (written h.were h.was_read))
     c.write_merged.ensures.written
 
 pub returns-clause-stopped : goal.returns-clause-stopped
@@ -18,7 +18,7 @@ returns-clause-stopped g c =
     let h = c.in_ok-solved.ensures.solved in
     let now = c.write_merged.new.files in
     if_err c.write_merged.result _ _ (λ fault stopped.
-    written_stopped c.args.hosts.now c.args.pins.now (g.F.ReadFiles.ledger c.args.files.now) (g.F.ReadFiles.ledger c.solve_hosts.new.files) (g.F.ReadFiles.ledger now) c.in_ok-solved.solved (g.F.ReadFiles.has_failed now) fault h (stopped h.were h.was_read))
+    written_stopped c.args.hosts.now c.args.rules.now (g.F.ReadFiles.ledger c.args.files.now) (g.F.ReadFiles.ledger c.solve_hosts.new.files) (g.F.ReadFiles.ledger now) c.in_ok-solved.solved (g.F.ReadFiles.has_failed now) fault h (stopped h.were h.was_read))
     c.write_merged.ensures.stopped
 
 pub returns-clause-begun : goal.returns-clause-begun
