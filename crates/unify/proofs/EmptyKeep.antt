@@ -20,7 +20,7 @@ use Rattle.unify.specs.Others.{Others, others_loaded, others_read, pinned_site, 
 use Rattle.unify.specs.Reading.{WholeSite, site_read}
 use Rattle.unify.specs.Told.{in_pins, in_site}
 use Rattle.unify.proofs.Adding.{loaded_from-parts}
-use Rattle.unify.proofs.Others.{all-left}
+use Rattle.unify.proofs.LeftHosts.{all-left}
 use Rattle.unify.proofs.Reading.{as_loaded, loaded-unsparing}
 use Rattle.unify.proofs.ReadSites.{pins-ok}
 

@@ -35,7 +35,7 @@ use Rattle.unify.specs.Told.{in_site}
 use Rattle.unify.proofs.InFull.{numbered_rows, own_group_in_full, own_passwd_in_full, primary_groups}
 use Rattle.unify.proofs.Installed.{is-paired, mapped-there, paired}
 use Rattle.unify.proofs.KeptPart.{kept_part}
-use Rattle.unify.proofs.Others.{left}
+use Rattle.unify.proofs.LeftHosts.{left}
 use Rattle.unify.proofs.Reading.{loaded-read, tables-of}
 use Rattle.unify.proofs.ReadSites.{AreLoaded, all-joined, are-loaded, are-pinned, hosts-are, reserved-are, steps}
 

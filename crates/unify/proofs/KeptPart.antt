@@ -87,7 +87,7 @@ module _ {Row : Type 0} (name : Row → List ℕ) (number : Row → ℕ) (kept :
     joined-rows reserved = record {
       joined_are = sym (filter-same (λ row. is_name a.names (name row)) (λ row. not (kept (name row))) (table full) of-site);
       kept = λ k d within none.
-          let pair = λ (r : Row). (name r, number r) in
+          let pair : Row → List ℕ × ℕ = λ r. (name r, number r) in
           let row = get_or (table full) k d in
           let is : kept (name row) ≡ true = by (kept (name row)) (sym (of-site k d within) ∙ none) in
           let inside : k < length (map pair (table full)) = omega (arith, within, length-map (table full) pair) in

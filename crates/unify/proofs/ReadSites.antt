@@ -1,5 +1,5 @@
 -- A site that was read, step by step, and that it is whole.
-use Rattle.std.proofs.Common.{◌≡◌, ◌≤◌, List, [], length, map, Result, Ok, sym, ap, subst, ◌∙◌, arith}
+use Rattle.std.proofs.Common.{◌≡◌, ◌≤◌, ℕ, true, List, [], length, map, Result, Ok, Err, sym, ap, subst, ◌∙◌, arith}
 use Rattle.std.specs.List.{All}
 use Rattle.std.proofs.lemmas.List.{length-map}
 use Rattle.idtext.specs.First.{each}
@@ -27,12 +27,12 @@ use Rattle.unify.specs.Passes.{AreTogether}
 use Rattle.unify.specs.Reading.{WholeSite, site_read}
 use Rattle.unify.specs.Sparing.{SparesNothing}
 use Rattle.unify.specs.Told.{in_pins, in_site}
-use Rattle.unify.proofs.Others.{AreOthersBy, all-left, left, left-lawful, left-named, left-read, left-spares, others-by}
+use Rattle.unify.proofs.LeftHosts.{AreOthersBy, all-left, left, left-lawful, left-named, left-read, left-spares, others-by}
 use Rattle.unify.proofs.Reading.{hosts-few, loaded-lawful, loaded-named, loaded-read, loaded-unsparing, texts-named, whole-read}
 use Rattle.unify.proofs.Sparing.{leaves_reserved}
 use Rattle.unify.proofs.Whole.{hosts_held, site_ok, together}
 
-pins-ok : {A : Type 0} (r : Result A PinsFault) (x : A) → in_pins r ≡ Ok x → r ≡ Ok x
+pub pins-ok : {A : Type 0} (r : Result A PinsFault) (x : A) → in_pins r ≡ Ok x → r ≡ Ok x
 pins-ok (Ok y) x h = ap (λ z. Ok z) (ok_same y x h)
 pins-ok (Err e) x h = absurd (cc)
 

@@ -1,14 +1,16 @@
-use Rattle.std.proofs.Common.{◌≡◌, ap, refl, sym, ◌∙◌}
+use Rattle.std.proofs.Common.{◌≡◌, List, length, Ok, ap, sym, ◌∙◌}
 use Rattle.std.proofs.lemmas.Result.{err_from_is_err_and}
 use Rattle.hosts_join.specs.Checks.{hosts_checked}
+use Rattle.hosts_join.specs.declared.host.Host.{Host}
 use Rattle.unify_texts.specs.Told.{told}
-use Rattle.unify.specs.Others.{Others, others_loaded, pinned_site}
+use Rattle.unify.specs.declared.site.JoinedHosts.{JoinedHosts}
+use Rattle.unify.specs.Others.{others_loaded}
 use Rattle.unify.specs.OthersHeld.{others_in}
 use Rattle.unify.specs.Passes.{site_begun}
 use Rattle.unify.specs.Told.{in_site}
 use Rattle.unify.proofs.Faults.{passed_on}
-use Rattle.unify.proofs.OthersHeld.{begun_held}
-use Rattle.unify.proofs.Whole.{list_refused, others_refused, site_ok}
+use Rattle.unify.proofs.OthersHeld.{begun_held, if_hosts}
+use Rattle.unify.proofs.Whole.{list_refused, others_refused}
 use Rattle.unify.proofs.site.join_tables.Goals as goal
 
 pub returns-in_err-check_list-clause-begun : goal.returns-in_err-check_list-clause-begun
@@ -19,7 +21,22 @@ returns-in_err-check_list-clause-begun c =
     rw (p.1, p.2) (passed_on (told c.in_err-check_list.field-0.0) (in_site (hosts_checked texts)) (site_begun texts rules) (list_refused texts rules) c.in_err-check_list.ensures.exact)
 
 pub returns-in_err-others-clause-begun : goal.returns-in_err-others-clause-begun
-returns-in_err-others-clause-begun c = ?
+returns-in_err-others-clause-begun c =
+    let p = err_from_is_err_and c.from_residual-in_err-others.result c.from_residual-in_err-others.ensures.1 in
+    let texts = c.args.host_texts.now in
+    let rules = c.args.rules.now in
+    rw (p.1, p.2)
+    (passed_on (told c.in_err-others.field-0.0) (others_loaded texts c.bytes.result.now) (site_begun texts rules)
+    (λ f h. others_refused texts rules c.in_ok-check_list.field-0 c.in_ok-check_list.ensures.exact f (ap (others_loaded texts) (sym c.bytes.ensures) ∙ h)) c.in_err-others.ensures.read)
 
 pub returns-clause-begun : goal.returns-clause-begun
-returns-clause-begun c = ?
+returns-clause-begun c =
+    let texts = c.args.host_texts.now in
+    let rules = c.args.rules.now in
+    let others = c.in_ok-others.others in
+    let read : others_loaded texts rules.keep ≡ Ok (others_in others) = ap (others_loaded texts) (sym c.bytes.ensures) ∙ c.in_ok-others.ensures.read in
+    begun_held texts c.in_ok-check_list.field-0 c.in_ok-check_list.ensures.exact others rules c.bytes-2.result.now c.bytes-2.ensures read c.join_others.result c.join_others.ensures.site c.join_others.ensures.hosts
+
+pub returns-clause-hosts : goal.returns-clause-hosts
+returns-clause-hosts c =
+    if_hosts (λ (held : JoinedHosts). held.hosts.items) c.in_ok-others.others.hosts.items (λ (hs : List Host). length hs ≡ length c.args.host_texts.now) c.join_others.result c.join_others.ensures.hosts c.in_ok-others.ensures.len

@@ -3,7 +3,7 @@ use Rattle.std.proofs.Common.{◌≡◌, ℕ, ◌||◌, Bool, true, false, cond,
 use Rattle.std.specs.List.{All, Contains, filter}
 use Rattle.std.proofs.lemmas.List.{get_or_default}
 use Rattle.std.proofs.lemmas.List.Elements.{All-contains_itself, All-filter, All-head, All-map, All-tail}
-use Rattle.idtext.specs.First.{first_fault, unless}
+use Rattle.idtext.specs.First.{◌>>=◌, first_fault, unless}
 use Rattle.idtext.proofs.OkLemmas.{bind_ok, ok_same}
 use Rattle.idtext.proofs.PieceLemmas.{lines-empty}
 use Rattle.accounts.specs.Rows.{Passwd, Group}
@@ -68,6 +68,14 @@ others-by text hosts others h =
       groups_owned = is.2;
       are = ap (λ (k : KeepText). others_of k hosts) is.0 ∙ ok_same (others_of kept.0 hosts) others kept.2;
     }
+
+pub keep_refused : (text : List ℕ) (hosts : List Host) (f : Fault) → keep_read text ≡ Err f → others_read text hosts ≡ Err f
+unfolding others_read
+keep_refused text hosts f h = ap (λ r. r >>= λ (keep : KeepText). Ok (others_of keep hosts)) h
+
+pub others_are : (text : List ℕ) (hosts : List Host) (keep : KeepText) (others : Others) → keep_read text ≡ Ok keep → others ≡ others_of keep hosts → others_read text hosts ≡ Ok others
+unfolding others_read
+others_are text hosts keep others h same = ap (λ r. r >>= λ (keep : KeepText). Ok (others_of keep hosts)) h ∙ ap (λ o. Ok o) (sym same)
 
 -- ---- hosts without their kept rows
 
