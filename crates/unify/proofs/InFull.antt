@@ -10,7 +10,7 @@ use Rattle.accounts.specs.Rows.{Passwd, Group}
 use Rattle.accounts.specs.Tables.{passwd_table, group_table}
 use Rattle.hosts_join.specs.Accounts.{Accounts, Pair, place_of}
 use Rattle.hosts_join.specs.Hosts.{IsLawfulHost}
-use Rattle.hosts_join.specs.Kinds.{user_at, group_at}
+use Rattle.hosts_join.specs.Kinds.{group_at}
 use Rattle.hosts_join.specs.Laws.{IsOwnedAsTold, KnowsHost, LeavesOut}
 use Rattle.hosts_join.specs.Lawful.{AreLawfulAccounts}
 use Rattle.hosts_join.specs.Rules.{is_name, is_reserved}

@@ -109,12 +109,12 @@ kept_part keep hosts pins joined full there is uids gids =
     record {
       users = joined-rows (λ (r : Passwd). r.name) (λ (r : Passwd). r.uid) (is_kept_user keep hosts) joined.users (λ (h : Host). h.users) hosts full there
           (λ n. ap (λ (a : Accounts). is_name a.names n) all.users
-              ∙ named_somewhere (λ (r : Passwd). r.name) (λ (r : Passwd). r.uid) (λ (h : Host). h.users) (λ (h : Host). h.ranges.uid) (λ (h : Host). h.ranges.sys_uid) others n
-              ∙ any_map (λ (h : Host). is_some (find (λ (r : Passwd). bytes_eq n r.name) h.users)) left hosts)
+          ∙ named_somewhere (λ (r : Passwd). r.name) (λ (r : Passwd). r.uid) (λ (h : Host). h.users) (λ (h : Host). h.ranges.uid) (λ (h : Host). h.ranges.sys_uid) others n
+          ∙ any_map (λ (h : Host). is_some (find (λ (r : Passwd). bytes_eq n r.name) h.users)) left hosts)
           (λ row has kept. subst (λ rs. is_reserved rs row.1 ≡ true) uids (reserved-alone (reserved_users keep hosts []) full row ((alone row there).0 has kept)));
       groups = joined-rows (λ (r : Group). r.name) (λ (r : Group). r.gid) (is_kept_group keep hosts) joined.groups (λ (h : Host). h.groups) hosts full there
           (λ n. ap (λ (a : Accounts). is_name a.names n) all.groups
-              ∙ named_somewhere (λ (r : Group). r.name) (λ (r : Group). r.gid) (λ (h : Host). h.groups) (λ (h : Host). h.ranges.gid) (λ (h : Host). h.ranges.sys_gid) others n
-              ∙ any_map (λ (h : Host). is_some (find (λ (r : Group). bytes_eq n r.name) h.groups)) left hosts)
+          ∙ named_somewhere (λ (r : Group). r.name) (λ (r : Group). r.gid) (λ (h : Host). h.groups) (λ (h : Host). h.ranges.gid) (λ (h : Host). h.ranges.sys_gid) others n
+          ∙ any_map (λ (h : Host). is_some (find (λ (r : Group). bytes_eq n r.name) h.groups)) left hosts)
           (λ row has kept. subst (λ rs. is_reserved rs row.1 ≡ true) gids (reserved-alone (reserved_groups keep hosts []) full row ((alone row there).1 has kept)));
     }

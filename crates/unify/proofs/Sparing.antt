@@ -16,7 +16,6 @@ use Rattle.hosts_join.specs.Site.{Joined, joined_site}
 use Rattle.hosts_join.specs.declared.Class.{Class}
 use Rattle.hosts_join.specs.declared.Class.TheVariants.{Pinned, Regular, System}
 use Rattle.hosts_join.specs.declared.host.Host.{Host}
-use Rattle.hosts_join.specs.declared.reserving.Reserved.{Reserved}
 use Rattle.hosts_join.proofs.Grouping.{bytes_same}
 use Rattle.hosts_join.proofs.Knowing.{site-is}
 use Rattle.hosts_join.proofs.Pairing.{place-holds}

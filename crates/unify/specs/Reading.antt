@@ -1,5 +1,5 @@
--- What the texts of hosts and the rules of a site say of it, or the first fault: the host list; host
--- by host its files but the inventory; the keep text; the pins text; the join, users and then
+-- What the texts of hosts and the rules of a site say of it, or the first fault: the host list;
+-- host by host its files but the inventory; the keep text; the pins text; the join, users and then
 -- groups; host by host the inventory and its owners.
 -- Source: this project's own rule.
 use Rattle.std.specs.Prelude.{ℕ, ◌+◌, List, [], ◌∷◌, ◌++◌, map, Result, Ok}

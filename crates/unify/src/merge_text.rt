@@ -100,8 +100,8 @@ fn site_text(alloc: Global, hosts: &[HostText], files: &SiteFiles) -> Result<Vec
     Ok(text)
 }
 
-/// What goes out for a merge of these hosts with these rules: the files of its outcome, or the fault
-/// line with its status. An error is a growth that was refused.
+/// What goes out for a merge of these hosts with these rules: the files of its outcome, or the
+/// fault line with its status. An error is a growth that was refused.
 ///
 /// Beside what `consolidate` takes, it is one pass over the texts of the outcome.
 pub fn merge_reply(

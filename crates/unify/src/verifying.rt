@@ -105,7 +105,8 @@ pub fn verify<'a>(
     rules: &SiteRules<'a>,
     certificate: &'a [u8],
 ) -> Result<u64, Fault<'a>>
-    ensures exact { Gives (λ cost. cost) told result (verified hosts.now rules.now certificate.now) }
+    ensures exact { Gives (λ cost. cost) told result
+        (verified hosts.now rules.now certificate.now) }
     ensures proved { IfOk result (IsVerified hosts.now rules.now certificate.now) }
 {
     match read_site(alloc, hosts, rules) {

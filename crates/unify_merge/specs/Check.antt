@@ -15,8 +15,8 @@ use Rattle.unify_merge.specs.declared.fault.MergeFault.TheVariants.{Failed, TooL
 
 -- The inventory of each host was read once. With these this is the cost that a check answers, and
 -- it means what a yes does.
-pub record HasChecked (hosts : List HostText) (rules : SiteRules) (certificate : List ℕ) (old new : Ledger)
-    (cost : ℕ) : Type 0 where
+pub record HasChecked (hosts : List HostText) (rules : SiteRules) (certificate : List ℕ)
+    (old new : Ledger) (cost : ℕ) : Type 0 where
   pub texts : List (List ℕ)
   pub were_read : WereEachRead hosts texts old new
   pub answer : verified (with_inventories hosts texts) rules certificate ≡ Ok cost

@@ -14,8 +14,8 @@ use Rattle.unify_merge.specs.declared.fault.MergeFault.{MergeFault}
 use Rattle.unify_merge.specs.declared.fault.MergeFault.TheVariants.{Failed, TooLarge, Refused}
 
 -- The inventory of each host was read once. With these this is the cost that a count answers.
-pub record HasCounted (hosts : List HostText) (keep_text map_text : List ℕ) (old new : Ledger) (cost : Cost)
-    : Type 0 where
+pub record HasCounted (hosts : List HostText) (keep_text map_text : List ℕ) (old new : Ledger)
+    (cost : Cost) : Type 0 where
   pub texts : List (List ℕ)
   pub were_read : WereEachRead hosts texts old new
   pub answer : count_of (with_inventories hosts texts) keep_text map_text ≡ Ok cost
@@ -29,7 +29,8 @@ IsCountFault hosts keep_text map_text old new f =
 
 -- why a count ended early: a call failed, an inventory is too large, or what was read is refused;
 -- or memory was wanting
-abbrev pub StopsCount : List HostText → List ℕ → List ℕ → Ledger → Ledger → Bool → MergeFault → Type 0
+abbrev pub StopsCount : List HostText → List ℕ → List ℕ → Ledger → Ledger → Bool → MergeFault
+    → Type 0
 StopsCount hosts keep_text map_text old new failed Failed = failed ≡ true
 StopsCount hosts keep_text map_text old new failed TooLarge = IsTooLarge new
 StopsCount hosts keep_text map_text old new failed (Refused e) =

@@ -68,8 +68,8 @@ pub record AreInventories (hosts : List Host) (texts : List (List ℕ))
 
 -- the tables and the rules were read, and the inventory of each host once; what was merged is right
 -- for that reading
-pub record HasSolved (texts : List HostText) (rules : SiteRules) (old new : Ledger) (s : SolvedValue)
-    : Type 0 where
+pub record HasSolved (texts : List HostText) (rules : SiteRules) (old new : Ledger)
+    (s : SolvedValue) : Type 0 where
   pub begun : BegunSite
   pub begun_is : site_begun texts rules ≡ Ok begun
   pub first : List (List ℕ)
@@ -105,8 +105,8 @@ pub record HasWritten (names : List HostText) (s : SolvedValue) (read : List (Ho
 -- both times. What was merged is right for the second reading, and has the headline of it; and each
 -- host's own passwd and group with their new numbers keep the names of its files as well. It stands
 -- in its files, which are all that was written.
-pub record HasMerged (texts : List HostText) (rules : SiteRules) (old new : Ledger) (cost : Cost) : Type
-    0 where
+pub record HasMerged (texts : List HostText) (rules : SiteRules) (old new : Ledger)
+    (cost : Cost) : Type 0 where
   pub begun : BegunSite
   pub begun_is : site_begun texts rules ≡ Ok begun
   pub first : List (List ℕ)
@@ -138,8 +138,8 @@ pub record IsSecondFault (texts : List HostText) (rules : SiteRules) (old new : 
   pub first_read : AreInventories begun.hosts first were
   pub change : IsSiteChange were (record old { read = old.read ++ readings_from 0 first }) new f
 
--- The first fault of what was read: of the tables or the rules, or of an inventory, and then nothing
--- was written; or a change of an inventory between its readings.
+-- The first fault of what was read: of the tables or the rules, or of an inventory, and then
+-- nothing was written; or a change of an inventory between its readings.
 abbrev pub IsMergeFault : List HostText → SiteRules → Ledger → Ledger → Fault → Type 0
 IsMergeFault texts rules old new f =
     ((site_begun texts rules ≡ Err f) × ReadsOnly old new)
@@ -152,4 +152,5 @@ IsMergeFault texts rules old new f =
 abbrev pub StopsMerge : List HostText → SiteRules → Ledger → Ledger → Bool → MergeFault → Type 0
 StopsMerge texts rules old new failed Failed = failed ≡ true
 StopsMerge texts rules old new failed TooLarge = IsTooLarge new
-StopsMerge texts rules old new failed (Refused e) = IfSome (told e) (IsMergeFault texts rules old new)
+StopsMerge texts rules old new failed (Refused e) =
+    IfSome (told e) (IsMergeFault texts rules old new)

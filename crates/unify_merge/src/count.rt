@@ -12,9 +12,9 @@ use std::alloc::Global;
 use unify::{Cost, begin_count};
 
 /// How many owner and group fields of files the numbers of a map text change, for any map whose
-/// names are exactly those of the hosts that the keep text does not keep; it need keep no pin and no
-/// pool. The tables of the hosts, the keep text and the map are given as texts, and the inventories
-/// are read from the files, once; those among the texts are not looked at.
+/// names are exactly those of the hosts that the keep text does not keep; it need keep no pin and
+/// no pool. The tables of the hosts, the keep text and the map are given as texts, and the
+/// inventories are read from the files, once; those among the texts are not looked at.
 ///
 /// Each inventory is read when its host's turn comes, piece by piece, and none is kept. It stops
 /// early where a call on the files fails, where an inventory has more than 4,294,967,295 bytes, at
