@@ -115,8 +115,8 @@ fn load_tables<'a>(alloc: Global, texts: &'a [HostText]) -> Result<Vec<Host<'a>>
     Ok(all.into_iter().map(|loaded| loaded.host).collect(alloc)?)
 }
 
-/// Reads the files of all hosts but their inventories, as `load_hosts` does, and the keep text. What
-/// is joined of the hosts is what it answers, with the numbers that no name is to be given.
+/// Reads the files of all hosts but their inventories, as `load_hosts` does, and the keep text. It
+/// answers what is joined of the hosts, with the numbers that no name is to be given.
 pub fn load_others<'a>(
     alloc: Global,
     texts: &'a [HostText],

@@ -17,7 +17,7 @@ use Rattle.unify.specs.declared.outcome.Outcome.{Outcome}
 use Rattle.unify.specs.declared.rules.SiteRules.{SiteRules}
 use Rattle.unify.specs.Count.{site_of}
 use Rattle.unify.specs.Headline.{Headline}
-use Rattle.unify.specs.HostTexts.{host_files}
+use Rattle.unify.specs.HostTexts.{AreJoinedInFull, host_files}
 use Rattle.unify.specs.Laws.{IsWhole}
 use Rattle.unify.specs.Loading.{loaded_from}
 use Rattle.unify.specs.Merging.{IsMerged, mappings_in}
@@ -26,7 +26,7 @@ use Rattle.unify.specs.Passes.{AreTogether, BegunSite, InventoriesValue, StandsF
 use Rattle.unify.specs.Reading.{WholeSite}
 use Rattle.unify.specs.SecondPass.{IsSolvedFrom, SolvedValue}
 use Rattle.unify.proofs.BetweenPasses.{over_whole}
-use Rattle.unify.proofs.HostTexts.{tables_are_of_texts, text_keeps}
+use Rattle.unify.proofs.HostTexts.{begun_sites_are_in_full, tables_are_of_texts, text_keeps}
 use Rattle.unify.proofs.OwnFiles.{same_mappings}
 use Rattle.unify.proofs.SecondReading.{second_reading_is_believed, second_reading_is_right, still_whole}
 use Rattle.unify.proofs.Whole.{hosts_held}
@@ -173,6 +173,7 @@ has_merged texts rules s old mid new cost h reads w =
       own_files = λ k host files text loaded at there is_told.
           let here : slice_get h.begun.hosts k ≡ Some host = ap (λ hs. slice_get hs k) (sym held) ∙ slice_get-map first w.site.again k ∙ ap (option_map first) at in
           text_keeps site outcome merged.whole merged.believed k host files text loaded at (tables_are_of_texts texts rules h.begun k host text h.begun_is here there) is_told;
+      in_full = λ none. subst (λ (hs : List Host). AreJoinedInFull hs texts) (sym held) (begun_sites_are_in_full texts rules.pins h.begun (ap (λ (keep : List ℕ). site_begun texts (record { pins = rules.pins; keep = keep })) (sym none) ∙ h.begun_is));
       files = merged.files;
       cost_is = w.cost_is;
     }

@@ -15,7 +15,7 @@ use Rattle.unify.specs.declared.rules.SiteRules.{SiteRules}
 use Rattle.unify.specs.declared.site_files.NamedText.{NamedText}
 use Rattle.unify.specs.Count.{site_of}
 use Rattle.unify.specs.Headline.{Headline}
-use Rattle.unify.specs.HostTexts.{EachKeepsOwnFiles, host_files}
+use Rattle.unify.specs.HostTexts.{AreJoinedInFull, EachKeepsOwnFiles, host_files}
 use Rattle.unify.specs.Laws.{IsWhole}
 use Rattle.unify.specs.Loading.{loaded_from}
 use Rattle.unify.specs.Merging.{IsMerged, mappings_in}
@@ -103,8 +103,9 @@ pub record HasWritten (names : List HostText) (s : SolvedValue) (read : List (Ho
 
 -- The tables and the rules were read; the inventory of each host was read twice, and is accepted
 -- both times. What was merged is right for the second reading, and has the headline of it; and each
--- host's own passwd and group with their new numbers keep the names of its files as well. It stands
--- in its files, which are all that was written.
+-- host's own passwd and group with their new numbers keep the names of its files as well. With an
+-- empty keep text all rows of each host were joined. What was merged stands in its files, which are
+-- all that was written.
 pub record HasMerged (texts : List HostText) (rules : SiteRules) (old new : Ledger)
     (cost : Cost) : Type 0 where
   pub begun : BegunSite
@@ -121,6 +122,7 @@ pub record HasMerged (texts : List HostText) (rules : SiteRules) (old new : Ledg
   pub is_believed : Headline (record { hosts = are; joined = begun.joined }) outcome
   pub own_files : EachKeepsOwnFiles (record { hosts = are; joined = begun.joined }) outcome
       is_believed texts
+  pub in_full : rules.keep ≡ [] → AreJoinedInFull (map (λ h. h.0) are) texts
   pub files : new
       ≡ record (after_files (merged_files texts begun is_believed.mappings outcome)
       (cleared old)) { read = new.read; reading = new.reading; writing = new.writing }
