@@ -1,5 +1,5 @@
 -- What one command prints, and what another answers to it.
-use Rattle.std.proofs.Common.{◌≡◌, ◌<◌, ◌≤◌, ℕ, zero, suc, List, [], ◌∷◌, ◌++◌, length, Some, None, Ok, refl, sym, ap, subst, ◌∙◌, arith}
+use Rattle.std.proofs.Common.{◌≡◌, ◌<◌, ◌≤◌, ℕ, zero, suc, List, [], ◌∷◌, ◌++◌, length, map, Some, None, Ok, refl, sym, ap, subst, ◌∙◌, arith}
 use Rattle.std.specs.List.{slice_get}
 use Rattle.std.proofs.lemmas.Bool.{eq-eqb}
 use Rattle.std.proofs.lemmas.List.Elements.{All-head, All-tail}
@@ -20,27 +20,29 @@ use Rattle.reown_plan.specs.Reading.{ReadsAs}
 use Rattle.reown_runner.specs.Finished.{AreOld}
 use Rattle.reown_runner.specs.Memory.{owner_in}
 use Rattle.unify_texts.specs.declared.bundle_line.FileName.TheVariants as file
+use Rattle.unify.specs.declared.host.Loaded.{Loaded}
 use Rattle.unify.specs.Agreeing.{PrintedCertificatesAreAccepted, NoMapRewritesFewer, PrintedPlansAreRehearsed}
 use Rattle.unify.specs.Checking.{verified}
 use Rattle.unify.specs.Cost.{cost_of}
 use Rattle.unify.specs.Count.{site_of}
 use Rattle.unify.specs.Headline.{fields}
-use Rattle.unify.specs.Hosts.{files_of, host_of}
+use Rattle.unify.specs.Hosts.{files_of}
+use Rattle.unify.specs.Loading.{loaded_from}
 use Rattle.unify.specs.Reading.{files_of_site}
 use Rattle.unify.specs.Rehearsing.{found_fault, record_fault}
 use Rattle.unify.specs.Told.{in_file}
 use Rattle.unify.proofs.Believed.{outcomes_are_believed}
 use Rattle.unify.proofs.Costs.{costs_agree}
 use Rattle.unify.proofs.Owners.{files_read}
-use Rattle.unify.proofs.Reading.{as_loaded, read_sites_are_whole, steps}
+use Rattle.unify.proofs.ReadSites.{read_sites_are_whole, steps}
 use Rattle.unify.proofs.Rehearsed.{carried_out}
 use Rattle.unify.proofs.RunSites.{as_many_hosts}
 use Rattle.unify.proofs.SiteRuns.{some_same}
 
 pub printed_certificates_are_accepted : PrintedCertificatesAreAccepted
 unfolding verified
-printed_certificates_are_accepted texts pins_text site outcome read o =
-    let whole = read_sites_are_whole texts pins_text site read in
+printed_certificates_are_accepted texts rules site outcome read o =
+    let whole = read_sites_are_whole texts rules site read in
     let files = files_of_site site in
     let c = o.certificate in
     let said : certificate_in outcome.certificate ≡ Ok c = ap certificate_in o.printed.certificate ∙ spelled_is_read c (record { users = o.answered.user_side; groups = o.answered.group_side }) in
@@ -49,9 +51,9 @@ printed_certificates_are_accepted texts pins_text site outcome read o =
     rw (read, said, yes, cost) refl
 
 pub no_map_rewrites_fewer : NoMapRewritesFewer
-no_map_rewrites_fewer texts pins_text text cost is other m users groups =
+no_map_rewrites_fewer texts rules text cost is other m users groups =
     let site = is.site in
-    let whole = read_sites_are_whole texts pins_text site is.read in
+    let whole = read_sites_are_whole texts rules site is.read in
     let least = is.accepted.best.least.least m (record { users = users.admissible; groups = groups.admissible }) in
     subst (λ c. c ≤ fields (cost_of other site.hosts)) (sym is.accepted.cost)
     (subst (λ c. site_cost site.joined (files_of_site site) (mappings_of site.joined is.certificate) ≤ fields c) (sym (costs_agree site m other whole users.say groups.say)) least)
@@ -76,20 +78,27 @@ none_faulty files before (r ∷ records) old =
     let here : record_fault files before r ≡ None = ap (found_fault r) (All-head is_old r records old) ∙ old_is_right r in
     ap (λ o. or_else o (first_fault (record_fault files) (before ++ r ∷ []) records)) here ∙ none_faulty files (before ++ r ∷ []) records (All-tail is_old r records old)
 
+-- a host at an index stands with the inventory of the text at it
+inventory_at : (hosts : List Host) (texts : List HostText) (h : ℕ) (l : Loaded) (text : HostText) → slice_get (loaded_from hosts (map (λ t. t.mtree) texts)) h ≡ Some l → slice_get texts h ≡ Some text → l.mtree ≡ text.mtree
+inventory_at [] texts h l text here there = absurd (cc)
+inventory_at (host ∷ hosts) [] h l text here there = absurd (cc)
+inventory_at (host ∷ hosts) (t ∷ texts) zero l text here there = sym (ap (λ (x : Loaded). x.mtree) (some_same (record { host = host; mtree = t.mtree }) l here)) ∙ ap (λ (x : HostText). x.mtree) (some_same t text there)
+inventory_at (host ∷ hosts) (t ∷ texts) (suc h) l text here there = inventory_at hosts texts h l text here there
+
 pub printed_plans_are_rehearsed : PrintedPlansAreRehearsed
-printed_plans_are_rehearsed texts pins_text site outcome read o h text plan text_at plan_at =
-    let s = steps texts pins_text site read in
-    let at = item_at site.hosts h (omega (arith, slice_get_within texts h text text_at, as_many_hosts texts pins_text site read)) in
+printed_plans_are_rehearsed texts rules site outcome read o h text plan text_at plan_at =
+    let s = steps texts rules site read in
+    let mtrees = map (λ (t : HostText). t.mtree) texts in
+    let at = item_at site.hosts h (omega (arith, slice_get_within texts h text text_at, as_many_hosts texts rules site read)) in
     let host : Host = at.0.0 in
     let files : List Entry = at.0.1 in
-    let loaded = each-ok site_of s.loaded site.hosts s.files_are h at.0 at.1 in
-    let from = each-ok host_of texts s.loaded s.hosts_are h loaded.0 loaded.1 in
-    let same : from.0 ≡ text = some_same from.0 text (sym from.1 ∙ text_at) in
+    let loaded = each-ok site_of (loaded_from s.others.hosts mtrees) site.hosts s.files_are h at.0 at.1 in
+    let same : loaded.0.mtree ≡ text.mtree = inventory_at s.others.hosts texts h loaded.0 text loaded.1 text_at in
     let read_here = bind_ok (files_of loaded.0) (λ fs. Ok (loaded.0.host, fs)) at.0 loaded.2 in
     let pair : (loaded.0.host, read_here.0) ≡ at.0 = ok_same (loaded.0.host, read_here.0) at.0 read_here.2 in
     let listed : inventory 16777216 text.mtree ≡ Ok files =
-    ap (λ (t : HostText). inventory 16777216 t.mtree) (sym same) ∙ ap (inventory 16777216) (as_loaded from.0 loaded.0 from.2).1 ∙ (files_read loaded.0 read_here.0 read_here.1).0 ∙ ap (λ (p : Host × List Entry). Ok p.1) pair in
-    let found = (outcomes_are_believed site outcome (read_sites_are_whole texts pins_text site read) o).a_plan_keeps_names h host files at.1 in
+    ap (inventory 16777216) (sym same) ∙ (files_read loaded.0 read_here.0 read_here.1).0 ∙ ap (λ (p : Host × List Entry). Ok p.1) pair in
+    let found = (outcomes_are_believed site outcome (read_sites_are_whole texts rules site read) o).a_plan_keeps_names h host files at.1 in
     let told : PlanData = record { host = host.name; records = found.records } in
     let reads : ReadsAs plan (Ok told) = subst (λ p. ReadsAs p (Ok told)) (some_same found.plan plan (sym found.printed ∙ plan_at)) found.read in
     let none = none_faulty files [] found.records found.begins in

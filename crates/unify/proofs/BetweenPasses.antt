@@ -1,30 +1,24 @@
 -- From the end of a first pass to counters of all hosts, and to a second pass.
-use Rattle.std.proofs.Common.{◌≡◌, ℕ, zero, suc, true, length-append, length-take, ◌+◌, ◌*◌, ◌≤◌, ◌==◌, List, [], ◌∷◌, ◌++◌, length, map, take, Some, Result, Ok, Err, refl, sym, ap, subst, ◌∙◌, arith}
+use Rattle.std.proofs.Common.{◌≡◌, ℕ, zero, suc, length-append, length-take, ◌+◌, ◌*◌, ◌≤◌, ◌==◌, List, [], ◌∷◌, ◌++◌, length, map, take, Some, Result, Ok, Err, refl, sym, ap, ◌∙◌, arith}
 use Rattle.std.specs.Prelude.{IfOk}
 use Rattle.std.specs.declared.alloc.AllocError.{AllocError}
 use Rattle.std.specs.List.{All, slice_get}
-use Rattle.std.specs.Option.{option_map}
 use Rattle.std.proofs.lemmas.List.{length-map, take_more}
 use Rattle.std.proofs.lemmas.List.Elements.{All-head, All-map, All-tail}
 use Rattle.idtext.specs.First.{first_fault}
-use Rattle.hosts_join.specs.Checks.{is_host_name}
-use Rattle.hosts_join.specs.Hosts.{IsLawfulHost, SparesReserved}
 use Rattle.hosts_join.specs.Site.{Joined}
 use Rattle.hosts_join.specs.declared.host.Host.{Host}
 use Rattle.hosts_join.proofs.Refusals.{count_by-of-map}
-use Rattle.mergedfiles.specs.InPart.{WasReadInPart}
-use Rattle.mergedfiles.specs.Together.{AreJoined}
 use Rattle.mtree_inv.specs.declared.entry.Entry.{Entry}
 use Rattle.ownership.specs.Counts as counts
 use Rattle.ownership.specs.Counts.{Counted}
 use Rattle.ownership.specs.Files.{Added}
-use Rattle.unify.specs.declared.host.Loaded.{Loaded}
 use Rattle.unify.specs.declared.merging.Merged.{Merged}
 use Rattle.unify.specs.declared.plan_turn.PlanTurn.{PlanTurn}
 use Rattle.unify.specs.Hosts.{owner_fault}
 use Rattle.unify.specs.Laws.{IsWhole}
-use Rattle.unify.specs.Loading.{HoldsCounted, loaded_from}
-use Rattle.unify.specs.Merging.{IsMerged}
+use Rattle.unify.specs.Loading.{loaded_from}
+use Rattle.unify.specs.Merging.{HoldsCounted, IsMerged}
 use Rattle.unify.specs.Passes.{AreComing, AreTogether, InventoriesValue, StandsFor}
 use Rattle.unify.specs.Reading.{WholeSite, added_from, added_on}
 use Rattle.unify.specs.RowFiles.{RowFiles, row_files}
@@ -34,39 +28,14 @@ use Rattle.ownership.specs.HostFiles.{AreOfHost, AreRowCounts}
 use Rattle.ownership.proofs.HostFiles.{owned_few}
 use Rattle.unify.proofs.Adding.{added_from-push}
 use Rattle.unify.proofs.Ended.{AreFilesAt, IsOver, all_few, over_stands, read_length}
-use Rattle.unify.proofs.Reading.{all-at, all-owned, read-host-of}
+use Rattle.unify.proofs.Reading.{whole-read}
 use Rattle.unify.proofs.Whole.{hosts_held}
 
 -- ---- hosts whose inventories were ended
 
--- a host that stands with a text stands among the hosts
-loaded_host : (hosts : List Host) (ended : List (List ℕ)) (k : ℕ) (l : Loaded) → slice_get (loaded_from hosts ended) k ≡ Some l → slice_get hosts k ≡ Some l.host
-loaded_host [] ended k l at = absurd (cc)
-loaded_host (host ∷ hosts) [] k l at = absurd (cc)
-loaded_host (host ∷ hosts) (text ∷ ended) zero l at = ap (option_map (λ (x : Loaded). x.host)) at
-loaded_host (host ∷ hosts) (text ∷ ended) (suc k) l at = loaded_host hosts ended k l at
-
 -- the site that was read is whole
 pub over_whole : (c : InventoriesValue) (joined : Joined) (ended : List (List ℕ)) → AreTogether c.hosts joined → IsOver c → (were : StandsFor c ended []) → IsWhole (record { hosts = were.read; joined = joined })
-over_whole c joined ended whole over were =
-    let loaded = loaded_from c.hosts ended in
-    let each_host = read-host-of joined loaded were.read were.accepted
-    (λ k l at.
-    let here = loaded_host c.hosts ended k l at in (
-      all-at (λ (h : Host). is_host_name h.name ≡ true) c.hosts k l.host whole.named here,
-      all-at WasReadInPart c.hosts k l.host whole.read here,
-      all-at IsLawfulHost c.hosts k l.host whole.lawful here,
-      all-at (SparesReserved joined) c.hosts k l.host whole.spares here,
-      whole.known k l.host here,
-    )) in
-    record {
-      few_hosts = omega (arith, whole.few, over, read_length c ended were);
-      together = subst (λ hs. AreJoined hs joined) (hosts_held c.hosts ended were.read (were.ended_are ∙ over) were.accepted).0 whole.together;
-      lawful = whole.accounts;
-      leaves = whole.leaves;
-      each_host = each_host;
-      owned = all-owned joined were.read each_host;
-    }
+over_whole c joined ended whole over were = whole-read c.hosts joined ended were.read whole (were.ended_are ∙ over) were.accepted
 
 -- ---- counters of all hosts
 

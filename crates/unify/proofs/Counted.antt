@@ -6,7 +6,6 @@ use Rattle.std.specs.Str.{bytes_eq}
 use Rattle.std.proofs.lemmas.List.{map-append}
 use Rattle.std.proofs.lemmas.List.Elements.{All-head, All-tail}
 use Rattle.std.proofs.lemmas.List.Folds.{list_any-append, list_any_at}
-use Rattle.idtext.proofs.OkLemmas.{bind_ok}
 use Rattle.accounts.specs.Rows.{Passwd, Group}
 use Rattle.hosts_join.specs.Accounts.{Account, Accounts, Pair, Row, first_appearances, grouped, host_rows, rows_from, spots_of}
 use Rattle.hosts_join.specs.Checks.{hosts_checked}
@@ -15,19 +14,18 @@ use Rattle.hosts_join.specs.Rules.{is_name}
 use Rattle.hosts_join.specs.declared.host.Host.{Host}
 use Rattle.hosts_join.proofs.Grouping.{any-first_appearances, bytes_refl}
 use Rattle.logindefs.specs.declared.ranges.IdRange.{IdRange}
-use Rattle.unify.specs.declared.host.Loaded.{Loaded}
 use Rattle.unify.specs.Agreeing.{PrintedMapsAreCounted}
 use Rattle.unify.specs.Count.{count_of, has_user, has_group, names_checked}
-use Rattle.unify.specs.Reading.{site_read}
+use Rattle.unify.specs.Others.{reserving}
 use Rattle.unify.specs.Told.{in_site}
 use Rattle.unify.proofs.Costs.{costs_agree}
 use Rattle.unify.proofs.Keeping.{map_says_mappings}
-use Rattle.unify.proofs.Reading.{read_sites_are_whole, steps}
+use Rattle.unify.proofs.ReadSites.{are-pinned, read_sites_are_whole, steps}
 use Rattle.unify.proofs.Whole.{together}
 
 -- ---- lists
 
-found_or : {X : Type 0} (b : Bool) (x : X) (o : Option X) → is_some (cond b (Some x) o) ≡ (b || is_some o)
+pub found_or : {X : Type 0} (b : Bool) (x : X) (o : Option X) → is_some (cond b (Some x) o) ≡ (b || is_some o)
 found_or true x o = refl
 found_or false x o = refl
 
@@ -36,7 +34,7 @@ found_any : {X : Type 0} (p : X → Bool) (xs : List X) → is_some (find p xs) 
 found_any p [] = refl
 found_any p (x ∷ xs) = found_or (p x) x (find p xs) ∙ ap (λ b. p x || b) (found_any p xs)
 
-any_map : {X Y : Type 0} (p : Y → Bool) (f : X → Y) (xs : List X) → list_any p (map f xs) ≡ list_any (λ x. p (f x)) xs
+pub any_map : {X Y : Type 0} (p : Y → Bool) (f : X → Y) (xs : List X) → list_any p (map f xs) ≡ list_any (λ x. p (f x)) xs
 any_map p f [] = refl
 any_map p f (x ∷ xs) = ap (λ b. p (f x) || b) (any_map p f xs)
 
@@ -70,7 +68,7 @@ module _ {R : Type 0} (name : R → List ℕ) (number : R → ℕ) (table : Host
       ap (list_any (bytes_eq n)) (map-append (λ (r : Row). r.name) here later) ∙ list_any-append (bytes_eq n) (names here) (names later)
       ∙ ap (λ b. b || list_any (bytes_eq n) (names later)) at_h ∙ ap (λ b. is_some (find (λ x. bytes_eq n (name x)) (table h)) || b) (named_on (place + 1) hs n)
 
-  named_somewhere : (hosts : List Host) (n : List ℕ) → is_name (grouped (rows_from regular system listed 0 hosts)) n ≡ list_any (λ h. is_some (find (λ x. bytes_eq n (name x)) (table h))) hosts
+  pub named_somewhere : (hosts : List Host) (n : List ℕ) → is_name (grouped (rows_from regular system listed 0 hosts)) n ≡ list_any (λ h. is_some (find (λ x. bytes_eq n (name x)) (table h))) hosts
   unfolding grouped
   named_somewhere hosts n =
       let rows = rows_from regular system listed 0 hosts in
@@ -100,14 +98,15 @@ module _ {R : Type 0} (name : R → List ℕ) (table : Host → List R) (pairs :
       sym (had n) ∙ mapped_some (λ (p : Pair). p.number) (find same pairs) ∙ found_any same pairs ∙ list_any_at same pairs k d at (bytes_refl n))
 
 pub printed_maps_are_counted : PrintedMapsAreCounted
-unfolding site_read count_of
-printed_maps_are_counted texts pins_text site outcome read o =
-    let listed = bind_ok (in_site (hosts_checked texts)) _ site read in
-    let s = steps texts pins_text site read in
-    let whole = read_sites_are_whole texts pins_text site read in
+unfolding count_of
+printed_maps_are_counted texts rules site outcome read o =
+    let s = steps texts rules site read in
+    let whole = read_sites_are_whole texts rules site read in
     let back = map_says_mappings site outcome whole o in
-    let hosts = map (λ (l : Loaded). l.host) s.loaded in
-    let joined = together hosts s.pins site.joined s.joined_is in
+    let hosts = s.others.hosts in
+    let pinned = are-pinned s.others rules.pins site.joined s.joined_is in
+    let joined = together hosts (reserving s.others pinned.pins) site.joined pinned.joined_is in
+    let listed : in_site (hosts_checked texts) ≡ Ok s.listed = ap in_site s.listed_are in
     let users : (n : List ℕ) → is_some (number_of back.pairs.users n) ≡ list_any (has_user n) hosts = λ n.
     back.users.names n ∙ ap (λ (a : Accounts). is_name a.names n) joined.users
     ∙ named_somewhere (λ (r : Passwd). r.name) (λ (r : Passwd). r.uid) (λ (h : Host). h.users) (λ (h : Host). h.ranges.uid) (λ (h : Host). h.ranges.sys_uid) hosts n in
@@ -120,4 +119,4 @@ printed_maps_are_counted texts pins_text site outcome read o =
       each_mapped (λ (r : Group). r.name) (λ (h : Host). h.groups) back.pairs.groups hosts groups,
       each_had (λ (r : Group). r.name) (λ (h : Host). h.groups) back.pairs.groups hosts groups,
     ) refl in
-    rw (listed.1, s.hosts_are, back.read, checked, s.files_are) (ap (λ c. Ok c) (costs_agree site o.mappings back.pairs whole back.users back.groups ∙ sym o.printed.cost))
+    rw (listed, s.others_are, back.read, checked, s.files_are) (ap (λ c. Ok c) (costs_agree site o.mappings back.pairs whole back.users back.groups ∙ sym o.printed.cost))

@@ -11,10 +11,10 @@ no_fault : first_fault pins_fault [] [] ≡ None
 unfolding first_fault
 no_fault = refl
 
-none_read : pins_of [] ≡ Ok no_pins
+pub none_read : pins_of [] ≡ Ok no_pins
 unfolding pins_of
 none_read = ap (λ ls. unless (first_fault pins_fault [] ls) (pins_on ls)) lines-empty ∙ ap (λ f. unless f (pins_on [])) no_fault
 
 pub empty_pins_are_none : EmptyPinsAreNone
 unfolding site_read
-empty_pins_are_none texts = rw none_read refl
+empty_pins_are_none texts keep_text = simp none_read

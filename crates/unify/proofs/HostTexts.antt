@@ -1,23 +1,19 @@
 -- A host's own passwd and group with their new numbers keep the names that a finished plan keeps.
-use Rattle.std.proofs.Common.{◌≡◌, inl, inr, ℕ, List, map, Option, Some, None, Ok, refl, sym, ap, subst, ◌∙◌}
-use Rattle.std.specs.List.{slice_get}
+use Rattle.std.proofs.Common.{◌≡◌, inl, inr, ℕ, List, [], map, Option, Some, None, Ok, refl, sym, ap, subst, ◌∙◌}
+use Rattle.std.specs.List.{Contains, slice_get}
 use Rattle.std.specs.Option.{option_map}
 use Rattle.std.proofs.lemmas.List.Elements.{All-weaker}
-use Rattle.std.proofs.lemmas.Option.{slice_get-map}
-use Rattle.idtext.specs.First.{each}
+use Rattle.std.proofs.lemmas.Option.{get_or_from_slice_get, slice_get-map, slice_get_within}
 use Rattle.idtext.proofs.OkLemmas.{bind_ok, each-ok, ok_same}
 use Rattle.accounts.specs.Rows.{Passwd, Group}
 use Rattle.mtree_inv.specs.declared.entry.Entry.{Entry}
 use Rattle.hosts_join.specs.Accounts.{Accounts, Pair}
 use Rattle.hosts_join.specs.Checks.{hosts_checked}
-use Rattle.hosts_join.specs.Hosts.{IsLawfulHost}
 use Rattle.hosts_join.specs.Kinds.{user_at, group_at}
 use Rattle.hosts_join.specs.PinPairs.{PinPairs}
-use Rattle.hosts_join.specs.PinsText.{pins_of}
 use Rattle.hosts_join.specs.Site.{Joined, joined_site}
 use Rattle.hosts_join.specs.declared.host.Host.{Host}
 use Rattle.hosts_join.specs.declared.texts.HostText.{HostText}
-use Rattle.hosts_join.proofs.Knowing.{sites_know}
 use Rattle.mergedfiles.specs.FullTables.{AreNumberedRows, IsFullGroupFile, IsFullPasswd, IsNumberedHost, IsRenumbered}
 use Rattle.ownership.specs.Mappings.{Mappings}
 use Rattle.mergedfiles.proofs.HostUsers.{full_passwd_back}
@@ -26,18 +22,22 @@ use Rattle.reown_plan.specs.declared.plan.Owner.{Owner}
 use Rattle.unify_texts.specs.WrittenMap.{SayMapping}
 use Rattle.unify.specs.declared.host.Loaded.{Loaded}
 use Rattle.unify.specs.declared.outcome.Outcome.{Outcome}
+use Rattle.unify.specs.declared.rules.SiteRules.{SiteRules}
 use Rattle.unify.specs.Headline.{Headline, IsNamedAsBefore, IsNewNumber, IsOldOrNamed}
 use Rattle.unify.specs.HostTexts.{AreJoinedInFull, BegunSitesAreInFull, HostsKeepOwnFiles, IsJoinedInFull, IsJoinedPart, IsTextOf, KeepsOwnFiles, ReadSitesAreInFull, TablesAreOfTexts, own_passwd, own_group}
 use Rattle.unify.specs.Hosts.{host_of}
 use Rattle.unify.specs.Laws.{IsWhole}
+use Rattle.unify.specs.Others.{Others, others_loaded, pinned_site, reserving}
 use Rattle.unify.specs.Outcomes.{hosts_in}
 use Rattle.unify.specs.Passes.{BegunSite, site_begun}
 use Rattle.unify.specs.Reading.{WholeSite, site_read}
-use Rattle.unify.specs.Told.{in_site, in_pins}
-use Rattle.unify.proofs.InFull.{joined_in_full, numbered_rows, own_group_in_full, own_passwd_in_full, primary_groups}
+use Rattle.unify.specs.Told.{in_site}
+use Rattle.unify.proofs.InFull.{numbered_rows, own_group_in_full, own_passwd_in_full, primary_groups}
 use Rattle.unify.proofs.Installed.{is-paired, mapped-there, paired}
-use Rattle.unify.proofs.Reading.{host-lawful, loaded-lawful, loaded-read, steps, tables-of}
-use Rattle.unify.proofs.Whole.{hosts-read, site_ok}
+use Rattle.unify.proofs.KeptPart.{kept_part}
+use Rattle.unify.proofs.LeftHosts.{left}
+use Rattle.unify.proofs.Reading.{loaded-read, tables-of}
+use Rattle.unify.proofs.ReadSites.{AreLoaded, all-joined, are-loaded, are-pinned, hosts-are, reserved-are, steps}
 
 -- ---- names
 
@@ -131,37 +131,49 @@ text_keeps site outcome whole believed h host files text loaded here is told =
 same_text : (o : Option HostText) (one other : HostText) → o ≡ Some one → o ≡ Some other → one ≡ other
 same_text o one other h k = cc
 
--- hosts that were loaded from texts, and joined
-module _ (texts : List HostText) (loaded : List Loaded) (hosts_are : each host_of texts ≡ Ok loaded) where
+-- an index that has an item
+there-at : {X : Type 0} (xs : List X) (k : ℕ) (x : X) → slice_get xs k ≡ Some x → Contains xs x
+there-at xs k x here = (k, slice_get_within xs k x here, get_or_from_slice_get xs k x x here)
+
+-- what is joined of hosts that were loaded from texts
+module _ (texts : List HostText) (keep_text : List ℕ) (others : Others) (from : AreLoaded texts keep_text others) where
+  abbrev full : List Host
+  full = map (λ l. l.host) from.loaded
+
   -- a text is that of the host at its index
-  told_at : (h : ℕ) (l : Loaded) (text : HostText) → slice_get loaded h ≡ Some l → slice_get texts h ≡ Some text → host_of text ≡ Ok l
+  told_at : (h : ℕ) (l : Loaded) (text : HostText) → slice_get from.loaded h ≡ Some l → slice_get texts h ≡ Some text → host_of text ≡ Ok l
   told_at h l text here there =
-      let from = each-ok host_of texts loaded hosts_are h l here in
-      ap host_of (sym (same_text (slice_get texts h) from.0 text from.1 there)) ∙ from.2
+      let back = each-ok host_of texts from.loaded from.hosts_are h l here in
+      ap host_of (sym (same_text (slice_get texts h) back.0 text back.1 there)) ∙ back.2
 
-  host_at : (h : ℕ) (host : Host) → slice_get (map (λ (l : Loaded). l.host) loaded) h ≡ Some host → (l : Loaded) × (slice_get loaded h ≡ Some l) × (l.host ≡ host)
-  host_at h host here = mapped-there (λ (l : Loaded). l.host) (slice_get loaded h) host (sym (slice_get-map (λ (l : Loaded). l.host) loaded h) ∙ here)
+  host_at : (h : ℕ) (host : Host) → slice_get full h ≡ Some host → (l : Loaded) × (slice_get from.loaded h ≡ Some l) × (l.host ≡ host)
+  host_at h host here = mapped-there (λ (l : Loaded). l.host) (slice_get from.loaded h) host (sym (slice_get-map (λ (l : Loaded). l.host) from.loaded h) ∙ here)
 
-  pub text_of : (pins : PinPairs) (joined : Joined) → joined_site (map (λ (l : Loaded). l.host) loaded) pins ≡ Ok joined
-      → (h : ℕ) (host : Host) (text : HostText) → slice_get (map (λ (l : Loaded). l.host) loaded) h ≡ Some host → slice_get texts h ≡ Some text → IsTextOf joined host text
-  text_of pins joined joined_is h host text here there =
-      let at = host_at h host here in
-      let l = at.0 in
-      let told = told_at h l text at.1 there in
-      let tables = tables-of text l told in
-      let lawful = loaded-lawful texts loaded hosts_are in
-      let known = sites_know (map (λ (x : Loaded). x.host) loaded) pins joined lawful joined_is h host here in
+  pub text_of : (pins_text : List ℕ) (joined : Joined) → pinned_site others pins_text ≡ Ok joined
+      → (h : ℕ) (host : Host) (text : HostText) → slice_get others.hosts h ≡ Some host → slice_get texts h ≡ Some text → IsTextOf joined host text
+  text_of pins_text joined joined_is h host text here there =
+      let keep = from.by.keep in
+      let same : map (left keep full) full ≡ others.hosts = ap (λ (o : Others). o.hosts) from.by.are in
+      let left_at = mapped-there (left keep full) (slice_get full h) host (sym (slice_get-map (left keep full) full h) ∙ ap (λ (hs : List Host). slice_get hs h) same ∙ here) in
+      let at = host_at h left_at.0 left_at.1 in
+      let told = told_at h at.0 text at.1 there in
+      let tables = tables-of text at.0 told in
+      let pinned = are-pinned others pins_text joined joined_is in
+      let pins : PinPairs = reserving others pinned.pins in
+      let reserved = reserved-are others pins_text joined pinned in
+      let whole : joined_site (map (left keep full) full) pins ≡ Ok joined = ap (λ (hs : List Host). joined_site hs pins) same ∙ pinned.joined_is in
+      let part = kept_part keep full pins joined left_at.0 (there-at full h left_at.0 left_at.1) whole (ap (λ (o : Others). o.reserved_users) from.by.are ∙ reserved.0) (ap (λ (o : Others). o.reserved_groups) from.by.are ∙ reserved.1) in
       record {
-        loaded = l;
+        loaded = at.0;
         told = told;
         passwd = tables.0;
         group = tables.1;
-        part = subst (λ (x : Host). IsJoinedPart joined x host) (sym at.2) (joined_in_full joined h host (subst IsLawfulHost at.2 (host-lawful text l told)) known);
+        part = subst (λ (x : Host). IsJoinedPart joined x host) (sym at.2) (subst (IsJoinedPart joined left_at.0) left_at.2 part);
       }
 
-  pub loaded_in_full : AreJoinedInFull (map (λ l. l.host) loaded) texts
+  loaded_in_full : AreJoinedInFull full texts
   loaded_in_full = record {
-    read = loaded-read texts loaded hosts_are;
+    read = loaded-read texts from.loaded from.hosts_are;
     each_host = λ h host text l here there told.
         let at = host_at h host here in
         let same : l ≡ at.0 = ok_same l at.0 (sym told ∙ told_at h at.0 text at.1 there) in
@@ -169,52 +181,56 @@ module _ (texts : List HostText) (loaded : List Loaded) (hosts_are : each host_o
         record { users = ap (λ (x : Host). x.users) is; groups = ap (λ (x : Host). x.groups) is };
   }
 
+-- with an empty keep text all rows are joined
+all_in_full : (texts : List HostText) (others : Others) → others_loaded texts [] ≡ Ok others → AreJoinedInFull others.hosts texts
+all_in_full texts others o =
+    let from = are-loaded texts [] others o in
+    subst (λ (hs : List Host). AreJoinedInFull hs texts) (ap (λ (x : Others). x.hosts) (all-joined texts others from o)) (loaded_in_full texts [] others from)
+
 -- ---- a site, before its inventories are read
 
-record BegunSteps (texts : List HostText) (begun : BegunSite) : Type 0 where
-  loaded : List Loaded
-  pins : PinPairs
-  hosts_are : each host_of texts ≡ Ok loaded
-  joined_is : joined_site (map (λ l. l.host) loaded) pins ≡ Ok begun.joined
-  hosts : map (λ l. l.host) loaded ≡ begun.hosts
+record BegunSteps (texts : List HostText) (rules : SiteRules) (begun : BegunSite) : Type 0 where
+  others : Others
+  others_are : others_loaded texts rules.keep ≡ Ok others
+  joined_is : pinned_site others rules.pins ≡ Ok begun.joined
+  hosts : others.hosts ≡ begun.hosts
 
-begun_steps : (texts : List HostText) (pins : List ℕ) (begun : BegunSite) → site_begun texts pins ≡ Ok begun → BegunSteps texts begun
+begun_steps : (texts : List HostText) (rules : SiteRules) (begun : BegunSite) → site_begun texts rules ≡ Ok begun → BegunSteps texts rules begun
 unfolding site_begun
-begun_steps texts pins begun is =
+begun_steps texts rules begun is =
     let listed = bind_ok (in_site (hosts_checked texts)) _ begun is in
-    let loading = bind_ok (each host_of texts) _ begun listed.2 in
-    let pinning = bind_ok (in_pins (pins_of pins)) _ begun loading.2 in
-    let joining = bind_ok (in_site (joined_site (map (λ (l : Loaded). l.host) loading.0) pinning.0)) _ begun pinning.2 in
-    let made : BegunSite = record { hosts = map (λ (l : Loaded). l.host) loading.0; joined = joining.0 } in
-    subst (BegunSteps texts) (ok_same made begun joining.2)
+    let others = bind_ok (others_loaded texts rules.keep) _ begun listed.2 in
+    let joining = bind_ok (pinned_site others.0 rules.pins) _ begun others.2 in
+    let made : BegunSite = record { hosts = others.0.hosts; joined = joining.0 } in
+    subst (BegunSteps texts rules) (ok_same made begun joining.2)
     (record {
-      loaded = loading.0;
-      pins = pinning.0;
-      hosts_are = loading.1;
-      joined_is = site_ok (joined_site (map (λ (l : Loaded). l.host) loading.0) pinning.0) joining.0 joining.1;
+      others = others.0;
+      others_are = others.1;
+      joined_is = joining.1;
       hosts = refl;
     })
 
 pub tables_are_of_texts : TablesAreOfTexts
-tables_are_of_texts texts pins begun h host text is here there =
-    let s = begun_steps texts pins begun is in
-    text_of texts s.loaded s.hosts_are s.pins begun.joined s.joined_is h host text (ap (λ (hs : List Host). slice_get hs h) s.hosts ∙ here) there
+tables_are_of_texts texts rules begun h host text is here there =
+    let s = begun_steps texts rules begun is in
+    text_of texts rules.keep s.others (are-loaded texts rules.keep s.others s.others_are) rules.pins begun.joined s.joined_is h host text (ap (λ (hs : List Host). slice_get hs h) s.hosts ∙ here) there
 
 pub begun_sites_are_in_full : BegunSitesAreInFull
 begun_sites_are_in_full texts pins begun is =
-    let s = begun_steps texts pins begun is in
-    subst (λ (hs : List Host). AreJoinedInFull hs texts) s.hosts (loaded_in_full texts s.loaded s.hosts_are)
+    let s = begun_steps texts (record { pins = pins; keep = [] }) begun is in
+    subst (λ (hs : List Host). AreJoinedInFull hs texts) s.hosts (all_in_full texts s.others s.others_are)
 
 -- ---- a site that was read
 
-pub site_texts : (texts : List HostText) (pins : List ℕ) (site : WholeSite) → site_read texts pins ≡ Ok site → (h : ℕ) (host : Host) (files : List Entry) (text : HostText) → slice_get site.hosts h ≡ Some (host, files) → slice_get texts h ≡ Some text → IsTextOf site.joined host text
-site_texts texts pins site read h host files text here there =
-    let s = steps texts pins site read in
+pub site_texts : (texts : List HostText) (rules : SiteRules) (site : WholeSite) → site_read texts rules ≡ Ok site → (h : ℕ) (host : Host) (files : List Entry) (text : HostText) → slice_get site.hosts h ≡ Some (host, files) → slice_get texts h ≡ Some text → IsTextOf site.joined host text
+site_texts texts rules site read h host files text here there =
+    let s = steps texts rules site read in
     let first = λ (x : Host × List Entry). x.0 in
     let at : slice_get (hosts_in site) h ≡ Some host = slice_get-map first site.hosts h ∙ ap (option_map first) here in
-    text_of texts s.loaded s.hosts_are s.pins site.joined s.joined_is h host text (ap (λ (hs : List Host). slice_get hs h) (sym (hosts-read s.loaded site.hosts s.files_are).0) ∙ at) there
+    text_of texts rules.keep s.others (are-loaded texts rules.keep s.others s.others_are) rules.pins site.joined s.joined_is h host text (ap (λ (hs : List Host). slice_get hs h) (hosts-are texts rules site s) ∙ at) there
 
 pub read_sites_are_in_full : ReadSitesAreInFull
 read_sites_are_in_full texts pins site read =
-    let s = steps texts pins site read in
-    subst (λ (hs : List Host). AreJoinedInFull hs texts) (sym (hosts-read s.loaded site.hosts s.files_are).0) (loaded_in_full texts s.loaded s.hosts_are)
+    let rules : SiteRules = record { pins = pins; keep = [] } in
+    let s = steps texts rules site read in
+    subst (λ (hs : List Host). AreJoinedInFull hs texts) (hosts-are texts rules site s) (all_in_full texts s.others s.others_are)

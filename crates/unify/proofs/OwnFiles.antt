@@ -14,6 +14,7 @@ use Rattle.unify_texts.specs.Told.{told}
 use Rattle.unify_texts.specs.declared.fault.Fault.{Fault}
 use Rattle.unify.specs.declared.merging.Merged.{Merged}
 use Rattle.unify.specs.declared.outcome.Outcome.{Outcome}
+use Rattle.unify.specs.declared.rules.SiteRules.{SiteRules}
 use Rattle.unify.specs.declared.site_files.NamedText.{NamedText}
 use Rattle.unify.specs.declared.site_files.SiteFiles.{SiteFiles}
 use Rattle.unify.specs.Headline.{Headline}
@@ -24,7 +25,7 @@ use Rattle.unify.specs.Reading.{WholeSite, site_read}
 use Rattle.unify.specs.Texts.{ArePlannedWithOwn}
 use Rattle.unify.proofs.HostTexts.{site_texts, text_keeps}
 use Rattle.unify.proofs.PassesBelieved.{two_passes_are_believed, with_plans}
-use Rattle.unify.proofs.Reading.{read_sites_are_whole}
+use Rattle.unify.proofs.ReadSites.{read_sites_are_whole}
 use Rattle.unify.proofs.SiteRuns.{some_same}
 
 -- ---- the files of one host more
@@ -58,9 +59,9 @@ same_mappings site merged last plans is joined believed =
     let same : believed.certificate ≡ c = ok_same believed.certificate c (sym believed.certificate_read ∙ read) in
     sym believed.potentials_are_of_these ∙ (λ j. mappings_of (joined j) (same j)) ∙ is.answered.certificate_has
 
-are_site_files : (texts : List HostText) (pins : List ℕ) (site : WholeSite) (merged : Merged) (files : SiteFiles) → site_read texts pins ≡ Ok site → IsMerged site merged → ArePlannedWithOwn texts site merged files → AreSiteFiles texts site files
-are_site_files texts pins site merged files read is planned =
-    let whole = read_sites_are_whole texts pins site read in
+are_site_files : (texts : List HostText) (rules : SiteRules) (site : WholeSite) (merged : Merged) (files : SiteFiles) → site_read texts rules ≡ Ok site → IsMerged site merged → ArePlannedWithOwn texts site merged files → AreSiteFiles texts site files
+are_site_files texts rules site merged files read is planned =
+    let whole = read_sites_are_whole texts rules site read in
     let plans = planned.planned.plans in
     let outcome : Outcome = record merged.outcome { plans = plans } in
     let believed : Headline site outcome = two_passes_are_believed site merged plans whole is planned.planned.are_whole in
@@ -71,12 +72,12 @@ are_site_files texts pins site merged files read is planned =
       is_right = with_plans site merged plans is planned.planned.are_whole;
       is_believed = believed;
       own_files = λ h host entries text loaded here there told.
-          text_keeps site outcome whole believed h host entries text loaded here (site_texts texts pins site read h host entries text here there) told;
+          text_keeps site outcome whole believed h host entries text loaded here (site_texts texts rules site read h host entries text here there) told;
       own_are = planned.own_are ∙ ap (λ (m : Mappings). host_files site.joined m texts (hosts_in site)) (sym (same_mappings site merged site plans is refl believed));
     })
 
 -- what is right for the site that was read, or want of memory
-pub site_files_right : (texts : List HostText) (pins : List ℕ) (site : WholeSite) (merged : Merged) → site_read texts pins ≡ Ok site → IsMerged site merged → (result : Result SiteFiles Fault) → MatchResult result (ArePlannedWithOwn texts site merged) (λ e. told e ≡ None)
+pub site_files_right : (texts : List HostText) (rules : SiteRules) (site : WholeSite) (merged : Merged) → site_read texts rules ≡ Ok site → IsMerged site merged → (result : Result SiteFiles Fault) → MatchResult result (ArePlannedWithOwn texts site merged) (λ e. told e ≡ None)
     → MatchResult result (AreSiteFiles texts site) (λ e. told e ≡ None)
-site_files_right texts pins site merged read is (Ok files) planned = are_site_files texts pins site merged files read is planned
-site_files_right texts pins site merged read is (Err e) none = none
+site_files_right texts rules site merged read is (Ok files) planned = are_site_files texts rules site merged files read is planned
+site_files_right texts rules site merged read is (Err e) none = none

@@ -1,10 +1,9 @@
 -- What was read is whole.
-use Rattle.std.proofs.Common.{◌≡◌, ℕ, zero, suc, ◌+◌, ◌≤◌, Bool, true, false, not, cond, List, [], ◌∷◌, ◌++◌, length, map, get_or, Option, Some, None, Result, Ok, Err, refl, sym, ap, subst, ◌∙◌, arith, inl, inr, ◌==◌, nat_lt}
+use Rattle.std.proofs.Common.{◌≡◌, ℕ, zero, suc, ◌+◌, ◌≤◌, Bool, true, false, not, cond, List, [], ◌∷◌, ◌++◌, length, map, get_or, Option, Some, None, Ok, refl, ap, subst, ◌∙◌, arith, inl, inr, ◌==◌, nat_lt}
 use Rattle.std.specs.List.{All, slice_get}
 use Rattle.std.specs.Option.{option_map}
 use Rattle.std.proofs.lemmas.Bool.{cases_Bool, both_ways, and_from, false_from_ne_true, ltb-false}
-use Rattle.std.proofs.lemmas.List.{length-map}
-use Rattle.std.proofs.lemmas.List.Elements.{All-nil, All-cons, All-head, All-tail, All-append, All-contains_itself, All-map, All-weaker}
+use Rattle.std.proofs.lemmas.List.Elements.{All-nil, All-cons, All-head, All-tail, All-append, All-map}
 use Rattle.std.proofs.lemmas.Option.{slice_get-map, slice_get-get_or}
 use Rattle.idtext.specs.First.{each, first_fault}
 use Rattle.idtext.proofs.OkLemmas.{bind_ok, ok_same, unless_ok, length-each, each-ok}
@@ -19,13 +18,9 @@ use Rattle.mtree_inv.proofs.LawfulLemmas.{inventory-files}
 use Rattle.hosts_join.specs.Checks.{hosts_checked, is_host_name, name_fault, primary_checked}
 use Rattle.hosts_join.specs.Hosts.{IsLawfulHost, SparesReserved}
 use Rattle.hosts_join.specs.Laws.{KnowsHost}
-use Rattle.hosts_join.specs.PinPairs.{PinPairs}
-use Rattle.hosts_join.specs.PinsText.{pins_of}
-use Rattle.hosts_join.specs.Site.{Joined, joined_site}
+use Rattle.hosts_join.specs.Site.{Joined}
 use Rattle.hosts_join.specs.declared.host.Host.{Host}
 use Rattle.hosts_join.specs.declared.texts.HostText.{HostText}
-use Rattle.hosts_join.proofs.Knowing.{sites_know}
-use Rattle.hosts_join.proofs.SiteLemmas.{sites_are_lawful, pins_are_pins}
 use Rattle.mergedfiles.specs.InPart.{WasReadInPart}
 use Rattle.mergedfiles.specs.ReadBack.{WasRead}
 use Rattle.mergedfiles.specs.Together.{AreJoined}
@@ -35,14 +30,17 @@ use Rattle.unify_texts.specs.declared.bundle_line.FileName.TheVariants as file
 use Rattle.unify.specs.declared.host.Loaded.{Loaded}
 use Rattle.unify.specs.Count.{site_of}
 use Rattle.unify.specs.Hosts.{host_of, files_of, sparing_none}
-use Rattle.unify.specs.Laws.{HaveAccounts, IsReadHost, ReadHostsSpareNothing, ReadSitesAreWhole, NothingSparedAllOwned, OwnersAgree}
+use Rattle.unify.specs.Laws.{HaveAccounts, IsReadHost, IsWhole, NothingSparedAllOwned, OwnersAgree}
+use Rattle.unify.specs.Loading.{loaded_from}
 use Rattle.unify.specs.Outcomes.{hosts_in}
-use Rattle.unify.specs.Reading.{WholeSite, added_on, added_from, site_read}
+use Rattle.unify.specs.Passes.{AreTogether}
+use Rattle.unify.specs.Reading.{added_on, added_from}
 use Rattle.unify.specs.Sparing.{AreOwnedOrReserved, SparesNothing}
-use Rattle.unify.specs.Told.{in_file, in_site, in_pins}
+use Rattle.unify.specs.Told.{in_file, in_site}
+use Rattle.unify.proofs.Adding.{length-loaded_from}
 use Rattle.unify.proofs.Owners.{allowed, file_ok, files_read, none_both, owned-there, owned-here, owned-or-reserved}
-use Rattle.unify.proofs.Sparing.{accounts_there, leaves_reserved, nothing_reserved}
-use Rattle.unify.proofs.Whole.{hosts-read, site_ok, together}
+use Rattle.unify.proofs.Sparing.{accounts_there}
+use Rattle.unify.proofs.Whole.{hosts_held, site_ok}
 
 pub owners_agree : OwnersAgree
 owners_agree joined h host uid gid knows = (
@@ -103,19 +101,6 @@ host-read text loaded h =
       groups = file_ok text.name file.Group (group_table text.group) groups.0 groups.1;
       primary = site_ok (primary_checked made) primary.0 primary.1;
     })
-
--- so some of its rows, which are all, are those of a passwd and of a group
-read-in-part : (host : Host) → WasRead host → WasReadInPart host
-read-in-part host was = record {
-  passwd = was.passwd;
-  all_users = host.users;
-  users = was.users;
-  each_user = All-contains_itself host.users;
-  group = was.group;
-  all_groups = host.groups;
-  groups = was.groups;
-  each_group = All-contains_itself host.groups;
-}
 
 -- it spares nothing
 host-unsparing : (text : HostText) (loaded : Loaded) → host_of text ≡ Ok loaded → SparesNothing loaded.host
@@ -182,7 +167,7 @@ all-at P [] k x all h = absurd (cc)
 all-at P (y ∷ ys) zero x all h = let same : y ≡ x = (cc) in subst P same (All-head P y ys all)
 all-at P (y ∷ ys) (suc k) x all h = all-at P ys k x (All-tail P y ys all) h
 
-hosts-few : (texts : List HostText) (u : Unit {0}) → hosts_checked texts ≡ Ok u → length texts ≤ 64
+pub hosts-few : (texts : List HostText) (u : Unit {0}) → hosts_checked texts ≡ Ok u → length texts ≤ 64
 unfolding hosts_checked
 hosts-few texts u h = elim (cases_Bool (length texts == 0)) [
   | inl t ↦ let h' = rw t at h in absurd (cc)
@@ -192,42 +177,7 @@ hosts-few texts u h = elim (cases_Bool (length texts == 0)) [
   ]
 ]
 
--- ---- a site, step by step
-
-pub record Steps (texts : List HostText) (pins_text : List ℕ) (site : WholeSite) : Type 0 where
-  pub loaded : List Loaded
-  pub pins : PinPairs
-  pub few : length texts ≤ 64
-  pub named : All (λ t. is_host_name t.name ≡ true) texts
-  pub hosts_are : each host_of texts ≡ Ok loaded
-  pub pins_are : pins_of pins_text ≡ Ok pins
-  pub joined_is : joined_site (map (λ l. l.host) loaded) pins ≡ Ok site.joined
-  pub files_are : each site_of loaded ≡ Ok site.hosts
-
-pub pins-ok : {A : Type 0} (r : Result A _) (x : A) → in_pins r ≡ Ok x → r ≡ Ok x
-pins-ok (Ok y) x h = ap (λ z. Ok z) (ok_same y x h)
-pins-ok (Err e) x h = absurd (cc)
-
-pub steps : (texts : List HostText) (pins_text : List ℕ) (site : WholeSite) → site_read texts pins_text ≡ Ok site → Steps texts pins_text site
-unfolding site_read
-steps texts pins_text site h =
-    let listed = bind_ok (in_site (hosts_checked texts)) _ site h in
-    let loading = bind_ok (each host_of texts) _ site listed.2 in
-    let pinning = bind_ok (in_pins (pins_of pins_text)) _ site loading.2 in
-    let joining = bind_ok (in_site (joined_site (map (λ (l : Loaded). l.host) loading.0) pinning.0)) _ site pinning.2 in
-    let filing = bind_ok (each site_of loading.0) _ site joining.2 in
-    let made : WholeSite = record { hosts = filing.0; joined = joining.0 } in
-    subst (Steps texts pins_text) (ok_same made site filing.2)
-    (record {
-      loaded = loading.0;
-      pins = pinning.0;
-      few = hosts-few texts listed.0 (site_ok (hosts_checked texts) listed.0 listed.1);
-      named = texts-named texts listed.0 (site_ok (hosts_checked texts) listed.0 listed.1);
-      hosts_are = loading.1;
-      pins_are = pins-ok (pins_of pins_text) pinning.0 pinning.1;
-      joined_is = site_ok (joined_site (map (λ (l : Loaded). l.host) loading.0) pinning.0) joining.0 joining.1;
-      files_are = filing.1;
-    })
+-- ---- the hosts that were loaded
 
 pub loaded-lawful : (texts : List HostText) (loaded : List Loaded) → each host_of texts ≡ Ok loaded → All IsLawfulHost (map (λ l. l.host) loaded)
 loaded-lawful texts loaded h =
@@ -242,9 +192,6 @@ loaded-read texts loaded h =
     (λ k d l.
     let from = each-ok host_of texts loaded h k (get_or loaded k d) (slice_get-get_or loaded k d l) in
     host-read from.0 (get_or loaded k d) from.2)
-
-pub loaded-in-part : (texts : List HostText) (loaded : List Loaded) → each host_of texts ≡ Ok loaded → All WasReadInPart (map (λ l. l.host) loaded)
-loaded-in-part texts loaded h = All-weaker WasRead WasReadInPart read-in-part (map (λ (l : Loaded). l.host) loaded) (loaded-read texts loaded h)
 
 pub loaded-unsparing : (texts : List HostText) (loaded : List Loaded) → each host_of texts ≡ Ok loaded → All SparesNothing (map (λ l. l.host) loaded)
 loaded-unsparing texts loaded h =
@@ -282,7 +229,7 @@ read-host joined h l files are knows =
     }
 
 -- hosts of whom that is known, with the files of their inventories
-pub read-host-of : (joined : Joined) (loaded : List Loaded) (read : List (Host × List Entry)) → each site_of loaded ≡ Ok read → ((h : ℕ) (l : Loaded) → slice_get loaded h ≡ Some l → IsKnownHost joined h l.host)
+read-host-of : (joined : Joined) (loaded : List Loaded) (read : List (Host × List Entry)) → each site_of loaded ≡ Ok read → ((h : ℕ) (l : Loaded) → slice_get loaded h ≡ Some l → IsKnownHost joined h l.host)
     → (h : ℕ) (host : Host) (files : List Entry) → slice_get read h ≡ Some (host, files) → IsReadHost joined h host files
 read-host-of joined loaded read are known h host files here =
     let from = each-ok site_of loaded read are h (host, files) here in
@@ -290,18 +237,6 @@ read-host-of joined loaded read are known h host files here =
     let filed = bind_ok (files_of l) (λ fs. Ok (l.host, fs)) (host, files) from.2 in
     let pair : (l.host, filed.0) ≡ (host, files) = ok_same (l.host, filed.0) (host, files) filed.2 in
     subst (λ (p : Host × List Entry). IsReadHost joined h p.0 p.1) pair (read-host joined h l filed.0 filed.1 (known h l from.1))
-
-known-host : (texts : List HostText) (pins_text : List ℕ) (site : WholeSite) → (s : Steps texts pins_text site) → (h : ℕ) (l : Loaded) → slice_get s.loaded h ≡ Some l → IsKnownHost site.joined h l.host
-known-host texts pins_text site s h l here =
-    let hosts : List Host = map (λ (l : Loaded). l.host) s.loaded in
-    let lawful = loaded-lawful texts s.loaded s.hosts_are in
-    let there : slice_get hosts h ≡ Some l.host = slice_get-map (λ (l : Loaded). l.host) s.loaded h ∙ ap (option_map (λ (l : Loaded). l.host)) here in (
-      all-at (λ (x : Host). is_host_name x.name ≡ true) hosts h l.host (loaded-named texts s.loaded s.hosts_are s.named) there,
-      all-at WasReadInPart hosts h l.host (loaded-in-part texts s.loaded s.hosts_are) there,
-      all-at IsLawfulHost hosts h l.host lawful there,
-      nothing_reserved site.joined l.host (all-at SparesNothing hosts h l.host (loaded-unsparing texts s.loaded s.hosts_are) there),
-      sites_know hosts s.pins site.joined lawful s.joined_is h l.host there,
-    )
 
 all-from : (joined : Joined) (start : ℕ) (hosts : List (Host × List Entry)) → ((h : ℕ) (host : Host) (files : List Entry) → slice_get hosts h ≡ Some (host, files) → IsReadHost joined (start + h) host files) → All (λ f. AreOwnedOrReserved joined f.host f.uid f.gid) (added_from start hosts)
 all-from joined start [] each_host = All-nil (λ (f : Added). AreOwnedOrReserved joined f.host f.uid f.gid)
@@ -316,27 +251,36 @@ all-from joined start (here ∷ more) each_host =
 pub all-owned : (joined : Joined) (read : List (Host × List Entry)) → ((h : ℕ) (host : Host) (files : List Entry) → slice_get read h ≡ Some (host, files) → IsReadHost joined h host files) → All (λ f. AreOwnedOrReserved joined f.host f.uid f.gid) (added_from 0 read)
 all-owned joined read each_host = all-from joined 0 read (λ h host files here. subst (λ n. IsReadHost joined n host files) (omega arith) (each_host h host files here))
 
-pub read_sites_are_whole : ReadSitesAreWhole
-read_sites_are_whole texts pins_text site h =
-    let s = steps texts pins_text site h in
-    let each_host = read-host-of site.joined s.loaded site.hosts s.files_are (known-host texts pins_text site s) in
-    let loaded = length-each host_of texts s.loaded s.hosts_are in
-    let hosts = map (λ (l : Loaded). l.host) s.loaded in
+-- a host that stands with a text stands among the hosts
+loaded_host : (hosts : List Host) (mtrees : List (List ℕ)) (k : ℕ) (l : Loaded) → slice_get (loaded_from hosts mtrees) k ≡ Some l → slice_get hosts k ≡ Some l.host
+loaded_host [] mtrees k l at = absurd (cc)
+loaded_host (host ∷ hosts) [] k l at = absurd (cc)
+loaded_host (host ∷ hosts) (mtree ∷ mtrees) zero l at = ap (option_map (λ (x : Loaded). x.host)) at
+loaded_host (host ∷ hosts) (mtree ∷ mtrees) (suc k) l at = loaded_host hosts mtrees k l at
+
+-- what was joined of hosts is whole, with the files of their inventories
+pub whole-read : (hosts : List Host) (joined : Joined) (mtrees : List (List ℕ)) (read : List (Host × List Entry)) → AreTogether hosts joined → length mtrees ≡ length hosts → each site_of (loaded_from hosts mtrees) ≡ Ok read → IsWhole (record { hosts = read; joined = joined })
+whole-read hosts joined mtrees read whole paired accepted =
+    let loaded = loaded_from hosts mtrees in
+    let each_host = read-host-of joined loaded read accepted
+    (λ k l at.
+    let here = loaded_host hosts mtrees k l at in (
+      all-at (λ (h : Host). is_host_name h.name ≡ true) hosts k l.host whole.named here,
+      all-at WasReadInPart hosts k l.host whole.read here,
+      all-at IsLawfulHost hosts k l.host whole.lawful here,
+      all-at (SparesReserved joined) hosts k l.host whole.spares here,
+      whole.known k l.host here,
+    )) in
     record {
-      few_hosts = omega (arith, s.few, loaded, length-each site_of s.loaded site.hosts s.files_are);
-      together = subst (λ hs. AreJoined hs site.joined) (sym (hosts-read s.loaded site.hosts s.files_are).0) (together hosts s.pins site.joined s.joined_is);
-      lawful = sites_are_lawful hosts s.pins site.joined (omega (arith, s.few, loaded, length-map s.loaded (λ (l : Loaded). l.host))) (loaded-lawful texts s.loaded s.hosts_are) (pins_are_pins pins_text s.pins s.pins_are) s.joined_is;
-      leaves = leaves_reserved hosts s.pins site.joined s.joined_is;
+      few_hosts = omega (arith, whole.few, length-loaded_from hosts mtrees paired, length-each site_of loaded read accepted);
+      together = subst (λ hs. AreJoined hs joined) (hosts_held hosts mtrees read paired accepted).0 whole.together;
+      lawful = whole.accounts;
+      leaves = whole.leaves;
       each_host = each_host;
-      owned = all-owned site.joined site.hosts each_host;
+      owned = all-owned joined read each_host;
     }
 
 -- ---- hosts that spare nothing
-
-pub read_hosts_spare_nothing : ReadHostsSpareNothing
-read_hosts_spare_nothing texts pins_text site h =
-    let s = steps texts pins_text site h in
-    subst (λ hs. All SparesNothing hs) (sym (hosts-read s.loaded site.hosts s.files_are).0) (loaded-unsparing texts s.loaded s.hosts_are)
 
 unowned-from : (joined : Joined) (start : ℕ) (hosts : List (Host × List Entry)) → ((h : ℕ) (host : Host) (files : List Entry) → slice_get hosts h ≡ Some (host, files) → All (λ f. unowned joined (start + h) f.uid f.gid ≡ None) files) → All (λ f. unowned joined f.host f.uid f.gid ≡ None) (added_from start hosts)
 unowned-from joined start [] each_host = All-nil (λ (f : Added). unowned joined f.host f.uid f.gid ≡ None)

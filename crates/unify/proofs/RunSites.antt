@@ -25,22 +25,20 @@ use Rattle.reown_runner.specs.World.{World}
 use Rattle.reown_runner.proofs.Memories.{new_fresh}
 use Rattle.unify.specs.declared.outcome.Outcome.{Outcome}
 use Rattle.unify.specs.declared.rehearsing_site.SiteRun.{SiteRun}
-use Rattle.unify.specs.declared.host.Loaded.{Loaded}
+use Rattle.unify.specs.declared.rules.SiteRules.{SiteRules}
 use Rattle.unify.specs.Carrying.{AreInventoriesOf, AreReady, AreCarriedOut, AreSpelledFor, IsReady, at_start, new_tree_of}
 use Rattle.unify.specs.Count.{site_of}
 use Rattle.unify.specs.Headline.{Headline}
-use Rattle.unify.specs.Hosts.{host_of}
 use Rattle.unify.specs.Laws.{IsWhole}
 use Rattle.unify.specs.Loading.{loaded_from}
 use Rattle.unify.specs.Outcomes.{IsOutcome, hosts_in, plan_texts_from}
 use Rattle.unify.specs.Reading.{WholeSite, site_read}
 use Rattle.unify.specs.SiteRuns.{IsSiteRun, DoneKeepsNames, new_trees, new_world, runners_from}
-use Rattle.unify.proofs.Adding.{loaded_from-parts}
+use Rattle.unify.proofs.Adding.{length-loaded_from}
 use Rattle.unify.proofs.Believed.{name_is, outcomes_are_believed}
 use Rattle.unify.proofs.Keeping.{is_mapping, plan_is_old}
-use Rattle.unify.proofs.Reading.{steps}
+use Rattle.unify.proofs.ReadSites.{as-many-others, paired, steps}
 use Rattle.unify.proofs.SiteRuns.{some_same, runs_keep, runs_stay}
-use Rattle.unify.proofs.TwoPasses.{mtrees-kept}
 use Rattle.unify.proofs.Whole.{hosts_held}
 
 from_zero : (k : ℕ) → k ≡ 0 + k
@@ -53,10 +51,11 @@ one_further : (start k : ℕ) → start + suc k ≡ (start + 1) + k
 one_further start k = omega arith
 
 -- a site has as many hosts as there were texts
-pub as_many_hosts : (texts : List HostText) (pins_text : List ℕ) (site : WholeSite) → site_read texts pins_text ≡ Ok site → length site.hosts ≡ length texts
-as_many_hosts texts pins_text site read =
-    let s = steps texts pins_text site read in
-    length-each site_of s.loaded site.hosts s.files_are ∙ length-each host_of texts s.loaded s.hosts_are
+pub as_many_hosts : (texts : List HostText) (rules : SiteRules) (site : WholeSite) → site_read texts rules ≡ Ok site → length site.hosts ≡ length texts
+as_many_hosts texts rules site read =
+    let s = steps texts rules site read in
+    let mtrees = map (λ (t : HostText). t.mtree) texts in
+    length-each site_of (loaded_from s.others.hosts mtrees) site.hosts s.files_are ∙ length-loaded_from s.others.hosts mtrees (paired texts rules site s) ∙ as-many-others texts rules.keep s.others s.others_are
 
 -- the plans of hosts, where the first stands at the index
 abbrev pub plans_from : List Host → Joined → Mappings → ℕ → List (List Entry) → List PlanData
@@ -135,14 +134,10 @@ module _ (site : WholeSite) (whole : IsWhole site) where
         })
 
 -- the inventories of a site that was read
-pub inventories_there : (texts : List HostText) (pins_text : List ℕ) (site : WholeSite) → site_read texts pins_text ≡ Ok site → AreInventoriesOf texts site
-inventories_there texts pins_text site read =
-    let s = steps texts pins_text site read in
-    let hosts = map (λ (l : Loaded). l.host) s.loaded in
-    let mtrees = map (λ (l : Loaded). l.mtree) s.loaded in
-    let paired : length mtrees ≡ length hosts = length-map s.loaded (λ (l : Loaded). l.mtree) ∙ sym (length-map s.loaded (λ (l : Loaded). l.host)) in
-    let accepted : each site_of (loaded_from hosts mtrees) ≡ Ok site.hosts = ap (each site_of) (loaded_from-parts s.loaded) ∙ s.files_are in
-    ap (each (inventory 16777216)) (mtrees-kept texts s.loaded s.hosts_are) ∙ (hosts_held hosts mtrees site.hosts paired accepted).1
+pub inventories_there : (texts : List HostText) (rules : SiteRules) (site : WholeSite) → site_read texts rules ≡ Ok site → AreInventoriesOf texts site
+inventories_there texts rules site read =
+    let s = steps texts rules site read in
+    (hosts_held s.others.hosts (map (λ (t : HostText). t.mtree) texts) site.hosts (paired texts rules site s) s.files_are).1
 
 -- the texts of the inventories of a site and of a right outcome for it
 pub spelled_for : (site : WholeSite) → IsWhole site → (texts : List HostText) → AreInventoriesOf texts site → (outcome : Outcome) → (merged : IsOutcome site outcome) → (mtrees : List (List ℕ)) → mtrees ≡ map (λ t. t.mtree) texts

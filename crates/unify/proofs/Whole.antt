@@ -9,7 +9,6 @@ use Rattle.mtree_inv.specs.Inventory.{inventory}
 use Rattle.hosts_join.specs.Checks.{hosts_checked}
 use Rattle.hosts_join.specs.Hosts.{IsLawfulHost}
 use Rattle.hosts_join.specs.PinPairs.{PinPairs}
-use Rattle.hosts_join.specs.PinsText.{pins_of}
 use Rattle.hosts_join.specs.Site.{Joined, joined_site}
 use Rattle.hosts_join.proofs.Knowing.{site-is}
 use Rattle.mergedfiles.specs.Together.{AreJoined}
@@ -19,50 +18,43 @@ use Rattle.hosts_join.specs.declared.texts.HostText.{HostText}
 use Rattle.unify_texts.specs.declared.fault.Fault.{Fault}
 use Rattle.unify.specs.declared.host.Loaded.{Loaded}
 use Rattle.unify.specs.Count.{site_of}
-use Rattle.unify.specs.Hosts.{host_of, files_of}
+use Rattle.unify.specs.declared.rules.SiteRules.{SiteRules}
+use Rattle.unify.specs.Hosts.{files_of}
 use Rattle.unify.specs.Loading.{loaded_from}
-use Rattle.unify.specs.Passes.{BegunSite, pinned_site, site_begun}
-use Rattle.unify.specs.Told.{in_site, in_pins}
+use Rattle.unify.specs.Others.{Others, others_loaded, pinned_site}
+use Rattle.unify.specs.Passes.{BegunSite, site_begun}
+use Rattle.unify.specs.Told.{in_site}
 use Rattle.unify.proofs.Adding.{loaded_hosts, loaded_mtrees}
 use Rattle.unify.proofs.Owners.{files_read}
-use Rattle.unify.proofs.TwoPasses.{first-step}
 
 pub site_ok : {A : Type 0} (r : Result A SiteFault) (x : A) → in_site r ≡ Ok x → r ≡ Ok x
 site_ok (Ok y) x h = ap (λ z. Ok z) (ok_same y x h)
 site_ok (Err e) x h = absurd (cc)
 
--- a step whose rest is told in two ways
-same-rest : {A B F : Type 0} (r : Result A F) (one other : A → Result B F) → ((x : A) → one x ≡ other x) → (r >>= one) ≡ (r >>= other)
-same-rest (Ok x) one other h = h x
-same-rest (Err e) one other h = refl
+-- what comes before the inventories, step by step
+module _ (texts : List HostText) (rules : SiteRules) where
+  pub list_refused : (f : Fault) → in_site (hosts_checked texts) ≡ Err f → site_begun texts rules ≡ Err f
+  unfolding site_begun
+  list_refused f l = rw l refl
 
-abbrev begun_with : List Host → Result Joined Fault → Result BegunSite Fault
-begun_with hosts joining = joining >>= λ joined. Ok (record { hosts = hosts; joined = joined })
+  module _ (listed : Unit {0}) (l : in_site (hosts_checked texts) ≡ Ok listed) where
+    pub others_refused : (f : Fault) → others_loaded texts rules.keep ≡ Err f → site_begun texts rules ≡ Err f
+    unfolding site_begun
+    others_refused f o = rw (l, o) refl
 
-abbrev begun_from : List ℕ → Result (List Loaded) Fault → Result BegunSite Fault
-begun_from pins_text loading = loading >>= λ loaded. begun_with (map (λ l. l.host) loaded) (pinned_site (map (λ l. l.host) loaded) pins_text)
+    module _ (others : Others) (o : others_loaded texts rules.keep ≡ Ok others) where
+      abbrev begun_with : Result Joined Fault → Result BegunSite Fault
+      begun_with joining = joining >>= λ joined. Ok (record { hosts = others.hosts; joined = joined })
 
--- what comes before the inventories, where the list of hosts is accepted
-begun-steps : (texts : List HostText) (pins_text : List ℕ) (listed : Unit {0}) → in_site (hosts_checked texts) ≡ Ok listed → site_begun texts pins_text ≡ begun_from pins_text (each host_of texts)
-unfolding site_begun
-begun-steps texts pins_text listed l = rw l
-    (same-rest (each host_of texts) _ _
-    (λ loaded. first-step (in_pins (pins_of pins_text)) _ (λ pins. in_site (joined_site (map (λ l. l.host) loaded) pins)) (λ joined. Ok (record { hosts = map (λ l. l.host) loaded; joined = joined })) (λ pins p. refl)))
+      begun_steps : site_begun texts rules ≡ begun_with (pinned_site others rules.pins)
+      unfolding site_begun
+      begun_steps = rw (l, o) refl
 
-pub list_refused : (texts : List HostText) (pins_text : List ℕ) (f : Fault) → in_site (hosts_checked texts) ≡ Err f → site_begun texts pins_text ≡ Err f
-unfolding site_begun
-list_refused texts pins_text f l = rw l refl
+      pub join_refused : (f : Fault) → pinned_site others rules.pins ≡ Err f → site_begun texts rules ≡ Err f
+      join_refused f j = begun_steps ∙ ap begun_with j
 
-pub tables_refused : (texts : List HostText) (pins_text : List ℕ) (listed : Unit {0}) (f : Fault) → in_site (hosts_checked texts) ≡ Ok listed → each host_of texts ≡ Err f → site_begun texts pins_text ≡ Err f
-tables_refused texts pins_text listed f l h = begun-steps texts pins_text listed l ∙ ap (begun_from pins_text) h
-
-pub join_refused : (texts : List HostText) (pins_text : List ℕ) (listed : Unit {0}) (loaded : List Loaded) (f : Fault) → in_site (hosts_checked texts) ≡ Ok listed → each host_of texts ≡ Ok loaded
-    → pinned_site (map (λ l. l.host) loaded) pins_text ≡ Err f → site_begun texts pins_text ≡ Err f
-join_refused texts pins_text listed loaded f l h j = begun-steps texts pins_text listed l ∙ ap (begun_from pins_text) h ∙ ap (begun_with (map (λ l. l.host) loaded)) j
-
-pub begun_is : (texts : List HostText) (pins_text : List ℕ) (listed : Unit {0}) (loaded : List Loaded) (joined : Joined) → in_site (hosts_checked texts) ≡ Ok listed → each host_of texts ≡ Ok loaded
-    → pinned_site (map (λ l. l.host) loaded) pins_text ≡ Ok joined → site_begun texts pins_text ≡ Ok (record { hosts = map (λ l. l.host) loaded; joined = joined })
-begun_is texts pins_text listed loaded joined l h j = begun-steps texts pins_text listed l ∙ ap (begun_from pins_text) h ∙ ap (begun_with (map (λ l. l.host) loaded)) j
+      pub begun_is : (joined : Joined) → pinned_site others rules.pins ≡ Ok joined → site_begun texts rules ≡ Ok (record { hosts = others.hosts; joined = joined })
+      begun_is joined j = begun_steps ∙ ap begun_with j
 
 -- hosts with their files are the hosts that were loaded, with what the inventories say
 abbrev pub AreRead : List Loaded → List (Host × List Entry) → Type 0

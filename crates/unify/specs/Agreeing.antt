@@ -7,6 +7,7 @@ use Rattle.reown_plan.specs.PlanData.{PlanData}
 use Rattle.reown_plan.specs.Reading.{ReadsAs}
 use Rattle.unify_texts.specs.declared.map_text.MapText.{MapText}
 use Rattle.unify.specs.declared.outcome.Outcome.{Outcome}
+use Rattle.unify.specs.declared.rules.SiteRules.{SiteRules}
 use Rattle.unify.specs.Checking.{IsVerified, verified}
 use Rattle.unify.specs.Cost.{cost_of}
 use Rattle.unify.specs.Count.{count_of}
@@ -19,23 +20,23 @@ use Rattle.unify.specs.Rehearsing.{IsRehearsed}
 -- merge tells
 abbrev pub PrintedCertificatesAreAccepted : Type 0
 PrintedCertificatesAreAccepted =
-    (texts : List HostText) (pins_text : List ℕ) (site : WholeSite) (outcome : Outcome)
-    → site_read texts pins_text ≡ Ok site → IsOutcome site outcome
-    → verified texts pins_text outcome.certificate ≡ Ok (fields outcome.cost)
+    (texts : List HostText) (rules : SiteRules) (site : WholeSite) (outcome : Outcome)
+    → site_read texts rules ≡ Ok site → IsOutcome site outcome
+    → verified texts rules outcome.certificate ≡ Ok (fields outcome.cost)
 
 -- a count of the map that a merge prints answers the cost that the merge tells
 abbrev pub PrintedMapsAreCounted : Type 0
 PrintedMapsAreCounted =
-    (texts : List HostText) (pins_text : List ℕ) (site : WholeSite) (outcome : Outcome)
-    → site_read texts pins_text ≡ Ok site → IsOutcome site outcome
-    → count_of texts outcome.map ≡ Ok outcome.cost
+    (texts : List HostText) (rules : SiteRules) (site : WholeSite) (outcome : Outcome)
+    → site_read texts rules ≡ Ok site → IsOutcome site outcome
+    → count_of texts rules.keep outcome.map ≡ Ok outcome.cost
 
 -- no map of the hosts' names to distinct numbers, in their pools or at their pins, rewrites fewer
 -- fields than a check accepts
 abbrev pub NoMapRewritesFewer : Type 0
 NoMapRewritesFewer =
-    (texts : List HostText) (pins_text text : List ℕ) (cost : ℕ)
-    → (is : IsVerified texts pins_text text cost) → (other : MapText) (m : Mappings)
+    (texts : List HostText) (rules : SiteRules) (text : List ℕ) (cost : ℕ)
+    → (is : IsVerified texts rules text cost) → (other : MapText) (m : Mappings)
     → HaveOneNumberEach is.site.joined.users m.users other.users
     → HaveOneNumberEach is.site.joined.groups m.groups other.groups
     → cost ≤ fields (cost_of other is.site.hosts)
@@ -44,8 +45,8 @@ NoMapRewritesFewer =
 -- many records it has
 abbrev pub PrintedPlansAreRehearsed : Type 0
 PrintedPlansAreRehearsed =
-    (texts : List HostText) (pins_text : List ℕ) (site : WholeSite) (outcome : Outcome)
-    → site_read texts pins_text ≡ Ok site → IsOutcome site outcome
+    (texts : List HostText) (rules : SiteRules) (site : WholeSite) (outcome : Outcome)
+    → site_read texts rules ≡ Ok site → IsOutcome site outcome
     → (h : ℕ) (text : HostText) (plan : List ℕ) → slice_get texts h ≡ Some text
     → slice_get outcome.plans h ≡ Some plan
     → (told : PlanData) × ReadsAs plan (Ok told)

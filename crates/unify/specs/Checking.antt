@@ -10,6 +10,7 @@ use Rattle.certcheck.specs.Check.{answer}
 use Rattle.certcheck.specs.Reading.{certificate_in}
 use Rattle.certcheck.specs.declared.certificate.Certificate.{Certificate}
 use Rattle.unify_texts.specs.declared.fault.Fault.{Fault}
+use Rattle.unify.specs.declared.rules.SiteRules.{SiteRules}
 use Rattle.unify.specs.Reading.{WholeSite, files_of_site, site_read}
 use Rattle.unify.specs.Told.{in_certificate, in_check}
 
@@ -17,16 +18,17 @@ use Rattle.unify.specs.Told.{in_certificate, in_check}
 abbrev pub checked : WholeSite → Result Certificate Fault → Result ℕ Fault
 checked site certificate = certificate >>= λ c. in_check (answer site.joined (files_of_site site) c)
 
-unfoldable pub verified : List HostText → List ℕ → List ℕ → Result ℕ Fault
-verified texts pins_text text =
-    site_read texts pins_text >>= λ site. checked site (in_certificate (certificate_in text))
+unfoldable pub verified : List HostText → SiteRules → List ℕ → Result ℕ Fault
+verified texts rules text =
+    site_read texts rules >>= λ site. checked site (in_certificate (certificate_in text))
 
 -- What a yes means: the texts say a site and a certificate of exactly its names; its mappings are
 -- admissible, its potentials certify them, no admissible mappings cost less, and this is their
 -- cost.
-pub record IsVerified (texts : List HostText) (pins_text text : List ℕ) (cost : ℕ) : Type 0 where
+pub record IsVerified (texts : List HostText) (rules : SiteRules) (text : List ℕ) (cost : ℕ)
+    : Type 0 where
   pub site : WholeSite
-  pub read : site_read texts pins_text ≡ Ok site
+  pub read : site_read texts rules ≡ Ok site
   pub certificate : Certificate
   pub said : certificate_in text ≡ Ok certificate
   pub accepted : IsAccepted site.joined (files_of_site site) certificate cost

@@ -1,5 +1,5 @@
 -- The answer to count, or the first fault: the host list; host by host its files but the inventory;
--- the map; host by host the inventory and its owners.
+-- the keep text; the map; host by host the inventory and its owners.
 -- Source: this project's own rule.
 use Rattle.std.specs.Prelude.{ℕ, Bool, List, Result, Ok, Err, map, is_some, find, bytes_eq}
 use Rattle.std.specs.Prelude.{if◌then◌else◌, ◌&&◌}
@@ -19,7 +19,9 @@ use Rattle.hosts_join.specs.declared.host.Host.{Host}
 use Rattle.unify.specs.declared.host.Loaded.{Loaded}
 use Rattle.unify.specs.declared.counting.Cost.{Cost}
 use Rattle.unify.specs.Told.{in_site}
-use Rattle.unify.specs.Hosts.{host_of, files_of}
+use Rattle.unify.specs.Hosts.{files_of}
+use Rattle.unify.specs.Loading.{loaded_from}
+use Rattle.unify.specs.Others.{others_loaded}
 use Rattle.unify.specs.Cost.{cost_of}
 
 -- each of these names has a number
@@ -52,6 +54,11 @@ names_checked pairs hosts =
     if is_user_map pairs.users hosts && is_group_map pairs.groups hosts then Ok tt
     else Err (BadMap 0)
 
+-- a map of exactly the names of these hosts: the map, and its names
+abbrev pub mapped_names : List ℕ → List Host → Result MapText Fault
+mapped_names map_text hosts =
+    map_of map_text >>= λ pairs. names_checked pairs hosts >>= λ named. Ok pairs
+
 -- a host with the files of its inventory
 abbrev pub site_of : Loaded → Result (Host × List Entry) Fault
 site_of loaded = files_of loaded >>= λ files. Ok (loaded.host, files)
@@ -60,10 +67,9 @@ site_of loaded = files_of loaded >>= λ files. Ok (loaded.host, files)
 abbrev pub total_of : MapText → Result (List (Host × List Entry)) Fault → Result Cost Fault
 total_of pairs sites = sites >>= λ all. Ok (cost_of pairs all)
 
-unfoldable pub count_of : List HostText → List ℕ → Result Cost Fault
-count_of texts map_text = do
+unfoldable pub count_of : List HostText → List ℕ → List ℕ → Result Cost Fault
+count_of texts keep_text map_text = do
   listed ← in_site (hosts_checked texts)
-  loaded ← each host_of texts
-  pairs ← map_of map_text
-  named ← names_checked pairs (map (λ l. l.host) loaded)
-  total_of pairs (each site_of loaded)
+  others ← others_loaded texts keep_text
+  pairs ← mapped_names map_text others.hosts
+  total_of pairs (each site_of (loaded_from others.hosts (map (λ t. t.mtree) texts)))

@@ -18,6 +18,7 @@ use Rattle.mergedfiles.specs.ReadBack.{WasRead}
 use Rattle.unify_texts.specs.declared.map_text.MapText.{MapText}
 use Rattle.unify.specs.declared.host.Loaded.{Loaded}
 use Rattle.unify.specs.declared.outcome.Outcome.{Outcome}
+use Rattle.unify.specs.declared.rules.SiteRules.{SiteRules}
 use Rattle.unify.specs.declared.site_files.NamedText.{NamedText}
 use Rattle.unify.specs.declared.site_files.SiteFiles.{SiteFiles}
 use Rattle.unify.specs.Headline.{Headline, PlanKeepsNames}
@@ -76,8 +77,8 @@ pub record IsTextOf (site : Joined) (host : Host) (text : HostText) : Type 0 whe
 
 -- so it is for the texts that a site was read from, at the index of each host
 abbrev pub TablesAreOfTexts : Type 0
-TablesAreOfTexts = (texts : List HostText) (pins : List ℕ) (begun : BegunSite) (h : ℕ)
-    (host : Host) (text : HostText) → site_begun texts pins ≡ Ok begun
+TablesAreOfTexts = (texts : List HostText) (rules : SiteRules) (begun : BegunSite) (h : ℕ)
+    (host : Host) (text : HostText) → site_begun texts rules ≡ Ok begun
     → slice_get begun.hosts h ≡ Some host → slice_get texts h ≡ Some text
     → IsTextOf begun.joined host text
 
@@ -93,14 +94,17 @@ pub record AreJoinedInFull (hosts : List Host) (texts : List HostText) : Type 0 
       → slice_get hosts h ≡ Some host → slice_get texts h ≡ Some text
       → host_of text ≡ Ok loaded → IsJoinedInFull loaded.host host
 
--- so it is for the hosts of a site before its inventories are read, and behind them
+-- So it is for the hosts of a site that is read with an empty keep text, before its inventories are
+-- read, and behind them.
 abbrev pub BegunSitesAreInFull : Type 0
 BegunSitesAreInFull = (texts : List HostText) (pins : List ℕ) (begun : BegunSite)
-    → site_begun texts pins ≡ Ok begun → AreJoinedInFull begun.hosts texts
+    → site_begun texts (record { pins = pins; keep = [] }) ≡ Ok begun
+    → AreJoinedInFull begun.hosts texts
 
 abbrev pub ReadSitesAreInFull : Type 0
 ReadSitesAreInFull = (texts : List HostText) (pins : List ℕ) (site : WholeSite)
-    → site_read texts pins ≡ Ok site → AreJoinedInFull (hosts_in site) texts
+    → site_read texts (record { pins = pins; keep = [] }) ≡ Ok site
+    → AreJoinedInFull (hosts_in site) texts
 
 -- ---- what its own files say
 

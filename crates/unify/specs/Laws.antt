@@ -7,6 +7,7 @@ use Rattle.idtext.specs.First.{◌>>=◌, each}
 use Rattle.mtree_inv.specs.declared.entry.Entry.{Entry}
 use Rattle.mtree_inv.specs.Files.{AreFiles}
 use Rattle.hosts_join.specs.PinPairs.{no_pins}
+use Rattle.hosts_join.specs.PinsText.{pins_of}
 use Rattle.hosts_join.specs.Checks.{hosts_checked, is_host_name}
 use Rattle.hosts_join.specs.Hosts.{IsLawfulHost, SparesReserved}
 use Rattle.hosts_join.specs.Kinds.{user_at, group_at}
@@ -20,15 +21,19 @@ use Rattle.ownership.specs.Faults.{unowned}
 use Rattle.ownership.specs.Mappings.{Mappings}
 use Rattle.unify_texts.specs.declared.fault.Fault.{Fault}
 use Rattle.unify_texts.specs.declared.map_text.MapText.{MapText}
+use Rattle.unify_texts.specs.Maps.{map_of}
 use Rattle.unify_texts.specs.WrittenMap.{SayMapping}
+use Rattle.unify.specs.declared.counting.Cost.{Cost}
+use Rattle.unify.specs.declared.rules.SiteRules.{SiteRules}
 use Rattle.unify.specs.Cost.{cost_of}
-use Rattle.unify.specs.Count.{site_of}
+use Rattle.unify.specs.Count.{count_of, names_checked, site_of, total_of}
 use Rattle.unify.specs.Hosts.{host_of}
 use Rattle.unify.specs.Loading.{loaded_from}
+use Rattle.unify.specs.Others.{others_loaded, reserving}
 use Rattle.unify.specs.Outcomes.{cost_in, hosts_in}
 use Rattle.unify.specs.Passes.{site_begun}
 use Rattle.unify.specs.Sparing.{AreAllowed, AreOwnedOrReserved, LeavesItsReserved, SparesNothing}
-use Rattle.unify.specs.Told.{in_site}
+use Rattle.unify.specs.Told.{in_pins, in_site}
 use Rattle.unify.specs.Reading.{WholeSite, files_of_site, site_read}
 
 -- a uid and a gid have a user and a group by the host's own tables
@@ -64,8 +69,8 @@ pub record IsWhole (site : WholeSite) : Type 0 where
 
 abbrev pub ReadSitesAreWhole : Type 0
 ReadSitesAreWhole =
-    (texts : List HostText) (pins_text : List ℕ) (site : WholeSite)
-    → site_read texts pins_text ≡ Ok site → IsWhole site
+    (texts : List HostText) (rules : SiteRules) (site : WholeSite)
+    → site_read texts rules ≡ Ok site → IsWhole site
 
 -- a file has its owners among the accounts over all hosts exactly where it has them by its host's
 -- own tables
@@ -88,31 +93,61 @@ abbrev pub NothingSparedAllOwned : Type 0
 NothingSparedAllOwned = (site : WholeSite) → IsWhole site
     → All SparesNothing (hosts_in site) → HasAccountsForAll site
 
--- and no host does that was read from texts
+-- and no host does that was read from texts with an empty keep text
 abbrev pub ReadHostsSpareNothing : Type 0
 ReadHostsSpareNothing = (texts : List HostText) (pins_text : List ℕ) (site : WholeSite)
-    → site_read texts pins_text ≡ Ok site → All SparesNothing (hosts_in site)
+    → site_read texts (record { pins = pins_text; keep = [] }) ≡ Ok site
+    → All SparesNothing (hosts_in site)
 
--- what the texts of hosts say of a site, where there is no pins text
-abbrev pub site_without_pins : List HostText → Result WholeSite Fault
-site_without_pins texts = do
+-- what the texts of hosts and a keep text say of a site, where there is no pins text
+abbrev pub site_without_pins : List HostText → List ℕ → Result WholeSite Fault
+site_without_pins texts keep_text = do
   listed ← in_site (hosts_checked texts)
-  loaded ← each host_of texts
-  joined ← in_site (joined_site (map (λ l. l.host) loaded) no_pins)
-  hosts ← each site_of loaded
+  others ← others_loaded texts keep_text
+  joined ← in_site (joined_site others.hosts (reserving others no_pins))
+  hosts ← each site_of (loaded_from others.hosts (map (λ t. t.mtree) texts))
   Ok (record { hosts = hosts; joined = joined })
 
 -- an empty pins text is as none
 abbrev pub EmptyPinsAreNone : Type 0
-EmptyPinsAreNone = (texts : List HostText) → site_read texts [] ≡ site_without_pins texts
+EmptyPinsAreNone = (texts : List HostText) (keep_text : List ℕ)
+    → site_read texts (record { pins = []; keep = keep_text }) ≡ site_without_pins texts keep_text
+
+-- what the texts of hosts and a pins text say of a site, where there is no keep text
+abbrev pub site_without_keep : List HostText → List ℕ → Result WholeSite Fault
+site_without_keep texts pins_text = do
+  listed ← in_site (hosts_checked texts)
+  loaded ← each host_of texts
+  pins ← in_pins (pins_of pins_text)
+  joined ← in_site (joined_site (map (λ l. l.host) loaded) pins)
+  hosts ← each site_of loaded
+  Ok (record { hosts = hosts; joined = joined })
+
+-- what a map changes, where there is no keep text
+abbrev pub count_without_keep : List HostText → List ℕ → Result Cost Fault
+count_without_keep texts map_text = do
+  listed ← in_site (hosts_checked texts)
+  loaded ← each host_of texts
+  pairs ← map_of map_text
+  named ← names_checked pairs (map (λ l. l.host) loaded)
+  total_of pairs (each site_of loaded)
+
+-- an empty keep text is as none
+abbrev pub EmptyKeepIsNone : Type 0
+EmptyKeepIsNone = (texts : List HostText) (pins_text : List ℕ)
+    → site_read texts (record { pins = pins_text; keep = [] }) ≡ site_without_keep texts pins_text
+
+abbrev pub EmptyKeepCountsAll : Type 0
+EmptyKeepCountsAll = (texts : List HostText) (map_text : List ℕ)
+    → count_of texts [] map_text ≡ count_without_keep texts map_text
 
 -- what the texts of hosts say of a site is what comes before the inventories, and then, host by
 -- host, what the inventories say
 abbrev pub PassesReadTheSite : Type 0
 PassesReadTheSite =
-    (texts : List HostText) (pins_text : List ℕ)
-    → site_read texts pins_text
-    ≡ (site_begun texts pins_text
+    (texts : List HostText) (rules : SiteRules)
+    → site_read texts rules
+    ≡ (site_begun texts rules
     >>= λ begun. each site_of (loaded_from begun.hosts (map (λ t. t.mtree) texts))
     >>= λ hosts. Ok (record { hosts = hosts; joined = begun.joined }))
 

@@ -1,12 +1,29 @@
--- What a merge gives before its plans are written.
+-- What a merge goes by, and what it gives before its plans are written.
 -- Source: this project's own rule.
-use Rattle.std.specs.Prelude.{◌≡◌, []}
+use Rattle.std.specs.Prelude.{◌≡◌, ◌≤◌, List, [], map, length}
+use Rattle.std.specs.List.{All}
+use Rattle.hosts_join.specs.Hosts.{IsLawfulHost}
+use Rattle.hosts_join.specs.declared.host.Host.{Host}
+use Rattle.hosts_join.specs.Site.{Joined}
+use Rattle.mergedfiles.specs.Together.{AreJoined}
+use Rattle.ownership.specs.Counts.{Counted, IsMadeFor, StandsFor}
 use Rattle.ownership.specs.Mappings.{Mappings}
 use Rattle.certcheck.specs.declared.certificate.Certificate.{Certificate}
 use Rattle.unify.specs.declared.merging.Merged.{Merged}
 use Rattle.unify.specs.declared.outcome.Outcome.{Outcome}
 use Rattle.unify.specs.Outcomes.{AreAnswered, IsPrinted, plan_texts}
-use Rattle.unify.specs.Reading.{WholeSite}
+use Rattle.unify.specs.Reading.{WholeSite, files_of_site}
+
+-- what is kept of a site whose files were counted: the hosts, the accounts, and the counts
+pub record HoldsCounted (site : WholeSite) (hosts : List Host) (joined : Joined) (counted : Counted)
+    : Type 0 where
+  pub hosts_are : hosts ≡ map (λ h. h.0) site.hosts
+  pub joined_is : joined ≡ site.joined
+  pub together : AreJoined hosts joined
+  pub made : IsMadeFor site.joined counted
+  pub counted_are : StandsFor site.joined counted (files_of_site site)
+  pub few : length hosts ≤ 64
+  pub lawful : All IsLawfulHost hosts
 
 abbrev pub mappings_in : Merged → Mappings
 mappings_in merged = record { users = merged.users; groups = merged.groups }

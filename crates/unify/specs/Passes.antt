@@ -13,8 +13,7 @@ use Rattle.mtree_inv.specs.Standing as reader
 use Rattle.hosts_join.specs.Checks.{hosts_checked, is_host_name}
 use Rattle.hosts_join.specs.Hosts.{IsLawfulHost, SparesReserved}
 use Rattle.hosts_join.specs.Laws.{HasLawfulAccounts, KnowsItsHosts}
-use Rattle.hosts_join.specs.PinsText.{pins_of}
-use Rattle.hosts_join.specs.Site.{Joined, joined_site}
+use Rattle.hosts_join.specs.Site.{Joined}
 use Rattle.hosts_join.specs.declared.host.Host.{Host}
 use Rattle.hosts_join.specs.declared.texts.HostText.{HostText}
 use Rattle.mergedfiles.specs.InPart.{WasReadInPart}
@@ -22,12 +21,14 @@ use Rattle.mergedfiles.specs.Together.{AreJoined}
 use Rattle.unify_texts.specs.declared.bundle_line.FileName.TheVariants as file
 use Rattle.unify_texts.specs.declared.fault.Fault.{Fault}
 use Rattle.unify_texts.specs.declared.fault.Fault.TheVariants.{Line, Memory}
+use Rattle.unify.specs.declared.rules.SiteRules.{SiteRules}
 use Rattle.unify.specs.declared.site.JoinedHosts.{JoinedHosts}
 use Rattle.unify.specs.declared.turn.Turn.{Turn}
-use Rattle.unify.specs.Told.{in_file, in_site, in_pins}
-use Rattle.unify.specs.Hosts.{host_of, owner_fault, files_of}
+use Rattle.unify.specs.Told.{in_file, in_site}
+use Rattle.unify.specs.Hosts.{owner_fault, files_of}
 use Rattle.unify.specs.Count.{site_of}
 use Rattle.unify.specs.Loading.{loaded_from}
+use Rattle.unify.specs.Others.{others_loaded, pinned_site}
 use Rattle.unify.specs.RowFiles.{RowFiles, row_files}
 use Rattle.unify.specs.Sparing.{LeavesItsReserved}
 
@@ -37,21 +38,14 @@ pub record BegunSite : Type 0 where
   pub hosts : List Host
   pub joined : Joined
 
--- the accounts over all hosts, by the pins of a text: the pins text; the join, users and then
--- groups
-abbrev pub pinned_site : List Host → List ℕ → Result Joined Fault
-pinned_site hosts pins_text =
-    in_pins (pins_of pins_text) >>= λ pins. in_site (joined_site hosts pins)
-
--- the host list; host by host its files but the inventory; the pins text; the join, users and then
--- groups
-unfoldable pub site_begun : List HostText → List ℕ → Result BegunSite Fault
-site_begun texts pins_text = do
+-- the host list; host by host its files but the inventory; the keep text; the pins text; the join,
+-- users and then groups
+unfoldable pub site_begun : List HostText → SiteRules → Result BegunSite Fault
+site_begun texts rules = do
   listed ← in_site (hosts_checked texts)
-  loaded ← each host_of texts
-  pins ← in_pins (pins_of pins_text)
-  joined ← in_site (joined_site (map (λ l. l.host) loaded) pins)
-  Ok (record { hosts = map (λ l. l.host) loaded; joined = joined })
+  others ← others_loaded texts rules.keep
+  joined ← pinned_site others rules.pins
+  Ok (record { hosts = others.hosts; joined = joined })
 
 -- hosts that were read, and spare reserved numbers alone, and what was joined from them
 pub record AreTogether (hosts : List Host) (joined : Joined) : Type 0 where

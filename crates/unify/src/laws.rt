@@ -1,7 +1,8 @@
 //! Laws of the definitions, each the contract of a call that does nothing.
 ghost use Rattle.unify.specs.Laws.{OwnersAgree, ReadSitesAreWhole};
 ghost use Rattle.unify.specs.Laws.{NothingSparedAllOwned, ReadHostsSpareNothing};
-ghost use Rattle.unify.specs.Laws.{EmptyPinsAreNone, PassesReadTheSite, CostsAgree};
+ghost use Rattle.unify.specs.Laws.{EmptyKeepCountsAll, EmptyKeepIsNone, EmptyPinsAreNone};
+ghost use Rattle.unify.specs.Laws.{PassesReadTheSite, CostsAgree};
 ghost use Rattle.unify.specs.Believed.{OutcomesAreBelieved, DoneKeepsPrintedNames, RunsKeepNames};
 ghost use Rattle.unify.specs.Believed.{NumbersTellNames, NamedFilesHaveTheirNames};
 ghost use Rattle.unify.specs.TwoPasses.{TwoPassesAreBelieved, SecondReadingIsBelieved};
@@ -22,8 +23,8 @@ pub fn a_read_site_is_whole()
 {}
 
 /// Where no host spares a number each file has a user and a group, by its host's own tables and as
-/// well by the accounts over all hosts; and the hosts of a site that was read from texts spare
-/// none.
+/// well by the accounts over all hosts; and the hosts of a site that was read with an empty keep
+/// text spare none.
 pub fn nothing_spared_all_owned()
     ensures owned { NothingSparedAllOwned }
     ensures read { ReadHostsSpareNothing }
@@ -74,6 +75,12 @@ pub fn empty_pins_are_none()
     ensures { EmptyPinsAreNone }
 {}
 
+/// With an empty keep text a site reads as without one, and a count answers as without one.
+pub fn an_empty_keep_is_none()
+    ensures sites { EmptyKeepIsNone }
+    ensures counts { EmptyKeepCountsAll }
+{}
+
 /// A site is read as its tables, and then, host by host, its inventories, so that two passes over
 /// inventories that come in pieces read the same site.
 pub fn passes_read_the_site()
@@ -99,8 +106,8 @@ pub fn second_reading_is_believed()
 /// are, line by line, those of the host but for the numbers of what was joined of it; each user has
 /// the primary group that it had; and what the headline says of the host's plan holds with these
 /// two in place of the merged ones, by the names that the host has in full. The texts are those
-/// that the tables of the hosts were read from, each at the index of its host. All rows of each
-/// host were joined, and so every line has the new numbers of its names.
+/// that the tables of the hosts were read from, each at the index of its host. With an empty keep
+/// text all rows of each host were joined, and so every line has the new numbers of its names.
 pub fn hosts_keep_own_files()
     ensures keep { HostsKeepOwnFiles }
     ensures texts { TablesAreOfTexts }

@@ -1,7 +1,7 @@
 //! How many fields of files a map changes.
 
 ghost use Rattle.std.specs.Prelude.{◌≡◌, ◌≤◌, List, length, All, IfOk, not, sum_by};
-ghost use Rattle.idtext.specs.First.{Yields};
+ghost use Rattle.idtext.specs.First.{Gives, Yields};
 ghost use Rattle.mtree_inv.specs.declared.entry.Entry.{Entry};
 ghost use Rattle.hosts_join.specs.Hosts.{IsLawfulHost};
 ghost use Rattle.hosts_join.specs.Kinds.{group_at, user_at};
@@ -10,12 +10,14 @@ ghost use Rattle.unify_texts.specs.Told.{told};
 ghost use Rattle.unify.specs.Cost.{changed, host_cost, is_number};
 ghost use Rattle.unify.specs.Begun.{IsBegunCost};
 ghost use Rattle.unify.specs.Costing.{cost_begun};
+ghost use Rattle.unify.specs.Count.{mapped_names};
 ghost use Rattle.unify.specs.RowFiles.{row_files};
 
 use crate::counting::{Cost, check_list, check_names};
 use crate::inventories::Inventories;
+use crate::others::OtherHosts;
 use crate::row_files::RowFiles;
-use crate::site::load_tables;
+use crate::site::load_others;
 use hosts_join::{Host, HostText, PairTable};
 use std::alloc::Global;
 use unify_texts::{Fault, MapText, read_map};
@@ -35,41 +37,58 @@ struct MappedHosts<'a> {
     names: MapText<'a>,
 }
 
-// The tables of the hosts, and the map.
+// The map of what is counted.
+fn map_others<'a>(
+    alloc: Global,
+    others: OtherHosts<'a>,
+    map: &'a [u8],
+) -> Result<MappedHosts<'a>, Fault<'a>>
+    ensures names { Gives (λ held. held.names) told result
+        (mapped_names map.now others.entry.hosts.items) }
+    ensures hosts { IfOk result (λ held. held.hosts.items ≡ others.entry.hosts.items) }
+{
+    let OtherHosts { hosts, reserved: _ } = others;
+    let names = read_map(alloc, map)?;
+    check_names(&names, &hosts)?;
+    Ok(MappedHosts { hosts, names })
+}
+
+// What is counted of the hosts, and the map.
 fn map_tables<'a>(
     alloc: Global,
     texts: &'a [HostText],
+    keep: &'a [u8],
     map: &'a [u8],
 ) -> Result<MappedHosts<'a>, Fault<'a>>
     ensures begun { Yields (λ begun held. (held.hosts.items ≡ begun.hosts)
-        × (held.names ≡ begun.names)) told result (cost_begun texts.now map.now) }
+        × (held.names ≡ begun.names)) told result (cost_begun texts.now keep.now map.now) }
     ensures len { IfOk result (λ held. length held.hosts.items ≡ length texts.now) }
     ensures few { IfOk result (λ held. length held.hosts.items ≤ 64) }
     ensures lawful { IfOk result (λ held. All IsLawfulHost held.hosts.items) }
 {
     check_list(texts)?;
-    let hosts = load_tables(alloc, texts)?;
-    let names = read_map(alloc, map)?;
-    check_names(&names, &hosts)?;
-    Ok(MappedHosts { hosts, names })
+    let others = load_others(alloc, texts, keep)?;
+    map_others(alloc, others, map)
 }
 
 /// Reads what comes before the inventories of a site that a map is counted for; the texts of these
 /// are not looked at.
 ///
 /// It refuses with the first fault in this order: the host list; host by host login.defs, passwd,
-/// group and the primary groups; the map, by line, and then at line 0 where its names are not
-/// exactly the hosts' names. `Fault::Memory` is a growth that was refused. One pass over each text,
-/// and the map's names are looked up on each host.
+/// group and the primary groups; the keep text, by line, and then at line 0 where it keeps numbers
+/// without an account; the map, by line, and then at line 0 where its names are not exactly those
+/// names of the hosts that are not kept. `Fault::Memory` is a growth that was refused. One pass
+/// over each text, and the map's names are looked up on each host.
 pub fn begin_count<'a>(
     alloc: Global,
     texts: &'a [HostText],
+    keep: &'a [u8],
     map: &'a [u8],
 ) -> Result<MappedSite<'a>, Fault<'a>>
-    ensures begun { Yields IsBegunCost told result (cost_begun texts.now map.now) }
+    ensures begun { Yields IsBegunCost told result (cost_begun texts.now keep.now map.now) }
     ensures hosts { IfOk result (λ begun. length begun.inventories.hosts ≡ length texts.now) }
 {
-    let MappedHosts { hosts, names } = map_tables(alloc, texts, map)?;
+    let MappedHosts { hosts, names } = map_tables(alloc, texts, keep, map)?;
     let inventories = Inventories::of(alloc, hosts)?;
     Ok(MappedSite { inventories, names })
 }

@@ -9,6 +9,7 @@ ghost use Rattle.unify.specs.Replies.{reply_of};
 
 use crate::outcome::Outcome;
 use crate::reply::{Reply, refused};
+use crate::rules::SiteRules;
 use crate::site_files::{NamedText, SiteFiles};
 use crate::texts::{consolidate, consolidate_hosts};
 use hosts_join::HostText;
@@ -109,14 +110,18 @@ fn site_text(alloc: Global, hosts: &[HostText], files: &SiteFiles) -> Result<Vec
     Ok(text)
 }
 
-/// What goes out for a merge of these hosts with these pins: the files of its outcome, or the fault
-/// line with its status. An error is a growth that was refused.
+/// What goes out for a merge of these hosts with these rules: the files of its outcome, or the
+/// fault line with its status. An error is a growth that was refused.
 ///
 /// Beside what `consolidate` takes, it is one pass over the texts of the outcome.
-pub fn merge_reply(alloc: Global, hosts: &[HostText], pins: &[u8]) -> Result<Reply, AllocError>
-    ensures { IfOk result (λ reply. Answers (IsMergeTold hosts.now pins.now) (reply_of reply)) }
+pub fn merge_reply(
+    alloc: Global,
+    hosts: &[HostText],
+    rules: &SiteRules<'_>,
+) -> Result<Reply, AllocError>
+    ensures { IfOk result (λ reply. Answers (IsMergeTold hosts.now rules.now) (reply_of reply)) }
 {
-    match consolidate(alloc, hosts, pins) {
+    match consolidate(alloc, hosts, rules) {
         Ok(outcome) => Ok(Reply {
             text: outcome_text(alloc, hosts, &outcome)?,
             status: 0,
@@ -125,7 +130,7 @@ pub fn merge_reply(alloc: Global, hosts: &[HostText], pins: &[u8]) -> Result<Rep
     }
 }
 
-/// What goes out for a merge of these hosts with these pins, with each host's own files: the files
+/// What goes out for a merge of these hosts with these rules, with each host's own files: the files
 /// of its outcome, and behind them passwd.NAME and group.NAME of each host, one host after the
 /// other; or the fault line with its status. An error is a growth that was refused.
 ///
@@ -133,12 +138,12 @@ pub fn merge_reply(alloc: Global, hosts: &[HostText], pins: &[u8]) -> Result<Rep
 pub fn merge_hosts_reply(
     alloc: Global,
     hosts: &[HostText],
-    pins: &[u8],
+    rules: &SiteRules<'_>,
 ) -> Result<Reply, AllocError>
     ensures { IfOk result
-        (λ reply. Answers (IsMergeWithHostsTold hosts.now pins.now) (reply_of reply)) }
+        (λ reply. Answers (IsMergeWithHostsTold hosts.now rules.now) (reply_of reply)) }
 {
-    match consolidate_hosts(alloc, hosts, pins) {
+    match consolidate_hosts(alloc, hosts, rules) {
         Ok(files) => Ok(Reply {
             text: site_text(alloc, hosts, &files)?,
             status: 0,

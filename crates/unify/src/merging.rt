@@ -11,9 +11,8 @@ ghost use Rattle.mergedfiles.specs.Together.{AreJoined};
 ghost use Rattle.unify_texts.specs.Report.{report_of};
 ghost use Rattle.unify_texts.specs.ReservedLines as reserved;
 ghost use Rattle.unify_texts.specs.WrittenMap.{map_text};
-ghost use Rattle.unify.specs.Loading.{HoldsCounted};
 ghost use Rattle.unify.specs.Laws.{IsWhole};
-ghost use Rattle.unify.specs.Merging.{IsMerged, IsPrintedButPlans};
+ghost use Rattle.unify.specs.Merging.{HoldsCounted, IsMerged, IsPrintedButPlans};
 ghost use Rattle.unify.specs.Outcomes.{AreAnswered};
 ghost use Rattle.unify.specs.Reading.{WholeSite, files_of_site};
 

@@ -17,6 +17,7 @@ ghost use Rattle.unify.specs.SiteRuns.{IsSiteRun};
 
 use crate::host::MOST_FILES;
 use crate::outcome::{Outcome, TextList};
+use crate::rules::SiteRules;
 use crate::texts::consolidate;
 use hosts_join::HostText;
 use idtext::Name;
@@ -218,14 +219,14 @@ fn run_of<'a>(
 pub fn rehearse_site<'a>(
     alloc: Global,
     hosts: &'a [HostText],
-    pins: &'a [u8],
+    rules: &SiteRules<'a>,
     keep: Keep,
     events: &[Event],
 ) -> Result<SiteRun, Fault<'a>>
     requires { All (λ event. host_of event < length hosts.now) events.now }
-    ensures { Yields (IsSiteRun keep events.now) told result (site_read hosts.now pins.now) }
+    ensures { Yields (IsSiteRun keep events.now) told result (site_read hosts.now rules.now) }
 {
-    match consolidate(alloc, hosts, pins) {
+    match consolidate(alloc, hosts, rules) {
         Ok(outcome) => run_of(alloc, hosts, outcome, keep, events),
         Err(fault) => Err(fault),
     }

@@ -8,6 +8,7 @@ ghost use Rattle.unify.specs.Output.{counted, checked, answered};
 ghost use Rattle.unify.specs.Replies.{reply_of};
 
 use crate::counting::Cost;
+use crate::rules::SiteRules;
 use crate::texts::count;
 use crate::verifying::verify;
 use hosts_join::HostText;
@@ -76,12 +77,19 @@ pub fn cost_reply(alloc: Global, cost: Cost) -> Result<Reply, AllocError>
     })
 }
 
-/// What goes out for a count of these hosts with this map: the two lines, or the fault line with
-/// its status. An error is a growth that was refused. It takes what `count` takes, and a line.
-pub fn count_reply(alloc: Global, hosts: &[HostText], map: &[u8]) -> Result<Reply, AllocError>
-    ensures { IfOk result (λ reply. reply_of reply ≡ answered (counted hosts.now map.now)) }
+/// What goes out for a count of these hosts with this keep text and this map: the two lines, or the
+/// fault line with its status. An error is a growth that was refused. It takes what `count` takes,
+/// and a line.
+pub fn count_reply(
+    alloc: Global,
+    hosts: &[HostText],
+    keep: &[u8],
+    map: &[u8],
+) -> Result<Reply, AllocError>
+    ensures { IfOk result
+        (λ reply. reply_of reply ≡ answered (counted hosts.now keep.now map.now)) }
 {
-    match count(alloc, hosts, map) {
+    match count(alloc, hosts, keep, map) {
         Ok(cost) => cost_reply(alloc, cost),
         Err(fault) => refused(alloc, &fault),
     }
@@ -107,19 +115,19 @@ pub fn accepted_reply(alloc: Global, cost: u64) -> Result<Reply, AllocError>
     })
 }
 
-/// What goes out for a check of a certificate of these hosts with these pins: its line, or the
+/// What goes out for a check of a certificate of these hosts with these rules: its line, or the
 /// fault line with its status. An error is a growth that was refused. It takes what `verify` takes,
 /// and a line.
 pub fn check_reply(
     alloc: Global,
     hosts: &[HostText],
-    pins: &[u8],
+    rules: &SiteRules<'_>,
     certificate: &[u8],
 ) -> Result<Reply, AllocError>
     ensures { IfOk result
-        (λ reply. reply_of reply ≡ answered (checked hosts.now pins.now certificate.now)) }
+        (λ reply. reply_of reply ≡ answered (checked hosts.now rules.now certificate.now)) }
 {
-    match verify(alloc, hosts, pins, certificate) {
+    match verify(alloc, hosts, rules, certificate) {
         Ok(cost) => accepted_reply(alloc, cost),
         Err(fault) => refused(alloc, &fault),
     }

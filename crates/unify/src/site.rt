@@ -1,8 +1,9 @@
 //! What is read of a site before its inventories.
 
-ghost use Rattle.std.specs.Prelude.{◌≡◌, ◌≤◌, length, map, IfOk};
+ghost use Rattle.std.specs.Prelude.{◌≡◌, ◌≤◌, List, length, map, IfOk};
 ghost use Rattle.std.specs.List.{All};
 ghost use Rattle.idtext.specs.First.{Gives, Yields, each};
+ghost use Rattle.hosts_join.specs.declared.host.Host.{Host};
 ghost use Rattle.hosts_join.specs.Hosts.{IsLawfulHost};
 ghost use Rattle.hosts_join.specs.PinsText.{pins_of};
 ghost use Rattle.hosts_join.specs.Site.{joined_site};
@@ -10,11 +11,15 @@ ghost use Rattle.unify_texts.specs.Told.{told};
 ghost use Rattle.unify.specs.Told.{in_site, in_pins};
 ghost use Rattle.unify.specs.Begun.{IsBegun};
 ghost use Rattle.unify.specs.Hosts.{host_of};
-ghost use Rattle.unify.specs.Passes.{pinned_site, site_begun, HoldsBegun};
+ghost use Rattle.unify.specs.Others.{others_loaded, pinned_site, reserving};
+ghost use Rattle.unify.specs.OthersHeld.{others_held, others_in};
+ghost use Rattle.unify.specs.Passes.{site_begun, HoldsBegun};
 
 use crate::counting::check_list;
 use crate::host::{load_hosts, site_fault};
 use crate::inventories::Inventories;
+use crate::others::{OtherHosts, ReservedNumbers, other_hosts};
+use crate::rules::SiteRules;
 use hosts_join::{Host, HostText, Pins, PinsFault, Site, join};
 use std::alloc::Global;
 use unify_texts::Fault;
@@ -44,6 +49,15 @@ fn load_pins<'a>(alloc: Global, text: &'a [u8]) -> Result<Pins<'a>, Fault<'a>>
     }
 }
 
+// Pins, with the numbers that no name is to be given.
+fn reserve_for<'a>(pins: Pins<'a>, reserved: ReservedNumbers<'a>) -> Pins<'a>
+    ensures { (hosts : List Host)
+        → result ≡ reserving (others_held hosts reserved.entry) pins.entry }
+{
+    let ReservedNumbers { users, groups } = reserved;
+    pins.with_reserved(users, groups)
+}
+
 // The accounts over all hosts.
 fn join_hosts<'a>(alloc: Global, hosts: &[Host<'a>], pins: &Pins<'a>) -> Result<Site<'a>, Fault<'a>>
     requires few { length hosts.now ≤ 64 }
@@ -56,19 +70,42 @@ fn join_hosts<'a>(alloc: Global, hosts: &[Host<'a>], pins: &Pins<'a>) -> Result<
     }
 }
 
-// The accounts over all hosts, by the pins of a text.
-fn join_pinned<'a>(alloc: Global, hosts: &[Host<'a>], pins: &'a [u8]) -> Result<Site<'a>, Fault<'a>>
+// The accounts over all hosts, by the pins of a text and what is reserved.
+fn join_pinned<'a>(
+    alloc: Global,
+    hosts: &[Host<'a>],
+    reserved: ReservedNumbers<'a>,
+    pins: &'a [u8],
+) -> Result<Site<'a>, Fault<'a>>
     requires few { length hosts.now ≤ 64 }
     requires lawful { All IsLawfulHost hosts.now }
-    ensures { Gives (λ site. site) told result (pinned_site hosts.now pins.now) }
+    ensures { Gives (λ site. site) told result
+        (pinned_site (others_held hosts.now reserved.entry) pins.now) }
 {
-    let pins = load_pins(alloc, pins)?;
+    let pins = reserve_for(load_pins(alloc, pins)?, reserved);
     join_hosts(alloc, hosts, &pins)
 }
 
-/// Reads the files of all hosts but their inventories, as `load_hosts` does, and keeps the tables
-/// alone.
-pub fn load_tables<'a>(alloc: Global, texts: &'a [HostText]) -> Result<Vec<Host<'a>>, Fault<'a>>
+// The hosts with the accounts over all of them.
+fn join_others<'a>(
+    alloc: Global,
+    others: OtherHosts<'a>,
+    pins: &'a [u8],
+) -> Result<JoinedHosts<'a>, Fault<'a>>
+    requires few { length others.hosts.items ≤ 64 }
+    requires lawful { All IsLawfulHost others.hosts.items }
+    ensures site { Gives (λ held. held.site) told result
+        (pinned_site (others_in others.entry) pins.now) }
+    ensures hosts { IfOk result (λ held. held.hosts.items ≡ others.entry.hosts.items) }
+{
+    let OtherHosts { hosts, reserved } = others;
+    let site = join_pinned(alloc, &hosts, reserved, pins)?;
+    Ok(JoinedHosts { hosts, site })
+}
+
+// Reads the files of all hosts but their inventories, as `load_hosts` does, and keeps the tables
+// alone.
+fn load_tables<'a>(alloc: Global, texts: &'a [HostText]) -> Result<Vec<Host<'a>>, Fault<'a>>
     ensures read { Yields (λ loaded hosts. hosts.items ≡ map (λ l. l.host) loaded) told result
         (each host_of texts.now) }
     ensures len { IfOk result (λ hosts. length hosts.items ≡ length texts.now) }
@@ -78,37 +115,52 @@ pub fn load_tables<'a>(alloc: Global, texts: &'a [HostText]) -> Result<Vec<Host<
     Ok(all.into_iter().map(|loaded| loaded.host).collect(alloc)?)
 }
 
-// The tables of the hosts, and the accounts over all of them.
+/// Reads the files of all hosts but their inventories, as `load_hosts` does, and the keep text. It
+/// answers what is joined of the hosts, with the numbers that no name is to be given.
+pub fn load_others<'a>(
+    alloc: Global,
+    texts: &'a [HostText],
+    keep: &'a [u8],
+) -> Result<OtherHosts<'a>, Fault<'a>>
+    ensures read { Gives others_in told result (others_loaded texts.now keep.now) }
+    ensures len { IfOk result (λ others. length others.hosts.items ≡ length texts.now) }
+    ensures lawful { IfOk result (λ others. All IsLawfulHost others.hosts.items) }
+{
+    let hosts = load_tables(alloc, texts)?;
+    other_hosts(alloc, keep, hosts)
+}
+
+// What is joined of the hosts, and the accounts over it.
 fn join_tables<'a>(
     alloc: Global,
     host_texts: &'a [HostText],
-    pins: &'a [u8],
+    rules: &SiteRules<'a>,
 ) -> Result<JoinedHosts<'a>, Fault<'a>>
-    ensures begun { Yields HoldsBegun told result (site_begun host_texts.now pins.now) }
+    ensures begun { Yields HoldsBegun told result (site_begun host_texts.now rules.now) }
     ensures hosts { IfOk result (λ begun. length begun.hosts.items ≡ length host_texts.now) }
 {
     check_list(host_texts)?;
-    let hosts = load_tables(alloc, host_texts)?;
-    let site = join_pinned(alloc, &hosts, pins)?;
-    Ok(JoinedHosts { hosts, site })
+    let others = load_others(alloc, host_texts, rules.keep.bytes())?;
+    join_others(alloc, others, rules.pins.bytes())
 }
 
 /// Reads of a site what comes before the inventories: the files of each host but its inventory, the
-/// pins text and the join.
+/// keep text, the pins text and the join.
 ///
 /// It refuses with the first fault in this order: the host list; host by host login.defs, passwd,
-/// group and the primary groups; the pins text, by line; the join, users before groups.
-/// `Fault::Memory` is a growth that was refused. One pass over each text; the inventories are not
-/// read.
+/// group and the primary groups; the keep text, by line, and then at line 0 where it keeps numbers
+/// without an account; the pins text, by line; the join, users before groups. `Fault::Memory` is a
+/// growth that was refused. One pass over each text; the inventories are not read. Where the keep
+/// text is not empty, what is joined of the hosts is copied.
 pub fn begin_site<'a>(
     alloc: Global,
     host_texts: &'a [HostText],
-    pins: &'a [u8],
+    rules: &SiteRules<'a>,
 ) -> Result<JoinedSite<'a>, Fault<'a>>
-    ensures begun { Yields IsBegun told result (site_begun host_texts.now pins.now) }
+    ensures begun { Yields IsBegun told result (site_begun host_texts.now rules.now) }
     ensures hosts { IfOk result (λ begun. length begun.inventories.hosts ≡ length host_texts.now) }
 {
-    let JoinedHosts { hosts, site } = join_tables(alloc, host_texts, pins)?;
+    let JoinedHosts { hosts, site } = join_tables(alloc, host_texts, rules)?;
     let inventories = Inventories::of(alloc, hosts)?;
     Ok(JoinedSite { inventories, site })
 }

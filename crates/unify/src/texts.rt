@@ -27,6 +27,7 @@ use crate::counting::Cost;
 use crate::inventories::Inventories;
 use crate::map_cost::begin_count;
 use crate::outcome::{Outcome, TextList};
+use crate::rules::SiteRules;
 use crate::site::{JoinedSite, begin_site};
 use crate::site_files::{SiteFiles, own_files};
 use crate::solved_pass::Solved;
@@ -68,13 +69,14 @@ fn count_texts<'a>(inventories: &mut Inventories<'a>, texts: &[HostText]) -> Res
     Ok(())
 }
 
-/// Reads a whole site: the files of each host but its inventory, the pins text, the join, and then
-/// host by host the inventory, whose files are counted for their owners.
+/// Reads a whole site: the files of each host but its inventory, the keep text, the pins text, the
+/// join, and then host by host the inventory, whose files are counted for their owners.
 ///
 /// It refuses with the first fault in this order: the host list; host by host login.defs, passwd,
-/// group and the primary groups; the pins text, by line; the join, users before groups; host by
-/// host the inventory, by line, and then its owners in inventory order, uid before gid.
-/// `Fault::Memory` is a growth that was refused.
+/// group and the primary groups; the keep text, by line, and then at line 0 where it keeps numbers
+/// without an account; the pins text, by line; the join, users before groups; host by host the
+/// inventory, by line, and then its owners in inventory order, uid before gid. `Fault::Memory` is a
+/// growth that was refused.
 ///
 /// What it answers has no host left, and can be solved or checked. It reads each text once, and
 /// each owner by hash, so it takes time linear in the texts. The paths of one inventory at a time
@@ -82,11 +84,11 @@ fn count_texts<'a>(inventories: &mut Inventories<'a>, texts: &[HostText]) -> Res
 pub fn read_site<'a>(
     alloc: Global,
     texts: &'a [HostText],
-    pins: &'a [u8],
+    rules: &SiteRules<'a>,
 ) -> Result<JoinedSite<'a>, Fault<'a>>
-    ensures { Yields (HasCounted texts.now) told result (site_read texts.now pins.now) }
+    ensures { Yields (HasCounted texts.now) told result (site_read texts.now rules.now) }
 {
-    let mut begun = begin_site(alloc, texts, pins)?;
+    let mut begun = begin_site(alloc, texts, rules)?;
     count_texts(&mut begun.inventories, texts)?;
     Ok(begun)
 }
@@ -171,12 +173,12 @@ fn with_plans<'a>(
 pub fn consolidate<'a>(
     alloc: Global,
     hosts: &'a [HostText],
-    pins: &'a [u8],
+    rules: &SiteRules<'a>,
 ) -> Result<Outcome, Fault<'a>>
-    ensures answers { Yields IsOutcome told result (site_read hosts.now pins.now) }
-    ensures believed { Yields Headline told result (site_read hosts.now pins.now) }
+    ensures answers { Yields IsOutcome told result (site_read hosts.now rules.now) }
+    ensures believed { Yields Headline told result (site_read hosts.now rules.now) }
 {
-    let read = read_site(alloc, hosts, pins)?;
+    let read = read_site(alloc, hosts, rules)?;
     match read.solve() {
         Ok(solved) => with_plans(alloc, solved, hosts),
         Err(_read) => Err(Fault::Memory),
@@ -212,11 +214,11 @@ fn with_own_files<'a>(
 pub fn consolidate_hosts<'a>(
     alloc: Global,
     hosts: &'a [HostText],
-    pins: &'a [u8],
+    rules: &SiteRules<'a>,
 ) -> Result<SiteFiles, Fault<'a>>
-    ensures { Yields (AreSiteFiles hosts.now) told result (site_read hosts.now pins.now) }
+    ensures { Yields (AreSiteFiles hosts.now) told result (site_read hosts.now rules.now) }
 {
-    let read = read_site(alloc, hosts, pins)?;
+    let read = read_site(alloc, hosts, rules)?;
     match read.solve() {
         Ok(solved) => with_own_files(alloc, solved, hosts),
         Err(_read) => Err(Fault::Memory),
@@ -224,20 +226,27 @@ pub fn consolidate_hosts<'a>(
 }
 
 /// How many owner and group fields of the hosts' files the numbers of a map text change, for any
-/// map whose names are exactly those of the hosts; it need keep no pin and no pool.
+/// map whose names are exactly those of the hosts that the keep text does not keep; it need keep no
+/// pin and no pool.
 ///
 /// It refuses with the first fault in this order: the host list; host by host login.defs, passwd,
-/// group and the primary groups; the map, by line, and then at line 0 where its names are not
-/// exactly the hosts' names; host by host the inventory, and then its owners. `Fault::Memory` is a
-/// growth that was refused.
+/// group and the primary groups; the keep text, by line, and then at line 0 where it keeps numbers
+/// without an account; the map, by line, and then at line 0 where its names are not exactly those
+/// names; host by host the inventory, and then its owners. `Fault::Memory` is a growth that was
+/// refused.
 ///
 /// It reads each text once, and each owner by hash, so it takes time linear in the texts (a map's
 /// names are looked up on each host). It keeps the tables of all hosts, which borrow their texts,
 /// and the paths of one inventory at a time.
-pub fn count<'a>(alloc: Global, hosts: &'a [HostText], map: &'a [u8]) -> Result<Cost, Fault<'a>>
-    ensures { Gives (λ cost. cost) told result (count_of hosts.now map.now) }
+pub fn count<'a>(
+    alloc: Global,
+    hosts: &'a [HostText],
+    keep: &'a [u8],
+    map: &'a [u8],
+) -> Result<Cost, Fault<'a>>
+    ensures { Gives (λ cost. cost) told result (count_of hosts.now keep.now map.now) }
 {
-    let mut begun = begin_count(alloc, hosts, map)?;
+    let mut begun = begin_count(alloc, hosts, keep, map)?;
     count_texts(&mut begun.inventories, hosts)?;
     Ok(begun.cost())
 }

@@ -11,6 +11,7 @@ ghost use Rattle.unify.specs.Told.{check_told, in_certificate, in_check};
 ghost use Rattle.unify.specs.Checking.{IsVerified, checked, verified};
 ghost use Rattle.unify.specs.Reading.{WholeSite, files_of_site};
 
+use crate::rules::SiteRules;
 use crate::texts::read_site;
 use certcheck::{Certificate, CertificateFault, CheckFault, check, read_certificate};
 use hosts_join::{HostText, Site};
@@ -101,13 +102,14 @@ pub fn verify_counted<'a>(
 pub fn verify<'a>(
     alloc: Global,
     hosts: &'a [HostText],
-    pins: &'a [u8],
+    rules: &SiteRules<'a>,
     certificate: &'a [u8],
 ) -> Result<u64, Fault<'a>>
-    ensures exact { Gives (λ cost. cost) told result (verified hosts.now pins.now certificate.now) }
-    ensures proved { IfOk result (IsVerified hosts.now pins.now certificate.now) }
+    ensures exact { Gives (λ cost. cost) told result
+        (verified hosts.now rules.now certificate.now) }
+    ensures proved { IfOk result (IsVerified hosts.now rules.now certificate.now) }
 {
-    match read_site(alloc, hosts, pins) {
+    match read_site(alloc, hosts, rules) {
         Ok(read) => read.verify(certificate),
         Err(fault) => Err(fault),
     }

@@ -9,21 +9,20 @@ use Rattle.accounts.specs.Tables.{passwd_table, group_table}
 use Rattle.logindefs.specs.Ranges.{ranges_of}
 use Rattle.mtree_inv.specs.declared.entry.Entry.{Entry}
 use Rattle.hosts_join.specs.Checks.{has_host, hosts_checked, name_fault, primary_checked}
-use Rattle.hosts_join.specs.PinsText.{pins_of}
-use Rattle.hosts_join.specs.Site.{joined_site}
 use Rattle.hosts_join.specs.declared.host.Host.{Host}
 use Rattle.hosts_join.specs.declared.texts.HostText.{HostText}
 use Rattle.unify_texts.specs.declared.bundle_line.FileName.TheVariants as file
-use Rattle.unify_texts.specs.Maps.{map_of}
 use Rattle.unify_texts.specs.declared.fault.Fault.{Fault}
 use Rattle.unify.specs.declared.host.Loaded.{Loaded}
-use Rattle.unify.specs.Costing.{BegunCost, cost_begun}
-use Rattle.unify.specs.Count.{names_checked, site_of}
+use Rattle.unify.specs.declared.rules.SiteRules.{SiteRules}
+use Rattle.unify.specs.Costing.{cost_begun}
+use Rattle.unify.specs.Count.{mapped_names, site_of}
 use Rattle.unify.specs.Hosts.{host_of, sparing_none}
 use Rattle.unify.specs.Loading.{loaded_from}
+use Rattle.unify.specs.Others.{Others, others_loaded, others_read, pinned_site}
 use Rattle.unify.specs.Passes.{BegunSite, site_begun}
 use Rattle.unify.specs.Reading.{site_read}
-use Rattle.unify.specs.Told.{in_file, in_pins, in_site}
+use Rattle.unify.specs.Told.{in_file, in_site}
 use Rattle.unify.proofs.Adding.{loaded_hosts}
 use Rattle.unify.proofs.TwoPasses.{first-step, site_is}
 use Rattle.unify_merge.specs.FirstReading.{with_inventories}
@@ -103,28 +102,27 @@ tables-with {B} hosts texts rest same = ap (λ r. r >>= λ loaded. rest (map (λ
     by (Ok ls) each_one = ap rest (loaded_hosts (map (λ (l : Loaded). l.host) ls) texts (omega (arith, same, each_one ls refl, length-map ls (λ (l : Loaded). l.host))))
     by (Err e) each_one = refl
 
-pub begun-with : (hosts : List HostText) (texts : List (List ℕ)) (pins : List ℕ) → length texts ≡ length hosts → site_begun (with_inventories hosts texts) pins ≡ site_begun hosts pins
-unfolding site_begun
-begun-with hosts texts pins same =
-    ap (λ list. in_site list >>= λ listed. each host_of (with_inventories hosts texts) >>= λ loaded. joined (map (λ (l : Loaded). l.host) loaded)) (list-with hosts texts same)
-    ∙ ap (λ r. in_site (hosts_checked hosts) >>= λ listed. r) (tables-with hosts texts joined same)
-  where
-    joined : List Host → Result BegunSite Fault
-    joined tables = in_pins (pins_of pins) >>= λ pairs. in_site (joined_site tables pairs) >>= λ all. Ok (record { hosts = tables; joined = all })
+others-with : (hosts : List HostText) (texts : List (List ℕ)) (keep_text : List ℕ) → length texts ≡ length hosts → others_loaded (with_inventories hosts texts) keep_text ≡ others_loaded hosts keep_text
+unfolding others_loaded
+others-with hosts texts keep_text same = tables-with hosts texts (others_read keep_text) same
 
-pub cost_begun-with : (hosts : List HostText) (texts : List (List ℕ)) (map_text : List ℕ) → length texts ≡ length hosts → cost_begun (with_inventories hosts texts) map_text ≡ cost_begun hosts map_text
+-- what comes of the list of hosts and their tables does not either
+lists-with : {B : Type 0} (hosts : List HostText) (texts : List (List ℕ)) (keep_text : List ℕ) (rest : Others → Result B Fault) → length texts ≡ length hosts
+    → (in_site (hosts_checked (with_inventories hosts texts)) >>= λ listed. others_loaded (with_inventories hosts texts) keep_text >>= rest) ≡ (in_site (hosts_checked hosts) >>= λ listed. others_loaded hosts keep_text >>= rest)
+lists-with hosts texts keep_text rest same = λ j. in_site (list-with hosts texts same j) >>= λ listed. others-with hosts texts keep_text same j >>= rest
+
+pub begun-with : (hosts : List HostText) (texts : List (List ℕ)) (rules : SiteRules) → length texts ≡ length hosts → site_begun (with_inventories hosts texts) rules ≡ site_begun hosts rules
+unfolding site_begun
+begun-with hosts texts rules same = lists-with hosts texts rules.keep (λ others. pinned_site others rules.pins >>= λ all. Ok (record { hosts = others.hosts; joined = all })) same
+
+pub cost_begun-with : (hosts : List HostText) (texts : List (List ℕ)) (keep_text map_text : List ℕ) → length texts ≡ length hosts → cost_begun (with_inventories hosts texts) keep_text map_text ≡ cost_begun hosts keep_text map_text
 unfolding cost_begun
-cost_begun-with hosts texts map_text same =
-    ap (λ list. in_site list >>= λ listed. each host_of (with_inventories hosts texts) >>= λ loaded. mapped (map (λ (l : Loaded). l.host) loaded)) (list-with hosts texts same)
-    ∙ ap (λ r. in_site (hosts_checked hosts) >>= λ listed. r) (tables-with hosts texts mapped same)
-  where
-    mapped : List Host → Result BegunCost Fault
-    mapped tables = map_of map_text >>= λ pairs. names_checked pairs tables >>= λ named. Ok (record { hosts = tables; names = pairs })
+cost_begun-with hosts texts keep_text map_text same = lists-with hosts texts keep_text (λ others. mapped_names map_text others.hosts >>= λ pairs. Ok (record { hosts = others.hosts; names = pairs })) same
 
 -- ---- a site whose inventories were read
 
-pub read-with : (hosts : List HostText) (texts : List (List ℕ)) (pins : List ℕ) (begun : BegunSite) (read : List (Host × List Entry)) → length texts ≡ length hosts → site_begun hosts pins ≡ Ok begun
-    → each site_of (loaded_from begun.hosts texts) ≡ Ok read → site_read (with_inventories hosts texts) pins ≡ Ok (record { hosts = read; joined = begun.joined })
-read-with hosts texts pins begun read same is accepted =
-    site_is (with_inventories hosts texts) pins begun read (begun-with hosts texts pins same ∙ is)
+pub read-with : (hosts : List HostText) (texts : List (List ℕ)) (rules : SiteRules) (begun : BegunSite) (read : List (Host × List Entry)) → length texts ≡ length hosts → site_begun hosts rules ≡ Ok begun
+    → each site_of (loaded_from begun.hosts texts) ≡ Ok read → site_read (with_inventories hosts texts) rules ≡ Ok (record { hosts = read; joined = begun.joined })
+read-with hosts texts rules begun read same is accepted =
+    site_is (with_inventories hosts texts) rules begun read (begun-with hosts texts rules same ∙ is)
     (ap (λ ts. each site_of (loaded_from begun.hosts ts)) (mtrees-with hosts texts same) ∙ accepted)

@@ -8,6 +8,7 @@ use Rattle.hosts_join.specs.declared.host.Host.{Host}
 use Rattle.hosts_join.specs.declared.texts.HostText.{HostText}
 use Rattle.unify_texts.specs.Told.{told}
 use Rattle.unify_texts.specs.declared.fault.Fault.{Fault}
+use Rattle.unify.specs.declared.rules.SiteRules.{SiteRules}
 use Rattle.unify.specs.Checking.{checked}
 use Rattle.unify.specs.Count.{site_of}
 use Rattle.unify.specs.Loading.{loaded_from}
@@ -24,42 +25,42 @@ use Rattle.unify_merge.proofs.Inventories.{read-with}
 use Rattle.unify_merge.proofs.Stops.{if_told}
 
 -- the reading of the inventories ended early, and so did the check
-pub check_counted_stopped : (texts : List HostText) (pins certificate : List ℕ) (begun : BegunSite) (hosts : List Host) (old new : Ledger) (failed : Bool) (fault : MergeFault) → site_begun texts pins ≡ Ok begun → hosts ≡ begun.hosts
-    → StopsCounting hosts old new failed fault → StopsCheck texts pins certificate old new failed fault
-check_counted_stopped texts pins certificate begun hosts old new failed Failed is same stops = stops
-check_counted_stopped texts pins certificate begun hosts old new failed TooLarge is same stops = stops
-check_counted_stopped texts pins certificate begun hosts old new failed (Refused e) is same stops =
+pub check_counted_stopped : (texts : List HostText) (rules : SiteRules) (certificate : List ℕ) (begun : BegunSite) (hosts : List Host) (old new : Ledger) (failed : Bool) (fault : MergeFault) → site_begun texts rules ≡ Ok begun → hosts ≡ begun.hosts
+    → StopsCounting hosts old new failed fault → StopsCheck texts rules certificate old new failed fault
+check_counted_stopped texts rules certificate begun hosts old new failed Failed is same stops = stops
+check_counted_stopped texts rules certificate begun hosts old new failed TooLarge is same stops = stops
+check_counted_stopped texts rules certificate begun hosts old new failed (Refused e) is same stops =
     if_told (told e) _ _ (λ f fault. inr (inl (begun, is, subst (λ (hs : List Host). IsInventoryFault hs old new f) same fault))) stops
 
 -- The inventories of hosts were read as these texts.
-pub record IsReadSite (hosts : List HostText) (pins : List ℕ) (old new : Ledger) (over : InventoriesValue) (joined : Joined) (texts : List (List ℕ)) (were : StandsFor over texts []) : Type 0 where
+pub record IsReadSite (hosts : List HostText) (rules : SiteRules) (old new : Ledger) (over : InventoriesValue) (joined : Joined) (texts : List (List ℕ)) (were : StandsFor over texts []) : Type 0 where
   pub were_read : WereEachRead hosts texts old new
-  pub read : site_read (with_inventories hosts texts) pins ≡ Ok (record { hosts = were.read; joined = joined })
+  pub read : site_read (with_inventories hosts texts) rules ≡ Ok (record { hosts = were.read; joined = joined })
 
-pub read_site : (hosts : List HostText) (pins : List ℕ) (begun : BegunSite) (over : InventoriesValue) (joined : Joined) (old new : Ledger) (texts : List (List ℕ)) (were : StandsFor over texts []) → site_begun hosts pins ≡ Ok begun → over.hosts ≡ begun.hosts → joined ≡ begun.joined
-    → ended_in over ≡ length over.hosts → length over.hosts ≡ length hosts → new.read ≡ old.read ++ readings_from 0 texts → IsReadSite hosts pins old new over joined texts were
-read_site hosts pins begun over joined old new texts were is same join none_left each_text readings =
+pub read_site : (hosts : List HostText) (rules : SiteRules) (begun : BegunSite) (over : InventoriesValue) (joined : Joined) (old new : Ledger) (texts : List (List ℕ)) (were : StandsFor over texts []) → site_begun hosts rules ≡ Ok begun → over.hosts ≡ begun.hosts → joined ≡ begun.joined
+    → ended_in over ≡ length over.hosts → length over.hosts ≡ length hosts → new.read ≡ old.read ++ readings_from 0 texts → IsReadSite hosts rules old new over joined texts were
+read_site hosts rules begun over joined old new texts were is same join none_left each_text readings =
     let one_each : length texts ≡ length hosts = were.ended_are ∙ none_left ∙ each_text in
     let accepted : each site_of (loaded_from begun.hosts texts) ≡ Ok were.read = subst (λ (hs : List Host). each site_of (loaded_from hs texts) ≡ Ok were.read) same were.accepted in
     record {
       were_read = record { one_each = one_each; readings = readings };
-      read = read-with hosts texts pins begun were.read one_each is accepted ∙ ap (λ j. Ok (record { hosts = were.read; joined = j })) (sym join);
+      read = read-with hosts texts rules begun were.read one_each is accepted ∙ ap (λ j. Ok (record { hosts = were.read; joined = j })) (sym join);
     }
 
-module _ (hosts : List HostText) (pins certificate : List ℕ) (old new : Ledger) (over : InventoriesValue) (joined : Joined) (texts : List (List ℕ)) (were : StandsFor over texts []) (site : IsReadSite hosts pins old new over joined texts were) where
+module _ (hosts : List HostText) (rules : SiteRules) (certificate : List ℕ) (old new : Ledger) (over : InventoriesValue) (joined : Joined) (texts : List (List ℕ)) (were : StandsFor over texts []) (site : IsReadSite hosts rules old new over joined texts were) where
   -- the answer is that of the counters
-  pub has_checked : (cost : ℕ) → checked (record { hosts = were.read; joined = joined }) (in_certificate (certificate_in certificate)) ≡ Ok cost → HasChecked hosts pins certificate old new cost
+  pub has_checked : (cost : ℕ) → checked (record { hosts = were.read; joined = joined }) (in_certificate (certificate_in certificate)) ≡ Ok cost → HasChecked hosts rules certificate old new cost
   has_checked cost is =
       let whole : WholeSite = record { hosts = were.read; joined = joined } in
       record {
         texts = texts;
         were_read = site.were_read;
-        answer = answer_of_site (with_inventories hosts texts) pins certificate whole site.read ∙ is;
-        means = cost_means (with_inventories hosts texts) pins certificate whole site.read (Ok cost) is;
+        answer = answer_of_site (with_inventories hosts texts) rules certificate whole site.read ∙ is;
+        means = cost_means (with_inventories hosts texts) rules certificate whole site.read (Ok cost) is;
       }
 
   -- and so is the fault
-  pub check_refused : (failed : Bool) (e : Fault) → IfSome (told e) (λ f. checked (record { hosts = were.read; joined = joined }) (in_certificate (certificate_in certificate)) ≡ Err f) → StopsCheck hosts pins certificate old new failed (Refused e)
+  pub check_refused : (failed : Bool) (e : Fault) → IfSome (told e) (λ f. checked (record { hosts = were.read; joined = joined }) (in_certificate (certificate_in certificate)) ≡ Err f) → StopsCheck hosts rules certificate old new failed (Refused e)
   check_refused failed e fault =
       let whole : WholeSite = record { hosts = were.read; joined = joined } in
-      if_told (told e) _ _ (λ f is. inr (inr (texts, site.were_read, answer_of_site (with_inventories hosts texts) pins certificate whole site.read ∙ is))) fault
+      if_told (told e) _ _ (λ f is. inr (inr (texts, site.were_read, answer_of_site (with_inventories hosts texts) rules certificate whole site.read ∙ is))) fault

@@ -15,6 +15,7 @@ use Rattle.unify_texts.specs.Told.{told}
 use Rattle.unify_texts.specs.declared.fault.Fault.{Fault}
 use Rattle.unify.specs.declared.counting.Cost.{Cost}
 use Rattle.unify.specs.declared.outcome.Outcome.{Outcome}
+use Rattle.unify.specs.declared.rules.SiteRules.{SiteRules}
 use Rattle.unify.specs.Count.{site_of}
 use Rattle.unify.specs.Headline.{Headline}
 use Rattle.unify.specs.HostTexts.{AreJoinedInFull, host_files}
@@ -80,24 +81,24 @@ if_ok (Ok x) P Q goes p = goes x p
 if_ok (Err e) P Q goes p = tt
 
 -- the first reading ended early, and so did the merge
-pub counted_stopped : (texts : List HostText) (pins : List ℕ) (begun : BegunSite) (hosts : List Host) (old new : Ledger) (failed : Bool) (fault : MergeFault) → site_begun texts pins ≡ Ok begun → hosts ≡ begun.hosts → ReadsOnly old new
-    → StopsCounting hosts old new failed fault → StopsMerge texts pins old new failed fault
-counted_stopped texts pins begun hosts old new failed Failed is same reads stops = stops
-counted_stopped texts pins begun hosts old new failed TooLarge is same reads stops = stops
-counted_stopped texts pins begun hosts old new failed (Refused e) is same reads stops = if_told (told e) _ _ (λ f fault. inr (inl (begun, is, subst (λ (hs : List Host). IsInventoryFault hs old new f) same fault, reads))) stops
+pub counted_stopped : (texts : List HostText) (rules : SiteRules) (begun : BegunSite) (hosts : List Host) (old new : Ledger) (failed : Bool) (fault : MergeFault) → site_begun texts rules ≡ Ok begun → hosts ≡ begun.hosts → ReadsOnly old new
+    → StopsCounting hosts old new failed fault → StopsMerge texts rules old new failed fault
+counted_stopped texts rules begun hosts old new failed Failed is same reads stops = stops
+counted_stopped texts rules begun hosts old new failed TooLarge is same reads stops = stops
+counted_stopped texts rules begun hosts old new failed (Refused e) is same reads stops = if_told (told e) _ _ (λ f fault. inr (inl (begun, is, subst (λ (hs : List Host). IsInventoryFault hs old new f) same fault, reads))) stops
 
 -- the second did, and so did the merge
-pub written_stopped : (texts : List HostText) (pins : List ℕ) (old mid new : Ledger) (s : SolvedValue) (failed : Bool) (fault : MergeFault) (h : HasSolved texts pins old mid s) → StopsPlanning h.were mid new failed fault → StopsMerge texts pins old new failed fault
-written_stopped texts pins old mid new s failed Failed h stops = stops
-written_stopped texts pins old mid new s failed TooLarge h stops = stops
-written_stopped texts pins old mid new s failed (Refused e) h stops =
+pub written_stopped : (texts : List HostText) (rules : SiteRules) (old mid new : Ledger) (s : SolvedValue) (failed : Bool) (fault : MergeFault) (h : HasSolved texts rules old mid s) → StopsPlanning h.were mid new failed fault → StopsMerge texts rules old new failed fault
+written_stopped texts rules old mid new s failed Failed h stops = stops
+written_stopped texts rules old mid new s failed TooLarge h stops = stops
+written_stopped texts rules old mid new s failed (Refused e) h stops =
     let from = planning_same h.were (record old { read = old.read ++ readings_from 0 h.first }) mid new failed (Refused e) h.readings stops in
     if_told (told e) _ _ (λ f is. inr (inr (record { begun = h.begun; begun_is = h.begun_is; first = h.first; were = h.were; first_read = h.first_read; change = is }))) from
 
 -- the first pass is over, and the second is at its start
-pub has_solved : (texts : List HostText) (pins : List ℕ) (begun : BegunSite) (over : InventoriesValue) (site : Joined) (s : SolvedValue) (old new : Ledger) (read : List (List ℕ)) (stands : StandsFor over read []) → site_begun texts pins ≡ Ok begun → over.hosts ≡ begun.hosts
-    → site ≡ begun.joined → ended_in over ≡ length over.hosts → length over.hosts ≡ length texts → AreTogether over.hosts site → IsSolvedFrom over site s → new.read ≡ old.read ++ readings_from 0 read → HasSolved texts pins old new s
-has_solved texts pins begun over site s old new read stands is same joined none_left each_text together from readings =
+pub has_solved : (texts : List HostText) (rules : SiteRules) (begun : BegunSite) (over : InventoriesValue) (site : Joined) (s : SolvedValue) (old new : Ledger) (read : List (List ℕ)) (stands : StandsFor over read []) → site_begun texts rules ≡ Ok begun → over.hosts ≡ begun.hosts
+    → site ≡ begun.joined → ended_in over ≡ length over.hosts → length over.hosts ≡ length texts → AreTogether over.hosts site → IsSolvedFrom over site s → new.read ≡ old.read ++ readings_from 0 read → HasSolved texts rules old new s
+has_solved texts rules begun over site s old new read stands is same joined none_left each_text together from readings =
     let one_each : length read ≡ length over.hosts = stands.ended_are ∙ none_left in
     record {
       begun = begun;
@@ -123,8 +124,8 @@ has_solved texts pins begun over site s old new read stands is same joined none_
     }
 
 -- whether a name is kept is seen before the inventories are read
-pub keeps_as_begun : (texts : List HostText) (pins : List ℕ) (old new : Ledger) (s : SolvedValue) → HasSolved texts pins old new s → s.merged.outcome.keeps_names ≡ keeps_in texts pins
-keeps_as_begun texts pins old new s h = h.merged.printed.printed.keeps ∙ ap keeps_a_name h.joined ∙ sym (ap keeps_begun h.begun_is)
+pub keeps_as_begun : (texts : List HostText) (rules : SiteRules) (old new : Ledger) (s : SolvedValue) → HasSolved texts rules old new s → s.merged.outcome.keeps_names ≡ keeps_in texts rules
+keeps_as_begun texts rules old new s h = h.merged.printed.printed.keeps ∙ ap keeps_a_name h.joined ∙ sym (ap keeps_begun h.begun_is)
 
 -- what was merged is right and believed, and stands in its files
 record IsMergedFor (texts : List HostText) (begun : BegunSite) (are : List (Host × List Entry)) (outcome : Outcome) (old new : Ledger) : Type 0 where
@@ -134,9 +135,9 @@ record IsMergedFor (texts : List HostText) (begun : BegunSite) (are : List (Host
   files : new ≡ record (after_files (merged_files texts begun believed.mappings outcome) (cleared old)) { read = new.read; reading = new.reading; writing = new.writing }
 
 -- what was merged for the first reading stands in its files, with plans for the second
-merged_for : (texts : List HostText) (pins : List ℕ) (s : SolvedValue) (old mid new : Ledger) (cost : Cost) (h : HasSolved texts pins old mid s) → ReadsOnly old mid → (w : HasWritten texts s h.were mid new cost)
+merged_for : (texts : List HostText) (rules : SiteRules) (s : SolvedValue) (old mid new : Ledger) (cost : Cost) (h : HasSolved texts rules old mid s) → ReadsOnly old mid → (w : HasWritten texts s h.were mid new cost)
     → IsMergedFor texts h.begun w.site.again (record s.merged.outcome { plans = w.site.plans }) old new
-merged_for texts pins s old mid new cost h reads w =
+merged_for texts rules s old mid new cost h reads w =
     let first : WholeSite = record { hosts = h.were; joined = s.joined } in
     let outcome : Outcome = record s.merged.outcome { plans = w.site.plans } in
     let read : BegunSite = record { hosts = s.hosts; joined = s.joined } in
@@ -152,11 +153,11 @@ merged_for texts pins s old mid new cost h reads w =
       files = w.files ∙ (λ j. record (after_files (merged_files texts read (same j) outcome) (cleared (reads j))) { read = new.read; reading = new.reading; writing = new.writing });
     })
 
-pub has_merged : (texts : List HostText) (pins : List ℕ) (s : SolvedValue) (old mid new : Ledger) (cost : Cost) (h : HasSolved texts pins old mid s) → ReadsOnly old mid → HasWritten texts s h.were mid new cost → HasMerged texts pins old new cost
-has_merged texts pins s old mid new cost h reads w =
+pub has_merged : (texts : List HostText) (rules : SiteRules) (s : SolvedValue) (old mid new : Ledger) (cost : Cost) (h : HasSolved texts rules old mid s) → ReadsOnly old mid → HasWritten texts s h.were mid new cost → HasMerged texts rules old new cost
+has_merged texts rules s old mid new cost h reads w =
     let outcome : Outcome = record s.merged.outcome { plans = w.site.plans } in
     let site : WholeSite = record { hosts = w.site.again; joined = h.begun.joined } in
-    let merged : IsMergedFor texts h.begun w.site.again outcome old new = merged_for texts pins s old mid new cost h reads w in
+    let merged : IsMergedFor texts h.begun w.site.again outcome old new = merged_for texts rules s old mid new cost h reads w in
     let one_each : length w.site.texts ≡ length h.begun.hosts = w.site.one_each ∙ ap length h.hosts in
     let accepted : each site_of (loaded_from h.begun.hosts w.site.texts) ≡ Ok w.site.again = subst (λ (hs : List Host). each site_of (loaded_from hs w.site.texts) ≡ Ok w.site.again) h.hosts w.site.accepted in
     let first : Host × List Entry → Host = λ x. x.0 in
@@ -176,8 +177,8 @@ has_merged texts pins s old mid new cost h reads w =
       is_believed = merged.believed;
       own_files = λ k host files text loaded at there is_told.
           let here : slice_get h.begun.hosts k ≡ Some host = ap (λ hs. slice_get hs k) (sym held) ∙ slice_get-map first w.site.again k ∙ ap (option_map first) at in
-          text_keeps site outcome merged.whole merged.believed k host files text loaded at (tables_are_of_texts texts pins h.begun k host text h.begun_is here there) is_told;
-      in_full = subst (λ (hs : List Host). AreJoinedInFull hs texts) (sym held) (begun_sites_are_in_full texts pins h.begun h.begun_is);
+          text_keeps site outcome merged.whole merged.believed k host files text loaded at (tables_are_of_texts texts rules h.begun k host text h.begun_is here there) is_told;
+      in_full = λ none. subst (λ (hs : List Host). AreJoinedInFull hs texts) (sym held) (begun_sites_are_in_full texts rules.pins h.begun (ap (λ (keep : List ℕ). site_begun texts (record { pins = rules.pins; keep = keep })) (sym none) ∙ h.begun_is));
       files = merged.files;
       cost_is = w.cost_is;
     }

@@ -12,6 +12,7 @@ use Rattle.unify_texts.specs.Told.{told}
 use Rattle.unify_texts.specs.declared.fault.Fault.{Fault}
 use Rattle.unify.specs.declared.counting.Cost.{Cost}
 use Rattle.unify.specs.declared.outcome.Outcome.{Outcome}
+use Rattle.unify.specs.declared.rules.SiteRules.{SiteRules}
 use Rattle.unify.specs.declared.site_files.NamedText.{NamedText}
 use Rattle.unify.specs.Count.{site_of}
 use Rattle.unify.specs.Headline.{Headline}
@@ -67,14 +68,14 @@ first_names keeps = account_names keeps ++ codes "map" ∷ codes "certificate" �
 abbrev pub names_before_report : Bool → List HostText → List (List ℕ)
 names_before_report keeps texts = first_names keeps ++ (map plan_name texts ++ host_names texts)
 
--- whether a name is kept, by the tables and the pins as they are read; none is where they are
+-- whether a name is kept, by the tables and the rules as they are read; none is where they are
 -- refused
 abbrev pub keeps_begun : Result BegunSite Fault → Bool
 keeps_begun (Ok begun) = keeps_a_name begun.joined
 keeps_begun (Err f) = false
 
-abbrev pub keeps_in : List HostText → List ℕ → Bool
-keeps_in texts pins = keeps_begun (site_begun texts pins)
+abbrev pub keeps_in : List HostText → SiteRules → Bool
+keeps_in texts rules = keeps_begun (site_begun texts rules)
 
 -- ---- a merge that succeeds
 
@@ -84,12 +85,12 @@ pub record AreInventories (hosts : List Host) (texts : List (List ℕ))
   pub one_each : length texts ≡ length hosts
   pub accepted : each site_of (loaded_from hosts texts) ≡ Ok read
 
--- the tables and the pins were read, and the inventory of each host once; what was merged is right
+-- the tables and the rules were read, and the inventory of each host once; what was merged is right
 -- for that reading
-pub record HasSolved (texts : List HostText) (pins : List ℕ) (old new : Ledger) (s : SolvedValue)
-    : Type 0 where
+pub record HasSolved (texts : List HostText) (rules : SiteRules) (old new : Ledger)
+    (s : SolvedValue) : Type 0 where
   pub begun : BegunSite
-  pub begun_is : site_begun texts pins ≡ Ok begun
+  pub begun_is : site_begun texts rules ≡ Ok begun
   pub first : List (List ℕ)
   pub were : List (Host × List Entry)
   pub first_read : AreInventories begun.hosts first were
@@ -119,14 +120,15 @@ pub record HasWritten (names : List HostText) (s : SolvedValue) (read : List (Ho
       }
   pub cost_is : cost ≡ s.merged.outcome.cost
 
--- The tables and the pins were read; the inventory of each host was read twice, and is accepted
+-- The tables and the rules were read; the inventory of each host was read twice, and is accepted
 -- both times. What was merged is right for the second reading, and has the headline of it; and each
--- host's own passwd and group with their new numbers keep the names of its files as well. All rows
--- of each host were joined. What was merged stands in its files, which are all that was written.
-pub record HasMerged (texts : List HostText) (pins : List ℕ) (old new : Ledger) (cost : Cost) : Type
-    0 where
+-- host's own passwd and group with their new numbers keep the names of its files as well. With an
+-- empty keep text all rows of each host were joined. What was merged stands in its files, which are
+-- all that was written.
+pub record HasMerged (texts : List HostText) (rules : SiteRules) (old new : Ledger)
+    (cost : Cost) : Type 0 where
   pub begun : BegunSite
-  pub begun_is : site_begun texts pins ≡ Ok begun
+  pub begun_is : site_begun texts rules ≡ Ok begun
   pub first : List (List ℕ)
   pub were : List (Host × List Entry)
   pub first_read : AreInventories begun.hosts first were
@@ -139,7 +141,7 @@ pub record HasMerged (texts : List HostText) (pins : List ℕ) (old new : Ledger
   pub is_believed : Headline (record { hosts = are; joined = begun.joined }) outcome
   pub own_files : EachKeepsOwnFiles (record { hosts = are; joined = begun.joined }) outcome
       is_believed texts
-  pub in_full : AreJoinedInFull (map (λ h. h.0) are) texts
+  pub in_full : rules.keep ≡ [] → AreJoinedInFull (map (λ h. h.0) are) texts
   pub files : new
       ≡ record (after_files (merged_files texts begun is_believed.mappings outcome)
       (cleared old)) { read = new.read; reading = new.reading; writing = new.writing }
@@ -148,27 +150,28 @@ pub record HasMerged (texts : List HostText) (pins : List ℕ) (old new : Ledger
 -- ---- a merge that is refused
 
 -- every inventory was read once and accepted, and one of them has changed when it is read again
-pub record IsSecondFault (texts : List HostText) (pins : List ℕ) (old new : Ledger) (f : Fault)
+pub record IsSecondFault (texts : List HostText) (rules : SiteRules) (old new : Ledger) (f : Fault)
     : Type 0 where
   pub begun : BegunSite
-  pub begun_is : site_begun texts pins ≡ Ok begun
+  pub begun_is : site_begun texts rules ≡ Ok begun
   pub first : List (List ℕ)
   pub were : List (Host × List Entry)
   pub first_read : AreInventories begun.hosts first were
   pub change : IsSiteChange were (record old { read = old.read ++ readings_from 0 first }) new f
 
--- The first fault of what was read: of the tables or the pins, or of an inventory, and then nothing
--- was written; or a change of an inventory between its readings.
-abbrev pub IsMergeFault : List HostText → List ℕ → Ledger → Ledger → Fault → Type 0
-IsMergeFault texts pins old new f =
-    ((site_begun texts pins ≡ Err f) × ReadsOnly old new)
-    ⊎ (((begun : BegunSite) × (site_begun texts pins ≡ Ok begun)
+-- The first fault of what was read: of the tables or the rules, or of an inventory, and then
+-- nothing was written; or a change of an inventory between its readings.
+abbrev pub IsMergeFault : List HostText → SiteRules → Ledger → Ledger → Fault → Type 0
+IsMergeFault texts rules old new f =
+    ((site_begun texts rules ≡ Err f) × ReadsOnly old new)
+    ⊎ (((begun : BegunSite) × (site_begun texts rules ≡ Ok begun)
     × IsInventoryFault begun.hosts old new f × ReadsOnly old new)
-    ⊎ IsSecondFault texts pins old new f)
+    ⊎ IsSecondFault texts rules old new f)
 
 -- why a merge ended early: a call failed, an inventory is too large, or what was read is refused;
 -- or memory was wanting
-abbrev pub StopsMerge : List HostText → List ℕ → Ledger → Ledger → Bool → MergeFault → Type 0
-StopsMerge texts pins old new failed Failed = failed ≡ true
-StopsMerge texts pins old new failed TooLarge = IsTooLarge new
-StopsMerge texts pins old new failed (Refused e) = IfSome (told e) (IsMergeFault texts pins old new)
+abbrev pub StopsMerge : List HostText → SiteRules → Ledger → Ledger → Bool → MergeFault → Type 0
+StopsMerge texts rules old new failed Failed = failed ≡ true
+StopsMerge texts rules old new failed TooLarge = IsTooLarge new
+StopsMerge texts rules old new failed (Refused e) =
+    IfSome (told e) (IsMergeFault texts rules old new)

@@ -9,11 +9,11 @@ use crate::files::ReadFiles;
 use crate::first_reading::count_hosts;
 use hosts_join::HostText;
 use std::alloc::Global;
-use unify::begin_site;
+use unify::{SiteRules, begin_site};
 
 /// How many owner and group fields of files the mappings of a certificate change, where the
 /// certificate proves that no admissible mappings change fewer; it may be written by anybody. The
-/// tables of the hosts, the pins and the certificate are given as texts, and the inventories are
+/// tables of the hosts, the rules and the certificate are given as texts, and the inventories are
 /// read from the files, once; those among the texts are not looked at.
 ///
 /// Each inventory is read when its host's turn comes, piece by piece, and none is kept. It stops
@@ -27,17 +27,17 @@ pub fn check_files<'a, F: ReadFiles>(
     alloc: Global,
     files: &mut F,
     hosts: &'a [HostText],
-    pins: &'a [u8],
+    rules: &SiteRules<'a>,
     certificate: &'a [u8],
 ) -> Result<u64, MergeFault<'a>>
     ensures checked { IfOk result
-        (HasChecked hosts.now pins.now certificate.now (F.ledger files.old) (F.ledger files.new)) }
+        (HasChecked hosts.now rules.now certificate.now (F.ledger files.old) (F.ledger files.new)) }
     ensures stopped { IfErr result
-        (StopsCheck hosts.now pins.now certificate.now (F.ledger files.old) (F.ledger files.new)
+        (StopsCheck hosts.now rules.now certificate.now (F.ledger files.old) (F.ledger files.new)
         (F.has_failed files.new)) }
     ensures reads { ReadsOnly (F.ledger files.old) (F.ledger files.new) }
 {
-    let mut begun = begin_site(alloc, hosts, pins)?;
+    let mut begun = begin_site(alloc, hosts, rules)?;
     count_hosts(alloc, files, &mut begun.inventories)?;
     Ok(begun.verify(certificate)?)
 }

@@ -24,7 +24,7 @@ use crate::second_reading::plan_hosts;
 use crate::whole_file::write_file;
 use hosts_join::HostText;
 use std::alloc::Global;
-use unify::{Cost, JoinedSite, Outcome, Solved, begin_site};
+use unify::{Cost, JoinedSite, Outcome, SiteRules, Solved, begin_site};
 use unify_texts::Fault;
 
 // Writes the one passwd and the one group, unless a name is kept.
@@ -77,16 +77,16 @@ fn solve_hosts<'a, F: MergeFiles>(
     alloc: Global,
     files: &mut F,
     hosts: &'a [HostText],
-    pins: &'a [u8],
+    rules: &SiteRules<'a>,
 ) -> Result<Solved<'a>, MergeFault<'a>>
     ensures solved { IfOk result
-        (HasSolved hosts.now pins.now (F.ledger files.old) (F.ledger files.new)) }
+        (HasSolved hosts.now rules.now (F.ledger files.old) (F.ledger files.new)) }
     ensures stopped { IfErr result
-        (StopsMerge hosts.now pins.now (F.ledger files.old) (F.ledger files.new)
+        (StopsMerge hosts.now rules.now (F.ledger files.old) (F.ledger files.new)
         (F.has_failed files.new)) }
     ensures reads { ReadsOnly (F.ledger files.old) (F.ledger files.new) }
 {
-    let mut begun = begin_site(alloc, hosts, pins)?;
+    let mut begun = begin_site(alloc, hosts, rules)?;
     count_hosts(alloc, files, &mut begun.inventories)?;
     solve(begun)
 }
@@ -122,7 +122,7 @@ fn write_merged<'a, F: MergeFiles>(
     Ok(solved.outcome().cost)
 }
 
-/// Merges hosts, whose tables and pins are given as texts, and whose inventories are read from the
+/// Merges hosts, whose tables and rules are given as texts, and whose inventories are read from the
 /// files, twice; and writes the files of the merge. It hands out how many fields of files change.
 ///
 /// Each inventory is read when its host's turn comes, piece by piece. Nothing is written before the
@@ -141,17 +141,17 @@ pub fn merge_files<'a, F: MergeFiles>(
     alloc: Global,
     files: &mut F,
     hosts: &'a [HostText],
-    pins: &'a [u8],
+    rules: &SiteRules<'a>,
 ) -> Result<Cost, MergeFault<'a>>
     ensures merged { IfOk result
-        (HasMerged hosts.now pins.now (F.ledger files.old) (F.ledger files.new)) }
+        (HasMerged hosts.now rules.now (F.ledger files.old) (F.ledger files.new)) }
     ensures stopped { IfErr result
-        (StopsMerge hosts.now pins.now (F.ledger files.old) (F.ledger files.new)
+        (StopsMerge hosts.now rules.now (F.ledger files.old) (F.ledger files.new)
         (F.has_failed files.new)) }
     ensures begun { OnErr result
-        (HasBegun (names_before_report (keeps_in hosts.now pins.now) hosts.now)
+        (HasBegun (names_before_report (keeps_in hosts.now rules.now) hosts.now)
         (F.ledger files.old) (F.ledger files.new)) }
 {
-    let mut solved = solve_hosts(alloc, files, hosts, pins)?;
+    let mut solved = solve_hosts(alloc, files, hosts, rules)?;
     write_merged(alloc, files, &mut solved, hosts)
 }

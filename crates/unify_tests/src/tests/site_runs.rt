@@ -10,7 +10,7 @@ use reown_runner::{Event, Keep, MemTree, Tree};
 use std::alloc::Global;
 use std::process::Abort;
 use std::test::Fail;
-use unify::{SiteRun, rehearse_site};
+use unify::{SiteRules, SiteRun, rehearse_site};
 
 const FILES_OF_A: &[&[u8]] = &[
     b"alice1", b"alice2", b"alice3", b"alice4", b"alice5", b"bob1",
@@ -76,7 +76,7 @@ fn rehearsed(
     if !are_for(events, hosts.len()) {
         return Err(Fail::new("an event is for no host"));
     }
-    match rehearse_site(alloc, hosts, b"", keep, events) {
+    match rehearse_site(alloc, hosts, &SiteRules::new(b"", b""), keep, events) {
         Ok(run) => Ok(run),
         Err(_) => Err(Fail::new("the site was refused")),
     }

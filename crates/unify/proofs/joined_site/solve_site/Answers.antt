@@ -1,6 +1,5 @@
 use Rattle.std.specs.Prelude.{IfOk}
-use Rattle.unify.specs.Loading.{HoldsCounted}
-use Rattle.unify.specs.Merging.{IsMerged}
+use Rattle.unify.specs.Merging.{HoldsCounted, IsMerged}
 use Rattle.unify.specs.Passes.{AreTogether, InventoriesValue}
 use Rattle.unify.specs.Reading.{WholeSite}
 use Rattle.unify.proofs.BetweenPasses.{AreCountersOf, merged_of, whole_of}

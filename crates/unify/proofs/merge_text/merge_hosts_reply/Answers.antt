@@ -11,4 +11,4 @@ returns-in_ok-site_text-in-Ok c =
     (Ok text.field-0.items, (read.0, read.1, c.in-Ok.files, read.2, text.ensures), refl)
 
 pub returns-in-Err : goal.returns-in-Err
-returns-in-Err c = refused_answers (IsMergeWithHostsTold c.args.hosts.now c.args.pins.now) c.in-Err.fault c.refused.result c.in-Err.ensures c.refused.ensures
+returns-in-Err c = refused_answers (IsMergeWithHostsTold c.args.hosts.now c.args.rules.now) c.in-Err.fault c.refused.result c.in-Err.ensures c.refused.ensures

@@ -17,8 +17,8 @@ pub returns-in_err-begun : goal.returns-in_err-begun
 returns-in_err-begun c =
     let p = err_from_is_err_and c.from_residual.result c.from_residual.ensures.1 in
     let texts = c.args.texts.now in
-    let pins = c.args.pins.now in
-    rw (p.1, p.2) (passed_on (told c.in_err-begun.field-0.0) (site_begun texts pins) (site_read texts pins) (begun_refused texts pins) c.in_err-begun.ensures.begun)
+    let rules = c.args.rules.now in
+    rw (p.1, p.2) (passed_on (told c.in_err-begun.field-0.0) (site_begun texts rules) (site_read texts rules) (begun_refused texts rules) c.in_err-begun.ensures.begun)
 
 pub count_texts-requires-clause-start : goal.count_texts-requires-clause-start
 count_texts-requires-clause-start c = c.in_ok-begun.ensures.begun.2.start.stands
@@ -27,25 +27,25 @@ pub returns-in_err-count_texts : goal.returns-in_err-count_texts
 returns-in_err-count_texts c =
     let p = err_from_is_err_and c.from_residual-in_err-count_texts.result c.from_residual-in_err-count_texts.ensures.1 in
     let texts = c.args.texts.now in
-    let pins = c.args.pins.now in
+    let rules = c.args.rules.now in
     let begun = c.in_ok-begun.ensures.begun in
     let read = λ (hs : List Host). each site_of (loaded_from hs (mtrees texts)) in
     rw (p.1, p.2)
-    (passed_on (told c.in_err-count_texts.field-0.0) (is_read (read c.in_ok-begun.begun.inventories.hosts)) (site_read texts pins)
-    (λ f bad. inventories_refused texts pins begun.0 f begun.1 (ap read (sym begun.2.start.hosts_are) ∙ read_refused (read c.in_ok-begun.begun.inventories.hosts) f bad))
+    (passed_on (told c.in_err-count_texts.field-0.0) (is_read (read c.in_ok-begun.begun.inventories.hosts)) (site_read texts rules)
+    (λ f bad. inventories_refused texts rules begun.0 f begun.1 (ap read (sym begun.2.start.hosts_are) ∙ read_refused (read c.in_ok-begun.begun.inventories.hosts) f bad))
     c.in_err-count_texts.ensures.told)
 
 pub returns : goal.returns
 returns c =
     let texts = c.args.texts.now in
-    let pins = c.args.pins.now in
+    let rules = c.args.rules.now in
     let begun = c.in_ok-begun.ensures.begun in
     let new = c.count_texts.new.inventories in
     let stands : StandsFor new (mtrees texts) [] = c.in_ok-count_texts.ensures.stands in
     let hosts : new.hosts ≡ begun.0.hosts = c.in_ok-count_texts.ensures.site ∙ begun.2.start.hosts_are in
     let accepted = ap (λ hs. each site_of (loaded_from hs (mtrees texts))) (sym hosts) ∙ stands.accepted in (
       record { hosts = stands.read; joined = begun.0.joined },
-      site_is texts pins begun.0 stands.read begun.1 accepted,
+      site_is texts rules begun.0 stands.read begun.1 accepted,
       record {
         stands = stands;
         hosts = refl;

@@ -11,7 +11,7 @@ returns-in_err-count_hosts-clause-stopped g c =
     let begun = c.in_ok-begun.ensures.begun in
     let now = c.count_hosts.new.files in
     rw (p.1, p.2)
-    (check_counted_stopped c.args.hosts.now c.args.pins.now c.args.certificate.now begun.0 c.in_ok-begun.begun.inventories.hosts (g.F.ReadFiles.ledger c.args.files.now) (g.F.ReadFiles.ledger now) (g.F.ReadFiles.has_failed now) c.in_err-count_hosts.field-0.0 begun.1 begun.2.start.hosts_are
+    (check_counted_stopped c.args.hosts.now c.args.rules.now c.args.certificate.now begun.0 c.in_ok-begun.begun.inventories.hosts (g.F.ReadFiles.ledger c.args.files.now) (g.F.ReadFiles.ledger now) (g.F.ReadFiles.has_failed now) c.in_err-count_hosts.field-0.0 begun.1 begun.2.start.hosts_are
     c.in_err-count_hosts.ensures.stopped)
 
 pub count_hosts-requires : goal.count_hosts-requires
@@ -34,9 +34,9 @@ returns-in_err-verify-clause-stopped g c =
     let old = g.F.ReadFiles.ledger c.args.files.now in
     let new = g.F.ReadFiles.ledger c.count_hosts.new.files in
     let over = c.count_hosts.new.inventories in
-    let site = read_site c.args.hosts.now c.args.pins.now begun.0 over joined old new counted.0 counted.1 begun.1 hosts begun.2.joined c.in_ok-count_hosts.ensures.ended each_text counted.2 in
+    let site = read_site c.args.hosts.now c.args.rules.now begun.0 over joined old new counted.0 counted.1 begun.1 hosts begun.2.joined c.in_ok-count_hosts.ensures.ended each_text counted.2 in
     rw (p.1, p.2)
-    (check_refused c.args.hosts.now c.args.pins.now c.args.certificate.now old new over joined counted.0 counted.1 site (g.F.ReadFiles.has_failed c.count_hosts.new.files) c.in_err-verify.field-0.0 (c.in_err-verify.ensures counted.0 counted.1))
+    (check_refused c.args.hosts.now c.args.rules.now c.args.certificate.now old new over joined counted.0 counted.1 site (g.F.ReadFiles.has_failed c.count_hosts.new.files) c.in_err-verify.field-0.0 (c.in_err-verify.ensures counted.0 counted.1))
 
 pub returns-clause-checked : goal.returns-clause-checked
 returns-clause-checked g c =
@@ -48,5 +48,5 @@ returns-clause-checked g c =
     let old = g.F.ReadFiles.ledger c.args.files.now in
     let new = g.F.ReadFiles.ledger c.count_hosts.new.files in
     let over = c.count_hosts.new.inventories in
-    let site = read_site c.args.hosts.now c.args.pins.now begun.0 over joined old new counted.0 counted.1 begun.1 hosts begun.2.joined c.in_ok-count_hosts.ensures.ended each_text counted.2 in
-    has_checked c.args.hosts.now c.args.pins.now c.args.certificate.now old new over joined counted.0 counted.1 site _ (c.in_ok-verify.ensures counted.0 counted.1)
+    let site = read_site c.args.hosts.now c.args.rules.now begun.0 over joined old new counted.0 counted.1 begun.1 hosts begun.2.joined c.in_ok-count_hosts.ensures.ended each_text counted.2 in
+    has_checked c.args.hosts.now c.args.rules.now c.args.certificate.now old new over joined counted.0 counted.1 site _ (c.in_ok-verify.ensures counted.0 counted.1)

@@ -14,7 +14,7 @@ returns-in_err-count_hosts-clause-stopped g c =
     let begun = c.in_ok-begun.ensures.begun in
     let now = c.count_hosts.new.files in
     rw (p.1, p.2)
-    (counted_stopped c.args.hosts.now c.args.pins.now begun.0 c.in_ok-begun.begun.inventories.hosts (g.F.ReadFiles.ledger c.args.files.now) (g.F.ReadFiles.ledger now) (g.F.ReadFiles.has_failed now) c.in_err-count_hosts.field-0.0 begun.1 begun.2.start.hosts_are c.in_err-count_hosts.ensures.reads
+    (counted_stopped c.args.hosts.now c.args.rules.now begun.0 c.in_ok-begun.begun.inventories.hosts (g.F.ReadFiles.ledger c.args.files.now) (g.F.ReadFiles.ledger now) (g.F.ReadFiles.has_failed now) c.in_err-count_hosts.field-0.0 begun.1 begun.2.start.hosts_are c.in_err-count_hosts.ensures.reads
     c.in_err-count_hosts.ensures.stopped)
 
 pub solve-requires-clause-together : goal.solve-requires-clause-together
@@ -32,5 +32,5 @@ returns-clause-solved g c =
     let site = c.in_ok-begun.begun.site in
     let together = subst (λ (hs : List Host). AreTogether hs site) (sym hosts) (subst (AreTogether begun.0.hosts) (sym begun.2.joined) begun.2.whole) in
     if_ok c.solve.result _ _ (λ s from.
-    has_solved c.args.hosts.now c.args.pins.now begun.0 c.count_hosts.new.inventories site s (g.F.ReadFiles.ledger c.args.files.now) (g.F.ReadFiles.ledger c.count_hosts.new.files) counted.0 counted.1 begun.1 hosts begun.2.joined c.in_ok-count_hosts.ensures.ended each_text together from counted.2)
+    has_solved c.args.hosts.now c.args.rules.now begun.0 c.count_hosts.new.inventories site s (g.F.ReadFiles.ledger c.args.files.now) (g.F.ReadFiles.ledger c.count_hosts.new.files) counted.0 counted.1 begun.1 hosts begun.2.joined c.in_ok-count_hosts.ensures.ended each_text together from counted.2)
     c.solve.ensures.solved

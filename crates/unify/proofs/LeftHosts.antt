@@ -1,0 +1,145 @@
+-- What is left of hosts by a keep text.
+use Rattle.std.proofs.Common.{◌≡◌, ℕ, ◌||◌, Bool, true, false, cond, not, List, [], ◌∷◌, map, get_or, None, Result, Ok, Err, refl, sym, ap, subst, ◌∙◌}
+use Rattle.std.specs.List.{All, Contains, filter}
+use Rattle.std.proofs.lemmas.List.{get_or_default}
+use Rattle.std.proofs.lemmas.List.Elements.{All-contains_itself, All-filter, All-head, All-map, All-tail}
+use Rattle.idtext.specs.First.{◌>>=◌, first_fault, unless}
+use Rattle.idtext.proofs.OkLemmas.{bind_ok, ok_same}
+use Rattle.idtext.proofs.PieceLemmas.{lines-empty}
+use Rattle.accounts.specs.Rows.{Passwd, Group}
+use Rattle.hosts_join.specs.Checks.{is_host_name}
+use Rattle.hosts_join.specs.Hosts.{IsLawfulHost, SparesReserved}
+use Rattle.hosts_join.specs.Rules.{is_reserved}
+use Rattle.hosts_join.specs.Site.{Joined}
+use Rattle.hosts_join.specs.declared.host.Host.{Host}
+use Rattle.keep_text.specs.KeepTexts.{keep_fault, keep_of, kept_on, nothing_kept}
+use Rattle.keep_text.specs.declared.keep_text.KeepFault.{KeepFault}
+use Rattle.keep_text.specs.declared.keep_text.KeepText.{KeepText}
+use Rattle.kept_accounts.specs.Keeping.{is_kept_user, is_kept_group}
+use Rattle.kept_accounts.specs.Others.{without_kept}
+use Rattle.kept_accounts.specs.Reserving.{reserved_users, reserved_groups}
+use Rattle.kept_accounts.proofs.OtherLemmas.{others_lawful}
+use Rattle.kept_accounts.proofs.ReservedLemmas.{empty_keeps_nothing}
+use Rattle.kept_accounts.proofs.SparedLemmas.{spared_reserved}
+use Rattle.mergedfiles.specs.InPart.{WasReadInPart}
+use Rattle.mergedfiles.specs.ReadBack.{WasRead}
+use Rattle.unify_texts.specs.declared.fault.Fault.{Fault}
+use Rattle.unify_texts.specs.declared.fault.Fault.TheVariants.{BadKeep}
+use Rattle.unify.specs.Others.{Others, keep_read, others_of, others_read, without_unowned}
+use Rattle.unify.specs.Sparing.{SparesNothing}
+use Rattle.unify.specs.Told.{in_keep}
+
+-- ---- a keep text that is read
+
+keep-ok : {A : Type 0} (r : Result A KeepFault) (x : A) → in_keep r ≡ Ok x → r ≡ Ok x
+keep-ok (Ok y) x h = ap (λ z. Ok z) (ok_same y x h)
+keep-ok (Err e) x h = absurd (cc)
+
+-- no numbers without an account are kept
+abbrev KeepsOwned : KeepText → KeepText → Type 0
+KeepsOwned keep out = (keep ≡ out) × (keep.users.unowned ≡ false) × (keep.groups.unowned ≡ false)
+
+owned : (keep out : KeepText) → without_unowned keep ≡ Ok out → KeepsOwned keep out
+owned keep out h = by keep.users.unowned keep.groups.unowned refl refl h
+  where
+    by : (a b : Bool) → keep.users.unowned ≡ a → keep.groups.unowned ≡ b → cond {A = Result KeepText Fault} (a || b) (Err (BadKeep 0)) (Ok keep) ≡ Ok out → KeepsOwned keep out
+    by true b users groups is = absurd (cc)
+    by false true users groups is = absurd (cc)
+    by false false users groups is = (ok_same keep out is, users, groups)
+
+-- what is joined of hosts, by a text
+pub record AreOthersBy (text : List ℕ) (hosts : List Host) (others : Others) : Type 0 where
+  pub keep : KeepText
+  pub read : keep_of text ≡ Ok keep
+  pub users_owned : keep.users.unowned ≡ false
+  pub groups_owned : keep.groups.unowned ≡ false
+  pub are : others_of keep hosts ≡ others
+
+pub others-by : (text : List ℕ) (hosts : List Host) (others : Others) → others_read text hosts ≡ Ok others → AreOthersBy text hosts others
+unfolding others_read
+others-by text hosts others h =
+    let kept = bind_ok (keep_read text) (λ keep. Ok (others_of keep hosts)) others h in
+    let said = bind_ok (in_keep (keep_of text)) without_unowned kept.0 kept.1 in
+    let is = owned said.0 kept.0 said.2 in
+    record {
+      keep = said.0;
+      read = keep-ok (keep_of text) said.0 said.1;
+      users_owned = is.1;
+      groups_owned = is.2;
+      are = ap (λ (k : KeepText). others_of k hosts) is.0 ∙ ok_same (others_of kept.0 hosts) others kept.2;
+    }
+
+pub keep_refused : (text : List ℕ) (hosts : List Host) (f : Fault) → keep_read text ≡ Err f → others_read text hosts ≡ Err f
+unfolding others_read
+keep_refused text hosts f h = ap (λ r. r >>= λ (keep : KeepText). Ok (others_of keep hosts)) h
+
+pub others_are : (text : List ℕ) (hosts : List Host) (keep : KeepText) (others : Others) → keep_read text ≡ Ok keep → others ≡ others_of keep hosts → others_read text hosts ≡ Ok others
+unfolding others_read
+others_are text hosts keep others h same = ap (λ r. r >>= λ (keep : KeepText). Ok (others_of keep hosts)) h ∙ ap (λ o. Ok o) (sym same)
+
+-- ---- hosts without their kept rows
+
+some-of : {X : Type 0} (test : X → Bool) (xs : List X) → All (Contains xs) (filter test xs)
+some-of test xs = All-filter test (Contains xs) xs (All-contains_itself xs)
+
+module _ (keep : KeepText) (hosts : List Host) where
+  -- what is left of a host
+  abbrev pub left : Host → Host
+  left = without_kept keep hosts
+
+  pub left-lawful : All IsLawfulHost hosts → All IsLawfulHost (map left hosts)
+  left-lawful all = All-map IsLawfulHost left hosts (λ k d l. others_lawful keep (is_kept_user keep hosts) (is_kept_group keep hosts) (get_or hosts k d) (all k d l))
+
+  read-in-part : (host : Host) → WasRead host → WasReadInPart (left host)
+  read-in-part host was = record {
+    passwd = was.passwd;
+    all_users = host.users;
+    users = was.users;
+    each_user = some-of (λ (row : Passwd). not (is_kept_user keep hosts row.name)) host.users;
+    group = was.group;
+    all_groups = host.groups;
+    groups = was.groups;
+    each_group = some-of (λ (row : Group). not (is_kept_group keep hosts row.name)) host.groups;
+  }
+
+  pub left-read : All WasRead hosts → All WasReadInPart (map left hosts)
+  left-read all = All-map WasReadInPart left hosts (λ k d l. read-in-part (get_or hosts k d) (all k d l))
+
+  pub left-named : All (λ h. is_host_name h.name ≡ true) hosts → All (λ h. is_host_name h.name ≡ true) (map left hosts)
+  left-named all = All-map (λ (h : Host). is_host_name h.name ≡ true) left hosts all
+
+  -- it spares reserved numbers alone
+  pub left-spares : keep.users.unowned ≡ false → keep.groups.unowned ≡ false → (joined : Joined) → reserved_users keep hosts [] ≡ joined.users.reserved → reserved_groups keep hosts [] ≡ joined.groups.reserved → All (SparesReserved joined) (map left hosts)
+  left-spares users groups joined uids gids = All-map (SparesReserved joined) left hosts (λ k d l.
+      let host = get_or hosts k d in
+      let there : Contains hosts host = (k, l, get_or_default hosts k host d l) in
+      record {
+        users = λ uid spared. subst (λ rs. is_reserved rs uid ≡ true) uids ((spared_reserved keep hosts [] host uid there).0 users spared);
+        groups = λ gid spared. subst (λ rs. is_reserved rs gid ≡ true) gids ((spared_reserved keep hosts [] host gid there).1 groups spared);
+      })
+
+-- ---- an empty text
+
+no_fault : first_fault keep_fault [] [] ≡ None
+unfolding first_fault
+no_fault = refl
+
+abbrev no_keep : KeepText
+no_keep = record { users = nothing_kept; groups = nothing_kept }
+
+none_read : keep_of [] ≡ Ok no_keep
+unfolding keep_of
+none_read = ap (λ ls. unless (first_fault keep_fault [] ls) (kept_on ls)) lines-empty ∙ ap (λ f. unless f (kept_on [])) no_fault
+
+map-same : {X : Type 0} (P : X → Type 0) (f : X → X) → ((x : X) → P x → f x ≡ x) → (xs : List X) → All P xs → map f xs ≡ xs
+map-same P f same [] all = refl
+map-same P f same (x ∷ xs) all = λ i. same x (All-head P x xs all) i ∷ map-same P f same xs (All-tail P x xs all) i
+
+-- all rows are left, and no number is reserved
+pub all-left : (hosts : List Host) → All SparesNothing hosts → others_read [] hosts ≡ Ok (record { hosts = hosts; reserved_users = []; reserved_groups = [] })
+unfolding others_read
+all-left hosts none =
+    let nothing = empty_keeps_nothing no_keep hosts none_read in
+    let unsparing : (host : Host) → SparesNothing host → record host { spared_users = []; spared_groups = [] } ≡ host = λ host no. λ i. record host { spared_users = sym no.users i; spared_groups = sym no.groups i } in
+    let same : map (without_kept no_keep hosts) hosts ≡ hosts = map-same SparesNothing (without_kept no_keep hosts) (λ host no. nothing.others host ∙ unsparing host no) hosts none in
+    rw none_read (λ i. Ok (record { hosts = same i; reserved_users = nothing.uids [] i; reserved_groups = nothing.gids [] i }))

@@ -1,0 +1,162 @@
+-- A site that was read, step by step, and that it is whole.
+use Rattle.std.proofs.Common.{◌≡◌, ◌≤◌, ℕ, true, List, [], length, map, Result, Ok, Err, sym, ap, subst, ◌∙◌, arith}
+use Rattle.std.specs.List.{All}
+use Rattle.std.proofs.lemmas.List.{length-map}
+use Rattle.idtext.specs.First.{each}
+use Rattle.idtext.proofs.OkLemmas.{bind_ok, length-each, ok_same}
+use Rattle.hosts_join.specs.Checks.{hosts_checked, is_host_name}
+use Rattle.hosts_join.specs.Hosts.{IsLawfulHost, SparesReserved}
+use Rattle.hosts_join.specs.PinPairs.{ArePinPairs, PinPairs}
+use Rattle.hosts_join.specs.PinsText.{pins_of}
+use Rattle.hosts_join.specs.Site.{Joined, joined_site}
+use Rattle.hosts_join.specs.declared.fault.PinsFault.{PinsFault}
+use Rattle.hosts_join.specs.declared.host.Host.{Host}
+use Rattle.hosts_join.specs.declared.texts.HostText.{HostText}
+use Rattle.hosts_join.proofs.Knowing.{site-is, sites_know}
+use Rattle.hosts_join.proofs.SiteLemmas.{sites_are_lawful, pins_are_pins}
+use Rattle.mergedfiles.specs.InPart.{WasReadInPart}
+use Rattle.unify.specs.declared.host.Loaded.{Loaded}
+use Rattle.unify.specs.declared.rules.SiteRules.{SiteRules}
+use Rattle.unify.specs.Count.{site_of}
+use Rattle.unify.specs.Hosts.{host_of}
+use Rattle.unify.specs.Laws.{IsWhole, ReadHostsSpareNothing, ReadSitesAreWhole}
+use Rattle.unify.specs.Loading.{loaded_from}
+use Rattle.unify.specs.Others.{Others, others_loaded, others_of, others_read, pinned_site, reserving}
+use Rattle.unify.specs.Outcomes.{hosts_in}
+use Rattle.unify.specs.Passes.{AreTogether}
+use Rattle.unify.specs.Reading.{WholeSite, site_read}
+use Rattle.unify.specs.Sparing.{SparesNothing}
+use Rattle.unify.specs.Told.{in_pins, in_site}
+use Rattle.unify.proofs.LeftHosts.{AreOthersBy, all-left, left, left-lawful, left-named, left-read, left-spares, others-by}
+use Rattle.unify.proofs.Reading.{hosts-few, loaded-lawful, loaded-named, loaded-read, loaded-unsparing, texts-named, whole-read}
+use Rattle.unify.proofs.Sparing.{leaves_reserved}
+use Rattle.unify.proofs.Whole.{hosts_held, site_ok, together}
+
+pub pins-ok : {A : Type 0} (r : Result A PinsFault) (x : A) → in_pins r ≡ Ok x → r ≡ Ok x
+pins-ok (Ok y) x h = ap (λ z. Ok z) (ok_same y x h)
+pins-ok (Err e) x h = absurd (cc)
+
+-- ---- what is joined of the hosts that were loaded
+
+pub record AreLoaded (texts : List HostText) (keep_text : List ℕ) (others : Others) : Type 0 where
+  pub loaded : List Loaded
+  pub hosts_are : each host_of texts ≡ Ok loaded
+  pub by : AreOthersBy keep_text (map (λ l. l.host) loaded) others
+
+pub are-loaded : (texts : List HostText) (keep_text : List ℕ) (others : Others) → others_loaded texts keep_text ≡ Ok others → AreLoaded texts keep_text others
+unfolding others_loaded
+are-loaded texts keep_text others h =
+    let loading = bind_ok (each host_of texts) (λ loaded. others_read keep_text (map (λ (l : Loaded). l.host) loaded)) others h in
+    record { loaded = loading.0; hosts_are = loading.1; by = others-by keep_text (map (λ (l : Loaded). l.host) loading.0) others loading.2 }
+
+-- there are as many as texts
+pub as-many-others : (texts : List HostText) (keep_text : List ℕ) (others : Others) → others_loaded texts keep_text ≡ Ok others → length others.hosts ≡ length texts
+as-many-others texts keep_text others h =
+    let from = are-loaded texts keep_text others h in
+    let full = map (λ (l : Loaded). l.host) from.loaded in
+    sym (ap (λ (o : Others). length o.hosts) from.by.are) ∙ length-map full (left from.by.keep full) ∙ length-map from.loaded (λ (l : Loaded). l.host) ∙ length-each host_of texts from.loaded from.hosts_are
+
+pub record ArePinned (others : Others) (pins_text : List ℕ) (joined : Joined) : Type 0 where
+  pub pins : PinPairs
+  pub pins_are : pins_of pins_text ≡ Ok pins
+  pub joined_is : joined_site others.hosts (reserving others pins) ≡ Ok joined
+
+pub are-pinned : (others : Others) (pins_text : List ℕ) (joined : Joined) → pinned_site others pins_text ≡ Ok joined → ArePinned others pins_text joined
+are-pinned others pins_text joined h =
+    let pinning = bind_ok (in_pins (pins_of pins_text)) (λ (pins : PinPairs). in_site (joined_site others.hosts (reserving others pins))) joined h in
+    record {
+      pins = pinning.0;
+      pins_are = pins-ok (pins_of pins_text) pinning.0 pinning.1;
+      joined_is = site_ok (joined_site others.hosts (reserving others pinning.0)) joined pinning.2;
+    }
+
+-- what is reserved of users, and of groups
+pub reserved-are : (others : Others) (pins_text : List ℕ) (joined : Joined) → ArePinned others pins_text joined → (others.reserved_users ≡ joined.users.reserved) × (others.reserved_groups ≡ joined.groups.reserved)
+reserved-are others pins_text joined is =
+    let made = site-is others.hosts (reserving others is.pins) joined is.joined_is in
+    (ap (λ (s : Joined). s.users.reserved) made, ap (λ (s : Joined). s.groups.reserved) made)
+
+pub others-together : (texts : List HostText) (rules : SiteRules) (u : Unit {0}) (others : Others) (joined : Joined) → hosts_checked texts ≡ Ok u → others_loaded texts rules.keep ≡ Ok others → pinned_site others rules.pins ≡ Ok joined → AreTogether others.hosts joined
+others-together texts rules u others joined listed o j =
+    let from = are-loaded texts rules.keep others o in
+    let full : List Host = map (λ l. l.host) from.loaded in
+    let keep = from.by.keep in
+    let same : map (left keep full) full ≡ others.hosts = ap (λ (x : Others). x.hosts) from.by.are in
+    let pinned = are-pinned others rules.pins joined j in
+    let pins : PinPairs = reserving others pinned.pins in
+    let are_pins = pins_are_pins rules.pins pinned.pins pinned.pins_are in
+    let reserved = reserved-are others rules.pins joined pinned in
+    let lawful : All IsLawfulHost others.hosts = subst (λ hs. All IsLawfulHost hs) same (left-lawful keep full (loaded-lawful texts from.loaded from.hosts_are)) in
+    let few : length others.hosts ≤ 64 = omega (arith, hosts-few texts u listed, as-many-others texts rules.keep others o) in
+    record {
+      few = few;
+      read = subst (λ hs. All WasReadInPart hs) same (left-read keep full (loaded-read texts from.loaded from.hosts_are));
+      lawful = lawful;
+      together = together others.hosts pins joined pinned.joined_is;
+      known = sites_know others.hosts pins joined lawful pinned.joined_is;
+      spares = subst (λ hs. All (SparesReserved joined) hs) same
+          (left-spares keep full from.by.users_owned from.by.groups_owned joined (ap (λ (x : Others). x.reserved_users) from.by.are ∙ reserved.0) (ap (λ (x : Others). x.reserved_groups) from.by.are ∙ reserved.1));
+      leaves = leaves_reserved others.hosts pins joined pinned.joined_is;
+      accounts = sites_are_lawful others.hosts pins joined few lawful (record { user_pins = are_pins.user_pins; group_pins = are_pins.group_pins }) pinned.joined_is;
+      named = subst (λ hs. All (λ (h : Host). is_host_name h.name ≡ true) hs) same (left-named keep full (loaded-named texts from.loaded from.hosts_are (texts-named texts u listed)));
+    }
+
+-- ---- a site, step by step
+
+pub record Steps (texts : List HostText) (rules : SiteRules) (site : WholeSite) : Type 0 where
+  pub listed : Unit {0}
+  pub listed_are : hosts_checked texts ≡ Ok listed
+  pub others : Others
+  pub others_are : others_loaded texts rules.keep ≡ Ok others
+  pub joined_is : pinned_site others rules.pins ≡ Ok site.joined
+  pub files_are : each site_of (loaded_from others.hosts (map (λ t. t.mtree) texts)) ≡ Ok site.hosts
+
+pub steps : (texts : List HostText) (rules : SiteRules) (site : WholeSite) → site_read texts rules ≡ Ok site → Steps texts rules site
+unfolding site_read
+steps texts rules site h =
+    let listed = bind_ok (in_site (hosts_checked texts)) _ site h in
+    let others = bind_ok (others_loaded texts rules.keep) _ site listed.2 in
+    let joining = bind_ok (pinned_site others.0 rules.pins) _ site others.2 in
+    let filing = bind_ok (each site_of (loaded_from others.0.hosts (map (λ t. t.mtree) texts))) _ site joining.2 in
+    let made : WholeSite = record { hosts = filing.0; joined = joining.0 } in
+    subst (Steps texts rules) (ok_same made site filing.2)
+    (record {
+      listed = listed.0;
+      listed_are = site_ok (hosts_checked texts) listed.0 listed.1;
+      others = others.0;
+      others_are = others.1;
+      joined_is = joining.1;
+      files_are = filing.1;
+    })
+
+-- each host has the text of its inventory
+pub paired : (texts : List HostText) (rules : SiteRules) (site : WholeSite) → (s : Steps texts rules site) → length (map (λ (t : HostText). t.mtree) texts) ≡ length s.others.hosts
+paired texts rules site s = length-map texts (λ (t : HostText). t.mtree) ∙ sym (as-many-others texts rules.keep s.others s.others_are)
+
+-- the hosts of a site are what is joined
+pub hosts-are : (texts : List HostText) (rules : SiteRules) (site : WholeSite) → (s : Steps texts rules site) → s.others.hosts ≡ hosts_in site
+hosts-are texts rules site s = (hosts_held s.others.hosts (map (λ t. t.mtree) texts) site.hosts (paired texts rules site s) s.files_are).0
+
+pub read_sites_are_whole : ReadSitesAreWhole
+read_sites_are_whole texts rules site h =
+    let s = steps texts rules site h in
+    whole-read s.others.hosts site.joined (map (λ t. t.mtree) texts) site.hosts (others-together texts rules s.listed s.others site.joined s.listed_are s.others_are s.joined_is) (paired texts rules site s) s.files_are
+
+-- ---- an empty keep text
+
+-- what is joined are all rows of the hosts
+pub all-joined : (texts : List HostText) (others : Others) → (from : AreLoaded texts [] others) → others_loaded texts [] ≡ Ok others → record { hosts = map (λ l. l.host) from.loaded; reserved_users = []; reserved_groups = [] } ≡ others
+unfolding others_loaded
+all-joined texts others from h =
+    let full : List Host = map (λ l. l.host) from.loaded in
+    let whole = all-left full (loaded-unsparing texts from.loaded from.hosts_are) in
+    let read : others_read [] full ≡ Ok others = rw from.hosts_are at h in
+    ok_same (record { hosts = full; reserved_users = []; reserved_groups = [] }) others (sym whole ∙ read)
+
+pub read_hosts_spare_nothing : ReadHostsSpareNothing
+read_hosts_spare_nothing texts pins_text site h =
+    let rules : SiteRules = record { pins = pins_text; keep = [] } in
+    let s = steps texts rules site h in
+    let from = are-loaded texts [] s.others s.others_are in
+    let same = ap (λ (o : Others). o.hosts) (all-joined texts s.others from s.others_are) ∙ hosts-are texts rules site s in
+    subst (λ hs. All SparesNothing hs) same (loaded-unsparing texts from.loaded from.hosts_are)
