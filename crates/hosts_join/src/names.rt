@@ -391,8 +391,8 @@ impl<'a> Names<'a> {
         }
     }
 
-    /// The numbers that no name is to be given, in the order in which they were given with the pins,
-    /// and who keeps each from being given. No cost.
+    /// The numbers that no name is to be given, in the order in which they came with the pins, and
+    /// who keeps each from being given. No cost.
     pub fn reserved(&self) -> &[Reserved<'a>]
         ensures { result.now ≡ self.now.reserved }
     {

@@ -1,5 +1,5 @@
 -- What a map changes is what comes before the inventories, and then, host by host, what the inventories say.
-use Rattle.std.proofs.Common.{◌≡◌, ℕ, List, map, Result, Ok, Err, refl, ap, ◌∙◌}
+use Rattle.std.proofs.Common.{◌≡◌, ℕ, List, Result, Ok, Err, refl, ap, ◌∙◌}
 use Rattle.idtext.specs.First.{◌>>=◌, each}
 use Rattle.hosts_join.specs.Checks.{hosts_checked}
 use Rattle.hosts_join.specs.declared.texts.HostText.{HostText}

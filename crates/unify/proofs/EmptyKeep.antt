@@ -6,7 +6,6 @@ use Rattle.hosts_join.specs.Checks.{hosts_checked}
 use Rattle.hosts_join.specs.PinPairs.{PinPairs}
 use Rattle.hosts_join.specs.PinsText.{pins_of}
 use Rattle.hosts_join.specs.Site.{Joined, joined_site}
-use Rattle.hosts_join.specs.declared.host.Host.{Host}
 use Rattle.hosts_join.specs.declared.texts.HostText.{HostText}
 use Rattle.hosts_join.proofs.ReservedLaws.{pins_reserve_nothing}
 use Rattle.unify_texts.specs.Maps.{map_of}

@@ -6,7 +6,7 @@ use Rattle.idtext.specs.First.{each}
 use Rattle.idtext.proofs.OkLemmas.{bind_ok, length-each, ok_same}
 use Rattle.hosts_join.specs.Checks.{hosts_checked, is_host_name}
 use Rattle.hosts_join.specs.Hosts.{IsLawfulHost, SparesReserved}
-use Rattle.hosts_join.specs.PinPairs.{ArePinPairs, PinPairs}
+use Rattle.hosts_join.specs.PinPairs.{PinPairs}
 use Rattle.hosts_join.specs.PinsText.{pins_of}
 use Rattle.hosts_join.specs.Site.{Joined, joined_site}
 use Rattle.hosts_join.specs.declared.fault.PinsFault.{PinsFault}
@@ -19,9 +19,9 @@ use Rattle.unify.specs.declared.host.Loaded.{Loaded}
 use Rattle.unify.specs.declared.rules.SiteRules.{SiteRules}
 use Rattle.unify.specs.Count.{site_of}
 use Rattle.unify.specs.Hosts.{host_of}
-use Rattle.unify.specs.Laws.{IsWhole, ReadHostsSpareNothing, ReadSitesAreWhole}
+use Rattle.unify.specs.Laws.{ReadHostsSpareNothing, ReadSitesAreWhole}
 use Rattle.unify.specs.Loading.{loaded_from}
-use Rattle.unify.specs.Others.{Others, others_loaded, others_of, others_read, pinned_site, reserving}
+use Rattle.unify.specs.Others.{Others, others_loaded, others_read, pinned_site, reserving}
 use Rattle.unify.specs.Outcomes.{hosts_in}
 use Rattle.unify.specs.Passes.{AreTogether}
 use Rattle.unify.specs.Reading.{WholeSite, site_read}

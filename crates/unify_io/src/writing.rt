@@ -179,8 +179,8 @@ fn remove_temporary(rt: &HostRuntime, directory: &str) -> Result<(), FileFault> 
 
 /// Begins to write a merge of the hosts that words name into a directory: the report, the hosts'
 /// own files and the plans of an earlier merge go before any of its other files does, then its
-/// passwd and group, which not every merge writes; and the directory has a mark until the new report
-/// stands.
+/// passwd and group, which not every merge writes; and the directory has a mark until the new
+/// report stands.
 pub fn begin_output(rt: &HostRuntime, directory: &str, words: &[&str]) -> Result<(), FileFault> {
     mark(rt, directory)?;
     remove(rt, directory, "report")?;
