@@ -20,6 +20,7 @@ OFFICE = amber=examples/office/amber basalt=examples/office/basalt
 BUNDLES = count/swap-counted check/swap-checked merge/two-hosts-swap merge-hosts/swap-with-hosts rehearse/swap-rehearsed
 DEMO = build/office
 TOLD = build/told
+MIXED = build/mixed
 STORED = examples/stored-count
 HOSTS = a=$(STORED)/a b=$(STORED)/b
 TABLES = $(STORED)/b/passwd $(STORED)/b/group
@@ -66,8 +67,8 @@ quick:
 	@gate/unproved.py bundles
 
 # What the program that was built last makes of examples/office is what is committed there: the merge, its certificate
-# accepted with the same sum, the map counted, and each plan rehearsed. Then each bundle of examples/worked, the command
-# line, and what a merge does to the directory that it writes into. What the program tells goes to a file, since a shell keeps
+# accepted with the same sum, the map counted, and each plan rehearsed. Then the hosts of examples/mixed with a keep text and
+# without, each bundle of examples/worked, the command line, and what a merge does to the directory that it writes into. What the program tells goes to a file, since a shell keeps
 # no exit status of a program before a pipe.
 compare:
 	@rm -rf $(DEMO) && mkdir -p $(DEMO)
@@ -80,6 +81,12 @@ compare:
 		./$(PROGRAM) rehearse $(DEMO)/plan.$$host examples/office/$$host/mtree; done >$(TOLD); \
 		diff $(TOLD) examples/office/expected-rehearse
 	@echo 'examples/office: as committed'
+	@rm -rf $(MIXED) && mkdir -p $(MIXED)
+	@./$(PROGRAM) merge -q --keep examples/keep/system $(MIXED) examples/mixed/debian examples/mixed/rocky >$(TOLD) && \
+		diff $(TOLD) examples/mixed/expected-merge
+	@./$(PROGRAM) merge -q $(MIXED) examples/mixed/debian examples/mixed/rocky 2>$(TOLD); \
+		test $$? -eq 1 && diff $(TOLD) examples/mixed/expected-refusal
+	@echo 'examples/mixed: as committed'
 	@examples/worked/compare.py $(PROGRAM)
 	@examples/worked/outputs.py $(PROGRAM)
 
