@@ -1,8 +1,9 @@
 #!/usr/bin/env python3
 """What pwck and grpck of the Debian package `passwd` say of account files: of each host's own, of these with their new numbers
-(passwd.NAME and group.NAME), and of the merged ones. The hosts are those of examples/office, and then three that are made of a
-Debian system's own files: of those that its package base-passwd has, and of this machine's, with people who have other numbers
-on each.
+(passwd.NAME and group.NAME), and of the merged ones, where there are such. The hosts are those of examples/office; then three that
+are made of a Debian system's own files: of those that its package base-passwd has, and of this machine's, with people who have
+other numbers on each, merged without a keep text and with examples/keep/system; and with that the Debian host of examples/mixed
+with the Rocky one, and with the FreeBSD one.
 
     bench/pwck.py [PROGRAM]
 
@@ -17,7 +18,8 @@ import tempfile
 
 from measure import HERE, UNIFY
 
-OFFICE = pathlib.Path(HERE).parent / "examples/office"
+EXAMPLES = pathlib.Path(HERE).parent / "examples"
+OFFICE, MIXED, SYSTEM = EXAMPLES / "office", EXAMPLES / "mixed", EXAMPLES / "keep/system"
 # Debian's own passwd and group: as its package base-passwd has them, and as they are here.
 MASTER = "/usr/share/base-passwd/passwd.master", "/usr/share/base-passwd/group.master"
 HERE_TOO = "/etc/passwd", "/etc/group"
@@ -68,12 +70,13 @@ def debian_hosts(folder):
         (folder / host / "mtree").write_text(files)
 
 
-def told_of(program, hosts):
+def told_of(program, hosts, *options):
     """Merges the hosts, whose folders are given by name, prints what is said, and tells whose own files differ in that."""
+    print(f"--- {' '.join(hosts)} {' '.join(map(str, options))}".rstrip())
     differ = []
     with tempfile.TemporaryDirectory() as name:
         out = pathlib.Path(name)
-        words = [program, "merge", "-q", out, *(f"{host}={folder}" for host, folder in hosts.items())]
+        words = [program, "merge", "-q", *options, out, *(f"{host}={folder}" for host, folder in hosts.items())]
         subprocess.run(words, check=True, stdout=subprocess.DEVNULL)
         for host, folder in hosts.items():
             before = said(folder / "passwd", folder / "group")
@@ -81,7 +84,8 @@ def told_of(program, hosts):
             print(f"{host}, its own:", *before, sep="\n  ")
             print(f"{host}, with new numbers:", *after, sep="\n  ")
             differ += [host] * (before != after)
-        print("merged:", *said(out / "passwd", out / "group"), sep="\n  ")
+        if (out / "passwd").exists():
+            print("merged:", *said(out / "passwd", out / "group"), sep="\n  ")
     return differ
 
 
@@ -90,7 +94,10 @@ def main(program=UNIFY):
     with tempfile.TemporaryDirectory() as name:
         folder = pathlib.Path(name)
         debian_hosts(folder)
-        differ += told_of(program, {host: folder / host for host in DEBIAN})
+        for options in ((), ("--keep", SYSTEM)):
+            differ += told_of(program, {host: folder / host for host in DEBIAN}, *options)
+    for other in ("rocky", "freebsd"):
+        differ += told_of(program, {host: MIXED / host for host in ("debian", other)}, "--keep", SYSTEM)
     print(f"not the same: {' '.join(differ)}" if differ else "the same of each host's own files, before and after")
     return bool(differ)
 
