@@ -82,8 +82,9 @@ compare:
 		diff $(TOLD) examples/office/expected-rehearse
 	@echo 'examples/office: as committed'
 	@rm -rf $(MIXED) && mkdir -p $(MIXED)
-	@./$(PROGRAM) merge -q --keep examples/keep/system $(MIXED) examples/mixed/debian examples/mixed/rocky >$(TOLD) && \
-		diff $(TOLD) examples/mixed/expected-merge
+	@set -e; for other in rocky freebsd; do \
+		./$(PROGRAM) merge -q --keep examples/keep/system $(MIXED) examples/mixed/debian examples/mixed/$$other >$(TOLD); \
+		diff $(TOLD) examples/mixed/expected-$$other; done
 	@./$(PROGRAM) merge -q $(MIXED) examples/mixed/debian examples/mixed/rocky 2>$(TOLD); \
 		test $$? -eq 1 && diff $(TOLD) examples/mixed/expected-refusal
 	@echo 'examples/mixed: as committed'
