@@ -1,7 +1,7 @@
 -- The lines of what is reserved, read word by word.
 -- Source: this project's own formats.
-use Rattle.std.specs.Prelude.{◌≡◌, ℕ, ◌<◌, ◌≤◌, List, [], ◌∷◌, ◌++◌, map, codes, All, Option}
-use Rattle.std.specs.Prelude.{Some, None, option_map, if◌then◌else◌, bytes_eq, length}
+use Rattle.std.specs.Prelude.{◌≡◌, ℕ, ◌<◌, ◌≤◌, List, [], ◌∷◌, ◌++◌, map, codes, All}
+use Rattle.std.specs.Prelude.{Option, Some, None, option_map, if◌then◌else◌, bytes_eq, length}
 use Rattle.idtext.specs.Escapes.{unescaped}
 use Rattle.idtext.specs.Numbers.{greatest_id, id_of}
 use Rattle.idtext.specs.Pieces.{lines as lines_of}
