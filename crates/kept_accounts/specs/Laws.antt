@@ -15,7 +15,8 @@ use Rattle.keep_text.specs.declared.keep_text.KeepText.{KeepText}
 use Rattle.kept_accounts.specs.Keeping.{is_kept, is_kept_user, is_kept_group, numbers_of}
 use Rattle.kept_accounts.specs.Keeping.{Keeping, IsKeeping, keeps, users_on, groups_on}
 use Rattle.kept_accounts.specs.Others.{kept_rows, other_rows, without, without_kept}
-use Rattle.kept_accounts.specs.Reserving.{by_name, reserved_by, reserved_users, reserved_groups}
+use Rattle.kept_accounts.specs.Reserving.{UnownedNumbers, by_files, by_name, reserved_by}
+use Rattle.kept_accounts.specs.Reserving.{reserved_users, reserved_groups}
 use Rattle.kept_accounts.specs.declared.reserving.UnownedNumber.{UnownedNumber}
 
 -- no name is kept, no number is reserved, and each host is as it was, and spares no number
@@ -24,8 +25,9 @@ pub record KeepsNothing (keep : KeepText) (hosts : List Host) : Type 0 where
   pub groups : (name : List ℕ) → is_kept_group keep hosts name ≡ false
   pub uids : (unowned : List UnownedNumber) → reserved_users keep hosts unowned ≡ []
   pub gids : (unowned : List UnownedNumber) → reserved_groups keep hosts unowned ≡ []
-  pub others : (host : Host)
-      → without_kept keep hosts host ≡ record host { spared_users = []; spared_groups = [] }
+  pub others : (unowned : UnownedNumbers) (host : Host)
+      → without_kept keep hosts unowned host
+      ≡ record host { spared_users = []; spared_groups = [] }
 
 abbrev pub EmptyTextKeepsNothing : Type 0
 EmptyTextKeepsNothing = (keep : KeepText) (hosts : List Host)
@@ -34,8 +36,9 @@ EmptyTextKeepsNothing = (keep : KeepText) (hosts : List Host)
 -- what keeps the names that are kept leaves the same of each host, and reserves the same numbers
 pub record LeavesTheSame (keep : KeepText) (hosts : List Host) (users groups : Keeping)
     : Type 0 where
-  pub others : (host : Host)
-      → without keep (keeps users) (keeps groups) host ≡ without_kept keep hosts host
+  pub others : (unowned : UnownedNumbers) (host : Host)
+      → without keep (keeps users) (keeps groups) unowned host
+      ≡ without_kept keep hosts unowned host
   pub uids : (unowned : List UnownedNumber)
       → reserved_by (keeps users) (λ host. user_rows host.users) keep.users hosts unowned
       ≡ reserved_users keep hosts unowned
@@ -82,29 +85,40 @@ OthersAgree {Row} name at IsTable =
 
 -- a host without its kept rows is lawful where the host is
 abbrev pub OthersAreLawful : Type 0
-OthersAreLawful = (keep : KeepText) (user group : List ℕ → Bool) (host : Host)
-    → IsLawfulHost host → IsLawfulHost (without keep user group host)
+OthersAreLawful = (keep : KeepText) (user group : List ℕ → Bool) (unowned : UnownedNumbers)
+    (host : Host) → IsLawfulHost host → IsLawfulHost (without keep user group unowned host)
 
--- Each number that a host without its kept rows spares is reserved, where the text does not keep
--- all numbers without an account.
+-- each number that a host without its kept rows spares is reserved
 abbrev pub SparedAreReserved : Type 0
-SparedAreReserved = (keep : KeepText) (hosts : List Host) (unowned : List UnownedNumber)
+SparedAreReserved = (keep : KeepText) (hosts : List Host) (unowned : UnownedNumbers)
     (host : Host) (number : ℕ) → Contains hosts host
-    → (keep.users.unowned ≡ false → spares_user (without_kept keep hosts host) number ≡ true
-    → is_reserved (reserved_users keep hosts unowned) number ≡ true)
-    × (keep.groups.unowned ≡ false → spares_group (without_kept keep hosts host) number ≡ true
-    → is_reserved (reserved_groups keep hosts unowned) number ≡ true)
+    → (spares_user (without_kept keep hosts unowned host) number ≡ true
+    → is_reserved (reserved_users keep hosts unowned.users) number ≡ true)
+    × (spares_group (without_kept keep hosts unowned host) number ≡ true
+    → is_reserved (reserved_groups keep hosts unowned.groups) number ≡ true)
+
+-- Where numbers without an account stay, one that files of a host have is spared by the host, and
+-- it is reserved, by the files of that host.
+abbrev pub UnownedAreSpared : Type 0
+UnownedAreSpared = (keep : KeepText) (hosts : List Host) (unowned : UnownedNumbers) (host : Host)
+    (found : UnownedNumber) → found.host ≡ host.name
+    → (keep.users.unowned ≡ true → Contains unowned.users found
+    → (spares_user (without_kept keep hosts unowned host) found.number ≡ true)
+    × Contains (reserved_users keep hosts unowned.users) (by_files found))
+    × (keep.groups.unowned ≡ true → Contains unowned.groups found
+    → (spares_group (without_kept keep hosts unowned host) found.number ≡ true)
+    × Contains (reserved_groups keep hosts unowned.groups) (by_files found))
 
 -- a number that a host's table names is named so by what is left of it, or the host spares it
 abbrev pub NamedAreLeftOrSpared : Type 0
-NamedAreLeftOrSpared = (keep : KeepText) (hosts : List Host) (host : Host) (number : ℕ)
-    (named : List ℕ) → number ≤ 4294967295
+NamedAreLeftOrSpared = (keep : KeepText) (hosts : List Host) (unowned : UnownedNumbers)
+    (host : Host) (number : ℕ) (named : List ℕ)
     → (user_at host.users number ≡ Some named
-    → (user_at (without_kept keep hosts host).users number ≡ Some named)
-    ⊎ (spares_user (without_kept keep hosts host) number ≡ true))
+    → (user_at (without_kept keep hosts unowned host).users number ≡ Some named)
+    ⊎ (spares_user (without_kept keep hosts unowned host) number ≡ true))
     × (group_at host.groups number ≡ Some named
-    → (group_at (without_kept keep hosts host).groups number ≡ Some named)
-    ⊎ (spares_group (without_kept keep hosts host) number ≡ true))
+    → (group_at (without_kept keep hosts unowned host).groups number ≡ Some named)
+    ⊎ (spares_group (without_kept keep hosts unowned host) number ≡ true))
 
 -- ---- of both kinds
 

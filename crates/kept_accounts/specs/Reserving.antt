@@ -11,6 +11,14 @@ use Rattle.keep_text.specs.declared.keep_text.KeepText.{KeepText}
 use Rattle.kept_accounts.specs.Keeping.{is_kept_user, is_kept_group}
 use Rattle.kept_accounts.specs.declared.reserving.UnownedNumber.{UnownedNumber}
 
+-- the numbers of both kinds that files have, and no account of their host
+pub record UnownedNumbers : Type 0 where
+  pub users : List UnownedNumber
+  pub groups : List UnownedNumber
+
+abbrev pub no_numbers : UnownedNumbers
+no_numbers = record { users = []; groups = [] }
+
 -- that number alone
 abbrev pub only : ℕ → IdRange
 only number = record { low = number; high = number }

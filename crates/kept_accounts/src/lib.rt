@@ -16,4 +16,4 @@ pub use laws::{
     named_numbers_are_left_or_spared, numbers_decide_what_is_kept, others_are_lawful,
     others_name_as_the_table, rows_are_kept_or_others, spared_numbers_are_reserved,
 };
-pub use reserving::UnownedNumber;
+pub use reserving::{UnownedNumber, UnownedNumbers};

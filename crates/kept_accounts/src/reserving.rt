@@ -7,6 +7,7 @@ use hosts_join::{Host, Reserved, Reserver};
 use idtext::Name;
 use logindefs::IdRange;
 use std::alloc::{AllocError, Global};
+use std::marker::Model;
 
 /// A number that some file of a host has, and no account of the host.
 #[derive(Drop)]
@@ -15,6 +16,33 @@ pub struct UnownedNumber<'a> {
     pub host: Name<'a>,
     /// The uid or gid.
     pub number: u32,
+}
+
+/// The numbers of both kinds that files have, and no account of their host.
+#[derive(Drop)]
+pub struct UnownedNumbers<'a> {
+    /// Uids.
+    pub users: Vec<UnownedNumber<'a>>,
+    /// Gids.
+    pub groups: Vec<UnownedNumber<'a>>,
+}
+
+impl<'a> Model for UnownedNumbers<'a> {
+    ghost Value = { spec.UnownedNumbers };
+
+    ghost view = { λ it. record { users = it.users.items; groups = it.groups.items } };
+}
+
+impl<'a> UnownedNumbers<'a> {
+    /// No number. Takes no memory.
+    pub fn none(alloc: Global) -> Self
+        ensures { result ≡ spec.no_numbers }
+    {
+        UnownedNumbers {
+            users: Vec::new(alloc),
+            groups: Vec::new(alloc),
+        }
+    }
 }
 
 /// That number alone.
