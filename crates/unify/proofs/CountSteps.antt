@@ -6,6 +6,7 @@ use Rattle.hosts_join.specs.declared.texts.HostText.{HostText}
 use Rattle.unify_texts.specs.declared.fault.Fault.{Fault}
 use Rattle.unify_texts.specs.declared.map_text.MapText.{MapText}
 use Rattle.unify.specs.declared.counting.Cost.{Cost}
+use Rattle.unify.specs.declared.rules.KeepRules.{KeepRules}
 use Rattle.unify.specs.Costing.{BegunCost, cost_begun}
 use Rattle.unify.specs.Count.{count_of, mapped_names, site_of, total_of}
 use Rattle.unify.specs.Loading.{loaded_from}
@@ -16,28 +17,28 @@ use Rattle.unify.proofs.TwoPasses.{first-step}
 
 -- ---- what comes before the inventories, step by step
 
-module _ (texts : List HostText) (keep_text map_text : List ℕ) where
-  pub list_refused : (f : Fault) → in_site (hosts_checked texts) ≡ Err f → cost_begun texts keep_text map_text ≡ Err f
+module _ (texts : List HostText) (keep : KeepRules) (map_text : List ℕ) where
+  pub list_refused : (f : Fault) → in_site (hosts_checked texts) ≡ Err f → cost_begun texts keep map_text ≡ Err f
   unfolding cost_begun
   list_refused f l = rw l refl
 
   module _ (u : Unit {0}) (listed : in_site (hosts_checked texts) ≡ Ok u) where
-    pub others_refused : (f : Fault) → others_loaded texts keep_text ≡ Err f → cost_begun texts keep_text map_text ≡ Err f
+    pub others_refused : (f : Fault) → others_loaded texts keep ≡ Err f → cost_begun texts keep map_text ≡ Err f
     unfolding cost_begun
     others_refused f o = rw (listed, o) refl
 
-    module _ (others : Others) (o : others_loaded texts keep_text ≡ Ok others) where
+    module _ (others : Others) (o : others_loaded texts keep ≡ Ok others) where
       abbrev with_names : Result MapText Fault → Result BegunCost Fault
       with_names reading = reading >>= λ pairs. Ok (record { hosts = others.hosts; names = pairs })
 
-      begun_steps : cost_begun texts keep_text map_text ≡ with_names (mapped_names map_text others.hosts)
+      begun_steps : cost_begun texts keep map_text ≡ with_names (mapped_names map_text others.hosts)
       unfolding cost_begun
       begun_steps = rw (listed, o) refl
 
-      pub names_refused : (f : Fault) → mapped_names map_text others.hosts ≡ Err f → cost_begun texts keep_text map_text ≡ Err f
+      pub names_refused : (f : Fault) → mapped_names map_text others.hosts ≡ Err f → cost_begun texts keep map_text ≡ Err f
       names_refused f n = begun_steps ∙ ap with_names n
 
-      pub begun_is : (pairs : MapText) → mapped_names map_text others.hosts ≡ Ok pairs → cost_begun texts keep_text map_text ≡ Ok (record { hosts = others.hosts; names = pairs })
+      pub begun_is : (pairs : MapText) → mapped_names map_text others.hosts ≡ Ok pairs → cost_begun texts keep map_text ≡ Ok (record { hosts = others.hosts; names = pairs })
       begun_is pairs n = begun_steps ∙ ap with_names n
 
 -- ---- and then the inventories
@@ -45,16 +46,16 @@ module _ (texts : List HostText) (keep_text map_text : List ℕ) where
 abbrev inventories : List HostText → BegunCost → Result Cost Fault
 inventories texts begun = total_of begun.names (each site_of (loaded_from begun.hosts (mtrees texts)))
 
-count_steps : (texts : List HostText) (keep_text map_text : List ℕ) → count_of texts keep_text map_text ≡ (cost_begun texts keep_text map_text >>= inventories texts)
+count_steps : (texts : List HostText) (keep : KeepRules) (map_text : List ℕ) → count_of texts keep map_text ≡ (cost_begun texts keep map_text >>= inventories texts)
 unfolding count_of cost_begun
-count_steps texts keep_text map_text =
+count_steps texts keep map_text =
     first-step (in_site (hosts_checked texts)) _ _ (inventories texts)
-    (λ listed l. first-step (others_loaded texts keep_text) _ _ (inventories texts)
+    (λ listed l. first-step (others_loaded texts keep) _ _ (inventories texts)
     (λ others o. first-step (mapped_names map_text others.hosts) _ _ (inventories texts)
     (λ pairs p. refl)))
 
-pub count_refused : (texts : List HostText) (keep_text map_text : List ℕ) (f : Fault) → cost_begun texts keep_text map_text ≡ Err f → count_of texts keep_text map_text ≡ Err f
-count_refused texts keep_text map_text f h = count_steps texts keep_text map_text ∙ ap (λ r. r >>= inventories texts) h
+pub count_refused : (texts : List HostText) (keep : KeepRules) (map_text : List ℕ) (f : Fault) → cost_begun texts keep map_text ≡ Err f → count_of texts keep map_text ≡ Err f
+count_refused texts keep map_text f h = count_steps texts keep map_text ∙ ap (λ r. r >>= inventories texts) h
 
-pub count_behind : (texts : List HostText) (keep_text map_text : List ℕ) (begun : BegunCost) → cost_begun texts keep_text map_text ≡ Ok begun → count_of texts keep_text map_text ≡ total_of begun.names (each site_of (loaded_from begun.hosts (mtrees texts)))
-count_behind texts keep_text map_text begun h = count_steps texts keep_text map_text ∙ ap (λ r. r >>= inventories texts) h
+pub count_behind : (texts : List HostText) (keep : KeepRules) (map_text : List ℕ) (begun : BegunCost) → cost_begun texts keep map_text ≡ Ok begun → count_of texts keep map_text ≡ total_of begun.names (each site_of (loaded_from begun.hosts (mtrees texts)))
+count_behind texts keep map_text begun h = count_steps texts keep map_text ∙ ap (λ r. r >>= inventories texts) h

@@ -7,6 +7,7 @@ use Rattle.hosts_join.specs.PinPairs.{PinPairs}
 use Rattle.hosts_join.specs.PinsText.{pins_of}
 use Rattle.hosts_join.specs.Site.{Joined, joined_site}
 use Rattle.hosts_join.specs.declared.texts.HostText.{HostText}
+use Rattle.kept_accounts.specs.Reserving.{UnownedNumbers}
 use Rattle.hosts_join.proofs.ReservedLaws.{pins_reserve_nothing}
 use Rattle.unify_texts.specs.Maps.{map_of}
 use Rattle.unify_texts.specs.declared.fault.Fault.{Fault}
@@ -15,7 +16,7 @@ use Rattle.unify.specs.Count.{count_of, mapped_names, names_checked, site_of, to
 use Rattle.unify.specs.Hosts.{host_of}
 use Rattle.unify.specs.Laws.{EmptyKeepCountsAll, EmptyKeepIsNone}
 use Rattle.unify.specs.Loading.{loaded_from}
-use Rattle.unify.specs.Others.{Others, others_loaded, others_read, pinned_site, reserving}
+use Rattle.unify.specs.Others.{Others, keeping_nothing, others_loaded, others_read, pinned_site, reserving}
 use Rattle.unify.specs.Reading.{WholeSite, site_read}
 use Rattle.unify.specs.Told.{in_pins, in_site}
 use Rattle.unify.proofs.Adding.{loaded_from-parts}
@@ -52,11 +53,11 @@ abbrev all_of : List Loaded → Others
 all_of loaded = record { hosts = map (λ l. l.host) loaded; reserved_users = []; reserved_groups = [] }
 
 -- what follows where nothing is kept
-others-all : {C : Type 0} (texts : List HostText) (rest : Others → Result C Fault) → (others_loaded texts [] >>= rest) ≡ (each host_of texts >>= λ loaded. rest (all_of loaded))
+others-all : {C : Type 0} (texts : List HostText) (unowned : UnownedNumbers) (rest : Others → Result C Fault) → (others_loaded texts (keeping_nothing unowned) >>= rest) ≡ (each host_of texts >>= λ loaded. rest (all_of loaded))
 unfolding others_loaded
-others-all texts rest =
-    joined-steps (each host_of texts) (λ loaded. others_read [] (map (λ (l : Loaded). l.host) loaded)) rest
-    ∙ same-rest (each host_of texts) _ _ (λ loaded h. ap (λ r. r >>= rest) (all-left (map (λ (l : Loaded). l.host) loaded) (loaded-unsparing texts loaded h)))
+others-all texts unowned rest =
+    joined-steps (each host_of texts) (λ loaded. others_read (keeping_nothing unowned) (map (λ (l : Loaded). l.host) loaded)) rest
+    ∙ same-rest (each host_of texts) _ _ (λ loaded h. ap (λ r. r >>= rest) (all-left (map (λ (l : Loaded). l.host) loaded) unowned (loaded-unsparing texts loaded h)))
 
 -- a pins text reserves nothing
 pinned-all : (loaded : List Loaded) (pins_text : List ℕ) → pinned_site (all_of loaded) pins_text ≡ (in_pins (pins_of pins_text) >>= λ pins. in_site (joined_site (map (λ l. l.host) loaded) pins))
@@ -71,18 +72,18 @@ site_with loaded joined = each site_of loaded >>= λ hosts. Ok (record { hosts =
 
 pub empty_keep_is_none : EmptyKeepIsNone
 unfolding site_read
-empty_keep_is_none texts pins_text =
+empty_keep_is_none texts pins_text unowned =
     same-rest (in_site (hosts_checked texts)) _ _
-    (λ listed l. others-all texts _
+    (λ listed l. others-all texts unowned _
     ∙ same-rest (each host_of texts) _ _
     (λ loaded h. (λ j. pinned-all loaded pins_text j >>= site_with (loaded-again texts loaded h j))
     ∙ joined-steps (in_pins (pins_of pins_text)) (λ (pins : PinPairs). in_site (joined_site (map (λ (l : Loaded). l.host) loaded) pins)) (site_with loaded)))
 
 pub empty_keep_counts_all : EmptyKeepCountsAll
 unfolding count_of
-empty_keep_counts_all texts map_text =
+empty_keep_counts_all texts unowned map_text =
     same-rest (in_site (hosts_checked texts)) _ _
-    (λ listed l. others-all texts _
+    (λ listed l. others-all texts unowned _
     ∙ same-rest (each host_of texts) _ _
     (λ loaded h. ap (λ ls. mapped_names map_text (map (λ (l : Loaded). l.host) loaded) >>= λ pairs. total_of pairs (each site_of ls)) (loaded-again texts loaded h)
     ∙ joined-steps (map_of map_text) _ _ ∙ same-rest (map_of map_text) _ _ (λ pairs m. joined-steps (names_checked pairs (map (λ (l : Loaded). l.host) loaded)) _ _)))

@@ -17,4 +17,4 @@ none_read = ap (λ ls. unless (first_fault pins_fault [] ls) (pins_on ls)) lines
 
 pub empty_pins_are_none : EmptyPinsAreNone
 unfolding site_read
-empty_pins_are_none texts keep_text = simp none_read
+empty_pins_are_none texts keep = simp none_read

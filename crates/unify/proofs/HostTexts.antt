@@ -14,6 +14,7 @@ use Rattle.hosts_join.specs.PinPairs.{PinPairs}
 use Rattle.hosts_join.specs.Site.{Joined, joined_site}
 use Rattle.hosts_join.specs.declared.host.Host.{Host}
 use Rattle.hosts_join.specs.declared.texts.HostText.{HostText}
+use Rattle.kept_accounts.specs.Reserving.{UnownedNumbers}
 use Rattle.mergedfiles.specs.FullTables.{AreNumberedRows, IsFullGroupFile, IsFullPasswd, IsNumberedHost, IsRenumbered}
 use Rattle.ownership.specs.Mappings.{Mappings}
 use Rattle.mergedfiles.proofs.HostUsers.{full_passwd_back}
@@ -22,12 +23,13 @@ use Rattle.reown_plan.specs.declared.plan.Owner.{Owner}
 use Rattle.unify_texts.specs.WrittenMap.{SayMapping}
 use Rattle.unify.specs.declared.host.Loaded.{Loaded}
 use Rattle.unify.specs.declared.outcome.Outcome.{Outcome}
+use Rattle.unify.specs.declared.rules.KeepRules.{KeepRules}
 use Rattle.unify.specs.declared.rules.SiteRules.{SiteRules}
 use Rattle.unify.specs.Headline.{Headline, IsNamedAsBefore, IsNewNumber, IsOldOrNamed}
 use Rattle.unify.specs.HostTexts.{AreJoinedInFull, BegunSitesAreInFull, HostsKeepOwnFiles, IsJoinedInFull, IsJoinedPart, IsTextOf, KeepsOwnFiles, ReadSitesAreInFull, TablesAreOfTexts, own_passwd, own_group}
 use Rattle.unify.specs.Hosts.{host_of}
 use Rattle.unify.specs.Laws.{IsWhole}
-use Rattle.unify.specs.Others.{Others, others_loaded, pinned_site, reserving}
+use Rattle.unify.specs.Others.{Others, keeping_nothing, others_loaded, pinned_site, reserving}
 use Rattle.unify.specs.Outcomes.{hosts_in}
 use Rattle.unify.specs.Passes.{BegunSite, site_begun}
 use Rattle.unify.specs.Reading.{WholeSite, site_read}
@@ -136,7 +138,7 @@ there-at : {X : Type 0} (xs : List X) (k : ℕ) (x : X) → slice_get xs k ≡ S
 there-at xs k x here = (k, slice_get_within xs k x here, get_or_from_slice_get xs k x x here)
 
 -- what is joined of hosts that were loaded from texts
-module _ (texts : List HostText) (keep_text : List ℕ) (others : Others) (from : AreLoaded texts keep_text others) where
+module _ (texts : List HostText) (rules : KeepRules) (others : Others) (from : AreLoaded texts rules others) where
   abbrev full : List Host
   full = map (λ l. l.host) from.loaded
 
@@ -153,16 +155,16 @@ module _ (texts : List HostText) (keep_text : List ℕ) (others : Others) (from 
       → (h : ℕ) (host : Host) (text : HostText) → slice_get others.hosts h ≡ Some host → slice_get texts h ≡ Some text → IsTextOf joined host text
   text_of pins_text joined joined_is h host text here there =
       let keep = from.by.keep in
-      let same : map (left keep full) full ≡ others.hosts = ap (λ (o : Others). o.hosts) from.by.are in
-      let left_at = mapped-there (left keep full) (slice_get full h) host (sym (slice_get-map (left keep full) full h) ∙ ap (λ (hs : List Host). slice_get hs h) same ∙ here) in
+      let same : map (left keep full rules.unowned) full ≡ others.hosts = ap (λ (o : Others). o.hosts) from.by.are in
+      let left_at = mapped-there (left keep full rules.unowned) (slice_get full h) host (sym (slice_get-map (left keep full rules.unowned) full h) ∙ ap (λ (hs : List Host). slice_get hs h) same ∙ here) in
       let at = host_at h left_at.0 left_at.1 in
       let told = told_at h at.0 text at.1 there in
       let tables = tables-of text at.0 told in
       let pinned = are-pinned others pins_text joined joined_is in
       let pins : PinPairs = reserving others pinned.pins in
       let reserved = reserved-are others pins_text joined pinned in
-      let whole : joined_site (map (left keep full) full) pins ≡ Ok joined = ap (λ (hs : List Host). joined_site hs pins) same ∙ pinned.joined_is in
-      let part = kept_part keep full pins joined left_at.0 (there-at full h left_at.0 left_at.1) whole (ap (λ (o : Others). o.reserved_users) from.by.are ∙ reserved.0) (ap (λ (o : Others). o.reserved_groups) from.by.are ∙ reserved.1) in
+      let whole : joined_site (map (left keep full rules.unowned) full) pins ≡ Ok joined = ap (λ (hs : List Host). joined_site hs pins) same ∙ pinned.joined_is in
+      let part = kept_part keep full rules.unowned pins joined left_at.0 (there-at full h left_at.0 left_at.1) whole (ap (λ (o : Others). o.reserved_users) from.by.are ∙ reserved.0) (ap (λ (o : Others). o.reserved_groups) from.by.are ∙ reserved.1) in
       record {
         loaded = at.0;
         told = told;
@@ -182,10 +184,11 @@ module _ (texts : List HostText) (keep_text : List ℕ) (others : Others) (from 
   }
 
 -- with an empty keep text all rows are joined
-all_in_full : (texts : List HostText) (others : Others) → others_loaded texts [] ≡ Ok others → AreJoinedInFull others.hosts texts
-all_in_full texts others o =
-    let from = are-loaded texts [] others o in
-    subst (λ (hs : List Host). AreJoinedInFull hs texts) (ap (λ (x : Others). x.hosts) (all-joined texts others from o)) (loaded_in_full texts [] others from)
+all_in_full : (texts : List HostText) (unowned : UnownedNumbers) (others : Others) → others_loaded texts (keeping_nothing unowned) ≡ Ok others → AreJoinedInFull others.hosts texts
+all_in_full texts unowned others o =
+    let rules = keeping_nothing unowned in
+    let from = are-loaded texts rules others o in
+    subst (λ (hs : List Host). AreJoinedInFull hs texts) (ap (λ (x : Others). x.hosts) (all-joined texts unowned others from o)) (loaded_in_full texts rules others from)
 
 -- ---- a site, before its inventories are read
 
@@ -216,9 +219,9 @@ tables_are_of_texts texts rules begun h host text is here there =
     text_of texts rules.keep s.others (are-loaded texts rules.keep s.others s.others_are) rules.pins begun.joined s.joined_is h host text (ap (λ (hs : List Host). slice_get hs h) s.hosts ∙ here) there
 
 pub begun_sites_are_in_full : BegunSitesAreInFull
-begun_sites_are_in_full texts pins begun is =
-    let s = begun_steps texts (record { pins = pins; keep = [] }) begun is in
-    subst (λ (hs : List Host). AreJoinedInFull hs texts) s.hosts (all_in_full texts s.others s.others_are)
+begun_sites_are_in_full texts pins unowned begun is =
+    let s = begun_steps texts (record { pins = pins; keep = keeping_nothing unowned }) begun is in
+    subst (λ (hs : List Host). AreJoinedInFull hs texts) s.hosts (all_in_full texts unowned s.others s.others_are)
 
 -- ---- a site that was read
 
@@ -230,7 +233,7 @@ site_texts texts rules site read h host files text here there =
     text_of texts rules.keep s.others (are-loaded texts rules.keep s.others s.others_are) rules.pins site.joined s.joined_is h host text (ap (λ (hs : List Host). slice_get hs h) (hosts-are texts rules site s) ∙ at) there
 
 pub read_sites_are_in_full : ReadSitesAreInFull
-read_sites_are_in_full texts pins site read =
-    let rules : SiteRules = record { pins = pins; keep = [] } in
+read_sites_are_in_full texts pins unowned site read =
+    let rules : SiteRules = record { pins = pins; keep = keeping_nothing unowned } in
     let s = steps texts rules site read in
-    subst (λ (hs : List Host). AreJoinedInFull hs texts) (hosts-are texts rules site s) (all_in_full texts s.others s.others_are)
+    subst (λ (hs : List Host). AreJoinedInFull hs texts) (hosts-are texts rules site s) (all_in_full texts unowned s.others s.others_are)

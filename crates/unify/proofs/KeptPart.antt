@@ -20,7 +20,7 @@ use Rattle.hosts_join.proofs.Grouping.{bytes_refl, bytes_same}
 use Rattle.keep_text.specs.declared.keep_text.KeepText.{KeepText}
 use Rattle.kept_accounts.specs.Keeping.{is_kept_user, is_kept_group}
 use Rattle.kept_accounts.specs.Others.{other_rows, without_kept}
-use Rattle.kept_accounts.specs.Reserving.{by_name, only, reserved_users, reserved_groups}
+use Rattle.kept_accounts.specs.Reserving.{UnownedNumbers, by_name, only, reserved_users, reserved_groups}
 use Rattle.kept_accounts.proofs.ReservedLemmas.{kept_reserved}
 use Rattle.unify.specs.HostTexts.{AreJoinedRows, IsJoinedPart}
 use Rattle.unify.proofs.Counted.{any_map, found_or, named_somewhere}
@@ -99,22 +99,23 @@ module _ {Row : Type 0} (name : Row → List ℕ) (number : Row → ℕ) (kept :
         by false h = absurd (cc)
 
 -- what is left of one of the hosts, where the site is joined from what is left of all
-pub kept_part : (keep : KeepText) (hosts : List Host) (pins : PinPairs) (joined : Joined) (full : Host) → Contains hosts full → joined_site (map (without_kept keep hosts) hosts) pins ≡ Ok joined
-    → reserved_users keep hosts [] ≡ joined.users.reserved → reserved_groups keep hosts [] ≡ joined.groups.reserved → IsJoinedPart joined full (without_kept keep hosts full)
-kept_part keep hosts pins joined full there is uids gids =
-    let left = without_kept keep hosts in
+pub kept_part : (keep : KeepText) (hosts : List Host) (unowned : UnownedNumbers) (pins : PinPairs) (joined : Joined) (full : Host) → Contains hosts full → joined_site (map (without_kept keep hosts unowned) hosts) pins ≡ Ok joined
+    → reserved_users keep hosts unowned.users ≡ joined.users.reserved → reserved_groups keep hosts unowned.groups ≡ joined.groups.reserved → IsJoinedPart joined full (without_kept keep hosts unowned full)
+kept_part keep hosts unowned pins joined full there is uids gids =
+    let left = without_kept keep hosts unowned in
     let others : List Host = map left hosts in
     let all = together others pins joined is in
-    let alone = kept_reserved keep hosts [] full in
+    let users_alone = kept_reserved keep hosts unowned.users full in
+    let groups_alone = kept_reserved keep hosts unowned.groups full in
     record {
       users = joined-rows (λ (r : Passwd). r.name) (λ (r : Passwd). r.uid) (is_kept_user keep hosts) joined.users (λ (h : Host). h.users) hosts full there
           (λ n. ap (λ (a : Accounts). is_name a.names n) all.users
           ∙ named_somewhere (λ (r : Passwd). r.name) (λ (r : Passwd). r.uid) (λ (h : Host). h.users) (λ (h : Host). h.ranges.uid) (λ (h : Host). h.ranges.sys_uid) others n
           ∙ any_map (λ (h : Host). is_some (find (λ (r : Passwd). bytes_eq n r.name) h.users)) left hosts)
-          (λ row has kept. subst (λ rs. is_reserved rs row.1 ≡ true) uids (reserved-alone (reserved_users keep hosts []) full row ((alone row there).0 has kept)));
+          (λ row has kept. subst (λ rs. is_reserved rs row.1 ≡ true) uids (reserved-alone (reserved_users keep hosts unowned.users) full row ((users_alone row there).0 has kept)));
       groups = joined-rows (λ (r : Group). r.name) (λ (r : Group). r.gid) (is_kept_group keep hosts) joined.groups (λ (h : Host). h.groups) hosts full there
           (λ n. ap (λ (a : Accounts). is_name a.names n) all.groups
           ∙ named_somewhere (λ (r : Group). r.name) (λ (r : Group). r.gid) (λ (h : Host). h.groups) (λ (h : Host). h.ranges.gid) (λ (h : Host). h.ranges.sys_gid) others n
           ∙ any_map (λ (h : Host). is_some (find (λ (r : Group). bytes_eq n r.name) h.groups)) left hosts)
-          (λ row has kept. subst (λ rs. is_reserved rs row.1 ≡ true) gids (reserved-alone (reserved_groups keep hosts []) full row ((alone row there).1 has kept)));
+          (λ row has kept. subst (λ rs. is_reserved rs row.1 ≡ true) gids (reserved-alone (reserved_groups keep hosts unowned.groups) full row ((groups_alone row there).1 has kept)));
     }

@@ -17,15 +17,15 @@ use Rattle.keep_text.specs.declared.keep_text.KeepFault.{KeepFault}
 use Rattle.keep_text.specs.declared.keep_text.KeepText.{KeepText}
 use Rattle.kept_accounts.specs.Keeping.{is_kept_user, is_kept_group}
 use Rattle.kept_accounts.specs.Others.{without_kept}
-use Rattle.kept_accounts.specs.Reserving.{reserved_users, reserved_groups}
+use Rattle.kept_accounts.specs.Reserving.{UnownedNumbers, reserved_users, reserved_groups}
 use Rattle.kept_accounts.proofs.OtherLemmas.{others_lawful}
 use Rattle.kept_accounts.proofs.ReservedLemmas.{empty_keeps_nothing}
 use Rattle.kept_accounts.proofs.SparedLemmas.{spared_reserved}
 use Rattle.mergedfiles.specs.InPart.{WasReadInPart}
 use Rattle.mergedfiles.specs.ReadBack.{WasRead}
 use Rattle.unify_texts.specs.declared.fault.Fault.{Fault}
-use Rattle.unify_texts.specs.declared.fault.Fault.TheVariants.{BadKeep}
-use Rattle.unify.specs.Others.{Others, keep_read, others_of, others_read, without_unowned}
+use Rattle.unify.specs.declared.rules.KeepRules.{KeepRules}
+use Rattle.unify.specs.Others.{Others, keep_read, keeping_nothing, others_of, others_read}
 use Rattle.unify.specs.Sparing.{SparesNothing}
 use Rattle.unify.specs.Told.{in_keep}
 
@@ -35,60 +35,43 @@ keep-ok : {A : Type 0} (r : Result A KeepFault) (x : A) → in_keep r ≡ Ok x �
 keep-ok (Ok y) x h = ap (λ z. Ok z) (ok_same y x h)
 keep-ok (Err e) x h = absurd (cc)
 
--- no numbers without an account are kept
-abbrev KeepsOwned : KeepText → KeepText → Type 0
-KeepsOwned keep out = (keep ≡ out) × (keep.users.unowned ≡ false) × (keep.groups.unowned ≡ false)
-
-owned : (keep out : KeepText) → without_unowned keep ≡ Ok out → KeepsOwned keep out
-owned keep out h = by keep.users.unowned keep.groups.unowned refl refl h
-  where
-    by : (a b : Bool) → keep.users.unowned ≡ a → keep.groups.unowned ≡ b → cond {A = Result KeepText Fault} (a || b) (Err (BadKeep 0)) (Ok keep) ≡ Ok out → KeepsOwned keep out
-    by true b users groups is = absurd (cc)
-    by false true users groups is = absurd (cc)
-    by false false users groups is = (ok_same keep out is, users, groups)
-
--- what is joined of hosts, by a text
-pub record AreOthersBy (text : List ℕ) (hosts : List Host) (others : Others) : Type 0 where
+-- what is joined of hosts, by what is to stay
+pub record AreOthersBy (rules : KeepRules) (hosts : List Host) (others : Others) : Type 0 where
   pub keep : KeepText
-  pub read : keep_of text ≡ Ok keep
-  pub users_owned : keep.users.unowned ≡ false
-  pub groups_owned : keep.groups.unowned ≡ false
-  pub are : others_of keep hosts ≡ others
+  pub read : keep_of rules.text ≡ Ok keep
+  pub are : others_of keep hosts rules.unowned ≡ others
 
-pub others-by : (text : List ℕ) (hosts : List Host) (others : Others) → others_read text hosts ≡ Ok others → AreOthersBy text hosts others
+pub others-by : (rules : KeepRules) (hosts : List Host) (others : Others) → others_read rules hosts ≡ Ok others → AreOthersBy rules hosts others
 unfolding others_read
-others-by text hosts others h =
-    let kept = bind_ok (keep_read text) (λ keep. Ok (others_of keep hosts)) others h in
-    let said = bind_ok (in_keep (keep_of text)) without_unowned kept.0 kept.1 in
-    let is = owned said.0 kept.0 said.2 in
+others-by rules hosts others h =
+    let kept = bind_ok (keep_read rules.text) (λ keep. Ok (others_of keep hosts rules.unowned)) others h in
     record {
-      keep = said.0;
-      read = keep-ok (keep_of text) said.0 said.1;
-      users_owned = is.1;
-      groups_owned = is.2;
-      are = ap (λ (k : KeepText). others_of k hosts) is.0 ∙ ok_same (others_of kept.0 hosts) others kept.2;
+      keep = kept.0;
+      read = keep-ok (keep_of rules.text) kept.0 kept.1;
+      are = ok_same (others_of kept.0 hosts rules.unowned) others kept.2;
     }
 
-pub keep_refused : (text : List ℕ) (hosts : List Host) (f : Fault) → keep_read text ≡ Err f → others_read text hosts ≡ Err f
-unfolding others_read
-keep_refused text hosts f h = ap (λ r. r >>= λ (keep : KeepText). Ok (others_of keep hosts)) h
+module _ (rules : KeepRules) (hosts : List Host) where
+  pub keep_refused : (f : Fault) → keep_read rules.text ≡ Err f → others_read rules hosts ≡ Err f
+  unfolding others_read
+  keep_refused f h = ap (λ r. r >>= λ (keep : KeepText). Ok (others_of keep hosts rules.unowned)) h
 
-pub others_are : (text : List ℕ) (hosts : List Host) (keep : KeepText) (others : Others) → keep_read text ≡ Ok keep → others ≡ others_of keep hosts → others_read text hosts ≡ Ok others
-unfolding others_read
-others_are text hosts keep others h same = ap (λ r. r >>= λ (keep : KeepText). Ok (others_of keep hosts)) h ∙ ap (λ o. Ok o) (sym same)
+  pub others_are : (keep : KeepText) (others : Others) → keep_read rules.text ≡ Ok keep → others ≡ others_of keep hosts rules.unowned → others_read rules hosts ≡ Ok others
+  unfolding others_read
+  others_are keep others h same = ap (λ r. r >>= λ (keep : KeepText). Ok (others_of keep hosts rules.unowned)) h ∙ ap (λ o. Ok o) (sym same)
 
 -- ---- hosts without their kept rows
 
 some-of : {X : Type 0} (test : X → Bool) (xs : List X) → All (Contains xs) (filter test xs)
 some-of test xs = All-filter test (Contains xs) xs (All-contains_itself xs)
 
-module _ (keep : KeepText) (hosts : List Host) where
+module _ (keep : KeepText) (hosts : List Host) (unowned : UnownedNumbers) where
   -- what is left of a host
   abbrev pub left : Host → Host
-  left = without_kept keep hosts
+  left = without_kept keep hosts unowned
 
   pub left-lawful : All IsLawfulHost hosts → All IsLawfulHost (map left hosts)
-  left-lawful all = All-map IsLawfulHost left hosts (λ k d l. others_lawful keep (is_kept_user keep hosts) (is_kept_group keep hosts) (get_or hosts k d) (all k d l))
+  left-lawful all = All-map IsLawfulHost left hosts (λ k d l. others_lawful keep (is_kept_user keep hosts) (is_kept_group keep hosts) unowned (get_or hosts k d) (all k d l))
 
   read-in-part : (host : Host) → WasRead host → WasReadInPart (left host)
   read-in-part host was = record {
@@ -109,13 +92,13 @@ module _ (keep : KeepText) (hosts : List Host) where
   left-named all = All-map (λ (h : Host). is_host_name h.name ≡ true) left hosts all
 
   -- it spares reserved numbers alone
-  pub left-spares : keep.users.unowned ≡ false → keep.groups.unowned ≡ false → (joined : Joined) → reserved_users keep hosts [] ≡ joined.users.reserved → reserved_groups keep hosts [] ≡ joined.groups.reserved → All (SparesReserved joined) (map left hosts)
-  left-spares users groups joined uids gids = All-map (SparesReserved joined) left hosts (λ k d l.
+  pub left-spares : (joined : Joined) → reserved_users keep hosts unowned.users ≡ joined.users.reserved → reserved_groups keep hosts unowned.groups ≡ joined.groups.reserved → All (SparesReserved joined) (map left hosts)
+  left-spares joined uids gids = All-map (SparesReserved joined) left hosts (λ k d l.
       let host = get_or hosts k d in
       let there : Contains hosts host = (k, l, get_or_default hosts k host d l) in
       record {
-        users = λ uid spared. subst (λ rs. is_reserved rs uid ≡ true) uids ((spared_reserved keep hosts [] host uid there).0 users spared);
-        groups = λ gid spared. subst (λ rs. is_reserved rs gid ≡ true) gids ((spared_reserved keep hosts [] host gid there).1 groups spared);
+        users = λ uid spared. subst (λ rs. is_reserved rs uid ≡ true) uids ((spared_reserved keep hosts unowned host uid there).0 spared);
+        groups = λ gid spared. subst (λ rs. is_reserved rs gid ≡ true) gids ((spared_reserved keep hosts unowned host gid there).1 spared);
       })
 
 -- ---- an empty text
@@ -136,10 +119,10 @@ map-same P f same [] all = refl
 map-same P f same (x ∷ xs) all = λ i. same x (All-head P x xs all) i ∷ map-same P f same xs (All-tail P x xs all) i
 
 -- all rows are left, and no number is reserved
-pub all-left : (hosts : List Host) → All SparesNothing hosts → others_read [] hosts ≡ Ok (record { hosts = hosts; reserved_users = []; reserved_groups = [] })
+pub all-left : (hosts : List Host) (unowned : UnownedNumbers) → All SparesNothing hosts → others_read (keeping_nothing unowned) hosts ≡ Ok (record { hosts = hosts; reserved_users = []; reserved_groups = [] })
 unfolding others_read
-all-left hosts none =
+all-left hosts unowned none =
     let nothing = empty_keeps_nothing no_keep hosts none_read in
     let unsparing : (host : Host) → SparesNothing host → record host { spared_users = []; spared_groups = [] } ≡ host = λ host no. λ i. record host { spared_users = sym no.users i; spared_groups = sym no.groups i } in
-    let same : map (without_kept no_keep hosts) hosts ≡ hosts = map-same SparesNothing (without_kept no_keep hosts) (λ host no. nothing.others host ∙ unsparing host no) hosts none in
-    rw none_read (λ i. Ok (record { hosts = same i; reserved_users = nothing.uids [] i; reserved_groups = nothing.gids [] i }))
+    let same : map (without_kept no_keep hosts unowned) hosts ≡ hosts = map-same SparesNothing (without_kept no_keep hosts unowned) (λ host no. nothing.others unowned host ∙ unsparing host no) hosts none in
+    rw none_read (λ i. Ok (record { hosts = same i; reserved_users = nothing.uids unowned.users i; reserved_groups = nothing.gids unowned.groups i }))

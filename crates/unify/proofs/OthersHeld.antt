@@ -13,6 +13,7 @@ use Rattle.unify_texts.specs.declared.fault.Fault.{Fault}
 use Rattle.unify.specs.declared.host.Loaded.{Loaded}
 use Rattle.unify.specs.declared.map_cost.MappedHosts.{MappedHosts}
 use Rattle.unify.specs.declared.others.OtherHosts.{OtherHosts}
+use Rattle.unify.specs.declared.rules.KeepRules.{KeepRules}
 use Rattle.unify.specs.declared.rules.SiteRules.{SiteRules}
 use Rattle.unify.specs.declared.site.JoinedHosts.{JoinedHosts}
 use Rattle.unify.specs.Costing.{cost_begun}
@@ -35,25 +36,25 @@ if_hosts hosts_in hosts P (Err e) same holds = tt
 
 -- ---- what is left of hosts
 
-pub loaded_refused : (texts : List HostText) (keep_text : List ℕ) (f : Fault) → each host_of texts ≡ Err f → others_loaded texts keep_text ≡ Err f
+pub loaded_refused : (texts : List HostText) (keep : KeepRules) (f : Fault) → each host_of texts ≡ Err f → others_loaded texts keep ≡ Err f
 unfolding others_loaded
-loaded_refused texts keep_text f h = rw h refl
+loaded_refused texts keep f h = rw h refl
 
-pub loaded_behind : (texts : List HostText) (keep_text : List ℕ) (loaded : List Loaded) → each host_of texts ≡ Ok loaded → others_loaded texts keep_text ≡ others_read keep_text (map (λ l. l.host) loaded)
+pub loaded_behind : (texts : List HostText) (keep : KeepRules) (loaded : List Loaded) → each host_of texts ≡ Ok loaded → others_loaded texts keep ≡ others_read keep (map (λ l. l.host) loaded)
 unfolding others_loaded
-loaded_behind texts keep_text loaded h = rw h refl
+loaded_behind texts keep loaded h = rw h refl
 
-pub as_many_left : (keep_text : List ℕ) (hosts : List Host) (result : Result OtherHosts Fault) → Gives others_in told result (others_read keep_text hosts) → IfOk result (λ others. length others.hosts.items ≡ length hosts)
-as_many_left keep_text hosts (Ok others) h =
-    let by = others-by keep_text hosts (others_in others) h in
-    sym (ap (λ (o : Others). length o.hosts) by.are) ∙ length-map hosts (left by.keep hosts)
-as_many_left keep_text hosts (Err e) h = tt
+pub as_many_left : (keep : KeepRules) (hosts : List Host) (result : Result OtherHosts Fault) → Gives others_in told result (others_read keep hosts) → IfOk result (λ others. length others.hosts.items ≡ length hosts)
+as_many_left keep hosts (Ok others) h =
+    let by = others-by keep hosts (others_in others) h in
+    sym (ap (λ (o : Others). length o.hosts) by.are) ∙ length-map hosts (left by.keep hosts keep.unowned)
+as_many_left keep hosts (Err e) h = tt
 
-pub left_are_lawful : (keep_text : List ℕ) (hosts : List Host) → All IsLawfulHost hosts → (result : Result OtherHosts Fault) → Gives others_in told result (others_read keep_text hosts) → IfOk result (λ others. All IsLawfulHost others.hosts.items)
-left_are_lawful keep_text hosts lawful (Ok others) h =
-    let by = others-by keep_text hosts (others_in others) h in
-    subst (λ (o : Others). All IsLawfulHost o.hosts) by.are (left-lawful by.keep hosts lawful)
-left_are_lawful keep_text hosts lawful (Err e) h = tt
+pub left_are_lawful : (keep : KeepRules) (hosts : List Host) → All IsLawfulHost hosts → (result : Result OtherHosts Fault) → Gives others_in told result (others_read keep hosts) → IfOk result (λ others. All IsLawfulHost others.hosts.items)
+left_are_lawful keep hosts lawful (Ok others) h =
+    let by = others-by keep hosts (others_in others) h in
+    subst (λ (o : Others). All IsLawfulHost o.hosts) by.are (left-lawful by.keep hosts keep.unowned lawful)
+left_are_lawful keep hosts lawful (Err e) h = tt
 
 -- ---- what is joined, and what is counted
 
@@ -75,11 +76,11 @@ module _ (texts : List HostText) (u : Unit {0}) (listed : in_site (hosts_checked
   begun_held rules pins same o (Err e) site hosts =
       passed_on (told e) (pinned_site (others_in others) pins) (site_begun texts rules) (λ f h. join_refused texts rules u listed (others_in others) o f (ap (pinned_site (others_in others)) (sym same) ∙ h)) site
 
-  pub counted_held : (keep_text map_text : List ℕ) → others_loaded texts keep_text ≡ Ok (others_in others) → (result : Result MappedHosts Fault) → Gives (λ held. held.names) told result (mapped_names map_text others.hosts.items)
-      → IfOk result (λ held. held.hosts.items ≡ others.hosts.items) → Yields (λ begun held. (held.hosts.items ≡ begun.hosts) × (held.names ≡ begun.names)) told result (cost_begun texts keep_text map_text)
-  counted_held keep_text map_text o (Ok held) names hosts = (
+  pub counted_held : (keep : KeepRules) (map_text : List ℕ) → others_loaded texts keep ≡ Ok (others_in others) → (result : Result MappedHosts Fault) → Gives (λ held. held.names) told result (mapped_names map_text others.hosts.items)
+      → IfOk result (λ held. held.hosts.items ≡ others.hosts.items) → Yields (λ begun held. (held.hosts.items ≡ begun.hosts) × (held.names ≡ begun.names)) told result (cost_begun texts keep map_text)
+  counted_held keep map_text o (Ok held) names hosts = (
     record { hosts = others.hosts.items; names = held.names },
-    count.begun_is texts keep_text map_text u listed (others_in others) o held.names names,
+    count.begun_is texts keep map_text u listed (others_in others) o held.names names,
     (hosts, refl),
   )
-  counted_held keep_text map_text o (Err e) names hosts = passed_on (told e) (mapped_names map_text others.hosts.items) (cost_begun texts keep_text map_text) (count.names_refused texts keep_text map_text u listed (others_in others) o) names
+  counted_held keep map_text o (Err e) names hosts = passed_on (told e) (mapped_names map_text others.hosts.items) (cost_begun texts keep map_text) (count.names_refused texts keep map_text u listed (others_in others) o) names

@@ -14,14 +14,16 @@ use Rattle.hosts_join.specs.declared.host.Host.{Host}
 use Rattle.hosts_join.specs.declared.texts.HostText.{HostText}
 use Rattle.hosts_join.proofs.Knowing.{site-is, sites_know}
 use Rattle.hosts_join.proofs.SiteLemmas.{sites_are_lawful, pins_are_pins}
+use Rattle.kept_accounts.specs.Reserving.{UnownedNumbers}
 use Rattle.mergedfiles.specs.InPart.{WasReadInPart}
 use Rattle.unify.specs.declared.host.Loaded.{Loaded}
+use Rattle.unify.specs.declared.rules.KeepRules.{KeepRules}
 use Rattle.unify.specs.declared.rules.SiteRules.{SiteRules}
 use Rattle.unify.specs.Count.{site_of}
 use Rattle.unify.specs.Hosts.{host_of}
 use Rattle.unify.specs.Laws.{ReadHostsSpareNothing, ReadSitesAreWhole}
 use Rattle.unify.specs.Loading.{loaded_from}
-use Rattle.unify.specs.Others.{Others, others_loaded, others_read, pinned_site, reserving}
+use Rattle.unify.specs.Others.{Others, keeping_nothing, others_loaded, others_read, pinned_site, reserving}
 use Rattle.unify.specs.Outcomes.{hosts_in}
 use Rattle.unify.specs.Passes.{AreTogether}
 use Rattle.unify.specs.Reading.{WholeSite, site_read}
@@ -38,23 +40,23 @@ pins-ok (Err e) x h = absurd (cc)
 
 -- ---- what is joined of the hosts that were loaded
 
-pub record AreLoaded (texts : List HostText) (keep_text : List ℕ) (others : Others) : Type 0 where
+pub record AreLoaded (texts : List HostText) (keep : KeepRules) (others : Others) : Type 0 where
   pub loaded : List Loaded
   pub hosts_are : each host_of texts ≡ Ok loaded
-  pub by : AreOthersBy keep_text (map (λ l. l.host) loaded) others
+  pub by : AreOthersBy keep (map (λ l. l.host) loaded) others
 
-pub are-loaded : (texts : List HostText) (keep_text : List ℕ) (others : Others) → others_loaded texts keep_text ≡ Ok others → AreLoaded texts keep_text others
+pub are-loaded : (texts : List HostText) (keep : KeepRules) (others : Others) → others_loaded texts keep ≡ Ok others → AreLoaded texts keep others
 unfolding others_loaded
-are-loaded texts keep_text others h =
-    let loading = bind_ok (each host_of texts) (λ loaded. others_read keep_text (map (λ (l : Loaded). l.host) loaded)) others h in
-    record { loaded = loading.0; hosts_are = loading.1; by = others-by keep_text (map (λ (l : Loaded). l.host) loading.0) others loading.2 }
+are-loaded texts keep others h =
+    let loading = bind_ok (each host_of texts) (λ loaded. others_read keep (map (λ (l : Loaded). l.host) loaded)) others h in
+    record { loaded = loading.0; hosts_are = loading.1; by = others-by keep (map (λ (l : Loaded). l.host) loading.0) others loading.2 }
 
 -- there are as many as texts
-pub as-many-others : (texts : List HostText) (keep_text : List ℕ) (others : Others) → others_loaded texts keep_text ≡ Ok others → length others.hosts ≡ length texts
-as-many-others texts keep_text others h =
-    let from = are-loaded texts keep_text others h in
+pub as-many-others : (texts : List HostText) (keep : KeepRules) (others : Others) → others_loaded texts keep ≡ Ok others → length others.hosts ≡ length texts
+as-many-others texts keep others h =
+    let from = are-loaded texts keep others h in
     let full = map (λ (l : Loaded). l.host) from.loaded in
-    sym (ap (λ (o : Others). length o.hosts) from.by.are) ∙ length-map full (left from.by.keep full) ∙ length-map from.loaded (λ (l : Loaded). l.host) ∙ length-each host_of texts from.loaded from.hosts_are
+    sym (ap (λ (o : Others). length o.hosts) from.by.are) ∙ length-map full (left from.by.keep full keep.unowned) ∙ length-map from.loaded (λ (l : Loaded). l.host) ∙ length-each host_of texts from.loaded from.hosts_are
 
 pub record ArePinned (others : Others) (pins_text : List ℕ) (joined : Joined) : Type 0 where
   pub pins : PinPairs
@@ -81,24 +83,24 @@ others-together texts rules u others joined listed o j =
     let from = are-loaded texts rules.keep others o in
     let full : List Host = map (λ l. l.host) from.loaded in
     let keep = from.by.keep in
-    let same : map (left keep full) full ≡ others.hosts = ap (λ (x : Others). x.hosts) from.by.are in
+    let same : map (left keep full rules.keep.unowned) full ≡ others.hosts = ap (λ (x : Others). x.hosts) from.by.are in
     let pinned = are-pinned others rules.pins joined j in
     let pins : PinPairs = reserving others pinned.pins in
     let are_pins = pins_are_pins rules.pins pinned.pins pinned.pins_are in
     let reserved = reserved-are others rules.pins joined pinned in
-    let lawful : All IsLawfulHost others.hosts = subst (λ hs. All IsLawfulHost hs) same (left-lawful keep full (loaded-lawful texts from.loaded from.hosts_are)) in
+    let lawful : All IsLawfulHost others.hosts = subst (λ hs. All IsLawfulHost hs) same (left-lawful keep full rules.keep.unowned (loaded-lawful texts from.loaded from.hosts_are)) in
     let few : length others.hosts ≤ 64 = omega (arith, hosts-few texts u listed, as-many-others texts rules.keep others o) in
     record {
       few = few;
-      read = subst (λ hs. All WasReadInPart hs) same (left-read keep full (loaded-read texts from.loaded from.hosts_are));
+      read = subst (λ hs. All WasReadInPart hs) same (left-read keep full rules.keep.unowned (loaded-read texts from.loaded from.hosts_are));
       lawful = lawful;
       together = together others.hosts pins joined pinned.joined_is;
       known = sites_know others.hosts pins joined lawful pinned.joined_is;
       spares = subst (λ hs. All (SparesReserved joined) hs) same
-          (left-spares keep full from.by.users_owned from.by.groups_owned joined (ap (λ (x : Others). x.reserved_users) from.by.are ∙ reserved.0) (ap (λ (x : Others). x.reserved_groups) from.by.are ∙ reserved.1));
+          (left-spares keep full rules.keep.unowned joined (ap (λ (x : Others). x.reserved_users) from.by.are ∙ reserved.0) (ap (λ (x : Others). x.reserved_groups) from.by.are ∙ reserved.1));
       leaves = leaves_reserved others.hosts pins joined pinned.joined_is;
       accounts = sites_are_lawful others.hosts pins joined few lawful (record { user_pins = are_pins.user_pins; group_pins = are_pins.group_pins }) pinned.joined_is;
-      named = subst (λ hs. All (λ (h : Host). is_host_name h.name ≡ true) hs) same (left-named keep full (loaded-named texts from.loaded from.hosts_are (texts-named texts u listed)));
+      named = subst (λ hs. All (λ (h : Host). is_host_name h.name ≡ true) hs) same (left-named keep full rules.keep.unowned (loaded-named texts from.loaded from.hosts_are (texts-named texts u listed)));
     }
 
 -- ---- a site, step by step
@@ -145,18 +147,18 @@ read_sites_are_whole texts rules site h =
 -- ---- an empty keep text
 
 -- what is joined are all rows of the hosts
-pub all-joined : (texts : List HostText) (others : Others) → (from : AreLoaded texts [] others) → others_loaded texts [] ≡ Ok others → record { hosts = map (λ l. l.host) from.loaded; reserved_users = []; reserved_groups = [] } ≡ others
+pub all-joined : (texts : List HostText) (unowned : UnownedNumbers) (others : Others) → (from : AreLoaded texts (keeping_nothing unowned) others) → others_loaded texts (keeping_nothing unowned) ≡ Ok others → record { hosts = map (λ l. l.host) from.loaded; reserved_users = []; reserved_groups = [] } ≡ others
 unfolding others_loaded
-all-joined texts others from h =
+all-joined texts unowned others from h =
     let full : List Host = map (λ l. l.host) from.loaded in
-    let whole = all-left full (loaded-unsparing texts from.loaded from.hosts_are) in
-    let read : others_read [] full ≡ Ok others = rw from.hosts_are at h in
+    let whole = all-left full unowned (loaded-unsparing texts from.loaded from.hosts_are) in
+    let read : others_read (keeping_nothing unowned) full ≡ Ok others = rw from.hosts_are at h in
     ok_same (record { hosts = full; reserved_users = []; reserved_groups = [] }) others (sym whole ∙ read)
 
 pub read_hosts_spare_nothing : ReadHostsSpareNothing
-read_hosts_spare_nothing texts pins_text site h =
-    let rules : SiteRules = record { pins = pins_text; keep = [] } in
+read_hosts_spare_nothing texts pins_text unowned site h =
+    let rules : SiteRules = record { pins = pins_text; keep = keeping_nothing unowned } in
     let s = steps texts rules site h in
-    let from = are-loaded texts [] s.others s.others_are in
-    let same = ap (λ (o : Others). o.hosts) (all-joined texts s.others from s.others_are) ∙ hosts-are texts rules site s in
+    let from = are-loaded texts (keeping_nothing unowned) s.others s.others_are in
+    let same = ap (λ (o : Others). o.hosts) (all-joined texts unowned s.others from s.others_are) ∙ hosts-are texts rules site s in
     subst (λ hs. All SparesNothing hs) same (loaded-unsparing texts from.loaded from.hosts_are)

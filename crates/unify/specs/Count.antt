@@ -18,6 +18,7 @@ use Rattle.unify_texts.specs.Maps.{map_of}
 use Rattle.hosts_join.specs.declared.host.Host.{Host}
 use Rattle.unify.specs.declared.host.Loaded.{Loaded}
 use Rattle.unify.specs.declared.counting.Cost.{Cost}
+use Rattle.unify.specs.declared.rules.KeepRules.{KeepRules}
 use Rattle.unify.specs.Told.{in_site}
 use Rattle.unify.specs.Hosts.{files_of}
 use Rattle.unify.specs.Loading.{loaded_from}
@@ -67,9 +68,9 @@ site_of loaded = files_of loaded >>= λ files. Ok (loaded.host, files)
 abbrev pub total_of : MapText → Result (List (Host × List Entry)) Fault → Result Cost Fault
 total_of pairs sites = sites >>= λ all. Ok (cost_of pairs all)
 
-unfoldable pub count_of : List HostText → List ℕ → List ℕ → Result Cost Fault
-count_of texts keep_text map_text = do
+unfoldable pub count_of : List HostText → KeepRules → List ℕ → Result Cost Fault
+count_of texts keep map_text = do
   listed ← in_site (hosts_checked texts)
-  others ← others_loaded texts keep_text
+  others ← others_loaded texts keep
   pairs ← mapped_names map_text others.hosts
   total_of pairs (each site_of (loaded_from others.hosts (map (λ t. t.mtree) texts)))

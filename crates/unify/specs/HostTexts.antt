@@ -9,6 +9,7 @@ use Rattle.hosts_join.specs.Rules.{is_name, is_reserved}
 use Rattle.hosts_join.specs.Site.{Joined}
 use Rattle.hosts_join.specs.declared.host.Host.{Host}
 use Rattle.hosts_join.specs.declared.texts.HostText.{HostText}
+use Rattle.kept_accounts.specs.Reserving.{UnownedNumbers}
 use Rattle.mtree_inv.specs.declared.entry.Entry.{Entry}
 use Rattle.ownership.specs.Mappings.{Mappings}
 use Rattle.mergedfiles.specs.FullTables.{IsFullPasswd, IsFullGroupFile}
@@ -24,6 +25,7 @@ use Rattle.unify.specs.declared.site_files.SiteFiles.{SiteFiles}
 use Rattle.unify.specs.Headline.{Headline, PlanKeepsNames}
 use Rattle.unify.specs.Hosts.{host_of}
 use Rattle.unify.specs.Laws.{IsWhole}
+use Rattle.unify.specs.Others.{keeping_nothing}
 use Rattle.unify.specs.Outcomes.{IsOutcome, hosts_in}
 use Rattle.unify.specs.Passes.{BegunSite, site_begun}
 use Rattle.unify.specs.Reading.{WholeSite, site_read}
@@ -97,13 +99,15 @@ pub record AreJoinedInFull (hosts : List Host) (texts : List HostText) : Type 0 
 -- So it is for the hosts of a site that is read with an empty keep text, before its inventories are
 -- read, and behind them.
 abbrev pub BegunSitesAreInFull : Type 0
-BegunSitesAreInFull = (texts : List HostText) (pins : List ℕ) (begun : BegunSite)
-    → site_begun texts (record { pins = pins; keep = [] }) ≡ Ok begun
+BegunSitesAreInFull = (texts : List HostText) (pins : List ℕ) (unowned : UnownedNumbers)
+    (begun : BegunSite)
+    → site_begun texts (record { pins = pins; keep = keeping_nothing unowned }) ≡ Ok begun
     → AreJoinedInFull begun.hosts texts
 
 abbrev pub ReadSitesAreInFull : Type 0
-ReadSitesAreInFull = (texts : List HostText) (pins : List ℕ) (site : WholeSite)
-    → site_read texts (record { pins = pins; keep = [] }) ≡ Ok site
+ReadSitesAreInFull = (texts : List HostText) (pins : List ℕ) (unowned : UnownedNumbers)
+    (site : WholeSite)
+    → site_read texts (record { pins = pins; keep = keeping_nothing unowned }) ≡ Ok site
     → AreJoinedInFull (hosts_in site) texts
 
 -- ---- what its own files say

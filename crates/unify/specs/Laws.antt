@@ -15,6 +15,7 @@ use Rattle.hosts_join.specs.Laws.{HasLawfulAccounts, KnowsHost}
 use Rattle.hosts_join.specs.Site.{Joined, joined_site}
 use Rattle.hosts_join.specs.declared.host.Host.{Host}
 use Rattle.hosts_join.specs.declared.texts.HostText.{HostText}
+use Rattle.kept_accounts.specs.Reserving.{UnownedNumbers}
 use Rattle.mergedfiles.specs.InPart.{WasReadInPart}
 use Rattle.mergedfiles.specs.Together.{AreJoined}
 use Rattle.ownership.specs.Faults.{unowned}
@@ -24,12 +25,13 @@ use Rattle.unify_texts.specs.declared.map_text.MapText.{MapText}
 use Rattle.unify_texts.specs.Maps.{map_of}
 use Rattle.unify_texts.specs.WrittenMap.{SayMapping}
 use Rattle.unify.specs.declared.counting.Cost.{Cost}
+use Rattle.unify.specs.declared.rules.KeepRules.{KeepRules}
 use Rattle.unify.specs.declared.rules.SiteRules.{SiteRules}
 use Rattle.unify.specs.Cost.{cost_of}
 use Rattle.unify.specs.Count.{count_of, names_checked, site_of, total_of}
 use Rattle.unify.specs.Hosts.{host_of}
 use Rattle.unify.specs.Loading.{loaded_from}
-use Rattle.unify.specs.Others.{others_loaded, reserving}
+use Rattle.unify.specs.Others.{keeping_nothing, others_loaded, reserving}
 use Rattle.unify.specs.Outcomes.{cost_in, hosts_in}
 use Rattle.unify.specs.Passes.{site_begun}
 use Rattle.unify.specs.Sparing.{AreAllowed, AreOwnedOrReserved, LeavesItsReserved, SparesNothing}
@@ -95,23 +97,24 @@ NothingSparedAllOwned = (site : WholeSite) → IsWhole site
 
 -- and no host does that was read from texts with an empty keep text
 abbrev pub ReadHostsSpareNothing : Type 0
-ReadHostsSpareNothing = (texts : List HostText) (pins_text : List ℕ) (site : WholeSite)
-    → site_read texts (record { pins = pins_text; keep = [] }) ≡ Ok site
+ReadHostsSpareNothing = (texts : List HostText) (pins_text : List ℕ) (unowned : UnownedNumbers)
+    (site : WholeSite)
+    → site_read texts (record { pins = pins_text; keep = keeping_nothing unowned }) ≡ Ok site
     → All SparesNothing (hosts_in site)
 
--- what the texts of hosts and a keep text say of a site, where there is no pins text
-abbrev pub site_without_pins : List HostText → List ℕ → Result WholeSite Fault
-site_without_pins texts keep_text = do
+-- what the texts of hosts and what is to stay say of a site, where there is no pins text
+abbrev pub site_without_pins : List HostText → KeepRules → Result WholeSite Fault
+site_without_pins texts keep = do
   listed ← in_site (hosts_checked texts)
-  others ← others_loaded texts keep_text
+  others ← others_loaded texts keep
   joined ← in_site (joined_site others.hosts (reserving others no_pins))
   hosts ← each site_of (loaded_from others.hosts (map (λ t. t.mtree) texts))
   Ok (record { hosts = hosts; joined = joined })
 
 -- an empty pins text is as none
 abbrev pub EmptyPinsAreNone : Type 0
-EmptyPinsAreNone = (texts : List HostText) (keep_text : List ℕ)
-    → site_read texts (record { pins = []; keep = keep_text }) ≡ site_without_pins texts keep_text
+EmptyPinsAreNone = (texts : List HostText) (keep : KeepRules)
+    → site_read texts (record { pins = []; keep = keep }) ≡ site_without_pins texts keep
 
 -- what the texts of hosts and a pins text say of a site, where there is no keep text
 abbrev pub site_without_keep : List HostText → List ℕ → Result WholeSite Fault
@@ -134,12 +137,13 @@ count_without_keep texts map_text = do
 
 -- an empty keep text is as none
 abbrev pub EmptyKeepIsNone : Type 0
-EmptyKeepIsNone = (texts : List HostText) (pins_text : List ℕ)
-    → site_read texts (record { pins = pins_text; keep = [] }) ≡ site_without_keep texts pins_text
+EmptyKeepIsNone = (texts : List HostText) (pins_text : List ℕ) (unowned : UnownedNumbers)
+    → site_read texts (record { pins = pins_text; keep = keeping_nothing unowned })
+    ≡ site_without_keep texts pins_text
 
 abbrev pub EmptyKeepCountsAll : Type 0
-EmptyKeepCountsAll = (texts : List HostText) (map_text : List ℕ)
-    → count_of texts [] map_text ≡ count_without_keep texts map_text
+EmptyKeepCountsAll = (texts : List HostText) (unowned : UnownedNumbers) (map_text : List ℕ)
+    → count_of texts (keeping_nothing unowned) map_text ≡ count_without_keep texts map_text
 
 -- what the texts of hosts say of a site is what comes before the inventories, and then, host by
 -- host, what the inventories say

@@ -1,6 +1,6 @@
 -- What of the hosts of a site is joined, by a keep text, and which numbers no name is to be given.
 -- Source: this project's own rule.
-use Rattle.std.specs.Prelude.{ℕ, ◌||◌, List, [], map, Result, Ok, Err, if◌then◌else◌}
+use Rattle.std.specs.Prelude.{ℕ, List, [], map, Result, Ok}
 use Rattle.idtext.specs.First.{◌>>=◌, each}
 use Rattle.hosts_join.specs.PinPairs.{PinPairs}
 use Rattle.hosts_join.specs.PinsText.{pins_of}
@@ -11,9 +11,9 @@ use Rattle.hosts_join.specs.declared.texts.HostText.{HostText}
 use Rattle.keep_text.specs.KeepTexts.{keep_of}
 use Rattle.keep_text.specs.declared.keep_text.KeepText.{KeepText}
 use Rattle.kept_accounts.specs.Others.{without_kept}
-use Rattle.kept_accounts.specs.Reserving.{reserved_users, reserved_groups}
+use Rattle.kept_accounts.specs.Reserving.{UnownedNumbers, reserved_users, reserved_groups}
 use Rattle.unify_texts.specs.declared.fault.Fault.{Fault}
-use Rattle.unify_texts.specs.declared.fault.Fault.TheVariants.{BadKeep}
+use Rattle.unify.specs.declared.rules.KeepRules.{KeepRules}
 use Rattle.unify.specs.Hosts.{host_of}
 use Rattle.unify.specs.Told.{in_keep, in_pins, in_site}
 
@@ -23,31 +23,30 @@ pub record Others : Type 0 where
   pub reserved_users : List Reserved
   pub reserved_groups : List Reserved
 
-abbrev pub others_of : KeepText → List Host → Others
-others_of keep hosts = record {
-  hosts = map (without_kept keep hosts) hosts;
-  reserved_users = reserved_users keep hosts [];
-  reserved_groups = reserved_groups keep hosts [];
+abbrev pub others_of : KeepText → List Host → UnownedNumbers → Others
+others_of keep hosts unowned = record {
+  hosts = map (without_kept keep hosts unowned) hosts;
+  reserved_users = reserved_users keep hosts unowned.users;
+  reserved_groups = reserved_groups keep hosts unowned.groups;
 }
 
--- Which numbers without an account the files of hosts have the inventories alone tell, which are
--- read behind the join. So a text that keeps such numbers is refused, and as a whole: at line 0.
-abbrev pub without_unowned : KeepText → Result KeepText Fault
-without_unowned keep =
-    if keep.users.unowned || keep.groups.unowned then Err (BadKeep 0) else Ok keep
+-- an empty keep text; which numbers it is given beside counts for nothing
+abbrev pub keeping_nothing : UnownedNumbers → KeepRules
+keeping_nothing unowned = record { text = []; unowned = unowned }
 
--- what a keep text says, where it may say it
+-- what a keep text says
 abbrev pub keep_read : List ℕ → Result KeepText Fault
-keep_read text = in_keep (keep_of text) >>= without_unowned
+keep_read text = in_keep (keep_of text)
 
--- what of these hosts is joined, by a keep text
-unfoldable pub others_read : List ℕ → List Host → Result Others Fault
-others_read text hosts = keep_read text >>= λ keep. Ok (others_of keep hosts)
+-- what of these hosts is joined, by what is to stay
+unfoldable pub others_read : KeepRules → List Host → Result Others Fault
+others_read rules hosts =
+    keep_read rules.text >>= λ keep. Ok (others_of keep hosts rules.unowned)
 
 -- what of the hosts of a site is joined: host by host the files but the inventory; the keep text
-unfoldable pub others_loaded : List HostText → List ℕ → Result Others Fault
-others_loaded texts keep_text =
-    each host_of texts >>= λ loaded. others_read keep_text (map (λ l. l.host) loaded)
+unfoldable pub others_loaded : List HostText → KeepRules → Result Others Fault
+others_loaded texts rules =
+    each host_of texts >>= λ loaded. others_read rules (map (λ l. l.host) loaded)
 
 -- pins, with the numbers that no name is to be given
 abbrev pub reserving : Others → PinPairs → PinPairs

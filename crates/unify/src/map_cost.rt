@@ -17,6 +17,7 @@ use crate::counting::{Cost, check_list, check_names};
 use crate::inventories::Inventories;
 use crate::others::OtherHosts;
 use crate::row_files::RowFiles;
+use crate::rules::KeepRules;
 use crate::site::load_others;
 use hosts_join::{Host, HostText, PairTable};
 use std::alloc::Global;
@@ -57,7 +58,7 @@ fn map_others<'a>(
 fn map_tables<'a>(
     alloc: Global,
     texts: &'a [HostText],
-    keep: &'a [u8],
+    keep: &KeepRules<'a>,
     map: &'a [u8],
 ) -> Result<MappedHosts<'a>, Fault<'a>>
     ensures begun { Yields (λ begun held. (held.hosts.items ≡ begun.hosts)
@@ -75,14 +76,14 @@ fn map_tables<'a>(
 /// are not looked at.
 ///
 /// It refuses with the first fault in this order: the host list; host by host login.defs, passwd,
-/// group and the primary groups; the keep text, by line, and then at line 0 where it keeps numbers
-/// without an account; the map, by line, and then at line 0 where its names are not exactly those
-/// names of the hosts that are not kept. `Fault::Memory` is a growth that was refused. One pass
-/// over each text, and the map's names are looked up on each host.
+/// group and the primary groups; the keep text, by line; the map, by line, and then at line 0 where
+/// its names are not exactly those names of the hosts that are not kept. `Fault::Memory` is a
+/// growth that was refused. One pass over each text, and the map's names are looked up on each
+/// host.
 pub fn begin_count<'a>(
     alloc: Global,
     texts: &'a [HostText],
-    keep: &'a [u8],
+    keep: &KeepRules<'a>,
     map: &'a [u8],
 ) -> Result<MappedSite<'a>, Fault<'a>>
     ensures begun { Yields IsBegunCost told result (cost_begun texts.now keep.now map.now) }

@@ -15,7 +15,8 @@ ghost use Rattle.unify.specs.Told.{in_keep};
 
 use hosts_join::{Groups, Host, Reserved, Users};
 use keep_text::{KeepFault, KeepText, read_keep};
-use kept_accounts::KeptAccounts;
+use crate::rules::KeepRules;
+use kept_accounts::{KeptAccounts, UnownedNumbers};
 use std::alloc::{AllocError, Global};
 use unify_texts::Fault;
 
@@ -33,9 +34,9 @@ pub struct OtherHosts<'a> {
     pub reserved: ReservedNumbers<'a>,
 }
 
-// What a keep text says.
-fn keep_at<'a>(alloc: Global, text: &'a [u8]) -> Result<KeepText<'a>, Fault<'a>>
-    ensures { Gives (λ keep. keep) told result (in_keep (keep_of text.now)) }
+/// What a keep text says. One pass over it, with a look-up by hash for each name.
+pub fn load_keep<'a>(alloc: Global, text: &'a [u8]) -> Result<KeepText<'a>, Fault<'a>>
+    ensures { Gives (λ keep. keep) told result (keep_read text.now) }
 {
     match read_keep(alloc, text) {
         Ok(keep) => Ok(keep),
@@ -44,37 +45,27 @@ fn keep_at<'a>(alloc: Global, text: &'a [u8]) -> Result<KeepText<'a>, Fault<'a>>
     }
 }
 
-// What a keep text says that keeps no numbers without an account.
-fn load_keep<'a>(alloc: Global, text: &'a [u8]) -> Result<KeepText<'a>, Fault<'a>>
-    ensures { Gives (λ keep. keep) told result (keep_read text.now) }
-{
-    let keep = keep_at(alloc, text)?;
-    if keep.users.unowned || keep.groups.unowned {
-        return Err(Fault::BadKeep(0));
-    }
-    Ok(keep)
-}
-
-// The numbers of kept names and in listed ranges.
+// The numbers in listed ranges, those of kept names, and those without an account that stay.
 fn reserve<'a>(
     alloc: Global,
     kept: &KeptAccounts<'a>,
     keep: &KeepText<'_>,
     hosts: &[Host<'a>],
+    unowned: &UnownedNumbers<'a>,
 ) -> Result<ReservedNumbers<'a>, AllocError>
     requires users { IsKeeping keep.now.users (users_on hosts.now) kept.now.users }
     requires groups { IsKeeping keep.now.groups (groups_on hosts.now) kept.now.groups }
     ensures users { IfOk result
-        (λ reserved. reserved.users.items ≡ reserved_users keep.now hosts.now []) }
+        (λ reserved. reserved.users.items ≡ reserved_users keep.now hosts.now unowned.now.users) }
     ensures groups { IfOk result
-        (λ reserved. reserved.groups.items ≡ reserved_groups keep.now hosts.now []) }
+        (λ reserved. reserved.groups.items ≡ reserved_groups keep.now hosts.now unowned.now.groups) }
 {
     let users = kept
         .users
-        .reserved::<Users>(alloc, &keep.users, hosts, &[])?;
+        .reserved::<Users>(alloc, &keep.users, hosts, &unowned.users)?;
     let groups = kept
         .groups
-        .reserved::<Groups>(alloc, &keep.groups, hosts, &[])?;
+        .reserved::<Groups>(alloc, &keep.groups, hosts, &unowned.groups)?;
     Ok(ReservedNumbers { users, groups })
 }
 
@@ -84,13 +75,15 @@ fn leave_kept<'a>(
     kept: &KeptAccounts<'a>,
     keep: &KeepText<'_>,
     hosts: &[Host<'a>],
+    unowned: &UnownedNumbers<'a>,
 ) -> Result<Vec<Host<'a>>, AllocError>
     ensures { IfOk result (λ others. others.items
-        ≡ map (without keep.now (keeps kept.now.users) (keeps kept.now.groups)) hosts.now) }
+        ≡ map (without keep.now (keeps kept.now.users) (keeps kept.now.groups) unowned.now)
+        hosts.now) }
 {
     let mut others = Vec::new(alloc);
     for host in hosts {
-        others.push(kept.without_kept(alloc, keep, host)?)?;
+        others.push(kept.without_kept(alloc, keep, host, unowned)?)?;
     }
     Ok(others)
 }
@@ -101,13 +94,14 @@ fn without_these<'a>(
     kept: &KeptAccounts<'a>,
     keep: &KeepText<'_>,
     hosts: &[Host<'a>],
+    unowned: &UnownedNumbers<'a>,
 ) -> Result<OtherHosts<'a>, AllocError>
     requires users { IsKeeping keep.now.users (users_on hosts.now) kept.now.users }
     requires groups { IsKeeping keep.now.groups (groups_on hosts.now) kept.now.groups }
-    ensures { IfOk result (λ others. others_in others ≡ others_of keep.now hosts.now) }
+    ensures { IfOk result (λ others. others_in others ≡ others_of keep.now hosts.now unowned.now) }
 {
-    let reserved = reserve(alloc, kept, keep, hosts)?;
-    let hosts = leave_kept(alloc, kept, keep, hosts)?;
+    let reserved = reserve(alloc, kept, keep, hosts, unowned)?;
+    let hosts = leave_kept(alloc, kept, keep, hosts, unowned)?;
     Ok(OtherHosts { hosts, reserved })
 }
 
@@ -116,23 +110,24 @@ fn without_kept<'a>(
     alloc: Global,
     keep: &KeepText<'_>,
     hosts: &[Host<'a>],
+    unowned: &UnownedNumbers<'a>,
 ) -> Result<OtherHosts<'a>, AllocError>
-    ensures { IfOk result (λ others. others_in others ≡ others_of keep.now hosts.now) }
+    ensures { IfOk result (λ others. others_in others ≡ others_of keep.now hosts.now unowned.now) }
 {
     let kept = KeptAccounts::of(alloc, keep, hosts)?;
-    without_these(alloc, &kept, keep, hosts)
+    without_these(alloc, &kept, keep, hosts, unowned)
 }
 
 // What of the hosts is joined, by a text that is not empty.
 fn other_hosts_by<'a>(
     alloc: Global,
-    keep: &'a [u8],
+    rules: &KeepRules<'a>,
     hosts: &[Host<'a>],
 ) -> Result<OtherHosts<'a>, Fault<'a>>
-    ensures { Gives others_in told result (others_read keep.now hosts.now) }
+    ensures { Gives others_in told result (others_read rules.now hosts.now) }
 {
-    let keep = load_keep(alloc, keep)?;
-    Ok(without_kept(alloc, &keep, hosts)?)
+    let keep = load_keep(alloc, rules.text.bytes())?;
+    Ok(without_kept(alloc, &keep, hosts, &rules.unowned)?)
 }
 
 // All rows of the hosts, where nothing is kept.
@@ -152,24 +147,24 @@ fn all_hosts(alloc: Global, hosts: Vec<Host<'_>>) -> OtherHosts<'_>
     }
 }
 
-/// What of the hosts is joined, by a keep text, and which numbers no name is to be given. Asked is
-/// that the hosts spare no number as yet. With the empty text they go on as they are, and nothing
-/// is copied.
+/// What of the hosts is joined, by what is to stay, and which numbers no name is to be given. Asked
+/// is that the hosts spare no number as yet. With the empty keep text they go on as they are, and
+/// nothing is copied.
 ///
-/// It refuses with `BadKeep` a line of the text, and then at line 0 a text that keeps numbers
-/// without an account. `Fault::Memory` is a growth that was refused. One pass over the text, and a
-/// few over the rows of the hosts, with a few look-ups by hash for each; of what is left it makes
-/// copies, which borrow the hosts' texts.
+/// It refuses with `BadKeep` a line of the text. `Fault::Memory` is a growth that was refused. One
+/// pass over the text, a few over the rows of the hosts, with a few look-ups by hash for each, and
+/// for each host one look through the numbers without an account; of what is left it makes copies,
+/// which borrow the hosts' texts.
 pub fn other_hosts<'a>(
     alloc: Global,
-    keep: &'a [u8],
+    rules: &KeepRules<'a>,
     hosts: Vec<Host<'a>>,
 ) -> Result<OtherHosts<'a>, Fault<'a>>
     requires { All SparesNothing hosts.items }
-    ensures { Gives others_in told result (others_read keep.now hosts.entry.items) }
+    ensures { Gives others_in told result (others_read rules.now hosts.entry.items) }
 {
-    if keep.is_empty() {
+    if rules.text.bytes().is_empty() {
         return Ok(all_hosts(alloc, hosts));
     }
-    other_hosts_by(alloc, keep, &hosts)
+    other_hosts_by(alloc, rules, &hosts)
 }

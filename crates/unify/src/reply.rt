@@ -8,7 +8,7 @@ ghost use Rattle.unify.specs.Output.{counted, checked, answered};
 ghost use Rattle.unify.specs.Replies.{reply_of};
 
 use crate::counting::Cost;
-use crate::rules::SiteRules;
+use crate::rules::{KeepRules, SiteRules};
 use crate::texts::count;
 use crate::verifying::verify;
 use hosts_join::HostText;
@@ -77,13 +77,13 @@ pub fn cost_reply(alloc: Global, cost: Cost) -> Result<Reply, AllocError>
     })
 }
 
-/// What goes out for a count of these hosts with this keep text and this map: the two lines, or the
-/// fault line with its status. An error is a growth that was refused. It takes what `count` takes,
-/// and a line.
+/// What goes out for a count of these hosts with what is to stay and this map: the two lines, or
+/// the fault line with its status. An error is a growth that was refused. It takes what `count`
+/// takes, and a line.
 pub fn count_reply(
     alloc: Global,
     hosts: &[HostText],
-    keep: &[u8],
+    keep: &KeepRules<'_>,
     map: &[u8],
 ) -> Result<Reply, AllocError>
     ensures { IfOk result

@@ -19,7 +19,7 @@ use crate::counting::check_list;
 use crate::host::{load_hosts, site_fault};
 use crate::inventories::Inventories;
 use crate::others::{OtherHosts, ReservedNumbers, other_hosts};
-use crate::rules::SiteRules;
+use crate::rules::{KeepRules, SiteRules};
 use hosts_join::{Host, HostText, Pins, PinsFault, Site, join};
 use std::alloc::Global;
 use unify_texts::Fault;
@@ -103,9 +103,9 @@ fn join_others<'a>(
     Ok(JoinedHosts { hosts, site })
 }
 
-// Reads the files of all hosts but their inventories, as `load_hosts` does, and keeps the tables
-// alone.
-fn load_tables<'a>(alloc: Global, texts: &'a [HostText]) -> Result<Vec<Host<'a>>, Fault<'a>>
+/// Reads the files of all hosts but their inventories, as `load_hosts` does, and keeps the tables
+/// alone.
+pub fn load_tables<'a>(alloc: Global, texts: &'a [HostText]) -> Result<Vec<Host<'a>>, Fault<'a>>
     ensures read { Yields (λ loaded hosts. hosts.items ≡ map (λ l. l.host) loaded) told result
         (each host_of texts.now) }
     ensures len { IfOk result (λ hosts. length hosts.items ≡ length texts.now) }
@@ -120,7 +120,7 @@ fn load_tables<'a>(alloc: Global, texts: &'a [HostText]) -> Result<Vec<Host<'a>>
 pub fn load_others<'a>(
     alloc: Global,
     texts: &'a [HostText],
-    keep: &'a [u8],
+    keep: &KeepRules<'a>,
 ) -> Result<OtherHosts<'a>, Fault<'a>>
     ensures read { Gives others_in told result (others_loaded texts.now keep.now) }
     ensures len { IfOk result (λ others. length others.hosts.items ≡ length texts.now) }
@@ -140,7 +140,7 @@ fn join_tables<'a>(
     ensures hosts { IfOk result (λ begun. length begun.hosts.items ≡ length host_texts.now) }
 {
     check_list(host_texts)?;
-    let others = load_others(alloc, host_texts, rules.keep.bytes())?;
+    let others = load_others(alloc, host_texts, &rules.keep)?;
     join_others(alloc, others, rules.pins.bytes())
 }
 
@@ -148,10 +148,10 @@ fn join_tables<'a>(
 /// keep text, the pins text and the join.
 ///
 /// It refuses with the first fault in this order: the host list; host by host login.defs, passwd,
-/// group and the primary groups; the keep text, by line, and then at line 0 where it keeps numbers
-/// without an account; the pins text, by line; the join, users before groups. `Fault::Memory` is a
-/// growth that was refused. One pass over each text; the inventories are not read. Where the keep
-/// text is not empty, what is joined of the hosts is copied.
+/// group and the primary groups; the keep text, by line; the pins text, by line; the join, users
+/// before groups. `Fault::Memory` is a growth that was refused. One pass over each text; the
+/// inventories are not read. Where the keep text is not empty, what is joined of the hosts is
+/// copied.
 pub fn begin_site<'a>(
     alloc: Global,
     host_texts: &'a [HostText],

@@ -27,7 +27,7 @@ use crate::counting::Cost;
 use crate::inventories::Inventories;
 use crate::map_cost::begin_count;
 use crate::outcome::{Outcome, TextList};
-use crate::rules::SiteRules;
+use crate::rules::{KeepRules, SiteRules};
 use crate::site::{JoinedSite, begin_site};
 use crate::site_files::{SiteFiles, own_files};
 use crate::solved_pass::Solved;
@@ -73,10 +73,9 @@ fn count_texts<'a>(inventories: &mut Inventories<'a>, texts: &[HostText]) -> Res
 /// join, and then host by host the inventory, whose files are counted for their owners.
 ///
 /// It refuses with the first fault in this order: the host list; host by host login.defs, passwd,
-/// group and the primary groups; the keep text, by line, and then at line 0 where it keeps numbers
-/// without an account; the pins text, by line; the join, users before groups; host by host the
-/// inventory, by line, and then its owners in inventory order, uid before gid. `Fault::Memory` is a
-/// growth that was refused.
+/// group and the primary groups; the keep text, by line; the pins text, by line; the join, users
+/// before groups; host by host the inventory, by line, and then its owners in inventory order, uid
+/// before gid. `Fault::Memory` is a growth that was refused.
 ///
 /// What it answers has no host left, and can be solved or checked. It reads each text once, and
 /// each owner by hash, so it takes time linear in the texts. The paths of one inventory at a time
@@ -230,10 +229,9 @@ pub fn consolidate_hosts<'a>(
 /// pin and no pool.
 ///
 /// It refuses with the first fault in this order: the host list; host by host login.defs, passwd,
-/// group and the primary groups; the keep text, by line, and then at line 0 where it keeps numbers
-/// without an account; the map, by line, and then at line 0 where its names are not exactly those
-/// names; host by host the inventory, and then its owners. `Fault::Memory` is a growth that was
-/// refused.
+/// group and the primary groups; the keep text, by line; the map, by line, and then at line 0 where
+/// its names are not exactly those names; host by host the inventory, and then its owners.
+/// `Fault::Memory` is a growth that was refused.
 ///
 /// It reads each text once, and each owner by hash, so it takes time linear in the texts (a map's
 /// names are looked up on each host). It keeps the tables of all hosts, which borrow their texts,
@@ -241,7 +239,7 @@ pub fn consolidate_hosts<'a>(
 pub fn count<'a>(
     alloc: Global,
     hosts: &'a [HostText],
-    keep: &'a [u8],
+    keep: &KeepRules<'a>,
     map: &'a [u8],
 ) -> Result<Cost, Fault<'a>>
     ensures { Gives (λ cost. cost) told result (count_of hosts.now keep.now map.now) }

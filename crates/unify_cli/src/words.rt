@@ -8,7 +8,7 @@ use hosts_join::HostText;
 use idtext::ByteString;
 use inventory_files::run_inventory;
 use std::alloc::AllocError;
-use unify::{Cost, Reply, SiteRules, accepted_reply, cost_reply, refused, rehearse_reply};
+use unify::{Cost, Reply, accepted_reply, cost_reply, refused, rehearse_reply};
 use unify_apply::run_apply;
 use unify_io::{
     FileFault, SeenHosts, command_line, file_fault_told, memory_refused, no_host, open_output,
@@ -134,10 +134,19 @@ fn check_by(
     files: &mut HostFiles<'_>,
     hosts: &[HostText],
     certificate: &ByteString,
-    rules: &SiteRules<'_>,
+    pins: &ByteString,
+    keep: &ByteString,
     is_quiet: bool,
 ) -> Result<u8, FileFault> {
-    match check_files(rt.alloc(), files, hosts, rules, certificate.bytes()) {
+    let certificate = certificate.bytes();
+    match check_files(
+        rt.alloc(),
+        files,
+        hosts,
+        pins.bytes(),
+        keep.bytes(),
+        certificate,
+    ) {
         Ok(sum) => print_accepted(rt, sum),
         Err(fault) => reading_refused(rt, files, &fault, is_quiet),
     }
@@ -155,9 +164,16 @@ fn check_texts(
     let seen = see_named(rt, matches, path, pins, keep)?;
     let words = matches.get_strs("HOST").unwrap_or(&[]);
     let mut files = HostFiles::new(rt, words);
-    let rules = SiteRules::new(pins.bytes(), keep.bytes());
     let is_quiet = matches.get_flag("quiet");
-    check_by(rt, &mut files, &seen.hosts, certificate, &rules, is_quiet)
+    check_by(
+        rt,
+        &mut files,
+        &seen.hosts,
+        certificate,
+        pins,
+        keep,
+        is_quiet,
+    )
 }
 
 // check [--quiet] [--pins FILE] [--keep FILE] CERTIFICATE HOST...
@@ -247,15 +263,16 @@ fn merge_by(
     files: &mut SiteFiles<'_>,
     directory: &str,
     hosts: &[HostText],
-    rules: &SiteRules<'_>,
+    pins: &ByteString,
+    keep: &ByteString,
     is_quiet: bool,
 ) -> Result<u8, FileFault> {
-    let cost = match merge_files(rt.alloc(), files, hosts, rules) {
+    let cost = match merge_files(rt.alloc(), files, hosts, pins.bytes(), keep.bytes()) {
         Ok(cost) => cost,
         Err(fault) => return merge_refused(rt, files, &fault, is_quiet),
     };
     if !is_quiet {
-        warn_of_merge(rt, hosts, directory, rules.pins.bytes(), files.file_lines())?;
+        warn_of_merge(rt, hosts, directory, pins.bytes(), files.file_lines())?;
     }
     print_cost(rt, cost)
 }
@@ -275,8 +292,7 @@ fn merge_texts(
         warn_before(rt, matches, hosts, pins, keep)?;
     }
     let mut files = SiteFiles::new(rt, directory, words, is_quiet);
-    let rules = SiteRules::new(pins.bytes(), keep.bytes());
-    merge_by(rt, &mut files, directory, hosts, &rules, is_quiet)
+    merge_by(rt, &mut files, directory, hosts, pins, keep, is_quiet)
 }
 
 // A word and others behind it.

@@ -13,6 +13,7 @@ use Rattle.hosts_join.specs.declared.host.Host.{Host}
 use Rattle.hosts_join.specs.declared.texts.HostText.{HostText}
 use Rattle.unify_texts.specs.declared.bundle_line.FileName.TheVariants as file
 use Rattle.unify_texts.specs.declared.fault.Fault.{Fault}
+use Rattle.unify.specs.declared.rules.KeepRules.{KeepRules}
 use Rattle.unify.specs.declared.host.Loaded.{Loaded}
 use Rattle.unify.specs.declared.rules.SiteRules.{SiteRules}
 use Rattle.unify.specs.Costing.{cost_begun}
@@ -102,22 +103,22 @@ tables-with {B} hosts texts rest same = ap (λ r. r >>= λ loaded. rest (map (λ
     by (Ok ls) each_one = ap rest (loaded_hosts (map (λ (l : Loaded). l.host) ls) texts (omega (arith, same, each_one ls refl, length-map ls (λ (l : Loaded). l.host))))
     by (Err e) each_one = refl
 
-others-with : (hosts : List HostText) (texts : List (List ℕ)) (keep_text : List ℕ) → length texts ≡ length hosts → others_loaded (with_inventories hosts texts) keep_text ≡ others_loaded hosts keep_text
+others-with : (hosts : List HostText) (texts : List (List ℕ)) (keep : KeepRules) → length texts ≡ length hosts → others_loaded (with_inventories hosts texts) keep ≡ others_loaded hosts keep
 unfolding others_loaded
-others-with hosts texts keep_text same = tables-with hosts texts (others_read keep_text) same
+others-with hosts texts keep same = tables-with hosts texts (others_read keep) same
 
 -- what comes of the list of hosts and their tables does not either
-lists-with : {B : Type 0} (hosts : List HostText) (texts : List (List ℕ)) (keep_text : List ℕ) (rest : Others → Result B Fault) → length texts ≡ length hosts
-    → (in_site (hosts_checked (with_inventories hosts texts)) >>= λ listed. others_loaded (with_inventories hosts texts) keep_text >>= rest) ≡ (in_site (hosts_checked hosts) >>= λ listed. others_loaded hosts keep_text >>= rest)
-lists-with hosts texts keep_text rest same = λ j. in_site (list-with hosts texts same j) >>= λ listed. others-with hosts texts keep_text same j >>= rest
+lists-with : {B : Type 0} (hosts : List HostText) (texts : List (List ℕ)) (keep : KeepRules) (rest : Others → Result B Fault) → length texts ≡ length hosts
+    → (in_site (hosts_checked (with_inventories hosts texts)) >>= λ listed. others_loaded (with_inventories hosts texts) keep >>= rest) ≡ (in_site (hosts_checked hosts) >>= λ listed. others_loaded hosts keep >>= rest)
+lists-with hosts texts keep rest same = λ j. in_site (list-with hosts texts same j) >>= λ listed. others-with hosts texts keep same j >>= rest
 
 pub begun-with : (hosts : List HostText) (texts : List (List ℕ)) (rules : SiteRules) → length texts ≡ length hosts → site_begun (with_inventories hosts texts) rules ≡ site_begun hosts rules
 unfolding site_begun
 begun-with hosts texts rules same = lists-with hosts texts rules.keep (λ others. pinned_site others rules.pins >>= λ all. Ok (record { hosts = others.hosts; joined = all })) same
 
-pub cost_begun-with : (hosts : List HostText) (texts : List (List ℕ)) (keep_text map_text : List ℕ) → length texts ≡ length hosts → cost_begun (with_inventories hosts texts) keep_text map_text ≡ cost_begun hosts keep_text map_text
+pub cost_begun-with : (hosts : List HostText) (texts : List (List ℕ)) (keep : KeepRules) (map_text : List ℕ) → length texts ≡ length hosts → cost_begun (with_inventories hosts texts) keep map_text ≡ cost_begun hosts keep map_text
 unfolding cost_begun
-cost_begun-with hosts texts keep_text map_text same = lists-with hosts texts keep_text (λ others. mapped_names map_text others.hosts >>= λ pairs. Ok (record { hosts = others.hosts; names = pairs })) same
+cost_begun-with hosts texts keep map_text same = lists-with hosts texts keep (λ others. mapped_names map_text others.hosts >>= λ pairs. Ok (record { hosts = others.hosts; names = pairs })) same
 
 -- ---- a site whose inventories were read
 

@@ -5,6 +5,7 @@ use Rattle.hosts_join.specs.declared.host.Host.{Host}
 use Rattle.hosts_join.specs.declared.texts.HostText.{HostText}
 use Rattle.unify_texts.specs.Told.{told}
 use Rattle.unify_texts.specs.declared.map_text.MapText.{MapText}
+use Rattle.unify.specs.declared.rules.KeepRules.{KeepRules}
 use Rattle.unify.specs.declared.counting.Cost.{Cost}
 use Rattle.unify.specs.Costing.{BegunCost, cost_begun}
 use Rattle.unify.specs.Count.{site_of, total_of}
@@ -20,21 +21,21 @@ use Rattle.unify_merge.proofs.Inventories.{cost_begun-with, mtrees-with}
 use Rattle.unify_merge.proofs.Stops.{if_told}
 
 -- the reading of the inventories ended early, and so did the count
-pub count_stopped : (texts : List HostText) (keep_text map_text : List ℕ) (begun : BegunCost) (hosts : List Host) (old new : Ledger) (failed : Bool) (fault : MergeFault) → cost_begun texts keep_text map_text ≡ Ok begun → hosts ≡ begun.hosts
-    → StopsCounting hosts old new failed fault → StopsCount texts keep_text map_text old new failed fault
-count_stopped texts keep_text map_text begun hosts old new failed Failed is same stops = stops
-count_stopped texts keep_text map_text begun hosts old new failed TooLarge is same stops = stops
-count_stopped texts keep_text map_text begun hosts old new failed (Refused e) is same stops =
+pub count_stopped : (texts : List HostText) (keep : KeepRules) (map_text : List ℕ) (begun : BegunCost) (hosts : List Host) (old new : Ledger) (failed : Bool) (fault : MergeFault) → cost_begun texts keep map_text ≡ Ok begun → hosts ≡ begun.hosts
+    → StopsCounting hosts old new failed fault → StopsCount texts keep map_text old new failed fault
+count_stopped texts keep map_text begun hosts old new failed Failed is same stops = stops
+count_stopped texts keep map_text begun hosts old new failed TooLarge is same stops = stops
+count_stopped texts keep map_text begun hosts old new failed (Refused e) is same stops =
     if_told (told e) _ _ (λ f fault. inr (begun, is, subst (λ (hs : List Host). IsInventoryFault hs old new f) same fault)) stops
 
 -- the inventories were read, and this is the cost
-pub has_counted : (hosts : List HostText) (keep_text map_text : List ℕ) (begun : BegunCost) (over : InventoriesValue) (names : MapText) (old new : Ledger) (texts : List (List ℕ)) (cost : Cost) → StandsFor over texts [] → cost_begun hosts keep_text map_text ≡ Ok begun → over.hosts ≡ begun.hosts
-    → names ≡ begun.names → ended_in over ≡ length over.hosts → length over.hosts ≡ length hosts → new.read ≡ old.read ++ readings_from 0 texts → total_of names (each site_of (loaded_from over.hosts texts)) ≡ Ok cost → HasCounted hosts keep_text map_text old new cost
-has_counted hosts keep_text map_text begun over names old new texts cost were is same named none_left each_text readings total =
+pub has_counted : (hosts : List HostText) (keep : KeepRules) (map_text : List ℕ) (begun : BegunCost) (over : InventoriesValue) (names : MapText) (old new : Ledger) (texts : List (List ℕ)) (cost : Cost) → StandsFor over texts [] → cost_begun hosts keep map_text ≡ Ok begun → over.hosts ≡ begun.hosts
+    → names ≡ begun.names → ended_in over ≡ length over.hosts → length over.hosts ≡ length hosts → new.read ≡ old.read ++ readings_from 0 texts → total_of names (each site_of (loaded_from over.hosts texts)) ≡ Ok cost → HasCounted hosts keep map_text old new cost
+has_counted hosts keep map_text begun over names old new texts cost were is same named none_left each_text readings total =
     let one_each : length texts ≡ length hosts = were.ended_are ∙ none_left ∙ each_text in
     record {
       texts = texts;
       were_read = record { one_each = one_each; readings = readings };
-      answer = count_behind (with_inventories hosts texts) keep_text map_text begun (cost_begun-with hosts texts keep_text map_text one_each ∙ is)
+      answer = count_behind (with_inventories hosts texts) keep map_text begun (cost_begun-with hosts texts keep map_text one_each ∙ is)
           ∙ (λ j. total_of (sym named j) (each site_of (loaded_from (sym same j) (mtrees-with hosts texts one_each j)))) ∙ total;
     }

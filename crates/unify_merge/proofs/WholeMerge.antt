@@ -178,7 +178,7 @@ has_merged texts rules s old mid new cost h reads w =
       own_files = λ k host files text loaded at there is_told.
           let here : slice_get h.begun.hosts k ≡ Some host = ap (λ hs. slice_get hs k) (sym held) ∙ slice_get-map first w.site.again k ∙ ap (option_map first) at in
           text_keeps site outcome merged.whole merged.believed k host files text loaded at (tables_are_of_texts texts rules h.begun k host text h.begun_is here there) is_told;
-      in_full = λ none. subst (λ (hs : List Host). AreJoinedInFull hs texts) (sym held) (begun_sites_are_in_full texts rules.pins h.begun (ap (λ (keep : List ℕ). site_begun texts (record { pins = rules.pins; keep = keep })) (sym none) ∙ h.begun_is));
+      in_full = λ none. subst (λ (hs : List Host). AreJoinedInFull hs texts) (sym held) (begun_sites_are_in_full texts rules.pins rules.keep.unowned h.begun ((λ j. site_begun texts (record rules { keep = record rules.keep { text = sym none j } })) ∙ h.begun_is));
       files = merged.files;
       cost_is = w.cost_is;
     }

@@ -5,6 +5,7 @@ use Rattle.hosts_join.specs.declared.texts.HostText.{HostText}
 use Rattle.unify_texts.specs.Told.{told}
 use Rattle.unify_texts.specs.declared.fault.Fault.{Fault}
 use Rattle.unify.specs.declared.counting.Cost.{Cost}
+use Rattle.unify.specs.declared.rules.KeepRules.{KeepRules}
 use Rattle.unify.specs.Costing.{BegunCost, cost_begun}
 use Rattle.unify.specs.Count.{count_of}
 use Rattle.unify_merge.specs.Ledger.{Ledger}
@@ -14,24 +15,24 @@ use Rattle.unify_merge.specs.declared.fault.MergeFault.{MergeFault}
 use Rattle.unify_merge.specs.declared.fault.MergeFault.TheVariants.{Failed, TooLarge, Refused}
 
 -- The inventory of each host was read once. With these this is the cost that a count answers.
-pub record HasCounted (hosts : List HostText) (keep_text map_text : List ℕ) (old new : Ledger)
+pub record HasCounted (hosts : List HostText) (keep : KeepRules) (map_text : List ℕ) (old new : Ledger)
     (cost : Cost) : Type 0 where
   pub texts : List (List ℕ)
   pub were_read : WereEachRead hosts texts old new
-  pub answer : count_of (with_inventories hosts texts) keep_text map_text ≡ Ok cost
+  pub answer : count_of (with_inventories hosts texts) keep map_text ≡ Ok cost
 
 -- the first fault of what was read: of the tables, the keep text or the map; or of an inventory
-abbrev pub IsCountFault : List HostText → List ℕ → List ℕ → Ledger → Ledger → Fault → Type 0
-IsCountFault hosts keep_text map_text old new f =
-    ((cost_begun hosts keep_text map_text ≡ Err f) × (new ≡ old))
-    ⊎ ((begun : BegunCost) × (cost_begun hosts keep_text map_text ≡ Ok begun)
+abbrev pub IsCountFault : List HostText → KeepRules → List ℕ → Ledger → Ledger → Fault → Type 0
+IsCountFault hosts keep map_text old new f =
+    ((cost_begun hosts keep map_text ≡ Err f) × (new ≡ old))
+    ⊎ ((begun : BegunCost) × (cost_begun hosts keep map_text ≡ Ok begun)
     × IsInventoryFault begun.hosts old new f)
 
 -- why a count ended early: a call failed, an inventory is too large, or what was read is refused;
 -- or memory was wanting
-abbrev pub StopsCount : List HostText → List ℕ → List ℕ → Ledger → Ledger → Bool → MergeFault
+abbrev pub StopsCount : List HostText → KeepRules → List ℕ → Ledger → Ledger → Bool → MergeFault
     → Type 0
-StopsCount hosts keep_text map_text old new failed Failed = failed ≡ true
-StopsCount hosts keep_text map_text old new failed TooLarge = IsTooLarge new
-StopsCount hosts keep_text map_text old new failed (Refused e) =
-    IfSome (told e) (IsCountFault hosts keep_text map_text old new)
+StopsCount hosts keep map_text old new failed Failed = failed ≡ true
+StopsCount hosts keep map_text old new failed TooLarge = IsTooLarge new
+StopsCount hosts keep map_text old new failed (Refused e) =
+    IfSome (told e) (IsCountFault hosts keep map_text old new)

@@ -3,8 +3,10 @@ pub mod LedgerCode
 pub mod Noted
 pub mod Pieces
 pub mod FirstReading
+pub mod Survey
 pub mod SecondReading
 pub mod HostFiles
 pub mod Merge
 pub mod Check
 pub mod Count
+pub mod Surveyed

@@ -141,7 +141,7 @@ pub record HasMerged (texts : List HostText) (rules : SiteRules) (old new : Ledg
   pub is_believed : Headline (record { hosts = are; joined = begun.joined }) outcome
   pub own_files : EachKeepsOwnFiles (record { hosts = are; joined = begun.joined }) outcome
       is_believed texts
-  pub in_full : rules.keep ≡ [] → AreJoinedInFull (map (λ h. h.0) are) texts
+  pub in_full : rules.keep.text ≡ [] → AreJoinedInFull (map (λ h. h.0) are) texts
   pub files : new
       ≡ record (after_files (merged_files texts begun is_believed.mappings outcome)
       (cleared old)) { read = new.read; reading = new.reading; writing = new.writing }

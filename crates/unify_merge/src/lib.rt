@@ -12,11 +12,12 @@ mod log;
 mod merge;
 mod pieces;
 mod second_reading;
+mod survey;
 mod whole_file;
 
-pub use check::check_files;
-pub use count::count_files;
+pub use check::{check_by, check_files};
+pub use count::{count_by, count_files};
 pub use fault::MergeFault;
 pub use files::{CallFailed, MergeFiles, ReadFiles};
 pub use log::{Call, Log};
-pub use merge::merge_files;
+pub use merge::{merge_by, merge_files};

@@ -14,6 +14,9 @@ ghost use Rattle.unify_merge.specs.SecondReading.{StopsPlanning, WereRead};
 ghost use Rattle.unify_merge.specs.Merge.{HasMerged, HasSolved, HasWritten, StopsMerge};
 ghost use Rattle.unify_merge.specs.Merge.{account_files, account_names, first_files, first_names};
 ghost use Rattle.unify_merge.specs.Merge.{keeps_in, names_before_report};
+ghost use Rattle.unify_merge.specs.Surveyed.{HasMergedFiles, StopsMergeFiles};
+ghost use Rattle.unify.specs.Output.{rules_by};
+ghost use Rattle.kept_accounts.specs.Reserving.{UnownedNumbers};
 ghost use Rattle.unify_merge.specs.declared.fault.MergeFault.TheVariants.{Refused};
 
 use crate::fault::MergeFault;
@@ -21,10 +24,11 @@ use crate::files::{CallFailed, MergeFiles};
 use crate::first_reading::count_hosts;
 use crate::host_files::write_hosts;
 use crate::second_reading::plan_hosts;
+use crate::survey::survey_files;
 use crate::whole_file::write_file;
 use hosts_join::HostText;
 use std::alloc::Global;
-use unify::{Cost, JoinedSite, Outcome, SiteRules, Solved, begin_site};
+use unify::{Cost, JoinedSite, KeepRules, Outcome, SiteRules, Solved, begin_site};
 use unify_texts::Fault;
 
 // Writes the one passwd and the one group, unless a name is kept.
@@ -122,8 +126,8 @@ fn write_merged<'a, F: MergeFiles>(
     Ok(solved.outcome().cost)
 }
 
-/// Merges hosts, whose tables and rules are given as texts, and whose inventories are read from the
-/// files, twice; and writes the files of the merge. It hands out how many fields of files change.
+/// Merges hosts, whose tables and rules are given, and whose inventories are read from the files,
+/// twice; and writes the files of the merge. It hands out how many fields of files change.
 ///
 /// Each inventory is read when its host's turn comes, piece by piece. Nothing is written before the
 /// hosts are merged; then the files of an earlier merge are cleared away, and these are written, in
@@ -137,7 +141,7 @@ fn write_merged<'a, F: MergeFiles>(
 /// Two passes over each inventory, with two look-ups by hash for each file; the rest is near linear
 /// in the names and account rows, but for the solver, which is near linear where few numbers are
 /// contested.
-pub fn merge_files<'a, F: MergeFiles>(
+pub fn merge_by<'a, F: MergeFiles>(
     alloc: Global,
     files: &mut F,
     hosts: &'a [HostText],
@@ -154,4 +158,31 @@ pub fn merge_files<'a, F: MergeFiles>(
 {
     let mut solved = solve_hosts(alloc, files, hosts, rules)?;
     write_merged(alloc, files, &mut solved, hosts)
+}
+
+/// What [`merge_by`] merges and writes by these pins and this keep text, with the numbers that files
+/// have without an account. Where the keep text keeps such numbers they are found first, for which
+/// each inventory is read once more.
+///
+/// It stops early as `merge_by` does; before that where what the survey reads is refused: the host
+/// list, host by host the tables, and host by host the inventory. Nothing was written then.
+pub fn merge_files<'a, F: MergeFiles>(
+    alloc: Global,
+    files: &mut F,
+    hosts: &'a [HostText],
+    pins: &'a [u8],
+    keep: &'a [u8],
+) -> Result<Cost, MergeFault<'a>>
+    ensures merged { IfOk result
+        (HasMergedFiles hosts.now pins.now keep.now (F.ledger files.old) (F.ledger files.new)) }
+    ensures stopped { IfErr result
+        (StopsMergeFiles hosts.now pins.now keep.now (F.ledger files.old) (F.ledger files.new)
+        (F.has_failed files.new)) }
+    ensures begun { OnErr result ((unowned : UnownedNumbers)
+        × HasBegun (names_before_report (keeps_in hosts.now (rules_by pins.now keep.now unowned))
+        hosts.now) (F.ledger files.old) (F.ledger files.new)) }
+{
+    let unowned = survey_files(alloc, files, hosts, keep)?;
+    let rules = SiteRules::new(pins, KeepRules::new(keep, unowned));
+    merge_by(alloc, files, hosts, &rules)
 }

@@ -5,12 +5,13 @@ ghost use Rattle.reown_runner.specs.Campaign.{host_of};
 
 use crate::tests::hosts::swap_hosts;
 use hosts_join::HostText;
+use kept_accounts::UnownedNumbers;
 use reown_plan::{Owner, Plan, PlanMark};
 use reown_runner::{Event, Keep, MemTree, Tree};
 use std::alloc::Global;
 use std::process::Abort;
 use std::test::Fail;
-use unify::{SiteRules, SiteRun, rehearse_site};
+use unify::{KeepRules, SiteRules, SiteRun, rehearse_site};
 
 const FILES_OF_A: &[&[u8]] = &[
     b"alice1", b"alice2", b"alice3", b"alice4", b"alice5", b"bob1",
@@ -76,7 +77,8 @@ fn rehearsed(
     if !are_for(events, hosts.len()) {
         return Err(Fail::new("an event is for no host"));
     }
-    match rehearse_site(alloc, hosts, &SiteRules::new(b"", b""), keep, events) {
+    let kept = KeepRules::new(b"", UnownedNumbers::none(alloc));
+    match rehearse_site(alloc, hosts, &SiteRules::new(b"", kept), keep, events) {
         Ok(run) => Ok(run),
         Err(_) => Err(Fail::new("the site was refused")),
     }

@@ -4,4 +4,4 @@ use Rattle.kept_accounts.specs.Others.{without}
 use Rattle.unify.proofs.others.leave_kept.Given as goal
 
 abbrev pub invariant-loop-host : goal.invariant-loop-host
-invariant-loop-host l = l.others.items ≡ map (without l.keep (keeps l.kept.users) (keeps l.kept.groups)) (take l.host-index l.hosts)
+invariant-loop-host l = l.others.items ≡ map (without l.keep (keeps l.kept.users) (keeps l.kept.groups) l.unowned) (take l.host-index l.hosts)

@@ -26,16 +26,16 @@ returns-in_err-others-clause-begun c =
     let texts = c.args.host_texts.now in
     let rules = c.args.rules.now in
     rw (p.1, p.2)
-    (passed_on (told c.in_err-others.field-0.0) (others_loaded texts c.bytes.result.now) (site_begun texts rules)
-    (λ f h. others_refused texts rules c.in_ok-check_list.field-0 c.in_ok-check_list.ensures.exact f (ap (others_loaded texts) (sym c.bytes.ensures) ∙ h)) c.in_err-others.ensures.read)
+    (passed_on (told c.in_err-others.field-0.0) (others_loaded texts rules.keep) (site_begun texts rules)
+    (others_refused texts rules c.in_ok-check_list.field-0 c.in_ok-check_list.ensures.exact) c.in_err-others.ensures.read)
 
 pub returns-clause-begun : goal.returns-clause-begun
 returns-clause-begun c =
     let texts = c.args.host_texts.now in
     let rules = c.args.rules.now in
     let others = c.in_ok-others.others in
-    let read : others_loaded texts rules.keep ≡ Ok (others_in others) = ap (others_loaded texts) (sym c.bytes.ensures) ∙ c.in_ok-others.ensures.read in
-    begun_held texts c.in_ok-check_list.field-0 c.in_ok-check_list.ensures.exact others rules c.bytes-2.result.now c.bytes-2.ensures read c.join_others.result c.join_others.ensures.site c.join_others.ensures.hosts
+    let read : others_loaded texts rules.keep ≡ Ok (others_in others) = c.in_ok-others.ensures.read in
+    begun_held texts c.in_ok-check_list.field-0 c.in_ok-check_list.ensures.exact others rules c.bytes.result.now c.bytes.ensures read c.join_others.result c.join_others.ensures.site c.join_others.ensures.hosts
 
 pub returns-clause-hosts : goal.returns-clause-hosts
 returns-clause-hosts c =
