@@ -1,0 +1,68 @@
+-- The numbers that the files of a site have without an account, where its keep text keeps them.
+-- They are found before the site is read: which numbers no name may have the join goes by.
+-- Source: this project's own rule.
+use Rattle.std.specs.Prelude.{ℕ, Bool, ◌||◌, List, [], ◌∷◌, map, Result, Ok, Err, if◌then◌else◌}
+use Rattle.idtext.specs.First.{◌>>=◌, each}
+use Rattle.mtree_inv.specs.Inventory.{inventory}
+use Rattle.mtree_inv.specs.declared.entry.Entry.{Entry}
+use Rattle.hosts_join.specs.Checks.{hosts_checked}
+use Rattle.hosts_join.specs.declared.host.Host.{Host}
+use Rattle.hosts_join.specs.declared.texts.HostText.{HostText}
+use Rattle.keep_text.specs.declared.keep_text.KeepText.{KeepText}
+use Rattle.kept_accounts.specs.Reserving.{UnownedNumbers, no_numbers}
+use Rattle.survey.specs.Unowned.{unowned_with}
+use Rattle.unify_texts.specs.declared.bundle_line.FileName.TheVariants as file
+use Rattle.unify_texts.specs.declared.fault.Fault.{Fault}
+use Rattle.unify.specs.declared.host.Loaded.{Loaded}
+use Rattle.unify.specs.Hosts.{host_of}
+use Rattle.unify.specs.Loading.{loaded_from}
+use Rattle.unify.specs.Others.{keep_read}
+use Rattle.unify.specs.Told.{in_file, in_site}
+
+-- ---- whose files are looked through
+
+abbrev pub keeps_unowned : KeepText → Bool
+keeps_unowned keep = keep.users.unowned || keep.groups.unowned
+
+-- The numbers in listed ranges stay without that, so the host spares them.
+abbrev pub sparing_ranges : KeepText → Host → Host
+sparing_ranges keep host = record host {
+  spared_users = keep.users.ranges;
+  spared_groups = keep.groups.ranges;
+}
+
+-- those of all hosts, by this keep text; the host list, and host by host its files but the inventory
+abbrev pub sparing_hosts : List HostText → KeepText → Result (List Host) Fault
+sparing_hosts texts keep =
+    if keeps_unowned keep then (in_site (hosts_checked texts) >>= λ listed.
+    each host_of texts >>= λ loaded. Ok (map (λ l. sparing_ranges keep l.host) loaded))
+    else Ok []
+
+-- a keep text that is refused asks for none
+abbrev pub surveyed_hosts : List HostText → Result KeepText Fault → Result (List Host) Fault
+surveyed_hosts texts (Ok keep) = sparing_hosts texts keep
+surveyed_hosts texts (Err f) = Ok []
+
+-- ---- what is found
+
+-- the files of a host's inventory, whoever owns them
+abbrev pub listed_files : Loaded → Result (Host × List Entry) Fault
+listed_files loaded =
+    in_file loaded.host.name file.Mtree (inventory 16777216 loaded.mtree) >>= λ files.
+    Ok (loaded.host, files)
+
+-- what was found, and behind it what is found of more hosts
+abbrev pub gathered : UnownedNumbers → List (Host × List Entry) → UnownedNumbers
+gathered found [] = found
+gathered found (here ∷ more) = gathered (unowned_with found here.0 here.1) more
+
+-- the numbers of all files of these hosts, or the first fault of an inventory
+abbrev pub found_on : List Host → List (List ℕ) → Result UnownedNumbers Fault
+found_on hosts mtrees =
+    each listed_files (loaded_from hosts mtrees) >>= λ read. Ok (gathered no_numbers read)
+
+-- and of the files of a site, where its keep text keeps numbers without an account
+unfoldable pub surveyed : List HostText → List ℕ → Result UnownedNumbers Fault
+surveyed texts keep_text =
+    surveyed_hosts texts (keep_read keep_text) >>= λ hosts.
+    found_on hosts (map (λ t. t.mtree) texts)

@@ -1,0 +1,97 @@
+-- What a command does that first finds the numbers without an account, where its keep text keeps
+-- them: the inventories are read once for that.
+-- Source: this project's own rule.
+use Rattle.std.specs.Prelude.{◌≡◌, ℕ, ◌⊎◌, Bool, true, List, ◌++◌, length, Ok, Err, IfSome}
+use Rattle.hosts_join.specs.declared.host.Host.{Host}
+use Rattle.hosts_join.specs.declared.texts.HostText.{HostText}
+use Rattle.kept_accounts.specs.Reserving.{UnownedNumbers}
+use Rattle.unify_texts.specs.Told.{told}
+use Rattle.unify_texts.specs.declared.fault.Fault.{Fault}
+use Rattle.unify.specs.declared.counting.Cost.{Cost}
+use Rattle.unify.specs.Others.{keep_read}
+use Rattle.unify.specs.Output.{rules_by}
+use Rattle.unify.specs.Survey.{found_on, surveyed_hosts}
+use Rattle.unify_merge.specs.Check.{HasChecked, StopsCheck}
+use Rattle.unify_merge.specs.Count.{HasCounted, StopsCount}
+use Rattle.unify_merge.specs.FirstReading.{IsTooLarge, ReadsOnly, readings_from}
+use Rattle.unify_merge.specs.Ledger.{Ledger}
+use Rattle.unify_merge.specs.Merge.{HasMerged, StopsMerge}
+use Rattle.unify_merge.specs.Survey.{IsListFault}
+use Rattle.unify_merge.specs.declared.fault.MergeFault.{MergeFault}
+use Rattle.unify_merge.specs.declared.fault.MergeFault.TheVariants.{Failed, TooLarge, Refused}
+
+-- ---- the survey
+
+-- The inventories were read once of those hosts whose files are looked through, which are none or
+-- all, and their files have these numbers without an account.
+pub record HasSurveyed (hosts : List HostText) (keep : List ℕ) (old new : Ledger)
+    (unowned : UnownedNumbers) : Type 0 where
+  pub surveying : List Host
+  pub surveying_are : surveyed_hosts hosts (keep_read keep) ≡ Ok surveying
+  pub texts : List (List ℕ)
+  pub one_each : length texts ≡ length surveying
+  pub found : found_on surveying texts ≡ Ok unowned
+  pub readings : new.read ≡ old.read ++ readings_from 0 texts
+  pub reads : ReadsOnly old new
+
+-- the first fault of what was read: of the tables, or of an inventory
+abbrev pub IsSurveyFault : List HostText → List ℕ → Ledger → Ledger → Fault → Type 0
+IsSurveyFault hosts keep old new f =
+    ((surveyed_hosts hosts (keep_read keep) ≡ Err f) × (new ≡ old))
+    ⊎ ((surveying : List Host) × (surveyed_hosts hosts (keep_read keep) ≡ Ok surveying)
+    × IsListFault surveying old new f)
+
+-- why it ended early: a call failed, an inventory is too large, or what was read is refused; or
+-- memory was wanting
+abbrev pub StopsSurvey : List HostText → List ℕ → Ledger → Ledger → Bool → MergeFault → Type 0
+StopsSurvey hosts keep old new failed Failed = failed ≡ true
+StopsSurvey hosts keep old new failed TooLarge = IsTooLarge new
+StopsSurvey hosts keep old new failed (Refused e) =
+    IfSome (told e) (IsSurveyFault hosts keep old new)
+
+-- ---- behind it
+
+-- behind a survey this holds of the numbers that it found, and of what was read and written then
+pub record Behind (hosts : List HostText) (keep : List ℕ) (old : Ledger)
+    (Holds : UnownedNumbers → Ledger → Type 0) : Type 0 where
+  pub unowned : UnownedNumbers
+  pub middle : Ledger
+  pub surveyed : HasSurveyed hosts keep old middle unowned
+  pub holds : Holds unowned middle
+
+abbrev pub HasMergedFiles : List HostText → List ℕ → List ℕ → Ledger → Ledger → Cost → Type 0
+HasMergedFiles hosts pins keep old new cost = Behind hosts keep old
+    (λ unowned middle. HasMerged hosts (rules_by pins keep unowned) middle new cost)
+
+abbrev pub StopsMergeFiles : List HostText → List ℕ → List ℕ → Ledger → Ledger → Bool → MergeFault
+    → Type 0
+StopsMergeFiles hosts pins keep old new failed fault =
+    StopsSurvey hosts keep old new failed fault
+    ⊎ Behind hosts keep old
+    (λ unowned middle. StopsMerge hosts (rules_by pins keep unowned) middle new failed fault)
+
+abbrev pub HasCheckedFiles : List HostText → List ℕ → List ℕ → List ℕ → Ledger → Ledger → ℕ
+    → Type 0
+HasCheckedFiles hosts pins keep certificate old new cost = Behind hosts keep old
+    (λ unowned middle. HasChecked hosts (rules_by pins keep unowned) certificate middle new cost)
+
+abbrev pub StopsCheckFiles : List HostText → List ℕ → List ℕ → List ℕ → Ledger → Ledger → Bool
+    → MergeFault → Type 0
+StopsCheckFiles hosts pins keep certificate old new failed fault =
+    StopsSurvey hosts keep old new failed fault
+    ⊎ Behind hosts keep old
+    (λ unowned middle.
+    StopsCheck hosts (rules_by pins keep unowned) certificate middle new failed fault)
+
+abbrev pub HasCountedFiles : List HostText → List ℕ → List ℕ → Ledger → Ledger → Cost → Type 0
+HasCountedFiles hosts keep map old new cost = Behind hosts keep old
+    (λ unowned middle.
+    HasCounted hosts (record { text = keep; unowned = unowned }) map middle new cost)
+
+abbrev pub StopsCountFiles : List HostText → List ℕ → List ℕ → Ledger → Ledger → Bool → MergeFault
+    → Type 0
+StopsCountFiles hosts keep map old new failed fault =
+    StopsSurvey hosts keep old new failed fault
+    ⊎ Behind hosts keep old
+    (λ unowned middle.
+    StopsCount hosts (record { text = keep; unowned = unowned }) map middle new failed fault)
