@@ -8,9 +8,10 @@ class KeptKind(Kind):
     """The users or the groups of a site of which some names are kept. What Kind knows is of the names that are not.
 
     rows has for each host the (name, number) of its rows, owned for each file its row or its number alone; group users and its
-    files are among them. ranges are the (low, high) that are listed."""
+    files are among them. ranges are the (low, high) that are listed, unowned has for each host the numbers that are to stay
+    since its files have them without an account."""
 
-    def __init__(self, name, pool, rows, owned, names, ranges):
+    def __init__(self, name, pool, rows, owned, names, ranges, unowned):
         every = sum(rows, [])
         numbers = {it: [number for other, number in every if other == it] for it, _ in every}
         in_range = lambda number: any(low <= number <= high for low, high in ranges)
@@ -18,6 +19,8 @@ class KeptKind(Kind):
         self.reserved = [(low, high, f"range {low} {high}") for low, high in ranges]
         for host, here in enumerate(rows):
             self.reserved += [(number, number, f"name h{host} {it}") for it, number in here if it in self.kept_names]
+        for host, numbers_there in enumerate(unowned):
+            self.reserved += [(it, it, f"unowned h{host}") for it in dict.fromkeys(numbers_there) if not in_range(it)]
         left = [[row for row in here if row[0] not in self.kept_names] for here in rows]
         owners = [it for it in owned if isinstance(it, tuple) and it[0] not in self.kept_names]
         super().__init__(name, [it for it in pool if not self.reserver(it)], sum(left, []), owners, len(owners), 0)
@@ -59,16 +62,17 @@ class KeptKind(Kind):
 
 
 class KeptSite(Site):
-    """A site with a keep text: the names and the ranges that are listed of users and of groups. A file has for its user and for
-    its group a row of its host, or a number alone that is no account's."""
+    """A site with a keep text: the names and the ranges that are listed of users and of groups, and whether numbers without an
+    account stay. A file has for its user and for its group a row of its host, or a number alone that is no account's."""
 
-    def __init__(self, user_pool, group_pool, users, groups, owners, names, ranges):
+    def __init__(self, user_pool, group_pool, users, groups, owners, names, ranges, unowned):
         super().__init__(user_pool, group_pool, users, groups, owners)
-        self.names, self.ranges = names, ranges
+        self.names, self.ranges, self.unowned = names, ranges, unowned
 
     def keep_text(self):
         kinds = [(kind, *lists) for kind, *lists in zip(("user", "group"), self.names, self.ranges)]
         lines = [f"|{kind} {name}\n" for kind, names, _ in kinds for name in names]
+        lines += [f"|unowned {kind}s\n" for kind, stay in zip(("user", "group"), self.unowned) if stay]
         return "".join(lines + [f"|{kind}s {low} {high}\n" for kind, _, ranges in kinds for low, high in ranges])
 
     def bundle(self):
@@ -81,9 +85,11 @@ class KeptSite(Site):
     def kinds(self):
         files = sum(self.owners, [])
         groups = [[("users", 100), *here] for here in self.groups]
-        lists = (self.users, groups), zip(*files) if files else ((), ()), self.names, self.ranges
-        for name, pool, rows, owned, names, ranges in zip(("user", "group"), (self.user_pool, self.group_pool), *lists):
-            yield KeptKind(name, pool, rows, list(owned), names, ranges)
+        alone = [[[file[kind] for file in here if isinstance(file[kind], int)] for here in self.owners] for kind in (0, 1)]
+        unowned = [numbers if stay else [] for numbers, stay in zip(alone, self.unowned)]
+        lists = (self.users, groups), zip(*files) if files else ((), ()), self.names, self.ranges, unowned
+        for name, pool, rows, owned, *others in zip(("user", "group"), (self.user_pool, self.group_pool), *lists):
+            yield KeptKind(name, pool, rows, list(owned), *others)
 
     def answer(self, users, groups, mappings):
         """What the answer has of each host by these mappings: its plan, and then, in an order of their own, its passwd and group."""
@@ -107,7 +113,7 @@ class KeptSite(Site):
 
 def some_kept_site(chance):
     """Two or three hosts with people, whose numbers are in the pool, and services, whose numbers are below it and pin, and a keep
-    text that lists some names, the services' range or a part of it, and numbers of the pool."""
+    text that lists some names, the services' range or a part of it, and numbers of the pool, and often numbers without an account."""
     hosts = range(chance.randint(2, 3))
     people = chance.randint(2, 4)
     pools = range(REGULAR_FIRST, REGULAR_FIRST + people + chance.randint(0, 3)), range(REGULAR_FIRST, REGULAR_FIRST + 4)
@@ -124,9 +130,11 @@ def some_kept_site(chance):
             names[kind].append("nobody-here")
     if chance.random() < 0.1:
         names[1].append("users")
+    unowned = [chance.random() < 0.4 for _ in names]
     users, groups = ([some_rows(chance, word, people, pools[kind]) for _ in hosts] for kind, word in enumerate(("user", "group")))
-    owners = [some_owners(chance, *rows, ranges) for rows in zip(users, groups)]
-    return KeptSite(*pools, users, groups, owners, names, ranges)
+    may_stand = [[*pools[kind], 5, 20] if stay else [] for kind, stay in enumerate(unowned)]
+    owners = [some_owners(chance, *rows, ranges, may_stand) for rows in zip(users, groups)]
+    return KeptSite(*pools, users, groups, owners, names, ranges, unowned)
 
 
 def some_rows(chance, word, people, pool):
@@ -141,13 +149,15 @@ def some_rows(chance, word, people, pool):
     return [(name, number) for number, name in rows.items()]
 
 
-def some_owners(chance, users, groups, ranges):
-    """Up to two files of each user, of one group; and now and then files of numbers that are listed and are no account's."""
+def some_owners(chance, users, groups, ranges, may_stand):
+    """Up to two files of each user, of one group; and now and then files of numbers that are no account's, and are listed or may
+    stand without one."""
     rows = users, [*groups, ("users", 100)]
     listed = []
     for kind in (0, 1):
         taken = {number for _, number in rows[kind]}
-        listed.append([it for low, high in ranges[kind] for it in range(low, high + 1) if it not in taken])
+        some = [it for low, high in ranges[kind] for it in range(low, high + 1)] + may_stand[kind]
+        listed.append([it for it in some if it not in taken])
     owners = []
     for user in users:
         owners += chance.randint(0, 2) * [(user, chance.choice(rows[1]))]
