@@ -33,7 +33,7 @@ pub groups_parted : GroupsAreParted
 groups_parted kept rows = IsPermutation-filter_both (λ (row : Group). kept row.name) (λ (row : Group). not (kept row.name)) (λ row. refl) rows
 
 pub others_lawful : OthersAreLawful
-others_lawful keep user group host lawful = record {
+others_lawful keep user group unowned host lawful = record {
   ranges = lawful.ranges;
   users = subst (λ (rows : List Passwd). IsPasswdTable rows) (those-filter (λ (row : Passwd). not (user row.name)) host.users) (those-table (λ (row : Passwd). row.name) (λ (row : Passwd). row.uid) (map (λ (row : Passwd). not (user row.name)) host.users) host.users lawful.users);
   groups = subst (λ (rows : List Group). IsGroupTable rows) (those-filter (λ (row : Group). not (group row.name)) host.groups) (those-table (λ (row : Group). row.name) (λ (row : Group). row.gid) (map (λ (row : Group). not (group row.name)) host.groups) host.groups lawful.groups);

@@ -15,7 +15,7 @@ use Rattle.keep_text.specs.declared.keep_text.Kept.{Kept}
 use Rattle.keep_text.specs.declared.keep_text.KeepText.{KeepText}
 use Rattle.kept_accounts.specs.Keeping.{keeps, is_kept, is_kept_user, is_kept_group, users_on, groups_on, numbers_of, stays}
 use Rattle.kept_accounts.specs.Laws.{KeepsNothing, KeepingDecides, EmptyTextKeepsNothing, KeptNumbersAreReserved, NumbersDecide}
-use Rattle.kept_accounts.specs.Others.{without}
+use Rattle.kept_accounts.specs.Others.{kept_numbers, without}
 use Rattle.kept_accounts.specs.Reserving.{by_name, by_range, by_files, only, reserved_on, reserved_by}
 use Rattle.kept_accounts.specs.declared.reserving.UnownedNumber.{UnownedNumber}
 
@@ -27,14 +27,14 @@ keeping_decides keep hosts users groups is_users is_groups =
     let user : keeps users ≡ is_kept_user keep hosts = fun_ext is_users.names_are in
     let group : keeps groups ≡ is_kept_group keep hosts = fun_ext is_groups.names_are in
     record {
-      others = λ host. ap (λ (kept : List ℕ → Bool). without keep kept (keeps groups) host) user ∙ ap (λ (kept : List ℕ → Bool). without keep (is_kept_user keep hosts) kept host) group;
+      others = λ unowned host. ap (λ (kept : List ℕ → Bool). without keep kept (keeps groups) unowned host) user ∙ ap (λ (kept : List ℕ → Bool). without keep (is_kept_user keep hosts) kept unowned host) group;
       uids = λ unowned. ap (λ (kept : List ℕ → Bool). reserved_by kept (λ h. user_rows h.users) keep.users hosts unowned) user;
       gids = λ unowned. ap (λ (kept : List ℕ → Bool). reserved_by kept (λ h. group_rows h.groups) keep.groups hosts unowned) group;
     }
 
 -- ---- members of lists that are made from others
 
-in-map : {X Y : Type 0} (f : X → Y) (xs : List X) (x : X) → Contains xs x → Contains (map f xs) (f x)
+pub in-map : {X Y : Type 0} (f : X → Y) (xs : List X) (x : X) → Contains xs x → Contains (map f xs) (f x)
 in-map {X} {Y} f xs x there = at xs there.0 there.1 there.2
   where
     at : (ys : List X) (k : ℕ) → k < length ys → get_or ys k x ≡ x → Contains (map f ys) (f x)
@@ -42,7 +42,7 @@ in-map {X} {Y} f xs x there = at xs there.0 there.1 there.2
     at (y ∷ ys) zero lt e = (zero, omega arith, ap f e)
     at (y ∷ ys) (suc k) lt e = let more = at ys k (omega (arith, lt)) e in (suc more.0, omega (arith, more.1), more.2)
 
-in-filter : {X : Type 0} (test : X → Bool) (xs : List X) (x : X) → Contains xs x → test x ≡ true → Contains (filter test xs) x
+pub in-filter : {X : Type 0} (test : X → Bool) (xs : List X) (x : X) → Contains xs x → test x ≡ true → Contains (filter test xs) x
 in-filter {X} test xs x there passes = at xs there.0 there.1 there.2
   where
     at : (ys : List X) (k : ℕ) → k < length ys → get_or ys k x ≡ x → Contains (filter test ys) x
@@ -116,11 +116,11 @@ none_kept hosts = record {
   groups = not_kept (groups_on hosts);
   uids = none_reserved (users_on hosts) (λ h. user_rows h.users) hosts;
   gids = none_reserved (groups_on hosts) (λ h. group_rows h.groups) hosts;
-  others = λ host.
+  others = λ unowned host.
       let rows = filter-all (λ (row : Passwd). not (is_kept_user no_keep hosts row.name)) (λ row. ap not (not_kept (users_on hosts) row.name)) host.users in
       let more = filter-all (λ (row : Group). not (is_kept_group no_keep hosts row.name)) (λ row. ap not (not_kept (groups_on hosts) row.name)) host.groups in
-      let uids = ap (map (λ (row : List ℕ × ℕ). only row.1)) (filter-no (λ (row : List ℕ × ℕ). is_kept_user no_keep hosts row.0) (λ row. not_kept (users_on hosts) row.0) (user_rows host.users)) in
-      let gids = ap (map (λ (row : List ℕ × ℕ). only row.1)) (filter-no (λ (row : List ℕ × ℕ). is_kept_group no_keep hosts row.0) (λ row. not_kept (groups_on hosts) row.0) (group_rows host.groups)) in
+      let uids = append-nil (kept_numbers (is_kept_user no_keep hosts) (user_rows host.users)) ∙ ap (map (λ (row : List ℕ × ℕ). only row.1)) (filter-no (λ (row : List ℕ × ℕ). is_kept_user no_keep hosts row.0) (λ row. not_kept (users_on hosts) row.0) (user_rows host.users)) in
+      let gids = append-nil (kept_numbers (is_kept_group no_keep hosts) (group_rows host.groups)) ∙ ap (map (λ (row : List ℕ × ℕ). only row.1)) (filter-no (λ (row : List ℕ × ℕ). is_kept_group no_keep hosts row.0) (λ row. not_kept (groups_on hosts) row.0) (group_rows host.groups)) in
       λ i. record host { users = rows i; groups = more i; spared_users = uids i; spared_groups = gids i };
 }
 

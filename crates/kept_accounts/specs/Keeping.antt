@@ -1,10 +1,9 @@
--- Which names of a site stay as they are, and which numbers need no account.
+-- Which names of a site stay as they are.
 -- Source: this project's own rule. Rows are names with their numbers, those of all hosts one
 -- behind the other.
 use Rattle.std.specs.Prelude.{◌≡◌, ℕ, Bool, false, ◌||◌, List, [], ◌∷◌, map, filter, flat_map}
 use Rattle.std.specs.Prelude.{bytes_eq}
 use Rattle.std.specs.List.{list_all, list_any}
-use Rattle.logindefs.specs.declared.ranges.IdRange.{IdRange}
 use Rattle.hosts_join.specs.Kinds.{user_rows, group_rows}
 use Rattle.hosts_join.specs.declared.host.Host.{Host}
 use Rattle.hosts_join.specs.RangeLists.{lies_in_some}
@@ -30,29 +29,18 @@ stays keep name (number ∷ numbers) =
 abbrev pub is_kept : Kept → List (List ℕ × ℕ) → List ℕ → Bool
 is_kept keep rows name = stays keep name (numbers_of rows name)
 
--- a file may have the number without an account
-abbrev pub needs_no_account : Kept → ℕ → Bool
-needs_no_account keep number = keep.unowned || lies_in_some keep.ranges number
-
 -- ---- what stays of one kind
 
--- names that keep their numbers, ranges of numbers, and whether numbers without an account stay
+-- names that keep their numbers
 pub record Keeping : Type 0 where
   pub names : List (List ℕ)
-  pub ranges : List IdRange
-  pub unowned : Bool
 
 abbrev pub keeps : Keeping → List ℕ → Bool
 keeps keeping name = is_among keeping.names name
 
--- a file may have the number without an account
-abbrev pub spares : Keeping → ℕ → Bool
-spares keeping number = keeping.unowned || lies_in_some keeping.ranges number
-
--- it keeps the names that are kept, and spares the numbers that need no account
+-- it keeps the names that are kept
 pub record IsKeeping (keep : Kept) (rows : List (List ℕ × ℕ)) (keeping : Keeping) : Type 0 where
   pub names_are : (name : List ℕ) → keeps keeping name ≡ is_kept keep rows name
-  pub numbers_are : (number : ℕ) → spares keeping number ≡ needs_no_account keep number
 
 -- ---- on the hosts of a site
 

@@ -4,4 +4,4 @@ use Rattle.kept_accounts.specs.Keeping.{Keeping}
 use Rattle.kept_accounts.specs.declared.kept_kind.KeptKind.TheInside.{Inside}
 
 abbrev pub keeping_inside : Inside → Keeping
-keeping_inside it = record { names = it.names; ranges = it.runs; unowned = it.unowned }
+keeping_inside it = record { names = it.names }

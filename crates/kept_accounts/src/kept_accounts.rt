@@ -5,6 +5,7 @@ ghost use Rattle.kept_accounts.specs.Keeping.{IsKeeping, keeps, users_on, groups
 ghost use Rattle.kept_accounts.specs.Others.{other_rows, without};
 
 use crate::kept_kind::KeptKind;
+use crate::reserving::UnownedNumbers;
 use crate::sparing::spared;
 use accounts::{GroupTable, PasswdTable};
 use hosts_join::{Groups, Host, Users};
@@ -36,23 +37,29 @@ impl<'a> KeptAccounts<'a> {
     }
 
     /// The host without its kept users and groups, where this was made from the same text: the
-    /// other rows, in their order. It spares each number, where the text keeps numbers without an
-    /// account; else those of listed ranges, and those of its kept names. Two look-ups by hash for
-    /// each row, one sort for each kind of what is spared, and what [`PasswdTable::selected`] and
-    /// [`GroupTable::selected`] take.
+    /// other rows, in their order. It spares the numbers of listed ranges, those of its kept
+    /// names, and, where the text keeps numbers without an account, those of `unowned` that are
+    /// its own. Two look-ups by hash for each row, one sort for each kind of what is spared, and
+    /// what [`PasswdTable::selected`] and [`GroupTable::selected`] take. Where the text keeps
+    /// numbers without an account of a kind, all of that kind in `unowned` are looked through, and
+    /// the name of each one's host is compared; so for all hosts of a site these are hosts times
+    /// numbers.
     pub fn without_kept(
         &self,
         alloc: Global,
         keep: &KeepText<'_>,
         host: &Host<'a>,
+        unowned: &UnownedNumbers<'_>,
     ) -> Result<Host<'a>, AllocError>
-        ensures { IfOk result (λ others. others
-            ≡ without keep.now (keeps self.now.users) (keeps self.now.groups) host.now) }
+        ensures { IfOk result (λ others. others ≡ without keep.now (keeps self.now.users)
+            (keeps self.now.groups) unowned.now host.now) }
     {
         let users = other_users(alloc, &self.users, &host.users)?;
         let groups = other_groups(alloc, &self.groups, &host.groups)?;
-        let spared_users = spared::<Users>(alloc, &self.users, &keep.users, host)?;
-        let spared_groups = spared::<Groups>(alloc, &self.groups, &keep.groups, host)?;
+        let uids = &unowned.users;
+        let gids = &unowned.groups;
+        let spared_users = spared::<Users>(alloc, &self.users, &keep.users, host, uids)?;
+        let spared_groups = spared::<Groups>(alloc, &self.groups, &keep.groups, host, gids)?;
         Ok(Host {
             name: Name::new(host.name.bytes()),
             ranges: host.ranges,

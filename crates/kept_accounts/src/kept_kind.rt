@@ -1,7 +1,7 @@
 //! What of one kind stays as it is on a site.
 
 ghost use Rattle.std.specs.Prelude.{◌≡◌, ◌++◌, flat_map, IfOk, OnOk};
-ghost use Rattle.kept_accounts.specs.Keeping.{IsKeeping, keeps, spares};
+ghost use Rattle.kept_accounts.specs.Keeping.{IsKeeping, keeps};
 ghost use Rattle.kept_accounts.specs.Reserving.{reserved_by, reserved_on};
 
 use crate::kept_names::kept_names;
@@ -11,13 +11,10 @@ use keep_text::{Kept, NameSet};
 use std::alloc::{AllocError, Global};
 use std::marker::Model;
 
-/// What of one kind stays as it is on a site: which names keep the numbers that they have, and
-/// which numbers a file may have without an account.
+/// What of one kind stays as it is on a site: the names that keep the numbers that they have.
 #[derive(Drop)]
 pub struct KeptKind<'a> {
     names: NameSet<'a>,
-    runs: Runs,
-    unowned: bool,
 }
 
 impl<'a> Model for KeptKind<'a> {
@@ -33,7 +30,7 @@ impl<'a> Model for KeptKind<'a> {
 impl<'a> KeptKind<'a> {
     /// What a keep text says of a kind, on these hosts. The listed ranges are sorted once; then it
     /// is two passes over the rows of the kind, with a few look-ups by hash and one by bisection
-    /// for each. Memory in step with names and ranges.
+    /// for each. Memory in step with names and ranges; that of the ranges is given back.
     pub fn of<K: Kind>(
         alloc: Global,
         keep: &Kept<'_>,
@@ -43,11 +40,7 @@ impl<'a> KeptKind<'a> {
     {
         let runs = Runs::of(alloc, keep.ranges.ranges())?;
         let names = kept_names::<K>(alloc, keep, &runs, hosts)?;
-        Ok(KeptKind {
-            names,
-            runs,
-            unowned: keep.unowned,
-        })
+        Ok(KeptKind { names })
     }
 
     /// Whether the name keeps, on each host, the number that it has there. One look-up by hash.
@@ -55,14 +48,6 @@ impl<'a> KeptKind<'a> {
         ensures { result ≡ keeps self.now name.now }
     {
         self.names.has(name)
-    }
-
-    /// Whether a file may have the number without an account: it lies in a listed range, or all
-    /// such numbers stay as they are. One search by bisection.
-    pub fn needs_no_account(&self, number: u32) -> bool
-        ensures { result ≡ spares self.now number }
-    {
-        self.unowned || self.runs.has(number)
     }
 
     // Appends the numbers that kept names have on a host.

@@ -5,9 +5,10 @@ ghost use Rattle.kept_accounts.specs.Laws.{KeptNumbersAreReserved};
 ghost use Rattle.kept_accounts.specs.Laws.{UsersAreParted, GroupsAreParted, OthersAreLawful};
 ghost use Rattle.kept_accounts.specs.Laws.{OtherUsersAgree, OtherGroupsAgree};
 ghost use Rattle.kept_accounts.specs.Laws.{NamedAreLeftOrSpared, SparedAreReserved};
+ghost use Rattle.kept_accounts.specs.Laws.{UnownedAreSpared};
 
 /// By an empty keep text no name is kept and no number is reserved, and each host is as it was, and
-/// spares no number.
+/// spares no number, whichever numbers its files have without an account.
 pub fn an_empty_text_keeps_nothing()
     ensures { EmptyTextKeepsNothing }
 {}
@@ -46,10 +47,15 @@ pub fn others_are_lawful()
     ensures { OthersAreLawful }
 {}
 
-/// Each number that a host without its kept rows spares is reserved, where the text does not keep
-/// all numbers without an account.
+/// Each number that a host without its kept rows spares is reserved.
 pub fn spared_numbers_are_reserved()
     ensures { SparedAreReserved }
+{}
+
+/// Where the text keeps numbers without an account, one that files of a host have is spared by the
+/// host without its kept rows, and it is reserved, by the files of that host.
+pub fn unowned_numbers_are_spared()
+    ensures { UnownedAreSpared }
 {}
 
 /// A number that a host's table names is named so by what is left of it, or the host spares it.

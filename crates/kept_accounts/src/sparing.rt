@@ -1,21 +1,15 @@
 //! The numbers that a host spares without its kept rows.
 
-ghost use Rattle.std.specs.Prelude.{◌≡◌, ◌++◌, IfOk};
+ghost use Rattle.std.specs.Prelude.{◌≡◌, ◌++◌, IfOk, OnOk};
 ghost use Rattle.kept_accounts.specs.Keeping.{keeps};
 ghost use Rattle.kept_accounts.specs.Others as spec;
 
 use crate::KeptKind;
-use crate::reserving::only;
+use crate::reserving::{UnownedNumber, only};
 use hosts_join::{Host, Kind, Runs};
 use keep_text::Kept;
 use logindefs::IdRange;
 use std::alloc::{AllocError, Global};
-
-// Each number that a file can have.
-const EVERY_NUMBER: IdRange = IdRange {
-    low: 0,
-    high: u32::MAX,
-};
 
 // The listed ranges, and the numbers of kept names.
 fn ranges_and_kept<K: Kind>(
@@ -36,22 +30,40 @@ fn ranges_and_kept<K: Kind>(
     Ok(ranges)
 }
 
+// Appends those of the numbers that files have without an account that are the host's.
+fn push_unowned_on(
+    ranges: &mut Vec<IdRange>,
+    host: &Host<'_>,
+    unowned: &[UnownedNumber<'_>],
+) -> Result<(), AllocError>
+    ensures { OnOk result (ranges.new.items
+        ≡ ranges.old.items ++ spec.unowned_on host.now unowned.now) }
+{
+    for found in unowned {
+        if found.host.bytes() == host.name.bytes() {
+            ranges.push(only(found.number))?;
+        }
+    }
+    Ok(())
+}
+
 /// The numbers that a file of the host may have without a row of the kind in what is left of its
-/// table: each one, where the text keeps numbers without an account; else the listed ranges, and
-/// the numbers of kept names. One look-up by hash for each row, one sort of those ranges, and
-/// memory in step with them.
+/// table: the listed ranges, the numbers of kept names, and, where the text keeps numbers without
+/// an account, those of `unowned` that are the host's. One look-up by hash for each row, one look
+/// through `unowned`, one sort of all those ranges, and memory in step with them.
 pub fn spared<K: Kind>(
     alloc: Global,
     kept: &KeptKind<'_>,
     keep: &Kept<'_>,
     host: &Host<'_>,
+    unowned: &[UnownedNumber<'_>],
 ) -> Result<Runs, AllocError>
-    ensures { IfOk result (λ runs. runs
-        ≡ spec.spared keep.now (keeps kept.now) (K.listed host.now)) }
+    ensures { IfOk result (λ runs. runs ≡ spec.spared keep.now (keeps kept.now)
+        (K.listed host.now) (spec.unowned_on host.now unowned.now)) }
 {
+    let mut ranges = ranges_and_kept::<K>(alloc, kept, keep, host)?;
     if keep.unowned {
-        return Runs::of(alloc, &[EVERY_NUMBER]);
+        push_unowned_on(&mut ranges, host, unowned)?;
     }
-    let ranges = ranges_and_kept::<K>(alloc, kept, keep, host)?;
     Runs::of(alloc, ranges.as_slice())
 }

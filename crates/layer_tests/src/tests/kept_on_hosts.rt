@@ -7,9 +7,9 @@ use accounts::{GroupTable, PasswdTable, read_group, read_passwd};
 use hosts_join::{Host, Runs};
 use idtext::Name;
 use keep_text::{KeepText, read_keep};
-use kept_accounts::{KeptAccounts, others_are_lawful};
+use kept_accounts::{KeptAccounts, UnownedNumber, UnownedNumbers, others_are_lawful};
 use logindefs::read_ranges;
-use std::alloc::Global;
+use std::alloc::{AllocError, Global};
 use std::test::Fail;
 
 // A host's name, its passwd and its group. It has no login.defs.
@@ -88,6 +88,30 @@ fn a_name_is_kept_by_all_its_numbers_or_by_itself(rt: HostRuntime) -> Result<(),
     Ok(())
 }
 
+// Numbers that files of both hosts have without a user.
+pub fn unowned_uids(alloc: Global) -> Result<Vec<UnownedNumber<'static>>, AllocError> {
+    let mut unowned = Vec::new(alloc);
+    unowned.push(UnownedNumber {
+        host: Name::new(b"a"),
+        number: 77,
+    })?;
+    unowned.push(UnownedNumber {
+        host: Name::new(b"b"),
+        number: 1600,
+    })?;
+    Ok(unowned)
+}
+
+// One that files of the second host have without a group.
+fn unowned_gids(alloc: Global) -> Result<Vec<UnownedNumber<'static>>, AllocError> {
+    let mut unowned = Vec::new(alloc);
+    unowned.push(UnownedNumber {
+        host: Name::new(b"b"),
+        number: u32::MAX,
+    })?;
+    Ok(unowned)
+}
+
 // What is left of a host.
 pub fn left_of(
     alloc: Global,
@@ -98,8 +122,12 @@ pub fn left_of(
     ensures { IfOk result (λ host. IsLawfulHost host) }
 {
     let host = host_of(alloc, texts)?;
+    let unowned = UnownedNumbers {
+        users: unowned_uids(alloc)?,
+        groups: unowned_gids(alloc)?,
+    };
     others_are_lawful();
-    Ok(kept.without_kept(alloc, keep, &host)?)
+    Ok(kept.without_kept(alloc, keep, &host, &unowned)?)
 }
 
 // The same of a text.
@@ -176,8 +204,9 @@ fn other_rows_are_left_in_order(rt: HostRuntime) -> Result<(), Fail> {
 // A keep text, a host, a number, and whether the host spares it as a user's and as a group's.
 type Spared = (&'static [u8], Texts, u32, bool, bool);
 
-const SPARED: [Spared; 12] = [
+const SPARED: [Spared; 19] = [
     (b"", A, 0, false, false),
+    (b"", A, 77, false, false),
     // A listed range, whether or not an account has the number.
     (b"users 5 9\n", A, 5, true, false),
     (b"users 5 9\n", B, 9, true, false),
@@ -189,9 +218,15 @@ const SPARED: [Spared; 12] = [
     (b"user svc\n", B, 500, false, false),
     (b"group wheel\n", A, 1010, false, true),
     (b"group wheel\n", A, 1020, false, false),
-    // Every number.
-    (b"unowned users\n", A, 1001, true, false),
+    // The number that files of the host have without an account, and no other.
+    (b"unowned users\n", A, 77, true, false),
+    (b"unowned users\n", A, 1600, false, false),
+    (b"unowned users\n", A, 1001, false, false),
+    (b"unowned users\n", B, 1600, true, false),
+    (b"unowned users\n", B, 77, false, false),
     (b"unowned groups\n", B, u32::MAX, false, true),
+    (b"unowned groups\n", A, u32::MAX, false, false),
+    (b"unowned users\nunowned groups\n", A, 77, true, false),
 ];
 
 #[test]

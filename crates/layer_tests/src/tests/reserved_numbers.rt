@@ -1,26 +1,10 @@
 //! The numbers that stay as they are on two hosts, and so are given to no name.
 
-use crate::tests::kept_on_hosts::{both_hosts, kept_by};
+use crate::tests::kept_on_hosts::{both_hosts, kept_by, unowned_uids};
 use hosts_join::{Groups, Reserved, Reserver, Users};
-use idtext::Name;
 use keep_text::{KeepText, read_keep};
-use kept_accounts::UnownedNumber;
-use std::alloc::{AllocError, Global};
+use std::alloc::Global;
 use std::test::Fail;
-
-// Numbers that files of both hosts have without a user.
-fn unowned_uids(alloc: Global) -> Result<Vec<UnownedNumber<'static>>, AllocError> {
-    let mut unowned = Vec::new(alloc);
-    unowned.push(UnownedNumber {
-        host: Name::new(b"a"),
-        number: 77,
-    })?;
-    unowned.push(UnownedNumber {
-        host: Name::new(b"b"),
-        number: 1600,
-    })?;
-    Ok(unowned)
-}
 
 pub fn reserved_uids(alloc: Global, keep: &KeepText<'_>) -> Result<Vec<Reserved<'static>>, Fail> {
     let kept = kept_by(alloc, keep)?;
