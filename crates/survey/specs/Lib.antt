@@ -1,0 +1,3 @@
+pub mod Unowned
+pub mod Surveying
+pub mod Laws

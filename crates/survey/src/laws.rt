@@ -1,0 +1,17 @@
+//! Laws of the numbers without an account, each the contract of a call that does nothing.
+
+ghost use Rattle.survey.specs.Laws.{GidsAreOfFiles, StandOnce, UidsAreOfFiles};
+ghost use Rattle.survey.specs.Unowned.{unowned_gids, unowned_uids};
+
+/// A number is among those that are found exactly where some file has it, no account of the host
+/// has it, and the host does not spare it.
+pub fn unowned_numbers_are_of_files()
+    ensures users { UidsAreOfFiles }
+    ensures groups { GidsAreOfFiles }
+{}
+
+/// No number stands twice among those of a kind that are found on a host.
+pub fn no_number_stands_twice()
+    ensures users { StandOnce unowned_uids }
+    ensures groups { StandOnce unowned_gids }
+{}
