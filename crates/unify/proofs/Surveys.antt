@@ -1,7 +1,8 @@
 -- The numbers that the files of hosts have without an account.
-use Rattle.std.proofs.Common.{◌≡◌, ℕ, zero, suc, ◌+◌, ◌<◌, ◌++◌, List, [], ◌∷◌, length, take, Some, Result, Ok, Err, refl, sym, ap, ◌∙◌, arith}
+use Rattle.std.proofs.Common.{◌≡◌, ℕ, zero, suc, ◌+◌, ◌<◌, ◌++◌, List, [], ◌∷◌, length, take, Some, Result, Ok, Err, refl, sym, ap, subst, ◌∙◌, arith}
 use Rattle.std.specs.Prelude.{IfSome}
 use Rattle.std.specs.List.{slice_get}
+use Rattle.std.proofs.lemmas.List.Sums.{fold-append}
 use Rattle.idtext.specs.First.{◌>>=◌, each}
 use Rattle.idtext.specs.Faults.{fault_told}
 use Rattle.idtext.specs.declared.faults.ReadError.{ReadError}
@@ -19,82 +20,59 @@ use Rattle.unify_texts.specs.declared.fault.Fault.{Fault}
 use Rattle.unify.specs.declared.host.Loaded.{Loaded}
 use Rattle.unify.specs.Loading.{loaded_from}
 use Rattle.unify.specs.Passes.{read_told}
-use Rattle.unify.specs.Survey.{gathered, listed_files}
+use Rattle.unify.specs.Survey.{inventory_of, listed_of, unowned_over}
+use Rattle.unify.proofs.Passing.{each_push, loaded_push}
 use Rattle.unify.proofs.SiteRuns.{some_same}
 
 -- ---- the inventory of a host
 
 module _ (host : Host) (text : List ℕ) where
-  pub listed_with : (files : List Entry) → inventory 16777216 text ≡ Ok files → listed_files (record { host = host; mtree = text }) ≡ Ok (host, files)
+  pub listed_with : (files : List Entry) → inventory 16777216 text ≡ Ok files → inventory_of host text ≡ Ok files
   listed_with files h = rw h refl
 
-  pub listed_fails : (e : ReadError) → IfSome (fault_told e) (λ f. inventory 16777216 text ≡ Err f) → IfSome (told (read_told host e)) (λ f. listed_files (record { host = host; mtree = text }) ≡ Err f)
+  pub listed_fails : (e : ReadError) → IfSome (fault_told e) (λ f. inventory 16777216 text ≡ Err f) → IfSome (told (read_told host e)) (λ f. inventory_of host text ≡ Err f)
   listed_fails read.Memory h = tt
   listed_fails (read.Fault f) h = rw h refl
 
   -- a fault of its whole lines is its own
-  pub listed_lines_fail : (e : ReadError) → IfSome (fault_told e) (λ f. inventory_of_lines 16777216 (whole_lines text) ≡ Err f)
-      → IfSome (told (read_told host e)) (λ f. listed_files (record { host = host; mtree = text }) ≡ Err f)
+  pub listed_lines_fail : (e : ReadError) → IfSome (fault_told e) (λ f. inventory_of_lines 16777216 (whole_lines text) ≡ Err f) → IfSome (told (read_told host e)) (λ f. inventory_of host text ≡ Err f)
   listed_lines_fail read.Memory h = tt
   listed_lines_fail (read.Fault f) h = rw (whole_lines_refused 16777216 text f h) refl
 
 -- ---- host behind host
 
-module _ {B : Type 0} (step : Loaded → Result B Fault) where
-  -- the one at an index is refused, behind others that were accepted
-  pub each_refused_at : (hosts : List Host) (texts : List (List ℕ)) (read : List B) (k : ℕ) (host : Host) (text : List ℕ) (f : Fault) → each step (loaded_from hosts (take k texts)) ≡ Ok read
-      → slice_get hosts k ≡ Some host → slice_get texts k ≡ Some text → step (record { host = host; mtree = text }) ≡ Err f → each step (loaded_from hosts texts) ≡ Err f
-  unfolding each
-  each_refused_at [] texts read k host text f are here there bad = absurd (cc)
-  each_refused_at (h ∷ hosts) [] read k host text f are here there bad = absurd (cc)
-  each_refused_at (h ∷ hosts) (t ∷ texts) read zero host text f are here there bad =
-      let same_host : h ≡ host = some_same h host here in
-      let same_text : t ≡ text = some_same t text there in
-      let mine : step (record { host = h; mtree = t }) ≡ Err f = (λ j. step (record { host = same_host j; mtree = same_text j })) ∙ bad in
-      ap (λ (r : Result B Fault). r >>= λ y. each step (loaded_from hosts texts) >>= λ ys. Ok (y ∷ ys)) mine
-  each_refused_at (h ∷ hosts) (t ∷ texts) read (suc k) host text f are here there bad =
-      let front = loaded_from hosts (take k texts) in
-      let first = bind_ok (step (record { host = h; mtree = t })) (λ y. each step front >>= λ ys. Ok (y ∷ ys)) read are in
-      let rest = bind_ok (each step front) (λ ys. Ok (first.0 ∷ ys)) read first.2 in
-      let more = each_refused_at hosts texts rest.0 k host text f rest.1 here there bad in
-      ap (λ (r : Result B Fault). r >>= λ y. each step (loaded_from hosts texts) >>= λ ys. Ok (y ∷ ys)) first.1
-      ∙ ap (λ (r : Result (List B) Fault). r >>= λ ys. Ok (first.0 ∷ ys)) more
+-- the one at an index is refused, behind others that were accepted
+pub list_refused_at : (hosts : List Host) (texts : List (List ℕ)) (listed : List (Host × List Entry)) (k : ℕ) (host : Host) (text : List ℕ) (f : Fault) → each listed_of (loaded_from hosts (take k texts)) ≡ Ok listed
+    → slice_get hosts k ≡ Some host → slice_get texts k ≡ Some text → inventory_of host text ≡ Err f → each listed_of (loaded_from hosts texts) ≡ Err f
+unfolding each
+list_refused_at [] texts listed k host text f are here there bad = absurd (cc)
+list_refused_at (h ∷ hosts) [] listed k host text f are here there bad = absurd (cc)
+list_refused_at (h ∷ hosts) (t ∷ texts) listed zero host text f are here there bad =
+    let same_host : h ≡ host = some_same h host here in
+    let same_text : t ≡ text = some_same t text there in
+    let mine : inventory_of h t ≡ Err f = (λ j. inventory_of (same_host j) (same_text j)) ∙ bad in
+    ap (λ (r : Result (List Entry) Fault). (r >>= λ fs. Ok (h, fs)) >>= λ y. each listed_of (loaded_from hosts texts) >>= λ ys. Ok (y ∷ ys)) mine
+list_refused_at (h ∷ hosts) (t ∷ texts) listed (suc k) host text f are here there bad =
+    let front = loaded_from hosts (take k texts) in
+    let first = bind_ok (listed_of (record { host = h; mtree = t })) (λ y. each listed_of front >>= λ ys. Ok (y ∷ ys)) listed are in
+    let rest = bind_ok (each listed_of front) (λ ys. Ok (first.0 ∷ ys)) listed first.2 in
+    let more = list_refused_at hosts texts rest.0 k host text f rest.1 here there bad in
+    ap (λ (r : Result (Host × List Entry) Fault). r >>= λ y. each listed_of (loaded_from hosts texts) >>= λ ys. Ok (y ∷ ys)) first.1
+    ∙ ap (λ (r : Result (List (Host × List Entry)) Fault). r >>= λ ys. Ok (first.0 ∷ ys)) more
 
-  -- one more is accepted
-  pub each_one_more : (hosts : List Host) (texts : List (List ℕ)) (read : List B) (k : ℕ) (host : Host) (text : List ℕ) (x : B) → each step (loaded_from hosts (take k texts)) ≡ Ok read
-      → slice_get hosts k ≡ Some host → slice_get texts k ≡ Some text → step (record { host = host; mtree = text }) ≡ Ok x → each step (loaded_from hosts (take (k + 1) texts)) ≡ Ok (read ++ x ∷ [])
-  unfolding each
-  each_one_more [] texts read k host text x are here there is = absurd (cc)
-  each_one_more (h ∷ hosts) [] read k host text x are here there is = absurd (cc)
-  each_one_more (h ∷ hosts) (t ∷ texts) read zero host text x are here there is =
-      let same_host : h ≡ host = some_same h host here in
-      let same_text : t ≡ text = some_same t text there in
-      let mine : step (record { host = h; mtree = t }) ≡ Ok x = (λ j. step (record { host = same_host j; mtree = same_text j })) ∙ is in
-      let none : [] ≡ read = ok_same [] read are in
-      ap (λ (r : Result B Fault). r >>= λ y. each step (loaded_from hosts []) >>= λ ys. Ok (y ∷ ys)) mine
-      ∙ ap (λ (r : Result (List B) Fault). r >>= λ ys. Ok (x ∷ ys)) (each-nothing hosts)
-      ∙ ap (λ ys. Ok (ys ++ x ∷ [])) none
-    where
-      each-nothing : (hs : List Host) → each step (loaded_from hs []) ≡ Ok []
-      unfolding each
-      each-nothing [] = refl
-      each-nothing (y ∷ hs) = refl
-  each_one_more (h ∷ hosts) (t ∷ texts) read (suc k) host text x are here there is =
-      let front = loaded_from hosts (take k texts) in
-      let first = bind_ok (step (record { host = h; mtree = t })) (λ y. each step front >>= λ ys. Ok (y ∷ ys)) read are in
-      let rest = bind_ok (each step front) (λ ys. Ok (first.0 ∷ ys)) read first.2 in
-      let more = each_one_more hosts texts rest.0 k host text x rest.1 here there is in
-      ap (λ (r : Result B Fault). r >>= λ y. each step (loaded_from hosts (take (k + 1) texts)) >>= λ ys. Ok (y ∷ ys)) first.1
-      ∙ ap (λ (r : Result (List B) Fault). r >>= λ ys. Ok (first.0 ∷ ys)) more
-      ∙ ap (λ ys. Ok (ys ++ x ∷ [])) (ok_same (first.0 ∷ rest.0) read rest.2)
+-- one more is accepted
+pub list_more : (hosts : List Host) (texts : List (List ℕ)) (listed : List (Host × List Entry)) (host : Host) (text : List ℕ) (files : List Entry) → each listed_of (loaded_from hosts texts) ≡ Ok listed
+    → slice_get hosts (length texts) ≡ Some host → inventory_of host text ≡ Ok files → each listed_of (loaded_from hosts (texts ++ text ∷ [])) ≡ Ok (listed ++ (host, files) ∷ [])
+list_more hosts texts listed host text files are here read =
+    ap (each listed_of) (loaded_push hosts texts host text here) ∙ each_push listed_of (loaded_from hosts texts) (record { host = host; mtree = text }) listed (host, files) are (ap (λ r. r >>= λ fs. Ok (host, fs)) read)
+
+-- and its numbers
+pub numbers_more : (before mid after : UnownedNumbers) (listed : List (Host × List Entry)) (host : Host) (files : List Entry) → mid ≡ unowned_over before listed → after ≡ unowned_with mid host files → after ≡ unowned_over before (listed ++ (host, files) ∷ [])
+numbers_more before mid after listed host files so_far is =
+    is ∙ ap (λ found. unowned_with found host files) so_far ∙ sym (fold-append (λ found (here : Host × List Entry). unowned_with found here.0 here.1) before listed ((host, files) ∷ []))
 
 -- texts past the last host count for nothing
-pub as_many_texts : (hosts : List Host) (texts : List (List ℕ)) (k : ℕ) → k ≡ length hosts → loaded_from hosts (take k texts) ≡ loaded_from hosts texts
-as_many_texts [] texts k is = refl
-as_many_texts (h ∷ hosts) [] k is = refl
-as_many_texts (h ∷ hosts) (t ∷ texts) zero is = absurd (omega (arith, is))
-as_many_texts (h ∷ hosts) (t ∷ texts) (suc k) is = ap (λ ls. record { host = h; mtree = t } ∷ ls) (as_many_texts hosts texts k (omega (arith, is)))
-
-pub gathered_one_more : (found : UnownedNumbers) (read : List (Host × List Entry)) (x : Host × List Entry) → gathered found (read ++ x ∷ []) ≡ unowned_with (gathered found read) x.0 x.1
-gathered_one_more found [] x = refl
-gathered_one_more found (y ∷ read) x = gathered_one_more (unowned_with found y.0 y.1) read x
+pub as_many_texts : (hosts : List Host) (texts : List (List ℕ)) → loaded_from hosts (take (length hosts) texts) ≡ loaded_from hosts texts
+as_many_texts [] texts = refl
+as_many_texts (h ∷ hosts) [] = refl
+as_many_texts (h ∷ hosts) (t ∷ texts) = ap (λ ls. record { host = h; mtree = t } ∷ ls) (as_many_texts hosts texts)

@@ -1,7 +1,8 @@
 -- The numbers that the files of a site have without an account, where its keep text keeps them.
 -- They are found before the site is read: which numbers no name may have the join goes by.
 -- Source: this project's own rule.
-use Rattle.std.specs.Prelude.{ℕ, Bool, ◌||◌, List, [], ◌∷◌, map, Result, Ok, Err, if◌then◌else◌}
+use Rattle.std.specs.Prelude.{ℕ, Bool, ◌||◌, List, [], map, fold, Result, Ok, Err}
+use Rattle.std.specs.Prelude.{if◌then◌else◌}
 use Rattle.idtext.specs.First.{◌>>=◌, each}
 use Rattle.mtree_inv.specs.Inventory.{inventory}
 use Rattle.mtree_inv.specs.declared.entry.Entry.{Entry}
@@ -45,21 +46,22 @@ surveyed_hosts texts (Err f) = Ok []
 
 -- ---- what is found
 
--- the files of a host's inventory, whoever owns them
-abbrev pub listed_files : Loaded → Result (Host × List Entry) Fault
-listed_files loaded =
-    in_file loaded.host.name file.Mtree (inventory 16777216 loaded.mtree) >>= λ files.
-    Ok (loaded.host, files)
+-- the files of a host's inventory, whichever numbers they have
+abbrev pub inventory_of : Host → List ℕ → Result (List Entry) Fault
+inventory_of host text = in_file host.name file.Mtree (inventory 16777216 text)
 
--- what was found, and behind it what is found of more hosts
-abbrev pub gathered : UnownedNumbers → List (Host × List Entry) → UnownedNumbers
-gathered found [] = found
-gathered found (here ∷ more) = gathered (unowned_with found here.0 here.1) more
+-- a host with the files of its inventory
+abbrev pub listed_of : Loaded → Result (Host × List Entry) Fault
+listed_of loaded = inventory_of loaded.host loaded.mtree >>= λ files. Ok (loaded.host, files)
 
--- the numbers of all files of these hosts, or the first fault of an inventory
+-- the numbers so far, and behind them host by host those of these files
+abbrev pub unowned_over : UnownedNumbers → List (Host × List Entry) → UnownedNumbers
+unowned_over found listed = fold (λ so_far here. unowned_with so_far here.0 here.1) found listed
+
+-- the numbers of the files of hosts with these inventories, or the first fault of one
 abbrev pub found_on : List Host → List (List ℕ) → Result UnownedNumbers Fault
 found_on hosts mtrees =
-    each listed_files (loaded_from hosts mtrees) >>= λ read. Ok (gathered no_numbers read)
+    each listed_of (loaded_from hosts mtrees) >>= λ listed. Ok (unowned_over no_numbers listed)
 
 -- and of the files of a site, where its keep text keeps numbers without an account
 unfoldable pub surveyed : List HostText → List ℕ → Result UnownedNumbers Fault

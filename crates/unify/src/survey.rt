@@ -1,9 +1,8 @@
 //! The numbers that the files of a site have without an account, where its keep text keeps them.
 
-ghost use Rattle.std.specs.Prelude.{◌≡◌, ◌≤◌, ◌||◌, length, map, IfOk, OnOk, is_ok};
+ghost use Rattle.std.specs.Prelude.{◌≡◌, ◌≤◌, length, map, IfOk};
 ghost use Rattle.idtext.specs.First.{Gives, Yields};
-ghost use Rattle.hosts_join.specs.declared.host.Host.{Host};
-ghost use Rattle.kept_accounts.specs.Reserving.{UnownedNumbers};
+ghost use Rattle.survey.specs.Surveying.{HasNumbersOf};
 ghost use Rattle.unify_texts.specs.Told.{told};
 ghost use Rattle.unify.specs.Others.{keep_read};
 ghost use Rattle.unify.specs.Survey as spec;
@@ -32,7 +31,7 @@ fn sparing_ranges<'a>(
     keep: &KeepText<'_>,
     host: Host<'a>,
 ) -> Result<Host<'a>, AllocError>
-    ensures { IfOk result (λ sparing. sparing ≡ spec.sparing_ranges keep.now host) }
+    ensures { IfOk result (λ sparing. sparing ≡ spec.sparing_ranges keep.now host.entry) }
 {
     let Host {
         name,
@@ -58,7 +57,7 @@ fn all_sparing<'a>(
     hosts: Vec<Host<'a>>,
 ) -> Result<Vec<Host<'a>>, AllocError>
     ensures { IfOk result
-        (λ sparing. sparing.items ≡ map (spec.sparing_ranges keep.now) hosts.items) }
+        (λ sparing. sparing.items ≡ map (spec.sparing_ranges keep.now) hosts.entry.items) }
 {
     let mut sparing = Vec::new(alloc);
     for host in hosts {
@@ -114,8 +113,7 @@ fn survey_text<'a>(
     host: &Host<'a>,
     mtree: &[u8],
 ) -> Result<HostSurvey, Fault<'a>>
-    ensures { Yields (λ files survey. IsSurveyOf host.now files survey) told result
-        (spec.listed_files (record { host = host.now; mtree = mtree.now })) }
+    ensures { Yields (HasNumbersOf host.now) told result (spec.inventory_of host.now mtree.now) }
 {
     let mut survey = HostSurvey::new(alloc, MOST_FILES);
     if let Err(fault) = survey.piece(host, mtree) {

@@ -10,3 +10,5 @@ pub mod WholeMerge
 pub mod Inventories
 pub mod WholeCheck
 pub mod WholeCount
+pub mod Surveyed
+pub mod Finding

@@ -16,7 +16,7 @@ use Rattle.unify_merge.specs.Count.{HasCounted, StopsCount}
 use Rattle.unify_merge.specs.FirstReading.{IsTooLarge, ReadsOnly, readings_from}
 use Rattle.unify_merge.specs.Ledger.{Ledger}
 use Rattle.unify_merge.specs.Merge.{HasMerged, StopsMerge}
-use Rattle.unify_merge.specs.Survey.{IsListFault}
+use Rattle.unify_merge.specs.Survey.{IsSurveyFault}
 use Rattle.unify_merge.specs.declared.fault.MergeFault.{MergeFault}
 use Rattle.unify_merge.specs.declared.fault.MergeFault.TheVariants.{Failed, TooLarge, Refused}
 
@@ -24,7 +24,7 @@ use Rattle.unify_merge.specs.declared.fault.MergeFault.TheVariants.{Failed, TooL
 
 -- The inventories were read once of those hosts whose files are looked through, which are none or
 -- all, and their files have these numbers without an account.
-pub record HasSurveyed (hosts : List HostText) (keep : List ℕ) (old new : Ledger)
+pub record WereFound (hosts : List HostText) (keep : List ℕ) (old new : Ledger)
     (unowned : UnownedNumbers) : Type 0 where
   pub surveying : List Host
   pub surveying_are : surveyed_hosts hosts (keep_read keep) ≡ Ok surveying
@@ -35,19 +35,19 @@ pub record HasSurveyed (hosts : List HostText) (keep : List ℕ) (old new : Ledg
   pub reads : ReadsOnly old new
 
 -- the first fault of what was read: of the tables, or of an inventory
-abbrev pub IsSurveyFault : List HostText → List ℕ → Ledger → Ledger → Fault → Type 0
-IsSurveyFault hosts keep old new f =
+abbrev pub IsFindingFault : List HostText → List ℕ → Ledger → Ledger → Fault → Type 0
+IsFindingFault hosts keep old new f =
     ((surveyed_hosts hosts (keep_read keep) ≡ Err f) × (new ≡ old))
     ⊎ ((surveying : List Host) × (surveyed_hosts hosts (keep_read keep) ≡ Ok surveying)
-    × IsListFault surveying old new f)
+    × IsSurveyFault surveying old new f)
 
 -- why it ended early: a call failed, an inventory is too large, or what was read is refused; or
 -- memory was wanting
-abbrev pub StopsSurvey : List HostText → List ℕ → Ledger → Ledger → Bool → MergeFault → Type 0
-StopsSurvey hosts keep old new failed Failed = failed ≡ true
-StopsSurvey hosts keep old new failed TooLarge = IsTooLarge new
-StopsSurvey hosts keep old new failed (Refused e) =
-    IfSome (told e) (IsSurveyFault hosts keep old new)
+abbrev pub StopsFinding : List HostText → List ℕ → Ledger → Ledger → Bool → MergeFault → Type 0
+StopsFinding hosts keep old new failed Failed = failed ≡ true
+StopsFinding hosts keep old new failed TooLarge = IsTooLarge new
+StopsFinding hosts keep old new failed (Refused e) =
+    IfSome (told e) (IsFindingFault hosts keep old new)
 
 -- ---- behind it
 
@@ -56,7 +56,7 @@ pub record Behind (hosts : List HostText) (keep : List ℕ) (old : Ledger)
     (Holds : UnownedNumbers → Ledger → Type 0) : Type 0 where
   pub unowned : UnownedNumbers
   pub middle : Ledger
-  pub surveyed : HasSurveyed hosts keep old middle unowned
+  pub surveyed : WereFound hosts keep old middle unowned
   pub holds : Holds unowned middle
 
 abbrev pub HasMergedFiles : List HostText → List ℕ → List ℕ → Ledger → Ledger → Cost → Type 0
@@ -66,7 +66,7 @@ HasMergedFiles hosts pins keep old new cost = Behind hosts keep old
 abbrev pub StopsMergeFiles : List HostText → List ℕ → List ℕ → Ledger → Ledger → Bool → MergeFault
     → Type 0
 StopsMergeFiles hosts pins keep old new failed fault =
-    StopsSurvey hosts keep old new failed fault
+    StopsFinding hosts keep old new failed fault
     ⊎ Behind hosts keep old
     (λ unowned middle. StopsMerge hosts (rules_by pins keep unowned) middle new failed fault)
 
@@ -78,7 +78,7 @@ HasCheckedFiles hosts pins keep certificate old new cost = Behind hosts keep old
 abbrev pub StopsCheckFiles : List HostText → List ℕ → List ℕ → List ℕ → Ledger → Ledger → Bool
     → MergeFault → Type 0
 StopsCheckFiles hosts pins keep certificate old new failed fault =
-    StopsSurvey hosts keep old new failed fault
+    StopsFinding hosts keep old new failed fault
     ⊎ Behind hosts keep old
     (λ unowned middle.
     StopsCheck hosts (rules_by pins keep unowned) certificate middle new failed fault)
@@ -91,7 +91,7 @@ HasCountedFiles hosts keep map old new cost = Behind hosts keep old
 abbrev pub StopsCountFiles : List HostText → List ℕ → List ℕ → Ledger → Ledger → Bool → MergeFault
     → Type 0
 StopsCountFiles hosts keep map old new failed fault =
-    StopsSurvey hosts keep old new failed fault
+    StopsFinding hosts keep old new failed fault
     ⊎ Behind hosts keep old
     (λ unowned middle.
     StopsCount hosts (record { text = keep; unowned = unowned }) map middle new failed fault)

@@ -8,7 +8,7 @@ ghost use Rattle.unify_merge.specs.Surveyed.{HasCheckedFiles, StopsCheckFiles};
 use crate::fault::MergeFault;
 use crate::files::ReadFiles;
 use crate::first_reading::count_hosts;
-use crate::survey::survey_files;
+use crate::surveying::survey_files;
 use hosts_join::HostText;
 use std::alloc::Global;
 use unify::{KeepRules, SiteRules, begin_site};

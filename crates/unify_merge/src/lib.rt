@@ -12,7 +12,7 @@ mod log;
 mod merge;
 mod pieces;
 mod second_reading;
-mod survey;
+mod surveying;
 mod whole_file;
 
 pub use check::{check_by, check_files};
@@ -21,3 +21,4 @@ pub use fault::MergeFault;
 pub use files::{CallFailed, MergeFiles, ReadFiles};
 pub use log::{Call, Log};
 pub use merge::{merge_by, merge_files};
+pub use surveying::{survey_files, survey_hosts};

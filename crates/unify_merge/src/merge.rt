@@ -24,7 +24,7 @@ use crate::files::{CallFailed, MergeFiles};
 use crate::first_reading::count_hosts;
 use crate::host_files::write_hosts;
 use crate::second_reading::plan_hosts;
-use crate::survey::survey_files;
+use crate::surveying::survey_files;
 use crate::whole_file::write_file;
 use hosts_join::HostText;
 use std::alloc::Global;
