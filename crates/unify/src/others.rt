@@ -13,9 +13,9 @@ ghost use Rattle.unify.specs.OthersHeld.{others_in};
 ghost use Rattle.unify.specs.Sparing.{SparesNothing};
 ghost use Rattle.unify.specs.Told.{in_keep};
 
+use crate::rules::KeepRules;
 use hosts_join::{Groups, Host, Reserved, Users};
 use keep_text::{KeepFault, KeepText, read_keep};
-use crate::rules::KeepRules;
 use kept_accounts::{KeptAccounts, UnownedNumbers};
 use std::alloc::{AllocError, Global};
 use unify_texts::Fault;

@@ -108,11 +108,7 @@ pub fn begin_survey<'a>(
 }
 
 // Looks through the inventory of a host.
-fn survey_text<'a>(
-    alloc: Global,
-    host: &Host<'a>,
-    mtree: &[u8],
-) -> Result<HostSurvey, Fault<'a>>
+fn survey_text<'a>(alloc: Global, host: &Host<'a>, mtree: &[u8]) -> Result<HostSurvey, Fault<'a>>
     ensures { Yields (HasNumbersOf host.now) told result (spec.inventory_of host.now mtree.now) }
 {
     let mut survey = HostSurvey::new(alloc, MOST_FILES);
