@@ -18,10 +18,11 @@ use Rattle.hosts_join.specs.Rules.{is_reserved}
 use Rattle.hosts_join.specs.declared.host.Host.{Host}
 use Rattle.hosts_join.specs.declared.reserving.Reserved.{Reserved}
 use Rattle.keep_text.specs.declared.keep_text.Kept.{Kept}
+use Rattle.keep_text.specs.declared.keep_text.KeepText.{KeepText}
 use Rattle.kept_accounts.specs.Keeping.{is_kept_user, is_kept_group}
 use Rattle.kept_accounts.specs.Laws.{NamedAreLeftOrSpared, SparedAreReserved, UnownedAreSpared}
-use Rattle.kept_accounts.specs.Others.{kept_numbers, other_rows, spared, unowned_on}
-use Rattle.kept_accounts.specs.Reserving.{by_files, by_name, by_range, only, reserved_by, reserved_on}
+use Rattle.kept_accounts.specs.Others.{kept_numbers, other_rows, spared, unowned_on, without}
+use Rattle.kept_accounts.specs.Reserving.{UnownedNumbers, by_files, by_name, by_range, only, reserved_by, reserved_on}
 use Rattle.kept_accounts.specs.declared.reserving.UnownedNumber.{UnownedNumber}
 use Rattle.kept_accounts.proofs.OtherLemmas.{other_users_agree, other_groups_agree}
 use Rattle.kept_accounts.proofs.ReservedLemmas.{in-map, in-filter}
@@ -67,6 +68,20 @@ any-in {X} p xs x there passes = at xs there.0 there.1 there.2
     at [] k lt e = absurd (omega (arith, lt))
     at (y ∷ ys) zero lt e = ap (λ b. b || list_any p ys) (ap p e ∙ passes)
     at (y ∷ ys) (suc k) lt e = ap (λ b. p y || b) (at ys k (omega (arith, lt)) e) ∙ or-true (p y)
+
+-- ---- what is left of a host
+
+-- unowned: of both kinds, as they were told
+pub host-left : (keep : KeepText) (user group : List ℕ → Bool) (unowned : UnownedNumbers) (host : Host) (name : List ℕ) (users : List Passwd) (groups : List Group) (spared_users spared_groups : List IdRange) (uids gids : List UnownedNumber)
+    → name ≡ host.name → users ≡ other_rows (λ row. row.name) user host.users → groups ≡ other_rows (λ row. row.name) group host.groups
+    → uids ≡ unowned.users → gids ≡ unowned.groups
+    → spared_users ≡ spared keep.users user (user_rows host.users) (unowned_on host uids)
+    → spared_groups ≡ spared keep.groups group (group_rows host.groups) (unowned_on host gids)
+    → record host { name = name; users = users; groups = groups; spared_users = spared_users; spared_groups = spared_groups } ≡ without keep user group unowned host
+host-left keep user group unowned host name users groups spared_users spared_groups uids gids named is_users is_groups are_uids are_gids of_users of_groups =
+    let all_users = of_users ∙ ap (λ (us : List UnownedNumber). spared keep.users user (user_rows host.users) (unowned_on host us)) are_uids in
+    let all_groups = of_groups ∙ ap (λ (us : List UnownedNumber). spared keep.groups group (group_rows host.groups) (unowned_on host us)) are_gids in
+    λ i. record host { name = named i; users = is_users i; groups = is_groups i; spared_users = all_users i; spared_groups = all_groups i }
 
 -- ---- what is spared is reserved
 
