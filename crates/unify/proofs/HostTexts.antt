@@ -1,5 +1,5 @@
 -- A host's own passwd and group with their new numbers keep the names that a finished plan keeps.
-use Rattle.std.proofs.Common.{◌≡◌, inl, inr, ℕ, List, [], map, Option, Some, None, Ok, refl, sym, ap, subst, ◌∙◌}
+use Rattle.std.proofs.Common.{◌≡◌, ◌||◌, inl, inr, ℕ, Bool, true, false, List, [], map, Option, Some, None, Ok, refl, sym, ap, subst, ◌∙◌}
 use Rattle.std.specs.List.{Contains, slice_get}
 use Rattle.std.specs.Option.{option_map}
 use Rattle.std.proofs.lemmas.List.Elements.{All-weaker}
@@ -14,19 +14,20 @@ use Rattle.hosts_join.specs.PinPairs.{PinPairs}
 use Rattle.hosts_join.specs.Site.{Joined, joined_site}
 use Rattle.hosts_join.specs.declared.host.Host.{Host}
 use Rattle.hosts_join.specs.declared.texts.HostText.{HostText}
-use Rattle.kept_accounts.specs.Reserving.{UnownedNumbers}
+use Rattle.kept_accounts.specs.Reserving.{reserved_groups, reserved_users}
 use Rattle.mergedfiles.specs.FullTables.{AreNumberedRows, IsFullGroupFile, IsFullPasswd, IsNumberedHost, IsRenumbered}
 use Rattle.ownership.specs.Mappings.{Mappings}
 use Rattle.mergedfiles.proofs.HostUsers.{full_passwd_back}
 use Rattle.mergedfiles.proofs.HostGroups.{full_group_back}
 use Rattle.reown_plan.specs.declared.plan.Owner.{Owner}
+use Rattle.unify_texts.specs.ReservedLines.{keeps_a_name}
 use Rattle.unify_texts.specs.WrittenMap.{SayMapping}
 use Rattle.unify.specs.declared.host.Loaded.{Loaded}
 use Rattle.unify.specs.declared.outcome.Outcome.{Outcome}
 use Rattle.unify.specs.declared.rules.KeepRules.{KeepRules}
 use Rattle.unify.specs.declared.rules.SiteRules.{SiteRules}
 use Rattle.unify.specs.Headline.{Headline, IsNamedAsBefore, IsNewNumber, IsOldOrNamed}
-use Rattle.unify.specs.HostTexts.{AreJoinedInFull, BegunSitesAreInFull, HostsKeepOwnFiles, IsJoinedInFull, IsJoinedPart, IsTextOf, KeepsOwnFiles, ReadSitesAreInFull, TablesAreOfTexts, own_passwd, own_group}
+use Rattle.unify.specs.HostTexts.{AreJoinedInFull, BegunSitesAreInFull, EmptyTextsKeepNoName, HostsKeepOwnFiles, IsJoinedInFull, IsJoinedPart, IsTextOf, KeepsOwnFiles, ReadSitesAreInFull, TablesAreOfTexts, own_passwd, own_group}
 use Rattle.unify.specs.Hosts.{host_of}
 use Rattle.unify.specs.Laws.{IsWhole}
 use Rattle.unify.specs.Others.{Others, keeping_nothing, others_loaded, pinned_site, reserving}
@@ -37,6 +38,7 @@ use Rattle.unify.specs.Told.{in_site}
 use Rattle.unify.proofs.InFull.{numbered_rows, own_group_in_full, own_passwd_in_full, primary_groups}
 use Rattle.unify.proofs.Installed.{is-paired, mapped-there, paired}
 use Rattle.unify.proofs.KeptPart.{kept_part}
+use Rattle.unify.proofs.NoneKept.{all-left-read, groups-left, names_reserve, users-left}
 use Rattle.unify.proofs.LeftHosts.{left}
 use Rattle.unify.proofs.Reading.{loaded-read, tables-of}
 use Rattle.unify.proofs.ReadSites.{AreLoaded, all-joined, are-loaded, are-pinned, hosts-are, reserved-are, steps}
@@ -137,6 +139,10 @@ same_text o one other h k = cc
 there-at : {X : Type 0} (xs : List X) (k : ℕ) (x : X) → slice_get xs k ≡ Some x → Contains xs x
 there-at xs k x here = (k, slice_get_within xs k x here, get_or_from_slice_get xs k x x here)
 
+neither : (a b : Bool) → (a || b) ≡ false → (a ≡ false) × (b ≡ false)
+neither false b is = (refl, is)
+neither true b is = absurd (cc)
+
 -- what is joined of hosts that were loaded from texts
 module _ (texts : List HostText) (rules : KeepRules) (others : Others) (from : AreLoaded texts rules others) where
   abbrev full : List Host
@@ -183,12 +189,30 @@ module _ (texts : List HostText) (rules : KeepRules) (others : Others) (from : A
         record { users = ap (λ (x : Host). x.users) is; groups = ap (λ (x : Host). x.groups) is };
   }
 
--- with an empty keep text all rows are joined
-all_in_full : (texts : List HostText) (unowned : UnownedNumbers) (others : Others) → others_loaded texts (keeping_nothing unowned) ≡ Ok others → AreJoinedInFull others.hosts texts
-all_in_full texts unowned others o =
-    let rules = keeping_nothing unowned in
-    let from = are-loaded texts rules others o in
-    subst (λ (hs : List Host). AreJoinedInFull hs texts) (ap (λ (x : Others). x.hosts) (all-joined texts unowned others from o)) (loaded_in_full texts rules others from)
+  -- where no name is kept all rows are joined
+  pub left_in_full : names_reserve others.reserved_users ≡ false → names_reserve others.reserved_groups ≡ false → AreJoinedInFull others.hosts texts
+  left_in_full users groups =
+      let keep = from.by.keep in
+      let no_user : names_reserve (reserved_users keep full rules.unowned.users) ≡ false = ap (λ (o : Others). names_reserve o.reserved_users) from.by.are ∙ users in
+      let no_group : names_reserve (reserved_groups keep full rules.unowned.groups) ≡ false = ap (λ (o : Others). names_reserve o.reserved_groups) from.by.are ∙ groups in
+      let whole = loaded_in_full in
+      subst (λ (hs : List Host). AreJoinedInFull hs texts) (ap (λ (o : Others). o.hosts) from.by.are) (record {
+        read = all-left-read keep full rules.unowned no_user no_group whole.read;
+        each_host = λ h host text l here there told.
+            let at = mapped-there (left keep full rules.unowned) (slice_get full h) host (sym (slice_get-map (left keep full rules.unowned) full h) ∙ here) in
+            let is = whole.each_host h at.0 text l at.1 there told in
+            let inside = there-at full h at.0 at.1 in
+            record {
+              users = is.users ∙ sym (users-left keep full rules.unowned at.0 inside no_user) ∙ ap (λ (x : Host). x.users) at.2;
+              groups = is.groups ∙ sym (groups-left keep full rules.unowned at.0 inside no_group) ∙ ap (λ (x : Host). x.groups) at.2;
+            };
+      })
+
+  pub in_full_where : (pins_text : List ℕ) (joined : Joined) → pinned_site others pins_text ≡ Ok joined → keeps_a_name joined ≡ false → AreJoinedInFull others.hosts texts
+  in_full_where pins_text joined joined_is none =
+      let reserved = reserved-are others pins_text joined (are-pinned others pins_text joined joined_is) in
+      let both = neither (names_reserve joined.users.reserved) (names_reserve joined.groups.reserved) none in
+      left_in_full (ap names_reserve reserved.0 ∙ both.0) (ap names_reserve reserved.1 ∙ both.1)
 
 -- ---- a site, before its inventories are read
 
@@ -219,9 +243,22 @@ tables_are_of_texts texts rules begun h host text is here there =
     text_of texts rules.keep s.others (are-loaded texts rules.keep s.others s.others_are) rules.pins begun.joined s.joined_is h host text (ap (λ (hs : List Host). slice_get hs h) s.hosts ∙ here) there
 
 pub begun_sites_are_in_full : BegunSitesAreInFull
-begun_sites_are_in_full texts pins unowned begun is =
-    let s = begun_steps texts (record { pins = pins; keep = keeping_nothing unowned }) begun is in
-    subst (λ (hs : List Host). AreJoinedInFull hs texts) s.hosts (all_in_full texts unowned s.others s.others_are)
+begun_sites_are_in_full texts rules begun is none =
+    let s = begun_steps texts rules begun is in
+    subst (λ (hs : List Host). AreJoinedInFull hs texts) s.hosts (in_full_where texts rules.keep s.others (are-loaded texts rules.keep s.others s.others_are) rules.pins begun.joined s.joined_is none)
+
+-- with an empty keep text nothing is reserved
+pub empty_texts_keep_no_name : EmptyTextsKeepNoName
+empty_texts_keep_no_name texts rules begun empty is =
+    let s = begun_steps texts rules begun is in
+    let unowned = rules.keep.unowned in
+    let keep : rules.keep ≡ keeping_nothing unowned = λ j. record rules.keep { text = empty j } in
+    let read : others_loaded texts (keeping_nothing unowned) ≡ Ok s.others = ap (others_loaded texts) (sym keep) ∙ s.others_are in
+    let all = all-joined texts unowned s.others (are-loaded texts (keeping_nothing unowned) s.others read) read in
+    let reserved = reserved-are s.others rules.pins begun.joined (are-pinned s.others rules.pins begun.joined s.joined_is) in
+    let users : begun.joined.users.reserved ≡ [] = sym reserved.0 ∙ sym (ap (λ (o : Others). o.reserved_users) all) in
+    let groups : begun.joined.groups.reserved ≡ [] = sym reserved.1 ∙ sym (ap (λ (o : Others). o.reserved_groups) all) in
+    λ j. names_reserve (users j) || names_reserve (groups j)
 
 -- ---- a site that was read
 
@@ -233,7 +270,6 @@ site_texts texts rules site read h host files text here there =
     text_of texts rules.keep s.others (are-loaded texts rules.keep s.others s.others_are) rules.pins site.joined s.joined_is h host text (ap (λ (hs : List Host). slice_get hs h) (hosts-are texts rules site s) ∙ at) there
 
 pub read_sites_are_in_full : ReadSitesAreInFull
-read_sites_are_in_full texts pins unowned site read =
-    let rules : SiteRules = record { pins = pins; keep = keeping_nothing unowned } in
+read_sites_are_in_full texts rules site read none =
     let s = steps texts rules site read in
-    subst (λ (hs : List Host). AreJoinedInFull hs texts) (hosts-are texts rules site s) (all_in_full texts unowned s.others s.others_are)
+    subst (λ (hs : List Host). AreJoinedInFull hs texts) (hosts-are texts rules site s) (in_full_where texts rules.keep s.others (are-loaded texts rules.keep s.others s.others_are) rules.pins site.joined s.joined_is none)

@@ -9,13 +9,13 @@ use Rattle.hosts_join.specs.Rules.{is_name, is_reserved}
 use Rattle.hosts_join.specs.Site.{Joined}
 use Rattle.hosts_join.specs.declared.host.Host.{Host}
 use Rattle.hosts_join.specs.declared.texts.HostText.{HostText}
-use Rattle.kept_accounts.specs.Reserving.{UnownedNumbers}
 use Rattle.mtree_inv.specs.declared.entry.Entry.{Entry}
 use Rattle.ownership.specs.Mappings.{Mappings}
 use Rattle.mergedfiles.specs.FullTables.{IsFullPasswd, IsFullGroupFile}
 use Rattle.mergedfiles.specs.HostFiles.{host_users, host_groups}
 use Rattle.mergedfiles.specs.HostReadBack.{IsHostPasswd, IsHostGroup, KeepsPrimary}
 use Rattle.mergedfiles.specs.ReadBack.{WasRead}
+use Rattle.unify_texts.specs.ReservedLines.{keeps_a_name}
 use Rattle.unify_texts.specs.declared.map_text.MapText.{MapText}
 use Rattle.unify.specs.declared.host.Loaded.{Loaded}
 use Rattle.unify.specs.declared.outcome.Outcome.{Outcome}
@@ -25,7 +25,6 @@ use Rattle.unify.specs.declared.site_files.SiteFiles.{SiteFiles}
 use Rattle.unify.specs.Headline.{Headline, PlanKeepsNames}
 use Rattle.unify.specs.Hosts.{host_of}
 use Rattle.unify.specs.Laws.{IsWhole}
-use Rattle.unify.specs.Others.{keeping_nothing}
 use Rattle.unify.specs.Outcomes.{IsOutcome, hosts_in}
 use Rattle.unify.specs.Passes.{BegunSite, site_begun}
 use Rattle.unify.specs.Reading.{WholeSite, site_read}
@@ -96,19 +95,23 @@ pub record AreJoinedInFull (hosts : List Host) (texts : List HostText) : Type 0 
       → slice_get hosts h ≡ Some host → slice_get texts h ≡ Some text
       → host_of text ≡ Ok loaded → IsJoinedInFull loaded.host host
 
--- So it is for the hosts of a site that is read with an empty keep text, before its inventories are
--- read, and behind them.
+-- So it is for the hosts of a site of which no name is kept, before its inventories are read, and
+-- behind them.
 abbrev pub BegunSitesAreInFull : Type 0
-BegunSitesAreInFull = (texts : List HostText) (pins : List ℕ) (unowned : UnownedNumbers)
-    (begun : BegunSite)
-    → site_begun texts (record { pins = pins; keep = keeping_nothing unowned }) ≡ Ok begun
+BegunSitesAreInFull = (texts : List HostText) (rules : SiteRules) (begun : BegunSite)
+    → site_begun texts rules ≡ Ok begun → keeps_a_name begun.joined ≡ false
     → AreJoinedInFull begun.hosts texts
 
 abbrev pub ReadSitesAreInFull : Type 0
-ReadSitesAreInFull = (texts : List HostText) (pins : List ℕ) (unowned : UnownedNumbers)
-    (site : WholeSite)
-    → site_read texts (record { pins = pins; keep = keeping_nothing unowned }) ≡ Ok site
+ReadSitesAreInFull = (texts : List HostText) (rules : SiteRules) (site : WholeSite)
+    → site_read texts rules ≡ Ok site → keeps_a_name site.joined ≡ false
     → AreJoinedInFull (hosts_in site) texts
+
+-- by an empty keep text no name is kept
+abbrev pub EmptyTextsKeepNoName : Type 0
+EmptyTextsKeepNoName = (texts : List HostText) (rules : SiteRules) (begun : BegunSite)
+    → rules.keep.text ≡ [] → site_begun texts rules ≡ Ok begun
+    → keeps_a_name begun.joined ≡ false
 
 -- ---- what its own files say
 

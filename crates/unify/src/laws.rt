@@ -7,7 +7,8 @@ ghost use Rattle.unify.specs.Believed.{OutcomesAreBelieved, DoneKeepsPrintedName
 ghost use Rattle.unify.specs.Believed.{NumbersTellNames, NamedFilesHaveTheirNames};
 ghost use Rattle.unify.specs.TwoPasses.{TwoPassesAreBelieved, SecondReadingIsBelieved};
 ghost use Rattle.unify.specs.TwoPasses.{SecondReadingIsRight};
-ghost use Rattle.unify.specs.HostTexts.{BegunSitesAreInFull, HostsKeepOwnFiles};
+ghost use Rattle.unify.specs.HostTexts.{BegunSitesAreInFull, EmptyTextsKeepNoName};
+ghost use Rattle.unify.specs.HostTexts.{HostsKeepOwnFiles};
 ghost use Rattle.unify.specs.HostTexts.{ReadSitesAreInFull, TablesAreOfTexts};
 ghost use Rattle.unify.specs.Agreeing.{PrintedCertificatesAreAccepted, PrintedMapsAreCounted};
 ghost use Rattle.unify.specs.Agreeing.{NoMapRewritesFewer, PrintedPlansAreRehearsed};
@@ -106,13 +107,15 @@ pub fn second_reading_is_believed()
 /// are, line by line, those of the host but for the numbers of what was joined of it; each user has
 /// the primary group that it had; and what the headline says of the host's plan holds with these
 /// two in place of the merged ones, by the names that the host has in full. The texts are those
-/// that the tables of the hosts were read from, each at the index of its host. With an empty keep
-/// text all rows of each host were joined, and so every line has the new numbers of its names.
+/// that the tables of the hosts were read from, each at the index of its host. Where no name is kept,
+/// as with an empty keep text, all rows of each host were joined, and so every line has the new
+/// numbers of its names.
 pub fn hosts_keep_own_files()
     ensures keep { HostsKeepOwnFiles }
     ensures texts { TablesAreOfTexts }
     ensures begun { BegunSitesAreInFull }
     ensures read { ReadSitesAreInFull }
+    ensures empty { EmptyTextsKeepNoName }
 {}
 
 /// The cost of a map by its pairs and each host's own tables, which `count` answers, is that of its

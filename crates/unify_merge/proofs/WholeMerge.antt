@@ -27,7 +27,7 @@ use Rattle.unify.specs.Passes.{AreTogether, BegunSite, InventoriesValue, StandsF
 use Rattle.unify.specs.Reading.{WholeSite}
 use Rattle.unify.specs.SecondPass.{IsSolvedFrom, SolvedValue}
 use Rattle.unify.proofs.BetweenPasses.{over_whole}
-use Rattle.unify.proofs.HostTexts.{begun_sites_are_in_full, tables_are_of_texts, text_keeps}
+use Rattle.unify.proofs.HostTexts.{begun_sites_are_in_full, empty_texts_keep_no_name, tables_are_of_texts, text_keeps}
 use Rattle.unify.proofs.OwnFiles.{same_mappings}
 use Rattle.unify.proofs.SecondReading.{second_reading_is_believed, second_reading_is_right, still_whole}
 use Rattle.unify.proofs.Whole.{hosts_held}
@@ -178,7 +178,8 @@ has_merged texts rules s old mid new cost h reads w =
       own_files = λ k host files text loaded at there is_told.
           let here : slice_get h.begun.hosts k ≡ Some host = ap (λ hs. slice_get hs k) (sym held) ∙ slice_get-map first w.site.again k ∙ ap (option_map first) at in
           text_keeps site outcome merged.whole merged.believed k host files text loaded at (tables_are_of_texts texts rules h.begun k host text h.begun_is here there) is_told;
-      in_full = λ none. subst (λ (hs : List Host). AreJoinedInFull hs texts) (sym held) (begun_sites_are_in_full texts rules.pins rules.keep.unowned h.begun ((λ j. site_begun texts (record rules { keep = record rules.keep { text = sym none j } })) ∙ h.begun_is));
+      in_full = λ none. subst (λ (hs : List Host). AreJoinedInFull hs texts) (sym held) (begun_sites_are_in_full texts rules h.begun h.begun_is none);
+      none_kept = λ empty. empty_texts_keep_no_name texts rules h.begun empty h.begun_is;
       files = merged.files;
       cost_is = w.cost_is;
     }

@@ -122,9 +122,9 @@ pub record HasWritten (names : List HostText) (s : SolvedValue) (read : List (Ho
 
 -- The tables and the rules were read; the inventory of each host was read twice, and is accepted
 -- both times. What was merged is right for the second reading, and has the headline of it; and each
--- host's own passwd and group with their new numbers keep the names of its files as well. With an
--- empty keep text all rows of each host were joined. What was merged stands in its files, which are
--- all that was written.
+-- host's own passwd and group with their new numbers keep the names of its files as well. Where no
+-- name is kept, as with an empty keep text, all rows of each host were joined. What was merged
+-- stands in its files, which are all that was written.
 pub record HasMerged (texts : List HostText) (rules : SiteRules) (old new : Ledger)
     (cost : Cost) : Type 0 where
   pub begun : BegunSite
@@ -141,7 +141,8 @@ pub record HasMerged (texts : List HostText) (rules : SiteRules) (old new : Ledg
   pub is_believed : Headline (record { hosts = are; joined = begun.joined }) outcome
   pub own_files : EachKeepsOwnFiles (record { hosts = are; joined = begun.joined }) outcome
       is_believed texts
-  pub in_full : rules.keep.text ≡ [] → AreJoinedInFull (map (λ h. h.0) are) texts
+  pub in_full : keeps_a_name begun.joined ≡ false → AreJoinedInFull (map (λ h. h.0) are) texts
+  pub none_kept : rules.keep.text ≡ [] → keeps_a_name begun.joined ≡ false
   pub files : new
       ≡ record (after_files (merged_files texts begun is_believed.mappings outcome)
       (cleared old)) { read = new.read; reading = new.reading; writing = new.writing }

@@ -12,3 +12,6 @@ returns-clause-begun c = own.begun_sites_are_in_full
 
 pub returns-clause-read : goal.returns-clause-read
 returns-clause-read c = own.read_sites_are_in_full
+
+pub returns-clause-empty : goal.returns-clause-empty
+returns-clause-empty c = own.empty_texts_keep_no_name
