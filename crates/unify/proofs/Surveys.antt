@@ -1,5 +1,5 @@
 -- The numbers that the files of hosts have without an account.
-use Rattle.std.proofs.Common.{◌≡◌, ℕ, zero, suc, ◌+◌, ◌<◌, ◌++◌, List, [], ◌∷◌, length, map, get_or, take, true, Some, Result, Ok, Err, refl, sym, ap, subst, ◌∙◌, arith}
+use Rattle.std.proofs.Common.{◌≡◌, ℕ, zero, suc, ◌+◌, ◌<◌, ◌++◌, List, [], ◌∷◌, length, map, get_or, take, true, Some, Result, Ok, Err, refl, sym, ap, ◌∙◌, arith}
 use Rattle.std.specs.Prelude.{IfSome}
 use Rattle.std.specs.List.{slice_get}
 use Rattle.std.proofs.lemmas.List.{length-take-le, take_more}
@@ -8,7 +8,7 @@ use Rattle.idtext.specs.First.{◌>>=◌, each}
 use Rattle.idtext.specs.Faults.{fault_told}
 use Rattle.idtext.specs.declared.faults.ReadError.{ReadError}
 use Rattle.idtext.specs.declared.faults.ReadError.TheVariants as read
-use Rattle.idtext.proofs.OkLemmas.{bind_ok, ok_same}
+use Rattle.idtext.proofs.OkLemmas.{bind_ok}
 use Rattle.mtree_inv.specs.Inventory.{inventory, inventory_of_lines}
 use Rattle.mtree_inv.specs.Logical.{whole_lines}
 use Rattle.mtree_inv.specs.declared.entry.Entry.{Entry}

@@ -5,6 +5,7 @@ ghost use Rattle.unify.specs.Laws.{EmptyKeepCountsAll, EmptyKeepIsNone, EmptyPin
 ghost use Rattle.unify.specs.Laws.{PassesReadTheSite, CostsAgree};
 ghost use Rattle.unify.specs.Believed.{OutcomesAreBelieved, DoneKeepsPrintedNames, RunsKeepNames};
 ghost use Rattle.unify.specs.Believed.{NumbersTellNames, NamedFilesHaveTheirNames};
+ghost use Rattle.unify.specs.Survey.{SurveyedFilesAreAllowed};
 ghost use Rattle.unify.specs.TwoPasses.{TwoPassesAreBelieved, SecondReadingIsBelieved};
 ghost use Rattle.unify.specs.TwoPasses.{SecondReadingIsRight};
 ghost use Rattle.unify.specs.HostTexts.{BegunSitesAreInFull, EmptyTextsKeepNoName};
@@ -116,6 +117,12 @@ pub fn hosts_keep_own_files()
     ensures begun { BegunSitesAreInFull }
     ensures read { ReadSitesAreInFull }
     ensures empty { EmptyTextsKeepNoName }
+{}
+
+/// The numbers that a survey finds are enough: where numbers without an account stay of a kind, no
+/// file of a host is refused for one, by the rules that have these.
+pub fn surveyed_files_are_allowed()
+    ensures { SurveyedFilesAreAllowed }
 {}
 
 /// The cost of a map by its pairs and each host's own tables, which `count` answers, is that of its

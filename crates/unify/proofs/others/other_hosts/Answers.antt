@@ -1,6 +1,5 @@
 use Rattle.std.proofs.Common.{◌≡◌, ◌==◌, ℕ, List, [], ◌∷◌, length, Ok, refl, sym, ap, ◌∙◌, arith}
 use Rattle.std.proofs.lemmas.Bool.{eqb-true}
-use Rattle.unify.specs.declared.rules.KeepRules.{KeepRules}
 use Rattle.unify.specs.Others.{Others, others_read}
 use Rattle.unify.proofs.LeftHosts.{all-left}
 use Rattle.unify.proofs.others.other_hosts.Goals as goal
