@@ -30,6 +30,10 @@ TEXTS = {
     "cut-map": (STORED / "map").read_text().rstrip("\n"),
     "near-pins": "user alcie 1006\nuser bobby 1007\ngroup user 7\ngroup usres 8\n",
     "other-pins": "group wheel 7\n\nuser bob 1005\nuser carol\tx 1006\n",
+    # Pins of names of which a keep text keeps two, and of which two are names of the other kind.
+    "keep-names": "user bob\ngroup users\n",
+    "kept-pins": "user bob 1005\nuser users 1006\nuser alce 1007\ngroup users 7\ngroup bob 8\n",
+    "keep-all": "user alice\nuser bob\ngroup users\n",
 }
 NOTHING_COUNTED = "user-fields 0\ngroup-fields 0\n"
 BARE = "".join(f"unify: warning: host b has no {what}\n" for what in ("users", "groups", "files"))
@@ -38,6 +42,7 @@ CUT = "unify: warning: file cut-pins has no newline at its end\n"
 CUT_KEEP = CUT.replace("pins", "keep")
 TAKEN = "unify: warning: numbers of users that were another user's on some host: 1\n"
 NOBODY = "unify: warning: pin of {} is for a name that no host has{}\n".format
+STAYS = "unify: warning: pin of {} is for a name that stays as it is on each host, and gives it no number\n".format
 ALICE = "alice:x:1001:100:{}:/home/alice:/bin/sh\n".format
 MANY = range(10, 22)
 # Hosts whose users and groups may be two under one name. Each has alice.
@@ -331,6 +336,18 @@ TABLE = [
         + NOBODY("group usres", "; there is users"),
     ),
     (
+        "merge --pins kept-pins --keep keep-names out a b",
+        0,
+        "user-fields 3\ngroup-fields 0\n",
+        STAYS("user bob")
+        + NOBODY("user users", "")
+        + NOBODY("user alce", "; there is alice")
+        + STAYS("group users")
+        + NOBODY("group bob", ""),
+    ),
+    ("merge -q --pins kept-pins --keep keep-names out a b", 0, "user-fields 3\ngroup-fields 0\n", ""),
+    ("merge --pins pins --keep keep-all out a b", 0, NOTHING_COUNTED, STAYS("user bob")),
+    (
         "merge out a=web b=db",
         0,
         NOTHING_COUNTED,
@@ -462,6 +479,8 @@ UNWRITTEN = [
     "--version",
 ]
 MERGED = {"passwd", "group", "map", "certificate", "report", *(f"{file}.{host}" for file in ("plan", "passwd", "group") for host in "ab")}
+# What a merge by the keep texts of the room does not write that keep a name of the hosts.
+OF_ALL_HOSTS = {"passwd", "group"}
 
 
 def lay_out(room):
@@ -563,6 +582,13 @@ def told_on_terminal(program, words):
     return came.returncode, told.decode("latin-1").replace("\r\n", "\n")
 
 
+def written_by(words, status):
+    """The names of the files that some words write which end with a status."""
+    if status != 0 or not isinstance(words, str) or not words.startswith("merge") or "--help" in words:
+        return set()
+    return MERGED - OF_ALL_HOSTS if "--keep keep-" in words else MERGED
+
+
 def command_lines(program):
     """For each line of words: a name, what is wanted, and what came."""
     stored = (STORED.parents[1] / "crates/unify_cli/stdout").read_text()
@@ -570,8 +596,7 @@ def command_lines(program):
     yield "unify alone on a terminal", ran(program, "--help", STORED), on_terminal(program)
     for words, status, out, err in TABLE:
         came, came_out, came_err, written = in_new_room(program, words)
-        merged = status == 0 and isinstance(words, str) and words.startswith("merge") and "--help" not in words
-        wanted = status, out, err, MERGED if merged else set()
+        wanted = status, out, err, written_by(words, status)
         yield f"unify {words}", wanted, (came, agreed(out, came_out), agreed(err, came_err), written)
     for words, status, told in LOOKED_AT:
         yield f"unify {words}, on a terminal", (status, told), told_on_terminal(program, words)

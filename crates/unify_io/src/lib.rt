@@ -8,6 +8,7 @@ mod files;
 mod inventory;
 mod merge_warnings;
 mod output;
+mod pin_warnings;
 mod report;
 mod warnings;
 mod writing;

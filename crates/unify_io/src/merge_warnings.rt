@@ -2,10 +2,11 @@
 //! two.
 
 use crate::files::{FileFault, holds, read_file_in};
-use crate::warnings::{MOST_LINES, MOST_NAMES, Part, warn, warn_of_more, warn_of_pins};
+use crate::pin_warnings::warn_of_pins;
+use crate::warnings::{MOST_LINES, MOST_NAMES, Part, only_memory, warn, warn_of_more};
 use accounts::{GroupRow, GroupTable, PasswdRow, PasswdTable, read_group, read_passwd};
 use hosts_join::{HostText, PairTable};
-use idtext::{Lines, ReadError, cut};
+use idtext::{Lines, cut};
 use std::alloc::AllocError;
 use std::str;
 
@@ -264,14 +265,6 @@ fn see_rows<'t>(
     Ok(())
 }
 
-// Want of memory; another fault of a text is told where the text is judged.
-fn only_memory(fault: &ReadError) -> Result<(), AllocError> {
-    match fault {
-        ReadError::Memory => Err(AllocError),
-        ReadError::Fault(_) => Ok(()),
-    }
-}
-
 // Looks at the group of a host.
 fn see_host<'t>(
     rt: &HostRuntime,
@@ -467,9 +460,14 @@ fn warn_of_users(
 }
 
 // Warns of the pins whose names are not in the map that a merge wrote.
-fn warn_of_merged_pins(rt: &HostRuntime, directory: &str, pins: &[u8]) -> Result<(), FileFault> {
+fn warn_of_merged_pins(
+    rt: &HostRuntime,
+    hosts: &[HostText],
+    directory: &str,
+    pins: &[u8],
+) -> Result<(), FileFault> {
     let map = read_file_in(rt, directory, "map")?;
-    Ok(warn_of_pins(rt, map.bytes(), pins)?)
+    Ok(warn_of_pins(rt, hosts, map.bytes(), pins)?)
 }
 
 // Warns of what the report tells that a merge wrote: paths that stand twice, and comments in which
@@ -513,12 +511,12 @@ fn warn_of_merged_users(
     Ok(warn_of_texts(rt, hosts, passwd.bytes(), group.bytes())?)
 }
 
-/// Warns of what a merge of hosts by pins has written into a directory: pins for nobody; paths that
-/// stand in an inventory more than once, where so many lines of files were read; users with two
-/// comments, who may be two people; groups that get members on a host, who may do there what they
-/// could not; users in more groups than an NFS request carries; and numbers that were another
-/// name's, whose files no inventory may list. It reads the account files that were merged once
-/// more.
+/// Warns of what a merge of hosts by pins has written into a directory: pins that give no number,
+/// since they are for nobody or for a name that stays as it is; paths that stand in an inventory
+/// more than once, where so many lines of files were read; users with two comments, who may be two
+/// people; groups that get members on a host, who may do there what they could not; users in more
+/// groups than an NFS request carries; and numbers that were another name's, whose files no
+/// inventory may list. It reads the account files that were merged once more.
 pub fn warn_of_merge(
     rt: &HostRuntime,
     hosts: &[HostText],
@@ -526,7 +524,7 @@ pub fn warn_of_merge(
     pins: &[u8],
     file_lines: u64,
 ) -> Result<(), FileFault> {
-    warn_of_merged_pins(rt, directory, pins)?;
+    warn_of_merged_pins(rt, hosts, directory, pins)?;
     warn_of_report(rt, hosts, directory, file_lines)?;
     warn_of_merged_users(rt, hosts, directory)
 }

@@ -1,21 +1,16 @@
 //! Warnings: of what is accepted and is seldom meant so. Each is a line on standard error.
 
 use crate::files::SeenHosts;
-use hosts_join::{HostText, PairLine, PairTable, Which, pair_line};
-use idtext::{ByteString, Lines, first_word, is_skipped, push_escaped, push_number};
+use hosts_join::HostText;
+use idtext::{ByteString, Lines, ReadError, first_word, is_skipped, push_escaped, push_number};
 use std::alloc::AllocError;
 use std::io::Write;
-use strsim::generic_levenshtein;
-use unify_texts::{MapText, read_map};
 
 /// How many lines there are of one kind of warning that many names may have; the rest is counted.
 pub const MOST_LINES: usize = 10;
 
 /// How many names are told in one line.
 pub const MOST_NAMES: usize = 8;
-
-/// How many edits a name may be away from the name that is told for it.
-const MOST_EDITS: usize = 2;
 
 /// A part of a warning. Between two parts there is a space.
 #[derive(Clone, Copy)]
@@ -190,123 +185,10 @@ pub fn warn_of_end(rt: &HostRuntime, path: &str, text: &ByteString) -> Result<()
     )
 }
 
-// The first name of a table that is at most so many edits away from a name.
-fn name_within<'a>(
-    rt: &HostRuntime,
-    table: &PairTable<'a>,
-    name: &[u8],
-    edits: usize,
-) -> Result<Option<&'a [u8]>, AllocError> {
-    for index in 0..table.len() {
-        let other = table.at(index).name;
-        if other.len().abs_diff(name.len()) <= edits
-            && generic_levenshtein(rt.alloc(), other, name)? <= edits
-        {
-            return Ok(Some(other));
-        }
-    }
-    Ok(None)
-}
-
-// The name of a table that is the nearest to a name, and no further away than `MOST_EDITS`.
-fn nearest<'a>(
-    rt: &HostRuntime,
-    table: &PairTable<'a>,
-    name: &[u8],
-) -> Result<Option<&'a [u8]>, AllocError> {
-    for edits in 1..=MOST_EDITS {
-        if let Some(other) = name_within(rt, table, name, edits)? {
-            return Ok(Some(other));
-        }
-    }
-    Ok(None)
-}
-
-// Warns of a pin for nobody, and tells a name that may be meant.
-fn warn_of_nobody<'a>(
-    rt: &HostRuntime,
-    what: &'a str,
-    name: &'a [u8],
-    near: Option<&'a [u8]>,
-) -> Result<(), AllocError> {
-    let (what, name) = (Part::Text(what), Part::Name(name));
-    match near {
-        None => warn(
-            rt,
-            &[what, name, Part::Text("is for a name that no host has")],
-        ),
-        Some(near) => warn(
-            rt,
-            &[
-                what,
-                name,
-                Part::Text("is for a name that no host has; there is"),
-                Part::Name(near),
-            ],
-        ),
-    }
-}
-
-// Warns of a pin whose name is not in a table of all names, and hands out whether it is not.
-fn warn_of_name(
-    rt: &HostRuntime,
-    what: &str,
-    table: &PairTable<'_>,
-    name: &[u8],
-    told: usize,
-) -> Result<bool, AllocError> {
-    if table.number(name).is_some() {
-        return Ok(false);
-    }
-    let near = if told < MOST_LINES {
-        nearest(rt, table, name)?
-    } else {
-        None
-    };
-    warn_of_nobody(rt, what, name, near)?;
-    Ok(true)
-}
-
-// Warns of a pin whose name is not in a map, and hands out whether it is not.
-fn warn_of_pin(
-    rt: &HostRuntime,
-    map: &MapText<'_>,
-    line: &[u8],
-    told: usize,
-) -> Result<bool, AllocError> {
-    match pair_line(line) {
-        PairLine::Given {
-            which: Which::User,
-            name,
-            ..
-        } => { warn_of_name(rt, "pin of user", &map.users, name.bytes(), told) }
-        PairLine::Given {
-            which: Which::Group,
-            name,
-            ..
-        } => { warn_of_name(rt, "pin of group", &map.groups, name.bytes(), told) }
-        _ => Ok(false),
-    }
-}
-
-// Warns of each pin whose name is not in a map. For the first few the nearest name is told.
-fn warn_of_each_pin(rt: &HostRuntime, map: &MapText<'_>, pins: &[u8]) -> Result<(), AllocError> {
-    let mut told: usize = 0;
-    for line in Lines::new(pins) {
-        if warn_of_pin(rt, map, line, told)? {
-            told = told.saturating_add(1);
-        }
-    }
-    Ok(())
-}
-
-/// Warns of pins whose names are not in the map that was made with them.
-pub fn warn_of_pins(rt: &HostRuntime, map: &[u8], pins: &[u8]) -> Result<(), AllocError> {
-    if pins.is_empty() {
-        return Ok(());
-    }
-    match read_map(rt.alloc(), map) {
-        Ok(map) => warn_of_each_pin(rt, &map, pins),
-        Err(_) => Err(AllocError),
+/// Want of memory; another fault of a text is told where the text is judged.
+pub fn only_memory(fault: &ReadError) -> Result<(), AllocError> {
+    match fault {
+        ReadError::Memory => Err(AllocError),
+        ReadError::Fault(_) => Ok(()),
     }
 }

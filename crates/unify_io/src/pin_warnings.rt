@@ -1,0 +1,270 @@
+//! Warnings of pins that give no number: no host has their name, or it stays as it is.
+
+use crate::warnings::{MOST_LINES, Part, only_memory, warn};
+use accounts::{GroupRow, PasswdRow, read_group, read_passwd};
+use hosts_join::{HostText, PairLine, PairTable, Which, pair_line};
+use idtext::Lines;
+use std::alloc::AllocError;
+use strsim::generic_levenshtein;
+use unify_texts::{MapText, read_map};
+
+/// How many edits a name may be away from the name that is told for it.
+const MOST_EDITS: usize = 2;
+
+/// A pin without its number.
+#[derive(Clone, Copy)]
+struct Pinned<'a> {
+    which: Which,
+    name: &'a [u8],
+}
+
+/// The names of hosts, each with one of its numbers.
+#[derive(Drop)]
+struct HostNames<'h> {
+    users: PairTable<'h>,
+    groups: PairTable<'h>,
+}
+
+// Adds the names of users.
+fn add_users<'h>(users: &mut PairTable<'h>, rows: &[PasswdRow<'h>]) -> Result<(), AllocError> {
+    for row in rows {
+        users.add(row.name, row.uid)?;
+    }
+    Ok(())
+}
+
+// Adds the names of groups.
+fn add_groups<'h>(groups: &mut PairTable<'h>, rows: &[GroupRow<'h>]) -> Result<(), AllocError> {
+    for row in rows {
+        groups.add(row.name, row.gid)?;
+    }
+    Ok(())
+}
+
+// Adds the names in a host's passwd.
+fn add_passwd<'h>(
+    rt: &HostRuntime,
+    users: &mut PairTable<'h>,
+    passwd: &'h [u8],
+) -> Result<(), AllocError> {
+    match read_passwd(rt.alloc(), passwd) {
+        Ok(table) => add_users(users, table.rows()),
+        Err(fault) => only_memory(&fault),
+    }
+}
+
+// Adds the names in a host's group.
+fn add_group<'h>(
+    rt: &HostRuntime,
+    groups: &mut PairTable<'h>,
+    group: &'h [u8],
+) -> Result<(), AllocError> {
+    match read_group(rt.alloc(), group) {
+        Ok(table) => add_groups(groups, table.rows()),
+        Err(fault) => only_memory(&fault),
+    }
+}
+
+// The names of hosts: those of users in their passwd, those of groups in their group.
+fn names_of<'h>(rt: &HostRuntime, hosts: &'h [HostText]) -> Result<HostNames<'h>, AllocError> {
+    let mut names = HostNames {
+        users: PairTable::new(rt.alloc()),
+        groups: PairTable::new(rt.alloc()),
+    };
+    for host in hosts {
+        add_passwd(rt, &mut names.users, host.passwd.bytes())?;
+        add_group(rt, &mut names.groups, host.group.bytes())?;
+    }
+    Ok(names)
+}
+
+// Whether hosts have the name of a pin.
+fn have_pinned(names: &HostNames<'_>, pinned: Pinned<'_>) -> bool {
+    match pinned.which {
+        Which::User => names.users.number(pinned.name).is_some(),
+        Which::Group => names.groups.number(pinned.name).is_some(),
+    }
+}
+
+// The names of a map that are of the kind of a pin.
+fn alike<'m, 'a>(map: &'m MapText<'a>, pinned: Pinned<'_>) -> &'m PairTable<'a> {
+    match pinned.which {
+        Which::User => &map.users,
+        Which::Group => &map.groups,
+    }
+}
+
+// The first name of a table that is at most so many edits away from a name.
+fn name_within<'a>(
+    rt: &HostRuntime,
+    table: &PairTable<'a>,
+    name: &[u8],
+    edits: usize,
+) -> Result<Option<&'a [u8]>, AllocError> {
+    for index in 0..table.len() {
+        let other = table.at(index).name;
+        if other.len().abs_diff(name.len()) <= edits
+            && generic_levenshtein(rt.alloc(), other, name)? <= edits
+        {
+            return Ok(Some(other));
+        }
+    }
+    Ok(None)
+}
+
+// The name of a table that is the nearest to a name, and no further away than `MOST_EDITS`.
+fn nearest<'a>(
+    rt: &HostRuntime,
+    table: &PairTable<'a>,
+    name: &[u8],
+) -> Result<Option<&'a [u8]>, AllocError> {
+    for edits in 1..=MOST_EDITS {
+        if let Some(other) = name_within(rt, table, name, edits)? {
+            return Ok(Some(other));
+        }
+    }
+    Ok(None)
+}
+
+// How a warning begins that is of a pin.
+fn pin_of(pinned: Pinned<'_>) -> Part<'static> {
+    match pinned.which {
+        Which::User => Part::Text("pin of user"),
+        Which::Group => Part::Text("pin of group"),
+    }
+}
+
+// Warns of a pin for a name that stays as it is.
+fn warn_of_kept(rt: &HostRuntime, pinned: Pinned<'_>) -> Result<(), AllocError> {
+    warn(
+        rt,
+        &[
+            pin_of(pinned),
+            Part::Name(pinned.name),
+            Part::Text("is for a name that stays as it is on each host, and gives it no number"),
+        ],
+    )
+}
+
+// Warns of a pin for nobody, and tells a name that may be meant.
+fn warn_of_nobody<'a>(
+    rt: &HostRuntime,
+    pinned: Pinned<'a>,
+    near: Option<&'a [u8]>,
+) -> Result<(), AllocError> {
+    let (what, name) = (pin_of(pinned), Part::Name(pinned.name));
+    match near {
+        None => warn(
+            rt,
+            &[what, name, Part::Text("is for a name that no host has")],
+        ),
+        Some(near) => warn(
+            rt,
+            &[
+                what,
+                name,
+                Part::Text("is for a name that no host has; there is"),
+                Part::Name(near),
+            ],
+        ),
+    }
+}
+
+// Warns of a pin for nobody where so many were told. For the first few the nearest name of a map is
+// told.
+fn warn_of_absent(
+    rt: &HostRuntime,
+    map: &MapText<'_>,
+    pinned: Pinned<'_>,
+    told: usize,
+) -> Result<(), AllocError> {
+    let near = if told < MOST_LINES {
+        nearest(rt, alike(map, pinned), pinned.name)?
+    } else {
+        None
+    };
+    warn_of_nobody(rt, pinned, near)
+}
+
+// Warns of each of some pins that give no number, by whether hosts have its name.
+fn warn_of_each(
+    rt: &HostRuntime,
+    map: &MapText<'_>,
+    names: &HostNames<'_>,
+    pins: &[Pinned<'_>],
+) -> Result<(), AllocError> {
+    let mut told: usize = 0;
+    for pinned in pins {
+        if have_pinned(names, *pinned) {
+            warn_of_kept(rt, *pinned)?;
+        } else {
+            warn_of_absent(rt, map, *pinned, told)?;
+            told = told.saturating_add(1);
+        }
+    }
+    Ok(())
+}
+
+// The pin of a line whose name is not in a map.
+fn beside_map<'p>(map: &MapText<'_>, line: &'p [u8]) -> Option<Pinned<'p>> {
+    let PairLine::Given { which, name, .. } = pair_line(line) else {
+        return None;
+    };
+    let pinned = Pinned {
+        which,
+        name: name.bytes(),
+    };
+    if alike(map, pinned).number(pinned.name).is_some() {
+        return None;
+    }
+    Some(pinned)
+}
+
+// The pins whose names are not in a map.
+fn all_beside_map<'p>(
+    rt: &HostRuntime,
+    map: &MapText<'_>,
+    pins: &'p [u8],
+) -> Result<Vec<Pinned<'p>>, AllocError> {
+    let mut beside = Vec::new(rt.alloc());
+    for line in Lines::new(pins) {
+        if let Some(pinned) = beside_map(map, line) {
+            beside.push(pinned)?;
+        }
+    }
+    Ok(beside)
+}
+
+// Warns of pins whose names are not in a map. Hosts are read only where there are such.
+fn warn_beside_map(
+    rt: &HostRuntime,
+    hosts: &[HostText],
+    map: &MapText<'_>,
+    pins: &[u8],
+) -> Result<(), AllocError> {
+    let beside = all_beside_map(rt, map, pins)?;
+    if beside.is_empty() {
+        return Ok(());
+    }
+    let names = names_of(rt, hosts)?;
+    warn_of_each(rt, map, &names, &beside)
+}
+
+/// Warns of pins whose names are not in the map that was made of hosts with them: no host has the
+/// name, or it stays as it is on each host. One look-up by hash for each pin, and where some name
+/// is not in the map another for each of these and for each row of the hosts, whose account files
+/// are then read once more.
+pub fn warn_of_pins(
+    rt: &HostRuntime,
+    hosts: &[HostText],
+    map: &[u8],
+    pins: &[u8],
+) -> Result<(), AllocError> {
+    if pins.is_empty() {
+        return Ok(());
+    }
+    match read_map(rt.alloc(), map) {
+        Ok(map) => warn_beside_map(rt, hosts, &map, pins),
+        Err(_) => Err(AllocError),
+    }
+}
