@@ -17,7 +17,7 @@
 PREFIX ?= /usr/local
 PROGRAM = crates/unify_cli/out/unify_cli
 OFFICE = amber=examples/office/amber basalt=examples/office/basalt
-BUNDLES = count/swap-counted check/swap-checked merge/two-hosts-swap merge-hosts/swap-with-hosts rehearse/swap-rehearsed
+BUNDLES = count/swap-counted check/swap-checked merge/two-hosts-swap merge/keep-unowned merge-hosts/swap-with-hosts rehearse/swap-rehearsed
 DEMO = build/office
 TOLD = build/told
 MIXED = build/mixed

@@ -193,22 +193,22 @@ surveyed_files_are_allowed texts rules keep others read found loads h host text 
     slice_get-map (λ (l : Loaded). sparing_ranges keep l.host) from.loaded h ∙ ap (λ (o : Option Loaded). option_map (λ (l : Loaded). sparing_ranges keep l.host) o) loaded_at.1 ∙ ap (λ (x : Host). Some (sparing_ranges keep x)) loaded_at.2 in
     let mtree_at : slice_get (mtrees texts) h ≡ Some text.mtree = slice_get-map (λ (t : HostText). t.mtree) texts h ∙ ap (λ (o : Option HostText). option_map (λ (t : HostText). t.mtree) o) there in
     let listed : keeps_unowned keep ≡ true → (survey : IsSurveyed texts keep unowned from.loaded) × (fs : List Entry) × (inventory_of spares text.mtree ≡ Ok fs) × (slice_get survey.listed h ≡ Some (spares, fs)) = λ keeps.
-        let survey = survey-of texts rules.text keep unowned from.loaded read found from.hosts_are keeps in
-        let its_files = listed_at (map (λ (l : Loaded). sparing_ranges keep l.host) from.loaded) (mtrees texts) survey.listed h spares text.mtree survey.are spares_at mtree_at in
-        (survey, its_files.0, its_files.1, its_files.2) in
+    let survey = survey-of texts rules.text keep unowned from.loaded read found from.hosts_are keeps in
+    let its_files = listed_at (map (λ (l : Loaded). sparing_ranges keep l.host) from.loaded) (mtrees texts) survey.listed h spares text.mtree survey.are spares_at mtree_at in
+    (survey, its_files.0, its_files.1, its_files.2) in
     let its = λ (fs : List Entry) (is : inventory_of spares text.mtree ≡ Ok fs). ok_same fs files (sym is ∙ ap (λ (x : Host). inventory_of x text.mtree) left_at.2 ∙ inventory) in (
       λ stays k d within.
-      let at = listed (ap (λ b. b || keep.groups.unowned) stays) in
-      let there_is = subst (λ fs. slice_get at.0.listed h ≡ Some (spares, fs)) (its at.1 at.2) at.3 in
-      let uid = (get_or files k d).uid in
-      subst (λ (x : Host). allows_uid x uid ≡ true) left_at.2
-      (uid-allowed keep full unowned one stays uid (λ alone. subst (λ (u : UnownedNumbers). Contains u.users (on one uid)) at.0.numbers
-      (users-found no_numbers at.0.listed h spares files uid there_is ((among-once (is_unowned_uid spares) (λ (f : Entry). f.uid) files uid).1 (any-file (λ (f : Entry). f.uid) files k d within, alone))))),
+          let at = listed (ap (λ b. b || keep.groups.unowned) stays) in
+          let there_is = subst (λ fs. slice_get at.0.listed h ≡ Some (spares, fs)) (its at.1 at.2) at.3 in
+          let uid = (get_or files k d).uid in
+          subst (λ (x : Host). allows_uid x uid ≡ true) left_at.2
+          (uid-allowed keep full unowned one stays uid (λ alone. subst (λ (u : UnownedNumbers). Contains u.users (on one uid)) at.0.numbers
+          (users-found no_numbers at.0.listed h spares files uid there_is ((among-once (is_unowned_uid spares) (λ (f : Entry). f.uid) files uid).1 (any-file (λ (f : Entry). f.uid) files k d within, alone))))),
       λ stays k d within.
-      let at = listed (ap (λ b. keep.users.unowned || b) stays ∙ or-true keep.users.unowned) in
-      let there_is = subst (λ fs. slice_get at.0.listed h ≡ Some (spares, fs)) (its at.1 at.2) at.3 in
-      let gid = (get_or files k d).gid in
-      subst (λ (x : Host). allows_gid x gid ≡ true) left_at.2
-      (gid-allowed keep full unowned one stays gid (λ alone. subst (λ (u : UnownedNumbers). Contains u.groups (on one gid)) at.0.numbers
-      (groups-found no_numbers at.0.listed h spares files gid there_is ((among-once (is_unowned_gid spares) (λ (f : Entry). f.gid) files gid).1 (any-file (λ (f : Entry). f.gid) files k d within, alone))))),
+          let at = listed (ap (λ b. keep.users.unowned || b) stays ∙ or-true keep.users.unowned) in
+          let there_is = subst (λ fs. slice_get at.0.listed h ≡ Some (spares, fs)) (its at.1 at.2) at.3 in
+          let gid = (get_or files k d).gid in
+          subst (λ (x : Host). allows_gid x gid ≡ true) left_at.2
+          (gid-allowed keep full unowned one stays gid (λ alone. subst (λ (u : UnownedNumbers). Contains u.groups (on one gid)) at.0.numbers
+          (groups-found no_numbers at.0.listed h spares files gid there_is ((among-once (is_unowned_gid spares) (λ (f : Entry). f.gid) files gid).1 (any-file (λ (f : Entry). f.gid) files k d within, alone))))),
     )

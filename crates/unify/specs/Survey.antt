@@ -34,7 +34,8 @@ sparing_ranges keep host = record host {
   spared_groups = keep.groups.ranges;
 }
 
--- those of all hosts, by this keep text; the host list, and host by host its files but the inventory
+-- those of all hosts, by this keep text, or the first fault: the host list, and host by host its
+-- files but the inventory
 abbrev pub sparing_hosts : List HostText → KeepText → Result (List Host) Fault
 sparing_hosts texts keep =
     if keeps_unowned keep then (in_site (hosts_checked texts) >>= λ listed.

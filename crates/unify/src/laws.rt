@@ -108,9 +108,9 @@ pub fn second_reading_is_believed()
 /// are, line by line, those of the host but for the numbers of what was joined of it; each user has
 /// the primary group that it had; and what the headline says of the host's plan holds with these
 /// two in place of the merged ones, by the names that the host has in full. The texts are those
-/// that the tables of the hosts were read from, each at the index of its host. Where no name is kept,
-/// as with an empty keep text, all rows of each host were joined, and so every line has the new
-/// numbers of its names.
+/// that the tables of the hosts were read from, each at the index of its host. Where no name is
+/// kept, as with an empty keep text, all rows of each host were joined, and so every line has the
+/// new numbers of its names.
 pub fn hosts_keep_own_files()
     ensures keep { HostsKeepOwnFiles }
     ensures texts { TablesAreOfTexts }

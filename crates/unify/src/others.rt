@@ -58,7 +58,8 @@ fn reserve<'a>(
     ensures users { IfOk result
         (λ reserved. reserved.users.items ≡ reserved_users keep.now hosts.now unowned.now.users) }
     ensures groups { IfOk result
-        (λ reserved. reserved.groups.items ≡ reserved_groups keep.now hosts.now unowned.now.groups) }
+        (λ reserved. reserved.groups.items
+        ≡ reserved_groups keep.now hosts.now unowned.now.groups) }
 {
     let users = kept
         .users

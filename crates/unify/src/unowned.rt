@@ -72,7 +72,8 @@ fn survey_hosts<'a>(
     texts: &'a [HostText],
     keep: &KeepText<'_>,
 ) -> Result<Vec<Host<'a>>, Fault<'a>>
-    ensures read { Gives (λ hosts. hosts.items) told result (spec.sparing_hosts texts.now keep.now) }
+    ensures read { Gives (λ hosts. hosts.items) told result
+        (spec.sparing_hosts texts.now keep.now) }
     ensures few { IfOk result (λ hosts. length hosts.items ≤ length texts.now) }
 {
     if !keeps_unowned(keep) {

@@ -15,8 +15,8 @@ use Rattle.unify_merge.specs.declared.fault.MergeFault.{MergeFault}
 use Rattle.unify_merge.specs.declared.fault.MergeFault.TheVariants.{Failed, TooLarge, Refused}
 
 -- The inventory of each host was read once. With these this is the cost that a count answers.
-pub record HasCounted (hosts : List HostText) (keep : KeepRules) (map_text : List ℕ) (old new : Ledger)
-    (cost : Cost) : Type 0 where
+pub record HasCounted (hosts : List HostText) (keep : KeepRules) (map_text : List ℕ)
+    (old new : Ledger) (cost : Cost) : Type 0 where
   pub texts : List (List ℕ)
   pub were_read : WereEachRead hosts texts old new
   pub answer : count_of (with_inventories hosts texts) keep map_text ≡ Ok cost

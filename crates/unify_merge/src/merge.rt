@@ -160,9 +160,9 @@ pub fn merge_by<'a, F: MergeFiles>(
     write_merged(alloc, files, &mut solved, hosts)
 }
 
-/// What [`merge_by`] merges and writes by these pins and this keep text, with the numbers that files
-/// have without an account. Where the keep text keeps such numbers they are found first, for which
-/// each inventory is read once more.
+/// What [`merge_by`] merges and writes by these pins and this keep text, with the numbers that
+/// files have without an account. Where the keep text keeps such numbers they are found first, for
+/// which each inventory is read once more.
 ///
 /// It stops early as `merge_by` does; before that where what the survey reads is refused: the host
 /// list, host by host the tables, and host by host the inventory. Nothing was written then.
