@@ -26,7 +26,7 @@ fn other_comment(line: &[u8]) -> Option<(&str, &str)> {
     behind(line, "differs user ")?.split_once(" comment ")
 }
 
-// How many files the inventories have, as a line of a report says.
+// Of how many files the user fields were counted, as a line of a report says.
 fn files_in(line: &[u8]) -> Option<u64> {
     let (_, files) = behind(line, "user-fields ")?.split_once(" of ")?;
     files.parse::<u64>().ok()
@@ -82,11 +82,19 @@ fn warn_of_comment<'a>(
     )
 }
 
+// How many files the inventories have, as a report says that has nothing reserved. Where something
+// is, the files of what stays are not among those that it counts.
+fn all_files(report: &[u8]) -> Option<u64> {
+    if !report.starts_with(b"unify report 2\n") {
+        return None;
+    }
+    Lines::new(report).find_map(|line| files_in(line))
+}
+
 // Warns of paths that stand in an inventory more than once, where its lines of files are more than
 // its files.
 fn warn_of_paths(rt: &HostRuntime, report: &[u8], file_lines: u64) -> Result<(), AllocError> {
-    let files = Lines::new(report).find_map(|line| files_in(line));
-    let again = file_lines.saturating_sub(files.unwrap_or(file_lines));
+    let again = file_lines.saturating_sub(all_files(report).unwrap_or(file_lines));
     if again == 0 {
         return Ok(());
     }
