@@ -5,6 +5,7 @@ pub mod Told
 pub mod RangeLists
 pub mod RunsInside
 pub mod Pool
+pub mod Owners
 pub mod Index
 pub mod Views
 pub mod Pairs

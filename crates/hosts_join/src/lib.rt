@@ -14,6 +14,7 @@ mod kind;
 mod laws;
 mod members;
 mod names;
+mod owners;
 mod pair_lines;
 mod pairs;
 mod pins;
@@ -122,15 +123,6 @@ pub struct Spot {
     pub number: u32,
     /// What that number is on the host.
     pub standing: Standing,
-}
-
-/// A number on a host, by the host's index.
-#[derive(Clone, Copy, PartialEq, Eq, Hash)]
-pub(crate) struct Seat {
-    /// The host's index, counted from 0.
-    pub host: u32,
-    /// The uid or gid.
-    pub number: u32,
 }
 
 /// A row of an account file, with its host's index.

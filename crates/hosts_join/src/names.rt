@@ -25,7 +25,7 @@ use crate::index::Index;
 use crate::members::{claims, classes, common_regular, common_system, names_in};
 use crate::reserving::{check_reserved, copy_reserved, given_away};
 use crate::{
-    Class, HostEntry, Pair, PairTable, Pool, PoolClass, Reserved, Row, Seat, SiteFault, Spot, Which,
+    Class, HostEntry, Pair, PairTable, Pool, PoolClass, Reserved, Row, SiteFault, Spot, Which,
 };
 use idtext::Name;
 use std::alloc::{AllocError, Global};
@@ -290,7 +290,7 @@ pub fn join_rows<'a>(
       reserved = reserved.now;
     })) }
 {
-    let index = Index::of(alloc, rows)?;
+    let index = Index::of(alloc, hosts.len(), rows)?;
     let given = copy_given(alloc, pins, reserved)?;
     let settled = settle(alloc, kind, hosts.as_slice(), &index, pins, reserved)?;
     let Settled { classes, pools } = settled;
@@ -362,7 +362,7 @@ impl<'a> Names<'a> {
         ensures tied { IfSome result (λ i. number_on (account self.now i) host ≡ Some number) }
         ensures within { IfSome result (λ i. i < length self.now.names) }
     {
-        self.index.owners.get(&Seat { host, number }).copied()
+        self.index.owners.get(host, number)
     }
 
     /// The index of a name. One look-up by hash.

@@ -1,0 +1,46 @@
+//! Who has which number on which host.
+ghost use Rattle.std.specs.Prelude.{◌≡◌, ◌<◌, ℕ, None, length, IfOk, OnOk};
+ghost use Rattle.hosts_join.specs.Owners.{owner_in, with_owner};
+
+use std::alloc::{AllocError, Global};
+use std::collections::HashMap;
+
+/// The places of names by their numbers on each host. Each host has a table of its own: whoever
+/// looks one host's numbers up after the other then stays in that.
+#[derive(Drop)]
+pub(crate) struct Owners {
+    hosts: Vec<HashMap<u32, u32>>,
+}
+
+impl Owners {
+    /// No number on any of so many hosts.
+    pub(crate) fn new(alloc: Global, hosts: usize) -> Result<Self, AllocError>
+        ensures none { IfOk result (λ owners. (h v : ℕ) → owner_in owners h v ≡ None) }
+        ensures hosts { IfOk result (λ owners. length owners.hosts.items ≡ hosts) }
+    {
+        let mut tables = Vec::new(alloc);
+        for _host in 0..hosts {
+            tables.push(HashMap::new(alloc))?;
+        }
+        Ok(Owners { hosts: tables })
+    }
+
+    /// Gives a number on a host to the name at a place.
+    pub(crate) fn insert(&mut self, host: u32, number: u32, place: u32) -> Result<(), AllocError>
+        requires { host < length self.old.hosts.items }
+        ensures given { OnOk result
+            ((h v : ℕ) → owner_in self.new h v ≡ with_owner self.old host number place h v) }
+        ensures hosts { OnOk result
+            (length self.new.hosts.items ≡ length self.old.hosts.items) }
+    {
+        self.hosts[host as usize].insert(number, place)?;
+        Ok(())
+    }
+
+    /// The place of the name that has a number on a host.
+    pub(crate) fn get(&self, host: u32, number: u32) -> Option<u32>
+        ensures { result ≡ owner_in self.now host number }
+    {
+        self.hosts.get(host as usize)?.get(&number).copied()
+    }
+}
