@@ -6,6 +6,7 @@ pub mod RangeLists
 pub mod RunsInside
 pub mod Pool
 pub mod Owners
+pub mod Order
 pub mod Index
 pub mod Views
 pub mod Pairs

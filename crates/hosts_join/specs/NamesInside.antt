@@ -4,6 +4,7 @@ use Rattle.std.specs.Prelude.{◌≡◌, ℕ, ◌<◌, ◌≤◌, ◌^◌, false
 use Rattle.hosts_join.specs.Accounts.{Accounts, all_lines, IsOnceEach, nobody}
 use Rattle.hosts_join.specs.Index.{accounts_in, IsIndex}
 use Rattle.hosts_join.specs.Lawful.{AreLawfulAccounts}
+use Rattle.hosts_join.specs.Order.{AreInByteOrder}
 use Rattle.hosts_join.specs.RangeLists.{lies_in_some}
 use Rattle.hosts_join.specs.Rules.{class_of, in_pool, names_in, pool_size}
 use Rattle.hosts_join.specs.Views.{entry_of, pairs_of}
@@ -25,6 +26,7 @@ pub record IsNames (n : Inside) : Type 0 where
   pub lines : n.all_lines ≡ all_lines (accounts_in n.index)
   pub few_lines : n.all_lines ≤ 4194304
   pub classes : n.classes.items ≡ map (class_of (pairs_of n.given.pins.items)) (accounts_in n.index)
+  pub order : AreInByteOrder (accounts_in n.index) n.order.items
   pub regular : (v : ℕ) → lies_in_some n.regular v ≡ in_pool (accounts_of n) Regular v
   pub system : (v : ℕ) → lies_in_some n.system v ≡ in_pool (accounts_of n) System v
   pub none : (v : ℕ) → lies_in_some n.none v ≡ false

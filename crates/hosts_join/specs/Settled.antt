@@ -17,6 +17,7 @@ use Rattle.hosts_join.specs.declared.names.Settled.{Settled}
 use Rattle.hosts_join.specs.declared.reserving.Reserved.{Reserved}
 use Rattle.hosts_join.specs.Accounts.{Accounts, Pair}
 use Rattle.hosts_join.specs.Index.{accounts_in}
+use Rattle.hosts_join.specs.Order.{AreInByteOrder}
 use Rattle.hosts_join.specs.Pool.{run_size}
 use Rattle.hosts_join.specs.RangeLists.{lies_in_some}
 use Rattle.hosts_join.specs.Rules.{class_of, clash_of, claims, in_pool, names_in, pool_size}
@@ -42,6 +43,7 @@ pub record IsSettled (a : Accounts) (s : Settled) : Type 0 where
   pub apart : clash_of (claims a) ≡ None
   pub enough_regular : names_in a Regular ≤ pool_size a Regular
   pub enough_system : names_in a System ≤ pool_size a System
+  pub order : AreInByteOrder a.names s.order.items
 
 -- what is wrong with a pool of so many numbers, whose class has so many names
 abbrev pub lacking : Which → PoolClass → ℕ → ℕ → Option SiteFault

@@ -25,3 +25,7 @@ pairs_of ps = map pair_of ps
 
 abbrev pub text_of : Option (Bor (List ℕ)) → Option (List ℕ)
 text_of o = option_map (λ (t : Bor (List ℕ)). t.now) o
+
+-- a name that lies in the input, with its place
+abbrev pub placed : Bor (List ℕ) × ℕ → List ℕ × ℕ
+placed p = (p.0.now, p.1)

@@ -14,6 +14,7 @@ mod kind;
 mod laws;
 mod members;
 mod names;
+mod order;
 mod owners;
 mod pair_lines;
 mod pairs;

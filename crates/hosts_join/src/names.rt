@@ -1,6 +1,6 @@
 //! The names of one kind over all hosts.
 ghost use Rattle.std.specs.Prelude.{◌≡◌, ℕ, List, ◌<◌, ◌≤◌, ◌&&◌, ◌||◌, ◌==◌, not, map, length};
-ghost use Rattle.std.specs.Prelude.{OnOk, IfOk, IfErr, IfSome, Some, None, count_by};
+ghost use Rattle.std.specs.Prelude.{◌^◌, OnOk, IfOk, IfErr, IfSome, Some, None, count_by};
 ghost use Rattle.std.specs.List.{All, list_all, find};
 ghost use Rattle.std.specs.Option.{option_map};
 ghost use Rattle.idtext.specs.First.{Gives};
@@ -23,6 +23,7 @@ ghost use Rattle.logindefs.specs.Ranges.{in_range};
 use crate::clash::{Clash, find_clash};
 use crate::index::Index;
 use crate::members::{claims, classes, common_regular, common_system, names_in};
+use crate::order::in_byte_order;
 use crate::reserving::{check_reserved, copy_reserved, given_away};
 use crate::{
     Class, HostEntry, Pair, PairTable, Pool, PoolClass, Reserved, Row, SiteFault, Spot, Which,
@@ -40,6 +41,7 @@ pub struct Names<'a> {
     given: Given<'a>,
     index: Index<'a>,
     all_lines: u64,
+    order: Vec<u32>,
     classes: Vec<Class>,
     regular: Pool,
     system: Pool,
@@ -55,6 +57,7 @@ impl Drop for Names<'_> {
             given,
             index,
             all_lines: _,
+            order,
             classes,
             regular,
             system,
@@ -63,6 +66,7 @@ impl Drop for Names<'_> {
         drop(hosts);
         drop(given);
         drop(index);
+        drop(order);
         drop(classes);
         drop(regular);
         drop(system);
@@ -224,15 +228,16 @@ fn small_pool<'a>(kind: Which, classes: &[Class], pools: &PoolPair) -> Option<Si
     pool_fault(kind, PoolClass::System, names, pools.system.len())
 }
 
-/// What is settled of names before they are joined: their classes, and the pools of those that are
-/// free.
+/// What is settled of names before they are joined: their classes, the pools of those that are
+/// free, and the places of all in byte order.
 #[derive(Drop)]
 struct Settled {
     classes: Vec<Class>,
     pools: PoolPair,
+    order: Vec<u32>,
 }
 
-/// The classes and the pools of the names, or the first reason why they cannot be joined.
+/// The classes, pools and order of the names, or the first reason why they cannot be joined.
 fn settle<'a>(
     alloc: Global,
     kind: Which,
@@ -241,7 +246,8 @@ fn settle<'a>(
     pins: &PairTable<'a>,
     reserved: &[Reserved<'a>],
 ) -> Result<Settled, SiteFault<'a>>
-    requires { ArePaired index.now }
+    requires paired { ArePaired index.now }
+    requires few { length (accounts_in index.now) < 2 ^ 32 }
     ensures exact { Gives (λ _. joined_from hosts.now index.now pins.now reserved.now) told result
         (joined kind (joined_from hosts.now index.now pins.now reserved.now)) }
     ensures settled { IfOk result
@@ -260,7 +266,12 @@ fn settle<'a>(
     if let Some(fault) = small_pool(kind, classes.as_slice(), &pools) {
         return Err(fault);
     }
-    Ok(Settled { classes, pools })
+    let order = in_byte_order(alloc, index)?;
+    Ok(Settled {
+        classes,
+        pools,
+        order,
+    })
 }
 
 /// The names of the rows, or the first reason why they cannot be joined.
@@ -293,13 +304,18 @@ pub fn join_rows<'a>(
     let index = Index::of(alloc, hosts.len(), rows)?;
     let given = copy_given(alloc, pins, reserved)?;
     let settled = settle(alloc, kind, hosts.as_slice(), &index, pins, reserved)?;
-    let Settled { classes, pools } = settled;
+    let Settled {
+        classes,
+        pools,
+        order,
+    } = settled;
     let PoolPair { regular, system } = pools;
     Ok(Names {
         hosts,
         given,
         index,
         all_lines: rows.len() as u64,
+        order,
         classes,
         regular,
         system,
@@ -311,6 +327,7 @@ impl<'a> Names<'a> {
     ghost use Rattle.hosts_join.specs.Accounts.{place_of, owner, number_on, lines, all_lines};
     ghost use Rattle.hosts_join.specs.Rules.{account};
     ghost use Rattle.hosts_join.specs.Lawful.{AreLawfulAccounts};
+    ghost use Rattle.hosts_join.specs.Order.{AreInByteOrder};
 
     /// How many names there are, and what holds of them all. No cost.
     pub fn len(&self) -> u32
@@ -363,6 +380,15 @@ impl<'a> Names<'a> {
         ensures within { IfSome result (λ i. i < length self.now.names) }
     {
         self.index.owners.get(host, number)
+    }
+
+    /// The indices of all names, by the names in byte order. No cost.
+    pub fn in_byte_order(&self) -> &[u32]
+        ensures ordered { AreInByteOrder self.now.names result.now }
+        ensures within { All (λ i. i < length self.now.names) result.now }
+        ensures lawful { AreLawfulAccounts self.now }
+    {
+        self.order.as_slice()
     }
 
     /// The index of a name. One look-up by hash.

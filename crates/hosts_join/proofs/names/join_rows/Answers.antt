@@ -12,6 +12,9 @@ use Rattle.hosts_join.proofs.names.join_rows.Goals as goal
 length-rows : (rows : List Row) → length (rows_of rows) ≡ length rows
 length-rows rows = length-map rows row_of
 
+pub settle-requires-clause-few : goal.settle-requires-clause-few
+settle-requires-clause-few c = omega (arith, ap length c.in_ok-index.ensures.accounts, length-grouped (rows_of c.args.rows.now), c.requires.few, length-rows c.args.rows.now)
+
 pub returns : goal.returns
 returns c =
     let exact : joined c.args.kind (joined_from c.args.hosts.items c.in_ok-index.index c.args.pins.now c.args.reserved.now) ≡ Ok (joined_from c.args.hosts.items c.in_ok-index.index c.args.pins.now c.args.reserved.now) = rw c.as_slice.ensures.value at c.in_ok-settled.ensures.exact in
@@ -28,6 +31,7 @@ invariant_of-result c =
       lines = sym c.in_ok-index.ensures.lines;
       few_lines = c.requires.few;
       classes = rw c.in_ok-given.ensures.pins settled.classes;
+      order = settled.order;
       regular = rw (c.in_ok-given.ensures.pins, c.in_ok-given.ensures.reserved) settled.pools.regular;
       system = rw (c.in_ok-given.ensures.pins, c.in_ok-given.ensures.reserved) settled.pools.system;
       none = c.new.ensures;

@@ -40,4 +40,5 @@ returns-clause-settled c =
       apart = not-clashing c.args.kind c.args.reserved.now (claims a) c.in_ok-pools.ensures.good;
       enough_regular = is-enough c.args.kind a pool.Regular both.0;
       enough_system = is-enough c.args.kind a pool.System both.1;
+      order = c.in_ok-order.ensures;
     }
