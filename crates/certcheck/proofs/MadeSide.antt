@@ -1,53 +1,57 @@
 -- The rows of a mapping and its potentials, sorted by name, are a side.
-use Rattle.std.proofs.Common.{◌≡◌, ℕ, ◌+◌, ◌<◌, ◌≤◌, ◌^◌, Bool, false, ◌||◌, cond, List, [], ◌∷◌, ◌++◌, map, length, get_or, refl, sym, ap, ◌∙◌, ⊎_elim, arith, subst}
+use Rattle.std.proofs.Common.{◌≡◌, ℕ, ◌+◌, ◌<◌, ◌≤◌, ◌^◌, Bool, false, ◌||◌, cond, List, [], ◌∷◌, ◌++◌, map, take, length, get_or, refl, sym, ap, ◌∙◌, ⊎_elim, arith, subst}
 use Rattle.std.specs.declared.cmp.Ordering.{Ordering}
 use Rattle.std.specs.declared.cmp.Ordering.TheVariants.{Less, Equal, Greater}
 use Rattle.std.specs.Ordering.{nat_cmp, is_lt, ordering_reverse}
 use Rattle.std.specs.Cmp.Lexicographic.{slice_cmp}
-use Rattle.std.specs.List.{All, list_any}
-use Rattle.std.specs.List.Sorted.{IsPermutation, IsSortedBy}
+use Rattle.std.specs.List.{All, list_any, range_with_len}
+use Rattle.std.specs.List.Sorted.{IsPermutation, IsSorted, IsSortedBy}
 use Rattle.std.specs.Str.{bytes_eq}
 use Rattle.std.proofs.lemmas.Cmp.{nat_list_cmp_total}
-use Rattle.std.proofs.lemmas.List.{length-map, get_or-map, get_or_default, get_or_append_left, get_or_push, same_lists, length_push}
+use Rattle.std.proofs.lemmas.List.{map-append, take_more, length-map, get_or-map, get_or_default, get_or_append_left, get_or_push, same_lists, length_push}
+use Rattle.std.proofs.lemmas.List.FromFn.{get_or-map-range_with_len, length-map-range_with_len}
 use Rattle.std.proofs.lemmas.List.Sorted.{ranks_by, sorted_far, IsPermutation-map, All-permutation, list_any-IsPermutation, sum_by-IsPermutation}
 use Rattle.std.proofs.lemmas.Bool.{cases_lt, false≢true}
 use Rattle.idtext.specs.Names.{is_lawful_name}
 use Rattle.hosts_join.specs.Accounts.{Account, Accounts, nobody}
+use Rattle.hosts_join.specs.Order.{name_at}
 use Rattle.hosts_join.specs.Rules.{account, is_name}
 use Rattle.hosts_join.specs.Lawful.{AreLawfulAccounts}
 use Rattle.certcheck.specs.declared.certificate.CertRow.{CertRow}
+use Rattle.certcheck.specs.Views.{row_of, rows_of}
 use Rattle.certcheck.specs.Certificate.{Row, IsRow, IsSide, AreAscending, AreAllZ, ComesBefore}
 use Rattle.ownership.specs.Potentials.{AscendsByNumber}
-use Rattle.certcheck.specs.Views.{row_of, rows_of}
 use Rattle.certcheck.specs.Check.{is_listed, number_named, y_named}
-use Rattle.certcheck.specs.Made.{IsSolutionFor, AreRowsOf, IsSideOf}
+use Rattle.certcheck.specs.Made.{IsSolutionFor, AreRowsInOrder, IsSideOf, row_at}
 use Rattle.certcheck.proofs.Order.{same_from_equal, eq_itself}
 use Rattle.certcheck.proofs.Indices.{row, blank, same_names, row_at_index}
 use Rattle.certcheck.proofs.Exact.{count_two, two_counted}
 
--- the rows so far
-pub record AreRowsBelow (a : Accounts) (mapping potentials : List ℕ) (count : ℕ) (rows : List Row) : Type 0 where
-  pub len : length rows ≡ count
-  pub names : (n : ℕ) (d : Row) → n < count → (get_or rows n d).name ≡ (account a n).name
-  pub numbers : (n : ℕ) (d : Row) → n < count → (get_or rows n d).number ≡ get_or mapping n 0
-  pub ys : (n : ℕ) (d : Row) → n < count → (get_or rows n d).y ≡ get_or potentials n 0
+-- the rows, by the index of their names
+record AreRowsOf (a : Accounts) (m y : List ℕ) (rows : List Row) : Type 0 where
+  pub len : length rows ≡ length a.names
+  pub names : (i : ℕ) (d : Row) → i < length a.names → (get_or rows i d).name ≡ (account a i).name
+  pub numbers : (i : ℕ) (d : Row) → i < length a.names → (get_or rows i d).number ≡ get_or m i 0
+  pub ys : (i : ℕ) (d : Row) → i < length a.names → (get_or rows i d).y ≡ get_or y i 0
 
-pushed : {Y : Type 0} (f : Row → Y) (g : ℕ → Y) (rows : List Row) (x : Row) (count : ℕ) → length rows ≡ count → ((n : ℕ) (d : Row) → n < count → f (get_or rows n d) ≡ g n) → f x ≡ g count → (n : ℕ) (d : Row) → n < count + 1 → f (get_or (rows ++ x ∷ []) n d) ≡ g n
-pushed f g rows x count len was here n d l =
-    ⊎_elim
-    (λ (low : n < count). ap f (get_or_append_left rows (x ∷ []) d n (omega (arith, len, low))) ∙ was n d low)
-    (λ (high : count ≤ n).
-    let at : count ≡ n = omega arith in
-    ap f (get_or_push rows x d n (len ∙ at)) ∙ here ∙ ap g at)
-    (cases_lt n count)
+abbrev by_index : (a : Accounts) (m y : List ℕ) → List Row
+by_index a m y = map (row_at a m y) (range_with_len 0 (length a.names))
 
-pub rows_more : (a : Accounts) (mapping potentials : List ℕ) (count : ℕ) (rows : List Row) (x : Row) → x.name ≡ (account a count).name → x.number ≡ get_or mapping count 0 → x.y ≡ get_or potentials count 0 → AreRowsBelow a mapping potentials count rows → AreRowsBelow a mapping potentials (count + 1) (rows ++ x ∷ [])
-rows_more a mapping potentials count rows x name number y was = record {
-  len = length_push rows x ∙ ap (λ n. n + 1) was.len;
-  names = pushed (λ (r : Row). r.name) (λ n. (account a n).name) rows x count was.len was.names name;
-  numbers = pushed (λ (r : Row). r.number) (λ n. get_or mapping n 0) rows x count was.len was.numbers number;
-  ys = pushed (λ (r : Row). r.y) (λ n. get_or potentials n 0) rows x count was.len was.ys y;
-}
+are_by_index : (a : Accounts) (m y : List ℕ) → AreRowsOf a m y (by_index a m y)
+are_by_index a m y =
+    let at = λ (i : ℕ) (d : Row) (h : i < length a.names). get_or-map-range_with_len (row_at a m y) 0 (length a.names) i i d h (omega arith) in
+    record {
+      len = length-map-range_with_len (row_at a m y) 0 (length a.names);
+      names = λ i d h. ap (λ (r : Row). r.name) (at i d h);
+      numbers = λ i d h. ap (λ (r : Row). r.number) (at i d h);
+      ys = λ i d h. ap (λ (r : Row). r.y) (at i d h);
+    }
+
+-- one row more
+pub rows_more : (a : Accounts) (m y order : List ℕ) (k : ℕ) (rows rows' : List CertRow) (x : CertRow) → k < length order → rows_of rows ≡ map (row_at a m y) (take k order) → rows' ≡ rows ++ x ∷ [] → row_of x ≡ row_at a m y (get_or order k 0) → rows_of rows' ≡ map (row_at a m y) (take (k + 1) order)
+rows_more a m y order k rows rows' x h before after is =
+    ap rows_of after ∙ map-append row_of rows (x ∷ []) ∙ ap (λ rs. rs ++ row_of x ∷ []) before ∙ ap (λ r. map (row_at a m y) (take k order) ++ r ∷ []) is
+    ∙ sym (ap (map (row_at a m y)) (take_more order k 0 h) ∙ map-append (row_at a m y) (take k order) (get_or order k 0 ∷ []))
 
 -- what a row says of the index of its name
 abbrev Says : Accounts → List ℕ → List ℕ → Row → Type 0
@@ -102,45 +106,52 @@ before_from n m not' differ Greater e =
     let less : slice_cmp nat_cmp m n ≡ Less = nat_list_cmp_total.antisymm m n ∙ ap ordering_reverse e in
     absurd (false≢true (sym not' ∙ ap is_lt less))
 
--- sorted rows of different names ascend
-pub made_ascends : (a : Accounts) (mapping ys : List ℕ) (us ss : List CertRow) → AreLawfulAccounts a → AreRowsOf a mapping ys (rows_of us) → IsPermutation us ss → IsSortedBy (λ (x : CertRow) (y : CertRow). is_lt (slice_cmp nat_cmp x.name.now y.name.now)) ss → AreAscending (rows_of ss)
-made_ascends a mapping ys us ss are of perm sorted i j d l m =
-    let in' : j < length ss = rw (← length-map ss row_of) m in
-    let bare : CertRow = record { name = record { ref_ptr = (0, 0); now = [] }; number = 0; y = 0 } in
-    let far = sorted_far (λ (x : CertRow) (y : CertRow). is_lt (slice_cmp nat_cmp x.name.now y.name.now)) (ranks_by nat_list_cmp_total (λ (x : CertRow). x.name.now)) ss sorted i j bare (omega arith) in' in
-    let first : get_or (rows_of ss) i d ≡ row_of (get_or ss i bare) = get_or-map row_of ss i bare d (omega arith) in
-    let last : get_or (rows_of ss) j d ≡ row_of (get_or ss j bare) = get_or-map row_of ss j bare d in' in
-    let P : Row → Type 0 = λ r. ComesBefore r.name (get_or (rows_of ss) j d).name in
-    let Q : Row → Type 0 = λ r. ComesBefore (get_or ss i bare).name.now r.name in
-    let first' : row (rows_of ss) i ≡ row_of (get_or ss i bare) = get_or-map row_of ss i bare blank (omega arith) in
-    let last' : row (rows_of ss) j ≡ row_of (get_or ss j bare) = get_or-map row_of ss j bare blank in' in
-    subst P (sym first) (subst Q (sym last) (before_from (get_or ss i bare).name.now (get_or ss j bare).name.now far
-    (λ e. names_apart a mapping ys (rows_of us) (rows_of ss) i j are of (IsPermutation-map row_of us ss perm) l m (ap (λ (r : Row). r.name) first' ∙ e ∙ sym (ap (λ (r : Row). r.name) last')))
-    (slice_cmp nat_cmp (get_or ss i bare).name.now (get_or ss j bare).name.now) refl))
+-- rows in byte order are sorted
+names_of_rows : (a : Accounts) (m y order : List ℕ) → map (λ (r : Row). r.name) (map (row_at a m y) order) ≡ map (name_at a.names) order
+names_of_rows a m y [] = refl
+names_of_rows a m y (i ∷ order) = ap (λ ns. name_at a.names i ∷ ns) (names_of_rows a m y order)
 
-pub made_side : (a : Accounts) (mapping ys : List ℕ) (zs : List (ℕ × ℕ)) (us ss : List CertRow) (z : List (ℕ × ℕ)) → AreLawfulAccounts a → IsSolutionFor a mapping ys zs → AreRowsOf a mapping ys (rows_of us) → IsPermutation us ss → IsSortedBy (λ (x : CertRow) (y : CertRow). is_lt (slice_cmp nat_cmp x.name.now y.name.now)) ss → z ≡ zs → IsSide (record { rows = rows_of ss; z = z }) × IsSideOf a mapping ys zs (record { rows = rows_of ss; z = z })
-made_side a mapping ys zs us ss z are sol of perm sorted ez =
-    let perm' = IsPermutation-map row_of us ss perm in
+rows_sorted : (ss : List Row) → IsSorted (slice_cmp nat_cmp) (map (λ (r : Row). r.name) ss) → IsSortedBy (λ (x : Row) (y : Row). is_lt (slice_cmp nat_cmp x.name y.name)) ss
+rows_sorted ss s = λ k d low high.
+    let here : k < length ss = omega (arith, high) in
+    rw (← get_or-map (λ (r : Row). r.name) ss (k + 1) d d.name high, ← get_or-map (λ (r : Row). r.name) ss k d d.name here) (s k d.name low (omega (arith, high, length-map ss (λ (r : Row). r.name))))
+
+-- sorted rows of different names ascend
+made_ascends : (a : Accounts) (mapping ys : List ℕ) (us ss : List Row) → AreLawfulAccounts a → AreRowsOf a mapping ys us → IsPermutation us ss → IsSortedBy (λ (x : Row) (y : Row). is_lt (slice_cmp nat_cmp x.name y.name)) ss → AreAscending ss
+made_ascends a mapping ys us ss are of perm sorted i j d l m =
+    let far = sorted_far (λ (x : Row) (y : Row). is_lt (slice_cmp nat_cmp x.name y.name)) (ranks_by nat_list_cmp_total (λ (x : Row). x.name)) ss sorted i j d (omega (arith, l)) m in
+    let first : get_or ss i d ≡ row ss i = get_or_default ss i d blank (omega arith) in
+    let last : get_or ss j d ≡ row ss j = get_or_default ss j d blank m in
+    before_from (get_or ss i d).name (get_or ss j d).name far
+    (λ e. names_apart a mapping ys us ss i j are of perm l m (ap (λ (r : Row). r.name) (sym first) ∙ e ∙ ap (λ (r : Row). r.name) last))
+    (slice_cmp nat_cmp (get_or ss i d).name (get_or ss j d).name) refl
+
+pub made_side : (a : Accounts) (mapping ys : List ℕ) (zs : List (ℕ × ℕ)) (ss : List Row) (z : List (ℕ × ℕ)) → AreLawfulAccounts a → IsSolutionFor a mapping ys zs → AreRowsInOrder a mapping ys ss → z ≡ zs → IsSide (record { rows = ss; z = z }) × IsSideOf a mapping ys zs (record { rows = ss; z = z })
+made_side a mapping ys zs ss z are sol rows ez =
+    let us = by_index a mapping ys in
+    let of = are_by_index a mapping ys in
+    let perm : IsPermutation us ss = rw rows.are (IsPermutation-map (row_at a mapping ys) (range_with_len 0 (length a.names)) rows.order rows.ordered.each_once) in
+    let sorted = rows_sorted ss (rw (rows.are, names_of_rows a mapping ys rows.order) rows.ordered.ascending) in
     let up = made_ascends a mapping ys us ss are of perm sorted in
-    let exact : (m : List ℕ) → is_name a.names m ≡ is_listed (rows_of ss) m = λ m. same_listed a mapping ys (rows_of us) m of ∙ list_any-IsPermutation (λ (r : Row). bytes_eq m r.name) (rows_of us) (rows_of ss) perm' in
-    let says = All-permutation (Says a mapping ys) (rows_of us) (rows_of ss) perm' (all_say a mapping ys (rows_of us) are of) in
+    let exact : (m : List ℕ) → is_name a.names m ≡ is_listed ss m = λ m. same_listed a mapping ys us m of ∙ list_any-IsPermutation (λ (r : Row). bytes_eq m r.name) us ss perm in
+    let says = All-permutation (Says a mapping ys) us ss perm (all_say a mapping ys us are of) in
     let P : List (ℕ × ℕ) → Type 0 = λ y. AscendsByNumber y in
     let Q : List (ℕ × ℕ) → Type 0 = λ y. AreAllZ y in (
       record {
         names_ascend = up;
         numbers_ascend = subst P (sym ez) sol.z_ascends;
-        rows_lawful = All-permutation IsRow (rows_of us) (rows_of ss) perm' (all_rows a mapping ys zs (rows_of us) are sol of);
+        rows_lawful = All-permutation IsRow us ss perm (all_rows a mapping ys zs us are sol of);
         z_lawful = subst Q (sym ez) sol.z_lawful;
       },
       record {
         names = exact;
         mapping = same_lists _ _ (length-map a.names _ ∙ sym sol.numbers) (λ k d l.
-            let in' : k < length a.names = rw (← length-map a.names (λ (x : Account). number_named (rows_of ss) x.name)) l in
-            let r = row_at_index a (rows_of ss) k up exact in' in
+            let in' : k < length a.names = rw (← length-map a.names (λ (x : Account). number_named ss x.name)) l in
+            let r = row_at_index a ss k up exact in' in
             get_or_default _ k d 0 l ∙ r.number ∙ (says r.at blank r.within k in' (sym r.name)).0 ∙ get_or_default mapping k 0 d (omega (arith, in', sol.numbers)));
         ys = same_lists _ _ (length-map a.names _ ∙ sym sol.ys) (λ k d l.
-            let in' : k < length a.names = rw (← length-map a.names (λ (x : Account). y_named (rows_of ss) x.name)) l in
-            let r = row_at_index a (rows_of ss) k up exact in' in
+            let in' : k < length a.names = rw (← length-map a.names (λ (x : Account). y_named ss x.name)) l in
+            let r = row_at_index a ss k up exact in' in
             get_or_default _ k d 0 l ∙ r.y ∙ (says r.at blank r.within k in' (sym r.name)).1 ∙ get_or_default ys k 0 d (omega (arith, in', sol.ys)));
         z = ez;
       },

@@ -1,8 +1,9 @@
 -- The side that a mapping and its potentials give.
 -- Source: this project's own rule.
-use Rattle.std.specs.Prelude.{◌≡◌, ℕ, ◌<◌, ◌≤◌, ◌^◌, List, length, slice_index_or}
+use Rattle.std.specs.Prelude.{◌≡◌, ℕ, ◌<◌, ◌≤◌, ◌^◌, List, length, map}
 use Rattle.std.specs.List.{All}
 use Rattle.hosts_join.specs.Accounts.{Accounts}
+use Rattle.hosts_join.specs.Order.{AreInByteOrder}
 use Rattle.hosts_join.specs.Rules.{account, is_name}
 use Rattle.ownership.specs.Mappings.{number_at}
 use Rattle.ownership.specs.Potentials.{potential_at, AscendsByNumber}
@@ -19,14 +20,19 @@ pub record IsSolutionFor (a : Accounts) (m y : List ℕ) (z : List (ℕ × ℕ))
   pub z_ascends : AscendsByNumber z
   pub z_lawful : AreAllZ z
 
--- the rows, by the index of their names
-pub record AreRowsOf (a : Accounts) (m y : List ℕ) (rows : List Row) : Type 0 where
-  pub len : length rows ≡ length a.names
-  pub names : (i : ℕ) (d : Row) → i < length a.names
-      → (slice_index_or rows i d).name ≡ (account a i).name
-  pub numbers : (i : ℕ) (d : Row) → i < length a.names
-      → (slice_index_or rows i d).number ≡ number_at m i
-  pub ys : (i : ℕ) (d : Row) → i < length a.names → (slice_index_or rows i d).y ≡ potential_at y i
+-- the row of the name at an index
+abbrev pub row_at : Accounts → List ℕ → List ℕ → ℕ → Row
+row_at a m y i = record {
+  name = (account a i).name;
+  number = number_at m i;
+  y = potential_at y i;
+}
+
+-- the rows of all names, by the names in byte order
+pub record AreRowsInOrder (a : Accounts) (m y : List ℕ) (rows : List Row) : Type 0 where
+  pub order : List ℕ
+  pub ordered : AreInByteOrder a.names order
+  pub are : rows ≡ map (row_at a m y) order
 
 -- exactly the site's names, each with its number and its y, and the z
 pub record IsSideOf (a : Accounts) (m y : List ℕ) (values : List (ℕ × ℕ)) (side : Side) :

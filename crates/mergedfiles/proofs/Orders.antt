@@ -1,28 +1,28 @@
 -- The order of names by their numbers, and by their bytes.
 use Rattle.std.proofs.Common.{◌≡◌, ℕ, ◌+◌, ◌<◌, Bool, true, false, List, [], ◌∷◌, ◌++◌, length, map, take, get_or, refl, sym, ◌∙◌, ap, inl, inr, arith}
-use Rattle.std.specs.Borrow.{Bor}
-use Rattle.std.specs.List.{IsDistinct, enumerate_from}
+use Rattle.std.specs.List.{IsDistinct, enumerate_from, range_with_len}
 use Rattle.std.specs.List.Sorted.{IsPermutation, IsSorted, IsSortedBy}
 use Rattle.std.specs.Cmp.Lexicographic.{slice_cmp}
 use Rattle.std.specs.declared.cmp.Ordering.{Ordering}
 use Rattle.std.specs.declared.cmp.Ordering.TheVariants.{Less, Equal, Greater}
-use Rattle.std.specs.Ordering.{nat_cmp, ordering_then, is_lt, is_eq}
+use Rattle.std.specs.Ordering.{nat_cmp, is_lt, is_eq}
 use Rattle.std.specs.Str.{bytes_eq}
 use Rattle.std.proofs.lemmas.Bool.{cases_Bool, ltb-true, ltb-false, true≢false}
 use Rattle.std.proofs.Math.Dec.{ltb}
 use Rattle.std.specs.Cmp.{nat_cmp_is}
 use Rattle.std.proofs.lemmas.Cmp.{nat_cmp_total, nat_list_cmp_total}
-use Rattle.std.proofs.lemmas.List.{take_more, map-append, length-map, get_or-map, get_or_default}
-use Rattle.std.proofs.lemmas.List.FromFn.{get_or-enumerate_from, length-enumerate_from}
+use Rattle.std.proofs.lemmas.List.{length-map, get_or-map, get_or_default}
+use Rattle.std.proofs.lemmas.List.FromFn.{fill_by_all, get_or-enumerate_from, length-enumerate_from}
+use Rattle.std.proofs.lemmas.List.Sorted.{IsPermutation-map}
 use Rattle.std.proofs.lemmas.Map.Keys.{IsDistinct-from_apart}
 use Rattle.std.proofs.lemmas.Map.Text.{is_eq-slice_cmp}
 use Rattle.hosts_join.specs.Accounts.{Account, Accounts, nobody}
+use Rattle.hosts_join.specs.Order.{name_at, AreInByteOrder}
 use Rattle.hosts_join.specs.Lawful.{AreLawfulAccounts}
 use Rattle.hosts_join.specs.Rules.{account}
 use Rattle.hosts_join.proofs.Grouping.{bytes_same}
 use Rattle.ownership.specs.Mappings.{AreDistinct}
 use Rattle.mergedfiles.specs.Order.{by_number, by_bytes}
-use Rattle.mergedfiles.specs.Seen.{name_of}
 use Rattle.mergedfiles.proofs.Ordering.{in-order}
 
 -- a test that would tell the impossible fails
@@ -61,24 +61,14 @@ names-differ a lawful = IsDistinct-from_apart (λ (n o : List ℕ). is_eq (slice
     rw (get_or-map (λ (x : Account). x.name) a.names i nobody d low', get_or-map (λ (x : Account). x.name) a.names j nobody d high', is_eq-slice_cmp (account a i).name (account a j).name) (not-tied (bytes_eq (account a i).name (account a j).name) (λ e.
     let same : i ≡ j = lawful.names_differ i j low' high' (bytes_same (account a i).name (account a j).name e) in omega arith)))
 
-pub name-order : (a : Accounts) (ns : List (List ℕ)) → AreLawfulAccounts a → IsPermutation (map (λ (x : Account). x.name) a.names) ns → IsSorted (slice_cmp nat_cmp) ns → ns ≡ by_bytes a
+name-order : (a : Accounts) (ns : List (List ℕ)) → AreLawfulAccounts a → IsPermutation (map (λ (x : Account). x.name) a.names) ns → IsSorted (slice_cmp nat_cmp) ns → ns ≡ by_bytes a
 name-order a ns lawful perm sorted = in-order nat_list_cmp_total (λ (n : List ℕ). n) (map (λ (x : Account). x.name) a.names) ns perm sorted (names-differ a lawful)
 
--- what a sort of names with their indices says of the names
-not-less : (o p : Ordering) → is_lt (ordering_then o p) ≡ false → is_lt o ≡ false
-not-less Less p e = e
-not-less Equal p e = refl
-not-less Greater p e = refl
+all-names : (names : List Account) → map (name_at names) (range_with_len 0 (length names)) ≡ map (λ (x : Account). x.name) names
+all-names names = sym (fill_by_all (name_at names) (map (λ (x : Account). x.name) names) (length names) [] (length-map names (λ (x : Account). x.name)) (λ k low. get_or-map (λ (x : Account). x.name) names k nobody [] low))
 
-pub names-sorted : (xs : List (Bor (List ℕ) × ℕ)) → IsSorted (λ (p q : Bor (List ℕ) × ℕ). ordering_then (slice_cmp nat_cmp p.0.now q.0.now) (nat_cmp p.1 q.1)) xs → IsSorted (slice_cmp nat_cmp) (map name_of xs)
-names-sorted xs s = λ k d low high.
-    let d' : Bor (List ℕ) × ℕ = (record { ref_ptr = (0, 0); now = [] }, 0) in
-    let high' : k + 1 < length xs = omega (arith, length-map xs name_of) in
-    let here : k < length xs = omega arith in
-    rw (get_or-map name_of xs (k + 1) d' d high', get_or-map name_of xs k d' d here) (not-less (slice_cmp nat_cmp (get_or xs (k + 1) d').0.now (get_or xs k d').0.now) (nat_cmp (get_or xs (k + 1) d').1 (get_or xs k d').1) (s k d' low high'))
-
--- one name more
-pub names-more : (names : List Account) (i : ℕ) (found found' : List (Bor (List ℕ) × ℕ)) (n : Bor (List ℕ)) → i < length names → map name_of found ≡ map (λ (x : Account). x.name) (take i names) → found' ≡ found ++ (n, i) ∷ [] → n.now ≡ (get_or names i nobody).name → map name_of found' ≡ map (λ (x : Account). x.name) (take (i + 1) names)
-names-more names i found found' n h before after is =
-    ap (map name_of) after ∙ map-append name_of found ((n, i) ∷ []) ∙ ap (λ t. t ++ n.now ∷ []) before ∙ ap (λ m. map (λ (x : Account). x.name) (take i names) ++ m ∷ []) is
-    ∙ sym (ap (map (λ (x : Account). x.name)) (take_more names i nobody h) ∙ map-append (λ (x : Account). x.name) (take i names) (get_or names i nobody ∷ []))
+-- the names at places in byte order
+pub in-byte-order : (a : Accounts) (order : List ℕ) → AreLawfulAccounts a → AreInByteOrder a.names order → map (name_at a.names) order ≡ by_bytes a
+in-byte-order a order lawful is =
+    let places = IsPermutation-map (name_at a.names) (range_with_len 0 (length a.names)) order is.each_once in
+    name-order a (map (name_at a.names) order) lawful (rw (all-names a.names) at places) is.ascending

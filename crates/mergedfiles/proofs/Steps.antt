@@ -107,13 +107,6 @@ one_given before all next o y a b c = rw (b, ← a) c
 pub none_given : {Y : Type 0} (before all : List Y) (o : Option Y) → before ≡ all → o ≡ None → before ≡ all ++ cons_option o []
 none_given before all o a b = rw (b, append-nil) a
 
-abbrev pub nothing : Bor (List ℕ) × ℕ
-nothing = (record { ref_ptr = (0, 0); now = [] }, 0)
-
--- each name with its index
-abbrev pub AllAreAt : Accounts → List (Bor (List ℕ) × ℕ) → Type 0
-AllAreAt a xs = All (λ p. (p.1 < length a.names) × (p.0.now ≡ (account a p.1).name)) xs
-
 -- what is told of one name more
 pub told_more : {A X P : Type 0} (f : P → List A) (see : X → P) (start : List A) (xs : List X) (i : ℕ) (d : X) (old new row : List A) → i < length xs → old ≡ start ++ flat_map f (map see (take i xs)) → new ≡ old ++ row → row ≡ f (see (get_or xs i d)) → new ≡ start ++ flat_map f (map see (take (i + 1) xs))
 told_more f see start xs i d old new row h before after is =

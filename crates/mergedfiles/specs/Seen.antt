@@ -21,6 +21,3 @@ group_told o = option_map group_seen o
 
 abbrev pub texts_of : List (Bor (List ℕ)) → List (List ℕ)
 texts_of ts = map (λ (t : Bor (List ℕ)). t.now) ts
-
-abbrev pub name_of : Bor (List ℕ) × ℕ → List ℕ
-name_of p = p.0.now

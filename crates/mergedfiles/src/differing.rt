@@ -9,7 +9,6 @@ ghost use Rattle.mergedfiles.specs.Seen.{user_seen, group_seen};
 ghost use Rattle.mergedfiles.specs.Spots as spots;
 ghost use Rattle.mergedfiles.specs.Together.{AreJoined};
 
-use crate::order::by_name;
 use crate::rows::{GroupOn, UserOn, groups_at, users_at};
 use crate::{Difference, Field};
 use hosts_join::{Host, Site, Spot, Which};
@@ -156,10 +155,9 @@ fn push_all_users<'a>(
     ensures { OnOk result
         (told.new.items ≡ told.old.items ++ all_user_differences hosts.now site.now) }
 {
-    let users = by_name(alloc, site.users())?;
-    for user in &users {
-        let (name, index) = *user;
-        push_user_differences(alloc, told, hosts, name, site.users().spots(index))?;
+    let users = site.users();
+    for index in users.in_byte_order() {
+        push_user_differences(alloc, told, hosts, users.name(*index), users.spots(*index))?;
     }
     Ok(())
 }
@@ -176,10 +174,15 @@ fn push_all_groups<'a>(
     ensures { OnOk result
         (told.new.items ≡ told.old.items ++ all_group_differences hosts.now site.now) }
 {
-    let groups = by_name(alloc, site.groups())?;
-    for group in &groups {
-        let (name, index) = *group;
-        push_group_differences(alloc, told, hosts, name, site.groups().spots(index))?;
+    let groups = site.groups();
+    for index in groups.in_byte_order() {
+        push_group_differences(
+            alloc,
+            told,
+            hosts,
+            groups.name(*index),
+            groups.spots(*index),
+        )?;
     }
     Ok(())
 }
@@ -191,8 +194,8 @@ fn push_all_groups<'a>(
 /// lawful.
 ///
 /// Time in step with the account rows, with one look-up by hash for each group row and two for each
-/// user row, and a sort of the names. Memory for the list, 24 bytes a name, and the rows of one
-/// name at a time. Names and hosts are slices of the input.
+/// user row. Memory for the list, and the rows of one name at a time. Names and hosts are slices of
+/// the input.
 ///
 /// # Errors
 ///

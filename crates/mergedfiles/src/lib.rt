@@ -24,7 +24,6 @@ pub use laws::{
     host_passwd_reads_back, hosts_join_in_full, joined_together, merged_group_reads_back,
     merged_passwd_reads_back, names_have_rows, passwd_in_part_reads_back,
 };
-pub use order::by_name;
 pub use passwd::passwd_text;
 
 /// A field in which hosts may differ. `Group` is a user's primary group, by its name.

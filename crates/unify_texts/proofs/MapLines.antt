@@ -1,6 +1,5 @@
 -- Writing a map line by line.
 use Rattle.std.proofs.Common.{◌≡◌, ℕ, zero, suc, ◌+◌, ◌<◌, Bool, true, false, List, [], ◌∷◌, ◌++◌, length, map, take, get_or, flat_map, Some, refl, sym, ap, ◌∙◌, append_assoc, append-nil, arith, inl, inr}
-use Rattle.std.specs.Borrow.{Bor}
 use Rattle.std.specs.Str.{bytes_eq}
 use Rattle.std.proofs.lemmas.Bool.{cases_Bool}
 use Rattle.std.proofs.lemmas.List.{take_more, map_push}
@@ -8,10 +7,10 @@ use Rattle.std.proofs.lemmas.List.Concat.{flat_map-append}
 use Rattle.hosts_join.specs.declared.Which.{Which}
 use Rattle.hosts_join.specs.Accounts.{Account, Accounts, Pair, nobody, place, place_of}
 use Rattle.hosts_join.specs.Lawful.{AreLawfulAccounts}
+use Rattle.hosts_join.specs.Order.{name_at}
 use Rattle.hosts_join.specs.Rules.{account}
 use Rattle.hosts_join.proofs.Grouping.{bytes_same, bytes_refl}
 use Rattle.ownership.specs.Mappings.{number_under, number_at}
-use Rattle.mergedfiles.specs.Seen.{name_of}
 use Rattle.unify_texts.specs.WrittenMap.{map_line, pair_for}
 
 -- the place of the first that passes
@@ -30,19 +29,20 @@ place_named a i lawful h = place_first (λ (x : Account). bytes_eq (account a i)
 ])
 
 module _ (a : Accounts) (m : List ℕ) (kind : Which) where
-  abbrev lines_for : List (Bor (List ℕ) × ℕ) → List ℕ
-  lines_for items = flat_map (map_line kind) (map (pair_for a m) (map name_of items))
+  abbrev lines_for : List ℕ → List ℕ
+  lines_for items = flat_map (map_line kind) (map (pair_for a m) (map (name_at a.names) items))
 
   -- one line more
-  pub map_more : (start text text' : List ℕ) (items : List (Bor (List ℕ) × ℕ)) (k : ℕ) (d : Bor (List ℕ) × ℕ) → AreLawfulAccounts a → k < length items → (get_or items k d).1 < length a.names → (get_or items k d).0.now ≡ (account a (get_or items k d).1).name
-      → text ≡ start ++ lines_for (take k items) → text' ≡ text ++ map_line kind (record { name = (get_or items k d).0.now; number = number_at m (get_or items k d).1 }) → text' ≡ start ++ lines_for (take (k + 1) items)
-  map_more start text text' items k d lawful h within named so_far pushed =
-      let e = get_or items k d in
-      let found : place_of a.names e.0.now ≡ Some e.1 = ap (place_of a.names) named ∙ place_named a e.1 lawful within in
-      let pair : Pair = record { name = e.0.now; number = number_at m e.1 } in
-      let same : pair_for a m (name_of e) ≡ pair = ap (λ o. record { name = e.0.now; number = number_under m o 0 }) found in
-      let items_more : map (pair_for a m) (map name_of (take (k + 1) items)) ≡ map (pair_for a m) (map name_of (take k items)) ++ pair_for a m (name_of e) ∷ [] =
-      ap (λ es. map (pair_for a m) (map name_of es)) (take_more items k d h) ∙ ap (map (pair_for a m)) (map_push name_of (take k items) e) ∙ map_push (pair_for a m) (map name_of (take k items)) (name_of e) in
+  pub map_more : (start text text' items : List ℕ) (k : ℕ) → AreLawfulAccounts a → k < length items → get_or items k 0 < length a.names
+      → text ≡ start ++ lines_for (take k items) → text' ≡ text ++ map_line kind (record { name = name_at a.names (get_or items k 0); number = number_at m (get_or items k 0) }) → text' ≡ start ++ lines_for (take (k + 1) items)
+  map_more start text text' items k lawful h within so_far pushed =
+      let i = get_or items k 0 in
+      let name = name_at a.names i in
+      let found : place_of a.names name ≡ Some i = place_named a i lawful within in
+      let pair : Pair = record { name = name; number = number_at m i } in
+      let same : pair_for a m name ≡ pair = ap (λ o. record { name = name; number = number_under m o 0 }) found in
+      let items_more : map (pair_for a m) (map (name_at a.names) (take (k + 1) items)) ≡ map (pair_for a m) (map (name_at a.names) (take k items)) ++ pair_for a m name ∷ [] =
+      ap (λ es. map (pair_for a m) (map (name_at a.names) es)) (take_more items k 0 h) ∙ ap (map (pair_for a m)) (map_push (name_at a.names) (take k items) i) ∙ map_push (pair_for a m) (map (name_at a.names) (take k items)) name in
       let text_more : lines_for (take (k + 1) items) ≡ lines_for (take k items) ++ map_line kind pair =
-      ap (flat_map (map_line kind)) items_more ∙ flat_map-append (map_line kind) (map (pair_for a m) (map name_of (take k items))) (pair_for a m (name_of e) ∷ []) ∙ ap (λ p. lines_for (take k items) ++ (map_line kind p ++ [])) same ∙ ap (λ t. lines_for (take k items) ++ t) (append-nil (map_line kind pair)) in
+      ap (flat_map (map_line kind)) items_more ∙ flat_map-append (map_line kind) (map (pair_for a m) (map (name_at a.names) (take k items))) (pair_for a m name ∷ []) ∙ ap (λ p. lines_for (take k items) ++ (map_line kind p ++ [])) same ∙ ap (λ t. lines_for (take k items) ++ t) (append-nil (map_line kind pair)) in
       pushed ∙ ap (λ t. t ++ map_line kind pair) so_far ∙ append_assoc start (lines_for (take k items)) (map_line kind pair) ∙ ap (λ t. start ++ t) (sym text_more)

@@ -12,7 +12,6 @@ use crate::fault::Fault;
 use crate::words::{Word, kind_word, push_line};
 use hosts_join::{Names, PairLine, PairTable, Site, Which, pair_line};
 use idtext::Lines;
-use mergedfiles::by_name;
 use ownership::Mapping;
 use std::alloc::{AllocError, Global};
 
@@ -80,7 +79,6 @@ pub fn read_map<'a>(alloc: Global, text: &'a [u8]) -> Result<MapText<'a>, Fault<
 
 /// Appends a line for each name of a kind, in byte order.
 fn push_numbers(
-    alloc: Global,
     out: &mut Vec<u8>,
     kind: Which,
     names: &Names<'_>,
@@ -92,11 +90,10 @@ fn push_numbers(
         (out.new.items ≡ out.old.items
         ++ flat_map (map_line kind) (numbered names.now mapping.now)) }
 {
-    let order = by_name(alloc, names)?;
-    for entry in &order {
-        let (name, index) = *entry;
-        let number = Word::Number(u128::from(mapping.number(index)));
-        push_line(out, kind_word(kind), &[Word::Raw(name), number])?;
+    for index in names.in_byte_order() {
+        let name = Word::Raw(names.name(*index));
+        let number = Word::Number(u128::from(mapping.number(*index)));
+        push_line(out, kind_word(kind), &[name, number])?;
     }
     Ok(())
 }
@@ -116,8 +113,8 @@ fn map_lines(
 {
     let lines = site.users().len() as usize + site.groups().len() as usize;
     let mut text = Vec::with_capacity(alloc, LINE_BYTES * lines)?;
-    push_numbers(alloc, &mut text, Which::User, site.users(), users)?;
-    push_numbers(alloc, &mut text, Which::Group, site.groups(), groups)?;
+    push_numbers(&mut text, Which::User, site.users(), users)?;
+    push_numbers(&mut text, Which::Group, site.groups(), groups)?;
     Ok(text)
 }
 
@@ -126,8 +123,7 @@ fn map_lines(
 /// Asked is one number for each name. What is appended is read back by [`read_map`] as these
 /// numbers.
 ///
-/// One sort of the names of each kind, and time and memory in the length of the lines, of which a
-/// copy is made first. `AllocError` where a growth was refused; then nothing is appended.
+/// Time and memory in the length of the lines, of which a copy is made first. `AllocError` where a growth was refused; then nothing is appended.
 pub fn push_map(
     alloc: Global,
     out: &mut Vec<u8>,

@@ -1,25 +1,34 @@
-use Rattle.std.proofs.Common.{◌∙◌, ap, ℕ, List, get_or}
-use Rattle.std.specs.Borrow.{Bor}
+use Rattle.std.proofs.Common.{◌≡◌, ◌<◌, ◌++◌, ℕ, List, length, map, get_or, ◌∙◌, ap, arith}
+use Rattle.std.proofs.lemmas.List.{take_all}
+use Rattle.std.specs.List.{flat_map}
 use Rattle.hosts_join.specs.Accounts.{Accounts}
+use Rattle.hosts_join.specs.Lawful.{AreLawfulAccounts}
+use Rattle.hosts_join.specs.Order.{name_at, AreInByteOrder}
 use Rattle.hosts_join.specs.Rules.{account}
 use Rattle.mergedfiles.specs.Rows.{groups_named}
 use Rattle.mergedfiles.specs.Differences.{group_differences}
-use Rattle.mergedfiles.specs.Seen.{name_of}
 use Rattle.mergedfiles.proofs.Joining.{group-differences-are}
-use Rattle.mergedfiles.proofs.Steps.{told_more, AllAreAt, nothing}
+use Rattle.mergedfiles.proofs.Orders.{in-byte-order}
+use Rattle.mergedfiles.proofs.Steps.{told_more}
 use Rattle.mergedfiles.proofs.differing.push_all_groups.Goals as goal
 
-pub spots-requires : goal.spots-requires
-spots-requires c =
-    let items = c.deref-group-items.result.now in
-    let places : AllAreAt c.args.site.now.groups items = rw (c.deref-group-items.ensures.value, ← c.groups.ensures) c.in_ok-groups.ensures.places in
-    rw c.groups-in-loop-group.ensures (places c.loop-group.group-index nothing c.loop-group-test.true).0
+pub loop-index-preserved : goal.loop-index-preserved
+loop-index-preserved c =
+    let a = c.args.site.now.groups in
+    let items = c.in_byte_order-index-items.result.now in
+    let k = c.loop-index.index-index in
+    let i : ℕ = get_or items k 0 in
+    let within : i < length a.names = rw c.groups-groups.ensures at c.in_byte_order-index-items.ensures.within k 0 c.loop-index-test.true in
+    let named : c.name.result.now ≡ (account a i).name = c.name.ensures ∙ ap (λ (b : Accounts). (account b i).name) c.groups-groups.ensures in
+    let spots = c.spots.ensures ∙ ap (λ (b : Accounts). (account b i).spots) c.groups-groups.ensures in
+    let f = λ (name : List ℕ). group_differences name (groups_named name c.args.hosts.now) in
+    told_more f (name_at a.names) c.args.told.now.items items k 0 c.loop-index.told.items _ _ c.loop-index-test.true c.loop-index.invariant c.in_ok-push_group_differences.ensures
+    (group-differences-are c.args.hosts.now c.args.site.now c.requires.joined c.requires.lawful i within c.name.result.now c.spots.result.now named spots ∙ ap f named)
 
-pub loop-group-preserved : goal.loop-group-preserved
-loop-group-preserved c =
-    let items = c.deref-group-items.result.now in
-    let p : Bor (List ℕ) × ℕ = get_or items c.loop-group.group-index nothing in
-    let places : AllAreAt c.args.site.now.groups items = rw (c.deref-group-items.ensures.value, ← c.groups.ensures) c.in_ok-groups.ensures.places in
-    let at = places c.loop-group.group-index nothing c.loop-group-test.true in
-    told_more (λ name. group_differences name (groups_named name c.args.hosts.now)) name_of c.args.told.now.items items c.loop-group.group-index nothing c.loop-group.told.items _ _ c.loop-group-test.true c.loop-group.invariant c.in_ok-push_group_differences.ensures
-    (group-differences-are c.args.hosts.now c.args.site.now c.requires.joined c.requires.lawful p.1 at.0 p.0.now c.spots.result.now at.1 (c.spots.ensures ∙ ap (λ (a : Accounts). (account a p.1).spots) c.groups-in-loop-group.ensures))
+pub returns : goal.returns
+returns c =
+    let a = c.args.site.now.groups in
+    let items = c.in_byte_order-index-items.result.now in
+    let all = take_all c.loop-index.index-index items (omega arith) in
+    let order : map (name_at a.names) items ≡ _ = in-byte-order a items (rw c.groups-groups.ensures at c.in_byte_order-index-items.ensures.lawful) (rw c.groups-groups.ensures at c.in_byte_order-index-items.ensures.ordered) in
+    c.loop-index.invariant ∙ ap (λ ns. c.args.told.now.items ++ flat_map (λ name. group_differences name (groups_named name c.args.hosts.now)) ns) (ap (map (name_at a.names)) all ∙ order)

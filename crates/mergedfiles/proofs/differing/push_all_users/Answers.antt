@@ -1,25 +1,34 @@
-use Rattle.std.proofs.Common.{◌∙◌, ap, ℕ, List, get_or}
-use Rattle.std.specs.Borrow.{Bor}
+use Rattle.std.proofs.Common.{◌≡◌, ◌<◌, ◌++◌, ℕ, List, length, map, get_or, ◌∙◌, ap, arith}
+use Rattle.std.proofs.lemmas.List.{take_all}
+use Rattle.std.specs.List.{flat_map}
 use Rattle.hosts_join.specs.Accounts.{Accounts}
+use Rattle.hosts_join.specs.Lawful.{AreLawfulAccounts}
+use Rattle.hosts_join.specs.Order.{name_at, AreInByteOrder}
 use Rattle.hosts_join.specs.Rules.{account}
 use Rattle.mergedfiles.specs.Rows.{users_named}
 use Rattle.mergedfiles.specs.Differences.{user_differences}
-use Rattle.mergedfiles.specs.Seen.{name_of}
 use Rattle.mergedfiles.proofs.Joining.{user-differences-are}
-use Rattle.mergedfiles.proofs.Steps.{told_more, AllAreAt, nothing}
+use Rattle.mergedfiles.proofs.Orders.{in-byte-order}
+use Rattle.mergedfiles.proofs.Steps.{told_more}
 use Rattle.mergedfiles.proofs.differing.push_all_users.Goals as goal
 
-pub spots-requires : goal.spots-requires
-spots-requires c =
-    let items = c.deref-user-items.result.now in
-    let places : AllAreAt c.args.site.now.users items = rw (c.deref-user-items.ensures.value, ← c.users.ensures) c.in_ok-users.ensures.places in
-    rw c.users-in-loop-user.ensures (places c.loop-user.user-index nothing c.loop-user-test.true).0
+pub loop-index-preserved : goal.loop-index-preserved
+loop-index-preserved c =
+    let a = c.args.site.now.users in
+    let items = c.in_byte_order-index-items.result.now in
+    let k = c.loop-index.index-index in
+    let i : ℕ = get_or items k 0 in
+    let within : i < length a.names = rw c.users-users.ensures at c.in_byte_order-index-items.ensures.within k 0 c.loop-index-test.true in
+    let named : c.name.result.now ≡ (account a i).name = c.name.ensures ∙ ap (λ (b : Accounts). (account b i).name) c.users-users.ensures in
+    let spots = c.spots.ensures ∙ ap (λ (b : Accounts). (account b i).spots) c.users-users.ensures in
+    let f = λ (name : List ℕ). user_differences name (users_named name c.args.hosts.now) in
+    told_more f (name_at a.names) c.args.told.now.items items k 0 c.loop-index.told.items _ _ c.loop-index-test.true c.loop-index.invariant c.in_ok-push_user_differences.ensures
+    (user-differences-are c.args.hosts.now c.args.site.now c.requires.joined c.requires.lawful i within c.name.result.now c.spots.result.now named spots ∙ ap f named)
 
-pub loop-user-preserved : goal.loop-user-preserved
-loop-user-preserved c =
-    let items = c.deref-user-items.result.now in
-    let p : Bor (List ℕ) × ℕ = get_or items c.loop-user.user-index nothing in
-    let places : AllAreAt c.args.site.now.users items = rw (c.deref-user-items.ensures.value, ← c.users.ensures) c.in_ok-users.ensures.places in
-    let at = places c.loop-user.user-index nothing c.loop-user-test.true in
-    told_more (λ name. user_differences name (users_named name c.args.hosts.now)) name_of c.args.told.now.items items c.loop-user.user-index nothing c.loop-user.told.items _ _ c.loop-user-test.true c.loop-user.invariant c.in_ok-push_user_differences.ensures
-    (user-differences-are c.args.hosts.now c.args.site.now c.requires.joined c.requires.lawful p.1 at.0 p.0.now c.spots.result.now at.1 (c.spots.ensures ∙ ap (λ (a : Accounts). (account a p.1).spots) c.users-in-loop-user.ensures))
+pub returns : goal.returns
+returns c =
+    let a = c.args.site.now.users in
+    let items = c.in_byte_order-index-items.result.now in
+    let all = take_all c.loop-index.index-index items (omega arith) in
+    let order : map (name_at a.names) items ≡ _ = in-byte-order a items (rw c.users-users.ensures at c.in_byte_order-index-items.ensures.lawful) (rw c.users-users.ensures at c.in_byte_order-index-items.ensures.ordered) in
+    c.loop-index.invariant ∙ ap (λ ns. c.args.told.now.items ++ flat_map (λ name. user_differences name (users_named name c.args.hosts.now)) ns) (ap (map (name_at a.names)) all ∙ order)
