@@ -72,6 +72,23 @@ known_same rows p q marks numbers tails =
 pub same_mark : (p q : Cut) → p.0 ≡ mark_of p.2.items → q.0 ≡ mark_of q.2.items → p.2.items ≡ q.2.items → p.0 ≡ q.0
 same_mark p q is_p is_q tails = is_p ∙ ap mark_of tails ∙ sym is_q
 
+either_way : (p q : Cut) → is_eq (cut_cmp p q) ≡ true → is_eq (cut_cmp q p) ≡ true
+either_way p q h = let parts = same_cut p q h in is_same_cut q p (sym (same_marks p q h)) (sym parts.0) (sym parts.1)
+
+both_ways : (p q : Cut) → is_eq (cut_cmp p q) ≡ is_eq (cut_cmp q p)
+both_ways p q = by (is_eq (cut_cmp p q)) (is_eq (cut_cmp q p)) (either_way p q) (either_way q p)
+  where
+    by : (a b : Bool) → (a ≡ true → b ≡ true) → (b ≡ true → a ≡ true) → a ≡ b
+    by true b there back = sym (there refl)
+    by false true there back = back refl
+    by false false there back = refl
+
+same_through : (p q r : Cut) → is_eq (cut_cmp p q) ≡ true → is_eq (cut_cmp q r) ≡ true → is_eq (cut_cmp p r) ≡ true
+same_through p q r h k =
+    let first = same_cut p q h in
+    let then = same_cut q r k in
+    is_same_cut p r (same_marks p q h ∙ same_marks q r k) (first.0 ∙ then.0) (first.1 ∙ then.1)
+
 -- ---- a row more, at a cut path that no row has
 
 module _ {V : Type 0} (number : V → ℕ) (cut : Cut) (new : V) where
@@ -104,6 +121,26 @@ module _ {V : Type 0} (number : V → ℕ) (cut : Cut) (new : V) where
       by Less rest h = ap (λ (b : Bool). cond b (Some (cut, new)) (row_numbered number (suc n) (row ∷ rows))) (eq-eqb (number new) (suc n) e)
       by Equal rest h = absurd (cc)
       by Greater rest h = ap (λ (b : Bool). cond b (Some row) (row_numbered number (suc n) (with_new rows))) other ∙ rest h
+
+  pub known-new : (q : Cut) (rows : List (Cut × V)) → known_at rows cut ≡ None
+      → known_at (with_new rows) q ≡ cond (is_eq (cut_cmp cut q)) (Some new) (known_at rows q)
+  known-new q [] none = ap (λ (b : Bool). cond b (Some new) None) (both_ways q cut)
+  known-new q (row ∷ rows) none = by (cut_cmp cut row.0) refl (known-new q rows) none
+    where
+      apart : is_eq (cut_cmp cut row.0) ≡ false → (b d : Bool) → is_eq (cut_cmp cut q) ≡ b → is_eq (cut_cmp q row.0) ≡ d
+          → cond d (Some row.1) (cond b (Some new) (known_at rows q)) ≡ cond b (Some new) (cond d (Some row.1) (known_at rows q))
+      apart other true true h k = absurd (true≢false (sym (same_through cut q row.0 h k) ∙ other))
+      apart other true false h k = refl
+      apart other false d h k = refl
+
+      by : (o : Ordering) → cut_cmp cut row.0 ≡ o → (known_at rows cut ≡ None → known_at (with_new rows) q ≡ cond (is_eq (cut_cmp cut q)) (Some new) (known_at rows q))
+          → cond (is_eq o) (Some row.1) (known_at rows cut) ≡ None
+          → known_at (match_ordering o ((cut, new) ∷ row ∷ rows) ((row.0, new) ∷ rows) (row ∷ with_new rows)) q ≡ cond (is_eq (cut_cmp cut q)) (Some new) (known_at (row ∷ rows) q)
+      by Less e rest h = ap (λ (b : Bool). cond b (Some new) (known_at (row ∷ rows) q)) (both_ways q cut)
+      by Equal e rest h = absurd (cc)
+      by Greater e rest h =
+          ap (λ (o : Option V). cond (is_eq (cut_cmp q row.0)) (Some row.1) o) (rest h)
+          ∙ apart (ap is_eq e) (is_eq (cut_cmp cut q)) (is_eq (cut_cmp q row.0)) refl refl
 
   pub length-new : (rows : List (Cut × V)) → known_at rows cut ≡ None → length (with_new rows) ≡ suc (length rows)
   length-new [] none = refl
