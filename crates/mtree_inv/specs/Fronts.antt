@@ -1,6 +1,6 @@
 -- Words of private contracts: paths that are cut in two behind a whole number of blocks, and their
 -- fronts, each kept once.
-use Rattle.std.specs.Prelude.{◌≡◌, ◌≤◌, ◌<◌, ℕ, zero, suc, ◌==◌, ◌+◌, ◌*◌, ◌%◌, ◌^◌, List, [], ◌∷◌, ◌++◌, length}
+use Rattle.std.specs.Prelude.{◌≡◌, ◌≤◌, ◌<◌, ℕ, zero, suc, ◌==◌, ◌+◌, ◌*◌, ◌/◌, ◌%◌, ◌^◌, if◌then◌else◌, List, [], ◌∷◌, ◌++◌, length}
 use Rattle.std.specs.Prelude.{slice_index_or, find, Option, Some, option_map, option_to_list, Vec}
 use Rattle.std.specs.Map.{lookup}
 use Rattle.std.specs.Ordering.{nat_cmp, is_eq, ordering_then}
@@ -14,16 +14,17 @@ block_len = 256
 
 -- ---- the rows of a search tree by cut paths, each with a number
 
--- a number that tells most bytes from others
+-- a number that tells most bytes from others: a half for those up to the last `/`, and one for all
 abbrev pub mixed : ℕ → ℕ → ℕ
 mixed mark byte = (mark + byte) % 2 ^ 64 * 11400714819323198485 % 2 ^ 64
 
-abbrev pub mark_from : ℕ → List ℕ → ℕ
-mark_from mark [] = mark
-mark_from mark (byte ∷ bytes) = mark_from (mixed mark byte) bytes
+abbrev pub mark_from : ℕ → ℕ → List ℕ → ℕ
+mark_from directory all [] = directory / 2 ^ 32 * 2 ^ 32 + all / 2 ^ 32
+mark_from directory all (byte ∷ bytes) =
+    mark_from (if byte == 47 then mixed all byte else directory) (mixed all byte) bytes
 
 unfoldable pub mark_of : List ℕ → ℕ
-mark_of bytes = mark_from 0 bytes
+mark_of bytes = mark_from 0 0 bytes
 
 -- a path that is cut in two: the mark of its last bytes, the number of its front, and the bytes
 -- behind that

@@ -10,6 +10,9 @@ use std::marker::Model;
 // How many bytes a front grows by.
 const BLOCK_LEN: usize = 256;
 
+// Two to the half of the bits of a mark.
+const HALF: u64 = 4294967296;
+
 // An odd number, with about as many digits 1 as 0 in base 2.
 const FACTOR: u64 = 11400714819323198485;
 
@@ -25,18 +28,23 @@ fn mixed(mark: u64, byte: u8) -> u64
 }
 
 // A number that tells most bytes from others, by which they are compared first. Where somebody makes
-// it the same for many, these are compared byte by byte, as all would be without it.
+// it the same for many, these are compared byte by byte, as all would be without it. Its first half
+// is that of the bytes up to the last slash, so that the files of a directory stand side by side.
 #[tactic(auto, unfolding(crate::specs::Fronts::mark_of))]
 fn mark_of(bytes: &[u8]) -> u64
     ensures { result ≡ mark_of_bytes bytes.now }
 {
-    let mut mark = 0;
+    let mut directory = 0;
+    let mut all = 0;
     let mut rest = bytes;
     while let [first, after @ ..] = rest {
-        mark = mixed(mark, *first);
+        all = mixed(all, *first);
+        if *first == b'/' {
+            directory = all;
+        }
         rest = after;
     }
-    mark
+    directory / HALF * HALF + all / HALF
 }
 
 /// The fronts of paths. A front is a whole number of blocks. Number 0 is the empty one, and each

@@ -3,7 +3,7 @@ use Rattle.mtree_inv.specs.Fronts.{mark_from, mark_of}
 use Rattle.mtree_inv.proofs.fronts.mark_of.Given as goal
 
 abbrev pub invariant-loop-rest : goal.invariant-loop-rest
-invariant-loop-rest l = mark_from l.mark l.rest ≡ mark_of l.bytes
+invariant-loop-rest l = mark_from l.directory l.all l.rest ≡ mark_of l.bytes
 
 abbrev pub decreases-loop-rest : goal.decreases-loop-rest
 decreases-loop-rest l = length l.rest
