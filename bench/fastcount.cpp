@@ -129,7 +129,9 @@ static string_view word_of(string_view &line) {
     return word;
 }
 
-static bool begins(string_view text, string_view front) { return text.substr(0, front.size()) == front; }
+template <size_t N> static bool begins(string_view text, const char (&front)[N]) {
+    return text.size() >= N - 1 && memcmp(text.data(), front, N - 1) == 0;
+}
 
 static int64_t number_of(string_view digits) {
     int64_t number = 0;
@@ -172,7 +174,8 @@ class Host {
 
     // The path of a word, with no escape, no empty component and no `.` in it.
     string_view path_of(string_view word, bool is_full) {
-        path.assign(is_full ? "" : directory);
+        path.clear();
+        if (!is_full) path = directory;
         part.clear();
         while (!word.empty()) {
             if (escape_len(word)) {
@@ -194,11 +197,13 @@ class Host {
 
     // A full path that is as it is to be, behind `./`, needs no copy.
     static bool is_simple(string_view word) {
-        if (!begins(word, "./") || word.find('\\') != string_view::npos) return false;
-        for (size_t at = 1; at < word.size(); at++) {
-            if (word[at] != '/') continue;
-            string_view behind = word.substr(at + 1);
-            if (behind.empty() || behind[0] == '/' || behind == "." || begins(behind, "./")) return false;
+        if (!begins(word, "./")) return false;
+        const char *at = word.data() + 1, *end = word.data() + word.size();
+        for (; at < end; at++) {
+            if (*at == '\\') return false;
+            if (*at != '/') continue;
+            if (at + 1 == end || at[1] == '/') return false;
+            if (at[1] == '.' && (at + 2 == end || at[2] == '/')) return false;
         }
         return true;
     }
@@ -220,15 +225,16 @@ public:
     void line(string_view text) {
         string_view word = word_of(text);
         if (word.empty() || word[0] == '#') return;
-        if (word == "/set") return set.take(text);
+        if (word[0] == '/') return set.take(text);
         if (word == "..") {
             directory.resize(starts.back());
             return starts.pop_back();
         }
         Keywords own = set;
         own.take(text);
-        bool is_full = word.find('/') != string_view::npos;
-        string_view name = is_simple(word) ? word.substr(2) : path_of(word, is_full);
+        bool is_simply_full = is_simple(word);
+        bool is_full = is_simply_full || word.find('/') != string_view::npos;
+        string_view name = is_simply_full ? word.substr(2) : path_of(word, is_full);
         if (!is_full && own.is_dir) {
             starts.push_back(directory.size());
             directory.assign(name);

@@ -27,9 +27,10 @@ fn mixed(mark: u64, byte: u8) -> u64
     mark.wrapping_add(u64::from(byte)).wrapping_mul(FACTOR)
 }
 
-// A number that tells most bytes from others, by which they are compared first. Where somebody makes
-// it the same for many, these are compared byte by byte, as all would be without it. Its first half
-// is that of the bytes up to the last slash, so that the files of a directory stand side by side.
+// A number that tells most bytes from others, by which they are compared first. Where somebody
+// makes it the same for many, these are compared byte by byte, as all would be without it. Its
+// first half is that of the bytes up to the last slash, so that the files of a directory stand side
+// by side.
 #[tactic(auto, unfolding(crate::specs::Fronts::mark_of))]
 fn mark_of(bytes: &[u8]) -> u64
     ensures { result ≡ mark_of_bytes bytes.now }

@@ -42,7 +42,6 @@ mod files;
 mod fronts;
 mod inventory;
 mod laws;
-mod line_words;
 mod open_line;
 mod parts;
 mod place;
