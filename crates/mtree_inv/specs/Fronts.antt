@@ -24,8 +24,9 @@ mark_from directory all [] = directory / 2 ^ 32 * 2 ^ 32 + all / 2 ^ 32
 mark_from directory all (byte ∷ bytes) =
     mark_from (if byte == 47 then mixed all byte else directory) (mixed all byte) bytes
 
+-- a whole block has no mark
 unfoldable pub mark_of : List ℕ → ℕ
-mark_of bytes = mark_from 0 0 bytes
+mark_of bytes = if length bytes == block_len then 0 else mark_from 0 0 bytes
 
 -- a path that is cut in two: the mark of its last bytes, the number of its front, and the bytes
 -- behind that

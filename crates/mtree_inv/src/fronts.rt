@@ -1,7 +1,7 @@
 //! The fronts of paths, each kept once.
 ghost use Rattle.std.specs.Prelude.{◌≡◌, [], length, IfOk};
 ghost use Rattle.mtree_inv.specs.Fronts.{block_len, AreFronts, GrowTo, IsCut, IsCutOf, IsFrontAt};
-ghost use Rattle.mtree_inv.specs.Fronts.{mixed as mixed_with, mark_of as mark_of_bytes};
+ghost use Rattle.mtree_inv.specs.Fronts.{mixed as mixed_with, mark_from, mark_of as mark_of_last};
 
 use std::alloc::{AllocError, Global};
 use std::collections::BTreeMap;
@@ -27,13 +27,10 @@ fn mixed(mark: u64, byte: u8) -> u64
     mark.wrapping_add(u64::from(byte)).wrapping_mul(FACTOR)
 }
 
-// A number that tells most bytes from others, by which they are compared first. Where somebody
-// makes it the same for many, these are compared byte by byte, as all would be without it. Its
-// first half is that of the bytes up to the last slash, so that the files of a directory stand side
-// by side.
-#[tactic(auto, unfolding(crate::specs::Fronts::mark_of))]
-fn mark_of(bytes: &[u8]) -> u64
-    ensures { result ≡ mark_of_bytes bytes.now }
+// A number that tells most bytes from others: the first half is that of the bytes up to the last
+// slash, so that the files of a directory stand side by side.
+fn mark_of_bytes(bytes: &[u8]) -> u64
+    ensures { result ≡ mark_from 0 0 bytes.now }
 {
     let mut directory = 0;
     let mut all = 0;
@@ -46,6 +43,20 @@ fn mark_of(bytes: &[u8]) -> u64
         rest = after;
     }
     directory / HALF * HALF + all / HALF
+}
+
+// The mark by which the last bytes of paths are compared first. Where somebody makes it the same
+// for many, these are compared byte by byte, as all would be without it. A whole block has none:
+// the number of its front tells it from most others, and a long path has many to look up.
+#[tactic(auto, unfolding(crate::specs::Fronts::mark_of))]
+fn mark_of(bytes: &[u8]) -> u64
+    ensures { result ≡ mark_of_last bytes.now }
+{
+    if bytes.len() == BLOCK_LEN {
+        0
+    } else {
+        mark_of_bytes(bytes)
+    }
 }
 
 /// The fronts of paths. A front is a whole number of blocks. Number 0 is the empty one, and each
