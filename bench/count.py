@@ -3,14 +3,36 @@
 
     bench/count.py [HOSTS [USERS_A_HOST [FILES_A_HOST]]]
 
-Run `make program` first. The site is made below bench/work, which git does not see.
+Then it compares the processor times of `unify count` and of fastcount.cpp, a plain reader in C++ that does the
+same work, for inventories of full paths and for such as NetBSD's mtree writes: the least of five runs in turn.
+
+Run `make program` first; it wants g++. The sites are made below bench/work, which git does not see.
 """
 import os
 import shutil
+import subprocess
 import sys
 
-from measure import HERE, UNIFY, timed
-from site_of import write_site
+from measure import HERE, UNIFY, least_processor_seconds, timed
+from site_of import write_full, write_netbsd, write_site
+
+
+def compare_with_plain_reader(hosts, users, files):
+    """Prints what the program takes of the time of the plain reader, which has to count the same."""
+    reader = os.path.join(HERE, "work", "fastcount")
+    subprocess.run(["g++", "-O2", "-std=c++17", "-o", reader, os.path.join(HERE, "fastcount.cpp")], check=True)
+    for style, write_inventory in (("full paths", write_full), ("NetBSD's mtree", write_netbsd)):
+        folder = os.path.join(HERE, "work", f"count-{write_inventory.__name__}-{hosts}-{users}-{files}")
+        shutil.rmtree(folder, ignore_errors=True)
+        words = write_site(folder, hosts, users, files, write_inventory)
+        least, printed = least_processor_seconds({
+            "unify": [UNIFY, "count", f"{folder}/map", *words],
+            "fastcount": [reader, f"{folder}/map", *words],
+        })
+        if printed["unify"] != printed["fastcount"]:
+            sys.exit(f"{style}: the two count otherwise:\n{printed['unify']}{printed['fastcount']}")
+        print(f"{style}: unify count {least['unify']:.2f} s, fastcount {least['fastcount']:.2f} s of a processor, "
+              f"ratio {least['unify'] / least['fastcount']:.2f}")
 
 
 def main():
@@ -28,6 +50,7 @@ def main():
     print(f"unify count: {seconds:.2f} s, {total / seconds:,.0f} files/s, peak {peak:.0f} MiB")
     seconds, peak, _ = timed(["wc", "-l", *inventories])
     print(f"wc -l:       {seconds:.2f} s, {total / seconds:,.0f} files/s, peak {peak:.0f} MiB")
+    compare_with_plain_reader(hosts, users, files)
     mtree = shutil.which("mtree") or shutil.which("netbsd-mtree")
     if mtree is None:
         print("mtree -C:    not installed")

@@ -8,12 +8,29 @@ HERE = os.path.dirname(os.path.abspath(__file__))
 UNIFY = os.path.join(HERE, "..", "crates", "unify_cli", "out", "unify_cli")
 
 
-def timed(words, **where):
-    """Runs the words; answers seconds, peak memory in MiB, and what they printed."""
-    begun = time.monotonic()
+def ran(words, **where):
+    """Runs the words; answers what they used, and what they printed."""
     child = subprocess.Popen(words, stdout=subprocess.PIPE, **where)
     printed = child.stdout.read()
     _, status, usage = os.wait4(child.pid, 0)
     if status != 0:
         sys.exit(f"{words[0]} ended with {os.waitstatus_to_exitcode(status)}")
-    return time.monotonic() - begun, usage.ru_maxrss / 1024, printed.decode()
+    return usage, printed.decode()
+
+
+def timed(words, **where):
+    """Runs the words; answers seconds, peak memory in MiB, and what they printed."""
+    begun = time.monotonic()
+    usage, printed = ran(words, **where)
+    return time.monotonic() - begun, usage.ru_maxrss / 1024, printed
+
+
+def least_processor_seconds(commands, rounds=5):
+    """Runs the commands in turn, round by round; answers the least processor time of each, and what each printed."""
+    least, printed = {}, {}
+    for _ in range(rounds):
+        for name, words in commands.items():
+            usage, printed[name] = ran(words)
+            seconds = usage.ru_utime + usage.ru_stime
+            least[name] = min(seconds, least.get(name, seconds))
+    return least, printed

@@ -1,7 +1,8 @@
 -- Words of private contracts: paths that are cut in two behind a whole number of blocks, and their
 -- fronts, each kept once.
-use Rattle.std.specs.Prelude.{◌≡◌, ◌≤◌, ◌<◌, ℕ, zero, suc, ◌==◌, ◌%◌, List, [], ◌∷◌, ◌++◌, length}
-use Rattle.std.specs.Prelude.{slice_index_or, find, Option, Some, option_map, option_to_list, Vec}
+use Rattle.std.specs.Prelude.{◌≡◌, ◌≤◌, ◌<◌, ℕ, zero, suc, ◌==◌, ◌+◌, ◌*◌, ◌/◌, ◌%◌, ◌^◌}
+use Rattle.std.specs.Prelude.{if◌then◌else◌, List, [], ◌∷◌, ◌++◌, length, slice_index_or, find}
+use Rattle.std.specs.Prelude.{Option, Some, option_map, option_to_list, Vec}
 use Rattle.std.specs.Map.{lookup}
 use Rattle.std.specs.Ordering.{nat_cmp, is_eq, ordering_then}
 use Rattle.std.specs.Cmp.Lexicographic.{slice_cmp}
@@ -14,13 +15,29 @@ block_len = 256
 
 -- ---- the rows of a search tree by cut paths, each with a number
 
--- a path that is cut in two: the number of its front, and the bytes behind that
-abbrev pub Cut : Type 0
-Cut = ℕ × Vec ℕ Global
+-- a number that tells most bytes from others: a half for those up to the last `/`, and one for all
+abbrev pub mixed : ℕ → ℕ → ℕ
+mixed mark byte = (mark + byte) % 2 ^ 64 * 11400714819323198485 % 2 ^ 64
 
--- how two of these compare
+abbrev pub mark_from : ℕ → ℕ → List ℕ → ℕ
+mark_from directory all [] = directory / 2 ^ 32 * 2 ^ 32 + all / 2 ^ 32
+mark_from directory all (byte ∷ bytes) =
+    mark_from (if byte == 47 then mixed all byte else directory) (mixed all byte) bytes
+
+-- a whole block has no mark
+unfoldable pub mark_of : List ℕ → ℕ
+mark_of bytes = if length bytes == block_len then 0 else mark_from 0 0 bytes
+
+-- a path that is cut in two: the mark of its last bytes, the number of its front, and the bytes
+-- behind that
+abbrev pub Cut : Type 0
+Cut = ℕ × ℕ × Vec ℕ Global
+
+-- how two of these compare: by their bytes only where all else is the same
 abbrev pub cut_cmp : Cut → Cut → Ordering
-cut_cmp a b = ordering_then (nat_cmp a.0 b.0) (slice_cmp nat_cmp a.1.items b.1.items)
+cut_cmp a b =
+    ordering_then (ordering_then (nat_cmp a.0 b.0) (nat_cmp a.1 b.1))
+    (slice_cmp nat_cmp a.2.items b.2.items)
 
 -- what a row at this cut path says
 abbrev pub known_at : {V : Type 0} → List (Cut × V) → Cut → Option V
@@ -41,14 +58,15 @@ abbrev pub front_at : List (List ℕ) → ℕ → List ℕ
 front_at fronts n = slice_index_or fronts n []
 
 abbrev pub path_of_cut : List (List ℕ) → Cut → List ℕ
-path_of_cut fronts cut = front_at fronts cut.0 ++ cut.1.items
+path_of_cut fronts cut = front_at fronts cut.1 ++ cut.2.items
 
 pub record IsCut (fronts : List (List ℕ)) (cut : Cut) : Type 0 where
   -- its front is one of these
-  pub kept : cut.0 < length fronts
+  pub kept : cut.1 < length fronts
   -- no more than a block stands behind the front, and nothing only in the empty path
-  pub short : length cut.1.items ≤ block_len
-  pub filled : length cut.1.items ≡ 0 → cut.0 ≡ 0
+  pub short : length cut.2.items ≤ block_len
+  pub filled : length cut.2.items ≡ 0 → cut.1 ≡ 0
+  pub marked : cut.0 ≡ mark_of cut.2.items
 
 -- this path, cut so
 pub record IsCutOf (fronts : List (List ℕ)) (cut : Cut) (path : List ℕ) : Type 0 where
@@ -91,8 +109,9 @@ fronts_in rows = fronts_up_to (length rows) rows
 -- the front with this number is one before it and a block behind that
 pub record IsFrontAt (fronts : List (List ℕ)) (cut : Cut) (n : ℕ) : Type 0 where
   pub kept : n < length fronts
-  pub before : cut.0 < n
-  pub block : length cut.1.items ≡ block_len
+  pub before : cut.1 < n
+  pub block : length cut.2.items ≡ block_len
+  pub marked : cut.0 ≡ mark_of cut.2.items
   pub is_front : front_at fronts n ≡ path_of_cut fronts cut
 
 -- the rows of such a tree

@@ -24,20 +24,20 @@ rows c = c.fronts.inside.numbers.entries
 none : (c : goal.In_ok-insert) → known_at (rows c) c.args.longer ≡ None
 none c = sym (c.copied.ensures ∙ c.get.ensures.value) ∙ c.in_default.is
 
-less : (c : goal.In_ok-insert) → c.args.longer.0 < length (fronts_in (rows c))
-less c = subst (λ (fronts : List (List ℕ)). c.args.longer.0 < length fronts) (sym c.fronts.view_is) c.requires.cut.kept
+less : (c : goal.In_ok-insert) → c.args.longer.1 < length (fronts_in (rows c))
+less c = subst (λ (fronts : List (List ℕ)). c.args.longer.1 < length fronts) (sym c.fronts.view_is) c.requires.cut.kept
 
 next : (c : goal.In_ok-insert) → c.len-number.result + 1 ≡ suc (length (rows c))
 next c = omega (arith, c.len-number.ensures.len)
 
 tree : (c : goal.In_ok-insert) → AreFrontRows c.insert.new.self.entries
 tree c =
-    rows-new (rows c) c.insert.new.self.entries c.args.longer c.fronts.invariant (none c) (less c) c.requires.block (c.len-number.result + 1) (next c)
+    rows-new (rows c) c.insert.new.self.entries c.args.longer c.fronts.invariant (none c) (less c) c.requires.block c.requires.cut.marked (c.len-number.result + 1) (next c)
     c.in_ok-insert.ensures.entries c.in_ok-insert.ensures.updates.0
 
 grown : (c : goal.In_ok-insert) → fronts_in c.insert.new.self.entries ≡ fronts_in (rows c) ++ path_of_cut (fronts_in (rows c)) c.args.longer ∷ []
 grown c =
-    fronts-new (rows c) c.insert.new.self.entries c.args.longer c.fronts.invariant (none c) (less c) c.requires.block (c.len-number.result + 1) (next c)
+    fronts-new (rows c) c.insert.new.self.entries c.args.longer c.fronts.invariant (none c) (less c) c.requires.block c.requires.cut.marked (c.len-number.result + 1) (next c)
     c.in_ok-insert.ensures.entries c.in_ok-insert.ensures.updates.0
 
 pub invariant_of-fronts-2 : goal.invariant_of-fronts-2
@@ -46,7 +46,7 @@ invariant_of-fronts-2 c = tree c
 pub returns-clause-ok : goal.returns-clause-ok
 returns-clause-ok c =
     subst (λ (fronts : List (List ℕ)). IsFrontAt fronts c.args.longer (c.len-number.result + 1)) (sym (grown c))
-    (front_is-new (rows c) c.insert.new.self.entries c.args.longer c.fronts.invariant (none c) (less c) c.requires.block (c.len-number.result + 1) (next c)
+    (front_is-new (rows c) c.insert.new.self.entries c.args.longer c.fronts.invariant (none c) (less c) c.requires.block c.requires.cut.marked (c.len-number.result + 1) (next c)
     c.in_ok-insert.ensures.entries c.in_ok-insert.ensures.updates.0)
 
 pub returns-clause-fronts : goal.returns-clause-fronts
