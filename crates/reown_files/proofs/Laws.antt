@@ -15,6 +15,7 @@ use Rattle.reown_plan.specs.Records.{record_of}
 use Rattle.reown_files.specs.declared.answers.Modes.{Modes}
 use Rattle.reown_files.specs.Calls.{Called, Gave, SetMode, Kept, Settled, PutMark, LostMode, PutModes}
 use Rattle.reown_files.specs.Lawful.{is_planned, is_given, gives_by_plan, modes_stay, was_kept, all_kept, is_settled, is_synced, marks_last, is_unchanged, was_asked, all_asked, is_begun, begins_first, is_lawful}
+use Rattle.reown_files.specs.Real.{Grows, grows_on}
 
 -- ---- tests
 
@@ -240,3 +241,11 @@ pub synced_behind_mark : (plan : PlanMark) (done : Bool) (calls : List Called) (
 synced_behind_mark plan done calls records h =
     let hs = both (all_kept records calls) (is_settled calls) h in
     and_true (all_kept records (PutMark plan done ∷ calls)) (is_settled calls) (kept_behind_mark plan done calls records hs.0) hs.1
+
+-- ---- calls that were made since
+
+pub one_call : (old new : List Called) (call : Called) → new ≡ call ∷ old → Grows old new
+one_call old new call e = (call ∷ [], e)
+
+pub one_more_call : (first old new : List Called) (call : Called) → Grows first old → new ≡ call ∷ old → Grows first new
+one_more_call first old new call h e = grows_on first old new h (one_call old new call e)

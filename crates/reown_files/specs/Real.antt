@@ -1,6 +1,7 @@
 -- A tree of real files, as its user sees it.
 -- Source: this project's own rule.
-use Rattle.std.specs.Prelude.{◌≡◌, ◌<◌, ◌+◌, ◌^◌, ℕ, Bool, List, [], ◌++◌, refl, sym, ap, ◌∙◌}
+use Rattle.std.specs.Prelude.{◌≡◌, ◌<◌, ◌+◌, ◌^◌, ℕ, Bool, List, [], ◌++◌}
+use Rattle.std.proofs.Common.{refl, sym, ap, ◌∙◌}
 use Rattle.std.proofs.lemmas.List.{append_assoc}
 use Rattle.reown_plan.specs.declared.mark.PlanMark.{PlanMark}
 use Rattle.reown_plan.specs.PlanData.{PlanRecord}
@@ -53,6 +54,12 @@ readable_real r plan =
 abbrev pub Grows : List Called → List Called → Type 0
 Grows old new = (more : List Called) × (new ≡ more ++ old)
 
+pub grows_on : (a b c : List Called) → Grows a b → Grows b c → Grows a c
+grows_on a b c x y = (
+    y.0 ++ x.0,
+    y.1 ∙ ap (λ calls. y.0 ++ calls) x.1 ∙ sym (append_assoc y.0 x.0 a),
+)
+
 -- a tree later on: of the same plan, and no call is forgotten
 pub record IsLater (before after : RealData) : Type 0 where
   pub mark : after.mark ≡ before.mark
@@ -67,9 +74,5 @@ later_goes_on a b c x y =
     record {
       mark = y.mark ∙ x.mark;
       records = y.records ∙ x.records;
-      calls = (
-        y.calls.0 ++ x.calls.0,
-        y.calls.1 ∙ ap (λ calls. y.calls.0 ++ calls) x.calls.1
-            ∙ sym (append_assoc y.calls.0 x.calls.0 a.calls),
-      );
+      calls = grows_on a.calls b.calls c.calls x.calls y.calls;
     }
