@@ -1,12 +1,13 @@
-use Rattle.std.proofs.Common.{◌≡◌, ◌∙◌, ap, sym, map, true}
+use Rattle.std.proofs.Common.{◌≡◌, ◌∙◌, List, ap, sym, subst, map, true}
 use Rattle.reown_plan.specs.Mark.{mark_eq}
-use Rattle.reown_files.specs.Real.{RealData}
+use Rattle.reown_files.specs.Calls.{Called}
+use Rattle.reown_files.specs.Real.{RealData, Grows}
 use Rattle.std.specs.Result.{is_ok}
 use Rattle.reown_plan.specs.Records.{record_of}
 use Rattle.reown_files.specs.Lawful.{is_lawful, is_begun, is_synced}
 use Rattle.reown_runner.specs.Memory.{Mem}
 use Rattle.reown_files.specs.Replay.{replay}
-use Rattle.reown_files.proofs.Laws.{lawful_mark, synced_behind_mark}
+use Rattle.reown_files.proofs.Laws.{lawful_mark, synced_behind_mark, one_call}
 use Rattle.reown_files.proofs.Replays.{marked_replay, same_replay}
 use Rattle.reown_files.proofs.real_tree.RealTree.put_mark.Goals as goal
 
@@ -35,3 +36,13 @@ invariant_of-self-in-Err g c =
       ap (is_begun records) c.put_mark.ensures ∙ c.self.invariant.3,
       λ h. same_replay calls (g.D.Disk.calls c.put_mark.new.self) c.self.inside.held (ap replay c.in-Err.ensures) (c.self.invariant.4 h),
     )
+
+pub returns-in-Ok-clause-grows : goal.returns-in-Ok-clause-grows
+returns-in-Ok-clause-grows g c =
+    let new = g.D.Disk.calls c.put_mark.new.self in
+    subst (λ (old : List Called). Grows old new) (ap (λ (r : RealData). r.calls) c.self.view_is) (one_call (g.D.Disk.calls c.self.inside.disk) new _ c.put_mark.ensures)
+
+pub returns-in-Err-clause-grows : goal.returns-in-Err-clause-grows
+returns-in-Err-clause-grows g c =
+    let new = g.D.Disk.calls c.put_mark.new.self in
+    subst (λ (old : List Called). Grows old new) (ap (λ (r : RealData). r.calls) c.self.view_is) (one_call (g.D.Disk.calls c.self.inside.disk) new _ c.put_mark.ensures)
