@@ -8,7 +8,7 @@ set-group-ID bit, hard links, and names with spaces, newlines and letters beyond
 is killed with SIGKILL after random times and started again until it ends; after each kill every file has to be at its old or its
 new owner. Then the same with --reverse, and what has to be refused, a name that is not UTF-8 too. With strace it is also killed
 between the change of an owner, which clears the set-user-ID and set-group-ID bit, and the call that sets the mode back, and these
-bits are counted. And it is run where standard error is a terminal.
+bits are counted, and its syncs on an ext4 with a journal and on one without. It is run where standard error is a terminal, too.
 Ends with status 1 where anything was otherwise.
 """
 import argparse
@@ -327,6 +327,29 @@ class Bench:
         say(f"--check: status {came.returncode}, {came.stdout!r}", came.returncode == 0 and f"before {len(self.owners)}\n" in came.stdout)
 
 
+def count_syncs(program, room, what, options, every):
+    """How often a run syncs on an ext4 of a loop device that is made with these options: every file of the plan, or a few."""
+    root, image = room / "tree", room / "image"
+    root.mkdir(parents=True)
+    with open(image, "wb") as made:
+        made.truncate(32 << 20)
+    subprocess.run(["mkfs.ext4", "-q", *options, image], check=True)
+    subprocess.run(["mount", "-o", "loop", image, root], check=True)
+    try:
+        bench = Bench(program, room, make_tree(root, 200), "bench-host")
+        trace = room / "trace"
+        words = ["strace", "-f", "-o", trace, "-e", "trace=fsync", *bench.words()]
+        came = subprocess.run(words, capture_output=True, text=True)
+        opened = sum(stat.S_ISREG(mode) or stat.S_ISDIR(mode) for mode in (os.lstat(root / path).st_mode for path in bench.owners))
+        syncs = trace.read_text().count("fsync(")
+        good = came.returncode == 0 and (syncs > opened if every else syncs < 20)
+        say(f"an ext4 {what}: status {came.returncode}, {opened} regular files and folders, {syncs} syncs", good)
+        bench.at_end("then", "new")
+    finally:
+        os.chdir("/")
+        subprocess.run(["umount", root], check=True)
+
+
 def main():
     parser = argparse.ArgumentParser(description=__doc__, formatter_class=argparse.RawDescriptionHelpFormatter)
     parser.add_argument("--program", default=str(TOP / "crates/unify_cli/out/unify_cli"))
@@ -353,6 +376,9 @@ def main():
             bench.foreign_modes()
             bench.between()
             bench.between("--reverse")
+            if shutil.which("mkfs.ext4"):
+                count_syncs(bench.program, room / "with", "with a journal", [], False)
+                count_syncs(bench.program, room / "without", "without a journal", ["-O", "^has_journal"], True)
         else:
             print("strace is not there: nothing was killed between the change of an owner and that of a mode")
         bench.killed(took * 0.7, args.kills)

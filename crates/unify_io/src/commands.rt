@@ -276,9 +276,8 @@ const VERIFY: Subcommand = Subcommand {
         },
         Argument {
             name: "all",
-            form: Form::Flag,
-            help: "tell each file, and not the first ten of each kind alone",
-            ..WORD
+            help: "tells each file, and not the first ten of each kind alone",
+            ..FLAG
         },
         Argument {
             name: "BEFORE",
