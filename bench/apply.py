@@ -8,7 +8,7 @@ set-group-ID bit, hard links, and names with spaces, newlines and letters beyond
 is killed with SIGKILL after random times and started again until it ends; after each kill every file has to be at its old or its
 new owner. Then the same with --reverse, and what has to be refused, a name that is not UTF-8 too. With strace it is also killed
 between the change of an owner, which clears the set-user-ID and set-group-ID bit, and the call that sets the mode back, and these
-bits are counted.
+bits are counted, and its syncs on an ext4 with a journal and on one without. It is run where standard error is a terminal, too.
 Ends with status 1 where anything was otherwise.
 """
 import argparse
@@ -17,6 +17,7 @@ import fcntl
 import os
 import pathlib
 import random
+import re
 import shutil
 import socket
 import stat
@@ -27,6 +28,8 @@ import time
 
 TOP = pathlib.Path(__file__).resolve().parent.parent
 ONE, OTHER, THIRD = (41001, 41101), (41002, 41102), (41003, 41103)
+# What is told of a step on a terminal.
+STEP = re.compile(r"\r\x1b\[Kunify: (looked at|changed|synced) (\d+) of (\d+)")
 # The calls by which a mode is set.
 SETS_MODE = "chmod,fchmod,fchmodat"
 faults = []
@@ -99,6 +102,18 @@ def make_tree(root, count):
     return owners
 
 
+def read_all(screen):
+    """What is written to a terminal until nobody has its other side open any more."""
+    told = b""
+    with open(screen, "rb", buffering=0) as file:
+        try:
+            while part := file.read(65536):
+                told += part
+        except OSError:  # Linux answers EIO once the last writer has closed it.
+            pass
+    return told.decode()
+
+
 def hash_of(path):
     return sum(path.encode())
 
@@ -160,6 +175,24 @@ class Bench:
         say(f"reverse: status {came.returncode}, {came.stdout!r} {came.stderr}", came.returncode == 0)
         self.at_end("reverse", "old")
         return took
+
+    def on_terminal(self):
+        """Carries the plan out and back where standard error is a terminal: how far it is stands on one line there, which is
+        cleared before anything else is told and at the end."""
+        for flags in (), ("--reverse",):
+            ours, theirs = os.openpty()
+            words = [word for word in self.words(*flags) if word != "-q"]
+            running = subprocess.Popen(words, stdin=subprocess.DEVNULL, stdout=subprocess.DEVNULL, stderr=theirs)
+            os.close(theirs)
+            told = read_all(ours).replace("\r\n", "\n")
+            steps = STEP.findall(told)
+            count = len(self.owners)
+            last = [("looked at", count), ("changed", count), ("synced", count)]
+            rest = STEP.sub("", told).replace("\r\x1b[K", "").splitlines()
+            good = running.wait() == 0 and [step for step in last if step in [(word, int(done)) for word, done, _ in steps]] == last
+            good = good and all(line.startswith("unify: warning: ") for line in rest) and told.endswith("\r\x1b[K")
+            say(f"on a terminal {' '.join(flags)}: status {running.wait()}, {', '.join(' '.join(step[:2]) for step in steps)}, warnings {len(rest)}", good)
+        self.at_end("then back", "old")
 
     def at_end(self, what, side):
         counts, third = seen(self.root, self.owners)
@@ -294,6 +327,29 @@ class Bench:
         say(f"--check: status {came.returncode}, {came.stdout!r}", came.returncode == 0 and f"before {len(self.owners)}\n" in came.stdout)
 
 
+def count_syncs(program, room, what, options, every):
+    """How often a run syncs on an ext4 of a loop device that is made with these options: every file of the plan, or a few."""
+    root, image = room / "tree", room / "image"
+    root.mkdir(parents=True)
+    with open(image, "wb") as made:
+        made.truncate(32 << 20)
+    subprocess.run(["mkfs.ext4", "-q", *options, image], check=True)
+    subprocess.run(["mount", "-o", "loop", image, root], check=True)
+    try:
+        bench = Bench(program, room, make_tree(root, 200), "bench-host")
+        trace = room / "trace"
+        words = ["strace", "-f", "-o", trace, "-e", "trace=fsync", *bench.words()]
+        came = subprocess.run(words, capture_output=True, text=True)
+        opened = sum(stat.S_ISREG(mode) or stat.S_ISDIR(mode) for mode in (os.lstat(root / path).st_mode for path in bench.owners))
+        syncs = trace.read_text().count("fsync(")
+        good = came.returncode == 0 and (syncs > opened if every else syncs < 20)
+        say(f"an ext4 {what}: status {came.returncode}, {opened} regular files and folders, {syncs} syncs", good)
+        bench.at_end("then", "new")
+    finally:
+        os.chdir("/")
+        subprocess.run(["umount", root], check=True)
+
+
 def main():
     parser = argparse.ArgumentParser(description=__doc__, formatter_class=argparse.RawDescriptionHelpFormatter)
     parser.add_argument("--program", default=str(TOP / "crates/unify_cli/out/unify_cli"))
@@ -315,10 +371,14 @@ def main():
         bench.refusals()
         bench.no_text()
         took = bench.seconds()
+        bench.on_terminal()
         if shutil.which("strace"):
             bench.foreign_modes()
             bench.between()
             bench.between("--reverse")
+            if shutil.which("mkfs.ext4"):
+                count_syncs(bench.program, room / "with", "with a journal", [], False)
+                count_syncs(bench.program, room / "without", "without a journal", ["-O", "^has_journal"], True)
         else:
             print("strace is not there: nothing was killed between the change of an owner and that of a mode")
         bench.killed(took * 0.7, args.kills)

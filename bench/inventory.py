@@ -5,12 +5,14 @@ three and four bytes, in the five places of escapes.py, in a folder and as the n
     bench/inventory.py [PROGRAM]
 
 PROGRAM is what `make program` built, if none is named. A path is right if the plan of a merge has it, and os.walk too. Then it
-tells what `unify verify` finds of the inventory and the tree, and what is said of names that are not UTF-8, and lists /usr, which it
-times.
+tells what `unify verify` finds of the inventory and the tree, what is said of names that are not UTF-8, and, as root, of a folder
+that the caller may not read, and what `-x` lists where another file system is mounted; with strace, what is opened; and lists /usr,
+which it times.
 """
 import os
 import pathlib
 import re
+import shutil
 import subprocess
 import sys
 
@@ -58,6 +60,47 @@ def verify(program, room, listed, tree):
     return subprocess.run([program, "verify", "--was", *tables, "--now", *tables, room / "listed", tree], capture_output=True, text=True)
 
 
+def list_as_other(program, tree):
+    """What another user is told who may not read a folder of the tree, and what that user's inventory has."""
+    closed = tree / "closed"
+    closed.mkdir(mode=0o700)
+    (closed / "inside").write_bytes(b"")
+    words = ["setpriv", "--reuid", "65534", "--clear-groups", program, "inventory", tree]
+    came = subprocess.run(words, capture_output=True)
+    whole = subprocess.run([program, "inventory", tree], capture_output=True).stdout
+    lacks = [line for line in parted(whole)[2].split(b"\n") if line not in parted(came.stdout)[2].split(b"\n")]
+    last = [line for line in lacks if line.startswith(b"# end ")]
+    print(f"a folder that the caller may not read: status {came.returncode}, files left out {len(lacks) - len(last)}, last line there", end=" ")
+    print(f"{came.stdout.splitlines()[-1].startswith(b'# end ')}, told: {came.stderr.decode().strip().replace(str(tree).lstrip('/'), 'TREE')}")
+    shutil.rmtree(closed)
+
+
+def list_mounted(program, tree):
+    """How many lines a file system that is mounted in the tree has with -x and without."""
+    folder = tree / "mounted"
+    folder.mkdir()
+    subprocess.run(["mount", "-t", "tmpfs", "none", folder], check=True)
+    try:
+        (folder / "inside").write_bytes(b"")
+        for flags in (["-x"], []):
+            came = subprocess.run([program, "inventory", *flags, tree], capture_output=True)
+            print(f"a file system mounted below {' '.join(flags)}: its lines {sum(b'/mounted' in line for line in came.stdout.splitlines())}")
+    finally:
+        subprocess.run(["umount", folder], check=True)
+        folder.rmdir()
+
+
+def list_traced(program, tree):
+    """How many names of the tree are opened, and which of those in another way than as a directory."""
+    trace = tree.parent / "trace"
+    words = ["strace", "-f", "-s", "9999", "-o", trace, "-e", "trace=open,openat,openat2,creat", program, "inventory", tree]
+    subprocess.run(words, capture_output=True)
+    names = re.findall(rb'"((?:[^"\\]|\\.)*)"', trace.read_bytes())
+    # The names in an open directory are read by its descriptor alone.
+    opened = [name for name in names if name.startswith(os.fsencode(tree)) or re.match(rb"/proc/self/fd/\d+/", name)]
+    print(f"opened: {len(opened)} names, of which are not opened as a directory {[name for name in opened if not name.endswith(b'/.')]}")
+
+
 def main():
     program = pathlib.Path(*sys.argv[1:2] or [UNIFY]).resolve()
     room, tree = fresh(pathlib.Path(HERE, "work", "inventory"))
@@ -78,6 +121,11 @@ def main():
     again = subprocess.run(words, capture_output=True)
     print(f"{len(NO_TEXT)} names that are not UTF-8: status {again.returncode}, the same files {parted(again.stdout)[2] == lines}, told:")
     print(again.stderr.decode().replace(str(tree), "TREE"), end="")
+    if os.geteuid() == 0:
+        list_as_other(program, tree)
+        list_mounted(program, tree)
+    if shutil.which("strace"):
+        list_traced(program, tree)
     seconds, mebibytes, text = timed([program, "inventory", "-x", "/usr"])
     print(f"/usr: {text.splitlines()[-1]}, {seconds:.2f} s, {mebibytes:.0f} MiB")
 

@@ -260,6 +260,12 @@ TABLE = [
         FOUND(0, 12, 0, 0, 0, 0),
         "".join(f"unify: missing f{number}\n" for number in range(10)) + "unify: more missing: 2\n",
     ),
+    (
+        VERIFY("--all many-left", "none-left"),
+        1,
+        FOUND(0, 12, 0, 0, 0, 0),
+        "".join(f"unify: missing f{number}\n" for number in range(12)),
+    ),
     # New files, of which one has numbers that names have left.
     (
         VERIFY("none-left", "left-over"),
@@ -465,6 +471,9 @@ LOOKED_AT = [
     ("merge out a b=unowned", 1, UNOWNED_TOLD + MAY_STAY),
     ("merge -q out a b=unowned", 1, UNOWNED_TOLD),
     ("count map a", 1, "unify: 40 BadMap line 0\n"),
+    # How far it is stands on one line, which is cleared before anything else is told.
+    ("apply --check own-plan .", 0, ("\r\x1b[Kunify: looked at 2 of 2\r\x1b[K" + SEEN(1, 1, 0, 0, 0, 0) + "unify: warning: ",)),
+    ("apply --check -q own-plan .", 0, SEEN(1, 1, 0, 0, 0, 0)),
 ]
 # Words that have an answer for standard output, which is full.
 UNWRITTEN = [
@@ -599,7 +608,8 @@ def command_lines(program):
         wanted = status, out, err, written_by(words, status)
         yield f"unify {words}", wanted, (came, agreed(out, came_out), agreed(err, came_err), written)
     for words, status, told in LOOKED_AT:
-        yield f"unify {words}, on a terminal", (status, told), told_on_terminal(program, words)
+        came, came_told = told_on_terminal(program, words)
+        yield f"unify {words}, on a terminal", (status, told), (came, agreed(told, came_told))
     for words in UNWRITTEN:
         with open("/dev/full", "wb") as full:
             came = in_new_room(program, words, full)

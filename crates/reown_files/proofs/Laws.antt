@@ -13,8 +13,9 @@ use Rattle.reown_plan.specs.declared.plan.Record.{Record}
 use Rattle.reown_plan.specs.PlanData.{PlanRecord}
 use Rattle.reown_plan.specs.Records.{record_of}
 use Rattle.reown_files.specs.declared.answers.Modes.{Modes}
-use Rattle.reown_files.specs.Calls.{Called, Gave, SetMode, Kept, PutMark, LostMode, PutModes}
-use Rattle.reown_files.specs.Lawful.{is_planned, is_given, gives_by_plan, modes_stay, was_kept, all_kept, marks_last, is_unchanged, was_asked, all_asked, is_begun, begins_first, is_lawful}
+use Rattle.reown_files.specs.Calls.{Called, Gave, SetMode, Kept, Settled, PutMark, LostMode, PutModes}
+use Rattle.reown_files.specs.Lawful.{is_planned, is_given, gives_by_plan, modes_stay, was_kept, all_kept, is_settled, is_synced, marks_last, is_unchanged, was_asked, all_asked, is_begun, begins_first, is_lawful}
+use Rattle.reown_files.specs.Real.{Grows, grows_on}
 
 -- ---- tests
 
@@ -113,12 +114,12 @@ module _ (mark : PlanMark) (records : List PlanRecord) (calls : List Called) (pa
       lawful_of mark records (SetMode path owner modes.before done ∷ Gave path before after (Some modes) ∷ calls) more
       (and_true (bytes_eq path path && (modes.before == modes.before)) (modes_stay calls) (and_true (bytes_eq path path) (modes.before == modes.before) (bytes_same path) (nat_same modes.before)) parts.1) parts.2 behind
 
--- the mark, where each file was kept
-pub lawful_mark : (mark : PlanMark) (records : List PlanRecord) (calls : List Called) (plan : PlanMark) (done : Bool) → mark_eq plan mark ≡ true → all_kept records calls ≡ true → is_lawful mark records calls ≡ true → is_lawful mark records (PutMark plan done ∷ calls) ≡ true
+-- the mark, where all files are synced
+pub lawful_mark : (mark : PlanMark) (records : List PlanRecord) (calls : List Called) (plan : PlanMark) (done : Bool) → mark_eq plan mark ≡ true → is_synced records calls ≡ true → is_lawful mark records calls ≡ true → is_lawful mark records (PutMark plan done ∷ calls) ≡ true
 lawful_mark mark records calls plan done own kept h =
     let parts = lawful_parts mark records calls h in
     lawful_of mark records (PutMark plan done ∷ calls) parts.0 parts.1
-    (and_true (mark_eq plan mark) (all_kept records calls && marks_last mark records calls) own (and_true (all_kept records calls) (marks_last mark records calls) kept parts.2)) parts.3
+    (and_true (mark_eq plan mark) (is_synced records calls && marks_last mark records calls) own (and_true (is_synced records calls) (marks_last mark records calls) kept parts.2)) parts.3
 
 -- ---- modes that an earlier run had lost
 
@@ -219,3 +220,32 @@ keeps_on rs i old new done below is e h =
     let r = get_or rs i nothing in
     ap (all_kept (take (i + 1) rs)) (is ∙ ap (λ b. Kept r.path r.after b ∷ old) e) ∙ ap (λ xs. all_kept xs (Kept r.path r.after true ∷ old)) (take_more rs i nothing below)
     ∙ one_more_kept old (take i rs) r h
+
+-- ---- files that are synced
+
+-- nor does the sync of all
+pub kept_behind_sync : (done : Bool) (calls : List Called) (records : List PlanRecord) → all_kept records calls ≡ true → all_kept records (Settled done ∷ calls) ≡ true
+kept_behind_sync done calls [] h = refl
+kept_behind_sync done calls (r ∷ rs) h =
+    let hs = both (was_kept calls r) (list_all (was_kept calls) rs) h in
+    and_true (was_kept (Settled done ∷ calls) r) (list_all (was_kept (Settled done ∷ calls)) rs) hs.0 (kept_behind_sync done calls rs hs.1)
+
+-- files that were kept are synced with it
+pub synced_now : (old new : List Called) (done : Bool) (records : List PlanRecord) → new ≡ Settled done ∷ old → done ≡ true → all_kept records old ≡ true → is_synced records new ≡ true
+synced_now old new done records is e h =
+    ap (is_synced records) is
+    ∙ and_true (all_kept records (Settled done ∷ old)) (is_settled (Settled done ∷ old)) (kept_behind_sync done old records h) (or_first done (is_settled old) e)
+
+-- the mark leaves them so
+pub synced_behind_mark : (plan : PlanMark) (done : Bool) (calls : List Called) (records : List PlanRecord) → is_synced records calls ≡ true → is_synced records (PutMark plan done ∷ calls) ≡ true
+synced_behind_mark plan done calls records h =
+    let hs = both (all_kept records calls) (is_settled calls) h in
+    and_true (all_kept records (PutMark plan done ∷ calls)) (is_settled calls) (kept_behind_mark plan done calls records hs.0) hs.1
+
+-- ---- calls that were made since
+
+pub one_call : (old new : List Called) (call : Called) → new ≡ call ∷ old → Grows old new
+one_call old new call e = (call ∷ [], e)
+
+pub one_more_call : (first old new : List Called) (call : Called) → Grows first old → new ≡ call ∷ old → Grows first new
+one_more_call first old new call h e = grows_on first old new h (one_call old new call e)

@@ -10,8 +10,8 @@ use Rattle.reown_plan.specs.Mark.{mark_eq}
 use Rattle.reown_plan.specs.Owners.{owner_eq}
 use Rattle.reown_plan.specs.PlanData.{PlanRecord}
 use Rattle.reown_files.specs.declared.answers.Modes.{Modes}
-use Rattle.reown_files.specs.Calls.{Called, Looked, Met, MetMark, Gave, SetMode, Kept, PutMark}
-use Rattle.reown_files.specs.Calls.{LostMode, PutModes}
+use Rattle.reown_files.specs.Calls.{Called, Looked, Met, MetMark, Gave, SetMode, Kept, Settled}
+use Rattle.reown_files.specs.Calls.{PutMark, LostMode, PutModes}
 
 -- ---- owners
 
@@ -34,6 +34,7 @@ gives_by_plan records (Gave path before after modes ∷ calls) =
     is_planned records path before after && gives_by_plan records calls
 gives_by_plan records (SetMode path owner mode done ∷ calls) = gives_by_plan records calls
 gives_by_plan records (Kept path owner done ∷ calls) = gives_by_plan records calls
+gives_by_plan records (Settled done ∷ calls) = gives_by_plan records calls
 gives_by_plan records (PutMark plan done ∷ calls) = gives_by_plan records calls
 gives_by_plan records (LostMode plan path owner mode ∷ calls) = gives_by_plan records calls
 gives_by_plan records (PutModes plan done ∷ calls) = gives_by_plan records calls
@@ -72,6 +73,7 @@ modes_stay_before set (Gave path before after modes ∷ calls) =
 modes_stay_before set (SetMode path owner mode done ∷ calls) =
     is_none set && modes_stay_before (Some (record { path = path; mode = mode })) calls
 modes_stay_before set (Kept path owner done ∷ calls) = is_none set && modes_stay_before None calls
+modes_stay_before set (Settled done ∷ calls) = is_none set && modes_stay_before None calls
 modes_stay_before set (PutMark plan done ∷ calls) = is_none set && modes_stay_before None calls
 modes_stay_before set (LostMode plan path owner mode ∷ calls) =
     sets_back path mode set && modes_stay_before None calls
@@ -96,6 +98,7 @@ was_kept (SetMode path owner mode done ∷ calls) r =
     if bytes_eq path r.path then false else was_kept calls r
 was_kept (Kept path owner done ∷ calls) r =
     (done && (bytes_eq path r.path && owner_eq owner r.after)) || was_kept calls r
+was_kept (Settled done ∷ calls) r = was_kept calls r
 was_kept (PutMark plan done ∷ calls) r = was_kept calls r
 was_kept (LostMode plan path owner mode ∷ calls) r = was_kept calls r
 was_kept (PutModes plan done ∷ calls) r = was_kept calls r
@@ -103,7 +106,25 @@ was_kept (PutModes plan done ∷ calls) r = was_kept calls r
 abbrev pub all_kept : List PlanRecord → List Called → Bool
 all_kept records calls = list_all (was_kept calls) records
 
--- no mark is put but this one, and that only where each file was kept
+-- a sync of all was made, behind each change and each file that was kept
+abbrev pub is_settled : List Called → Bool
+is_settled [] = false
+is_settled (Looked path seen ∷ calls) = is_settled calls
+is_settled (Met path found ∷ calls) = is_settled calls
+is_settled (MetMark plan set ∷ calls) = is_settled calls
+is_settled (Gave path before after modes ∷ calls) = false
+is_settled (SetMode path owner mode done ∷ calls) = false
+is_settled (Kept path owner done ∷ calls) = false
+is_settled (Settled done ∷ calls) = done || is_settled calls
+is_settled (PutMark plan done ∷ calls) = is_settled calls
+is_settled (LostMode plan path owner mode ∷ calls) = is_settled calls
+is_settled (PutModes plan done ∷ calls) = is_settled calls
+
+-- each file was seen at its new owner and has reached its device, and was not changed since
+abbrev pub is_synced : List PlanRecord → List Called → Bool
+is_synced records calls = all_kept records calls && is_settled calls
+
+-- no mark is put but this one, and that only where all files are synced
 abbrev pub marks_last : PlanMark → List PlanRecord → List Called → Bool
 marks_last mark records [] = true
 marks_last mark records (Looked path seen ∷ calls) = marks_last mark records calls
@@ -112,8 +133,9 @@ marks_last mark records (MetMark plan set ∷ calls) = marks_last mark records c
 marks_last mark records (Gave path before after modes ∷ calls) = marks_last mark records calls
 marks_last mark records (SetMode path owner mode done ∷ calls) = marks_last mark records calls
 marks_last mark records (Kept path owner done ∷ calls) = marks_last mark records calls
+marks_last mark records (Settled done ∷ calls) = marks_last mark records calls
 marks_last mark records (PutMark plan done ∷ calls) =
-    mark_eq plan mark && (all_kept records calls && marks_last mark records calls)
+    mark_eq plan mark && (is_synced records calls && marks_last mark records calls)
 marks_last mark records (LostMode plan path owner mode ∷ calls) = marks_last mark records calls
 marks_last mark records (PutModes plan done ∷ calls) = marks_last mark records calls
 
@@ -132,6 +154,7 @@ is_unchanged (MetMark plan set ∷ calls) = is_unchanged calls
 is_unchanged (Gave path before after modes ∷ calls) = false
 is_unchanged (SetMode path owner mode done ∷ calls) = is_unchanged calls
 is_unchanged (Kept path owner done ∷ calls) = is_unchanged calls
+is_unchanged (Settled done ∷ calls) = is_unchanged calls
 is_unchanged (PutMark plan done ∷ calls) = is_unchanged calls
 is_unchanged (LostMode plan path owner mode ∷ calls) = is_unchanged calls
 is_unchanged (PutModes plan done ∷ calls) = is_unchanged calls
@@ -145,6 +168,7 @@ was_asked (MetMark plan set ∷ calls) r = was_asked calls r
 was_asked (Gave path before after modes ∷ calls) r = was_asked calls r
 was_asked (SetMode path owner mode done ∷ calls) r = was_asked calls r
 was_asked (Kept path owner done ∷ calls) r = was_asked calls r
+was_asked (Settled done ∷ calls) r = was_asked calls r
 was_asked (PutMark plan done ∷ calls) r = was_asked calls r
 was_asked (LostMode plan path owner mode ∷ calls) r = is_given path owner r || was_asked calls r
 was_asked (PutModes plan done ∷ calls) r = was_asked calls r
@@ -161,6 +185,7 @@ is_begun records (MetMark plan set ∷ calls) = is_begun records calls
 is_begun records (Gave path before after modes ∷ calls) = is_begun records calls
 is_begun records (SetMode path owner mode done ∷ calls) = is_begun records calls
 is_begun records (Kept path owner done ∷ calls) = is_begun records calls
+is_begun records (Settled done ∷ calls) = is_begun records calls
 is_begun records (PutMark plan done ∷ calls) = is_begun records calls
 is_begun records (LostMode plan path owner mode ∷ calls) = is_begun records calls
 is_begun records (PutModes plan done ∷ calls) =
@@ -177,6 +202,7 @@ begins_first mark records (Gave path before after modes ∷ calls) =
     is_begun records calls && begins_first mark records calls
 begins_first mark records (SetMode path owner mode done ∷ calls) = begins_first mark records calls
 begins_first mark records (Kept path owner done ∷ calls) = begins_first mark records calls
+begins_first mark records (Settled done ∷ calls) = begins_first mark records calls
 begins_first mark records (PutMark plan done ∷ calls) = begins_first mark records calls
 begins_first mark records (LostMode plan path owner mode ∷ calls) =
     mark_eq plan mark

@@ -1,7 +1,7 @@
 -- What a call is in the record of calls.
 -- Values that borrow from the input, without the borrow: words of the code and not of the subject.
-use Rattle.reown_files.specs.Calls.{Called, Looked, Met, MetMark, Gave, SetMode, Kept, PutMark}
-use Rattle.reown_files.specs.Calls.{LostMode, PutModes}
+use Rattle.reown_files.specs.Calls.{Called, Looked, Met, MetMark, Gave, SetMode, Kept, Settled}
+use Rattle.reown_files.specs.Calls.{PutMark, LostMode, PutModes}
 use Rattle.reown_files.specs.declared.log.Call.{Call}
 use Rattle.reown_files.specs.declared.log.Call.TheVariants as call
 
@@ -12,6 +12,7 @@ noted (call.MetMark plan set) = MetMark plan.now set
 noted (call.Gave path before after modes) = Gave path.now before after modes
 noted (call.SetMode path owner mode done) = SetMode path.now owner mode done
 noted (call.Kept path owner done) = Kept path.now owner done
+noted (call.Settled done) = Settled done
 noted (call.PutMark plan done) = PutMark plan.now done
 noted (call.LostMode plan path owner mode) = LostMode plan.now path.now owner mode
 noted (call.PutModes plan done) = PutModes plan.now done

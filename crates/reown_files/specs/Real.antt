@@ -1,6 +1,8 @@
 -- A tree of real files, as its user sees it.
 -- Source: this project's own rule.
-use Rattle.std.specs.Prelude.{◌≡◌, ◌<◌, ◌+◌, ◌^◌, ℕ, Bool, List}
+use Rattle.std.specs.Prelude.{◌≡◌, ◌<◌, ◌+◌, ◌^◌, ℕ, Bool, List, [], ◌++◌}
+use Rattle.std.proofs.Common.{refl, sym, ap, ◌∙◌}
+use Rattle.std.proofs.lemmas.List.{append_assoc}
 use Rattle.reown_plan.specs.declared.mark.PlanMark.{PlanMark}
 use Rattle.reown_plan.specs.PlanData.{PlanRecord}
 use Rattle.reown_runner.specs.Tree.{TreeData, IsReadable, cells_of}
@@ -47,3 +49,30 @@ HoldsReplay faults calls tree = faults + 1 < 2 ^ 64 → IsReplay calls tree
 pub readable_real : (r : RealData) (plan : PlanMark) → IsReadable (cells_of plan (known_real r))
 readable_real r plan =
     record { owner = (readable_mem r.tree plan).owner; mark = (readable_mem r.tree plan).mark }
+
+-- these calls are those and what was asked since
+abbrev pub Grows : List Called → List Called → Type 0
+Grows old new = (more : List Called) × (new ≡ more ++ old)
+
+pub grows_on : (a b c : List Called) → Grows a b → Grows b c → Grows a c
+grows_on a b c x y = (
+    y.0 ++ x.0,
+    y.1 ∙ ap (λ calls. y.0 ++ calls) x.1 ∙ sym (append_assoc y.0 x.0 a),
+)
+
+-- a tree later on: of the same plan, and no call is forgotten
+pub record IsLater (before after : RealData) : Type 0 where
+  pub mark : after.mark ≡ before.mark
+  pub records : after.records ≡ before.records
+  pub calls : Grows before.calls after.calls
+
+pub later_rests : (r : RealData) → IsLater r r
+later_rests r = record { mark = refl; records = refl; calls = ([], refl) }
+
+pub later_goes_on : (a b c : RealData) → IsLater a b → IsLater b c → IsLater a c
+later_goes_on a b c x y =
+    record {
+      mark = y.mark ∙ x.mark;
+      records = y.records ∙ x.records;
+      calls = grows_on a.calls b.calls c.calls x.calls y.calls;
+    }

@@ -7,8 +7,8 @@ use Rattle.reown_plan.specs.declared.mark.PlanMark.{PlanMark}
 use Rattle.reown_plan.specs.declared.plan.Owner.{Owner}
 use Rattle.reown_plan.specs.PlanData.{PlanRecord}
 use Rattle.reown_files.specs.declared.answers.Modes.{Modes}
-use Rattle.reown_files.specs.Calls.{Called, Looked, Met, MetMark, Gave, SetMode, Kept, PutMark}
-use Rattle.reown_files.specs.Calls.{LostMode, PutModes}
+use Rattle.reown_files.specs.Calls.{Called, Looked, Met, MetMark, Gave, SetMode, Kept, Settled}
+use Rattle.reown_files.specs.Calls.{PutMark, LostMode, PutModes}
 
 -- the owner of each file that is there, and the mark
 pub record Held : Type 0 where
@@ -44,6 +44,7 @@ replay (MetMark plan set ∷ calls) = with_mark (if set then Some plan else None
 replay (Gave path before after modes ∷ calls) = with_change path after modes (replay calls)
 replay (SetMode path owner mode done ∷ calls) = replay calls
 replay (Kept path owner done ∷ calls) = replay calls
+replay (Settled done ∷ calls) = replay calls
 replay (PutMark plan done ∷ calls) = with_put plan done (replay calls)
 replay (LostMode plan path owner mode ∷ calls) = replay calls
 replay (PutModes plan done ∷ calls) = replay calls

@@ -6,7 +6,7 @@ ghost use Rattle.reown_runner.specs.Safe.{IsSafe};
 ghost use Rattle.reown_runner.specs.Halfway.{planned_in, MayGoOn};
 ghost use Rattle.reown_runner.specs.Finished.{owner_after_plan};
 ghost use Rattle.reown_plan.specs.Mark.{mark_of};
-ghost use Rattle.reown_files.specs.Real.{known_real, HoldsReplay};
+ghost use Rattle.reown_files.specs.Real.{known_real, HoldsReplay, IsLater};
 ghost use Rattle.reown_files.specs.Lawful.{is_lawful};
 
 use crate::{Disk, RealTree};
@@ -35,6 +35,7 @@ pub fn apply<'p, 'a, D: Disk>(
         ≡ owner_after_plan (planned_in plan.now.records) plan.now.records path)) }
     ensures device { IfErr result (λ fault. fault ≡ Device) }
     ensures finishes { tree.new.faults ≡ tree.old.faults → IsOk result }
+    ensures later { IsLater tree.old tree.new }
     ensures lawful { is_lawful tree.new.mark tree.new.records tree.new.calls ≡ true }
     ensures replayed { HoldsReplay tree.new.faults tree.new.calls tree.new.tree }
 {

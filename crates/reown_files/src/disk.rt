@@ -1,7 +1,7 @@
 //! The calls by which the files of a plan are looked at and changed.
 ghost use Rattle.std.specs.Prelude.{◌≡◌, ◌∷◌, List, None, Some, IfOk, OnErr, is_ok};
 ghost use Rattle.reown_files.specs.Calls.{Called, Looked, Met, MetMark, Gave, SetMode, Kept};
-ghost use Rattle.reown_files.specs.Calls.{PutMark, LostMode, PutModes};
+ghost use Rattle.reown_files.specs.Calls.{Settled, PutMark, LostMode, PutModes};
 
 use crate::{Modes, Seen, Trouble};
 use reown_plan::{Owner, PlanMark};
@@ -58,7 +58,7 @@ pub trait Disk: Drop {
     /// Sees to it for what `keep` has not synced: links, sockets, pipes and devices, and all files
     /// where one sync keeps all.
     fn settle(&mut self) -> Result<(), Trouble>
-        ensures { calls self.new ≡ calls self.old };
+        ensures { calls self.new ≡ Settled (is_ok result) ∷ calls self.old };
 
     /// Whether the mark of this plan is there.
     fn is_marked(&mut self, plan: &PlanMark) -> Result<bool, Trouble>

@@ -3,8 +3,10 @@ ghost use Rattle.std.specs.Prelude.{◌≡◌, true, List, Some, map, OnOk, if�
 ghost use Rattle.reown_plan.specs.declared.mark.PlanMark.{PlanMark};
 ghost use Rattle.reown_plan.specs.PlanData.{PlanRecord};
 ghost use Rattle.reown_plan.specs.Records.{record_of};
-ghost use Rattle.reown_files.specs.Lawful.{is_of, is_planned, all_kept, is_begun, is_lawful};
+ghost use Rattle.reown_files.specs.Lawful.{is_of, is_planned, all_kept, is_synced, is_begun};
+ghost use Rattle.reown_files.specs.Lawful.{is_lawful};
 ghost use Rattle.reown_files.specs.Replay.{replay, with_owner};
+ghost use Rattle.reown_files.specs.Real.{Grows};
 
 use crate::{Disk, Stop, Trouble};
 use reown_plan::{Owner, Record};
@@ -49,6 +51,7 @@ pub fn give_file<D: Disk>(disk: &mut D, path: &[u8], before: Owner, after: Owner
         ≡ (if result.is_made then with_owner path.now (Some after) (replay (D.calls disk.old))
         else replay (D.calls disk.old)) }
     ensures whole { OnOk result.told (result.is_made ≡ true) }
+    ensures grows { Grows (D.calls disk.old) (D.calls disk.new) }
 {
     let modes = match disk.give(path, before, after) {
         Ok(modes) => modes,
@@ -70,9 +73,8 @@ pub fn give_file<D: Disk>(disk: &mut D, path: &[u8], before: Owner, after: Owner
     }
 }
 
-/// Sees that each record's file has its new owner, and sees to it that a stop of the machine leaves
-/// it so.
-pub fn keep_all<D: Disk>(disk: &mut D, records: &[Record]) -> Result<(), Stop>
+// Sees that each record's file has its new owner, and syncs it, where it is not for the sync of all.
+fn keep_all<D: Disk>(disk: &mut D, records: &[Record]) -> Result<(), Stop>
     ensures kept { OnOk result (all_kept (map record_of records.now) (D.calls disk.new) ≡ true) }
     ensures lawful { (mark : PlanMark) (plan : List PlanRecord)
         → is_lawful mark plan (D.calls disk.old) ≡ true
@@ -80,6 +82,7 @@ pub fn keep_all<D: Disk>(disk: &mut D, records: &[Record]) -> Result<(), Stop>
     ensures begun { (plan : List PlanRecord) → is_begun plan (D.calls disk.old) ≡ true
         → is_begun plan (D.calls disk.new) ≡ true }
     ensures replayed { replay (D.calls disk.new) ≡ replay (D.calls disk.old) }
+    ensures grows { Grows (D.calls disk.old) (D.calls disk.new) }
 {
     for (i, planned) in records.iter().enumerate() {
         match disk.keep(planned.path, planned.after) {
@@ -93,4 +96,28 @@ pub fn keep_all<D: Disk>(disk: &mut D, records: &[Record]) -> Result<(), Stop>
         }
     }
     Ok(())
+}
+
+/// Sees that each record's file has its new owner, and that a stop of the machine leaves it so.
+pub fn sync_all<D: Disk>(disk: &mut D, records: &[Record]) -> Result<(), Stop>
+    ensures synced { OnOk result (is_synced (map record_of records.now) (D.calls disk.new) ≡ true) }
+    ensures lawful { (mark : PlanMark) (plan : List PlanRecord)
+        → is_lawful mark plan (D.calls disk.old) ≡ true
+        → is_lawful mark plan (D.calls disk.new) ≡ true }
+    ensures begun { (plan : List PlanRecord) → is_begun plan (D.calls disk.old) ≡ true
+        → is_begun plan (D.calls disk.new) ≡ true }
+    ensures replayed { replay (D.calls disk.new) ≡ replay (D.calls disk.old) }
+    ensures grows { Grows (D.calls disk.old) (D.calls disk.new) }
+{
+    match keep_all(disk, records) {
+        Ok(()) => {}
+        Err(stop) => return Err(stop),
+    }
+    match disk.settle() {
+        Ok(()) => Ok(()),
+        Err(trouble) => Err(Stop {
+            place: None,
+            trouble,
+        }),
+    }
 }

@@ -31,8 +31,10 @@ pub enum Call<'a> {
     Gave(&'a [u8], Owner, Owner, Option<Modes>),
     /// The bits of its mode were to be set, where it has this owner.
     SetMode(&'a [u8], Owner, u32, bool),
-    /// It was to be seen at this owner and synced.
+    /// It was to be seen at this owner and synced, by itself or with the sync of all.
     Kept(&'a [u8], Owner, bool),
+    /// All was to be synced.
+    Settled(bool),
     /// The mark of this plan was to be put.
     PutMark(&'a PlanMark, bool),
     /// The mode was asked for that an earlier run of this plan had lost of a file, which has this

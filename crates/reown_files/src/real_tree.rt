@@ -2,7 +2,7 @@
 ghost use Rattle.std.specs.Prelude.{◌≡◌, ◌+◌, ◌^◌, ◌<◌, ◌≤◌, [], true, false, Some, None, IfOk};
 ghost use Rattle.std.specs.Prelude.{OnOk, OnErr, IsSome, is_ok, map, length, if◌then◌else◌};
 
-use crate::giving::{give_file, has_change, keep_all};
+use crate::giving::{give_file, has_change, sync_all};
 use crate::looking::{check_all_links, look_at_all};
 use crate::restoring::begin;
 use crate::{Disk, OpenFault, Stop, Trouble};
@@ -32,7 +32,7 @@ pub struct RealTree<'p, 'a, D: Disk> {
 impl<'p, 'a, D: Disk> Model for RealTree<'p, 'a, D> {
     ghost use Rattle.std.specs.Prelude.{◌≡◌, map, true};
     ghost use Rattle.reown_plan.specs.Records.{record_of};
-    ghost use Rattle.reown_files.specs.Lawful.{is_lawful, is_begun, all_kept};
+    ghost use Rattle.reown_files.specs.Lawful.{is_lawful, is_begun, is_synced};
     ghost use Rattle.reown_files.specs.Real.{RealData, HoldsReplay};
 
     ghost Value = { RealData };
@@ -50,13 +50,14 @@ impl<'p, 'a, D: Disk> Model for RealTree<'p, 'a, D> {
 
     ghost invariant = { λ r. (r.held.paths ≡ map (λ x. x.path) (map record_of r.records.now))
         × (is_lawful r.mark (map record_of r.records.now) (D.calls r.disk) ≡ true)
-        × (r.is_kept ≡ true → all_kept (map record_of r.records.now) (D.calls r.disk) ≡ true)
+        × (r.is_kept ≡ true → is_synced (map record_of r.records.now) (D.calls r.disk) ≡ true)
         × (is_begun (map record_of r.records.now) (D.calls r.disk) ≡ true)
         × HoldsReplay r.faults (D.calls r.disk) r.held };
 }
 
 ghost use Rattle.reown_files.specs.Lawful.{is_lawful, is_planned};
 ghost use Rattle.reown_files.specs.Real.{RealData, HoldsReplay, known_real, readable_real};
+ghost use Rattle.reown_files.specs.Real.{Grows, IsLater, later_rests, later_goes_on};
 ghost use Rattle.reown_runner.specs.Memory.{known_mem, marked, settled};
 ghost use Rattle.reown_runner.specs.Halfway.{AreHalfway, MayGoOn, mem_of_records};
 ghost use Rattle.reown_plan.specs.PlanData.{HaveDistinctPaths};
@@ -300,6 +301,7 @@ impl<'p, 'a, D: Disk> RealTree<'p, 'a, D> {
           is_kept = self.new.is_kept;
           calls = self.new.calls;
         } }
+        ensures grows { Grows self.old.calls self.new.calls }
     {
         self.is_kept = false;
         let change = give_file(&mut self.disk, path, before, after);
@@ -321,6 +323,7 @@ impl<'p, 'a, D: Disk> RealTree<'p, 'a, D> {
           is_kept = self.new.is_kept;
           calls = self.new.calls;
         } }
+        ensures grows { Grows self.old.calls self.new.calls }
     {
         let Some(before) = before else {
             return Err(Trouble::Gone);
@@ -345,6 +348,7 @@ impl<'p, 'a, D: Disk> RealTree<'p, 'a, D> {
           is_kept = self.new.is_kept;
           calls = self.new.calls;
         } }
+        ensures grows { Grows self.old.calls self.new.calls }
     {
         let told = self.give(path, before, after);
         let place = self.held.index_of(path);
@@ -354,32 +358,31 @@ impl<'p, 'a, D: Disk> RealTree<'p, 'a, D> {
     // Each file was seen at its new owner and synced behind the last write; and so the mark, where
     // it is held.
     fn keeps(&mut self, mark: bool) -> bool
-        ensures { self.new
+        ensures rest { self.new
             ≡ record self.old { is_kept = self.new.is_kept; calls = self.new.calls } }
+        ensures grows { Grows self.old.calls self.new.calls }
     {
         self.keeps_files() && self.keeps_mark(mark)
     }
 
     fn keeps_files(&mut self) -> bool
-        ensures { self.new
+        ensures rest { self.new
             ≡ record self.old { is_kept = self.new.is_kept; calls = self.new.calls } }
+        ensures grows { Grows self.old.calls self.new.calls }
     {
         if self.is_stopped {
             return false;
         }
-        if !self.is_kept && !self.keeps_each() {
-            return false;
-        }
-        let told = self.disk.settle();
-        self.note(None, told)
+        self.is_kept || self.keeps_each()
     }
 
     fn keeps_each(&mut self) -> bool
-        ensures { self.new
+        ensures rest { self.new
             ≡ record self.old { is_kept = self.new.is_kept; calls = self.new.calls } }
+        ensures grows { Grows self.old.calls self.new.calls }
     {
         self.is_kept = false;
-        match keep_all(&mut self.disk, self.records) {
+        match sync_all(&mut self.disk, self.records) {
             Ok(()) => {
                 self.is_kept = true;
                 true
@@ -425,6 +428,7 @@ impl<'p, 'a, D: Disk> RealTree<'p, 'a, D> {
             (cells_of plan.now (known_mem self.new.tree))) }
         ensures failed { OnErr result (self.new.tree ≡ self.old.tree) }
         ensures rest { self.new ≡ record self.old { tree = self.new.tree; calls = self.new.calls } }
+        ensures grows { Grows self.old.calls self.new.calls }
     {
         if self.is_stopped {
             return Err(Trouble::NotDone);
@@ -450,6 +454,7 @@ impl<'p, 'a, D: Disk> RealTree<'p, 'a, D> {
             (cells_of plan.now (known_mem self.new.tree)) }
         ensures failed { result ≡ false → self.new.tree ≡ self.old.tree }
         ensures rest { self.new ≡ record self.old { tree = self.new.tree; calls = self.new.calls } }
+        ensures grows { Grows self.old.calls self.new.calls }
     {
         let told = self.put_mark(plan);
         self.note(None, told)
@@ -466,13 +471,15 @@ impl<'p, 'a, D: Disk> RealTree<'p, 'a, D> {
 impl<'p, 'a, D: Disk> Tree for RealTree<'p, 'a, D> {
     ghost known = { known_real };
 
+    ghost follows = { IsLater };
+
     fn owner(&mut self, path: &[u8]) -> Result<Option<Owner>, DeviceFault>
         ensures answer { IfOk result (λ owner. owner ≡ (known_real self.old).owner path.now) }
         ensures same { ForEachPlan Same (known_real self.old) (known_real self.new) }
         ensures faults { IsCounted
             (known_real self.old).faults (known_real self.new).faults result }
         ensures asked { (known_real self.new).asked ≡ (known_real self.old).asked }
-        ensures records { self.new.records ≡ self.old.records }
+        ensures later { IsLater self.old self.new }
     {
         let held = self.held_owner(path);
         let is_seen = self.sees(path, held);
@@ -491,7 +498,7 @@ impl<'p, 'a, D: Disk> Tree for RealTree<'p, 'a, D> {
         ensures faults { IsCounted
             (known_real self.old).faults (known_real self.new).faults result }
         ensures asked { (known_real self.new).asked ≡ counted (known_real self.old).asked }
-        ensures records { self.new.records ≡ self.old.records }
+        ensures later { IsLater self.old self.new }
     {
         self.count();
         let held = self.held_owner(path);
@@ -512,7 +519,7 @@ impl<'p, 'a, D: Disk> Tree for RealTree<'p, 'a, D> {
         ensures faults { IsCounted
             (known_real self.old).faults (known_real self.new).faults result }
         ensures asked { (known_real self.new).asked ≡ (known_real self.old).asked }
-        ensures records { self.new.records ≡ self.old.records }
+        ensures later { IsLater self.old self.new }
     {
         let held = self.held_mark(plan);
         let is_seen = self.sees_mark(plan, held);
@@ -532,7 +539,7 @@ impl<'p, 'a, D: Disk> Tree for RealTree<'p, 'a, D> {
         ensures faults { IsCounted
             (known_real self.old).faults (known_real self.new).faults result }
         ensures asked { (known_real self.new).asked ≡ counted (known_real self.old).asked }
-        ensures records { self.new.records ≡ self.old.records }
+        ensures later { IsLater self.old self.new }
     {
         self.count();
         if self.puts_mark(plan) {
@@ -552,7 +559,7 @@ impl<'p, 'a, D: Disk> Tree for RealTree<'p, 'a, D> {
         ensures faults { IsCounted
             (known_real self.old).faults (known_real self.new).faults result }
         ensures asked { (known_real self.new).asked ≡ counted (known_real self.old).asked }
-        ensures records { self.new.records ≡ self.old.records }
+        ensures later { IsLater self.old self.new }
     {
         self.count();
         let plan = self.mark;
@@ -569,7 +576,7 @@ impl<'p, 'a, D: Disk> Tree for RealTree<'p, 'a, D> {
         ensures left { ForEachPlan Stops (known_real self.old) (known_real self.new) }
         ensures faults { (known_real self.new).faults ≡ (known_real self.old).faults }
         ensures asked { (known_real self.new).asked ≡ (known_real self.old).asked }
-        ensures records { self.new.records ≡ self.old.records }
+        ensures later { IsLater self.old self.new }
     {
         self.leave();
     }
@@ -579,4 +586,8 @@ impl<'p, 'a, D: Disk> Tree for RealTree<'p, 'a, D> {
     }
 
     ghost readable = { readable_real };
+
+    ghost rests = { later_rests };
+
+    ghost goes_on = { later_goes_on };
 }

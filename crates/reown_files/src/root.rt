@@ -370,7 +370,9 @@ impl<'w> Disk for Root<'w> {
     }
 
     fn settle(&mut self) -> Result<(), Trouble> {
-        self.below.way.root().settle()
+        let told = self.below.way.root().settle();
+        self.log.note(&Call::Settled(told.is_ok()));
+        told
     }
 
     fn is_marked(&mut self, plan: &PlanMark) -> Result<bool, Trouble> {

@@ -152,6 +152,8 @@ impl FailTree {
 impl Tree for FailTree {
     ghost known = { known_failing };
 
+    ghost follows = { λ _ _. ⊤ };
+
     fn owner(&mut self, path: &[u8]) -> Result<Option<Owner>, DeviceFault>
         ensures answer { IfOk result (λ owner. owner ≡ (known_failing self.old).owner path.now) }
         ensures same { ForEachPlan Same (known_failing self.old) (known_failing self.new) }
@@ -283,4 +285,8 @@ impl Tree for FailTree {
     }
 
     ghost readable = { readable_failing };
+
+    ghost rests = { λ _. tt };
+
+    ghost goes_on = { λ _ _ _ _ _. tt };
 }

@@ -1,6 +1,6 @@
 //! A tree in memory, which never fails.
 ghost use Rattle.std.specs.Prelude.{◌≡◌, ◌<◌, ℕ, map, take, length, position, slice_get, slice_set};
-ghost use Rattle.std.specs.Prelude.{slice_index_or, Some, IfOk, IfSome, OnOk, OnErr, IsSome};
+ghost use Rattle.std.specs.Prelude.{slice_index_or, Some, IfOk, IfSome, OnOk, OnErr, IsSome, ⊤};
 ghost use Rattle.std.specs.Option.{option_map};
 ghost use Rattle.std.specs.Str.{bytes_eq};
 
@@ -299,6 +299,8 @@ impl MemTree {
 impl Tree for MemTree {
     ghost known = { known_mem };
 
+    ghost follows = { λ _ _. ⊤ };
+
     fn owner(&mut self, path: &[u8]) -> Result<Option<Owner>, DeviceFault>
         ensures answer { IfOk result (λ owner. owner ≡ (known_mem self.old).owner path.now) }
         ensures same { ForEachPlan Same (known_mem self.old) (known_mem self.new) }
@@ -380,4 +382,8 @@ impl Tree for MemTree {
     }
 
     ghost readable = { readable_mem };
+
+    ghost rests = { λ _. tt };
+
+    ghost goes_on = { λ _ _ _ _ _. tt };
 }

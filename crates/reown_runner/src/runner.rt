@@ -134,6 +134,7 @@ fn move_file<T: Tree>(
         (record_turn i (record_of planned.now) next ((T.known tree.old).owner planned.now.path.now))
         (T.known tree.old).asked (T.known tree.new).asked }
     ensures next { IfOk result (λ place. place ≡ next) }
+    ensures follows { T.follows tree.old tree.new }
 {
     match tree.owner(planned.path)? {
         None => return Err(RunFault::Missing(i)),
@@ -184,6 +185,7 @@ fn look_over<T: Tree>(records: &[Record], tree: &mut T) -> Result<Place, RunFaul
     ensures faults { IsTold (T.known tree.old).faults (T.known tree.new).faults result }
     ensures asked { (T.known tree.new).asked ≡ (T.known tree.old).asked }
     ensures next { IfOk result (λ place. place ≡ Place.Done) }
+    ensures follows { T.follows tree.old tree.new }
 {
     for (i, planned) in records.iter().enumerate() {
         let owner = tree.owner(planned.path)?;
@@ -214,6 +216,7 @@ fn next_place<T: Tree>(
         (T.known tree.new).asked }
     ensures fits { IfOk result (IsPlaceOf (map record_of records.now)) }
     ensures rests { place ≡ Place.Done → IsOk result × (tree.new ≡ tree.old) }
+    ensures follows { T.follows tree.old tree.new }
 {
     match place {
         Place::Start => {
@@ -292,6 +295,7 @@ impl<'p, 'a> Runner<'p, 'a> {
             (cells_of self.old.mark (T.known tree.old)).mark) (T.known tree.old).asked
             (T.known tree.new).asked }
         ensures rests { self.old.place ≡ Place.Done → IsOk result × (tree.new ≡ tree.old) }
+        ensures follows { T.follows tree.old tree.new }
 
         // One advance is nearer to the end, by one unless the mark was found set.
         ensures nearer { OnOk result
@@ -353,6 +357,7 @@ impl<'p, 'a> Runner<'p, 'a> {
             ≤ (T.known tree.old).asked + operations_left self.old.records self.old.place }
         ensures few { (T.known tree.new).asked
             ≤ (T.known tree.old).asked + (length self.old.records + 3) }
+        ensures follows { T.follows tree.old tree.new }
 
         ensures safe { (inventory : List ℕ → Option Owner)
             → IsSafeInStep inventory self.old.records self.old.place

@@ -21,12 +21,17 @@ pub trait Tree {
     /// What is known of it.
     ghost known: { Self → TreeData };
 
+    /// What each call keeps to besides, between the tree before it and the tree behind it; so a run
+    /// of calls keeps to it too.
+    ghost follows: { Self → Self → Type 0 };
+
     /// The owner of a file, if the file is there. Where it fails, nothing has happened.
     fn owner(&mut self, path: &[u8]) -> Result<Option<Owner>, DeviceFault>
         ensures answer { IfOk result (λ owner. owner ≡ (known self.old).owner path.now) }
         ensures same { ForEachPlan Same (known self.old) (known self.new) }
         ensures faults { IsCounted (known self.old).faults (known self.new).faults result }
-        ensures asked { (known self.new).asked ≡ (known self.old).asked };
+        ensures asked { (known self.new).asked ≡ (known self.old).asked }
+        ensures follows { follows self.old self.new };
 
     /// Gives a file that is there an owner. Where it fails, that has happened or not.
     fn set_owner(&mut self, path: &[u8], owner: Owner) -> Result<(), DeviceFault>
@@ -36,14 +41,16 @@ pub trait Tree {
         ensures failed { OnErr result
             (ForEachPlan (MayDo (Write path.now owner)) (known self.old) (known self.new)) }
         ensures faults { IsCounted (known self.old).faults (known self.new).faults result }
-        ensures asked { (known self.new).asked ≡ counted (known self.old).asked };
+        ensures asked { (known self.new).asked ≡ counted (known self.old).asked }
+        ensures follows { follows self.old self.new };
 
     /// Whether the tree is marked for this plan. Where it fails, nothing has happened.
     fn is_marked(&mut self, plan: &PlanMark) -> Result<bool, DeviceFault>
         ensures answer { IfOk result (λ set. set ≡ is_marked_for plan.now (known self.old).mark) }
         ensures same { ForEachPlan Same (known self.old) (known self.new) }
         ensures faults { IsCounted (known self.old).faults (known self.new).faults result }
-        ensures asked { (known self.new).asked ≡ (known self.old).asked };
+        ensures asked { (known self.new).asked ≡ (known self.old).asked }
+        ensures follows { follows self.old self.new };
 
     /// Marks the tree for this plan, whatever it was marked for. Where it fails, that has happened
     /// or not.
@@ -54,20 +61,23 @@ pub trait Tree {
             (MayDo SetMark (cells_of plan.now (known self.old))
             (cells_of plan.now (known self.new))) }
         ensures faults { IsCounted (known self.old).faults (known self.new).faults result }
-        ensures asked { (known self.new).asked ≡ counted (known self.old).asked };
+        ensures asked { (known self.new).asked ≡ counted (known self.old).asked }
+        ensures follows { follows self.old self.new };
 
     /// After it a stop leaves what is read. Where it fails, it counts as a sync or not.
     fn sync(&mut self) -> Result<(), DeviceFault>
         ensures done { OnOk result (ForEachPlan Syncs (known self.old) (known self.new)) }
         ensures failed { OnErr result (ForEachPlan (MayDo Sync) (known self.old) (known self.new)) }
         ensures faults { IsCounted (known self.old).faults (known self.new).faults result }
-        ensures asked { (known self.new).asked ≡ counted (known self.old).asked };
+        ensures asked { (known self.new).asked ≡ counted (known self.old).asked }
+        ensures follows { follows self.old self.new };
 
     /// A stop: the tree is now what the stop has left, with nothing pending.
     fn reopen(&mut self)
         ensures left { ForEachPlan Stops (known self.old) (known self.new) }
         ensures faults { (known self.new).faults ≡ (known self.old).faults }
-        ensures asked { (known self.new).asked ≡ (known self.old).asked };
+        ensures asked { (known self.new).asked ≡ (known self.old).asked }
+        ensures follows { follows self.old self.new };
 
     /// How many calls have failed.
     fn faults(&self) -> u64
@@ -75,4 +85,10 @@ pub trait Tree {
 
     /// A stop may leave what is read.
     ghost readable: { (tree : Self) (plan : PlanMark) → IsReadable (cells_of plan (known tree)) };
+
+    /// No call keeps to it.
+    ghost rests: { (tree : Self) → follows tree tree };
+
+    /// Nor is it lost from call to call.
+    ghost goes_on: { (a b c : Self) → follows a b → follows b c → follows a c };
 }

@@ -1,6 +1,7 @@
 pub mod Answers
 pub mod Changing
 pub mod Ends
+pub mod Journal
 pub mod Laws
 pub mod Machine
 pub mod Mounts

@@ -131,7 +131,7 @@ judged mounts directory None = Ok false
 judged mounts directory (Some mount) =
     unless (twice_at mounts directory mount.device) (has_one_journal mount.kind)
 
--- Whether the file system of a directory is known to have one journal. Refused is one that has a
+-- Whether the file system of a directory is of a kind with one journal. Refused is one that has a
 -- mount of its own file system below it, with the path of the first.
 abbrev pub one_journal : List ℕ → List ℕ → Result Bool (List ℕ)
 one_journal text path =

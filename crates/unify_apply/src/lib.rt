@@ -6,6 +6,7 @@ mod answers;
 mod applying;
 mod changing;
 mod checking;
+mod journal;
 mod laws;
 mod machine;
 mod mountinfo;
@@ -16,6 +17,7 @@ mod told;
 
 pub use answers::{counts_text, records_text};
 pub use applying::{mark_path, run_apply};
+pub use journal::tells_journal;
 pub use laws::{answers_are_read_back, mounts_are_read_back, one_way_to_files};
 pub use machine::{HostFit, host_fit, is_root};
 pub use mountinfo::{

@@ -196,8 +196,8 @@ fn mount_below<'m>(mounts: &'m [Mount<'_>], directory: &[u8], device: &[u8]) -> 
     None
 }
 
-// Whether a file system of this kind has one journal, so that a sync of one file keeps all that
-// was changed before.
+// Whether a file system of this kind has one journal, if any, so that a sync of one file keeps all
+// that was changed before.
 fn has_one_journal(kind: &[u8]) -> bool
     ensures { result ≡ is_of_one_journal kind.now }
 {
@@ -223,8 +223,8 @@ impl From<AllocError> for MountFault {
     }
 }
 
-/// Whether the file system of the directory with this path is known to have one journal, as this
-/// text tells. Refused is one that has a mount of its own file system below it. One pass over the
+/// Whether the file system of the directory with this path is of a kind with one journal, if any,
+/// as this text tells. Refused is one that has a mount of its own file system below it. One pass over the
 /// text and two over its mounts.
 pub fn see_journal(alloc: Global, text: &[u8], path: &[u8]) -> Result<bool, MountFault>
     ensures { Gives (λ known. known) twice_told result (one_journal text.now path.now) }

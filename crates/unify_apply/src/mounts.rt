@@ -1,6 +1,7 @@
 //! Mounts below the directory that a plan is carried out in. One of its own file system is a second
 //! way to its files.
 
+use crate::journal::has_journal;
 use crate::mountinfo::{
     Mount, MountFault, count_below, first_below, read_mounts, see_journal, without_slash,
 };
@@ -81,12 +82,13 @@ pub fn count_mounts(rt: &HostRuntime, root: &str, quiet: bool) -> Result<usize, 
 }
 
 /// Sees that no mount below a directory is of its file system, and tells whether that is known to
-/// have one journal.
+/// have one journal: by its kind, and by what the system tells of it, since an ext4 may have none.
 pub fn see_mounts(rt: &HostRuntime, root: &str) -> Result<bool, FileFault> {
     let path = path_of(rt, root)?;
     let text = read_file(rt, MOUNTS)?;
     match see_journal(rt.alloc(), text.bytes(), path.as_str().as_bytes()) {
-        Ok(has_one_journal) => Ok(has_one_journal),
+        Ok(true) => Ok(has_journal(rt, root)?),
+        Ok(false) => Ok(false),
         Err(MountFault::Twice(point)) => Err(mounted_twice(rt, root, &point)),
         Err(MountFault::Memory) => Err(FileFault::Memory),
     }

@@ -256,7 +256,7 @@ const APPLY: Subcommand = Subcommand {
     ],
 };
 
-// verify --was PASSWD GROUP --now PASSWD GROUP BEFORE AFTER
+// verify [--all] --was PASSWD GROUP --now PASSWD GROUP BEFORE AFTER
 const VERIFY: Subcommand = Subcommand {
     name: "verify",
     about: "Tells which files of an inventory have other owners by name in a later one",
@@ -273,6 +273,11 @@ const VERIFY: Subcommand = Subcommand {
             form: Form::Accounts,
             help: "its passwd and group with the new numbers",
             ..WORD
+        },
+        Argument {
+            name: "all",
+            help: "tells each file, and not the first ten of each kind alone",
+            ..FLAG
         },
         Argument {
             name: "BEFORE",

@@ -16,7 +16,7 @@ use mtree_inv::Inventory;
 use reading::{AccountTexts, read_account_texts, read_accounts, read_mtree};
 use std::io;
 use std::io::Write;
-use unify_io::{FileFault, write_failed};
+use unify_io::{FileFault, MOST_LINES, write_failed};
 
 // Tells what was found: files on standard error, and how many on standard output.
 fn tell_found(
@@ -25,9 +25,10 @@ fn tell_found(
     now: &Accounts<'_>,
     files: usize,
     found: &[Finding<'_>],
+    most: usize,
 ) -> Result<u8, FileFault> {
     let mut tally = Tally::new(files);
-    let lines = found_lines(rt.alloc(), was, now, found, &mut tally)?;
+    let lines = found_lines(rt.alloc(), was, now, found, most, &mut tally)?;
     let answer = answer_text(rt.alloc(), &tally)?;
     let _ = rt.stderr().write_all(&lines);
     if io::writer(rt).write_all(&answer).is_err() {
@@ -43,9 +44,10 @@ fn compare(
     now: &Accounts<'_>,
     before: &Inventory,
     after: &Inventory,
+    most: usize,
 ) -> Result<u8, FileFault> {
     let found = find_changes(rt.alloc(), was, now, before, after)?;
-    tell_found(rt, was, now, before.entries().len(), &found)
+    tell_found(rt, was, now, before.entries().len(), &found, most)
 }
 
 // Reads the second inventory, or walks the tree that is there in its place, and compares the first
@@ -56,10 +58,20 @@ fn compare_with(
     now: &Accounts<'_>,
     before: &Inventory,
     path: &str,
+    most: usize,
 ) -> Result<u8, FileFault> {
     let after = later_files(rt, path)?;
-    let status = compare(rt, was, now, before, &after.inventory)?;
+    let status = compare(rt, was, now, before, &after.inventory, most)?;
     Ok(if after.is_whole { status } else { 3 })
+}
+
+// How many files of a kind are told.
+fn most_lines(matches: &ArgMatches<'_>) -> usize {
+    if matches.get_flag("all") {
+        usize::MAX
+    } else {
+        MOST_LINES
+    }
 }
 
 // Reads the account files under the new numbers, and both inventories.
@@ -77,6 +89,7 @@ fn verify_under(
         &now,
         &before,
         matches.get_str("AFTER").unwrap_or(""),
+        most_lines(matches),
     )
 }
 
@@ -91,7 +104,7 @@ fn verify_texts(
     verify_under(rt, matches, &was, now_texts)
 }
 
-/// verify --was PASSWD GROUP --now PASSWD GROUP BEFORE AFTER
+/// verify [--all] --was PASSWD GROUP --now PASSWD GROUP BEFORE AFTER
 ///
 /// Answers the exit status: 0 where no file is missing, changed, unnamed or left an old number,
 /// and else 1; 3 where a part of the tree could not be read, which is told, or standard output

@@ -3,7 +3,6 @@
 use idtext::{push_escaped, push_number};
 use kept_names::{Accounts, Finding, What, group_name, user_name};
 use std::alloc::{AllocError, Global};
-use unify_io::MOST_LINES;
 
 /// How many files are of each kind.
 #[derive(Clone, Copy, Drop)]
@@ -167,34 +166,40 @@ fn push_count(text: &mut Vec<u8>, word: &str, count: usize) -> Result<(), AllocE
     Ok(())
 }
 
-// Appends how many files of a kind no line was told of.
-fn push_more(lines: &mut Vec<u8>, words: &str, count: usize) -> Result<(), AllocError> {
-    if count <= MOST_LINES {
+// Appends how many files of a kind no line was told of, where so many are told at most.
+fn push_more(
+    lines: &mut Vec<u8>,
+    most: usize,
+    words: &str,
+    count: usize,
+) -> Result<(), AllocError> {
+    if count <= most {
         return Ok(());
     }
-    push_count(lines, words, count - MOST_LINES)
+    push_count(lines, words, count - most)
 }
 
-/// The lines of the first few files of each kind, and how many more there are of it. All are
-/// counted.
+/// The lines of the first files of each kind, so many at most, and how many more there are of it.
+/// All are counted.
 pub(crate) fn found_lines(
     alloc: Global,
     was: &Accounts<'_>,
     now: &Accounts<'_>,
     found: &[Finding<'_>],
+    most: usize,
     tally: &mut Tally,
 ) -> Result<Vec<u8>, AllocError> {
     let mut lines = Vec::new(alloc);
     for finding in found {
-        if tally.count(finding.what) <= MOST_LINES {
+        if tally.count(finding.what) <= most {
             push_finding(&mut lines, was, now, finding)?;
         }
     }
-    push_more(&mut lines, "unify: more missing:", tally.missing)?;
-    push_more(&mut lines, "unify: more changed:", tally.changed)?;
-    push_more(&mut lines, "unify: more new:", tally.new)?;
-    push_more(&mut lines, "unify: more unnamed:", tally.unnamed)?;
-    push_more(&mut lines, "unify: more left:", tally.left)?;
+    push_more(&mut lines, most, "unify: more missing:", tally.missing)?;
+    push_more(&mut lines, most, "unify: more changed:", tally.changed)?;
+    push_more(&mut lines, most, "unify: more new:", tally.new)?;
+    push_more(&mut lines, most, "unify: more unnamed:", tally.unnamed)?;
+    push_more(&mut lines, most, "unify: more left:", tally.left)?;
     Ok(lines)
 }
 

@@ -1,4 +1,4 @@
-use Rattle.std.proofs.Common.{◌≡◌, ◌∙◌, ◌∷◌, ◌<◌, map, length, sym, ap, subst, arith}
+use Rattle.std.proofs.Common.{◌≡◌, ◌∙◌, [], ◌∷◌, ◌<◌, map, length, refl, sym, ap, subst, arith}
 use Rattle.reown_plan.specs.PlanData.{PlanRecord}
 use Rattle.std.specs.Result.{is_ok}
 use Rattle.std.proofs.lemmas.List.{get_or-map, length-map}
@@ -6,7 +6,7 @@ use Rattle.reown_plan.specs.Records.{record_of}
 use Rattle.reown_files.specs.Calls.{Kept}
 use Rattle.reown_files.specs.Lawful.{is_begun, is_lawful}
 use Rattle.reown_files.specs.Replay.{replay}
-use Rattle.reown_files.proofs.Laws.{nothing, keeps_on}
+use Rattle.reown_files.proofs.Laws.{nothing, keeps_on, one_more_call}
 use Rattle.reown_files.proofs.giving.keep_all.Goals as goal
 
 pub loop-i-preserved : goal.loop-i-preserved
@@ -21,6 +21,7 @@ loop-i-preserved g c =
       lawful = λ mark plan h. ap (is_lawful mark plan) c.keep.ensures ∙ c.loop-i.invariant.lawful mark plan h;
       begun = λ plan h. ap (is_begun plan) c.keep.ensures ∙ c.loop-i.invariant.begun plan h;
       replayed = ap replay c.keep.ensures ∙ c.loop-i.invariant.replayed;
+      grows = one_more_call (g.D.Disk.calls c.args.disk.now) (g.D.Disk.calls c.loop-i.disk) (g.D.Disk.calls c.keep.new.self) _ c.loop-i.invariant.grows c.keep.ensures;
     }
 
 pub returns-in-Err-clause-lawful : goal.returns-in-Err-clause-lawful
@@ -31,3 +32,9 @@ returns-in-Err-clause-begun g c = λ plan h. ap (is_begun plan) c.keep.ensures �
 
 pub returns-in-Err-clause-replayed : goal.returns-in-Err-clause-replayed
 returns-in-Err-clause-replayed g c = ap replay c.keep.ensures ∙ c.loop-i.invariant.replayed
+
+pub returns-in-Err-clause-grows : goal.returns-in-Err-clause-grows
+returns-in-Err-clause-grows g c = one_more_call (g.D.Disk.calls c.args.disk.now) (g.D.Disk.calls c.loop-i.disk) (g.D.Disk.calls c.keep.new.self) _ c.loop-i.invariant.grows c.keep.ensures
+
+pub loop-i-init : goal.loop-i-init
+loop-i-init g c = record { kept = refl; lawful = λ mark plan h. h; begun = λ plan h. h; replayed = refl; grows = ([], refl) }

@@ -4,6 +4,7 @@ use Rattle.reown_plan.specs.PlanData.{PlanRecord}
 use Rattle.reown_plan.specs.Records.{record_of}
 use Rattle.reown_files.specs.Lawful.{all_kept, is_begun, is_lawful}
 use Rattle.reown_files.specs.Replay.{replay}
+use Rattle.reown_files.specs.Real.{Grows}
 use Rattle.reown_files.proofs.giving.keep_all.Given as goal
 
 abbrev pub invariant-loop-i : goal.invariant-loop-i
@@ -13,4 +14,5 @@ invariant-loop-i g l =
       lawful : (mark : PlanMark) (plan : List PlanRecord) → is_lawful mark plan (g.D.Disk.calls l.fn.disk) ≡ true → is_lawful mark plan (g.D.Disk.calls l.disk) ≡ true;
       begun : (plan : List PlanRecord) → is_begun plan (g.D.Disk.calls l.fn.disk) ≡ true → is_begun plan (g.D.Disk.calls l.disk) ≡ true;
       replayed : replay (g.D.Disk.calls l.disk) ≡ replay (g.D.Disk.calls l.fn.disk);
+      grows : Grows (g.D.Disk.calls l.fn.disk) (g.D.Disk.calls l.disk);
     }

@@ -7,7 +7,7 @@ use Rattle.reown_runner.proofs.Turns.{at_device, kept, marked-ends, marked-more,
 use Rattle.reown_runner.proofs.runner.look_over.Goals as goal
 
 pub loop-i-init : goal.loop-i-init
-loop-i-init g c = record { passed = refl; same = λ plan. kept _; counted = refl; asked = refl }
+loop-i-init g c = record { passed = refl; same = λ plan. kept _; counted = refl; asked = refl; follows = g.met.T.Tree.rests c.args.tree.now }
 
 pub loop-i-preserved : goal.loop-i-preserved
 loop-i-preserved g c =
@@ -21,6 +21,7 @@ loop-i-preserved g c =
       same = λ plan. same (inv.same plan) (c.owner.ensures.same plan);
       counted = c.in_ok-owner.ensures.faults ∙ inv.counted;
       asked = c.owner.ensures.asked ∙ inv.asked;
+      follows = g.met.T.Tree.goes_on c.args.tree.now c.loop-i.tree c.owner.new.self inv.follows c.owner.ensures.follows;
     }
 
 pub returns-in_err-owner-clause-step : goal.returns-in_err-owner-clause-step

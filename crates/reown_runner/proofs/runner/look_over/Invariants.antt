@@ -13,4 +13,5 @@ invariant-loop-i g l =
       same : ForEachPlan Same old now;
       counted : now.faults ≡ old.faults;
       asked : now.asked ≡ old.asked;
+      follows : g.T.Tree.follows l.fn.tree l.tree;
     }

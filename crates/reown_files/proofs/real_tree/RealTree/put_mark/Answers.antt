@@ -1,12 +1,13 @@
-use Rattle.std.proofs.Common.{◌≡◌, ◌∙◌, ap, sym, map, true}
+use Rattle.std.proofs.Common.{◌≡◌, ◌∙◌, List, ap, sym, subst, map, true}
 use Rattle.reown_plan.specs.Mark.{mark_eq}
-use Rattle.reown_files.specs.Real.{RealData}
+use Rattle.reown_files.specs.Calls.{Called}
+use Rattle.reown_files.specs.Real.{RealData, Grows}
 use Rattle.std.specs.Result.{is_ok}
 use Rattle.reown_plan.specs.Records.{record_of}
-use Rattle.reown_files.specs.Lawful.{is_lawful, is_begun, all_kept}
+use Rattle.reown_files.specs.Lawful.{is_lawful, is_begun, is_synced}
 use Rattle.reown_runner.specs.Memory.{Mem}
 use Rattle.reown_files.specs.Replay.{replay}
-use Rattle.reown_files.proofs.Laws.{lawful_mark, kept_behind_mark}
+use Rattle.reown_files.proofs.Laws.{lawful_mark, synced_behind_mark, one_call}
 use Rattle.reown_files.proofs.Replays.{marked_replay, same_replay}
 use Rattle.reown_files.proofs.real_tree.RealTree.put_mark.Goals as goal
 
@@ -18,7 +19,7 @@ invariant_of-self g c =
     let done = is_ok c.put_mark.result in (
       ap (λ (m : Mem). m.paths) c.set_mark.ensures.marked ∙ c.self.invariant.0,
       ap (is_lawful c.self.inside.mark records) c.put_mark.ensures ∙ lawful_mark c.self.inside.mark records calls c.args.plan.now done own (c.self.invariant.2 c.if-not-self.false) c.self.invariant.1,
-      λ kept. ap (all_kept records) c.put_mark.ensures ∙ kept_behind_mark c.args.plan.now done calls records (c.self.invariant.2 kept),
+      λ kept. ap (is_synced records) c.put_mark.ensures ∙ synced_behind_mark c.args.plan.now done calls records (c.self.invariant.2 kept),
       ap (is_begun records) c.put_mark.ensures ∙ c.self.invariant.3,
       λ h. marked_replay calls (g.D.Disk.calls c.put_mark.new.self) c.self.inside.held c.set_mark.new.self c.args.plan.now c.in-Ok.ensures c.set_mark.ensures.marked (c.self.invariant.4 h),
     )
@@ -31,7 +32,17 @@ invariant_of-self-in-Err g c =
     let done = is_ok c.put_mark.result in (
       c.self.invariant.0,
       ap (is_lawful c.self.inside.mark records) c.put_mark.ensures ∙ lawful_mark c.self.inside.mark records calls c.args.plan.now done own (c.self.invariant.2 c.if-not-self.false) c.self.invariant.1,
-      λ kept. ap (all_kept records) c.put_mark.ensures ∙ kept_behind_mark c.args.plan.now done calls records (c.self.invariant.2 kept),
+      λ kept. ap (is_synced records) c.put_mark.ensures ∙ synced_behind_mark c.args.plan.now done calls records (c.self.invariant.2 kept),
       ap (is_begun records) c.put_mark.ensures ∙ c.self.invariant.3,
       λ h. same_replay calls (g.D.Disk.calls c.put_mark.new.self) c.self.inside.held (ap replay c.in-Err.ensures) (c.self.invariant.4 h),
     )
+
+pub returns-in-Ok-clause-grows : goal.returns-in-Ok-clause-grows
+returns-in-Ok-clause-grows g c =
+    let new = g.D.Disk.calls c.put_mark.new.self in
+    subst (λ (old : List Called). Grows old new) (ap (λ (r : RealData). r.calls) c.self.view_is) (one_call (g.D.Disk.calls c.self.inside.disk) new _ c.put_mark.ensures)
+
+pub returns-in-Err-clause-grows : goal.returns-in-Err-clause-grows
+returns-in-Err-clause-grows g c =
+    let new = g.D.Disk.calls c.put_mark.new.self in
+    subst (λ (old : List Called). Grows old new) (ap (λ (r : RealData). r.calls) c.self.view_is) (one_call (g.D.Disk.calls c.self.inside.disk) new _ c.put_mark.ensures)

@@ -18,6 +18,7 @@ invariant-steps g l =
       same_mark : l.self.mark ≡ plan;
       same : l.self.records ≡ records;
       counted : now.faults ≡ old.faults;
+      follows : g.T.Tree.follows l.fn.tree l.tree;
       spent : now.asked + operations_left records l.self.place ≤ old.asked + operations_left records place;
       kept : (inventory : List ℕ → Option Owner) → IsSafeInStep inventory records place (cells_of plan old) → IsSafeInStep inventory records l.self.place (cells_of plan now);
       run : (s : State) → StandsFor plan old s → (n : ℕ) × (t : State) × StandsFor plan now t × IsRun records (host_at place old s) (replicate n Advances) None (host_at l.self.place now t) × (n + max 1 (advances_left records l.self.place) ≤ length records + 4);
