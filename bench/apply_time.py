@@ -4,8 +4,9 @@
     bench/apply_time.py [FILES [FOLDER]]
 
 Makes FILES files (200,000) below a new folder in FOLDER, a thousand in a directory, all of one owner, and a plan that gives them
-another. Prints the seconds and the peak memory of each command: an inventory, find with chown there and back, the plan, a second inventory, the two
-verified, the first verified with the tree that is there, the plan once more, its files counted, and the plan taken back.
+another. Prints the seconds, those of a processor and the peak memory of each command: an inventory, find with chown there and
+back, the plan, a second inventory, the two verified, the first verified with the tree that is there, the plan once more, its files
+counted, and the plan taken back.
 """
 import multiprocessing
 import os
@@ -37,13 +38,14 @@ def make_tree(root, count):
 
 
 def timed(what, words, folder, out=subprocess.DEVNULL):
-    """Runs a command, and prints its seconds and its peak memory."""
+    """Runs a command, and prints its seconds, how many of them a processor worked for it, and its peak memory."""
     os.sync()
     began = time.monotonic()
     command = subprocess.Popen(words, cwd=folder, stdin=subprocess.DEVNULL, stdout=out)
     _, status, used = os.wait4(command.pid, 0)
     seconds = time.monotonic() - began
-    print(f"{what:20} {seconds:8.2f} s {used.ru_maxrss / 1024:6.0f} MiB{'  FAILED' if status else ''}", flush=True)
+    worked = used.ru_utime + used.ru_stime
+    print(f"{what:20} {seconds:8.2f} s {worked:8.2f} s {used.ru_maxrss / 1024:6.0f} MiB{'  FAILED' if status else ''}", flush=True)
 
 
 def make(folder, count):

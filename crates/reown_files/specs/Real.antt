@@ -56,8 +56,8 @@ Grows old new = (more : List Called) × (new ≡ more ++ old)
 
 pub grows_on : (a b c : List Called) → Grows a b → Grows b c → Grows a c
 grows_on a b c x y = (
-    y.0 ++ x.0,
-    y.1 ∙ ap (λ calls. y.0 ++ calls) x.1 ∙ sym (append_assoc y.0 x.0 a),
+  y.0 ++ x.0,
+  y.1 ∙ ap (λ calls. y.0 ++ calls) x.1 ∙ sym (append_assoc y.0 x.0 a),
 )
 
 -- a tree later on: of the same plan, and no call is forgotten
