@@ -96,9 +96,10 @@ def list_traced(program, tree):
     words = ["strace", "-f", "-s", "9999", "-o", trace, "-e", "trace=open,openat,openat2,creat", program, "inventory", tree]
     subprocess.run(words, capture_output=True)
     names = re.findall(rb'"((?:[^"\\]|\\.)*)"', trace.read_bytes())
-    # The names in an open directory are read by its descriptor alone.
+    # The names in an open directory are read by its descriptor alone. What ends in a slash or in a dot is a directory or nothing.
     opened = [name for name in names if name.startswith(os.fsencode(tree)) or re.match(rb"/proc/self/fd/\d+/", name)]
-    print(f"opened: {len(opened)} names, of which are not opened as a directory {[name for name in opened if not name.endswith(b'/.')]}")
+    others = [name for name in opened if not name.endswith((b"/", b"/."))]
+    print(f"opened: {len(opened)} names, of which are not opened as a directory {others}")
 
 
 def main():
