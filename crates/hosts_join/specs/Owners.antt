@@ -8,7 +8,8 @@ use Rattle.hosts_join.specs.declared.owners.Owners.{Owners}
 
 -- the place of the name that has the number on the host
 abbrev pub owner_in : Owners → ℕ → ℕ → Option ℕ
-owner_in owners h v = option_and_then (λ places. get_by (λ n. v == n) places) (slice_get owners.hosts.items h)
+owner_in owners h v =
+    option_and_then (λ places. get_by (λ n. v == n) places) (slice_get owners.hosts.items h)
 
 -- where this place has the number on the host, and all else is as before
 abbrev pub with_owner : Owners → ℕ → ℕ → ℕ → (ℕ → ℕ → Option ℕ)

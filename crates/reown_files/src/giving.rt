@@ -73,7 +73,8 @@ pub fn give_file<D: Disk>(disk: &mut D, path: &[u8], before: Owner, after: Owner
     }
 }
 
-// Sees that each record's file has its new owner, and syncs it, where it is not for the sync of all.
+// Sees that each record's file has its new owner, and syncs it, where it is not for the sync of
+// all.
 fn keep_all<D: Disk>(disk: &mut D, records: &[Record]) -> Result<(), Stop>
     ensures kept { OnOk result (all_kept (map record_of records.now) (D.calls disk.new) ≡ true) }
     ensures lawful { (mark : PlanMark) (plan : List PlanRecord)

@@ -224,8 +224,8 @@ impl From<AllocError> for MountFault {
 }
 
 /// Whether the file system of the directory with this path is of a kind with one journal, if any,
-/// as this text tells. Refused is one that has a mount of its own file system below it. One pass over the
-/// text and two over its mounts.
+/// as this text tells. Refused is one that has a mount of its own file system below it. One pass
+/// over the text and two over its mounts.
 pub fn see_journal(alloc: Global, text: &[u8], path: &[u8]) -> Result<bool, MountFault>
     ensures { Gives (λ known. known) twice_told result (one_journal text.now path.now) }
 {

@@ -123,7 +123,8 @@ fn map_lines(
 /// Asked is one number for each name. What is appended is read back by [`read_map`] as these
 /// numbers.
 ///
-/// Time and memory in the length of the lines, of which a copy is made first. `AllocError` where a growth was refused; then nothing is appended.
+/// Time and memory in the length of the lines, of which a copy is made first. `AllocError` where a
+/// growth was refused; then nothing is appended.
 pub fn push_map(
     alloc: Global,
     out: &mut Vec<u8>,
