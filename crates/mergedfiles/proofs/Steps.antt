@@ -2,12 +2,11 @@
 use Rattle.std.proofs.Common.{◌≡◌, ℕ, zero, suc, ◌+◌, ◌<◌, Bool, true, false, not, cond, List, [], ◌∷◌, ◌++◌, length, map, take, get_or, Option, Some, None, refl, sym, ◌∙◌, ap, inl, inr, arith, append_assoc}
 use Rattle.std.proofs.lemmas.List.Elements.{filter_map-append}
 use Rattle.std.specs.Borrow.{Bor}
-use Rattle.std.specs.List.{All, filter_map, cons_option, join_with_byte, enumerate_from, list_any, flat_map}
+use Rattle.std.specs.List.{filter_map, cons_option, join_with_byte, enumerate_from, list_any, flat_map}
 use Rattle.std.specs.Str.{bytes_eq}
 use Rattle.std.proofs.lemmas.Bool.{cases_Bool}
 use Rattle.std.proofs.lemmas.List.{take_more, map-append, append-nil, length-take, length-map}
-use Rattle.hosts_join.specs.Accounts.{Accounts, first_appearances}
-use Rattle.hosts_join.specs.Rules.{account}
+use Rattle.hosts_join.specs.Accounts.{first_appearances}
 use Rattle.hosts_join.proofs.Grouping.{first_appearances-push}
 use Rattle.accounts.specs.Rows.{members_of}
 use Rattle.std.proofs.lemmas.List.Concat.{flat_map-append}

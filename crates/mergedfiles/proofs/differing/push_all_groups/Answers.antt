@@ -2,8 +2,7 @@ use Rattle.std.proofs.Common.{◌≡◌, ◌<◌, ◌++◌, ℕ, List, length, m
 use Rattle.std.proofs.lemmas.List.{take_all}
 use Rattle.std.specs.List.{flat_map}
 use Rattle.hosts_join.specs.Accounts.{Accounts}
-use Rattle.hosts_join.specs.Lawful.{AreLawfulAccounts}
-use Rattle.hosts_join.specs.Order.{name_at, AreInByteOrder}
+use Rattle.hosts_join.specs.Order.{name_at}
 use Rattle.hosts_join.specs.Rules.{account}
 use Rattle.mergedfiles.specs.Rows.{groups_named}
 use Rattle.mergedfiles.specs.Differences.{group_differences}
