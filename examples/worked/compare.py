@@ -7,8 +7,9 @@ README.md beside this file has the form of the examples. Also compared: examples
 each prefix of merge/root-only.bundle, the whole one byte a read, inputs and outputs that fail, the command line, certificates,
 plans and inventories that end too early, each merge with the hosts' own files, and by words with directories, inventories of many pieces and
 one that changes or goes while it is read twice, the texts and the inventories of texts.py, and the merges of 300 small generated
-sites, of 300 with keep texts, of 40 contested ones and of all triples of users with few files, whose cost has to be the least of all
-admissible mappings, and what the check of the printed certificate answers.
+sites, of 300 with keep texts, of 44 contested ones and of all triples of users with few files, whose cost has to be the least of all
+admissible mappings, and what the check of the printed certificate answers. All of these but the triples are merged by words too, and
+what was written is checked, counted and rehearsed by words.
 
 Prints the first difference and ends with status 1 there; else the last line tells how many examples there were.
 """
@@ -28,7 +29,8 @@ from cut_texts import cut_texts
 from kept_sites import some_kept_site
 from sites import all_triples, contested_sites, some_site
 from texts import inventories, read_by_words, refused_texts, told_of, without_last_newlines
-from words import Bundle, merged_by_bundle, merged_by_words, merged_while_changing, own_lines, with_hosts
+from words import Bundle, looks_of, merged_and_looked_at, merged_by_bundle, merged_by_words, merged_while_changing
+from words import own_lines, with_hosts
 
 FOLDER = pathlib.Path(__file__).resolve().parent
 SITES = 300
@@ -314,12 +316,22 @@ def compare_merged(program, name, site):
     compare_accepted(program, name, site.bundle(), answer, f"accepted {cost}\n")
 
 
+def compare_by_words(program, name, text):
+    """A merge with the hosts' own files, by words; and what is told by words of the files that it writes."""
+    merge, looks = merged_and_looked_at(program, Bundle(text))
+    wanted = merged_by_bundle(*answered(program, text))
+    want(f"{name}, by words, for\n{text}", wanted, merge)
+    if wanted[0] == 0:
+        want(f"{name}, its files by words, for\n{text}", looks_of(wanted[3]), looks)
+
+
 def compare_sites(program):
     """Merges sites that look random, the same ones at each run, and tells how many could be merged."""
     chance = random.Random(2026)
     merged = 0
     for number in range(SITES):
         site = some_site(chance)
+        compare_by_words(program, f"site {number}", with_hosts(site.bundle()))
         if refusal := site.refusal():
             want(f"site {number}", (1, refusal), answered(program, site.bundle()))
             want(f"site {number}, checked", (1, refusal), answered(program, check_of(site.bundle(), "file certificate\n")))
@@ -341,7 +353,6 @@ def compare_kept(program, name, site):
     files = re.findall(r"^file (\S+)$", answer, re.M)[:5]
     first = [] if users.kept_names or groups.kept_names else ["passwd", "group"]
     want(f"{name}, its files", [*first, "map", "certificate", "report"], files[: len(first) + 3])
-    want(f"{name}, by words", merged_by_bundle(0, answer), merged_by_words(program, Bundle(site.bundle())))
     map_text = re.search(r"^file map\n(?:\|.*\n)*", answer, re.M).group()
     count = "run count\n" + map_text + site.bundle().partition("\n")[2]
     told = "".join(f"{kind.name}-fields {kind.least()[0]}\n" for kind in (users, groups))
@@ -354,6 +365,7 @@ def compare_kept_sites(program):
     merged = 0
     for number in range(SITES):
         site = some_kept_site(chance)
+        compare_by_words(program, f"kept site {number}", site.bundle())
         if refusal := site.refusal():
             want(f"kept site {number}, for\n{site.bundle()}", (1, refusal), answered(program, site.bundle()))
         else:
@@ -367,6 +379,7 @@ def compare_contested_sites(program):
     sites = list(contested_sites(random.Random(2026)))
     for number, site in enumerate(sites):
         compare_merged(program, f"contested site {number}", site)
+        compare_by_words(program, f"contested site {number}", with_hosts(site.bundle()))
     return len(sites)
 
 

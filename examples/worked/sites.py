@@ -1,10 +1,45 @@
 """Sites with their least costs: small ones that look random, contested ones, and many triples of users side by side."""
 import itertools
+import math
 import re
 from collections import Counter
 
 # A number in no range: who has it on a host is pinned there.
 PIN = 7
+# Up to so many numbers every set of them is tried.
+FEW_NUMBERS = 12
+
+
+def cheapest(costs):
+    """For each row of costs a column, no two the same, so that the costs add up to the least: row by row along shortest paths,
+    with potentials (Kuhn and Munkres). There are as many columns as rows, or more. Rows and columns count from 1 in it."""
+    of_row, of_column = [0] * (len(costs) + 1), [0] * (len(costs[0]) + 1)
+    owner = [0] * len(of_column)
+    for row in range(1, len(of_row)):
+        owner[0], column = row, 0
+        slack, before, seen = [math.inf] * len(owner), [0] * len(owner), [False] * len(owner)
+        while owner[column]:
+            seen[column] = True
+            here = owner[column]
+            left = [it for it in range(1, len(owner)) if not seen[it]]
+            for it in left:
+                distance = costs[here - 1][it - 1] - of_row[here] - of_column[it]
+                if distance < slack[it]:
+                    slack[it], before[it] = distance, column
+            nearest = min(left, key=slack.__getitem__)
+            by = slack[nearest]
+            for it in range(len(owner)):
+                if seen[it]:
+                    of_row[owner[it]] += by
+                    of_column[it] -= by
+                else:
+                    slack[it] -= by
+            column = nearest
+        while column:
+            owner[column] = owner[before[column]]
+            column = before[column]
+    columns = {row: column - 1 for column, row in enumerate(owner) if column and row}
+    return [columns[row] for row in range(1, len(of_row))]
 
 
 class Kind:
@@ -53,7 +88,17 @@ class Kind:
         return tuple(many - sum(some) for many, some in zip(of_all, zip(*kept)))
 
     def most_kept(self, names, numbers):
-        """The most that names keep with distinct numbers: name by name, for each set of numbers that those so far may have."""
+        """The most that names keep with distinct numbers."""
+        return self.tried(names, numbers) if len(numbers) <= FEW_NUMBERS else self.solved(names, numbers)
+
+    def solved(self, names, numbers):
+        """The same by potentials: files count for more than all rows do."""
+        scale = sum(self.rows.values()) + 1
+        costs = [[-(self.owners[name, it] * scale + self.rows[name, it]) for it in numbers] for name in names]
+        return self.kept({name: numbers[place] for name, place in zip(names, cheapest(costs))})
+
+    def tried(self, names, numbers):
+        """The same name by name, for each set of numbers that those so far may have."""
         best = {0: (0, 0)}
         for name in names:
             after = {}
@@ -150,13 +195,21 @@ def some_owners(chance, users, groups):
 
 
 def contested_sites(chance):
-    """Eight hosts with ten users each, or eight of the ten, that all have the same numbers, each host in an order of its own. A row
-    owns no file, up to two or up to nine, ten sites of each; where numbers are for eight, up to two."""
+    """Eight hosts with ten users each, or eight of the ten: ten sites of each of four kinds. Then one of each kind with 64 hosts and
+    thirty users, or twenty-four of the thirty. A row owns no file, up to two or up to nine; where numbers are for a part of the
+    users, up to two."""
     for wanted, most_files in 10 * [(10, 0), (10, 2), (10, 9), (8, 2)]:
-        pool = range(1001, 1011)
-        users = [list(zip((f"user{name}" for name in chance.sample(range(10), wanted)), pool)) for _ in range(8)]
-        owners = [[(row, ("users", 100)) for row in rows for _ in range(chance.randint(0, most_files))] for rows in users]
-        yield Site(pool, range(1001, 1002), users, 8 * [[]], owners)
+        yield contested_site(chance, 8, 10, wanted, most_files)
+    for wanted, most_files in [(30, 0), (30, 2), (30, 9), (24, 2)]:
+        yield contested_site(chance, 64, 30, wanted, most_files)
+
+
+def contested_site(chance, hosts, names, wanted, most_files):
+    """Hosts with so many of the users that are wanted there, who all have the same numbers, on each host in an order of its own."""
+    pool = range(1001, 1001 + names)
+    users = [list(zip((f"user{name}" for name in chance.sample(range(names), wanted)), pool)) for _ in range(hosts)]
+    owners = [[(row, ("users", 100)) for row in rows for _ in range(chance.randint(0, most_files))] for rows in users]
+    return Site(pool, range(1001, 1002), users, hosts * [[]], owners)
 
 
 class Triples(Site):

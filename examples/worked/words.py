@@ -67,9 +67,14 @@ def written(folder):
     return {path.name: path.read_bytes().decode("latin-1") for path in folder.iterdir()}
 
 
+def told(program, room, words):
+    """The status, standard output and standard error of the program with these words."""
+    ran = subprocess.run([program, *words], cwd=room, stdout=subprocess.PIPE, stderr=subprocess.PIPE, timeout=120)
+    return ran.returncode, ran.stdout.decode("latin-1"), ran.stderr.decode("latin-1")
+
+
 def merged(program, room, words):
-    ran = subprocess.run([program, "merge", "-q", *words], cwd=room, stdout=subprocess.PIPE, stderr=subprocess.PIPE, timeout=120)
-    return ran.returncode, ran.stdout.decode("latin-1"), ran.stderr.decode("latin-1"), written(room / "out")
+    return *told(program, room, ["merge", "-q", *words]), written(room / "out")
 
 
 def merged_by_words(program, bundle):
@@ -78,6 +83,33 @@ def merged_by_words(program, bundle):
     with tempfile.TemporaryDirectory() as name:
         room = pathlib.Path(name)
         return merged(program, room, bundle.lay_out(room))
+
+
+def merged_and_looked_at(program, bundle):
+    """What merged_by_words hands out; and what is told by words of the files that were written: by a check of the certificate, a
+    count of the map and a rehearsal of each plan."""
+    with tempfile.TemporaryDirectory() as name:
+        room = pathlib.Path(name)
+        words = bundle.lay_out(room)
+        hosts = words[words.index("out") + 1 :]
+        rules = words[: -len(hosts) - 1]
+        keep = [word for word in ("--keep", "keep") if word in rules]
+        merge = merged(program, room, words)
+        looks = [["check", "-q", *rules, "out/certificate", *hosts], ["count", "-q", *keep, "out/map", *hosts]]
+        for host, _, folder in (word.partition("=") for word in hosts):
+            looks.append(["rehearse", f"out/plan.{host}", f"{folder}/mtree"])
+        return merge, [told(program, room, look) for look in looks]
+
+
+def looks_of(files):
+    """What is to be told of the files of a merge then: its sum by the check, its fields by the count, and its records by each
+    rehearsal, none of whose paths has a newline."""
+    changed = re.findall(r"^(user|group)-fields (\d+) of", files["report"], re.M)
+    fields = "".join(f"{kind}-fields {number}\n" for kind, number in changed)
+    plans = [text for name, text in files.items() if name.startswith("plan.")]
+    records = [text.count("\n") - 2 for text in plans]
+    told_of = [f"accepted {sum(int(number) for _, number in changed)}\n", fields]
+    return [(0, text, "") for text in told_of + [f"records {number}\ndone\n" for number in records]]
 
 
 def accounts_in(text):
