@@ -4,7 +4,8 @@
     bench/count.py [HOSTS [USERS_A_HOST [FILES_A_HOST]]]
 
 Then it compares the processor times of `unify count` and of fastcount.cpp, a plain reader in C++ that does the
-same work, for inventories of full paths and for such as NetBSD's mtree writes: the least of five runs in turn.
+same work, for inventories of full paths and for such as NetBSD's mtree writes: the least of five runs in turn;
+and beside these that of `mtree -C` over the same inventories, one after the other, the lesser of two runs.
 
 Run `make program` first; it wants g++. The sites are made below bench/work, which git does not see.
 """
@@ -17,8 +18,27 @@ from measure import HERE, UNIFY, least_processor_seconds, timed
 from site_of import write_full, write_netbsd, write_site
 
 
+def netbsd_mtree():
+    """The command of NetBSD's mtree, or none where it is not installed."""
+    return shutil.which("mtree") or shutil.which("netbsd-mtree")
+
+
+def mtree_seconds(inventories):
+    """The processor seconds in which NetBSD's mtree reads the inventories, one after the other; none where it is not there."""
+    mtree = netbsd_mtree()
+    if mtree is None:
+        return None
+    words = ["sh", "-c", 'for file; do "$0" -C < "$file" > /dev/null || exit; done', mtree, *inventories]
+    return least_processor_seconds({"mtree": words}, rounds=2)[0]["mtree"]
+
+
+def inventories_of(words):
+    """The inventories of the hosts that words name."""
+    return [f"{word.split('=')[1]}/mtree" for word in words]
+
+
 def compare_with_plain_reader(hosts, users, files):
-    """Prints what the program takes of the time of the plain reader, which has to count the same."""
+    """Prints what the program takes of the time of the plain reader, which has to count the same, and of that of mtree."""
     reader = os.path.join(HERE, "work", "fastcount")
     subprocess.run(["g++", "-O2", "-std=c++17", "-o", reader, os.path.join(HERE, "fastcount.cpp")], check=True)
     for style, write_inventory in (("full paths", write_full), ("NetBSD's mtree", write_netbsd)):
@@ -32,7 +52,9 @@ def compare_with_plain_reader(hosts, users, files):
         if printed["unify"] != printed["fastcount"]:
             sys.exit(f"{style}: the two count otherwise:\n{printed['unify']}{printed['fastcount']}")
         print(f"{style}: unify count {least['unify']:.2f} s, fastcount {least['fastcount']:.2f} s of a processor, "
-              f"ratio {least['unify'] / least['fastcount']:.2f}")
+              f"ratio {least['unify'] / least['fastcount']:.2f}", flush=True)
+        if seconds := mtree_seconds(inventories_of(words)):
+            print(f"{style}: mtree -C {seconds:.2f} s of a processor, ratio 1/{seconds / least['unify']:.1f}", flush=True)
 
 
 def main():
@@ -41,7 +63,7 @@ def main():
     folder = os.path.join(HERE, "work", f"count-{hosts}-{users}-{files}")
     shutil.rmtree(folder, ignore_errors=True)
     words = write_site(folder, hosts, users, files)
-    inventories = [f"{word.split('=')[1]}/mtree" for word in words]
+    inventories = inventories_of(words)
     size = sum(os.path.getsize(path) for path in inventories)
     total = hosts * files
     print(f"{hosts} hosts, {users} users and {files} files a host: {size / 1e6:.1f} MB of inventories")
@@ -51,7 +73,7 @@ def main():
     seconds, peak, _ = timed(["wc", "-l", *inventories])
     print(f"wc -l:       {seconds:.2f} s, {total / seconds:,.0f} files/s, peak {peak:.0f} MiB")
     compare_with_plain_reader(hosts, users, files)
-    mtree = shutil.which("mtree") or shutil.which("netbsd-mtree")
+    mtree = netbsd_mtree()
     if mtree is None:
         print("mtree -C:    not installed")
         return

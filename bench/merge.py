@@ -4,9 +4,9 @@
     bench/merge.py [HOSTS [USERS_A_HOST [FILES_A_HOST]]]
 
 `count` reads the accounts, and reads and counts the files; it makes no join. `check` joins the accounts too, and checks the
-certificate. `merge` reads the inventories twice, and also joins, solves and writes. The parts are differences between such
-runs, on the site and on the same hosts with one file of fifty, where joining and solving are as hard and the inventories take
-a fiftieth. Run `make program` first. The site is made below bench/work, which git does not see.
+certificate. `merge` reads the inventories twice, and also joins, solves and writes. What these two take is also told as a ratio to
+`count`. The parts are differences between such runs, on the site and on the same hosts with one file of fifty, where joining and
+solving are as hard and the inventories take a fiftieth. Run `make program` first. The site is made below bench/work, which git does not see.
 """
 import os
 import shutil
@@ -52,6 +52,12 @@ def run(folder, words, files):
     return times
 
 
+def print_ratios(times):
+    """How many times as long as a count, which reads once, the other two take."""
+    for name in ("merge", "check"):
+        print(f"unify {name} / count: {times[name] / times['count']:.2f}")
+
+
 def print_parts(whole, thin):
     """The parts of a merge, from the times of the commands on the site and on the same hosts with one file of fifty."""
     solving = thin["merge"] - thin["count"]
@@ -73,6 +79,7 @@ def main():
     size = sum(os.path.getsize(f"{word.split('=')[1]}/mtree") for word in words)
     print(f"{hosts} hosts, {users} users and {files} files a host: {size / 1e6:.1f} MB of inventories", flush=True)
     whole = run(folder, words, hosts * files)
+    print_ratios(whole)
     name, directory = words[0].split("=")
     seconds, peak, printed = timed([UNIFY, "rehearse", f"{folder}/out/plan.{name}", f"{directory}/mtree"])
     print(f"unify rehearse {name}: {seconds:.2f} s, peak {peak:,.0f} MiB; {' '.join(printed.split())}")
