@@ -2,6 +2,7 @@
 
 use idtext::{push_escaped, push_number};
 use kept_names::{Accounts, Finding, What, group_name, user_name};
+use mtree_inv::Entry;
 use std::alloc::{AllocError, Global};
 
 /// How many files are of each kind.
@@ -76,6 +77,60 @@ fn push_group(line: &mut Vec<u8>, accounts: &Accounts<'_>, gid: u32) -> Result<(
     push_owner(line, group_name(accounts, gid), gid)
 }
 
+// Appends ` user NAME UID` and ` group NAME GID` of a file, by these account files: those of the two
+// that are asked for.
+fn push_owners(
+    line: &mut Vec<u8>,
+    accounts: &Accounts<'_>,
+    file: &Entry,
+    user: bool,
+    group: bool,
+) -> Result<(), AllocError> {
+    if user {
+        line.extend_from_slice(b" user")?;
+        push_user(line, accounts, file.uid)?;
+    }
+    if group {
+        line.extend_from_slice(b" group")?;
+        push_group(line, accounts, file.gid)?;
+    }
+    Ok(())
+}
+
+// Appends the owners that a file had, each with the new one behind it: of the user and the group
+// the one that has another number now, which is given.
+fn push_changes(
+    line: &mut Vec<u8>,
+    was: &Accounts<'_>,
+    now: &Accounts<'_>,
+    file: &Entry,
+    uid: Option<u32>,
+    gid: Option<u32>,
+) -> Result<(), AllocError> {
+    if let Some(uid) = uid {
+        push_owners(line, was, file, true, false)?;
+        push_user(line, now, uid)?;
+    }
+    if let Some(gid) = gid {
+        push_owners(line, was, file, false, true)?;
+        push_group(line, now, gid)?;
+    }
+    Ok(())
+}
+
+// Appends ` uid UID` and ` gid GID` of a file: those of the two that are asked for.
+fn push_numbers(line: &mut Vec<u8>, file: &Entry, uid: bool, gid: bool) -> Result<(), AllocError> {
+    if uid {
+        line.extend_from_slice(b" uid ")?;
+        push_number(line, u128::from(file.uid))?;
+    }
+    if gid {
+        line.extend_from_slice(b" gid ")?;
+        push_number(line, u128::from(file.gid))?;
+    }
+    Ok(())
+}
+
 // Appends what a line says of a file behind its path.
 fn push_details(
     line: &mut Vec<u8>,
@@ -86,47 +141,10 @@ fn push_details(
     let file = finding.file;
     match finding.what {
         What::Missing => Ok(()),
-        What::Changed(user, group) => {
-            if let Some(uid) = user {
-                line.extend_from_slice(b" user")?;
-                push_user(line, was, file.uid)?;
-                push_user(line, now, uid)?;
-            }
-            if let Some(gid) = group {
-                line.extend_from_slice(b" group")?;
-                push_group(line, was, file.gid)?;
-                push_group(line, now, gid)?;
-            }
-            Ok(())
-        }
-        What::New => {
-            line.extend_from_slice(b" user")?;
-            push_user(line, now, file.uid)?;
-            line.extend_from_slice(b" group")?;
-            push_group(line, now, file.gid)
-        }
-        What::Unnamed(user, group) => {
-            if user {
-                line.extend_from_slice(b" uid ")?;
-                push_number(line, u128::from(file.uid))?;
-            }
-            if group {
-                line.extend_from_slice(b" gid ")?;
-                push_number(line, u128::from(file.gid))?;
-            }
-            Ok(())
-        }
-        What::Left(user, group) => {
-            if user {
-                line.extend_from_slice(b" user")?;
-                push_user(line, was, file.uid)?;
-            }
-            if group {
-                line.extend_from_slice(b" group")?;
-                push_group(line, was, file.gid)?;
-            }
-            Ok(())
-        }
+        What::Changed(uid, gid) => push_changes(line, was, now, file, uid, gid),
+        What::New => push_owners(line, now, file, true, true),
+        What::Unnamed(uid, gid) => push_numbers(line, file, uid, gid),
+        What::Left(user, group) => push_owners(line, was, file, user, group),
     }
 }
 
