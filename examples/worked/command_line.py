@@ -432,13 +432,13 @@ TABLE = [
     ("rehearse plan none", 3, "", "unify: file none: No such file or directory\n"),
     ("apply none b", 3, "", "unify: file none: No such file or directory\n"),
     ("apply --check plan none", 2, "", "unify: root none: not there, or behind a link\n"),
-    # The order in which files are read: all of them before anything is judged.
+    # The order in which files are read: all of them but inventories before anything is judged.
     ("count none x y", 3, "", "unify: file none: No such file or directory\n"),
     ("count bad x y", 3, "", "unify: file x/passwd: No such file or directory\n"),
     ("count bad a y", 3, "", "unify: file y/passwd: No such file or directory\n"),
     ("count map lacks-group lacks-passwd", 3, "", "unify: file lacks-group/group: No such file or directory\n"),
-    ("count map a=a a=lacks-mtree", 3, "", "unify: file lacks-mtree/mtree: No such file or directory\n"),
-    ("count map lacks-mtree lacks-passwd", 3, "", "unify: file lacks-mtree/mtree: No such file or directory\n"),
+    ("count map a=a a=lacks-mtree", 1, "", "unify: 19 HostTwice a\n"),
+    ("count map lacks-mtree lacks-passwd", 3, "", "unify: file lacks-passwd/passwd: No such file or directory\n"),
     ("check none --pins later x", 3, "", "unify: file none: No such file or directory\n"),
     ("check --pins later none x", 3, "", "unify: file none: No such file or directory\n"),
     ("check bad x --pins none", 3, "", "unify: file none: No such file or directory\n"),

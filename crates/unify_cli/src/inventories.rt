@@ -139,10 +139,10 @@ pub struct HostFiles<'w> {
 }
 
 impl<'w> HostFiles<'w> {
-    /// Nothing is read as yet. It does not warn.
-    pub fn new(rt: &'w HostRuntime, words: &'w [&'w str]) -> HostFiles<'w> {
+    /// Nothing is read as yet. Unless it is to be quiet it warns of hosts without files.
+    pub fn new(rt: &'w HostRuntime, words: &'w [&'w str], is_quiet: bool) -> HostFiles<'w> {
         HostFiles {
-            inventories: Inventories::new(rt, words, true),
+            inventories: Inventories::new(rt, words, is_quiet),
             calls: Calls::new(),
         }
     }

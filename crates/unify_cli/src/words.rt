@@ -11,9 +11,9 @@ use std::alloc::AllocError;
 use unify::{Cost, Reply, accepted_reply, cost_reply, refused, rehearse_reply};
 use unify_apply::run_apply;
 use unify_io::{
-    FileFault, SeenHosts, command_line, file_fault_told, memory_refused, no_host, open_output,
-    print_answer, read_file, read_hosts_tables, read_named, see_hosts, tell_of_keep, warn_of_end,
-    warn_of_hosts_tables, warn_of_merge, warn_of_seen, write_failed, wrong_words,
+    FileFault, command_line, file_fault_told, memory_refused, no_host, open_output, print_answer,
+    read_file, read_hosts_tables, read_named, tell_of_keep, warn_of_end, warn_of_hosts_tables,
+    warn_of_merge, write_failed, wrong_words,
 };
 use unify_merge::{MergeFault, check_files, count_files, merge_files};
 use unify_texts::Fault;
@@ -59,21 +59,21 @@ fn warn_of_ends(
     warn_of_end(rt, matches.get_str("keep").unwrap_or(""), keep)
 }
 
-// Looks at the hosts that words name, and warns of them, of a text and of the keep text, unless it
-// is to be quiet.
-fn see_named(
+// The hosts that words name, but their inventories. Warns of them, of a text and of the keep text,
+// unless it is to be quiet.
+fn hosts_named(
     rt: &HostRuntime,
     matches: &ArgMatches<'_>,
     path: &str,
     text: &ByteString,
     keep: &ByteString,
-) -> Result<SeenHosts, FileFault> {
-    let seen = see_hosts(rt, matches.get_strs("HOST").unwrap_or(&[]))?;
+) -> Result<Vec<HostText>, FileFault> {
+    let hosts = read_hosts_tables(rt, matches.get_strs("HOST").unwrap_or(&[]))?;
     if !matches.get_flag("quiet") {
         warn_of_ends(rt, matches, path, text, keep)?;
-        warn_of_seen(rt, &seen)?;
+        warn_of_hosts_tables(rt, &hosts)?;
     }
-    Ok(seen)
+    Ok(hosts)
 }
 
 // Why the inventories of hosts were not all read, or what was read is refused: it is printed,
@@ -114,11 +114,11 @@ fn count_texts(
     keep: &ByteString,
 ) -> Result<u8, FileFault> {
     let path = matches.get_str("MAP").unwrap_or("");
-    let seen = see_named(rt, matches, path, map, keep)?;
+    let hosts = hosts_named(rt, matches, path, map, keep)?;
     let words = matches.get_strs("HOST").unwrap_or(&[]);
-    let mut files = HostFiles::new(rt, words);
     let is_quiet = matches.get_flag("quiet");
-    count_by(rt, &mut files, &seen.hosts, keep, map, is_quiet)
+    let mut files = HostFiles::new(rt, words, is_quiet);
+    count_by(rt, &mut files, &hosts, keep, map, is_quiet)
 }
 
 // count [--quiet] [--keep FILE] MAP HOST...
@@ -161,19 +161,11 @@ fn check_texts(
     keep: &ByteString,
 ) -> Result<u8, FileFault> {
     let path = matches.get_str("pins").unwrap_or("");
-    let seen = see_named(rt, matches, path, pins, keep)?;
+    let hosts = hosts_named(rt, matches, path, pins, keep)?;
     let words = matches.get_strs("HOST").unwrap_or(&[]);
-    let mut files = HostFiles::new(rt, words);
     let is_quiet = matches.get_flag("quiet");
-    check_by(
-        rt,
-        &mut files,
-        &seen.hosts,
-        certificate,
-        pins,
-        keep,
-        is_quiet,
-    )
+    let mut files = HostFiles::new(rt, words, is_quiet);
+    check_by(rt, &mut files, &hosts, certificate, pins, keep, is_quiet)
 }
 
 // check [--quiet] [--pins FILE] [--keep FILE] CERTIFICATE HOST...

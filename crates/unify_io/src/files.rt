@@ -2,7 +2,6 @@
 
 ghost use Rattle.std.specs.Prelude.{◌≡◌, length, IfOk};
 
-use crate::inventory::look_through;
 use crate::report::file_failed;
 use clap::ArgMatches;
 use hosts_join::HostText;
@@ -13,8 +12,8 @@ use std::io::Read;
 use std::path::Path;
 use std::{fs, io};
 
-/// The most bytes that an input file may have.
-pub const MOST_BYTES: u64 = 4294967295;
+// The most bytes that an input file may have.
+const MOST_BYTES: u64 = 4294967295;
 
 /// Why a command with words has no answer. It owns nothing, so that a function that can fail lets
 /// nothing go with it.
@@ -160,24 +159,4 @@ pub fn read_hosts_tables(rt: &HostRuntime, words: &[&str]) -> Result<Vec<HostTex
         hosts.push(read_tables(rt, *word)?)?;
     }
     Ok(hosts)
-}
-
-/// Hosts with the texts of all their files but their inventories, and of each whether its
-/// inventory has a file in it.
-#[derive(Drop)]
-pub struct SeenHosts {
-    pub hosts: Vec<HostText>,
-    pub have_files: Vec<bool>,
-}
-
-/// The texts of the hosts that words name, in order, but their inventories: each of these is only
-/// read through behind the other files of its host, and none is kept.
-pub fn see_hosts(rt: &HostRuntime, words: &[&str]) -> Result<SeenHosts, FileFault> {
-    let mut hosts = Vec::new(rt.alloc());
-    let mut have_files = Vec::new(rt.alloc());
-    for word in words {
-        hosts.push(read_tables(rt, *word)?)?;
-        have_files.push(look_through(rt, *word)?)?;
-    }
-    Ok(SeenHosts { hosts, have_files })
 }

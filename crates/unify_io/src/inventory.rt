@@ -1,6 +1,6 @@
 //! Inventories that are read in pieces.
 
-use crate::files::{FileFault, MOST_BYTES, host_directory, too_large};
+use crate::files::{FileFault, host_directory, too_large};
 use crate::report::file_failed;
 use crate::warnings::is_of_file;
 use idtext::first_word;
@@ -112,24 +112,4 @@ impl InventoryFile {
     pub fn too_large(&self, rt: &HostRuntime) -> FileFault {
         file_failed(rt, self.path.as_str(), &too_large())
     }
-}
-
-/// Reads the inventory of the host that a word names from its start to its end, and hands out
-/// whether it has a file in it. It is refused where it cannot be read or has too many bytes.
-pub fn look_through(rt: &HostRuntime, word: &str) -> Result<bool, FileFault> {
-    let mut inventory = InventoryFile::open(rt, word)?;
-    let mut bytes = Vec::new(rt.alloc());
-    let mut left = MOST_BYTES;
-    for _ in 0..u64::MAX {
-        inventory.next_piece(rt, &mut bytes)?;
-        let count = bytes.len() as u64;
-        if count > left {
-            return Err(inventory.too_large(rt));
-        }
-        if count == 0 {
-            break;
-        }
-        left -= count;
-    }
-    Ok(inventory.file_lines() > 0)
 }

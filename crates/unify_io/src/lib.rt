@@ -14,9 +14,7 @@ mod warnings;
 mod writing;
 
 pub use commands::command_line;
-pub use files::{
-    FileFault, SeenHosts, host_name, read_file, read_hosts_tables, read_named, see_hosts,
-};
+pub use files::{FileFault, host_name, read_file, read_hosts_tables, read_named};
 pub use inventory::InventoryFile;
 pub use merge_warnings::warn_of_merge;
 pub use output::open_output;
@@ -24,7 +22,5 @@ pub use report::{
     Said, bundle_memory_refused, file_failed, file_fault_told, memory_refused, no_host,
     print_answer, tell_of, tell_of_keep, write_failed, wrong_words,
 };
-pub use warnings::{
-    MOST_LINES, Part, warn, warn_of_end, warn_of_hosts_tables, warn_of_no_files, warn_of_seen,
-};
+pub use warnings::{MOST_LINES, Part, warn, warn_of_end, warn_of_hosts_tables, warn_of_no_files};
 pub use writing::{NewFile, begin_output, finish_output};

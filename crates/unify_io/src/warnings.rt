@@ -1,6 +1,5 @@
 //! Warnings: of what is accepted and is seldom meant so. Each is a line on standard error.
 
-use crate::files::SeenHosts;
 use hosts_join::HostText;
 use idtext::{ByteString, Lines, ReadError, first_word, is_skipped, push_escaped, push_number};
 use std::alloc::AllocError;
@@ -148,26 +147,6 @@ pub fn warn_of_hosts_tables(rt: &HostRuntime, hosts: &[HostText]) -> Result<(), 
         warn_of_tables(rt, host)?;
     }
     Ok(())
-}
-
-// Warns of hosts without files.
-fn warn_of_each_empty(
-    rt: &HostRuntime,
-    hosts: &[HostText],
-    have_files: &[bool],
-) -> Result<(), AllocError> {
-    for (host, has_files) in hosts.iter().zip(have_files) {
-        if !*has_files {
-            warn_of_no_files(rt, host.name.bytes())?;
-        }
-    }
-    Ok(())
-}
-
-/// Warns of what the account files of hosts have, and of those without files.
-pub fn warn_of_seen(rt: &HostRuntime, seen: &SeenHosts) -> Result<(), AllocError> {
-    warn_of_hosts_tables(rt, &seen.hosts)?;
-    warn_of_each_empty(rt, &seen.hosts, &seen.have_files)
 }
 
 /// Warns of a map, a pins text or a keep text that may have been cut.
