@@ -36,7 +36,8 @@ TEXTS = {
     "keep-all": "user alice\nuser bob\ngroup users\n",
 }
 NOTHING_COUNTED = "user-fields 0\ngroup-fields 0\n"
-BARE = "".join(f"unify: warning: host b has no {what}\n" for what in ("users", "groups", "files"))
+NO_ACCOUNTS = "".join(f"unify: warning: host b has no {what}\n" for what in ("users", "groups"))
+BARE = NO_ACCOUNTS + "unify: warning: host b has no files\n"
 RETURNS = "".join(f"unify: warning: host a has lines in {file} that end in a carriage return\n" for file in ("passwd", "group"))
 CUT = "unify: warning: file cut-pins has no newline at its end\n"
 CUT_KEEP = CUT.replace("pins", "keep")
@@ -317,7 +318,9 @@ TABLE = [
     ("count cut-map a b", 0, COUNTED, "unify: warning: file cut-map has no newline at its end\n"),
     ("count --keep cut-keep map a b", 0, COUNTED, CUT_KEEP),
     ("count -q --keep cut-keep map a b", 0, COUNTED, ""),
-    ("count map a b=bare", 1, "", BARE + "unify: 40 BadMap line 0\n"),
+    ("count map a b=bare", 1, "", NO_ACCOUNTS + "unify: 40 BadMap line 0\n"),
+    ("count bare/mtree b=bare", 0, NOTHING_COUNTED, BARE),
+    ("count -q bare/mtree b=bare", 0, NOTHING_COUNTED, ""),
     ("count --quiet map a b=bare", 1, "", "unify: 40 BadMap line 0\n"),
     ("merge out a=returns b", 0, COUNTED, RETURNS + TAKEN),
     ("merge out a b=bare", 0, NOTHING_COUNTED, BARE),
