@@ -11,7 +11,8 @@ IsNew cuts cut = (i : ℕ) → slice_get cuts i ≡ Some cut → ⊥
 
 -- a cut stands at one place of it
 abbrev pub AreDistinct : List Cut → Type 0
-AreDistinct cuts = (i j : ℕ) (cut : Cut) → slice_get cuts i ≡ Some cut → slice_get cuts j ≡ Some cut → i ≡ j
+AreDistinct cuts =
+    (i j : ℕ) (cut : Cut) → slice_get cuts i ≡ Some cut → slice_get cuts j ≡ Some cut → i ≡ j
 
 -- where the cut stands in it, if anywhere
 abbrev pub IsPlaceOf : List Cut → Cut → Option ℕ → Type 0

@@ -1,5 +1,6 @@
 -- Words of private contracts: where a cut of a list is looked for, so that its number is found.
-use Rattle.std.specs.Prelude.{◌≡◌, ◌≢◌, ◌<◌, ◌⊎◌, ℕ, suc, ◌+◌, ◌-◌, ◌/◌, ◌%◌, List, length, Option, Some}
+use Rattle.std.specs.Prelude.{◌≡◌, ◌≢◌, ◌<◌, ◌⊎◌, ℕ, suc, ◌+◌, ◌-◌, ◌/◌, ◌%◌, List, length}
+use Rattle.std.specs.Prelude.{Option, Some}
 use Rattle.std.specs.Prelude.{slice_get, slice_index_or, Vec}
 use Rattle.std.specs.List.{fold}
 use Rattle.std.specs.Map.{lookup}
@@ -46,7 +47,8 @@ Others = List ((ℕ × Vec ℕ Global) × ℕ)
 -- what it says of a cut
 abbrev pub other_at : Others → Cut → Option ℕ
 other_at others cut =
-    lookup (λ c. is_eq (ordering_then (nat_cmp cut.0 c.0) (slice_cmp nat_cmp cut.1 c.1.items))) others
+    lookup (λ c. is_eq (ordering_then (nat_cmp cut.0 c.0) (slice_cmp nat_cmp cut.1 c.1.items)))
+    others
 
 -- ---- both
 

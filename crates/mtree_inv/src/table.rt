@@ -1,5 +1,6 @@
 //! The files so far by path, each path once.
-ghost use Rattle.std.specs.Prelude.{◌≡◌, [], ◌++◌, ◌∷◌, length, option_map, None, IfOk, OnOk, OnErr};
+ghost use Rattle.std.specs.Prelude.{◌≡◌, [], ◌++◌, ◌∷◌, length, option_map, None};
+ghost use Rattle.std.specs.Prelude.{IfOk, OnOk, OnErr};
 ghost use Rattle.mtree_inv.specs.Fronts.{IsCut, IsCutOf, path_of_cut};
 ghost use Rattle.mtree_inv.specs.Inventory.{file_at};
 ghost use Rattle.mtree_inv.specs.Table.{file, listed};
@@ -31,7 +32,10 @@ impl Model for Table {
 
     ghost Value = { TableValue };
 
-    ghost view = { λ t. record { fronts = t.fronts; files = files_in t.fronts t.paths t.owners.items } };
+    ghost view = { λ t. record {
+      fronts = t.fronts;
+      files = files_in t.fronts t.paths t.owners.items;
+    } };
 
     ghost invariant = { λ t. IsTable t.fronts t.paths t.owners.items };
 }
