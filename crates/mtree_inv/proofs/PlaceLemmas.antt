@@ -15,7 +15,7 @@ use Rattle.std.specs.declared.cmp.Ordering.{Ordering}
 use Rattle.std.specs.declared.cmp.Ordering.TheVariants.{Less, Equal, Greater}
 use Rattle.mtree_inv.specs.declared.places.Place.{Place}
 use Rattle.mtree_inv.specs.Cuts.{Cut, IsNew, IsPlaceOf, AreDistinct}
-use Rattle.mtree_inv.specs.Places.{most_probes, mark_of, half, place_at, start_of, AreTaken, TellsOf, Others, other_at, IsFoundAt, AreFound, IsToldNowhere}
+use Rattle.mtree_inv.specs.Places.{most_probes, hash_of, half, place_at, start_of, AreTaken, TellsOf, Others, other_at, IsFoundAt, AreFound, IsToldNowhere}
 
 -- ---- keys of the tree
 
@@ -108,8 +108,8 @@ module _ (key : Key) (new : ℕ) where
 -- ---- a cut is found still, where a free place was taken
 
 module _ (places new_places : List Place) (others : Others) (at : ℕ) (len : length new_places ≡ length places)
-    (same : (n : ℕ) → n ≢ at → place_at new_places n ≡ place_at places n) (free : (place_at places at).number ≡ 0) (mark index : ℕ)
-    (now : place_at new_places at ≡ record { mark = mark; number = suc index }) where
+    (same : (n : ℕ) → n ≢ at → place_at new_places n ≡ place_at places n) (free : (place_at places at).number ≡ 0) (hash index : ℕ)
+    (now : place_at new_places at ≡ record { hash = hash; number = suc index }) where
   taken_still : (n : ℕ) → (place_at places n).number ≢ 0 → (place_at new_places n).number ≢ 0
   taken_still n taken = by (cases_eq n at)
     where
@@ -138,12 +138,12 @@ module _ (places new_places : List Place) (others : Others) (at : ℕ) (len : le
 
   -- and the cut that took it is found there
   pub found_there : (cut : Cut) (k : ℕ) → most_probes < length places → k < most_probes → at ≡ start_of (length places) cut + k → AreTaken places (start_of (length places) cut) k
-      → mark ≡ half (mark_of cut) → IsFoundAt new_places others cut index
-  found_there cut k roomy few is taken marks = subst (λ (n : ℕ). (most_probes < n) → AreTaken new_places (start_of n cut) k → TellsOf (place_at new_places (start_of n cut + k)) cut index
+      → hash ≡ half (hash_of cut) → IsFoundAt new_places others cut index
+  found_there cut k roomy few is taken hashes = subst (λ (n : ℕ). (most_probes < n) → AreTaken new_places (start_of n cut) k → TellsOf (place_at new_places (start_of n cut + k)) cut index
       → IsFoundAt new_places others cut index) len
       (λ roomy taken tells. record { roomy = roomy; probes = k; taken = taken; there = inl (few, tells) })
       roomy (λ j less. taken_still (start_of (length places) cut + j) (taken j less))
-      (ap (place_at new_places) (sym is) ∙ now ∙ ap (λ (m : ℕ). (let p : Place = record { mark = m; number = suc index } in p)) marks)
+      (ap (place_at new_places) (sym is) ∙ now ∙ ap (λ (m : ℕ). (let p : Place = record { hash = m; number = suc index } in p)) hashes)
 
 -- ---- a cut is found still, where another went into the tree
 

@@ -17,19 +17,19 @@ abbrev pub most_probes : ℕ
 most_probes = 16
 
 -- the hash of a cut
-unfoldable pub mark_of : Cut → ℕ
-mark_of cut = finish (write (fold write initial (fed.u32 cut.0)) cut.1)
+unfoldable pub hash_of : Cut → ℕ
+hash_of cut = finish (write (fold write initial (fed.u32 cut.0)) cut.1)
 
 -- what a place keeps of it
 abbrev pub half : ℕ → ℕ
-half mark = mark / 4294967296
+half hash = hash / 4294967296
 
 abbrev pub place_at : List Place → ℕ → Place
-place_at places at = slice_index_or places at (record { mark = 0; number = 0 })
+place_at places at = slice_index_or places at (record { hash = 0; number = 0 })
 
 -- the first place where a cut is looked for, of so many
 abbrev pub start_of : ℕ → Cut → ℕ
-start_of len cut = mark_of cut % (len - most_probes)
+start_of len cut = hash_of cut % (len - most_probes)
 
 -- the first places from a start on, so many, are not free
 abbrev pub AreTaken : List Place → ℕ → ℕ → Type 0
@@ -37,7 +37,7 @@ AreTaken places start count = (k : ℕ) → k < count → (place_at places (star
 
 -- a place tells that the cut is the one at this index of the list
 abbrev pub TellsOf : Place → Cut → ℕ → Type 0
-TellsOf place cut i = place ≡ record { mark = half (mark_of cut); number = suc i }
+TellsOf place cut i = place ≡ record { hash = half (hash_of cut); number = suc i }
 
 -- ---- a search tree, for the cuts that found no place free
 

@@ -1,8 +1,8 @@
 //! Where a cut is looked for among many, so that its number is found.
-ghost use Rattle.std.specs.Prelude.{◌≡◌, ◌<◌, ◌≤◌, ℕ, suc, ◌+◌, length, true, Some, slice_get};
+ghost use Rattle.std.specs.Prelude.{◌≡◌, ◌<◌, ℕ, suc, ◌+◌, ◌-◌, ◌%◌, length, true, Some, slice_get};
 ghost use Rattle.std.specs.Prelude.{IfOk, IfSome, MatchOption, OnOk};
 ghost use Rattle.mtree_inv.specs.Cuts.{Cut, AreDistinct};
-ghost use Rattle.mtree_inv.specs.Places.{mark_of as mark_of_cut, half, place_at, start_of as start};
+ghost use Rattle.mtree_inv.specs.Places.{hash_of as hash_of_cut, half, place_at};
 ghost use Rattle.mtree_inv.specs.Places.{most_probes, AreTaken, other_at, IsFoundAt, AreFound};
 ghost use Rattle.mtree_inv.specs.Places.{KeepFound, KeepOthers};
 ghost use Rattle.mtree_inv.specs.Probed.{IsAnswer};
@@ -15,25 +15,25 @@ use std::hash::{FoldHasher, Hasher};
 // How many places are looked at for a cut.
 pub(crate) const MOST_PROBES: usize = 16;
 
-// Two to the half of the bits of a mark.
+// Two to the half of the bits of a hash.
 const HALF: u64 = 4294967296;
 
-/// A place: half of the mark of a cut, and the cut's index counted from 1, or 0 where it is free.
+/// A place: half of the hash of a cut, and the cut's index counted from 1, or 0 where it is free.
 #[derive(Clone, Copy, Drop)]
 pub(crate) struct Place {
-    mark: u32,
+    hash: u32,
     number: u32,
 }
 
-const FREE: Place = Place { mark: 0, number: 0 };
+const FREE: Place = Place { hash: 0, number: 0 };
 
 /// The index of each cut that found no place free.
 pub(crate) type Others = BTreeMap<(u32, Vec<u8>), usize>;
 
 // A number that tells most cuts from others. Whoever names files may make it the same for many.
-#[tactic(auto, unfolding(crate::specs::Places::mark_of))]
-fn mark_of(front: u32, tail: &[u8]) -> u64
-    ensures { result ≡ mark_of_cut (front, tail.now) }
+#[tactic(auto, unfolding(crate::specs::Places::hash_of))]
+fn hash_of(front: u32, tail: &[u8]) -> u64
+    ensures { result ≡ hash_of_cut (front, tail.now) }
 {
     let mut hasher = FoldHasher::default();
     hasher.write_u32(front);
@@ -41,20 +41,20 @@ fn mark_of(front: u32, tail: &[u8]) -> u64
     hasher.finish()
 }
 
-// The half of a mark that a place keeps.
-fn half_of(mark: u64) -> u32
-    ensures { result ≡ half mark }
+// The half of a hash that a place keeps.
+fn half_of(hash: u64) -> u32
+    ensures { result ≡ half hash }
 {
-    (mark / HALF) as u32
+    (hash / HALF) as u32
 }
 
-// The first place where a cut is looked for.
-fn start_of(len: usize, front: u32, tail: &[u8]) -> usize
+// The first place, of so many, where a cut with this hash is looked for.
+fn start_of(len: usize, hash: u64) -> usize
     requires { most_probes < len }
-    ensures start { result ≡ start len (front, tail.now) }
+    ensures start { result ≡ hash % (len - most_probes) }
     ensures within { result + most_probes < len }
 {
-    (mark_of(front, tail) % (len - MOST_PROBES) as u64) as usize
+    (hash % (len - MOST_PROBES) as u64) as usize
 }
 
 // Whether the cut at an index is this one.
@@ -84,14 +84,15 @@ pub(crate) fn look_at_places(rows: &Rows, places: &[Place], front: u32, tail: &[
     requires { most_probes < length places.now }
     ensures { IsAnswer rows.now places.now (front, tail.now) result }
 {
-    let start = start_of(places.len(), front, tail);
-    let half = half_of(mark_of(front, tail));
+    let hash = hash_of(front, tail);
+    let start = start_of(places.len(), hash);
+    let half = half_of(hash);
     for probe in 0..MOST_PROBES {
         let place = places[start + probe];
         let Some(index) = place.number.checked_sub(1) else {
             return Probed::Nowhere;
         };
-        if place.mark == half && is_at(rows, index as usize, front, tail) {
+        if place.hash == half && is_at(rows, index as usize, front, tail) {
             return Probed::At(index as usize);
         }
     }
@@ -164,13 +165,14 @@ pub(crate) fn settle(
     let Some(number) = number_at(index) else {
         return Err(AllocError);
     };
-    let start = start_of(places.len(), front, tail);
+    let hash = hash_of(front, tail);
+    let start = start_of(places.len(), hash);
     let Some(at) = free_place(places, start) else {
         others.insert((front, Vec::from_slice(alloc, tail)?), index)?;
         return Ok(());
     };
     places[at] = Place {
-        mark: half_of(mark_of(front, tail)),
+        hash: half_of(hash),
         number,
     };
     Ok(())

@@ -1,4 +1,4 @@
-use Rattle.std.proofs.Common.{◌≡◌, ◌<◌, ℕ, List, length, refl, ap, subst, ◌∙◌, inr, arith, length-set, get_or-set_same, get_or-set_other}
+use Rattle.std.proofs.Common.{◌%◌, ◌-◌, ◌≡◌, ◌<◌, ℕ, List, length, refl, ap, subst, ◌∙◌, inr, arith, length-set, get_or-set_same, get_or-set_other}
 use Rattle.std.specs.Prelude.{Some, slice_set}
 use Rattle.mtree_inv.specs.declared.places.Place.{Place}
 use Rattle.mtree_inv.specs.Cuts.{Cut}
@@ -19,7 +19,7 @@ returns-in_default-free_place-clause-settled c =
     record {
       roomy = c.requires;
       probes = most_probes;
-      taken = subst (λ (n : ℕ). AreTaken c.args.places.now n most_probes) c.start_of-start.ensures.start c.in_default-free_place.ensures;
+      taken = subst (λ (n : ℕ). AreTaken c.args.places.now n most_probes) (c.start_of-start.ensures.start ∙ ap (λ (h : ℕ). h % (length c.args.places.now - most_probes)) c.hash_of-hash.ensures) c.in_default-free_place.ensures;
       there = inr (refl, subst (λ (xs : List ℕ). other_at c.insert.new.self.entries (c.args.front, xs) ≡ Some c.args.index) c.in_ok-from_slice.ensures.items told);
     }
 
@@ -35,9 +35,9 @@ returns-clause-found c = λ i cut found one.
     let at = c.in-Some-free_place.at in
     let h = c.in-Some-free_place.ensures in
     let places = c.args.places.now in
-    let place : Place = record { mark = c.half_of.result; number = c.in-Some.number } in
-    let free : Place = record { mark = 0; number = 0 } in
+    let place : Place = record { hash = c.half_of.result; number = c.in-Some.number } in
+    let free : Place = record { hash = 0; number = 0 } in
     let within : at < length places = omega (arith, h.1, h.2, c.start_of-start.ensures.within) in
     found_still places (slice_set places at place) c.args.others.now.entries at (length-set places at place)
     (λ n apart. get_or-set_other places at n place free apart) h.4 c.half_of.result c.args.index
-    (get_or-set_same places at place free within ∙ ap (λ (m : ℕ). (let p : Place = record { mark = c.half_of.result; number = m } in p)) c.in-Some.ensures) cut i found
+    (get_or-set_same places at place free within ∙ ap (λ (m : ℕ). (let p : Place = record { hash = c.half_of.result; number = m } in p)) c.in-Some.ensures) cut i found
