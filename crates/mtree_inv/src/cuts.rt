@@ -84,8 +84,8 @@ pub(crate) fn no_cuts(alloc: Global) -> Cuts
 }
 
 impl Cuts {
-    ghost use Rattle.std.specs.Prelude.{◌≡◌, ◌≤◌, ◌++◌, ◌∷◌, [], length, slice_get, Some};
-    ghost use Rattle.std.specs.Prelude.{MatchOption, IfOk, is_ok, if◌then◌else◌};
+    ghost use Rattle.std.specs.Prelude.{◌≡◌, ◌++◌, ◌∷◌, [], length, IfOk, is_ok};
+    ghost use Rattle.std.specs.Prelude.{if◌then◌else◌};
     ghost use Rattle.mtree_inv.specs.Cuts.{IsNew, IsPlaceOf};
 
     /// How many cuts there are.
@@ -93,14 +93,6 @@ impl Cuts {
         ensures { result ≡ length self.now }
     {
         self.rows.len()
-    }
-
-    /// The cut at this index.
-    pub(crate) fn get(&self, index: usize) -> Option<(u32, &[u8])>
-        ensures { MatchOption result (length self.now ≤ index)
-            (λ cut. slice_get self.now index ≡ Some (cut.0, cut.1.now)) }
-    {
-        self.rows.get(index)
     }
 
     /// The index of a cut, or None where it is new.
