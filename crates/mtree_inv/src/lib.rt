@@ -35,17 +35,21 @@
 #![tactic(auto)]
 
 mod begun;
+mod cuts;
 mod defaults;
 mod entry;
 mod fault;
 mod files;
 mod fronts;
+mod held_cuts;
 mod inventory;
 mod laws;
 mod open_line;
 mod parts;
 mod place;
+mod places;
 mod reader;
+mod table;
 mod walk;
 
 pub use entry::Entry;

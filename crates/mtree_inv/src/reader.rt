@@ -12,8 +12,8 @@ use std::marker::Model;
 /// It keeps the files, the line in progress, of which it keeps 65,535 bytes at most, the current
 /// directory's path and a number for each open directory, a count of files where the text is to
 /// tell one, and not the text. Of the paths it keeps what many begin with once, and at most 256
-/// bytes more of each, so its memory is in step with the text that came, whoever named the files.
-/// Only a file that waits to be taken has its whole path.
+/// bytes more of each, with some 50 for its owner and its place, so its memory is in step with the
+/// text that came, whoever named the files. Only a file that waits to be taken has its whole path.
 #[derive(Drop)]
 pub struct Reader {
     parts: Parts,
@@ -70,8 +70,9 @@ impl Reader {
     /// always that one and nothing changes; files read before it can still be taken.
     ///
     /// One pass over the piece and over the whole path of each entry. For each 256 bytes of a path
-    /// there are one or two look-ups in a search tree, each with a few comparisons of at most as
-    /// many bytes, whatever the paths are: about one for each binary digit of the number of files.
+    /// there is one look-up by hash, which looks at 16 places at most. Only where these are taken,
+    /// as where somebody chose the paths so, it goes on in a search tree, with a few comparisons of
+    /// at most as many bytes: about one for each binary digit of the number of files.
     pub fn feed(&mut self, piece: &[u8]) -> Result<(), ReadError>
         requires { self.old.is_finished ≡ false }
         ensures stands { (text : List ℕ) → StandsFor self.old text

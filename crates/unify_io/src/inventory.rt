@@ -3,7 +3,6 @@
 use crate::files::{FileFault, host_directory, too_large};
 use crate::report::file_failed;
 use crate::warnings::is_of_file;
-use idtext::first_word;
 use std::fs::File;
 use std::io::{self, BufRead, BufReader, Read};
 use std::path::{Path, PathBuf};
@@ -35,11 +34,11 @@ impl FileLines {
     // goes on in the next.
     fn take(&mut self, part: &[u8]) {
         let line = part.strip_suffix(b"\n").unwrap_or(part);
-        if !self.is_decided && first_word(line).is_some() {
+        if !self.is_decided
+            && let Some(is_of_file) = is_of_file(line)
+        {
             self.is_decided = true;
-            if is_of_file(line) {
-                self.count = self.count.saturating_add(1);
-            }
+            self.count = self.count.saturating_add(u64::from(is_of_file));
         }
         if line.len() < part.len() && !line.ends_with(b"\\") {
             self.is_decided = false;

@@ -1,7 +1,7 @@
 //! Warnings: of what is accepted and is seldom meant so. Each is a line on standard error.
 
 use hosts_join::HostText;
-use idtext::{ByteString, Lines, ReadError, first_word, is_skipped, push_escaped, push_number};
+use idtext::{ByteString, Lines, ReadError, is_skipped, push_escaped, push_number};
 use std::alloc::AllocError;
 use std::io::Write;
 
@@ -104,13 +104,20 @@ fn is_all_skipped(text: &[u8]) -> bool {
     Lines::new(text).all(|line| is_skipped(line))
 }
 
-/// Whether a line of an inventory is of a file.
-pub fn is_of_file(line: &[u8]) -> bool {
-    match first_word(line) {
-        Some((word, _)) => !word.starts_with(b"#")
-            && !word.starts_with(b"/")
-            && word != b"..".as_slice(),
-        None => false,
+// Whether a byte stands between words.
+fn is_white(byte: u8) -> bool {
+    byte == b' ' || byte == b'\t'
+}
+
+/// Whether a line of an inventory is of a file; None where it has no word. No more of it is looked
+/// at than the start of its first word.
+pub fn is_of_file(line: &[u8]) -> Option<bool> {
+    let start = line.iter().position(|byte| !is_white(*byte))?;
+    match line.get(start..)? {
+        [b'#' | b'/', ..] => Some(false),
+        [b'.', b'.'] => Some(false),
+        [b'.', b'.', byte, ..] => Some(!is_white(*byte)),
+        _ => Some(true),
     }
 }
 

@@ -1,0 +1,43 @@
+use Rattle.std.proofs.Common.{◌%◌, ◌-◌, ◌≡◌, ◌<◌, ℕ, List, length, refl, ap, subst, ◌∙◌, inr, arith, length-set, get_or-set_same, get_or-set_other}
+use Rattle.std.specs.Prelude.{Some, slice_set}
+use Rattle.mtree_inv.specs.declared.places.Place.{Place}
+use Rattle.mtree_inv.specs.Cuts.{Cut}
+use Rattle.mtree_inv.specs.Places.{most_probes, AreTaken, other_at}
+use Rattle.mtree_inv.proofs.PlaceLemmas.{other_at-new, other_at-other, found_still, found_beside}
+use Rattle.mtree_inv.proofs.places.settle.Goals as goal
+
+others : (c : goal.In_ok-insert) (i : ℕ) (cut : Cut) → other_at c.args.others.now.entries cut ≡ Some i → (cut ≡ (c.args.front, c.args.tail.now) → i ≡ c.args.index)
+    → other_at c.insert.new.self.entries cut ≡ Some i
+others c i cut at one =
+    other_at-other (c.args.front, c.in_ok-from_slice.field-0) c.args.index c.args.others.now.entries c.insert.new.self.entries c.in_ok-insert.ensures.entries i cut at
+    (λ e. one (e ∙ ap (λ (xs : List ℕ). (c.args.front, xs)) c.in_ok-from_slice.ensures.items))
+
+pub returns-in_default-free_place-clause-settled : goal.returns-in_default-free_place-clause-settled
+returns-in_default-free_place-clause-settled c =
+    let told : other_at c.insert.new.self.entries (c.args.front, c.in_ok-from_slice.field-0.items) ≡ Some c.args.index =
+    other_at-new (c.args.front, c.in_ok-from_slice.field-0) c.args.index c.args.others.now.entries c.insert.new.self.entries c.in_ok-insert.ensures.entries in
+    record {
+      roomy = c.requires;
+      probes = most_probes;
+      taken = subst (λ (n : ℕ). AreTaken c.args.places.now n most_probes) (c.start_of-start.ensures.start ∙ ap (λ (h : ℕ). h % (length c.args.places.now - most_probes)) c.hash_of-hash.ensures) c.in_default-free_place.ensures;
+      there = inr (refl, subst (λ (xs : List ℕ). other_at c.insert.new.self.entries (c.args.front, xs) ≡ Some c.args.index) c.in_ok-from_slice.ensures.items told);
+    }
+
+pub returns-in_default-free_place-clause-found : goal.returns-in_default-free_place-clause-found
+returns-in_default-free_place-clause-found c = λ i cut found one.
+    found_beside c.args.places.now c.args.others.now.entries c.insert.new.self.entries cut i (λ at. others c i cut at one) found
+
+pub returns-in_default-free_place-clause-others : goal.returns-in_default-free_place-clause-others
+returns-in_default-free_place-clause-others c = others c
+
+pub returns-clause-found : goal.returns-clause-found
+returns-clause-found c = λ i cut found one.
+    let at = c.in-Some-free_place.at in
+    let h = c.in-Some-free_place.ensures in
+    let places = c.args.places.now in
+    let place : Place = record { hash = c.half_of.result; number = c.in-Some.number } in
+    let free : Place = record { hash = 0; number = 0 } in
+    let within : at < length places = omega (arith, h.1, h.2, c.start_of-start.ensures.within) in
+    found_still places (slice_set places at place) c.args.others.now.entries at (length-set places at place)
+    (λ n apart. get_or-set_other places at n place free apart) h.4 c.half_of.result c.args.index
+    (get_or-set_same places at place free within ∙ ap (λ (m : ℕ). (let p : Place = record { hash = c.half_of.result; number = m } in p)) c.in-Some.ensures) cut i found

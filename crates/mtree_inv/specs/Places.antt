@@ -1,0 +1,85 @@
+-- Words of private contracts: where a cut of a list is looked for, so that its number is found.
+use Rattle.std.specs.Prelude.{◌≡◌, ◌≢◌, ◌<◌, ◌⊎◌, ℕ, suc, ◌+◌, ◌-◌, ◌/◌, ◌%◌, List, length}
+use Rattle.std.specs.Prelude.{Option, Some}
+use Rattle.std.specs.Prelude.{slice_get, slice_index_or, Vec}
+use Rattle.std.specs.List.{fold}
+use Rattle.std.specs.Map.{lookup}
+use Rattle.std.specs.Ordering.{nat_cmp, is_eq, ordering_then}
+use Rattle.std.specs.Cmp.Lexicographic.{slice_cmp}
+use Rattle.std.specs.Hash as fed
+use Rattle.std.specs.Hash.FoldHasher.{initial, write, finish}
+use Rattle.std.specs.declared.alloc.Global.{Global}
+use Rattle.mtree_inv.specs.declared.places.Place.{Place}
+use Rattle.mtree_inv.specs.Cuts.{Cut}
+
+-- how many places are looked at for a cut
+abbrev pub most_probes : ℕ
+most_probes = 16
+
+-- the hash of a cut
+unfoldable pub hash_of : Cut → ℕ
+hash_of cut = finish (write (fold write initial (fed.u32 cut.0)) cut.1)
+
+-- what a place keeps of it
+abbrev pub half : ℕ → ℕ
+half hash = hash / 4294967296
+
+abbrev pub place_at : List Place → ℕ → Place
+place_at places at = slice_index_or places at (record { hash = 0; number = 0 })
+
+-- the first place where a cut is looked for, of so many
+abbrev pub start_of : ℕ → Cut → ℕ
+start_of len cut = hash_of cut % (len - most_probes)
+
+-- the first places from a start on, so many, are not free
+abbrev pub AreTaken : List Place → ℕ → ℕ → Type 0
+AreTaken places start count = (k : ℕ) → k < count → (place_at places (start + k)).number ≢ 0
+
+-- a place tells that the cut is the one at this index of the list
+abbrev pub TellsOf : Place → Cut → ℕ → Type 0
+TellsOf place cut i = place ≡ record { hash = half (hash_of cut); number = suc i }
+
+-- ---- a search tree, for the cuts that found no place free
+
+abbrev pub Others : Type 0
+Others = List ((ℕ × Vec ℕ Global) × ℕ)
+
+-- what it says of a cut
+abbrev pub other_at : Others → Cut → Option ℕ
+other_at others cut =
+    lookup (λ c. is_eq (ordering_then (nat_cmp cut.0 c.0) (slice_cmp nat_cmp cut.1 c.1.items)))
+    others
+
+-- ---- both
+
+-- the cut at this index is found behind so many places that are taken: at the next, or in the tree
+pub record IsFoundAt (places : List Place) (others : Others) (cut : Cut) (i : ℕ) : Type 0 where
+  pub roomy : most_probes < length places
+  pub probes : ℕ
+  pub taken : AreTaken places (start_of (length places) cut) probes
+  pub there : ((probes < most_probes)
+      × TellsOf (place_at places (start_of (length places) cut + probes)) cut i)
+      ⊎ ((probes ≡ most_probes) × (other_at others cut ≡ Some i))
+
+-- each cut of the list is found
+abbrev pub AreFound : List Cut → List Place → Others → Type 0
+AreFound cuts places others =
+    (i : ℕ) (cut : Cut) → slice_get cuts i ≡ Some cut → IsFoundAt places others cut i
+
+-- no place among so many tells of the cut
+abbrev pub IsToldNowhere : List Cut → List Place → Cut → ℕ → Type 0
+IsToldNowhere cuts places cut count =
+    (k : ℕ) → k < count → (i : ℕ) → slice_get cuts i ≡ Some cut
+    → TellsOf (place_at places (start_of (length places) cut + k)) cut i → ⊥
+
+-- what the tree says of cuts of the list is what it said
+abbrev pub KeepOthers : List Cut → Others → Others → Type 0
+KeepOthers cuts others new_others =
+    (i : ℕ) (cut : Cut) → slice_get cuts i ≡ Some cut → other_at others cut ≡ Some i
+    → other_at new_others cut ≡ Some i
+
+-- cuts of the list that were found still are
+abbrev pub KeepFound : List Cut → List Place → Others → List Place → Others → Type 0
+KeepFound cuts places others new_places new_others =
+    (i : ℕ) (cut : Cut) → slice_get cuts i ≡ Some cut → IsFoundAt places others cut i
+    → IsFoundAt new_places new_others cut i

@@ -1,0 +1,135 @@
+//! Cuts of paths, each once.
+ghost use Rattle.std.specs.Prelude.{◌≡◌, ◌<◌, [], false, length, OnOk};
+ghost use Rattle.mtree_inv.specs.Cuts.{AreDistinct};
+ghost use Rattle.mtree_inv.specs.Places.{most_probes, AreFound};
+
+use crate::held_cuts::{Rows, no_rows};
+use crate::places::{
+    MOST_PROBES, Others, Place, Probed, all_settled, look_at_places, other, settle,
+};
+use std::alloc::{AllocError, Global};
+use std::collections::BTreeMap;
+use std::marker::Model;
+
+// How many places there are at least.
+const FEWEST_PLACES: usize = 272;
+
+// Whether more than half of the places may be taken.
+fn is_crowded(cuts: usize, places: usize) -> bool
+    ensures { result ≡ false → most_probes < places }
+{
+    places <= MOST_PROBES || places / 2 <= cuts
+}
+
+// How many places so many cuts want: three in four are free at first.
+fn places_for(cuts: usize) -> usize
+    ensures { most_probes < result }
+{
+    cuts.saturating_mul(4).saturating_add(FEWEST_PLACES)
+}
+
+// Sees to it that few enough places are taken for one cut more.
+fn make_room(
+    rows: &Rows,
+    places: &mut Vec<Place>,
+    others: &mut Others,
+    alloc: Global,
+) -> Result<(), AllocError>
+    requires distinct { AreDistinct rows.now }
+    requires found { AreFound rows.now places.old.items others.old.entries }
+    ensures found { AreFound rows.now places.new.items others.new.entries }
+    ensures roomy { OnOk result (most_probes < length places.new.items) }
+{
+    if is_crowded(rows.len(), places.len()) {
+        *places = all_settled(rows, others, alloc, places_for(rows.len()))?;
+    }
+    Ok(())
+}
+
+/// Cuts, each once, in the order in which they came. Each is a number and bytes: of a path, the
+/// number of its front and what stands behind that.
+///
+/// Whoever names files chooses their paths, and may so bring it about that a table of hashes has
+/// many cuts where it looks for each. So only 16 places are looked at, and what finds none of them
+/// free stands in a search tree, where no look-up costs more than a few comparisons.
+#[derive(Drop)]
+pub(crate) struct Cuts {
+    rows: Rows,
+    places: Vec<Place>,
+    others: Others,
+}
+
+impl Model for Cuts {
+    ghost use Rattle.std.specs.Prelude.{List};
+    ghost use Rattle.mtree_inv.specs.Cuts.{Cut, AreDistinct};
+    ghost use Rattle.mtree_inv.specs.Places.{AreFound};
+
+    ghost Value = { List Cut };
+
+    ghost view = { λ c. c.rows };
+
+    ghost invariant = { λ c. AreFound c.rows c.places.items c.others.entries
+        × AreDistinct c.rows };
+}
+
+/// No cut. Takes no memory.
+pub(crate) fn no_cuts(alloc: Global) -> Cuts
+    ensures { result ≡ [] }
+{
+    Cuts {
+        rows: no_rows(alloc),
+        places: Vec::new(alloc),
+        others: BTreeMap::new(alloc),
+    }
+}
+
+impl Cuts {
+    ghost use Rattle.std.specs.Prelude.{◌≡◌, ◌++◌, ◌∷◌, [], length, IfOk, is_ok};
+    ghost use Rattle.std.specs.Prelude.{if◌then◌else◌};
+    ghost use Rattle.mtree_inv.specs.Cuts.{IsNew, IsPlaceOf};
+
+    /// How many cuts there are.
+    pub(crate) fn len(&self) -> usize
+        ensures { result ≡ length self.now }
+    {
+        self.rows.len()
+    }
+
+    /// The index of a cut, or None where it is new.
+    pub(crate) fn find(
+        &self,
+        alloc: Global,
+        front: u32,
+        tail: &[u8],
+    ) -> Result<Option<usize>, AllocError>
+        ensures { IfOk result (IsPlaceOf self.now (front, tail.now)) }
+    {
+        if self.places.len() <= MOST_PROBES {
+            return Ok(None);
+        }
+        match look_at_places(&self.rows, &self.places, front, tail) {
+            Probed::At(index) => Ok(Some(index)),
+            Probed::Nowhere => Ok(None),
+            Probed::Full => other(&self.rows, &self.others, alloc, front, tail),
+        }
+    }
+
+    /// Appends a cut that is new.
+    pub(crate) fn push(&mut self, alloc: Global, front: u32, tail: &[u8]) -> Result<(), AllocError>
+        requires { IsNew self.old (front, tail.now) }
+        ensures { self.new
+            ≡ (if is_ok result then self.old ++ (front, tail.now) ∷ [] else self.old) }
+    {
+        make_room(&self.rows, &mut self.places, &mut self.others, alloc)?;
+        let index = self.rows.len();
+        settle(
+            &mut self.places,
+            &mut self.others,
+            alloc,
+            index,
+            front,
+            tail,
+        )?;
+        self.rows.push(front, tail)
+    }
+}

@@ -1,0 +1,223 @@
+//! Where a cut is looked for among many, so that its number is found.
+ghost use Rattle.std.specs.Prelude.{◌≡◌, ◌<◌, ℕ, suc, ◌+◌, ◌-◌, ◌%◌, length, true, Some, slice_get};
+ghost use Rattle.std.specs.Prelude.{IfOk, IfSome, MatchOption, OnOk};
+ghost use Rattle.mtree_inv.specs.Cuts.{Cut, AreDistinct};
+ghost use Rattle.mtree_inv.specs.Places.{hash_of as hash_of_cut, half, place_at};
+ghost use Rattle.mtree_inv.specs.Places.{most_probes, AreTaken, other_at, IsFoundAt, AreFound};
+ghost use Rattle.mtree_inv.specs.Places.{KeepFound, KeepOthers};
+ghost use Rattle.mtree_inv.specs.Probed.{IsAnswer};
+
+use crate::held_cuts::Rows;
+use std::alloc::{AllocError, Global};
+use std::collections::BTreeMap;
+use std::hash::{FoldHasher, Hasher};
+
+// How many places are looked at for a cut.
+pub(crate) const MOST_PROBES: usize = 16;
+
+// Two to the half of the bits of a hash.
+const HALF: u64 = 4294967296;
+
+/// A place: half of the hash of a cut, and the cut's index counted from 1, or 0 where it is free.
+#[derive(Clone, Copy, Drop)]
+pub(crate) struct Place {
+    hash: u32,
+    number: u32,
+}
+
+const FREE: Place = Place { hash: 0, number: 0 };
+
+/// The index of each cut that found no place free.
+pub(crate) type Others = BTreeMap<(u32, Vec<u8>), usize>;
+
+// A number that tells most cuts from others. Whoever names files may make it the same for many.
+#[tactic(auto, unfolding(crate::specs::Places::hash_of))]
+fn hash_of(front: u32, tail: &[u8]) -> u64
+    ensures { result ≡ hash_of_cut (front, tail.now) }
+{
+    let mut hasher = FoldHasher::default();
+    hasher.write_u32(front);
+    hasher.write(tail);
+    hasher.finish()
+}
+
+// The half of a hash that a place keeps.
+fn half_of(hash: u64) -> u32
+    ensures { result ≡ half hash }
+{
+    (hash / HALF) as u32
+}
+
+// The first place, of so many, where a cut with this hash is looked for.
+fn start_of(len: usize, hash: u64) -> usize
+    requires { most_probes < len }
+    ensures start { result ≡ hash % (len - most_probes) }
+    ensures within { result + most_probes < len }
+{
+    (hash % (len - MOST_PROBES) as u64) as usize
+}
+
+// Whether the cut at an index is this one.
+fn is_at(rows: &Rows, index: usize, front: u32, tail: &[u8]) -> bool
+    ensures yes { result ≡ true → slice_get rows.now index ≡ Some (front, tail.now) }
+    ensures no { slice_get rows.now index ≡ Some (front, tail.now) → result ≡ true }
+{
+    match rows.get(index) {
+        None => false,
+        Some((other_front, other_tail)) => other_front == front && other_tail == tail,
+    }
+}
+
+/// What the places say of a cut.
+#[derive(Clone, Copy, Drop)]
+pub(crate) enum Probed {
+    /// It is the one at this index.
+    At(usize),
+    /// It is nowhere.
+    Nowhere,
+    /// All places where it might stand are taken: the tree has it, if it is anywhere.
+    Full,
+}
+
+// Looks at the places of a cut, up to the first that is free.
+pub(crate) fn look_at_places(rows: &Rows, places: &[Place], front: u32, tail: &[u8]) -> Probed
+    requires { most_probes < length places.now }
+    ensures { IsAnswer rows.now places.now (front, tail.now) result }
+{
+    let hash = hash_of(front, tail);
+    let start = start_of(places.len(), hash);
+    let half = half_of(hash);
+    for probe in 0..MOST_PROBES {
+        let place = places[start + probe];
+        let Some(index) = place.number.checked_sub(1) else {
+            return Probed::Nowhere;
+        };
+        if place.hash == half && is_at(rows, index as usize, front, tail) {
+            return Probed::At(index as usize);
+        }
+    }
+    Probed::Full
+}
+
+// Looks for a cut in the tree.
+pub(crate) fn other(
+    rows: &Rows,
+    others: &Others,
+    alloc: Global,
+    front: u32,
+    tail: &[u8],
+) -> Result<Option<usize>, AllocError>
+    ensures found { IfOk result (λ found. IfSome found
+        (λ i. slice_get rows.now i ≡ Some (front, tail.now))) }
+    ensures none { IfOk result (λ found. MatchOption found
+        ((i : ℕ) → slice_get rows.now i ≡ Some (front, tail.now)
+        → other_at others.now.entries (front, tail.now) ≡ Some i → ⊥) (λ _. Unit {0})) }
+{
+    let key = (front, Vec::from_slice(alloc, tail)?);
+    match others.get(&key).copied() {
+        Some(index) if is_at(rows, index, front, tail) => Ok(Some(index)),
+        _ => Ok(None),
+    }
+}
+
+// How many places are taken from a start on, or where the first free one is.
+fn free_place(places: &[Place], start: usize) -> Option<usize>
+    requires { start + most_probes < length places.now }
+    ensures { MatchOption result (AreTaken places.now start most_probes)
+        (λ at. (k : ℕ) × (k < most_probes) × (at ≡ start + k) × AreTaken places.now start k
+        × ((place_at places.now at).number ≡ 0)) }
+{
+    for probe in 0..MOST_PROBES {
+        if places[start + probe].number == 0 {
+            return Some(start + probe);
+        }
+    }
+    None
+}
+
+/// The index of a cut counted from 1, if it is a number that a place has.
+pub(crate) fn number_at(index: usize) -> Option<u32>
+    ensures { IfSome result (λ number. number ≡ suc index) }
+{
+    u32::try_from(index).ok()?.checked_add(1)
+}
+
+// Keeps where a cut is found.
+pub(crate) fn settle(
+    places: &mut [Place],
+    others: &mut Others,
+    alloc: Global,
+    index: usize,
+    front: u32,
+    tail: &[u8],
+) -> Result<(), AllocError>
+    requires { most_probes < length places.old }
+    ensures settled { OnOk result
+        (IsFoundAt places.new others.new.entries (front, tail.now) index) }
+    ensures found { (i : ℕ) (cut : Cut) → IsFoundAt places.old others.old.entries cut i
+        → (cut ≡ (front, tail.now) → i ≡ index)
+        → IsFoundAt places.new others.new.entries cut i }
+    ensures others { (i : ℕ) (cut : Cut) → other_at others.old.entries cut ≡ Some i
+        → (cut ≡ (front, tail.now) → i ≡ index)
+        → other_at others.new.entries cut ≡ Some i }
+    ensures len { length places.new ≡ length places.old }
+{
+    let Some(number) = number_at(index) else {
+        return Err(AllocError);
+    };
+    let hash = hash_of(front, tail);
+    let start = start_of(places.len(), hash);
+    let Some(at) = free_place(places, start) else {
+        others.insert((front, Vec::from_slice(alloc, tail)?), index)?;
+        return Ok(());
+    };
+    places[at] = Place {
+        hash: half_of(hash),
+        number,
+    };
+    Ok(())
+}
+
+// Keeps where the cut at an index of the list is found.
+fn settle_at(
+    rows: &Rows,
+    places: &mut [Place],
+    others: &mut Others,
+    alloc: Global,
+    index: usize,
+) -> Result<(), AllocError>
+    requires roomy { most_probes < length places.old }
+    requires distinct { AreDistinct rows.now }
+    ensures settled { OnOk result ((cut : Cut) → slice_get rows.now index ≡ Some cut
+        → IsFoundAt places.new others.new.entries cut index) }
+    ensures found { KeepFound rows.now places.old others.old.entries places.new
+        others.new.entries }
+    ensures others { KeepOthers rows.now others.old.entries others.new.entries }
+    ensures len { length places.new ≡ length places.old }
+{
+    match rows.get(index) {
+        None => Ok(()),
+        Some((front, tail)) => settle(places, others, alloc, index, front, tail),
+    }
+}
+
+// So many places, which tell of each cut of the list.
+pub(crate) fn all_settled(
+    rows: &Rows,
+    others: &mut Others,
+    alloc: Global,
+    len: usize,
+) -> Result<Vec<Place>, AllocError>
+    requires roomy { most_probes < len }
+    requires distinct { AreDistinct rows.now }
+    ensures found { IfOk result
+        (λ places. AreFound rows.now places.items others.new.entries) }
+    ensures len { IfOk result (λ places. length places.items ≡ len) }
+    ensures others { KeepOthers rows.now others.old.entries others.new.entries }
+{
+    let mut places = Vec::from_elem(alloc, FREE, len)?;
+    for index in 0..rows.len() {
+        settle_at(rows, &mut places, others, alloc, index)?;
+    }
+    Ok(places)
+}
