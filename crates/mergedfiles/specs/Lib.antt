@@ -10,4 +10,5 @@ pub mod InPart
 pub mod HostReadBack
 pub mod FullTables
 pub mod Spots
+pub mod Alike
 pub mod Seen
