@@ -29,7 +29,8 @@ fn value_in(z: &BTreeMap<u32, u64>, number: u32) -> u64
     z.get(&number).copied().unwrap_or(0)
 }
 
-/// The least y with which a row is covered.
+/// The least y with which a row is covered. The potential of a number is looked up only where the
+/// weight is above all that is covered so far.
 fn least_y(row: &[Candidate], z: &BTreeMap<u32, u64>) -> u64
     requires { All IsWeighed row.now }
     ensures covers { (v : ℕ) → weight_in row.now v
@@ -38,6 +39,9 @@ fn least_y(row: &[Candidate], z: &BTreeMap<u32, u64>) -> u64
 {
     let mut least = 0;
     for candidate in row {
+        if candidate.weight <= least {
+            continue;
+        }
         let high = candidate
             .weight
             .saturating_sub(value_in(z, candidate.number));

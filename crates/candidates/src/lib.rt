@@ -3,7 +3,8 @@
 #![tactic(auto)]
 
 ghost use Rattle.std.specs.Prelude.{◌≡◌, ℕ, ◌<◌, ◌≤◌, ◌↔◌, ◌==◌, ◌&&◌, length, List, IfOk, Some};
-ghost use Rattle.std.specs.List.{list_any};
+ghost use Rattle.std.specs.Prelude.{true, count_by, drop, slice_index};
+ghost use Rattle.std.specs.List.{list_any, prefix_len};
 ghost use Rattle.candidates.specs.Ascending.{AreAscending};
 ghost use Rattle.hosts_join.specs.RangeLists.{lies_in_some};
 ghost use Rattle.hosts_join.specs.Rules.{class_at, in_pool};
@@ -60,6 +61,9 @@ fn pooled(alloc: Global, spots: &[Spot], pool: &Pool) -> Result<Vec<u32>, AllocE
     ensures numbers { IfOk result
         (λ ns. (v : ℕ) → list_any (λ t. t == v) ns.items
         ≡ (lies_in_some pool.now v && list_any (λ s. s.number == v) spots.now)) }
+    ensures counts { IfOk result
+        (λ ns. (v : ℕ) → lies_in_some pool.now v ≡ true
+        → count_by (λ t. t == v) ns.items ≡ count_by (λ s. s.number == v) spots.now) }
 {
     let mut numbers = Vec::new(alloc);
     for spot in spots {
@@ -69,6 +73,20 @@ fn pooled(alloc: Global, spots: &[Spot], pool: &Pool) -> Result<Vec<u32>, AllocE
     }
     numbers.sort_unstable();
     Ok(numbers)
+}
+
+/// How many numbers from a place on are as the one there.
+fn run_at(numbers: &[u32], at: usize) -> u64
+    requires { at < length numbers.now }
+    ensures { result ≡ prefix_len (λ t. t == slice_index numbers.now at) (drop at numbers.now) }
+{
+    let number = numbers[at];
+    for end in at..numbers.len() {
+        if numbers[end] != number {
+            return (end - at) as u64;
+        }
+    }
+    (numbers.len() - at) as u64
 }
 
 /// The candidates of the name at an index.
@@ -87,11 +105,12 @@ fn candidates_of(
     let numbers = pooled(alloc, names.spots(index), names.pool(names.class(index)))?;
     let mut row = SmallVec::new(alloc);
     let mut next: u64 = 0;
-    for number in numbers.as_slice() {
+    for (at, number) in numbers.as_slice().iter().enumerate() {
         if next <= u64::from(*number) {
+            let lines = run_at(numbers.as_slice(), at);
             row.push(Candidate {
                 number: *number,
-                weight: file_weight * counts.kept(index, *number) + names.lines(index, *number),
+                weight: file_weight * counts.kept(index, *number) + lines,
             })?;
             next = u64::from(*number) + 1;
         }
@@ -105,7 +124,7 @@ impl<'n, 'a> Rows<'n, 'a> {
     /// `Counts::users` and `Counts::groups` lend.
     ///
     /// Near linear in the account rows: the numbers of a name, at most 64, are sorted, each is
-    /// sought in the pool by a binary search, and its files and rows by a scan of the name's. A
+    /// sought in the pool by a binary search, and its files by a scan of the name's counters. A
     /// name takes 80 bytes, and with more than four candidates up to 32 more for each; so an
     /// account row takes at most 80 bytes, and 64 hosts of 65,536 rows some 336 MB. `AllocError`
     /// where memory is refused.

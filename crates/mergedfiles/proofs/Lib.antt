@@ -23,3 +23,5 @@ pub mod HostUsers
 pub mod HostGroups
 pub mod HostKept
 pub mod HostExample
+pub mod SameRows
+pub mod SameUsers

@@ -10,4 +10,6 @@ pub mod InPart
 pub mod HostReadBack
 pub mod FullTables
 pub mod Spots
+pub mod Alike
+pub mod Primary
 pub mod Seen

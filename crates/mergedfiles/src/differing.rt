@@ -9,6 +9,7 @@ ghost use Rattle.mergedfiles.specs.Seen.{user_seen, group_seen};
 ghost use Rattle.mergedfiles.specs.Spots as spots;
 ghost use Rattle.mergedfiles.specs.Together.{AreJoined};
 
+use crate::alike::all_seen;
 use crate::rows::{GroupOn, UserOn, groups_at, users_at};
 use crate::{Difference, Field};
 use hosts_join::{Host, Site, Spot, Which};
@@ -26,7 +27,7 @@ fn group_name<'a>(host: &Host<'a>, gid: u32) -> &'a [u8]
 }
 
 /// What a field of a user's row says.
-fn user_field<'a>(field: Field, user: &UserOn<'_, 'a>) -> &'a [u8]
+pub fn user_field<'a>(field: Field, user: &UserOn<'_, 'a>) -> &'a [u8]
     ensures { result.now ≡ spec.user_field field (user_seen user.now) }
 {
     let row = user.row;
@@ -143,7 +144,8 @@ fn push_group_differences<'a>(
     }
 }
 
-/// Adds the differences of all users, names in byte order.
+/// Adds the differences of all users, names in byte order. Those whose rows say the same on each
+/// host have none.
 fn push_all_users<'a>(
     alloc: Global,
     told: &mut Vec<Difference<'a>>,
@@ -156,8 +158,11 @@ fn push_all_users<'a>(
         (told.new.items ≡ told.old.items ++ all_user_differences hosts.now site.now) }
 {
     let users = site.users();
+    let seen = all_seen(alloc, hosts, site)?;
     for index in users.in_byte_order() {
-        push_user_differences(alloc, told, hosts, users.name(*index), users.spots(*index))?;
+        if seen[*index as usize].is_differing() {
+            push_user_differences(alloc, told, hosts, users.name(*index), users.spots(*index))?;
+        }
     }
     Ok(())
 }
@@ -193,9 +198,10 @@ fn push_all_groups<'a>(
 /// a group the password; hosts in order. Asked is that the site was joined from these hosts, each
 /// lawful.
 ///
-/// Time in step with the account rows, with one look-up by hash for each group row and two for each
-/// user row. Memory for the list, and the rows of one name at a time. Names and hosts are slices of
-/// the input.
+/// Time in step with the account rows, with one look-up by hash for each group row, three for each
+/// user row, and two more for each row of a user that is not the same on all hosts. Memory for the
+/// list, 24 bytes a user, and the rows of one name at a time. Names and hosts are slices of the
+/// input.
 ///
 /// # Errors
 ///

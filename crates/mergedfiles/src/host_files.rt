@@ -3,6 +3,7 @@ ghost use Rattle.std.specs.Prelude.{◌≡◌, ◌<◌, ◌∷◌, ◌++◌, len
 ghost use Rattle.idtext.specs.Pieces.{fields_of};
 ghost use Rattle.mergedfiles.specs.HostFiles as spec;
 ghost use Rattle.mergedfiles.specs.HostFiles.{host_groups, host_users, number_field};
+ghost use Rattle.mergedfiles.specs.Primary.{IsPrimary};
 ghost use Rattle.mergedfiles.specs.HostFiles.{renumbered_group, renumbered_line, renumbered_user};
 ghost use Rattle.mergedfiles.specs.Texts as texts;
 
@@ -29,6 +30,33 @@ fn new_primary(gid: &[u8], host: &Host<'_>, groups: &Names<'_>, mapping: &Mappin
     let gid = decimal(gid)?;
     let group = host.groups.by_number(gid)?;
     new_number(group.name, groups, mapping)
+}
+
+/// A gid field, and the new number of the group that has this number on the host.
+#[derive(Clone, Copy)]
+struct Primary<'t> {
+    gid: &'t [u8],
+    number: Option<u32>,
+}
+
+/// That of the next user, which mostly has the group of the user before: then nothing is looked up.
+fn next_primary<'t>(
+    before: Primary<'t>,
+    gid: &'t [u8],
+    host: &Host<'_>,
+    groups: &Names<'_>,
+    mapping: &Mapping,
+) -> Primary<'t>
+    requires numbers { length mapping.now ≡ length groups.now.names }
+    requires before { IsPrimary host.now groups.now mapping.now before }
+    ensures gid { result.gid.now ≡ gid.entry.now }
+    ensures number { result.number ≡ spec.new_primary host.now groups.now mapping.now gid.entry.now }
+{
+    if before.gid == gid {
+        return before;
+    }
+    let number = new_primary(gid, host, groups, mapping);
+    Primary { gid, number }
 }
 
 /// Appends a number in the place of a field, or the field where there is no number; and the colon
@@ -72,19 +100,24 @@ fn user_fields(line: &[u8]) -> Option<UserFields<'_>>
     })
 }
 
-/// Appends a line of passwd with its new numbers.
-fn push_user_line(
+/// Appends a line of passwd with its new numbers. What is known of the primary group of the user
+/// before becomes that of this one.
+fn push_user_line<'t>(
     text: &mut Vec<u8>,
-    line: &[u8],
+    line: &'t [u8],
     host: &Host<'_>,
     site: &Site<'_>,
     users: &Mapping,
     groups: &Mapping,
+    primary: &mut Primary<'t>,
 ) -> Result<(), AllocError>
     requires for_users { length users.now ≡ length site.now.users.names }
     requires for_groups { length groups.now ≡ length site.now.groups.names }
-    ensures { OnOk result (text.new.items ≡ text.old.items
-        ++ renumbered_line (renumbered_user host.now site.now users.now groups.now) line.now) }
+    requires primary { IsPrimary host.now site.now.groups groups.now primary.old }
+    ensures text { OnOk result (text.new.items ≡ text.old.items
+        ++ renumbered_line (renumbered_user host.now site.now users.now groups.now)
+        line.entry.now) }
+    ensures primary { IsPrimary host.now site.now.groups groups.now primary.new }
 {
     if is_skipped(line) {
         return text.extend_from_slice(line);
@@ -93,11 +126,11 @@ fn push_user_line(
         return text.extend_from_slice(line);
     };
     let uid = new_number(fields.name, site.users(), users);
-    let gid = new_primary(fields.gid, host, site.groups(), groups);
+    *primary = next_primary(*primary, fields.gid, host, site.groups(), groups);
     push_field(text, fields.name)?;
     push_field(text, fields.password)?;
     push_new_field(text, uid, fields.uid)?;
-    push_new_field(text, gid, fields.gid)?;
+    push_new_field(text, primary.number, fields.gid)?;
     text.extend_from_slice(fields.rest)
 }
 
@@ -109,8 +142,8 @@ fn push_user_line(
 /// that was read as the table of a host of the site that `check_primary` accepts. Asked is that
 /// the mappings have one number for each user and for each group of the site.
 ///
-/// Source: passwd(5). One pass over the text, with three look-ups by hash for each user. Memory
-/// for the new text alone.
+/// Source: passwd(5). One pass over the text, with one look-up by hash for each user, and two more
+/// where its primary group is not that of the user before. Memory for the new text alone.
 ///
 /// # Errors
 ///
@@ -130,12 +163,16 @@ pub fn host_passwd_text(
 {
     let mut new = Vec::new(alloc);
     let mut rest = text;
+    let mut primary = Primary {
+        gid: &[],
+        number: None,
+    };
     while let Some((line, more)) = cut(b'\n', rest) {
-        push_user_line(&mut new, line, host, site, users, groups)?;
+        push_user_line(&mut new, line, host, site, users, groups, &mut primary)?;
         new.push(b'\n')?;
         rest = more;
     }
-    push_user_line(&mut new, rest, host, site, users, groups)?;
+    push_user_line(&mut new, rest, host, site, users, groups, &mut primary)?;
     Ok(new)
 }
 

@@ -5,6 +5,7 @@
 //! has the users of all hosts. Where a later host has another field, `differences` tells so.
 #![tactic(auto)]
 
+mod alike;
 mod differing;
 mod group;
 mod host_files;

@@ -78,3 +78,18 @@ module _ (names : List Account) (index : ℕ) (pairs : List (List ℕ × ℕ)) (
         let last : cond {A = ℕ} (is_place i (owner names index (row_number pairs place))) (get_or files place 0) 0 ≡ 0 = ap (λ b. cond {A = ℕ} b (get_or files place 0) 0) placed in
         omega (arith, was.total i, more, last);
   }
+
+  -- the next row, which has no files
+  pub rows-empty : (place : ℕ) (old now : List Tally) → get_or files place 0 ≡ 0 → Counted place old now → Counted (place + 1) old now
+  rows-empty place old now none was = record {
+    len = was.len;
+    cells = was.cells;
+    kept = λ i v.
+        let more = sum_below_more (λ r. cond {A = ℕ} (is_place i (owner names index (row_number pairs r)) && (row_number pairs r == v)) (get_or files r 0) 0) place in
+        let last = part (is_place i (owner names index (row_number pairs place)) && (row_number pairs place == v)) (get_or files place 0) in
+        omega (arith, was.kept i v, more, last, none);
+    total = λ i.
+        let more = sum_below_more (λ r. cond {A = ℕ} (is_place i (owner names index (row_number pairs r))) (get_or files r 0) 0) place in
+        let last = part (is_place i (owner names index (row_number pairs place))) (get_or files place 0) in
+        omega (arith, was.total i, more, last, none);
+  }

@@ -213,8 +213,8 @@ impl<'a> Solved<'a> {
     /// has stays, and so does a gid that is of no group of the host. Asked is that there is a host
     /// with the index.
     ///
-    /// One pass over the text, with three look-ups by hash for each user. Memory for the new text
-    /// alone.
+    /// One pass over the text, with one look-up by hash for each user, and two more where its
+    /// primary group is not that of the user before. Memory for the new text alone.
     ///
     /// # Errors
     ///

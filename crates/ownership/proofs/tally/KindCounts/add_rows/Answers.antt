@@ -2,7 +2,7 @@ use Rattle.std.proofs.Common.{◌<◌, ◌==◌, ◌&&◌, length, get_or, refl,
 use Rattle.hosts_join.specs.Accounts.{owner}
 use Rattle.ownership.specs.Files.{is_place}
 use Rattle.ownership.proofs.Counting.{owner-counted}
-use Rattle.ownership.proofs.RowSums.{rows-none, rows-owned, rows-unowned, next-within}
+use Rattle.ownership.proofs.RowSums.{rows-empty, rows-none, rows-owned, rows-unowned, next-within}
 use Rattle.ownership.proofs.tally.KindCounts.add_rows.Goals as goal
 use Rattle.ownership.proofs.tally.KindCounts.add_rows.Goals.{in-Some, in_default}
 
@@ -28,6 +28,10 @@ add_files-requires-clause-total g c =
     let within : c.loop-row.row < length c.args.files.now = omega (arith, c.loop-row-test.true, c.count-row-end.ensures, c.requires.rows) in
     let rows = next-within (λ n. is_place name (owner c.args.names.now.names c.args.index n)) (g.K.Kind.listed c.args.host.now) c.args.files.now c.loop-row.row within in
     omega (arith, rows, c.loop-row.invariant.total name, c.requires.room.total_le name, c.requires.few)
+
+pub loop-row-preserved-then-files-row-eq0 : goal.loop-row-preserved-then-files-row-eq0
+loop-row-preserved-then-files-row-eq0 g c =
+    rows-empty c.args.names.now.names c.args.index (g.K.Kind.listed c.args.host.now) c.args.files.now c.loop-row.row c.args.self.now c.loop-row.self c.if-files-row-eq0.true c.loop-row.invariant
 
 pub loop-row-preserved : goal.loop-row-preserved
 loop-row-preserved g c =
