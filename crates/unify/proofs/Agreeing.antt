@@ -5,7 +5,7 @@ use Rattle.std.proofs.lemmas.Bool.{eq-eqb}
 use Rattle.std.proofs.lemmas.List.Elements.{All-head, All-tail}
 use Rattle.std.proofs.lemmas.Option.{slice_get_within}
 use Rattle.idtext.specs.First.{first_fault, or_else, unless}
-use Rattle.idtext.proofs.OkLemmas.{bind_ok, each-ok, ok_same}
+use Rattle.idtext.proofs.OkLemmas.{bind_ok, each-ok, length-each, ok_same}
 use Rattle.mtree_inv.specs.Inventory.{inventory}
 use Rattle.mtree_inv.specs.declared.entry.Entry.{Entry}
 use Rattle.hosts_join.specs.declared.host.Host.{Host}
@@ -21,6 +21,7 @@ use Rattle.reown_runner.specs.Finished.{AreOld}
 use Rattle.reown_runner.specs.Memory.{owner_in}
 use Rattle.unify_texts.specs.declared.bundle_line.FileName.TheVariants as file
 use Rattle.unify.specs.declared.host.Loaded.{Loaded}
+use Rattle.unify.specs.declared.rules.SiteRules.{SiteRules}
 use Rattle.unify.specs.Agreeing.{PrintedCertificatesAreAccepted, NoMapRewritesFewer, PrintedPlansAreRehearsed}
 use Rattle.unify.specs.Checking.{verified}
 use Rattle.unify.specs.Cost.{cost_of}
@@ -28,15 +29,15 @@ use Rattle.unify.specs.Count.{site_of}
 use Rattle.unify.specs.Headline.{fields}
 use Rattle.unify.specs.Hosts.{files_of}
 use Rattle.unify.specs.Loading.{loaded_from}
-use Rattle.unify.specs.Reading.{files_of_site}
+use Rattle.unify.specs.Reading.{WholeSite, files_of_site, site_read}
 use Rattle.unify.specs.Rehearsing.{found_fault, record_fault}
 use Rattle.unify.specs.Told.{in_file}
+use Rattle.unify.proofs.Adding.{length-loaded_from}
 use Rattle.unify.proofs.Believed.{outcomes_are_believed}
 use Rattle.unify.proofs.Costs.{costs_agree}
 use Rattle.unify.proofs.Owners.{files_read}
-use Rattle.unify.proofs.ReadSites.{read_sites_are_whole, steps}
+use Rattle.unify.proofs.ReadSites.{as-many-others, paired, read_sites_are_whole, steps}
 use Rattle.unify.proofs.Rehearsed.{carried_out}
-use Rattle.unify.proofs.RunSites.{as_many_hosts}
 use Rattle.unify.proofs.SiteRuns.{some_same}
 
 pub printed_certificates_are_accepted : PrintedCertificatesAreAccepted
@@ -59,6 +60,13 @@ no_map_rewrites_fewer texts rules text cost is other m users groups =
     (subst (λ c. site_cost site.joined (files_of_site site) (mappings_of site.joined is.certificate) ≤ fields c) (sym (costs_agree site m other whole users.say groups.say)) least)
 
 -- ---- plans
+
+-- a site has as many hosts as there were texts
+as_many_hosts : (texts : List HostText) (rules : SiteRules) (site : WholeSite) → site_read texts rules ≡ Ok site → length site.hosts ≡ length texts
+as_many_hosts texts rules site read =
+    let s = steps texts rules site read in
+    let mtrees = map (λ (t : HostText). t.mtree) texts in
+    length-each site_of (loaded_from s.others.hosts mtrees) site.hosts s.files_are ∙ length-loaded_from s.others.hosts mtrees (paired texts rules site s) ∙ as-many-others texts rules.keep s.others s.others_are
 
 -- an index that is within has an item
 pub item_at : {X : Type 0} (xs : List X) (k : ℕ) → k < length xs → (x : X) × (slice_get xs k ≡ Some x)

@@ -1,5 +1,5 @@
 -- What a rehearsal answers, from its parts.
-use Rattle.std.proofs.Common.{◌≡◌, ℕ, List, [], length, Option, None, Some, Result, Ok, Err, IfSome, IfOk, refl, sym, ◌∙◌, ap, subst}
+use Rattle.std.proofs.Common.{◌≡◌, ℕ, List, [], length, Option, None, Some, Result, Ok, Err, IfSome, refl, sym, ◌∙◌, ap, subst}
 use Rattle.idtext.specs.First.{◌>>=◌, Gives, first_fault, unless}
 use Rattle.mtree_inv.specs.declared.entry.Entry.{Entry}
 use Rattle.mtree_inv.specs.Inventory.{inventory}
@@ -9,10 +9,6 @@ use Rattle.unify_texts.specs.declared.bundle_line.FileName.TheVariants as file
 use Rattle.unify_texts.specs.declared.fault.Fault.{Fault}
 use Rattle.unify_texts.specs.declared.fault.Fault.TheVariants.{BadPlan}
 use Rattle.unify_texts.specs.Told.{told}
-use Rattle.unify.specs.declared.reply.Reply.{Reply}
-use Rattle.unify.specs.Lines.{records_lines}
-use Rattle.unify.specs.Output.{Answer, Answers, IsRehearsalTold, answered}
-use Rattle.unify.specs.Replies.{reply_of}
 use Rattle.unify.specs.Rehearsing.{IsRehearsed, Rehearses, record_fault, rehearsed}
 use Rattle.unify.specs.Told.{in_file}
 
@@ -43,17 +39,3 @@ module _ (text mtree : List ℕ) where
       refused : (o : Option Fault) → IfSome o (λ f. rehearsed (Ok plan) mtree ≡ Err f) → IfSome o (λ f. IsRehearsed text mtree (Err f))
       refused None h = tt
       refused (Some f) h = record { plan = Ok plan; reads = reads; answered = h }
-
-  -- ---- the reply
-
-  pub lines_told : (n : ℕ) (lines : List ℕ) → IsRehearsed text mtree (Ok n) → lines ≡ records_lines n → Answers (IsRehearsalTold text mtree) (record { text = lines; status = 0 })
-  lines_told n lines is e =
-      let with_text : List ℕ → Answer = λ t. record { text = t; status = 0 } in
-      (Ok (records_lines n), (Ok n, is, refl), ap with_text e)
-
-  pub refusal_told : {E : Type 0} (f : Fault) (r : Result Reply E) → IfSome (told f) (λ g. IsRehearsed text mtree (Err g)) → IfOk r (λ reply. (told f ≡ Some f) × (reply_of reply ≡ answered (Err f)))
-      → IfOk r (λ reply. Answers (IsRehearsalTold text mtree) (reply_of reply))
-  refusal_told f (Ok reply) is h =
-      let P : Option Fault → Type 0 = λ o. IfSome o (λ g. IsRehearsed text mtree (Err g)) in
-      (Err f, (Err f, subst P h.0 is, refl), h.1)
-  refusal_told f (Err e) is h = tt

@@ -16,7 +16,6 @@ use Rattle.reown_runner.specs.RunnerData.{RunnerData, starting}
 use Rattle.reown_runner.specs.Tree.{Image, IsImage, cells_of}
 use Rattle.reown_runner.specs.World.{World}
 use Rattle.unify_texts.specs.declared.map_text.MapText.{MapText}
-use Rattle.unify.specs.declared.rehearsing_site.SiteRun.{SiteRun}
 use Rattle.unify.specs.Headline.{Headline, IsNamedAsBefore, IsOldOrNamed}
 use Rattle.unify.specs.Outcomes.{IsOutcome, hosts_in}
 use Rattle.unify.specs.Reading.{WholeSite}
@@ -55,20 +54,3 @@ EachIsOldOrNamed site map users groups trees =
     → slice_get site.hosts h ≡ Some (host, files) → slice_get trees h ≡ Some tree
     → (plan : PlanMark) (image : Image) → IsImage (cells_of plan (known_mem tree)) image
     → All (IsOldOrNamed map users groups host host image.owner) files
-
--- A site that was merged, and whose plans went on as far as these events lead, each host by its
--- own, none of them refused.
-pub record IsSiteRun (keep : Keep) (events : List Event) (site : WholeSite) (run : SiteRun) : Type 0
-  where
-    pub merged : IsOutcome site run.outcome
-    pub believed : Headline site run.outcome
-    pub runners : List RunnerData
-    pub a_runner_each : length runners ≡ length site.hosts
-    pub a_tree_each : length run.trees.items ≡ length site.hosts
-    pub went : EachGoes known_mem (new_world keep site merged.mappings) events (λ host. None)
-        (record { runners = runners; trees = run.trees.items })
-    pub done : run.done.items ≡ map (λ runner. is_done runner.place) runners
-    pub at_this_moment : EachIsOldOrNamed site believed.map believed.installed.passwd.rows
-        believed.installed.group.rows run.trees.items
-    pub names_kept : DoneKeepsNames site believed.map believed.installed.passwd.rows
-        believed.installed.group.rows run.done.items run.trees.items

@@ -10,7 +10,7 @@ use std::env::{Env, FillError};
 use std::io::{BufReader, BufWriter, IsTerminal};
 use std::process::ExitCode;
 use std::{env, io};
-use unify::{Watched, run_bundle};
+use unify_bundle::{Watched, run_bundle};
 use unify_io::{bundle_memory_refused, memory_refused};
 use words::{run_words, tell_help};
 

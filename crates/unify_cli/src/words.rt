@@ -8,8 +8,9 @@ use hosts_join::HostText;
 use idtext::ByteString;
 use inventory_files::run_inventory;
 use std::alloc::AllocError;
-use unify::{Cost, Reply, accepted_reply, cost_reply, refused, rehearse_reply};
+use unify::Cost;
 use unify_apply::run_apply;
+use unify_bundle::{Reply, accepted_reply, cost_reply, refused, rehearse_reply};
 use unify_io::{
     FileFault, command_line, file_fault_told, memory_refused, no_host, open_output, print_answer,
     read_file, read_hosts_tables, read_named, tell_of_keep, warn_of_end, warn_of_hosts_tables,

@@ -9,7 +9,7 @@ use Rattle.unify_texts.specs.Told.{told}
 use Rattle.unify_texts.specs.declared.fault.Fault.{Fault}
 use Rattle.unify.specs.declared.counting.Cost.{Cost}
 use Rattle.unify.specs.Others.{keep_read}
-use Rattle.unify.specs.Output.{rules_by}
+use Rattle.unify.specs.Rules.{rules_by}
 use Rattle.unify.specs.Survey.{found_on, surveyed_hosts}
 use Rattle.unify_merge.specs.Check.{HasChecked, StopsCheck}
 use Rattle.unify_merge.specs.Count.{HasCounted, StopsCount}

@@ -15,7 +15,7 @@ ghost use Rattle.unify_merge.specs.Merge.{HasMerged, HasSolved, HasWritten, Stop
 ghost use Rattle.unify_merge.specs.Merge.{account_files, account_names, first_files, first_names};
 ghost use Rattle.unify_merge.specs.Merge.{keeps_in, names_before_report};
 ghost use Rattle.unify_merge.specs.Surveyed.{HasMergedFiles, StopsMergeFiles};
-ghost use Rattle.unify.specs.Output.{rules_by};
+ghost use Rattle.unify.specs.Rules.{rules_by};
 ghost use Rattle.kept_accounts.specs.Reserving.{UnownedNumbers};
 ghost use Rattle.unify_merge.specs.declared.fault.MergeFault.TheVariants.{Refused};
 

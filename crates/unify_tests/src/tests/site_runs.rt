@@ -11,7 +11,8 @@ use reown_runner::{Event, Keep, MemTree, Tree};
 use std::alloc::Global;
 use std::process::Abort;
 use std::test::Fail;
-use unify::{KeepRules, SiteRules, SiteRun, rehearse_site};
+use unify::{KeepRules, SiteRules};
+use unify_bundle::{SiteRun, rehearse_site};
 
 const FILES_OF_A: &[&[u8]] = &[
     b"alice1", b"alice2", b"alice3", b"alice4", b"alice5", b"bob1",

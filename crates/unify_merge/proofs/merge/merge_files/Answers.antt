@@ -1,6 +1,6 @@
 use Rattle.std.proofs.Common.{◌≡◌, ap, subst, ◌∙◌}
 use Rattle.kept_accounts.specs.Reserving.{UnownedNumbers, no_numbers}
-use Rattle.unify.specs.Output.{rules_by}
+use Rattle.unify.specs.Rules.{rules_by}
 use Rattle.unify.specs.declared.rules.SiteRules.{SiteRules}
 use Rattle.unify_merge.specs.Ledger.{HasBegun, Ledger}
 use Rattle.unify_merge.specs.Merge.{keeps_in, names_before_report}

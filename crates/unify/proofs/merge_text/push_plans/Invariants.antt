@@ -1,9 +1,0 @@
-use Rattle.std.proofs.Common.{◌≡◌, ◌++◌}
-use Rattle.std.specs.Slice.Iter.{iter_rest}
-use Rattle.std.specs.Iterator.Adapters.{zip_first, zip_second}
-use Rattle.unify.specs.Lines.{plan_lines}
-use Rattle.unify.proofs.merge_text.push_plans.Given as goal
-
--- what is pushed and what is left are all plans
-abbrev pub invariant-loop-host : goal.invariant-loop-host
-invariant-loop-host l = l.out.items ++ plan_lines (iter_rest (zip_first l.host-iterator)) (iter_rest (zip_second l.host-iterator)) ≡ l.fn.out.items ++ plan_lines l.hosts l.plans

@@ -1,0 +1,14 @@
+use Rattle.std.proofs.Common.{refl}
+use Rattle.std.specs.Prelude.{Ok}
+use Rattle.unify_bundle.specs.Output.{IsMergeTold}
+use Rattle.unify_bundle.proofs.FaultAnswers.{refused_answers}
+use Rattle.unify_bundle.proofs.merge_text.merge_reply.Goals as goal
+
+pub returns-in_ok-outcome_text-in-Ok : goal.returns-in_ok-outcome_text-in-Ok
+returns-in_ok-outcome_text-in-Ok c =
+    let read = c.in-Ok.ensures.answers in
+    let text = c.in_ok-outcome_text-in-Ok in
+    (Ok text.field-0.items, (read.0, read.1, c.in-Ok.outcome, read.2, text.ensures), refl)
+
+pub returns-in-Err : goal.returns-in-Err
+returns-in-Err c = refused_answers (IsMergeTold c.args.hosts.now c.args.rules.now) c.in-Err.fault c.refused.result c.in-Err.ensures.answers c.refused.ensures

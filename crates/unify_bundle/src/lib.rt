@@ -1,0 +1,21 @@
+//! Commands over texts in memory: bundles, and the rehearsal of a whole site.
+//!
+//! `run_bundle` reads a command with all its files as one text, and writes the answer. The replies
+//! of single commands are what it writes. `rehearse_site` merges a site, and carries all its plans
+//! out on trees in memory.
+#![tactic(auto)]
+
+mod bundle_run;
+mod input;
+mod merge_text;
+mod rehearsal;
+mod rehearsing_site;
+mod reply;
+mod streams;
+
+pub use bundle_run::{answer, run_bundle};
+pub use merge_text::{merge_hosts_reply, merge_reply};
+pub use rehearsal::rehearse_reply;
+pub use rehearsing_site::{SiteRun, rehearse_site};
+pub use reply::{Reply, accepted_reply, check_reply, cost_reply, count_reply, refused};
+pub use streams::{Sink, Source, Watched};
