@@ -1,7 +1,7 @@
 -- Users whose rows say the same on each host.
 -- Words of the code and not of the subject: only private contracts cite them.
-use Rattle.std.specs.Prelude.{◌≡◌, ℕ, Bool, true, false, ◌&&◌, List, slice_index_or, Some, slice_get}
-use Rattle.std.specs.Prelude.{bytes_eq}
+use Rattle.std.specs.Prelude.{◌≡◌, ℕ, Bool, true, false, ◌&&◌, List, slice_index_or, Some}
+use Rattle.std.specs.Prelude.{bytes_eq, slice_get}
 use Rattle.std.specs.List.{All}
 use Rattle.hosts_join.specs.Accounts.{Account, owner}
 use Rattle.hosts_join.specs.declared.host.Host.{Host}

@@ -50,7 +50,8 @@ fn next_primary<'t>(
     requires numbers { length mapping.now ≡ length groups.now.names }
     requires before { IsPrimary host.now groups.now mapping.now before }
     ensures gid { result.gid.now ≡ gid.entry.now }
-    ensures number { result.number ≡ spec.new_primary host.now groups.now mapping.now gid.entry.now }
+    ensures number { result.number
+        ≡ spec.new_primary host.now groups.now mapping.now gid.entry.now }
 {
     if before.gid == gid {
         return before;
