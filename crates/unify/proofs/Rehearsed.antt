@@ -1,5 +1,5 @@
 -- What a rehearsal answers, from its parts.
-use Rattle.std.proofs.Common.{◌≡◌, ℕ, List, [], length, Option, None, Some, Result, Ok, Err, IfSome, refl, sym, ◌∙◌, ap, subst}
+use Rattle.std.proofs.Common.{◌≡◌, ℕ, List, [], length, Option, None, Some, Result, Ok, Err, IfSome, sym, ◌∙◌, ap, subst}
 use Rattle.idtext.specs.First.{◌>>=◌, Gives, first_fault, unless}
 use Rattle.mtree_inv.specs.declared.entry.Entry.{Entry}
 use Rattle.mtree_inv.specs.Inventory.{inventory}

@@ -1,6 +1,6 @@
 -- What a rehearsal of a whole site answers.
 -- Source: this project's own rule.
-use Rattle.std.specs.Prelude.{◌≡◌, ℕ, ◌+◌, Bool, true, List, [], ◌∷◌, map, length, Some, None}
+use Rattle.std.specs.Prelude.{◌≡◌, ℕ, ◌+◌, Bool, true, List, [], ◌∷◌, map, Some}
 use Rattle.std.specs.Prelude.{slice_get, All}
 use Rattle.accounts.specs.Rows.{Passwd, Group}
 use Rattle.mtree_inv.specs.declared.entry.Entry.{Entry}
@@ -8,16 +8,14 @@ use Rattle.hosts_join.specs.declared.host.Host.{Host}
 use Rattle.ownership.specs.Mappings.{Mappings}
 use Rattle.reown_plan.specs.declared.mark.PlanMark.{PlanMark}
 use Rattle.reown_plan.specs.Target.{host_plan}
-use Rattle.reown_runner.specs.declared.campaign.Event.{Event}
 use Rattle.reown_runner.specs.declared.memory.Keep.{Keep}
-use Rattle.reown_runner.specs.Campaign.{EachGoes, is_done}
 use Rattle.reown_runner.specs.Memory.{Mem, known_mem, new_mem}
 use Rattle.reown_runner.specs.RunnerData.{RunnerData, starting}
 use Rattle.reown_runner.specs.Tree.{Image, IsImage, cells_of}
 use Rattle.reown_runner.specs.World.{World}
 use Rattle.unify_texts.specs.declared.map_text.MapText.{MapText}
-use Rattle.unify.specs.Headline.{Headline, IsNamedAsBefore, IsOldOrNamed}
-use Rattle.unify.specs.Outcomes.{IsOutcome, hosts_in}
+use Rattle.unify.specs.Headline.{IsNamedAsBefore, IsOldOrNamed}
+use Rattle.unify.specs.Outcomes.{hosts_in}
 use Rattle.unify.specs.Reading.{WholeSite}
 
 -- a runner at its start for each host's plan, where the first host stands at the index

@@ -28,7 +28,8 @@ use Rattle.unify_bundle.specs.declared.input.ReadFault.TheVariants.{Read, Memory
 use Rattle.unify.specs.Checking.{verified}
 use Rattle.unify.specs.Count.{count_of}
 use Rattle.unify.specs.HostTexts.{AreSiteFiles}
-use Rattle.unify_bundle.specs.Lines.{cost_lines, accepted_line, records_lines, merge_lines, site_lines}
+use Rattle.unify_bundle.specs.Lines.{cost_lines, accepted_line, records_lines, merge_lines}
+use Rattle.unify_bundle.specs.Lines.{site_lines}
 use Rattle.unify.specs.Outcomes.{IsOutcome}
 use Rattle.unify.specs.Reading.{WholeSite, site_read}
 use Rattle.unify.specs.Rehearsing.{IsRehearsed}

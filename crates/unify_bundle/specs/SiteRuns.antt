@@ -1,6 +1,6 @@
 -- What a rehearsal of a whole site answers.
 -- Source: this project's own rule.
-use Rattle.std.specs.Prelude.{◌≡◌, ℕ, List, map, length, None}
+use Rattle.std.specs.Prelude.{◌≡◌, List, map, length, None}
 use Rattle.reown_runner.specs.declared.campaign.Event.{Event}
 use Rattle.reown_runner.specs.declared.memory.Keep.{Keep}
 use Rattle.reown_runner.specs.Campaign.{EachGoes, is_done}

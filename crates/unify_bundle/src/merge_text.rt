@@ -2,8 +2,8 @@
 
 ghost use Rattle.std.specs.Prelude.{◌≡◌, ◌++◌, OnOk, IfOk, flat_map, codes};
 ghost use Rattle.idtext.specs.Pieces.{lines};
-ghost use Rattle.unify_bundle.specs.Lines.{account_lines, barred, file_lines, merge_lines, named_lines};
-ghost use Rattle.unify_bundle.specs.Lines.{plan_lines, site_lines};
+ghost use Rattle.unify_bundle.specs.Lines.{account_lines, barred, file_lines, merge_lines};
+ghost use Rattle.unify_bundle.specs.Lines.{named_lines, plan_lines, site_lines};
 ghost use Rattle.unify_bundle.specs.Output.{Answers, IsMergeTold, IsMergeWithHostsTold};
 ghost use Rattle.unify_bundle.specs.Replies.{reply_of};
 
