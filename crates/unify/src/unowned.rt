@@ -1,21 +1,16 @@
-//! The numbers that the files of a site have without an account, where its keep text keeps them.
+//! Whose files are looked through for numbers without an account, where the keep text keeps them.
 
 ghost use Rattle.std.specs.Prelude.{◌≡◌, ◌≤◌, length, map, IfOk};
-ghost use Rattle.idtext.specs.First.{Gives, Yields};
-ghost use Rattle.survey.specs.Surveying.{HasNumbersOf};
+ghost use Rattle.idtext.specs.First.{Gives};
 ghost use Rattle.unify_texts.specs.Told.{told};
 ghost use Rattle.unify.specs.Others.{keep_read};
 ghost use Rattle.unify.specs.Survey as spec;
 
 use crate::counting::check_list;
-use crate::host::MOST_FILES;
 use crate::site::load_tables;
-use crate::turn::read_fault;
 use hosts_join::{Host, HostText, Runs};
 use keep_text::{KeepFault, KeepText, read_keep};
-use kept_accounts::UnownedNumbers;
 use std::alloc::{AllocError, Global};
-use survey::HostSurvey;
 use unify_texts::Fault;
 
 // Whether numbers without an account stay, of users or of groups.
@@ -106,40 +101,4 @@ pub fn begin_survey<'a>(
         Err(KeepFault::BadKeep(_)) => Ok(Vec::new(alloc)),
         Err(KeepFault::Memory) => Err(Fault::Memory),
     }
-}
-
-// Looks through the inventory of a host.
-fn survey_text<'a>(alloc: Global, host: &Host<'a>, mtree: &[u8]) -> Result<HostSurvey, Fault<'a>>
-    ensures { Yields (HasNumbersOf host.now) told result (spec.inventory_of host.now mtree.now) }
-{
-    let mut survey = HostSurvey::new(alloc, MOST_FILES);
-    if let Err(fault) = survey.piece(host, mtree) {
-        return Err(read_fault(host, fault));
-    }
-    if let Err(fault) = survey.end(host) {
-        return Err(read_fault(host, fault));
-    }
-    Ok(survey)
-}
-
-/// The numbers that the files of the hosts have, and no account of their host, where the keep text
-/// keeps such numbers; else none.
-///
-/// It refuses with the first fault of [`begin_survey`], and then of the inventories, host by host.
-/// `Fault::Memory` is a growth that was refused. One pass over the keep text; where it keeps such
-/// numbers another over the tables and the inventories, with three look-ups by hash for each file.
-pub fn survey_texts<'a>(
-    alloc: Global,
-    texts: &'a [HostText],
-    keep: &[u8],
-) -> Result<UnownedNumbers<'a>, Fault<'a>>
-    ensures { Gives (λ found. found) told result (spec.surveyed texts.now keep.now) }
-{
-    let hosts = begin_survey(alloc, texts, keep)?;
-    let mut found = UnownedNumbers::none(alloc);
-    for (index, host) in hosts.iter().enumerate() {
-        let survey = survey_text(alloc, host, texts[index].mtree.bytes())?;
-        survey.push_to(host, &mut found)?;
-    }
-    Ok(found)
 }

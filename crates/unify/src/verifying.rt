@@ -1,6 +1,6 @@
-//! From the texts of hosts and of a certificate to the cost of its mappings.
+//! From a site whose files were counted, and a certificate, to the cost of its mappings.
 
-ghost use Rattle.std.specs.Prelude.{◌≡◌, List, IfOk};
+ghost use Rattle.std.specs.Prelude.{◌≡◌, List};
 ghost use Rattle.idtext.specs.First.{Gives};
 ghost use Rattle.ownership.specs.Counts.{IsMadeFor, StandsFor};
 ghost use Rattle.ownership.specs.Files.{Added};
@@ -8,13 +8,11 @@ ghost use Rattle.certcheck.specs.Check.{answer as check_answer};
 ghost use Rattle.certcheck.specs.Reading.{certificate_in};
 ghost use Rattle.unify_texts.specs.Told.{told};
 ghost use Rattle.unify.specs.Told.{check_told, in_certificate, in_check};
-ghost use Rattle.unify.specs.Checking.{IsVerified, checked, verified};
+ghost use Rattle.unify.specs.Checking.{checked};
 ghost use Rattle.unify.specs.Reading.{WholeSite, files_of_site};
 
-use crate::rules::SiteRules;
-use crate::texts::read_site;
 use certcheck::{Certificate, CertificateFault, CheckFault, check, read_certificate};
-use hosts_join::{HostText, Site};
+use hosts_join::Site;
 use ownership::Counts;
 use std::alloc::Global;
 use unify_texts::Fault;
@@ -86,31 +84,6 @@ pub fn verify_counted<'a>(
 {
     match certificate_at(alloc, certificate) {
         Ok(certificate) => check_site(alloc, site, counts, &certificate),
-        Err(fault) => Err(fault),
-    }
-}
-
-/// How many owner and group fields the mappings of a certificate change, where the certificate
-/// proves that no admissible mappings change fewer; it may be written by anybody.
-///
-/// It refuses with the first fault in this order: those of `read_site`; the certificate's text, by
-/// line; the check, users before groups. `Fault::Memory` is a growth that was refused.
-///
-/// It reads each text once, and takes time near linear in account rows, files and the certificate's
-/// lines.
-#[tactic(auto, unfolding(crate::specs::Checking::verified))]
-pub fn verify<'a>(
-    alloc: Global,
-    hosts: &'a [HostText],
-    rules: &SiteRules<'a>,
-    certificate: &'a [u8],
-) -> Result<u64, Fault<'a>>
-    ensures exact { Gives (λ cost. cost) told result
-        (verified hosts.now rules.now certificate.now) }
-    ensures proved { IfOk result (IsVerified hosts.now rules.now certificate.now) }
-{
-    match read_site(alloc, hosts, rules) {
-        Ok(read) => read.verify(certificate),
         Err(fault) => Err(fault),
     }
 }

@@ -5,3 +5,8 @@ pub mod FaultAnswers
 pub mod Carrying
 pub mod RunSites
 pub mod Rehearsed
+pub mod InMemory
+pub mod Fronts
+pub mod Parts
+pub mod SameTexts
+pub mod InTexts

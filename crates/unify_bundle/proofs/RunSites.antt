@@ -1,9 +1,10 @@
 -- A site whose plans were carried out, from its parts.
-use Rattle.std.proofs.Common.{◌≡◌, ℕ, zero, suc, ◌+◌, List, [], ◌∷◌, length, map, Some, None, Ok, refl, sym, ap, subst, ◌∙◌, arith}
+use Rattle.std.proofs.Common.{◌≡◌, ℕ, zero, suc, ◌+◌, List, [], ◌∷◌, length, map, Some, None, Result, Ok, Err, refl, sym, ap, subst, ◌∙◌, arith}
+use Rattle.std.specs.Prelude.{MatchResult}
 use Rattle.std.specs.List.{All, slice_get}
 use Rattle.std.proofs.lemmas.List.{length-map}
 use Rattle.std.proofs.lemmas.List.Elements.{All-nil, All-cons}
-use Rattle.idtext.specs.First.{each}
+use Rattle.idtext.specs.First.{Yields, each}
 use Rattle.mtree_inv.specs.Inventory.{inventory}
 use Rattle.mtree_inv.specs.Files.{AreFiles, HaveDistinctFiles}
 use Rattle.mtree_inv.specs.declared.entry.Entry.{Entry}
@@ -22,6 +23,8 @@ use Rattle.reown_runner.specs.Memory.{Mem, known_mem, owner_in}
 use Rattle.reown_runner.specs.RunnerData.{RunnerData, starting}
 use Rattle.reown_runner.specs.World.{World}
 use Rattle.reown_runner.proofs.Memories.{new_fresh}
+use Rattle.unify_texts.specs.Told.{told}
+use Rattle.unify_texts.specs.declared.fault.Fault.{Fault}
 use Rattle.unify.specs.declared.outcome.Outcome.{Outcome}
 use Rattle.unify_bundle.specs.declared.rehearsing_site.SiteRun.{SiteRun}
 use Rattle.unify.specs.declared.rules.SiteRules.{SiteRules}
@@ -172,3 +175,8 @@ texts_run keep events site whole texts there run merged mtrees same carried =
     let all = map (λ (h : Host × List Entry). h.1) site.hosts in
     site_runs keep events site whole run merged (map (new_tree_of keep) all) refl
     (carried all (plans_in site merged.mappings) (spelled_for site whole texts there run.outcome merged mtrees same keep))
+
+-- what is right for the site that was read, or want of memory
+pub yielded : {A : Type 0} (IsRight : WholeSite → A → Type 0) (site : WholeSite) (given : Result WholeSite Fault) (result : Result A Fault) → given ≡ Ok site → MatchResult result (IsRight site) (λ e. told e ≡ None) → Yields IsRight told result given
+yielded IsRight site given (Ok x) read right = (site, read, right)
+yielded IsRight site given (Err e) read none = rw none tt

@@ -19,11 +19,12 @@ use crate::merge_text::{merge_hosts_reply, merge_reply};
 use crate::rehearsal::rehearse_reply;
 use crate::reply::{Reply, check_reply, count_reply, refused};
 use crate::streams::{Sink, Source};
+use crate::texts::survey_texts;
 use hosts_join::HostText;
 use idtext::ByteString;
 use std::alloc::{AllocError, Global};
 use std::mem;
-use unify::{KeepRules, SiteRules, survey_texts};
+use unify::{KeepRules, SiteRules};
 use unify_texts::{Bundle, Command, Fault, FileName, NamedFile, Place, read_bundle};
 
 // Where a file stands among the files of a place.

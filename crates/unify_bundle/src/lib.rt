@@ -1,8 +1,11 @@
-//! Commands over texts in memory: bundles, and the rehearsal of a whole site.
+//! Commands over texts in memory: single commands, bundles, and the rehearsal of a whole site.
 //!
-//! `run_bundle` reads a command with all its files as one text, and writes the answer. The replies
-//! of single commands are what it writes. `rehearse_site` merges a site, and carries all its plans
-//! out on trees in memory.
+//! `count` tells what a map would change, `consolidate` merges a site, `consolidate_hosts` too,
+//! with each host's own passwd and group with their new numbers, and `verify` checks a certificate:
+//! each is the command over files, whose inventories are among the texts. `run_bundle` reads a
+//! command with all its files as one text, and writes the answer. The replies of single commands
+//! are what it writes. `rehearse_site` merges a site, and carries all its plans out on trees in
+//! memory.
 #![tactic(auto)]
 
 mod bundle_run;
@@ -11,7 +14,10 @@ mod merge_text;
 mod rehearsal;
 mod rehearsing_site;
 mod reply;
+mod site_files;
 mod streams;
+mod text_files;
+mod texts;
 
 pub use bundle_run::{answer, run_bundle};
 pub use merge_text::{merge_hosts_reply, merge_reply};
@@ -19,3 +25,4 @@ pub use rehearsal::rehearse_reply;
 pub use rehearsing_site::{SiteRun, rehearse_site};
 pub use reply::{Reply, accepted_reply, check_reply, cost_reply, count_reply, refused};
 pub use streams::{Sink, Source, Watched};
+pub use texts::{consolidate, consolidate_hosts, count, survey_texts, verify};

@@ -8,10 +8,11 @@ ghost use Rattle.unify_bundle.specs.Output.{Answers, IsMergeTold, IsMergeWithHos
 ghost use Rattle.unify_bundle.specs.Replies.{reply_of};
 
 use crate::reply::{Reply, refused};
+use crate::texts::{consolidate, consolidate_hosts};
 use hosts_join::HostText;
 use idtext::{ByteString, Lines};
 use std::alloc::{AllocError, Global};
-use unify::{NamedText, Outcome, SiteFiles, SiteRules, consolidate, consolidate_hosts};
+use unify::{NamedText, Outcome, SiteFiles, SiteRules};
 
 // Appends a line of a file: behind a bar, and with its newline.
 fn push_barred(out: &mut Vec<u8>, line: &[u8]) -> Result<(), AllocError>

@@ -15,13 +15,14 @@ ghost use Rattle.unify.specs.Outcomes.{IsOutcome};
 ghost use Rattle.unify.specs.Reading.{WholeSite, site_read};
 ghost use Rattle.unify_bundle.specs.SiteRuns.{IsSiteRun};
 
+use crate::texts::consolidate;
 use hosts_join::HostText;
 use idtext::Name;
 use mtree_inv::{Inventory, read_inventory};
 use reown_plan::{Plan, PlanFault};
 use reown_runner::{Campaign, Event, Keep, MemTree};
 use std::alloc::{AllocError, Global};
-use unify::{Outcome, SiteRules, TextList, consolidate};
+use unify::{Outcome, SiteRules, TextList};
 use unify_texts::Fault;
 
 // The most files that an inventory may have.

@@ -7,10 +7,11 @@ ghost use Rattle.unify_bundle.specs.Lines.{cost_lines, accepted_line};
 ghost use Rattle.unify_bundle.specs.Output.{counted, checked, answered};
 ghost use Rattle.unify_bundle.specs.Replies.{reply_of};
 
+use crate::texts::{count, verify};
 use hosts_join::HostText;
 use idtext::push_number;
 use std::alloc::{AllocError, Global};
-use unify::{Cost, KeepRules, SiteRules, count, verify};
+use unify::{Cost, KeepRules, SiteRules};
 use unify_texts::{Fault, push_fault};
 
 /// What goes out, and the exit status.

@@ -35,7 +35,7 @@ use Rattle.unify_merge.specs.Ledger.{Ledger, Reading, after_files, cleared}
 use Rattle.unify_merge.specs.FirstReading.{IsInventoryFault, ReadsOnly, StopsCounting, readings_from}
 use Rattle.unify_merge.specs.HostFiles.{HasFiles, StopsWriting}
 use Rattle.unify_merge.specs.SecondReading.{IsChangeFault, StopsPlanning, plan_files}
-use Rattle.unify_merge.specs.Merge.{HasMerged, HasSolved, HasWritten, StopsMerge, first_files, keeps_begun, keeps_in, merged_files, report_file}
+use Rattle.unify_merge.specs.Merge.{HasMade, HasMerged, HasSolved, HasWritten, StopsMerge, first_files, keeps_begun, keeps_in, merged_files, report_file}
 use Rattle.unify_merge.specs.declared.fault.MergeFault.{MergeFault}
 use Rattle.unify_merge.specs.declared.fault.MergeFault.TheVariants.{Failed, TooLarge, Refused}
 use Rattle.unify_merge.proofs.Planned.{files_more}
@@ -183,3 +183,11 @@ has_merged texts rules s old mid new cost h reads w =
       files = merged.files;
       cost_is = w.cost_is;
     }
+
+-- and what was merged is handed out
+pub has_made : (texts : List HostText) (rules : SiteRules) (s : SolvedValue) (old mid new : Ledger) (made : Outcome) (h : HasSolved texts rules old mid s) → ReadsOnly old mid → HasWritten texts s h.were mid new made.cost → made ≡ s.merged.outcome → HasMade texts rules old new made
+unfolding has_merged
+has_made texts rules s old mid new made h reads w is = record {
+  merged = has_merged texts rules s old mid new made.cost h reads w;
+  outcome_is = ap (λ (o : Outcome). record o { plans = w.site.plans }) (sym is);
+}

@@ -148,6 +148,12 @@ pub record HasMerged (texts : List HostText) (rules : SiteRules) (old new : Ledg
       (cleared old)) { read = new.read; reading = new.reading; writing = new.writing }
   pub cost_is : cost ≡ outcome.cost
 
+-- what was merged so, but for its plans, which are among the files
+pub record HasMade (texts : List HostText) (rules : SiteRules) (old new : Ledger) (made : Outcome)
+    : Type 0 where
+  pub merged : HasMerged texts rules old new made.cost
+  pub outcome_is : merged.outcome ≡ record made { plans = merged.outcome.plans }
+
 -- ---- a merge that is refused
 
 -- every inventory was read once and accepted, and one of them has changed when it is read again

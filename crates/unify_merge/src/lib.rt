@@ -20,5 +20,5 @@ pub use count::{count_by, count_files};
 pub use fault::MergeFault;
 pub use files::{CallFailed, MergeFiles, ReadFiles};
 pub use log::{Call, Log};
-pub use merge::{merge_by, merge_files};
+pub use merge::{merge_by, merge_files, merge_outcome};
 pub use surveying::{survey_files, survey_hosts};

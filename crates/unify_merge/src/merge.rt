@@ -11,7 +11,7 @@ ghost use Rattle.unify_merge.specs.Ledger.{HasBegun, after_files};
 ghost use Rattle.unify_merge.specs.FirstReading.{ReadsOnly};
 ghost use Rattle.unify_merge.specs.HostFiles.{HasFiles};
 ghost use Rattle.unify_merge.specs.SecondReading.{StopsPlanning, WereRead};
-ghost use Rattle.unify_merge.specs.Merge.{HasMerged, HasSolved, HasWritten, StopsMerge};
+ghost use Rattle.unify_merge.specs.Merge.{HasMade, HasMerged, HasSolved, HasWritten, StopsMerge};
 ghost use Rattle.unify_merge.specs.Merge.{account_files, account_names, first_files, first_names};
 ghost use Rattle.unify_merge.specs.Merge.{keeps_in, names_before_report};
 ghost use Rattle.unify_merge.specs.Surveyed.{HasMergedFiles, StopsMergeFiles};
@@ -117,6 +117,7 @@ fn write_merged<'a, F: MergeFiles>(
     ensures begun { OnErr result
         (HasBegun (names_before_report solved.old.merged.outcome.keeps_names hosts.now)
         (F.ledger files.old) (F.ledger files.new)) }
+    ensures merged { OnOk result (solved.new.merged ≡ solved.old.merged) }
 {
     files.clear()?;
     write_first(files, solved.outcome())?;
@@ -127,7 +128,8 @@ fn write_merged<'a, F: MergeFiles>(
 }
 
 /// Merges hosts, whose tables and rules are given, and whose inventories are read from the files,
-/// twice; and writes the files of the merge. It hands out how many fields of files change.
+/// twice; and writes the files of the merge. It hands out what was merged but for the plans, which
+/// are among the files.
 ///
 /// Each inventory is read when its host's turn comes, piece by piece. Nothing is written before the
 /// hosts are merged; then the files of an earlier merge are cleared away, and these are written, in
@@ -141,6 +143,28 @@ fn write_merged<'a, F: MergeFiles>(
 /// Two passes over each inventory, with two look-ups by hash for each file; the rest is near linear
 /// in the names and account rows, but for the solver, which is near linear where few numbers are
 /// contested.
+pub fn merge_outcome<'a, F: MergeFiles>(
+    alloc: Global,
+    files: &mut F,
+    hosts: &'a [HostText],
+    rules: &SiteRules<'a>,
+) -> Result<Outcome, MergeFault<'a>>
+    ensures merged { IfOk result
+        (HasMade hosts.now rules.now (F.ledger files.old) (F.ledger files.new)) }
+    ensures stopped { IfErr result
+        (StopsMerge hosts.now rules.now (F.ledger files.old) (F.ledger files.new)
+        (F.has_failed files.new)) }
+    ensures begun { OnErr result
+        (HasBegun (names_before_report (keeps_in hosts.now rules.now) hosts.now)
+        (F.ledger files.old) (F.ledger files.new)) }
+{
+    let mut solved = solve_hosts(alloc, files, hosts, rules)?;
+    write_merged(alloc, files, &mut solved, hosts)?;
+    Ok(solved.into_outcome())
+}
+
+/// Merges hosts and writes the files as [`merge_outcome`] does, and hands out how many fields of
+/// files change.
 pub fn merge_by<'a, F: MergeFiles>(
     alloc: Global,
     files: &mut F,
@@ -156,8 +180,8 @@ pub fn merge_by<'a, F: MergeFiles>(
         (HasBegun (names_before_report (keeps_in hosts.now rules.now) hosts.now)
         (F.ledger files.old) (F.ledger files.new)) }
 {
-    let mut solved = solve_hosts(alloc, files, hosts, rules)?;
-    write_merged(alloc, files, &mut solved, hosts)
+    let outcome = merge_outcome(alloc, files, hosts, rules)?;
+    Ok(outcome.cost)
 }
 
 /// What [`merge_by`] merges and writes by these pins and this keep text, with the numbers that

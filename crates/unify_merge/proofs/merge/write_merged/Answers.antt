@@ -106,3 +106,6 @@ returns-in_err-seal-clause-begun g c =
     let all = own ∙ append_assoc (old.begun ++ first_names keeps) plans hosts ∙ append_assoc old.begun (first_names keeps) (plans ++ hosts) in
     on_err c.from_residual-in_err-seal.result (HasBegun (names_before_report keeps texts) old new)
     (begun_all (names_before_report keeps texts) old new (ap (λ (l : Ledger). l.begun) c.in_err-seal.ensures.none ∙ all))
+
+pub returns-clause-merged : goal.returns-clause-merged
+returns-clause-merged g c = ap (λ (x : SolvedValue). x.merged) c.in_ok-plan_hosts.ensures.site
