@@ -123,7 +123,8 @@ fn distinct_places(
 
 // Looks whether the end, and nothing else, is behind the records.
 fn check_end(text: &[u8], behind: &[u8], records: &[Record<'_>]) -> Result<(), PlanFault>
-    requires front { (host : List ℕ) × IsFront text.now host (map record_of records.now) behind.now }
+    requires front { (host : List ℕ)
+        × IsFront text.now host (map record_of records.now) behind.now }
     requires distinct { HaveDistinctPaths (map record_of records.now) }
     requires all { BeginsNoRecord behind.now }
     ensures end { OnOk result (behind.now ≡ end) }
@@ -143,10 +144,10 @@ fn check_end(text: &[u8], behind: &[u8], records: &[Record<'_>]) -> Result<(), P
 impl<'a> Plan<'a> {
     /// Reads a plan, whose paths are slices of its text. A text that is no plan is `BadPlan` with
     /// the byte at which the first header, record or end that is not lawful begins, or what stands
-    /// behind the end. One pass over the text, and one sort of the records by their paths, in place:
-    /// a few comparisons of paths for each binary digit of their number, whatever they are, since
-    /// whoever names files chooses their paths. Where a path stands twice the text is read once
-    /// more up to there.
+    /// behind the end. One pass over the text, and one sort of the records by their paths, in
+    /// place: a few comparisons of paths for each binary digit of their number, whatever they are,
+    /// since whoever names files chooses their paths. Where a path stands twice the text is read
+    /// once more up to there.
     ///
     /// # Errors
     ///

@@ -51,5 +51,10 @@ files_at paths files = filter (λ f. is_some (position (bytes_eq f.path) paths))
 pub only_one : {X : Type 0} (a : X) → Contains (a ∷ []) a
 only_one a = (0, omega arith, refl)
 
-pub readable_files : (t : FilesOfPlan) (plan : PlanMark) → IsReadable (cells_of plan (known_files t))
-readable_files t plan = record { owner = λ path. only_one (owner_at t path); mark = only_one (is_marked_for plan t.mark) }
+pub readable_files : (t : FilesOfPlan) (plan : PlanMark)
+    → IsReadable (cells_of plan (known_files t))
+readable_files t plan =
+    record {
+      owner = λ path. only_one (owner_at t path);
+      mark = only_one (is_marked_for plan t.mark);
+    }
