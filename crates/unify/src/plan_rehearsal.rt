@@ -54,7 +54,8 @@ fn note_waiting(from: &mut Reader, tree: &mut PlanTree<'_, '_>)
     ensures stays { from.new ≡ record from.old { waiting = [] } }
     ensures stands { (text : List ℕ) → reader.StandsFor from.old text
         → reader.StandsFor from.new text }
-    ensures noted { (files : List Entry) (paths : List (List ℕ)) → tree.old ≡ found_among files paths
+    ensures noted { (files : List Entry) (paths : List (List ℕ))
+        → tree.old ≡ found_among files paths
         → tree.new ≡ found_among (files ++ from.old.waiting) paths }
 {
     while let Some(file) = from.next_entry() {
