@@ -8,20 +8,21 @@ HERE = os.path.dirname(os.path.abspath(__file__))
 UNIFY = os.path.join(HERE, "..", "crates", "unify_cli", "out", "unify_cli")
 
 
-def ran(words, **where):
-    """Runs the words; answers what they used, and what they printed."""
+def ran(words, wanted=0, **where):
+    """Runs the words, which have to end with the status that is wanted; answers what they used, and what they printed."""
     child = subprocess.Popen(words, stdout=subprocess.PIPE, **where)
     printed = child.stdout.read()
     _, status, usage = os.wait4(child.pid, 0)
-    if status != 0:
-        sys.exit(f"{words[0]} ended with {os.waitstatus_to_exitcode(status)}")
+    ended = os.waitstatus_to_exitcode(status)
+    if ended != wanted:
+        sys.exit(f"{words[0]} ended with {ended}")
     return usage, printed.decode()
 
 
-def timed(words, **where):
+def timed(words, wanted=0, **where):
     """Runs the words; answers seconds, peak memory in MiB, and what they printed."""
     begun = time.monotonic()
-    usage, printed = ran(words, **where)
+    usage, printed = ran(words, wanted, **where)
     return time.monotonic() - begun, usage.ru_maxrss / 1024, printed
 
 

@@ -1,37 +1,20 @@
 -- Where a text is no plan.
-use Rattle.std.proofs.Common.{◌≡◌, ◌≢◌, ◌+◌, ◌-◌, ℕ, Bool, true, false, ◌||◌, List, [], ◌∷◌, ◌++◌, All, length, take, drop, refl, sym, ◌∙◌, ap, subst, arith, append_assoc, length-append, take-append-drop}
-use Rattle.std.specs.List.{list_any}
+use Rattle.std.proofs.Common.{◌≡◌, ◌≢◌, ◌+◌, ◌-◌, ℕ, true, false, List, ◌++◌, All, length, take, drop, sym, ◌∙◌, ap, subst, arith, append_assoc, length-append, take-append-drop}
 use Rattle.std.specs.Str.{bytes_eq}
 use Rattle.std.specs.Cmp.Lexicographic.{bytes_decides}
-use Rattle.std.proofs.lemmas.List.Elements.{All-head, All-tail}
 use Rattle.reown_plan.specs.declared.plan.PlanFault.TheVariants.{BadPlan}
 use Rattle.reown_plan.specs.PlanData.{PlanRecord, PlanData, HaveDistinctPaths}
 use Rattle.reown_plan.specs.Spelling.{head, line, lines, end, spelling, IsHostName, IsLawfulRecord, IsFaultAt, no_record, trailing}
-use Rattle.reown_plan.proofs.Wholes.{Reads, end_no_line_more}
 
 pub told : (text : List ℕ) (at offset : ℕ) → BadPlan at ≡ BadPlan offset → IsFaultAt text at → IsFaultAt text offset
 told text at offset e h = (let same : at ≡ offset = cc in subst (IsFaultAt text) same h)
 
-all_first : (p : List ℕ) (c : PlanRecord) (cs : List PlanRecord) (b : Bool) → bytes_eq p c.path ≡ b → All (λ d. d.path ≢ p) (c ∷ cs) → (bytes_eq p c.path || list_any (λ d. bytes_eq p d.path) cs) ≡ true → (list_any (λ d. bytes_eq p d.path) cs ≡ true → ⊥) → ⊥
-all_first p c cs true e all h go = All-head (λ (d : PlanRecord). d.path ≢ p) c cs all (sym ((bytes_decides p c.path).0 e))
-all_first p c cs false e all h go = go (ap (λ b. b || list_any (λ d. bytes_eq p d.path) cs) (sym e) ∙ h)
-
-all_other : (p : List ℕ) (cs : List PlanRecord) → All (λ d. d.path ≢ p) cs → list_any (λ d. bytes_eq p d.path) cs ≡ true → ⊥
-all_other p [] all h = cc
-all_other p (c ∷ cs) all h = all_first p c cs (bytes_eq p c.path) refl all h (λ t. all_other p cs (All-tail (λ (d : PlanRecord). d.path ≢ p) c cs all) t)
-
-offset_is : (text a rest : List ℕ) → text ≡ a ++ rest → length a ≡ length text - length rest
+pub offset_is : (text a rest : List ℕ) → text ≡ a ++ rest → length a ≡ length text - length rest
 offset_is text a rest e = omega (arith, ap length e ∙ length-append a rest)
 
 module _ (text host : List ℕ) (records : List PlanRecord) (rest : List ℕ) (name : IsHostName host) (lawful : All IsLawfulRecord records) (distinct : HaveDistinctPaths records) (read : text ≡ head host ++ lines records ++ rest) where
   here : IsFaultAt text (length (head host ++ lines records)) → IsFaultAt text (length text - length rest)
   here h = subst (IsFaultAt text) (offset_is text (head host ++ lines records) rest read) h
-
-  pub dup_fault : (c : PlanRecord) (more : List ℕ) → IsLawfulRecord c → rest ≡ line c ++ more → Reads rest c more → list_any (λ d. bytes_eq c.path d.path) records ≡ true → IsFaultAt text (length text - length rest)
-  dup_fault c more one spelled reads twice =
-      here (no_record host records rest name lawful distinct read
-      (λ d after law other e. all_other d.path records other (subst (λ (x : PlanRecord). list_any (λ y. bytes_eq x.path y.path) records ≡ true) (reads d after law e).0 twice))
-      (λ after e. end_no_line_more c more after one (sym e ∙ spelled)))
 
   pub end_fault : ((d : PlanRecord) (more : List ℕ) → IsLawfulRecord d → rest ≡ line d ++ more → ⊥) → bytes_eq end (take 4 rest) ≡ false → IsFaultAt text (length text - length rest)
   end_fault none differs =

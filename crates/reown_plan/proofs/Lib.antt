@@ -1,10 +1,13 @@
 pub mod Numerals
 pub mod Lines
+pub mod Sorting
+pub mod Bisection
 pub mod Cuts
 pub mod Wholes
 pub mod Unique
 pub mod Faults
 pub mod Readings
+pub mod Repeats
 pub mod Writing
 pub mod Keeping
 pub mod Lawful

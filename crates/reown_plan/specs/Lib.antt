@@ -6,3 +6,5 @@ pub mod Mark
 pub mod Owners
 pub mod Target
 pub mod Keeps
+pub mod Places
+pub mod Fronts

@@ -3,8 +3,10 @@
 
 mod laws;
 mod mark;
+mod places;
 mod plan;
 mod read;
+mod records;
 mod spell;
 mod write;
 

@@ -1,11 +1,12 @@
 //! A plan and its reader.
-ghost use Rattle.std.specs.Prelude.{◌≡◌};
+ghost use Rattle.std.specs.Prelude.{◌≡◌, ◌<◌};
 ghost use Rattle.reown_plan.specs.declared.plan.PlanFault.TheVariants.{BadPlan, Memory};
 
 use crate::mark::PlanMark;
-use crate::read::{read_head, read_record};
+use crate::places::{count_distinct, find_place, sorted_places};
+use crate::read::read_head;
+use crate::records::{behind_records, read_records};
 use std::alloc::{AllocError, AllocFailed, Global};
-use std::collections::BTreeSet;
 use std::marker::Model;
 
 /// The numbers of a file's user and group (chown(2)).
@@ -44,6 +45,8 @@ pub struct Plan<'a> {
     text: &'a [u8],
     host: &'a [u8],
     records: Vec<Record<'a>>,
+    // The places of the records in the byte order of their paths.
+    places: Vec<u32>,
 }
 
 impl<'a> Model for Plan<'a> {
@@ -52,6 +55,7 @@ impl<'a> Model for Plan<'a> {
 
     ghost Value = { PlanData };
 
+    ghost use Rattle.reown_plan.specs.Places.{paths_in, ArePlaces};
     ghost use Rattle.reown_plan.specs.Records.{record_of};
     ghost use Rattle.reown_plan.specs.Spelling.{spelling, IsHostName};
 
@@ -60,14 +64,19 @@ impl<'a> Model for Plan<'a> {
     ghost invariant = { λ p. HaveDistinctPaths (map record_of p.records.items)
         × IsHostName p.host.now
         × (p.text.now
-        ≡ spelling (record { host = p.host.now; records = map record_of p.records.items })) };
+        ≡ spelling (record { host = p.host.now; records = map record_of p.records.items }))
+        × ArePlaces (paths_in (map record_of p.records.items)) p.places.items };
 }
 
-ghost use Rattle.std.specs.Prelude.{map, ℕ, IfOk, IfErr, MatchResult};
+ghost use Rattle.std.specs.Prelude.{◌++◌, map, length, position, List, ℕ, IfOk, IfErr, OnOk};
+ghost use Rattle.std.specs.Prelude.{IfSome, MatchResult};
+ghost use Rattle.std.specs.Str.{bytes_eq};
+ghost use Rattle.reown_plan.specs.Fronts.{IsFront, BeginsNoRecord, IsFaultOf};
 ghost use Rattle.reown_plan.specs.Mark.{mark_of};
+ghost use Rattle.reown_plan.specs.Places.{paths_in, ArePlaces, AreDistinctPaths};
 ghost use Rattle.reown_plan.specs.PlanData.{PlanData, HaveDistinctPaths};
 ghost use Rattle.reown_plan.specs.Records.{record_of};
-ghost use Rattle.reown_plan.specs.Spelling.{spelling, IsLawful, IsFaultAt};
+ghost use Rattle.reown_plan.specs.Spelling.{spelling, head, end, IsLawful, IsFaultAt};
 
 impl From<AllocError> for PlanFault {
     ghost from_gives = { λ _ fault. fault ≡ Memory };
@@ -85,17 +94,65 @@ impl<T: Drop> From<AllocFailed<T>> for PlanFault {
     }
 }
 
+// The places of records whose paths differ. Else the fault is at the first that has the path of an
+// earlier one.
+//
+// rest: what is behind the header.
+fn distinct_places(
+    alloc: Global,
+    text: &[u8],
+    rest: &[u8],
+    records: &[Record<'_>],
+) -> Result<Vec<u32>, PlanFault>
+    requires { (host : List ℕ) × (behind : List ℕ)
+        × IsFront text.now host (map record_of records.now) behind
+        × (text.now ≡ head host ++ rest.now) }
+    ensures places { IfOk result
+        (λ places. ArePlaces (paths_in (map record_of records.now)) places.items) }
+    ensures distinct { OnOk result (HaveDistinctPaths (map record_of records.now)) }
+    ensures fault { IfErr result (IsFaultOf text.now) }
+{
+    let places = sorted_places(alloc, records)?;
+    let count = count_distinct(records, &places);
+    if count < records.len() {
+        let behind = behind_records(rest, count);
+        return Err(PlanFault::BadPlan(text.len() - behind.len()));
+    }
+    Ok(places)
+}
+
+// Looks whether the end, and nothing else, is behind the records.
+fn check_end(text: &[u8], behind: &[u8], records: &[Record<'_>]) -> Result<(), PlanFault>
+    requires front { (host : List ℕ)
+        × IsFront text.now host (map record_of records.now) behind.now }
+    requires distinct { HaveDistinctPaths (map record_of records.now) }
+    requires all { BeginsNoRecord behind.now }
+    ensures end { OnOk result (behind.now ≡ end) }
+    ensures fault { IfErr result (IsFaultOf text.now) }
+{
+    if behind == b"end\n".as_slice() {
+        return Ok(());
+    }
+    let known = if behind.starts_with(b"end\n".as_slice()) {
+        4
+    } else {
+        0
+    };
+    Err(PlanFault::BadPlan(text.len() - behind.len() + known))
+}
+
 impl<'a> Plan<'a> {
     /// Reads a plan, whose paths are slices of its text. A text that is no plan is `BadPlan` with
     /// the byte at which the first header, record or end that is not lawful begins, or what stands
-    /// behind the end. One pass over the text, and for each record a look-up in a search tree of
-    /// the paths before it, since whoever names files chooses their paths: a few comparisons for
-    /// each binary digit of the number of records.
+    /// behind the end. One pass over the text, and one sort of the records by their paths, in
+    /// place: a few comparisons of paths for each binary digit of their number, whatever they are,
+    /// since whoever names files chooses their paths. Where a path stands twice the text is read
+    /// once more up to there.
     ///
     /// # Errors
     ///
-    /// `BadPlan`; or `Memory` where a growth is refused. Of memory a record takes 32 bytes, and
-    /// its path a place in the tree.
+    /// `BadPlan`; or `Memory` where a growth is refused, or the plan has more than 4,294,967,295
+    /// records. Of memory a record takes 36 bytes.
     pub fn read(alloc: Global, text: &'a [u8]) -> Result<Plan<'a>, PlanFault>
         ensures spelled { IfOk result (λ plan. text.now ≡ spelling plan) }
         ensures lawful { IfOk result (λ plan. IsLawful plan) }
@@ -104,31 +161,31 @@ impl<'a> Plan<'a> {
         ensures complete { (plan : PlanData) → IsLawful plan → text.now ≡ spelling plan
             → MatchResult result (λ read. read ≡ plan) (λ fault. fault ≡ Memory) }
     {
-        let Some((host, mut rest)) = read_head(text) else {
+        let Some((host, rest)) = read_head(text) else {
             return Err(PlanFault::BadPlan(0));
         };
-        let mut records = Vec::new(alloc);
-        let mut paths: BTreeSet<&[u8]> = BTreeSet::new(alloc);
-        'records: while let Some((planned, after)) = read_record(rest) {
-            if !paths.insert(planned.path)? {
-                return Err(PlanFault::BadPlan(text.len() - rest.len()));
-            }
-            records.push(planned)?;
-            rest = after;
+        let read = read_records(alloc, rest)?;
+        let places = distinct_places(alloc, text, rest, &read.records)?;
+        check_end(text, read.behind, &read.records)?;
+        Ok(Plan {
+            text,
+            host,
+            records: read.records,
+            places,
+        })
+    }
+
+    /// The place of a path among those of its records, if it is one of them. It looks at the place
+    /// `likely` first, for files that come in the order of the records; else it takes a comparison
+    /// of paths for each binary digit of the number of records, whatever the paths are. No memory.
+    pub fn place_of(&self, path: &[u8], likely: usize) -> Option<usize>
+        ensures place { result ≡ position (bytes_eq path.now) (paths_in self.now.records) }
+        ensures within { IfSome result (λ i. i < length self.now.records) }
+    {
+        match self.records.get(likely) {
+            Some(planned) if planned.path == path => Some(likely),
+            _ => find_place(&self.records, &self.places, path),
         }
-        if rest == b"end\n".as_slice() {
-            return Ok(Plan {
-                text,
-                host,
-                records,
-            });
-        }
-        let behind = if rest.starts_with(b"end\n".as_slice()) {
-            4
-        } else {
-            0
-        };
-        Err(PlanFault::BadPlan(text.len() - rest.len() + behind))
     }
 
     /// The name of its host, a slice of the plan's text. Takes constant time and no memory.

@@ -7,6 +7,7 @@ pub mod Runs
 pub mod Lists
 pub mod Places
 pub mod Memories
+pub mod PlanTrees
 pub mod Campaigns
 pub mod Finishing
 pub mod Moments

@@ -26,7 +26,7 @@ one_of_two a b x (zero, h, e) = inl (sym e)
 one_of_two a b x (suc zero, h, e) = inr (sym e)
 one_of_two a b x (suc (suc k), h, e) = absurd (omega arith)
 
-one_of_one : {X : Type 0} (a x : X) → Contains (a ∷ []) x → x ≡ a
+pub one_of_one : {X : Type 0} (a x : X) → Contains (a ∷ []) x → x ≡ a
 one_of_one a x (zero, h, e) = sym e
 one_of_one a x (suc k, h, e) = absurd (omega arith)
 

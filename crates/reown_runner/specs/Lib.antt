@@ -8,6 +8,7 @@ pub mod Run
 pub mod Paths
 pub mod Memory
 pub mod MemoryReads
+pub mod PlanTree
 pub mod Failing
 pub mod Campaign
 pub mod Interleaved

@@ -7,6 +7,7 @@ mod failing;
 mod laws;
 mod memory;
 mod paths;
+mod plan_tree;
 mod runner;
 mod tree;
 
@@ -17,5 +18,6 @@ pub use laws::{
     stays_safe,
 };
 pub use memory::{FileCell, Keep, MemTree};
+pub use plan_tree::PlanTree;
 pub use runner::{Place, Progress, RunFault, Runner};
 pub use tree::{DeviceFault, Tree};

@@ -19,10 +19,6 @@ module _ (mtree : List ℕ) (plan : PlanData) (host : List ℕ) (same : host ≡
   as_read : (read : Result (List Entry) Fault) → in_file host file.Mtree (inventory 16777216 mtree) ≡ read → rehearsed (Ok plan) mtree ≡ (read >>= carried)
   as_read read e = ap (λ h. in_file h file.Mtree (inventory 16777216 mtree) >>= carried) (sym same) ∙ ap (λ r. r >>= carried) e
 
-  pub files_refused : (o : Option Fault) → IfSome o (λ f. in_file host file.Mtree (inventory 16777216 mtree) ≡ Err f) → IfSome o (λ f. rehearsed (Ok plan) mtree ≡ Err f)
-  files_refused None h = tt
-  files_refused (Some f) h = as_read (Err f) h
-
   pub carried_out : (files : List Entry) → in_file host file.Mtree (inventory 16777216 mtree) ≡ Ok files → (result : Result ℕ Fault) → Gives (λ n. n) told result (carried files) → Gives (λ n. n) told result (rehearsed (Ok plan) mtree)
   carried_out files read result h = subst (Gives (λ n. n) told result) (sym (as_read (Ok files) read)) h
 

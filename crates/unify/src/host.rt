@@ -6,7 +6,6 @@ ghost use Rattle.idtext.specs.First.{Gives, each};
 ghost use Rattle.accounts.specs.Laws.{IsPasswdTable, IsGroupTable};
 ghost use Rattle.accounts.specs.Tables.{passwd_table, group_table};
 ghost use Rattle.logindefs.specs.Ranges.{IsHostRanges, ranges_of};
-ghost use Rattle.mtree_inv.specs.Inventory.{inventory};
 ghost use Rattle.hosts_join.specs.Checks.{primary_checked};
 ghost use Rattle.hosts_join.specs.Hosts.{IsLawfulHost};
 ghost use Rattle.hosts_join.specs.Kinds.{user_at, group_at};
@@ -20,7 +19,7 @@ use accounts::{GroupTable, PasswdTable, read_group, read_passwd};
 use hosts_join::{Host, HostText, Runs, SiteFault, check_primary};
 use idtext::{ByteString, Name, ReadError, TextFault};
 use logindefs::{HostRanges, read_ranges};
-use mtree_inv::{Entry, Inventory, read_inventory};
+use mtree_inv::Entry;
 use std::alloc::{AllocError, Global};
 use unify_texts::{Fault, FileName};
 
@@ -138,19 +137,6 @@ fn groups_at<'a>(alloc: Global, host: &'a [u8], text: &'a [u8]) -> Result<GroupT
     match read_group(alloc, text) {
         Ok(table) => Ok(table),
         Err(ReadError::Fault(fault)) => Err(line_fault(host, FileName::Group, fault)),
-        Err(ReadError::Memory) => Err(Fault::Memory),
-    }
-}
-
-/// The files of a host: its inventory of at most 16,777,216 files. One pass over the text.
-pub fn inventory_at<'a>(alloc: Global, host: &'a [u8], text: &[u8]) -> Result<Inventory, Fault<'a>>
-    ensures exact { Gives (λ files. files) told result
-        (in_file host.now FileName.Mtree (inventory 16777216 text.now)) }
-    ensures few { IfOk result (λ files. length files ≤ 16777216) }
-{
-    match read_inventory(alloc, text, MOST_FILES) {
-        Ok(files) => Ok(files),
-        Err(ReadError::Fault(fault)) => Err(line_fault(host, FileName::Mtree, fault)),
         Err(ReadError::Memory) => Err(Fault::Memory),
     }
 }

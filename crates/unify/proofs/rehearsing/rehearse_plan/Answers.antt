@@ -1,9 +1,13 @@
+use Rattle.std.proofs.Common.{[]}
 use Rattle.unify_texts.specs.Told.{told}
-use Rattle.unify.proofs.Rehearsed.{files_refused, carried_out}
+use Rattle.unify.proofs.PlanRehearsals.{refused_whole}
 use Rattle.unify.proofs.rehearsing.rehearse_plan.Goals as goal
 
-pub returns-in-Err : goal.returns-in-Err
-returns-in-Err c = files_refused c.args.mtree.now c.args.plan.now c.host.result.now c.host.ensures (told c.in-Err.fault) c.in-Err.ensures.exact
+pub end-requires : goal.end-requires
+end-requires c = (c.args.plan.now, c.args.mtree.now, c.in-Ok.ensures.stands c.args.plan.now [] c.in_ok-rehearsal.ensures)
 
 pub returns-in-Ok : goal.returns-in-Ok
-returns-in-Ok c = carried_out c.args.mtree.now c.args.plan.now c.host.result.now c.host.ensures c.in-Ok.files c.in-Ok.ensures.exact c.carry_out.result c.carry_out.ensures
+returns-in-Ok c = c.end.ensures c.args.plan.now c.args.mtree.now (c.in-Ok.ensures.stands c.args.plan.now [] c.in_ok-rehearsal.ensures)
+
+pub returns : goal.returns
+returns c = refused_whole c.args.plan.now c.args.mtree.now (told c.in-Err.fault) (c.in-Err.ensures.refused c.args.plan.now [] c.in_ok-rehearsal.ensures)

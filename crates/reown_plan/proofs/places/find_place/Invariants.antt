@@ -1,0 +1,18 @@
+use Rattle.std.proofs.Common.{◌≡◌, ◌-◌, ℕ, ◌<◌, ◌≤◌, map, length, get_or}
+use Rattle.std.specs.Cmp.Lexicographic.{slice_cmp}
+use Rattle.std.specs.Ordering.{nat_cmp}
+use Rattle.std.specs.declared.cmp.Ordering.TheVariants.{Less, Greater}
+use Rattle.reown_plan.specs.Places.{paths_in, path_at}
+use Rattle.reown_plan.specs.Records.{record_of}
+use Rattle.reown_plan.proofs.places.find_place.Given as goal
+
+abbrev pub invariant-loop-low : goal.invariant-loop-low
+invariant-loop-low l = record {
+  ordered : l.low ≤ l.high;
+  within : l.high ≤ length l.places;
+  before : (k : ℕ) → k < l.low → slice_cmp nat_cmp (path_at (paths_in (map record_of l.records)) (get_or l.places k 0)) l.path ≡ Less;
+  after : (k : ℕ) → l.high ≤ k → k < length l.places → slice_cmp nat_cmp (path_at (paths_in (map record_of l.records)) (get_or l.places k 0)) l.path ≡ Greater;
+}
+
+abbrev pub decreases-loop-low : goal.decreases-loop-low
+decreases-loop-low l = l.high - l.low

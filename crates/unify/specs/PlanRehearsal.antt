@@ -1,0 +1,24 @@
+-- What a rehearsal stands for whose inventory comes in pieces.
+-- Source: this project's own rule.
+use Rattle.std.specs.Prelude.{◌≡◌, ℕ, false, List, [], ◌++◌, None, Ok, Err}
+use Rattle.mtree_inv.specs.Standing as reader
+use Rattle.reown_plan.specs.PlanData.{PlanData}
+use Rattle.reown_plan.specs.Places.{paths_in}
+use Rattle.reown_runner.specs.PlanTree.{found_among}
+use Rattle.unify_texts.specs.declared.fault.Fault.{Fault}
+use Rattle.unify.specs.Rehearsing.{rehearsed}
+use Rattle.unify.specs.declared.plan_rehearsal.Rehearsal.{Rehearsal}
+
+-- of the inventory this text has come, in which there is no fault so far
+pub record StandsFor (rehearsal : Rehearsal) (plan : PlanData) (text : List ℕ) : Type 0 where
+  pub lent : rehearsal.plan.now ≡ plan
+  pub reading : reader.StandsFor rehearsal.reader text
+  pub takes : rehearsal.reader.most ≡ 16777216
+  pub going : rehearsal.reader.is_finished ≡ false
+  pub sound : rehearsal.reader.fault ≡ None
+  pub waiting : rehearsal.reader.waiting ≡ []
+  pub found : rehearsal.tree ≡ found_among rehearsal.reader.files (paths_in plan.records)
+
+-- this fault is the answer, whatever comes behind the text
+abbrev pub IsRefusedBy : PlanData → List ℕ → Fault → Type 0
+IsRefusedBy plan text f = (more : List ℕ) → rehearsed (Ok plan) (text ++ more) ≡ Err f
