@@ -42,10 +42,9 @@ module _ (text mtree : List ℕ) where
 
   -- ---- the reply
 
-  pub lines_told : (n : ℕ) (lines : List ℕ) → IsRehearsed text mtree (Ok n) → lines ≡ records_lines n → Answers (IsRehearsalTold text mtree) (record { text = lines; status = 0 })
-  lines_told n lines is e =
-      let with_text : List ℕ → Answer = λ t. record { text = t; status = 0 } in
-      (Ok (records_lines n), (Ok n, is, refl), ap with_text e)
+  pub records_told : {E : Type 0} (n : ℕ) (r : Result Reply E) → IsRehearsed text mtree (Ok n) → IfOk r (λ reply. reply_of reply ≡ answered (Ok (records_lines n))) → IfOk r (λ reply. Answers (IsRehearsalTold text mtree) (reply_of reply))
+  records_told n (Ok reply) is h = (Ok (records_lines n), (Ok n, is, refl), h)
+  records_told n (Err e) is h = tt
 
   pub refusal_told : {E : Type 0} (f : Fault) (r : Result Reply E) → IfSome (told f) (λ g. IsRehearsed text mtree (Err g)) → IfOk r (λ reply. (told f ≡ Some f) × (reply_of reply ≡ answered (Err f)))
       → IfOk r (λ reply. Answers (IsRehearsalTold text mtree) (reply_of reply))
