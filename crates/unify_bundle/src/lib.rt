@@ -21,7 +21,7 @@ mod texts;
 
 pub use bundle_run::{answer, run_bundle};
 pub use merge_text::{merge_hosts_reply, merge_reply};
-pub use rehearsal::rehearse_reply;
+pub use rehearsal::{records_reply, rehearse_reply};
 pub use rehearsing_site::{SiteRun, rehearse_site};
 pub use reply::{Reply, accepted_reply, check_reply, cost_reply, count_reply, refused};
 pub use streams::{Sink, Source, Watched};

@@ -173,3 +173,63 @@ impl ReadFiles for HostFiles<'_> {
         self.calls.told(done, &Call::Piece(bytes))
     }
 }
+
+/// The inventory at a path, for a command that reads it once.
+#[derive(Drop)]
+pub struct InventoryAt<'w> {
+    rt: &'w HostRuntime,
+    path: &'w str,
+    inventory: InventoryFile,
+    // Whether a reading was begun since it was opened.
+    is_begun: bool,
+    calls: Calls,
+}
+
+impl<'w> InventoryAt<'w> {
+    /// Opens it. Nothing is read as yet.
+    pub fn new(rt: &'w HostRuntime, path: &'w str) -> Result<InventoryAt<'w>, FileFault> {
+        let inventory = InventoryFile::open_path(rt, path)?;
+        Ok(InventoryAt {
+            rt,
+            path,
+            inventory,
+            is_begun: false,
+            calls: Calls::new(),
+        })
+    }
+
+    // Begins a reading.
+    fn begin(&mut self) -> Result<(), FileFault> {
+        if self.is_begun {
+            self.inventory = InventoryFile::open_path(self.rt, self.path)?;
+        }
+        self.is_begun = true;
+        Ok(())
+    }
+
+    /// Why a call failed.
+    pub fn fault(&self) -> FileFault {
+        self.calls.fault()
+    }
+
+    /// Tells that it has too many bytes.
+    pub fn too_large(&self) -> FileFault {
+        self.inventory.too_large(self.rt)
+    }
+}
+
+impl ReadFiles for InventoryAt<'_> {
+    ghost ledger = { λ files. files.calls.log.ledger };
+
+    ghost has_failed = { λ files. is_some files.calls.fault };
+
+    fn open(&mut self, host: usize) -> Result<(), CallFailed> {
+        let done = self.begin();
+        self.calls.told(done, &Call::Open(host))
+    }
+
+    fn piece(&mut self, bytes: &mut Vec<u8>) -> Result<(), CallFailed> {
+        let done = self.inventory.next_piece(self.rt, bytes);
+        self.calls.told(done, &Call::Piece(bytes))
+    }
+}

@@ -1,6 +1,6 @@
 //! Commands given in words.
 
-use crate::inventories::HostFiles;
+use crate::inventories::{HostFiles, InventoryAt};
 use crate::site_files::SiteFiles;
 use clap::error::ErrorKind;
 use clap::{ArgMatches, Error};
@@ -10,13 +10,13 @@ use inventory_files::run_inventory;
 use std::alloc::AllocError;
 use unify::Cost;
 use unify_apply::run_apply;
-use unify_bundle::{Reply, accepted_reply, cost_reply, refused, rehearse_reply};
+use unify_bundle::{Reply, accepted_reply, cost_reply, records_reply, refused};
 use unify_io::{
     FileFault, command_line, file_fault_told, memory_refused, no_host, open_output, print_answer,
     read_file, read_hosts_tables, read_named, tell_of_keep, warn_of_end, warn_of_hosts_tables,
     warn_of_merge, write_failed, wrong_words,
 };
-use unify_merge::{MergeFault, check_files, count_files, merge_files};
+use unify_merge::{MergeFault, check_files, count_files, merge_files, rehearse_files};
 use unify_texts::Fault;
 use verify_files::run_verify;
 
@@ -177,21 +177,31 @@ fn run_check(rt: &HostRuntime, matches: &ArgMatches<'_>) -> Result<u8, FileFault
     check_texts(rt, matches, &certificate, &pins, &keep)
 }
 
-// Prints what a rehearsal of a plan on an inventory gives.
-fn rehearse_texts(
-    rt: &HostRuntime,
-    plan: &ByteString,
-    mtree: &ByteString,
-) -> Result<u8, FileFault> {
-    let reply = rehearse_reply(rt.alloc(), plan.bytes(), mtree.bytes())?;
+// Prints how many records a plan has that was carried out.
+fn print_records(rt: &HostRuntime, records: u32) -> Result<u8, FileFault> {
+    let reply = records_reply(rt.alloc(), records)?;
     Ok(print_reply(rt, &reply))
+}
+
+// Prints what a rehearsal of a plan on an inventory gives.
+fn rehearse_by(
+    rt: &HostRuntime,
+    inventory: &mut InventoryAt<'_>,
+    plan: &ByteString,
+) -> Result<u8, FileFault> {
+    match rehearse_files(rt.alloc(), inventory, plan.bytes()) {
+        Ok(records) => print_records(rt, records),
+        Err(MergeFault::Refused(fault)) => print_refused(rt, &fault, true),
+        Err(MergeFault::TooLarge) => Err(inventory.too_large()),
+        Err(MergeFault::Failed) => Err(inventory.fault()),
+    }
 }
 
 // rehearse PLAN MTREE
 fn run_rehearse(rt: &HostRuntime, matches: &ArgMatches<'_>) -> Result<u8, FileFault> {
     let plan = read_file(rt, matches.get_str("PLAN").unwrap_or(""))?;
-    let mtree = read_file(rt, matches.get_str("MTREE").unwrap_or(""))?;
-    rehearse_texts(rt, &plan, &mtree)
+    let mut inventory = InventoryAt::new(rt, matches.get_str("MTREE").unwrap_or(""))?;
+    rehearse_by(rt, &mut inventory, &plan)
 }
 
 // Merges the hosts that words name into a directory, which is looked at first, and is locked until

@@ -46,7 +46,7 @@ impl FileLines {
     }
 }
 
-/// The inventory of a host, open to be read once.
+/// An inventory, open to be read once.
 #[derive(Drop)]
 pub struct InventoryFile {
     path: PathBuf,
@@ -63,6 +63,16 @@ impl InventoryFile {
     /// Opens the inventory of the host that a word names.
     pub fn open(rt: &HostRuntime, word: &str) -> Result<InventoryFile, FileFault> {
         let path = Path::new(host_directory(word)).join(rt.alloc(), "mtree")?;
+        InventoryFile::open_at(rt, path)
+    }
+
+    /// Opens the inventory at a path.
+    pub fn open_path(rt: &HostRuntime, path: &str) -> Result<InventoryFile, FileFault> {
+        InventoryFile::open_at(rt, PathBuf::from_str(rt.alloc(), path)?)
+    }
+
+    // Opens the inventory at a path.
+    fn open_at(rt: &HostRuntime, path: PathBuf) -> Result<InventoryFile, FileFault> {
         match open_buffered(rt, path.as_str()) {
             Ok(reader) => Ok(InventoryFile {
                 path,

@@ -12,3 +12,4 @@ pub mod WholeCheck
 pub mod WholeCount
 pub mod Surveyed
 pub mod Finding
+pub mod Rehearsals

@@ -10,3 +10,4 @@ pub mod Merge
 pub mod Check
 pub mod Count
 pub mod Surveyed
+pub mod Rehearse
