@@ -174,14 +174,31 @@ impl ReadFiles for HostFiles<'_> {
     }
 }
 
-/// The inventory at a path, for a command that reads it once.
+// The inventory at a path, which is open.
 #[derive(Drop)]
-pub struct InventoryAt<'w> {
+struct OpenInventory<'w> {
     rt: &'w HostRuntime,
     path: &'w str,
     inventory: InventoryFile,
     // Whether a reading was begun since it was opened.
     is_begun: bool,
+}
+
+impl OpenInventory<'_> {
+    // Begins a reading.
+    fn begin(&mut self) -> Result<(), FileFault> {
+        if self.is_begun {
+            self.inventory = InventoryFile::open_path(self.rt, self.path)?;
+        }
+        self.is_begun = true;
+        Ok(())
+    }
+}
+
+/// The inventory at a path, for a command that reads it once.
+#[derive(Drop)]
+pub struct InventoryAt<'w> {
+    open: OpenInventory<'w>,
     calls: Calls,
 }
 
@@ -190,21 +207,14 @@ impl<'w> InventoryAt<'w> {
     pub fn new(rt: &'w HostRuntime, path: &'w str) -> Result<InventoryAt<'w>, FileFault> {
         let inventory = InventoryFile::open_path(rt, path)?;
         Ok(InventoryAt {
-            rt,
-            path,
-            inventory,
-            is_begun: false,
+            open: OpenInventory {
+                rt,
+                path,
+                inventory,
+                is_begun: false,
+            },
             calls: Calls::new(),
         })
-    }
-
-    // Begins a reading.
-    fn begin(&mut self) -> Result<(), FileFault> {
-        if self.is_begun {
-            self.inventory = InventoryFile::open_path(self.rt, self.path)?;
-        }
-        self.is_begun = true;
-        Ok(())
     }
 
     /// Why a call failed.
@@ -214,7 +224,7 @@ impl<'w> InventoryAt<'w> {
 
     /// Tells that it has too many bytes.
     pub fn too_large(&self) -> FileFault {
-        self.inventory.too_large(self.rt)
+        self.open.inventory.too_large(self.open.rt)
     }
 }
 
@@ -224,12 +234,12 @@ impl ReadFiles for InventoryAt<'_> {
     ghost has_failed = { λ files. is_some files.calls.fault };
 
     fn open(&mut self, host: usize) -> Result<(), CallFailed> {
-        let done = self.begin();
+        let done = self.open.begin();
         self.calls.told(done, &Call::Open(host))
     }
 
     fn piece(&mut self, bytes: &mut Vec<u8>) -> Result<(), CallFailed> {
-        let done = self.inventory.next_piece(self.rt, bytes);
+        let done = self.open.inventory.next_piece(self.open.rt, bytes);
         self.calls.told(done, &Call::Piece(bytes))
     }
 }
