@@ -193,6 +193,11 @@ impl OpenInventory<'_> {
         self.is_begun = true;
         Ok(())
     }
+
+    // Replaces the bytes by the next ones.
+    fn read_on(&mut self, bytes: &mut Vec<u8>) -> Result<(), FileFault> {
+        self.inventory.next_piece(self.rt, bytes)
+    }
 }
 
 /// The inventory at a path, for a command that reads it once.
@@ -239,7 +244,7 @@ impl ReadFiles for InventoryAt<'_> {
     }
 
     fn piece(&mut self, bytes: &mut Vec<u8>) -> Result<(), CallFailed> {
-        let done = self.open.inventory.next_piece(self.open.rt, bytes);
+        let done = self.open.read_on(bytes);
         self.calls.told(done, &Call::Piece(bytes))
     }
 }
