@@ -91,8 +91,9 @@ pub fn verify<'a>(
 /// replaced. It refuses as `consolidate` does.
 ///
 /// It is the merge that people run, over files in memory: it reads each inventory twice, each
-/// passwd and each group twice, and else each text once. Its time is near linear in the texts but for the
-/// solver, which is near linear where few numbers are contested. What it writes is in memory.
+/// passwd and each group twice, and else each text once. Its time is near linear in the texts but
+/// for the solver, which is near linear where few numbers are contested. What it writes is in
+/// memory.
 pub fn consolidate_hosts<'a>(
     alloc: Global,
     hosts: &'a [HostText],

@@ -37,7 +37,11 @@ impl<'w> Inventories<'w> {
         let Some(word) = self.words.get(host) else {
             return Err(no_host(self.rt));
         };
-        self.inventory = Some(InventoryFile::open(self.rt, *word)?);
+        let mut inventory = InventoryFile::open(self.rt, *word)?;
+        if self.opened < self.words.len() {
+            inventory.count_lines();
+        }
+        self.inventory = Some(inventory);
         self.opened = self.opened.saturating_add(1);
         Ok(())
     }

@@ -4,14 +4,14 @@ use crate::files::{FileFault, host_directory, too_large};
 use crate::report::file_failed;
 use crate::warnings::is_of_file;
 use std::fs::File;
-use std::io::{self, BufRead, BufReader, Read};
+use std::io::{self, BufReader, Read};
 use std::path::{Path, PathBuf};
 
 // How many bytes of an inventory are asked of the system at once.
 const BUFFER_BYTES: usize = 65536;
 
-// How many bytes of a line, and about how many of a piece, are handed out at once. The files of a
-// piece wait with their whole paths, and a path may be that of 30,000 directories: so they are few.
+// How many bytes are handed out at once, at most. The files of a piece wait with their whole paths,
+// and a path may be that of 30,000 directories: so they are few.
 const PIECE_BYTES: usize = 1024;
 
 /// How many lines of an inventory are of files, as far as it was read.
@@ -30,9 +30,16 @@ impl FileLines {
         }
     }
 
+    // Takes the next bytes.
+    fn take(&mut self, bytes: &[u8]) {
+        for part in bytes.split_inclusive(|byte| *byte == b'\n') {
+            self.take_part(part);
+        }
+    }
+
     // Takes a part of a line, of which the last has the newline. A line that ends in a backslash
     // goes on in the next.
-    fn take(&mut self, part: &[u8]) {
+    fn take_part(&mut self, part: &[u8]) {
         let line = part.strip_suffix(b"\n").unwrap_or(part);
         if !self.is_decided
             && let Some(is_of_file) = is_of_file(line)
@@ -51,7 +58,8 @@ impl FileLines {
 pub struct InventoryFile {
     path: PathBuf,
     reader: BufReader<File>,
-    lines: FileLines,
+    // Where its lines of files are counted.
+    lines: Option<FileLines>,
 }
 
 // Opens a file to be read in parts.
@@ -77,44 +85,36 @@ impl InventoryFile {
             Ok(reader) => Ok(InventoryFile {
                 path,
                 reader,
-                lines: FileLines::new(),
+                lines: None,
             }),
             Err(error) => Err(file_failed(rt, path.as_str(), &error)),
         }
     }
 
-    // Appends the next line, or a part of it, and hands out how many bytes it has: none only at the
-    // end.
-    fn append_line(&mut self, bytes: &mut Vec<u8>) -> io::Result<usize> {
-        let from = bytes.len();
-        let mut part = self.reader.by_ref().take(PIECE_BYTES as u64);
-        let count = part.read_until(b'\n', bytes)?;
-        self.lines.take(&bytes[from..]);
-        Ok(count)
-    }
-
-    // Appends lines until there are enough bytes for a piece. Each has at least one byte.
-    fn append_lines(&mut self, bytes: &mut Vec<u8>) -> io::Result<()> {
-        for _ in 0..PIECE_BYTES {
-            if bytes.len() >= PIECE_BYTES || self.append_line(bytes)? == 0 {
-                break;
-            }
-        }
-        Ok(())
+    /// Counts its lines of files from here on.
+    pub fn count_lines(&mut self) {
+        self.lines = Some(FileLines::new());
     }
 
     /// Replaces the bytes by the next ones: none only at its end.
     pub fn next_piece(&mut self, rt: &HostRuntime, bytes: &mut Vec<u8>) -> Result<(), FileFault> {
         bytes.clear();
-        if let Err(error) = self.append_lines(bytes) {
+        let mut piece = self.reader.by_ref().take(PIECE_BYTES as u64);
+        if let Err(error) = piece.read_to_end(bytes) {
             return Err(file_failed(rt, self.path.as_str(), &error));
+        }
+        if let Some(lines) = &mut self.lines {
+            lines.take(bytes);
         }
         Ok(())
     }
 
-    /// How many lines that were read are of files.
+    /// How many lines are of files, of those that were read since they are counted.
     pub fn file_lines(&self) -> u64 {
-        self.lines.count
+        match &self.lines {
+            Some(lines) => lines.count,
+            None => 0,
+        }
     }
 
     /// Tells that it has too many bytes.

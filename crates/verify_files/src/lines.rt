@@ -77,8 +77,8 @@ fn push_group(line: &mut Vec<u8>, accounts: &Accounts<'_>, gid: u32) -> Result<(
     push_owner(line, group_name(accounts, gid), gid)
 }
 
-// Appends ` user NAME UID` and ` group NAME GID` of a file, by these account files: those of the two
-// that are asked for.
+// Appends ` user NAME UID` and ` group NAME GID` of a file, by these account files: those of the
+// two that are asked for.
 fn push_owners(
     line: &mut Vec<u8>,
     accounts: &Accounts<'_>,
