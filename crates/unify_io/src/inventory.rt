@@ -1,8 +1,8 @@
 //! Inventories that are read in pieces.
 
+use crate::file_lines::FileLines;
 use crate::files::{FileFault, host_directory, too_large};
 use crate::report::file_failed;
-use crate::warnings::is_of_file;
 use std::fs::File;
 use std::io::{self, BufReader, Read};
 use std::path::{Path, PathBuf};
@@ -13,45 +13,6 @@ const BUFFER_BYTES: usize = 65536;
 // How many bytes are handed out at once, at most. The files of a piece wait with their whole paths,
 // and a path may be that of 30,000 directories: so they are few.
 const PIECE_BYTES: usize = 1024;
-
-/// How many lines of an inventory are of files, as far as it was read.
-#[derive(Drop)]
-struct FileLines {
-    count: u64,
-    // Whether a part of the line was counted, or is of no file.
-    is_decided: bool,
-}
-
-impl FileLines {
-    fn new() -> FileLines {
-        FileLines {
-            count: 0,
-            is_decided: false,
-        }
-    }
-
-    // Takes the next bytes.
-    fn take(&mut self, bytes: &[u8]) {
-        for part in bytes.split_inclusive(|byte| *byte == b'\n') {
-            self.take_part(part);
-        }
-    }
-
-    // Takes a part of a line, of which the last has the newline. A line that ends in a backslash
-    // goes on in the next.
-    fn take_part(&mut self, part: &[u8]) {
-        let line = part.strip_suffix(b"\n").unwrap_or(part);
-        if !self.is_decided
-            && let Some(is_of_file) = is_of_file(line)
-        {
-            self.is_decided = true;
-            self.count = self.count.saturating_add(u64::from(is_of_file));
-        }
-        if line.len() < part.len() && !line.ends_with(b"\\") {
-            self.is_decided = false;
-        }
-    }
-}
 
 /// An inventory, open to be read once.
 #[derive(Drop)]
@@ -112,7 +73,7 @@ impl InventoryFile {
     /// How many lines are of files, of those that were read since they are counted.
     pub fn file_lines(&self) -> u64 {
         match &self.lines {
-            Some(lines) => lines.count,
+            Some(lines) => lines.count(),
             None => 0,
         }
     }

@@ -4,6 +4,7 @@
 #![tactic(auto)]
 
 mod commands;
+mod file_lines;
 mod files;
 mod inventory;
 mod merge_warnings;

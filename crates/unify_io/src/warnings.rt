@@ -104,23 +104,6 @@ fn is_all_skipped(text: &[u8]) -> bool {
     Lines::new(text).all(|line| is_skipped(line))
 }
 
-// Whether a byte stands between words.
-fn is_white(byte: u8) -> bool {
-    byte == b' ' || byte == b'\t'
-}
-
-/// Whether a line of an inventory is of a file; None where it has no word. No more of it is looked
-/// at than the start of its first word.
-pub fn is_of_file(line: &[u8]) -> Option<bool> {
-    let start = line.iter().position(|byte| !is_white(*byte))?;
-    match line.get(start..)? {
-        [b'#' | b'/', ..] => Some(false),
-        [b'.', b'.'] => Some(false),
-        [b'.', b'.', byte, ..] => Some(!is_white(*byte)),
-        _ => Some(true),
-    }
-}
-
 /// Warns of a host without files.
 pub fn warn_of_no_files(rt: &HostRuntime, name: &[u8]) -> Result<(), AllocError> {
     warn_of_host(rt, name, "has no files")

@@ -1,0 +1,96 @@
+//! Which lines of an inventory are of files, for warnings.
+
+/// What the bytes of a line that have come say of its first word.
+#[derive(Clone, Copy, PartialEq, Eq)]
+enum LineStart {
+    /// There are none but white space.
+    Blank,
+    /// It begins with a full stop, and no more of it has come.
+    Dot,
+    /// It begins with two.
+    DotDot,
+    /// It names a file.
+    File,
+    /// The line is a comment, sets keywords, or closes a directory.
+    Other,
+}
+
+impl LineStart {
+    // What they say with one byte more.
+    fn with(self, byte: u8) -> LineStart {
+        match (self, byte) {
+            (LineStart::Blank, b' ' | b'\t') => LineStart::Blank,
+            (LineStart::Blank, b'#' | b'/') => LineStart::Other,
+            (LineStart::Blank, b'.') => LineStart::Dot,
+            (LineStart::Dot, b'.') => LineStart::DotDot,
+            (LineStart::DotDot, b' ' | b'\t') => LineStart::Other,
+            (LineStart::Blank | LineStart::Dot | LineStart::DotDot, _) => LineStart::File,
+            (LineStart::File | LineStart::Other, _) => self,
+        }
+    }
+
+    // Whether no byte more can change that.
+    fn is_decided(self) -> bool {
+        matches!(self, LineStart::File | LineStart::Other)
+    }
+}
+
+/// How many lines of an inventory are of files, as far as it has come.
+#[derive(Drop)]
+pub struct FileLines {
+    ended: u64,
+    start: LineStart,
+    // Whether the last byte of the line was a backslash: then it goes on in the next line.
+    is_joined: bool,
+}
+
+impl FileLines {
+    /// Nothing has come.
+    pub fn new() -> FileLines {
+        FileLines {
+            ended: 0,
+            start: LineStart::Blank,
+            is_joined: false,
+        }
+    }
+
+    /// How many there are.
+    pub fn count(&self) -> u64 {
+        let is_file = matches!(self.start, LineStart::File | LineStart::Dot);
+        self.ended.saturating_add(u64::from(is_file))
+    }
+
+    /// Takes the next bytes.
+    pub fn take(&mut self, bytes: &[u8]) {
+        for part in bytes.split_inclusive(|byte| *byte == b'\n') {
+            match part.strip_suffix(b"\n") {
+                Some(line) => {
+                    self.take_part(line);
+                    self.end_line();
+                }
+                None => self.take_part(part),
+            }
+        }
+    }
+
+    // Takes a part of a line.
+    fn take_part(&mut self, part: &[u8]) {
+        for byte in part {
+            if self.start.is_decided() {
+                break;
+            }
+            self.start = self.start.with(*byte);
+        }
+        if let Some(last) = part.last() {
+            self.is_joined = *last == b'\\';
+        }
+    }
+
+    fn end_line(&mut self) {
+        if !self.is_joined {
+            self.ended = self.count();
+            self.start = LineStart::Blank;
+        }
+        self.is_joined = false;
+    }
+}
