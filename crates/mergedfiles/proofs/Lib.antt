@@ -25,3 +25,4 @@ pub mod HostKept
 pub mod HostExample
 pub mod SameRows
 pub mod SameUsers
+pub mod ComingRows

@@ -21,12 +21,12 @@ use Rattle.hosts_join.proofs.Grouping.{bytes_same, bytes_refl}
 use Rattle.hosts_join.proofs.Knowing.{host-known}
 use Rattle.mergedfiles.specs.declared.Field.{Field}
 use Rattle.mergedfiles.specs.declared.Field.TheVariants.{Password, Comment, Home, Shell, Group}
-use Rattle.mergedfiles.specs.Alike.{Covers, CoversHosts, IsCovered, is_differing, is_same, says_same, seen_at}
+use Rattle.mergedfiles.specs.Alike.{Covers, CoversHosts, IsCovered, IsSaidBy, SaysThat, field_said, fields_agree, is_differing, says_same, seen_at}
+use Rattle.mergedfiles.specs.declared.alike.Said.{Said}
 use Rattle.mergedfiles.specs.declared.alike.Sameness.{Sameness}
 use Rattle.mergedfiles.specs.declared.alike.Sameness.TheVariants.{Unseen, Same, Differing}
 use Rattle.mergedfiles.specs.Differences.{user_differs, user_differences, user_field}
 use Rattle.mergedfiles.specs.Rows.{UserRow, users_named}
-use Rattle.mergedfiles.specs.Seen.{user_seen}
 use Rattle.mergedfiles.specs.Together.{AreJoined}
 use Rattle.mergedfiles.proofs.HostNames.{IsFound, each-found, told-by}
 use Rattle.mergedfiles.proofs.ReadHosts.{found-holds, host-holds}
@@ -35,35 +35,49 @@ use Rattle.mergedfiles.proofs.SameRows.{row_on}
 
 -- ---- rows that say the same
 
-fields-same : (first user : UserRow) → says_same first user ≡ true → (what : Field) → user_field what user ≡ user_field what first
+fields-same : (first user : Said) → says_same first user ≡ true → (what : Field) → field_said user what ≡ field_said first what
 fields-same first user e what =
-    let abcd = and_parts _ (is_same first user Group) e in
-    let abc = and_parts _ (is_same first user Shell) abcd.0 in
-    let ab = and_parts _ (is_same first user Home) abc.0 in
-    let a = and_parts (is_same first user Password) (is_same first user Comment) ab.0 in
-    elim what as (λ w. user_field w user ≡ user_field w first) [
-      | Password ↦ bytes_same user.row.password first.row.password a.0
-      | Comment ↦ bytes_same user.row.comment first.row.comment a.1
-      | Home ↦ bytes_same user.row.home first.row.home ab.1
-      | Shell ↦ bytes_same user.row.shell first.row.shell abc.1
-      | Group ↦ bytes_same (user_field Group user) (user_field Group first) abcd.1
+    let abcd = and_parts (fields_agree first.row.now user.row.now) (bytes_eq user.group.now first.group.now) e in
+    let abc = and_parts _ (bytes_eq user.row.now.shell first.row.now.shell) abcd.0 in
+    let ab = and_parts _ (bytes_eq user.row.now.home first.row.now.home) abc.0 in
+    let a = and_parts (bytes_eq user.row.now.password first.row.now.password) (bytes_eq user.row.now.comment first.row.now.comment) ab.0 in
+    elim what as (λ w. field_said user w ≡ field_said first w) [
+      | Password ↦ bytes_same user.row.now.password first.row.now.password a.0
+      | Comment ↦ bytes_same user.row.now.comment first.row.now.comment a.1
+      | Home ↦ bytes_same user.row.now.home first.row.now.home ab.1
+      | Shell ↦ bytes_same user.row.now.shell first.row.now.shell abc.1
+      | Group ↦ bytes_same user.group.now first.group.now abcd.1
     ]
 
-abbrev AllSay : UserRow → List UserRow → Type 0
-AllSay seen rows = AllByRecursion (λ user. says_same seen user ≡ true) rows
+-- a row says what was said by it
+pub says-that : (said : Said) (user : UserRow) → IsSaidBy user said → SaysThat said user
+says-that said user is what = elim what as (λ w. user_field w user ≡ field_said said w) [
+  | Password ↦ ap (λ (r : Passwd). r.password) (sym is.0)
+  | Comment ↦ ap (λ (r : Passwd). r.comment) (sym is.0)
+  | Home ↦ ap (λ (r : Passwd). r.home) (sym is.0)
+  | Shell ↦ ap (λ (r : Passwd). r.shell) (sym is.0)
+  | Group ↦ sym is.1
+]
 
-none-differs : (name : List ℕ) (seen first : UserRow) (later : List UserRow) (what : Field) → says_same seen first ≡ true → AllSay seen later → user_differs name what first later ≡ []
-none-differs name seen first [] what e all = refl
-none-differs name seen first (user ∷ later) what e all =
-    let fields : user_field what user ≡ user_field what first = fields-same seen user all.0 what ∙ sym (fields-same seen first e what) in
+-- and what the first said, where the two are the same
+pub says-same : (first said : Said) (user : UserRow) → says_same first said ≡ true → IsSaidBy user said → SaysThat first user
+says-same first said user e is = λ what. says-that said user is what ∙ fields-same first said e what
+
+abbrev AllSay : Said → List UserRow → Type 0
+AllSay said rows = AllByRecursion (SaysThat said) rows
+
+none-differs : (name : List ℕ) (said : Said) (first : UserRow) (later : List UserRow) (what : Field) → SaysThat said first → AllSay said later → user_differs name what first later ≡ []
+none-differs name said first [] what e all = refl
+none-differs name said first (user ∷ later) what e all =
+    let fields : user_field what user ≡ user_field what first = all.0 what ∙ sym (e what) in
     let same : bytes_eq (user_field what user) (user_field what first) ≡ true = ap (λ t. bytes_eq t (user_field what first)) fields ∙ bytes_refl (user_field what first) in
-    rw same (none-differs name seen first later what e all.1)
+    rw same (none-differs name said first later what e all.1)
 
 none-told : (name : List ℕ) (seen : Sameness) (rows : List UserRow) → is_differing seen ≡ false → AllByRecursion (Covers seen) rows → user_differences name rows ≡ []
 none-told name seen [] alike all = refl
 none-told name Unseen (first ∷ later) alike all = absurd all.0
 none-told name (Same one) (first ∷ later) alike all =
-    let none = λ (what : Field). none-differs name (user_seen one) first later what all.0 all.1 in
+    let none = λ (what : Field). none-differs name one first later what all.0 all.1 in
     rw (none Password, none Comment, none Home, none Shell, none Group) refl
 none-told name Differing (first ∷ later) alike all = absurd (cc)
 

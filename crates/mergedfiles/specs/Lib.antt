@@ -11,5 +11,5 @@ pub mod HostReadBack
 pub mod FullTables
 pub mod Spots
 pub mod Alike
-pub mod Primary
+pub mod Coming
 pub mod Seen

@@ -5,16 +5,22 @@
 ghost use Rattle.std.specs.Prelude.{◌≡◌, ℕ, ◌<◌, ◌≤◌, length, IfOk};
 ghost use Rattle.std.specs.Str.{bytes_eq};
 ghost use Rattle.mergedfiles.specs.Alike as spec;
-ghost use Rattle.mergedfiles.specs.Alike.{Covers, CoversHost, CoversHosts, seen_at};
+ghost use Rattle.mergedfiles.specs.Alike.{Covers, CoversHost, CoversHosts, IsSaidBy, seen_at};
+ghost use Rattle.mergedfiles.specs.Differences as differences;
 ghost use Rattle.mergedfiles.specs.Rows.{UserRow};
-ghost use Rattle.mergedfiles.specs.Seen.{user_seen};
 ghost use Rattle.mergedfiles.specs.Together.{AreJoined};
 
-use crate::Field;
-use crate::differing::user_field;
-use crate::rows::UserOn;
+use crate::differing::group_name;
+use accounts::PasswdRow;
 use hosts_join::{Host, Names, Site};
 use std::alloc::{AllocError, Global};
+
+/// What a user's row says: its fields, and its primary group by the name on its host.
+#[derive(Clone, Copy)]
+pub struct Said<'h, 'a> {
+    row: &'h PasswdRow<'a>,
+    group: &'a [u8],
+}
 
 /// What is known of the rows of a user that were seen so far.
 #[derive(Clone, Copy)]
@@ -22,27 +28,26 @@ pub enum Sameness<'h, 'a> {
     /// None was seen.
     Unseen,
     /// Each says what this one says.
-    Same(UserOn<'h, 'a>),
+    Same(Said<'h, 'a>),
     /// One says something else than another.
     Differing,
 }
 
-/// Whether a field of a user's row says what it says on the first.
-fn is_same(first: &UserOn<'_, '_>, user: &UserOn<'_, '_>, field: Field) -> bool
-    ensures { result ≡ spec.is_same (user_seen first.now) (user_seen user.now) field }
+/// Whether the fields of two rows, but for names and numbers, say the same.
+fn fields_agree(first: &PasswdRow<'_>, row: &PasswdRow<'_>) -> bool
+    ensures { result ≡ spec.fields_agree first.now row.now }
 {
-    user_field(field, user) == user_field(field, first)
+    row.password == first.password
+        && row.comment == first.comment
+        && row.home == first.home
+        && row.shell == first.shell
 }
 
-/// Whether each field does.
-fn says_same(first: &UserOn<'_, '_>, user: &UserOn<'_, '_>) -> bool
-    ensures { result ≡ spec.says_same (user_seen first.now) (user_seen user.now) }
+/// Whether each field says what it says on the first.
+fn says_same(first: &Said<'_, '_>, user: &Said<'_, '_>) -> bool
+    ensures { result ≡ spec.says_same first.now user.now }
 {
-    is_same(first, user, Field::Password)
-        && is_same(first, user, Field::Comment)
-        && is_same(first, user, Field::Home)
-        && is_same(first, user, Field::Shell)
-        && is_same(first, user, Field::Group)
+    fields_agree(first.row, user.row) && user.group == first.group
 }
 
 impl<'h, 'a> Sameness<'h, 'a> {
@@ -58,8 +63,8 @@ impl<'h, 'a> Sameness<'h, 'a> {
 }
 
 /// What is known with one row more.
-fn seen_with<'h, 'a>(seen: &Sameness<'h, 'a>, user: &UserOn<'h, 'a>) -> Sameness<'h, 'a>
-    ensures covered { Covers result (user_seen user.now) }
+fn seen_with<'h, 'a>(seen: &Sameness<'h, 'a>, user: &Said<'h, 'a>) -> Sameness<'h, 'a>
+    ensures covered { (row : UserRow) → IsSaidBy row user.now → Covers result row }
     ensures kept { (other : UserRow) → Covers seen.now other → Covers result other }
 {
     match seen {
@@ -70,15 +75,38 @@ fn seen_with<'h, 'a>(seen: &Sameness<'h, 'a>, user: &UserOn<'h, 'a>) -> Sameness
 }
 
 /// Notes a row of the user at an index.
-fn note<'h, 'a>(seen: &mut Vec<Sameness<'h, 'a>>, index: u32, user: &UserOn<'h, 'a>)
+fn note<'h, 'a>(seen: &mut Vec<Sameness<'h, 'a>>, index: u32, user: &Said<'h, 'a>)
     requires { index < length seen.old.items }
     ensures len { length seen.new.items ≡ length seen.old.items }
-    ensures covered { Covers (seen_at seen.new.items index) (user_seen user.now) }
+    ensures covered { (row : UserRow) → IsSaidBy row user.now
+        → Covers (seen_at seen.new.items index) row }
     ensures kept { (i : ℕ) (other : UserRow) → Covers (seen_at seen.old.items i) other
         → Covers (seen_at seen.new.items i) other }
 {
     let at = index as usize;
     seen[at] = seen_with(&seen[at], user);
+}
+
+/// A number of a group, and the name that the group with this number has on the host.
+#[derive(Clone, Copy)]
+struct Primary<'a> {
+    gid: u32,
+    name: &'a [u8],
+}
+
+/// The group of the next user, who mostly has that of the user before: then nothing is looked up.
+fn next_primary<'a>(before: Primary<'a>, host: &Host<'a>, gid: u32) -> Primary<'a>
+    requires { before.name.now ≡ differences.group_name host.now before.gid }
+    ensures gid { result.gid ≡ gid }
+    ensures name { result.name.now ≡ differences.group_name host.now gid }
+{
+    if before.gid == gid {
+        return before;
+    }
+    Primary {
+        gid,
+        name: group_name(host, gid),
+    }
 }
 
 /// Notes the rows of the host at an index.
@@ -94,15 +122,22 @@ fn note_host<'h, 'a>(
     ensures kept { (i : ℕ) (other : UserRow) → Covers (seen_at seen.old.items i) other
         → Covers (seen_at seen.new.items i) other }
 {
+    let mut primary = Primary {
+        gid: 0,
+        name: group_name(host, 0),
+    };
     for row in host.users.rows() {
+        primary = next_primary(primary, host, row.gid);
         if let Some(user) = names.owner(index, row.uid) {
-            note(seen, user, &UserOn { host, row });
+            let group = primary.name;
+            note(seen, user, &Said { row, group });
         }
     }
 }
 
 /// What is known of the rows of each user, over all hosts. For each row one look-up by hash among
-/// the numbers of its host, and 24 bytes a user.
+/// the numbers of its host, one more for its group where that is not the group of the row before,
+/// and 24 bytes a user.
 pub fn all_seen<'h, 'a>(
     alloc: Global,
     hosts: &'h [Host<'a>],

@@ -17,7 +17,7 @@ use idtext::Name;
 use std::alloc::{AllocError, Global};
 
 /// The name of the group that has the number on the host.
-fn group_name<'a>(host: &Host<'a>, gid: u32) -> &'a [u8]
+pub fn group_name<'a>(host: &Host<'a>, gid: u32) -> &'a [u8]
     ensures { result.now ≡ spec.group_name host.now gid }
 {
     match host.groups.by_number(gid) {
@@ -27,7 +27,7 @@ fn group_name<'a>(host: &Host<'a>, gid: u32) -> &'a [u8]
 }
 
 /// What a field of a user's row says.
-pub fn user_field<'a>(field: Field, user: &UserOn<'_, 'a>) -> &'a [u8]
+fn user_field<'a>(field: Field, user: &UserOn<'_, 'a>) -> &'a [u8]
     ensures { result.now ≡ spec.user_field field (user_seen user.now) }
 {
     let row = user.row;

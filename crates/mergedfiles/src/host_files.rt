@@ -1,13 +1,16 @@
 //! A host's own passwd and group with its new numbers, after passwd(5) and group(5).
 ghost use Rattle.std.specs.Prelude.{◌≡◌, ◌<◌, ◌∷◌, ◌++◌, length, IfOk, OnOk, MatchOption};
+ghost use Rattle.std.specs.List.{All};
 ghost use Rattle.idtext.specs.Pieces.{fields_of};
+ghost use Rattle.hosts_join.specs.Laws.{KnowsHost};
 ghost use Rattle.mergedfiles.specs.HostFiles as spec;
 ghost use Rattle.mergedfiles.specs.HostFiles.{host_groups, host_users, number_field};
-ghost use Rattle.mergedfiles.specs.Primary.{IsPrimary};
+ghost use Rattle.mergedfiles.specs.Coming.{IsPlaced, IsPrimary, IsUnderWay};
 ghost use Rattle.mergedfiles.specs.HostFiles.{renumbered_group, renumbered_line, renumbered_user};
 ghost use Rattle.mergedfiles.specs.Texts as texts;
 
 use crate::group::{push_field, push_number_field};
+use accounts::PasswdRow;
 use hosts_join::{Host, Names, Site};
 use idtext::{cut, decimal, is_skipped};
 use ownership::Mapping;
@@ -20,6 +23,57 @@ fn new_number(name: &[u8], names: &Names<'_>, mapping: &Mapping) -> Option<u32>
 {
     let index = names.find(name)?;
     Some(mapping.number(index))
+}
+
+/// The new number of the name of a row that was joined on the host at an index. The name is not
+/// looked up: its number tells its place.
+fn new_number_of_row(
+    row: &PasswdRow<'_>,
+    index: u32,
+    names: &Names<'_>,
+    mapping: &Mapping,
+) -> Option<u32>
+    requires numbers { length mapping.now ≡ length names.now.names }
+    requires placed { IsPlaced names.now index row.now }
+    ensures { result ≡ spec.new_number names.now mapping.now row.now.name }
+{
+    let place = names.owner(index, row.uid)?;
+    Some(mapping.number(place))
+}
+
+/// The new number of a user, and the rows behind that of the user.
+#[derive(Clone, Copy)]
+struct NextUser<'h, 'a> {
+    number: Option<u32>,
+    rows: &'h [PasswdRow<'a>],
+}
+
+/// The new number of the user of the next line. Its row is mostly the next one: only where the text
+/// is not that of the rows, or has users who were left out, the name is looked up.
+fn next_user<'h, 'a>(
+    rows: &'h [PasswdRow<'a>],
+    name: &[u8],
+    index: u32,
+    names: &Names<'_>,
+    mapping: &Mapping,
+) -> NextUser<'h, 'a>
+    requires numbers { length mapping.now ≡ length names.now.names }
+    requires placed { All (IsPlaced names.now index) rows.now }
+    ensures number { result.number ≡ spec.new_number names.now mapping.now name.now }
+    ensures placed { All (IsPlaced names.now index) result.rows.now }
+{
+    if let Some((row, behind)) = rows.split_first() {
+        if row.name == name {
+            return NextUser {
+                number: new_number_of_row(row, index, names, mapping),
+                rows: behind,
+            };
+        }
+    }
+    NextUser {
+        number: new_number(name, names, mapping),
+        rows,
+    }
 }
 
 /// The new number of the group that has, on the host, the number that a field holds.
@@ -58,6 +112,15 @@ fn next_primary<'t>(
     }
     let number = new_primary(gid, host, groups, mapping);
     Primary { gid, number }
+}
+
+/// What is known while the lines of the passwd of the host at an index come: the primary group of
+/// the user before, and the rows whose lines have not come.
+#[derive(Clone, Copy)]
+struct Coming<'t, 'h, 'a> {
+    index: u32,
+    primary: Primary<'t>,
+    rows: &'h [PasswdRow<'a>],
 }
 
 /// Appends a number in the place of a field, or the field where there is no number; and the colon
@@ -101,8 +164,46 @@ fn user_fields(line: &[u8]) -> Option<UserFields<'_>>
     })
 }
 
-/// Appends a line of passwd with its new numbers. What is known of the primary group of the user
-/// before becomes that of this one.
+/// The new numbers of a user and of its primary group, where they have one.
+#[derive(Clone, Copy)]
+struct NewNumbers {
+    uid: Option<u32>,
+    gid: Option<u32>,
+}
+
+/// The new numbers of the user of the next line. What is known of what comes is then what is known
+/// behind this line.
+fn next_numbers<'t>(
+    coming: &mut Coming<'t, '_, '_>,
+    fields: &UserFields<'t>,
+    host: &Host<'_>,
+    site: &Site<'_>,
+    users: &Mapping,
+    groups: &Mapping,
+) -> NewNumbers
+    requires for_users { length users.now ≡ length site.now.users.names }
+    requires for_groups { length groups.now ≡ length site.now.groups.names }
+    requires coming { IsUnderWay host.now site.now groups.now coming.old }
+    ensures uid { result.uid ≡ spec.new_number site.now.users users.now fields.now.name.now }
+    ensures gid { result.gid
+        ≡ spec.new_primary host.now site.now.groups groups.now fields.now.gid.now }
+    ensures coming { IsUnderWay host.now site.now groups.now coming.new }
+{
+    let user = next_user(coming.rows, fields.name, coming.index, site.users(), users);
+    let primary = next_primary(coming.primary, fields.gid, host, site.groups(), groups);
+    *coming = Coming {
+        index: coming.index,
+        primary,
+        rows: user.rows,
+    };
+    NewNumbers {
+        uid: user.number,
+        gid: primary.number,
+    }
+}
+
+/// Appends a line of passwd with its new numbers. What is known of what comes is then what is known
+/// behind this line.
 fn push_user_line<'t>(
     text: &mut Vec<u8>,
     line: &'t [u8],
@@ -110,15 +211,15 @@ fn push_user_line<'t>(
     site: &Site<'_>,
     users: &Mapping,
     groups: &Mapping,
-    primary: &mut Primary<'t>,
+    coming: &mut Coming<'t, '_, '_>,
 ) -> Result<(), AllocError>
     requires for_users { length users.now ≡ length site.now.users.names }
     requires for_groups { length groups.now ≡ length site.now.groups.names }
-    requires primary { IsPrimary host.now site.now.groups groups.now primary.old }
+    requires coming { IsUnderWay host.now site.now groups.now coming.old }
     ensures text { OnOk result (text.new.items ≡ text.old.items
         ++ renumbered_line (renumbered_user host.now site.now users.now groups.now)
         line.entry.now) }
-    ensures primary { IsPrimary host.now site.now.groups groups.now primary.new }
+    ensures coming { IsUnderWay host.now site.now groups.now coming.new }
 {
     if is_skipped(line) {
         return text.extend_from_slice(line);
@@ -126,25 +227,26 @@ fn push_user_line<'t>(
     let Some(fields) = user_fields(line) else {
         return text.extend_from_slice(line);
     };
-    let uid = new_number(fields.name, site.users(), users);
-    *primary = next_primary(*primary, fields.gid, host, site.groups(), groups);
+    let new = next_numbers(coming, &fields, host, site, users, groups);
     push_field(text, fields.name)?;
     push_field(text, fields.password)?;
-    push_new_field(text, uid, fields.uid)?;
-    push_new_field(text, primary.number, fields.gid)?;
+    push_new_field(text, new.uid, fields.uid)?;
+    push_new_field(text, new.gid, fields.gid)?;
     text.extend_from_slice(fields.rest)
 }
 
-/// A host's own passwd with its new numbers: in the line of each user the uid is the new number
-/// of its name, and the gid is that of the group which has the old gid on the host, both in
-/// decimal. Every other byte is as it was: the order of the lines, their other fields, lines that
-/// the reader skips, and the line ends, also a missing last newline. The uid of a name that is not
-/// of the site stays, and so does a gid that is of no group of the host: there are none in a text
-/// that was read as the table of a host of the site that `check_primary` accepts. Asked is that
-/// the mappings have one number for each user and for each group of the site.
+/// The passwd of the host at an index with its new numbers: in the line of each user the uid is
+/// the new number of its name, and the gid is that of the group which has the old gid on the host,
+/// both in decimal. Every other byte is as it was: the order of the lines, their other fields,
+/// lines that the reader skips, and the line ends, also a missing last newline. The uid of a name
+/// that is not of the site stays, and so does a gid that is of no group of the host: there are none
+/// in a text that was read as the table of a host of the site that `check_primary` accepts. Asked
+/// is that the site knows the host by this index, as it does where it was joined from the hosts,
+/// and that the mappings have one number for each user and for each group of the site.
 ///
-/// Source: passwd(5). One pass over the text, with one look-up by hash for each user, and two more
-/// where its primary group is not that of the user before. Memory for the new text alone.
+/// Source: passwd(5). One pass over the text, with one look-up by hash for each user, among the
+/// numbers of the host where the text is that of its table, and two more where its primary group is
+/// not that of the user before. Memory for the new text alone.
 ///
 /// # Errors
 ///
@@ -152,11 +254,13 @@ fn push_user_line<'t>(
 pub fn host_passwd_text(
     alloc: Global,
     text: &[u8],
+    index: u32,
     host: &Host<'_>,
     site: &Site<'_>,
     users: &Mapping,
     groups: &Mapping,
 ) -> Result<Vec<u8>, AllocError>
+    requires known { KnowsHost site.now index host.now }
     requires for_users { length users.now ≡ length site.now.users.names }
     requires for_groups { length groups.now ≡ length site.now.groups.names }
     ensures { IfOk result
@@ -164,16 +268,20 @@ pub fn host_passwd_text(
 {
     let mut new = Vec::new(alloc);
     let mut rest = text;
-    let mut primary = Primary {
-        gid: &[],
-        number: None,
+    let mut coming = Coming {
+        index,
+        primary: Primary {
+            gid: &[],
+            number: None,
+        },
+        rows: host.users.rows(),
     };
     while let Some((line, more)) = cut(b'\n', rest) {
-        push_user_line(&mut new, line, host, site, users, groups, &mut primary)?;
+        push_user_line(&mut new, line, host, site, users, groups, &mut coming)?;
         new.push(b'\n')?;
         rest = more;
     }
-    push_user_line(&mut new, rest, host, site, users, groups, &mut primary)?;
+    push_user_line(&mut new, rest, host, site, users, groups, &mut coming)?;
     Ok(new)
 }
 

@@ -213,8 +213,9 @@ impl<'a> Solved<'a> {
     /// has stays, and so does a gid that is of no group of the host. Asked is that there is a host
     /// with the index.
     ///
-    /// One pass over the text, with one look-up by hash for each user, and two more where its
-    /// primary group is not that of the user before. Memory for the new text alone.
+    /// One pass over the text, with one look-up by hash for each user, among the numbers of the host
+    /// alone, and two more where its primary group is not that of the user before. Memory for the
+    /// new text alone.
     ///
     /// # Errors
     ///
@@ -229,6 +230,7 @@ impl<'a> Solved<'a> {
         host_passwd_text(
             self.alloc,
             text,
+            index as u32,
             &self.hosts[index],
             &self.site,
             &self.merged.users,

@@ -1,9 +1,10 @@
-use Rattle.std.proofs.Common.{get_or, ◌∙◌, ap, arith, subst}
+use Rattle.std.proofs.Common.{get_or, ◌∙◌, ap, arith, refl, subst, sym}
 use Rattle.std.specs.List.{All}
 use Rattle.std.proofs.lemmas.List.{take_all}
 use Rattle.accounts.specs.Rows.{Passwd}
 use Rattle.hosts_join.specs.Accounts.{owner}
 use Rattle.mergedfiles.specs.Alike.{IsCovered}
+use Rattle.mergedfiles.specs.Differences.{group_name}
 use Rattle.mergedfiles.proofs.SameRows.{covered-more, noted, unowned, row_on}
 use Rattle.mergedfiles.proofs.alike.note_host.Goals as goal
 use Rattle.mergedfiles.proofs.alike.note_host.Goals.{in-Some, in_default}
@@ -21,10 +22,11 @@ loop-row-preserved c =
     elim c.match-owner.branch [
       | in-Some w ↦
           let new = w.note.new.seen.items in
-          let here = noted names h host new w.in-Some.user row (get_or rows k row) c.owner.result c.row-item.is owned w.in-Some.is w.note.ensures.covered in
+          let here = noted names h host new w.in-Some.user row (get_or rows k row) c.owner.result c.row-item.is owned w.in-Some.is (w.note.ensures.covered (row_on host row) (refl, c.next_primary-primary.ensures.name ∙ ap (λ (r : Passwd). group_name host r.gid) c.row.view_is)) in
           rw w.seen-is (record {
             len = w.note.ensures.len ∙ c.loop-row.invariant.len;
             covered = covered-more names h host old new rows k row c.loop-row-test.true w.note.ensures.kept here c.loop-row.invariant.covered;
+            primary = c.next_primary-primary.ensures.name ∙ ap (group_name host) (sym c.next_primary-primary.ensures.gid);
             kept = λ i other was. w.note.ensures.kept i other (c.loop-row.invariant.kept i other was);
           })
       | in_default w ↦
@@ -32,6 +34,7 @@ loop-row-preserved c =
           rw w.seen-is (record {
             len = c.loop-row.invariant.len;
             covered = covered-more names h host old old rows k row c.loop-row-test.true (λ i other was. was) here c.loop-row.invariant.covered;
+            primary = c.next_primary-primary.ensures.name ∙ ap (group_name host) (sym c.next_primary-primary.ensures.gid);
             kept = c.loop-row.invariant.kept;
           })
     ]

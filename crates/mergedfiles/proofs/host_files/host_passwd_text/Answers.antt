@@ -1,6 +1,9 @@
-use Rattle.std.proofs.Common.{[], ◌∷◌, ◌++◌, refl, sym, ◌∙◌, ap}
+use Rattle.std.proofs.Common.{[], ◌∷◌, ◌++◌, refl, subst, sym, ◌∙◌, ap}
 use Rattle.idtext.specs.Numbers as numbers
+use Rattle.std.specs.List.{All}
+use Rattle.mergedfiles.specs.Coming.{IsPlaced}
 use Rattle.mergedfiles.specs.HostFiles.{renumbered_text, renumbered_user}
+use Rattle.mergedfiles.proofs.ComingRows.{rows-placed}
 use Rattle.mergedfiles.proofs.HostSteps.{text-last, text-more, written-more}
 use Rattle.mergedfiles.proofs.host_files.host_passwd_text.Goals as goal
 
@@ -11,7 +14,7 @@ loop-line-preserved c =
       written = written-more _ c.loop-line.new.items c.push.new.self.items _ _ _
           (c.in_ok-push.ensures.items ∙ ap (λ t. t ++ 10 ∷ []) c.in_ok-push_user_line.ensures.text)
           (text-more f c.loop-line.rest.now c.in-Some.line.now c.in-Some.more.now c.in-Some.ensures.pieces) c.loop-line.invariant.written;
-      primary = c.push_user_line.ensures.primary;
+      coming = c.push_user_line.ensures.coming;
     }
 
 pub returns : goal.returns
@@ -25,5 +28,5 @@ loop-line-init c =
     let f = renumbered_user c.args.host.now c.args.site.now c.args.users.now c.args.groups.now in
     record {
       written = ap (λ t. t ++ renumbered_text f c.args.text.now) c.new-new.ensures.items;
-      primary = refl;
+      coming = record { primary = refl; placed = subst (All (IsPlaced c.args.site.now.users c.args.index)) (sym c.rows.ensures.rows) (rows-placed c.args.site.now c.args.index c.args.host.now c.requires.known c.rows.ensures.table) };
     }

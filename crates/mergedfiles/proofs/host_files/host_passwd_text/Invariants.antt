@@ -1,12 +1,12 @@
 use Rattle.std.proofs.Common.{◌≡◌, ◌++◌, length}
 use Rattle.mergedfiles.specs.HostFiles.{renumbered_text, renumbered_user}
-use Rattle.mergedfiles.specs.Primary.{IsPrimary}
+use Rattle.mergedfiles.specs.Coming.{IsUnderWay}
 use Rattle.mergedfiles.proofs.host_files.host_passwd_text.Given as goal
 
 abbrev pub invariant-loop-line : goal.invariant-loop-line
 invariant-loop-line l = record {
   written : l.new.items ++ renumbered_text (renumbered_user l.host l.site l.users l.groups) l.rest ≡ renumbered_text (renumbered_user l.host l.site l.users l.groups) l.fn.text;
-  primary : IsPrimary l.host l.site.groups l.groups l.primary;
+  coming : IsUnderWay l.host l.site l.groups l.coming;
 }
 
 abbrev pub decreases-loop-line : goal.decreases-loop-line

@@ -1,6 +1,5 @@
-use Rattle.std.proofs.Common.{sym, ◌∙◌, ap}
-use Rattle.hosts_join.specs.Accounts.{Accounts}
-use Rattle.mergedfiles.specs.HostFiles.{new_number, new_primary, number_field, renumbered_user}
+use Rattle.std.proofs.Common.{sym, ◌∙◌}
+use Rattle.mergedfiles.specs.HostFiles.{number_field, renumbered_user}
 use Rattle.mergedfiles.specs.Texts.{field}
 use Rattle.mergedfiles.proofs.HostSteps.{ended, ended-user, line-skipped, user-line, user-stays}
 use Rattle.mergedfiles.proofs.host_files.push_user_line.Goals as goal
@@ -18,12 +17,12 @@ returns-in_default-clause-text c =
 pub returns-clause-text : goal.returns-clause-text
 returns-clause-text c =
     let f = c.in-Some.fields in
-    let user = c.new_number-uid.result in
-    let group = c.next_primary.result.number in
+    let user = c.next_numbers-new.result.uid in
+    let group = c.next_numbers-new.result.gid in
     ended-user c.extend_from_slice-2.result c.extend_from_slice-2.new.self.items c.args.text.now.items c.push_field.new.text.items c.push_field-2.new.text.items c.push_new_field.new.text.items c.push_new_field-2.new.text.items
     (field f.name.now) (field f.password.now) (field (number_field user f.uid.now)) (field (number_field group f.gid.now)) f.rest.now _
     c.extend_from_slice-2.ensures.items c.in_ok-push_field.ensures c.in_ok-push_field-2.ensures c.in_ok-push_new_field.ensures c.in_ok-push_new_field-2.ensures
     (user-line c.args.host.now c.args.site.now c.args.users.now c.args.groups.now c.args.line.now f.name.now f.password.now f.uid.now f.gid.now f.rest.now user group
     (sym c.is_skipped.ensures ∙ c.if-is_skipped.false) c.in-Some.ensures
-    (c.new_number-uid.ensures ∙ ap (λ (a : Accounts). new_number a c.args.users.now f.name.now) c.users.ensures)
-    (c.next_primary.ensures.number ∙ ap (λ (a : Accounts). new_primary c.args.host.now a c.args.groups.now f.gid.now) c.groups.ensures))
+    c.next_numbers-new.ensures.uid
+    c.next_numbers-new.ensures.gid)
