@@ -13,13 +13,14 @@ ghost use Rattle.reown_plan.specs.Target.{AreForSite, plan_of};
 ghost use Rattle.unify_texts.specs.declared.fault.Fault.{Fault};
 ghost use Rattle.unify.specs.declared.plan_turn.Stop.TheVariants as stop;
 ghost use Rattle.unify.specs.Hosts.{owner_fault};
+ghost use Rattle.unify.specs.Places.{ArePlaces};
 ghost use Rattle.unify.specs.RowFiles.{row_files};
 ghost use Rattle.unify.specs.SecondPass.{HaveSameCounts, IsAccepted, IsFreshTurn, IsUnfinished};
 ghost use Rattle.unify.specs.SecondPass.{TurnsFor, owned_lines, second_files, stop_of};
 
 use crate::host::MOST_FILES;
 use crate::merging::Merged;
-use crate::row_files::{RowFiles, are_same, count_file, no_files};
+use crate::row_files::{OwnerPlaces, RowFiles, are_same, count_file, no_files};
 use hosts_join::{Host, Site};
 use idtext::ReadError;
 use mtree_inv::{Entry, Reader};
@@ -96,6 +97,7 @@ fn begin_plan(turn: &mut PlanTurn, host: &Host<'_>, plan: &mut Vec<u8>) -> Resul
 // Counts a file of the host with the index, and appends its record.
 fn plan_file(
     rows: &mut RowFiles,
+    before: &mut Option<OwnerPlaces>,
     site: &Site<'_>,
     merged: &Merged,
     index: u32,
@@ -105,8 +107,10 @@ fn plan_file(
 ) -> Result<(), Stop>
     requires room { (files : List Entry) × (rows.old ≡ row_files host.now files)
         × (length files ≤ 2147483648) }
+    requires before { IfSome before.old (ArePlaces host.now) }
     requires known { KnowsHost site.now index host.now }
     requires for_site { AreForSite site.now merged.now.users merged.now.groups }
+    ensures before { IfSome before.new (ArePlaces host.now) }
     ensures owned { OnOk result (owner_fault host.now [] file.now ≡ None) }
     ensures counted { OnOk result
         ((files : List Entry) → rows.old ≡ row_files host.now files
@@ -118,7 +122,7 @@ fn plan_file(
     ensures changed { result ≡ Err stop.Changed → (fault : Fault)
         × (owner_fault host.now [] file.now ≡ Some fault) }
 {
-    if !count_file(rows, host, file) {
+    if !count_file(rows, before, host, file) {
         return Err(Stop::Changed);
     }
     push_plan_entry(plan, index, site, &merged.users, &merged.groups, file)?;
@@ -161,8 +165,18 @@ fn plan_waiting(
     ensures changed { result ≡ Err stop.Changed → (fault : Fault)
         × (first_fault (owner_fault host.now) [] turn.old.reader.waiting ≡ Some fault) }
 {
+    let mut before = None;
     while let Some(file) = turn.reader.next_entry() {
-        plan_file(&mut turn.rows, site, merged, index, host, &file, plan)?;
+        plan_file(
+            &mut turn.rows,
+            &mut before,
+            site,
+            merged,
+            index,
+            host,
+            &file,
+            plan,
+        )?;
     }
     Ok(())
 }

@@ -1,11 +1,12 @@
 //! How many files each row of a host's tables owns.
 
 ghost use Rattle.std.specs.Prelude.{◌≡◌, ◌+◌, ◌<◌, ◌≤◌, ◌++◌, ◌∷◌, [], List, length, set};
-ghost use Rattle.std.specs.Prelude.{slice_get, slice_index_or, is_none, Some, true, false, IfOk};
-ghost use Rattle.std.specs.Prelude.{IfSome, IfNone};
+ghost use Rattle.std.specs.Prelude.{slice_get, slice_index_or, is_none, is_some, Some, true, false};
+ghost use Rattle.std.specs.Prelude.{IfOk, IfSome, IfNone};
 ghost use Rattle.mtree_inv.specs.declared.entry.Entry.{Entry};
 ghost use Rattle.hosts_join.specs.declared.host.Host.{Host};
 ghost use Rattle.unify.specs.Hosts.{owner_fault};
+ghost use Rattle.unify.specs.Places.{ArePlaces, Owns};
 ghost use Rattle.unify.specs.RowFiles.{row_files};
 
 use hosts_join::Host;
@@ -59,26 +60,76 @@ fn add_one(files: &mut Vec<u64>, place: Option<usize>)
     }
 }
 
+/// An owner of files whose numbers a host allows, and the places of the rows that have them.
+#[derive(Clone, Copy)]
+pub struct OwnerPlaces {
+    uid: u32,
+    gid: u32,
+    user: Option<usize>,
+    group: Option<usize>,
+}
+
+// The places of the rows that own a file, if the host allows both of its numbers. Two look-ups by
+// hash, and a bisection for a number that has no row.
+fn places_of(host: &Host<'_>, file: &Entry) -> Option<OwnerPlaces>
+    ensures owned { is_some result ≡ is_none (owner_fault host.now [] file.now) }
+    ensures owns { IfSome result (λ places. Owns host.now places file.now) }
+    ensures places { IfSome result (ArePlaces host.now) }
+{
+    let user = host.users.place_of_number(file.uid);
+    if user.is_none() && !host.spared_users.has(file.uid) {
+        return None;
+    }
+    let group = host.groups.place_of_number(file.gid);
+    if group.is_none() && !host.spared_groups.has(file.gid) {
+        return None;
+    }
+    Some(OwnerPlaces {
+        uid: file.uid,
+        gid: file.gid,
+        user,
+        group,
+    })
+}
+
+// The places of the rows that own a file, which mostly are those of the file before: then nothing
+// is looked up.
+fn next_places(before: &Option<OwnerPlaces>, host: &Host<'_>, file: &Entry) -> Option<OwnerPlaces>
+    requires { IfSome before.now (ArePlaces host.now) }
+    ensures owned { is_some result ≡ is_none (owner_fault host.now [] file.now) }
+    ensures owns { IfSome result (λ places. Owns host.now places file.now) }
+    ensures places { IfSome result (ArePlaces host.now) }
+{
+    match before {
+        Some(places) if places.uid == file.uid && places.gid == file.gid => Some(*places),
+        Some(_) | None => places_of(host, file),
+    }
+}
+
 /// Counts a file for the rows that own it, and says whether the host allows both of its numbers:
-/// else nothing changes. Two look-ups by hash, and a bisection for a number that has no row.
-pub fn count_file(rows: &mut RowFiles, host: &Host<'_>, file: &Entry) -> bool
-    requires { (files : List Entry) × (rows.old ≡ row_files host.now files)
+/// else nothing changes. Where it has the owner of the file before, nothing is looked up, and else
+/// two look-ups by hash, and a bisection for a number that has no row.
+pub fn count_file(
+    rows: &mut RowFiles,
+    before: &mut Option<OwnerPlaces>,
+    host: &Host<'_>,
+    file: &Entry,
+) -> bool
+    requires room { (files : List Entry) × (rows.old ≡ row_files host.now files)
         × (length files ≤ 2147483648) }
+    requires before { IfSome before.old (ArePlaces host.now) }
     ensures owned { result ≡ is_none (owner_fault host.now [] file.now) }
     ensures counted { result ≡ true → (files : List Entry) → rows.old ≡ row_files host.now files
         → rows.new ≡ row_files host.now (files ++ file.now ∷ []) }
     ensures unowned { result ≡ false → rows.new ≡ rows.old }
+    ensures before { IfSome before.new (ArePlaces host.now) }
 {
-    let user = host.users.place_of_number(file.uid);
-    if user.is_none() && !host.spared_users.has(file.uid) {
+    let Some(places) = next_places(before, host, file) else {
         return false;
-    }
-    let group = host.groups.place_of_number(file.gid);
-    if group.is_none() && !host.spared_groups.has(file.gid) {
-        return false;
-    }
-    add_one(&mut rows.users, user);
-    add_one(&mut rows.groups, group);
+    };
+    *before = Some(places);
+    add_one(&mut rows.users, places.user);
+    add_one(&mut rows.groups, places.group);
     true
 }
 

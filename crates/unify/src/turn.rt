@@ -86,8 +86,9 @@ fn count_waiting(host: &Host<'_>, from: &mut Reader, rows: &mut RowFiles) -> Opt
     ensures counted { (files : List Entry) → AreCounted host.now rows.old None files
         → AreCounted host.now rows.new result (files ++ from.old.waiting) }
 {
+    let mut before = None;
     while let Some(entry) = from.next_entry() {
-        if !count_file(rows, host, &entry) {
+        if !count_file(rows, &mut before, host, &entry) {
             drain(from);
             return Some(entry);
         }
@@ -118,7 +119,8 @@ fn count_new(turn: &mut Turn, host: &Host<'_>)
 /// lines so far, and no file that the host does not allow is told. A new fault is the one that is
 /// met. After a fault it is always that one, or want of memory to tell it.
 ///
-/// One pass over the piece, with two look-ups by hash for each file.
+/// One pass over the piece, with two look-ups by hash for each file whose owner is not that of the
+/// file before.
 pub fn feed_turn<'a>(
     alloc: Global,
     turn: &mut Turn,

@@ -1,10 +1,11 @@
 use Rattle.std.proofs.Common.{◌≡◌, ◌++◌, ℕ, List, [], None, length}
-use Rattle.std.specs.Prelude.{All}
+use Rattle.std.specs.Prelude.{All, IfSome}
 use Rattle.mtree_inv.specs.Standing as standing
 use Rattle.mtree_inv.specs.declared.entry.Entry.{Entry}
 use Rattle.reown_plan.specs.Spelling.{lines}
 use Rattle.reown_plan.specs.Target.{plan_of}
 use Rattle.unify.specs.Hosts.{owner_fault}
+use Rattle.unify.specs.Places.{ArePlaces}
 use Rattle.unify.specs.RowFiles.{row_files}
 use Rattle.unify.proofs.plan_turn.plan_waiting.Given as goal
 
@@ -17,6 +18,7 @@ invariant-loop-file l = record {
   so_far : l.initial.turn.reader.waiting ≡ done ++ l.turn.reader.waiting;
   owned : All (λ f. owner_fault l.host [] f ≡ None) done;
   counted : (files : List Entry) → l.initial.turn.rows ≡ row_files l.host files → l.turn.rows ≡ row_files l.host (files ++ done);
+  before : IfSome l.before (ArePlaces l.host);
   planned : l.plan.items ≡ l.initial.plan.items ++ lines (plan_of l.site l.merged.users l.merged.groups l.index done);
 }
 

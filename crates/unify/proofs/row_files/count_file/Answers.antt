@@ -1,57 +1,23 @@
-use Rattle.std.proofs.Common.{◌≡◌, true, sym, ap, ◌∙◌}
-use Rattle.hosts_join.specs.Hosts.{spares_group, spares_user}
-use Rattle.unify.specs.Hosts.{allows_gid, allows_uid}
+use Rattle.std.proofs.Common.{ap, ◌∙◌}
 use Rattle.unify.specs.RowFiles.{RowFiles}
-use Rattle.unify.proofs.FileCounts.{allowed_place, both_allowed, group_allowed, group_refused, groups_more, groups_room, refused_place, spared_place, user_allowed, user_refused, users_more, users_room}
+use Rattle.unify.proofs.FileCounts.{groups_more, groups_room, users_more, users_room}
 use Rattle.unify.proofs.row_files.count_file.Goals as goal
-use Rattle.unify.proofs.row_files.count_file.Goals.{else-is_none-via-then-is_none+else-not-has, else-is_none-via-else-is_none, else-is_none-2-via-then-is_none-2+else-not-has-2, else-is_none-2-via-else-is_none-2}
-
-pub returns-then-not-has-clause-owned : goal.returns-then-not-has-clause-owned
-returns-then-not-has-clause-owned c =
-    let host = c.args.host.now in
-    let file = c.args.file.now in
-    let place = c.place_of_number-user.result in
-    let spared = sym c.has.ensures ∙ c.if-not-has.true in
-    user_refused host file (user_allowed host file place _ (sym c.place_of_number-user.ensures.place) (refused_place place c.is_none.result (spares_user host file.uid) c.is_none.ensures c.if-is_none.true spared))
-
-pub returns-then-not-has-2-clause-owned : goal.returns-then-not-has-2-clause-owned
-returns-then-not-has-2-clause-owned c =
-    let host = c.args.host.now in
-    let file = c.args.file.now in
-    let place = c.place_of_number-group.result in
-    let spared = sym c.has-then-is_none-2.ensures ∙ c.if-not-has-2.true in
-    group_refused host file (group_allowed host file place _ (sym c.place_of_number-group.ensures.place) (refused_place place c.is_none-2.result (spares_group host file.gid) c.is_none-2.ensures c.if-is_none-2.true spared))
 
 pub add_one-requires-clause-room : goal.add_one-requires-clause-room
 add_one-requires-clause-room c =
-    let here = c.requires in
-    users_room c.args.host.now c.args.file.now c.place_of_number-user.result here.0 c.rows.inside.users.items 2147483648 (ap (λ (r : RowFiles). r.users) (c.rows.view_is ∙ here.1)) here.2
+    let here = c.requires.room in
+    users_room c.args.host.now c.args.file.now c.in-Some.places.user here.0 c.rows.inside.users.items 2147483648 (ap (λ (r : RowFiles). r.users) (c.rows.view_is ∙ here.1)) here.2
 
 pub add_one-requires-2-clause-room : goal.add_one-requires-2-clause-room
 add_one-requires-2-clause-room c =
-    let here = c.requires in
-    groups_room c.args.host.now c.args.file.now c.place_of_number-group.result here.0 c.rows.inside.groups.items 2147483648 (ap (λ (r : RowFiles). r.groups) (c.rows.view_is ∙ here.1)) here.2
-
-pub returns-clause-owned : goal.returns-clause-owned
-returns-clause-owned c =
-    let host = c.args.host.now in
-    let file = c.args.file.now in
-    let user = c.place_of_number-user.result in
-    let group = c.place_of_number-group.result in
-    let user_is : allows_uid host file.uid ≡ true = user_allowed host file user true (sym c.place_of_number-user.ensures.place) (elim c.else-is_none.branch [
-      | else-is_none-via-then-is_none+else-not-has w ↦ spared_place user (spares_user host file.uid) (sym w.has.ensures ∙ w.if-not-has.false)
-      | else-is_none-via-else-is_none w ↦ allowed_place user c.is_none.result (spares_user host file.uid) c.is_none.ensures w.if-is_none.false
-    ]) in
-    let group_is : allows_gid host file.gid ≡ true = group_allowed host file group true (sym c.place_of_number-group.ensures.place) (elim c.else-is_none-2.branch [
-      | else-is_none-2-via-then-is_none-2+else-not-has-2 w ↦ spared_place group (spares_group host file.gid) (sym w.has-then-is_none-2.ensures ∙ w.if-not-has-2.false)
-      | else-is_none-2-via-else-is_none-2 w ↦ allowed_place group c.is_none-2.result (spares_group host file.gid) c.is_none-2.ensures w.if-is_none-2.false
-    ]) in
-    both_allowed host file user_is group_is
+    let here = c.requires.room in
+    groups_room c.args.host.now c.args.file.now c.in-Some.places.group here.0 c.rows.inside.groups.items 2147483648 (ap (λ (r : RowFiles). r.groups) (c.rows.view_is ∙ here.1)) here.2
 
 pub returns-clause-counted : goal.returns-clause-counted
 returns-clause-counted c = λ yes files is.
     let host = c.args.host.now in
     let file = c.args.file.now in
-    let users = users_more host file c.place_of_number-user.result files c.rows.inside.users.items c.add_one.new.files.items c.place_of_number-user.ensures.table (sym c.place_of_number-user.ensures.place) (ap (λ (r : RowFiles). r.users) (c.rows.view_is ∙ is)) c.add_one.ensures.counted c.add_one.ensures.stays in
-    let groups = groups_more host file c.place_of_number-group.result files c.rows.inside.groups.items c.add_one-2.new.files.items c.place_of_number-group.ensures.table (sym c.place_of_number-group.ensures.place) (ap (λ (r : RowFiles). r.groups) (c.rows.view_is ∙ is)) c.add_one-2.ensures.counted c.add_one-2.ensures.stays in
+    let owns = c.in-Some.ensures.owns in
+    let users = users_more host file c.in-Some.places.user files c.rows.inside.users.items c.add_one.new.files.items owns.users owns.user (ap (λ (r : RowFiles). r.users) (c.rows.view_is ∙ is)) c.add_one.ensures.counted c.add_one.ensures.stays in
+    let groups = groups_more host file c.in-Some.places.group files c.rows.inside.groups.items c.add_one-2.new.files.items owns.groups owns.group (ap (λ (r : RowFiles). r.groups) (c.rows.view_is ∙ is)) c.add_one-2.ensures.counted c.add_one-2.ensures.stays in
     λ i. record { users = users i; groups = groups i }

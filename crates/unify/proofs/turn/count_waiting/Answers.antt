@@ -5,8 +5,8 @@ use Rattle.unify.specs.Hosts.{owner_fault}
 use Rattle.unify.proofs.Turns.{counted_first, counted_one, is_owned_none}
 use Rattle.unify.proofs.turn.count_waiting.Goals as goal
 
-pub count_file-requires : goal.count_file-requires
-count_file-requires c =
+pub count_file-requires-clause-room : goal.count_file-requires-clause-room
+count_file-requires-clause-room c =
     let room = c.loop-entry.invariant.room in
     (room.0, room.1, omega (arith, room.2))
 
@@ -26,6 +26,7 @@ loop-entry-preserved c =
       done = inv.done ++ entry ∷ [];
       so_far = inv.so_far ∙ ap (λ ws. inv.done ++ ws) c.in-Some.ensures.next ∙ sym (append_assoc inv.done (entry ∷ []) left);
       counted = λ files s. subst (AreCounted host new None) (append_assoc files inv.done (entry ∷ [])) (counted_one host c.loop-entry.rows new (files ++ inv.done) entry (inv.counted files s) owned (more (files ++ inv.done)));
+      before = c.count_file.ensures.before;
       room = (inv.room.0 ++ entry ∷ [], more inv.room.0 inv.room.1, omega (arith, inv.room.2, come, length-append inv.room.0 (entry ∷ [])));
     }
 

@@ -1,6 +1,8 @@
 use Rattle.std.proofs.Common.{◌≡◌, ◌+◌, ◌≤◌, ◌++◌, ℕ, List, None, length}
 use Rattle.mtree_inv.specs.Standing as standing
 use Rattle.mtree_inv.specs.declared.entry.Entry.{Entry}
+use Rattle.std.specs.Prelude.{IfSome}
+use Rattle.unify.specs.Places.{ArePlaces}
 use Rattle.unify.specs.Passes.{AreCounted}
 use Rattle.unify.specs.RowFiles.{row_files}
 use Rattle.unify.proofs.turn.count_waiting.Given as goal
@@ -13,6 +15,7 @@ invariant-loop-entry l = record {
   done : List Entry;
   so_far : l.initial.from.waiting ≡ done ++ l.from.waiting;
   counted : (files : List Entry) → AreCounted l.host l.initial.rows None files → AreCounted l.host l.rows None (files ++ done);
+  before : IfSome l.before (ArePlaces l.host);
   room : (files : List Entry) × (l.rows ≡ row_files l.host files) × (length files + length l.from.waiting ≤ 2147483648);
 }
 
