@@ -4,7 +4,7 @@ use Rattle.std.proofs.lemmas.Bool.{cases_lt, cases_eq}
 use Rattle.std.proofs.lemmas.Slice.Eq.{bytes_eq-Decides}
 use Rattle.std.proofs.lemmas.Map.Text.{is_eq-slice_cmp}
 use Rattle.std.proofs.lemmas.Map.Lookups.{exact_bytes, exact_unsigned}
-use Rattle.std.specs.Prelude.{Option, Some, None, slice_get, Vec, Result, Ok, Err, IfOk, IfSome, MatchOption}
+use Rattle.std.specs.Prelude.{Option, Some, None, slice_get, Vec, Result, Ok, Err, IfOk, IfSome, IfNone, MatchOption}
 use Rattle.std.specs.declared.alloc.AllocError.{AllocError}
 use Rattle.std.specs.Ordering.{nat_cmp, is_eq, is_lt, match_ordering, ordering_then, ordering_reverse}
 use Rattle.std.specs.Cmp.{nat_cmp_total}
@@ -19,7 +19,7 @@ use Rattle.mtree_inv.specs.Places.{most_probes, hash_of, half, place_at, start_o
 
 -- ---- keys of the tree
 
-abbrev Key : Type 0
+abbrev pub Key : Type 0
 Key = ℕ × Vec ℕ Global
 
 abbrev key_cmp : Key → Key → Ordering
@@ -199,6 +199,23 @@ module _ (cuts : List Cut) (places : List Place) (others : Others) (are : AreFou
   place_when_full nowhere (Err e) found none = tt
   place_when_full nowhere (Ok None) found none = new_when_full nowhere none
   place_when_full nowhere (Ok (Some i)) found none = found
+
+  -- the same, where the tree comes to know a cut that it did not
+  pub place_when_known : IsToldNowhere cuts places cut most_probes → (Told : Type 0) → (answer : Result (Option ℕ) AllocError)
+      → IfOk answer (λ known. IfSome known (λ i. slice_get cuts i ≡ Some cut))
+      → IfOk answer (λ known. IfNone known (((i : ℕ) → slice_get cuts i ≡ Some cut → other_at others cut ≡ Some i → ⊥) × Told))
+      → IfOk answer (IsPlaceOf cuts cut)
+  place_when_known nowhere Told (Err e) known new = tt
+  place_when_known nowhere Told (Ok None) known new = new_when_full nowhere new.0
+  place_when_known nowhere Told (Ok (Some i)) known new = known
+
+-- and then it is found there
+pub found_when_known : (places : List Place) (others : Others) (cut : Cut) (last : ℕ) → most_probes < length places → AreTaken places (start_of (length places) cut) most_probes
+    → (Untold : Type 0) → (answer : Result (Option ℕ) AllocError) → IfOk answer (λ known. IfNone known (Untold × (other_at others cut ≡ Some last)))
+    → IfOk answer (λ known. IfNone known (IsFoundAt places others cut last))
+found_when_known places others cut last roomy taken Untold (Err e) new = tt
+found_when_known places others cut last roomy taken Untold (Ok None) new = record { roomy = roomy; probes = most_probes; taken = taken; there = inr (refl, new.1) }
+found_when_known places others cut last roomy taken Untold (Ok (Some i)) new = tt
 
 -- ---- a list with a cut more
 

@@ -1,7 +1,7 @@
 //! Where a cut is looked for among many, so that its number is found.
 ghost use Rattle.std.specs.Prelude.{◌≡◌, ◌<◌, ℕ, suc, ◌+◌, ◌-◌, ◌%◌, length, true, Some, slice_get};
-ghost use Rattle.std.specs.Prelude.{IfOk, IfSome, MatchOption, OnOk};
-ghost use Rattle.mtree_inv.specs.Cuts.{Cut, AreDistinct};
+ghost use Rattle.std.specs.Prelude.{IfOk, IfSome, IfNone, MatchOption, OnOk};
+ghost use Rattle.mtree_inv.specs.Cuts.{Cut, AreDistinct, IsPlaceOf};
 ghost use Rattle.mtree_inv.specs.Places.{hash_of as hash_of_cut, half, place_at};
 ghost use Rattle.mtree_inv.specs.Places.{most_probes, AreTaken, other_at, IsFoundAt, AreFound};
 ghost use Rattle.mtree_inv.specs.Places.{KeepFound, KeepOthers};
@@ -73,8 +73,8 @@ fn is_at(rows: &Rows, index: usize, front: u32, tail: &[u8]) -> bool
 pub(crate) enum Probed {
     /// It is the one at this index.
     At(usize),
-    /// It is nowhere.
-    Nowhere,
+    /// It is nowhere. At this place it would stand, with this half of its hash.
+    Free(usize, u32),
     /// All places where it might stand are taken: the tree has it, if it is anywhere.
     Full,
 }
@@ -90,7 +90,7 @@ pub(crate) fn look_at_places(rows: &Rows, places: &[Place], front: u32, tail: &[
     for probe in 0..MOST_PROBES {
         let place = places[start + probe];
         let Some(index) = place.number.checked_sub(1) else {
-            return Probed::Nowhere;
+            return Probed::Free(start + probe, half);
         };
         if place.hash == half && is_at(rows, index as usize, front, tail) {
             return Probed::At(index as usize);
@@ -143,7 +143,7 @@ pub(crate) fn number_at(index: usize) -> Option<u32>
 }
 
 // Keeps where a cut is found.
-pub(crate) fn settle(
+fn settle(
     places: &mut [Place],
     others: &mut Others,
     alloc: Global,
@@ -176,6 +176,61 @@ pub(crate) fn settle(
         number,
     };
     Ok(())
+}
+
+// Finds a cut in the tree, or lets the tree know it as the one at the end of the list.
+fn other_or_last(
+    rows: &Rows,
+    others: &mut Others,
+    alloc: Global,
+    front: u32,
+    tail: &[u8],
+) -> Result<Option<usize>, AllocError>
+    ensures known { IfOk result (λ known. IfSome known
+        (λ i. slice_get rows.now i ≡ Some (front, tail.now))) }
+    ensures new { IfOk result (λ known. IfNone known
+        (((i : ℕ) → slice_get rows.now i ≡ Some (front, tail.now)
+        → other_at others.old.entries (front, tail.now) ≡ Some i → ⊥)
+        × (other_at others.new.entries (front, tail.now) ≡ Some (length rows.now)))) }
+    ensures others { KeepOthers rows.now others.old.entries others.new.entries }
+{
+    let key = (front, Vec::from_slice(alloc, tail)?);
+    let index = others.entry(key)?.or_insert(rows.len());
+    if is_at(rows, *index, front, tail) {
+        return Ok(Some(*index));
+    }
+    *index = rows.len();
+    Ok(None)
+}
+
+/// The index of a cut, or None where it is new: then it is found at the end of the list.
+pub(crate) fn find_or_settle(
+    rows: &Rows,
+    places: &mut [Place],
+    others: &mut Others,
+    alloc: Global,
+    front: u32,
+    tail: &[u8],
+) -> Result<Option<usize>, AllocError>
+    requires roomy { most_probes < length places.old }
+    requires found { AreFound rows.now places.old others.old.entries }
+    ensures place { IfOk result (IsPlaceOf rows.now (front, tail.now)) }
+    ensures settled { IfOk result (λ known. IfNone known
+        (IsFoundAt places.new others.new.entries (front, tail.now) (length rows.now))) }
+    ensures found { AreFound rows.now places.new others.new.entries }
+    ensures len { length places.new ≡ length places.old }
+{
+    let Some(number) = number_at(rows.len()) else {
+        return Err(AllocError);
+    };
+    match look_at_places(rows, places, front, tail) {
+        Probed::At(index) => Ok(Some(index)),
+        Probed::Free(at, hash) => {
+            places[at] = Place { hash, number };
+            Ok(None)
+        }
+        Probed::Full => other_or_last(rows, others, alloc, front, tail),
+    }
 }
 
 // Keeps where the cut at an index of the list is found.
