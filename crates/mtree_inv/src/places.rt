@@ -3,6 +3,7 @@ ghost use Rattle.std.specs.Prelude.{◌≡◌, ◌<◌, ℕ, suc, ◌+◌, ◌-�
 ghost use Rattle.std.specs.Prelude.{IfOk, IfSome, IfNone, MatchOption, OnOk};
 ghost use Rattle.mtree_inv.specs.Cuts.{Cut, AreDistinct, IsPlaceOf};
 ghost use Rattle.mtree_inv.specs.Places.{hash_of as hash_of_cut, half, place_at};
+ghost use Rattle.mtree_inv.specs.Places.{digest_of as digest_of_cut, IsKeyOf};
 ghost use Rattle.mtree_inv.specs.Places.{most_probes, AreTaken, other_at, IsFoundAt, AreFound};
 ghost use Rattle.mtree_inv.specs.Places.{KeepFound, KeepOthers};
 ghost use Rattle.mtree_inv.specs.Probed.{IsAnswer};
@@ -10,7 +11,7 @@ ghost use Rattle.mtree_inv.specs.Probed.{IsAnswer};
 use crate::held_cuts::Rows;
 use std::alloc::{AllocError, Global};
 use std::collections::BTreeMap;
-use std::hash::{FoldHasher, Hasher};
+use std::hash::{DefaultHasher, FoldHasher, Hasher};
 
 // How many places are looked at for a cut.
 pub(crate) const MOST_PROBES: usize = 16;
@@ -27,8 +28,11 @@ pub(crate) struct Place {
 
 const FREE: Place = Place { hash: 0, number: 0 };
 
+/// A digest of a cut, and the cut.
+pub(crate) type Key = (u64, u32, Vec<u8>);
+
 /// The index of each cut that found no place free.
-pub(crate) type Others = BTreeMap<(u32, Vec<u8>), usize>;
+pub(crate) type Others = BTreeMap<Key, usize>;
 
 // A number that tells most cuts from others. Whoever names files may make it the same for many.
 #[tactic(auto, unfolding(crate::specs::Places::hash_of))]
@@ -39,6 +43,25 @@ fn hash_of(front: u32, tail: &[u8]) -> u64
     hasher.write_u32(front);
     hasher.write(tail);
     hasher.finish()
+}
+
+// A number that tells almost all cuts from one another, whoever names the files. It takes longer.
+#[tactic(auto, unfolding(crate::specs::Places::digest_of))]
+fn digest_of(front: u32, tail: &[u8]) -> u64
+    ensures { result ≡ digest_of_cut (front, tail.now) }
+{
+    let mut hasher = DefaultHasher::new();
+    hasher.write_u32(front);
+    hasher.write(tail);
+    hasher.finish()
+}
+
+// What a cut is looked for by in the tree. The digest comes first, so that few cuts are compared.
+fn key_of(alloc: Global, front: u32, tail: &[u8]) -> Result<Key, AllocError>
+    ensures { IfOk result (λ key. IsKeyOf key (front, tail.now)) }
+{
+    let tail_kept = Vec::from_slice(alloc, tail)?;
+    Ok((digest_of(front, tail), front, tail_kept))
 }
 
 // The half of a hash that a place keeps.
@@ -113,7 +136,7 @@ pub(crate) fn other(
         ((i : ℕ) → slice_get rows.now i ≡ Some (front, tail.now)
         → other_at others.now.entries (front, tail.now) ≡ Some i → ⊥) (λ _. Unit {0})) }
 {
-    let key = (front, Vec::from_slice(alloc, tail)?);
+    let key = key_of(alloc, front, tail)?;
     match others.get(&key).copied() {
         Some(index) if is_at(rows, index, front, tail) => Ok(Some(index)),
         _ => Ok(None),
@@ -168,7 +191,7 @@ fn settle(
     let hash = hash_of(front, tail);
     let start = start_of(places.len(), hash);
     let Some(at) = free_place(places, start) else {
-        others.insert((front, Vec::from_slice(alloc, tail)?), index)?;
+        others.insert(key_of(alloc, front, tail)?, index)?;
         return Ok(());
     };
     places[at] = Place {
@@ -194,7 +217,7 @@ fn other_or_last(
         × (other_at others.new.entries (front, tail.now) ≡ Some (length rows.now)))) }
     ensures others { KeepOthers rows.now others.old.entries others.new.entries }
 {
-    let key = (front, Vec::from_slice(alloc, tail)?);
+    let key = key_of(alloc, front, tail)?;
     let index = others.entry(key)?.or_insert(rows.len());
     if is_at(rows, *index, front, tail) {
         return Ok(Some(*index));
