@@ -4,14 +4,13 @@ use Rattle.std.proofs.lemmas.Bool.{cases_lt, cases_eq}
 use Rattle.std.proofs.lemmas.Slice.Eq.{bytes_eq-Decides}
 use Rattle.std.proofs.lemmas.Map.Text.{is_eq-slice_cmp}
 use Rattle.std.proofs.lemmas.Map.Lookups.{exact_bytes, exact_unsigned}
-use Rattle.std.specs.Prelude.{Option, Some, None, slice_get, Vec, Result, Ok, Err, IfOk, IfSome, IfNone, MatchOption}
+use Rattle.std.specs.Prelude.{Option, Some, None, slice_get, Result, Ok, Err, IfOk, IfSome, IfNone, MatchOption}
 use Rattle.std.specs.declared.alloc.AllocError.{AllocError}
 use Rattle.std.specs.Ordering.{nat_cmp, is_eq, is_lt, match_ordering, ordering_then, ordering_reverse}
 use Rattle.std.specs.Cmp.{nat_cmp_total}
 use Rattle.std.specs.Cmp.Lexicographic.{slice_cmp}
 use Rattle.std.specs.BTreeMap.{insert_entry}
 use Rattle.std.specs.Map.{lookup}
-use Rattle.std.specs.declared.alloc.Global.{Global}
 use Rattle.std.specs.declared.cmp.Ordering.{Ordering}
 use Rattle.std.specs.declared.cmp.Ordering.TheVariants.{Less, Equal, Greater}
 use Rattle.mtree_inv.specs.declared.places.Place.{Place}
@@ -267,6 +266,3 @@ settled_more cuts cut places others are found i p at = by (slice_get-more cuts c
     by (inr b) = subst (λ (n : ℕ). IsFoundAt places others p n) (sym b.0) (subst (λ (q : Cut). IsFoundAt places others q (length cuts)) (sym b.1) found)
 
 -- what was found still is, where a new cut was settled
-pub settled_still : (cuts : List Cut) (cut : Cut) (index : ℕ) (places new_places : List Place) (others new_others : Others) → AreFound cuts places others → IsNew cuts cut
-    → ((i : ℕ) (p : Cut) → IsFoundAt places others p i → (p ≡ cut → i ≡ index) → IsFoundAt new_places new_others p i) → AreFound cuts new_places new_others
-settled_still cuts cut index places new_places others new_others are new keeps i p at = keeps i p (are i p at) (λ e. absurd (new i (at ∙ ap Some e)))

@@ -28,7 +28,8 @@ fn places_for(cuts: usize) -> usize
     cuts.saturating_mul(4).saturating_add(FEWEST_PLACES)
 }
 
-// Sees to it that few enough places are taken for one cut more.
+// Sees to it that few enough places are taken for one cut more. What the tree has takes no place,
+// so that cuts of one hash make no table grow. Some stand in both, since the table has grown.
 fn make_room(
     rows: &Rows,
     places: &mut Vec<Place>,
@@ -52,7 +53,8 @@ fn make_room(
 ///
 /// Whoever names files chooses their paths, and may so bring it about that a table of hashes has
 /// many cuts where it looks for each. So only 16 places are looked at, and what finds none of them
-/// free stands in a search tree, where no look-up costs more than a few comparisons.
+/// free stands in a search tree, where no look-up costs more than a few comparisons. They are of
+/// digests first, which hardly ever are the same for two, so that few bytes are compared.
 #[derive(Drop)]
 pub(crate) struct Cuts {
     rows: Rows,

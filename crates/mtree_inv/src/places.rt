@@ -50,10 +50,10 @@ fn hash_of(front: u32, tail: &[u8]) -> u64
 fn digest_of(front: u32, tail: &[u8]) -> u64
     ensures { result ≡ digest_of_cut (front, tail.now) }
 {
-    let mut hasher = DefaultHasher::new();
-    hasher.write_u32(front);
-    hasher.write(tail);
-    hasher.finish()
+    let mut digest = DefaultHasher::new();
+    digest.write_u32(front);
+    digest.write(tail);
+    digest.finish()
 }
 
 // What a cut is looked for by in the tree. The digest comes first, so that few cuts are compared.

@@ -1,9 +1,8 @@
-use Rattle.std.proofs.Common.{◌≡◌, ◌<◌, ◌∙◌, ℕ, List, length, refl, sym, ap, subst, arith, length-set, get_or-set_same, get_or-set_other}
-use Rattle.std.specs.Prelude.{Some, slice_set}
+use Rattle.std.proofs.Common.{◌<◌, ◌∙◌, ℕ, length, sym, ap, arith, length-set, get_or-set_same, get_or-set_other}
+use Rattle.std.specs.Prelude.{slice_set}
 use Rattle.mtree_inv.specs.declared.places.Place.{Place}
-use Rattle.mtree_inv.specs.Cuts.{Cut}
 use Rattle.mtree_inv.specs.Places.{place_at}
-use Rattle.mtree_inv.proofs.PlaceLemmas.{new_at_free, found_still, found_there, found_beside, place_when_known, found_when_known}
+use Rattle.mtree_inv.proofs.PlaceLemmas.{new_at_free, found_still, found_beside, place_when_known, found_when_known}
 use Rattle.mtree_inv.proofs.places.find_or_settle.Goals as goal
 
 abbrev free : Place

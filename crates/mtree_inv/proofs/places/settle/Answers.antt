@@ -1,4 +1,4 @@
-use Rattle.std.proofs.Common.{◌%◌, ◌-◌, ◌≡◌, ◌<◌, ℕ, List, length, refl, ap, subst, ◌∙◌, inr, arith, length-set, get_or-set_same, get_or-set_other}
+use Rattle.std.proofs.Common.{◌%◌, ◌-◌, ◌≡◌, ◌<◌, ℕ, length, refl, ap, subst, ◌∙◌, inr, arith, length-set, get_or-set_same, get_or-set_other}
 use Rattle.std.specs.Prelude.{Some, slice_set}
 use Rattle.mtree_inv.specs.declared.places.Place.{Place}
 use Rattle.mtree_inv.specs.Cuts.{Cut}
