@@ -4,32 +4,32 @@ use Rattle.std.proofs.lemmas.Bool.{cases_lt, cases_eq}
 use Rattle.std.proofs.lemmas.Slice.Eq.{bytes_eq-Decides}
 use Rattle.std.proofs.lemmas.Map.Text.{is_eq-slice_cmp}
 use Rattle.std.proofs.lemmas.Map.Lookups.{exact_bytes, exact_unsigned}
-use Rattle.std.specs.Prelude.{Option, Some, None, slice_get, Vec, Result, Ok, Err, IfOk, IfSome, MatchOption}
+use Rattle.std.specs.Prelude.{Option, Some, None, slice_get, Result, Ok, Err, IfOk, IfSome, IfNone, MatchOption}
 use Rattle.std.specs.declared.alloc.AllocError.{AllocError}
 use Rattle.std.specs.Ordering.{nat_cmp, is_eq, is_lt, match_ordering, ordering_then, ordering_reverse}
 use Rattle.std.specs.Cmp.{nat_cmp_total}
 use Rattle.std.specs.Cmp.Lexicographic.{slice_cmp}
 use Rattle.std.specs.BTreeMap.{insert_entry}
-use Rattle.std.specs.declared.alloc.Global.{Global}
+use Rattle.std.specs.Map.{lookup}
 use Rattle.std.specs.declared.cmp.Ordering.{Ordering}
 use Rattle.std.specs.declared.cmp.Ordering.TheVariants.{Less, Equal, Greater}
 use Rattle.mtree_inv.specs.declared.places.Place.{Place}
 use Rattle.mtree_inv.specs.Cuts.{Cut, IsNew, IsPlaceOf, AreDistinct}
-use Rattle.mtree_inv.specs.Places.{most_probes, hash_of, half, place_at, start_of, AreTaken, TellsOf, Others, other_at, IsFoundAt, AreFound, IsToldNowhere}
+use Rattle.mtree_inv.specs.Places.{most_probes, hash_of, half, place_at, start_of, AreTaken, TellsOf, digest_of, Key, IsKeyOf, key_cmp, Others, other_at, IsFoundAt, AreFound, IsToldNowhere}
 
 -- ---- keys of the tree
 
-abbrev Key : Type 0
-Key = ℕ × Vec ℕ Global
+abbrev Parts : Type 0
+Parts = ℕ × ℕ × List ℕ
 
-abbrev key_cmp : Key → Key → Ordering
-key_cmp a b = ordering_then (nat_cmp a.0 b.0) (slice_cmp nat_cmp a.1.items b.1.items)
+abbrev parts : Key → Parts
+parts key = (key.0, key.1, key.2.items)
+
+abbrev parts_of : Cut → Parts
+parts_of cut = (digest_of cut, cut.0, cut.1)
 
 abbrev is_key : Cut → Key → Bool
-is_key cut key = is_eq (ordering_then (nat_cmp cut.0 key.0) (slice_cmp nat_cmp cut.1 key.1.items))
-
-abbrev cut_of : Key → Cut
-cut_of key = (key.0, key.1.items)
+is_key cut key = is_eq (key_cmp (parts_of cut) (parts key))
 
 equal : (o : Ordering) → is_eq o ≡ true → o ≡ Equal
 equal Less e = absurd (true≢false (sym e))
@@ -41,10 +41,13 @@ both_equal Less p h = absurd (true≢false (sym h))
 both_equal Equal p h = (refl, equal p h)
 both_equal Greater p h = absurd (true≢false (sym h))
 
-same_key : (cut : Cut) (key : Key) → is_key cut key ≡ true → cut ≡ cut_of key
-same_key cut key h =
-    let both = both_equal (nat_cmp cut.0 key.0) (slice_cmp nat_cmp cut.1 key.1.items) h in
-    ap (λ (n : ℕ). (n, cut.1)) (exact_unsigned cut.0 key.0 both.0) ∙ ap (λ (xs : List ℕ). (key.0, xs)) (exact_bytes cut.1 key.1.items both.1)
+same_parts : (a b : Parts) → is_eq (key_cmp a b) ≡ true → a ≡ b
+same_parts a b h =
+    let numbers = ordering_then (nat_cmp a.0 b.0) (nat_cmp a.1 b.1) in
+    let both = both_equal numbers (slice_cmp nat_cmp a.2 b.2) h in
+    let two = both_equal (nat_cmp a.0 b.0) (nat_cmp a.1 b.1) (ap is_eq both.0) in
+    ap (λ (n : ℕ). (n, a.1, a.2)) (exact_unsigned a.0 b.0 two.0) ∙ ap (λ (n : ℕ). (b.0, n, a.2)) (exact_unsigned a.1 b.1 two.1)
+    ∙ ap (λ (xs : List ℕ). (b.0, b.1, xs)) (exact_bytes a.2 b.2 both.1)
 
 number_itself : (n : ℕ) → nat_cmp n n ≡ Equal
 number_itself n = by (nat_cmp n n) (nat_cmp_total.antisymm n n)
@@ -54,23 +57,36 @@ number_itself n = by (nat_cmp n n) (nat_cmp_total.antisymm n n)
     by Equal e = refl
     by Greater e = absurd (true≢false (sym (ap is_lt e)))
 
-is_its_key : (key : Key) → is_key (cut_of key) key ≡ true
-is_its_key key =
-    ap (λ (o : Ordering). is_eq (ordering_then o (slice_cmp nat_cmp key.1.items key.1.items))) (number_itself key.0)
-    ∙ is_eq-slice_cmp key.1.items key.1.items ∙ (bytes_eq-Decides key.1.items key.1.items).1 refl
+parts_itself : (a : Parts) → is_eq (key_cmp a a) ≡ true
+parts_itself a =
+    ap (λ (o : Ordering). is_eq (ordering_then (ordering_then o (nat_cmp a.1 a.1)) (slice_cmp nat_cmp a.2 a.2))) (number_itself a.0)
+    ∙ ap (λ (o : Ordering). is_eq (ordering_then o (slice_cmp nat_cmp a.2 a.2))) (number_itself a.1)
+    ∙ is_eq-slice_cmp a.2 a.2 ∙ (bytes_eq-Decides a.2 a.2).1 refl
 
-one_key : (cut : Cut) (a b : Key) → key_cmp a b ≡ Equal → is_key cut a ≡ is_key cut b
-one_key cut a b e = ap (λ (c : Cut). is_eq (ordering_then (nat_cmp cut.0 c.0) (slice_cmp nat_cmp cut.1 c.1))) (same_key (cut_of a) b (ap is_eq e))
+-- the key of a cut is its parts
+parts_are : (key : Key) (cut : Cut) → IsKeyOf key cut → parts_of cut ≡ parts key
+parts_are key cut is =
+    ap (λ (n : ℕ). (n, cut.0, cut.1)) (sym is.digest) ∙ ap (λ (n : ℕ). (key.0, n, cut.1)) (sym is.front) ∙ ap (λ (xs : List ℕ). (key.0, key.1, xs)) (sym is.tail)
+
+-- what the tree says of a cut is what it has at its key
+pub at_key : (others : Others) (key : Key) (cut : Cut) → IsKeyOf key cut → lookup (λ (k : Key). is_eq (key_cmp (parts key) (parts k))) others ≡ other_at others cut
+at_key others key cut is = ap (λ (p : Parts). lookup (λ (k : Key). is_eq (key_cmp p (parts k))) others) (sym (parts_are key cut is))
 
 -- ---- the tree with a key
 
-module _ (key : Key) (new : ℕ) where
+module _ (key : Key) (of : Cut) (is : IsKeyOf key of) (new : ℕ) where
   abbrev with_key : Others → Others
-  with_key others = insert_entry key_cmp others key new
+  with_key others = insert_entry (λ (a b : Key). key_cmp (parts a) (parts b)) others key new
+
+  is_its_key : is_key of key ≡ true
+  is_its_key = ap (λ (p : Parts). is_eq (key_cmp p (parts key))) (parts_are key of is) ∙ parts_itself (parts key)
+
+  same_key : (cut : Cut) → is_key cut key ≡ true → cut ≡ of
+  same_key cut h = ap (λ (p : Parts). (p.1, p.2)) (same_parts (parts_of cut) (parts key) h ∙ sym (parts_are key of is))
 
   other-new : (cut : Cut) (others : Others) → other_at (with_key others) cut ≡ cond (is_key cut key) (Some new) (other_at others cut)
   other-new cut [] = refl
-  other-new cut (row ∷ others) = by (key_cmp key row.0) refl (other-new cut others)
+  other-new cut (row ∷ others) = by (key_cmp (parts key) (parts row.0)) refl (other-new cut others)
     where
       replaced : (b d : Bool) → b ≡ d → cond d (Some new) (other_at others cut) ≡ cond b (Some new) (cond d (Some row.1) (other_at others cut))
       replaced true true e = refl
@@ -78,31 +94,34 @@ module _ (key : Key) (new : ℕ) where
       replaced false true e = absurd (true≢false (sym e))
       replaced false false e = refl
 
-      apart : (b d : Bool) → is_key cut key ≡ b → is_key cut row.0 ≡ d → key_cmp key row.0 ≡ Greater
+      apart : (b d : Bool) → is_key cut key ≡ b → is_key cut row.0 ≡ d → key_cmp (parts key) (parts row.0) ≡ Greater
           → cond d (Some row.1) (cond b (Some new) (other_at others cut)) ≡ cond b (Some new) (cond d (Some row.1) (other_at others cut))
       apart true true h k e =
-          let same : cut_of key ≡ cut_of row.0 = sym (same_key cut key h) ∙ same_key cut row.0 k in
-          absurd (true≢false (sym (is_its_key key) ∙ ap (λ (c : Cut). is_eq (ordering_then (nat_cmp key.0 c.0) (slice_cmp nat_cmp key.1.items c.1))) same ∙ ap is_eq e))
+          let same : parts key ≡ parts row.0 = sym (same_parts (parts_of cut) (parts key) h) ∙ same_parts (parts_of cut) (parts row.0) k in
+          absurd (true≢false (sym (parts_itself (parts key)) ∙ ap (λ (p : Parts). is_eq (key_cmp (parts key) p)) same ∙ ap is_eq e))
       apart true false h k e = refl
       apart false d h k e = refl
 
-      by : (o : Ordering) → key_cmp key row.0 ≡ o → other_at (with_key others) cut ≡ cond (is_key cut key) (Some new) (other_at others cut)
+      one_key : key_cmp (parts key) (parts row.0) ≡ Equal → is_key cut key ≡ is_key cut row.0
+      one_key e = ap (λ (p : Parts). is_eq (key_cmp (parts_of cut) p)) (same_parts (parts key) (parts row.0) (ap is_eq e))
+
+      by : (o : Ordering) → key_cmp (parts key) (parts row.0) ≡ o → other_at (with_key others) cut ≡ cond (is_key cut key) (Some new) (other_at others cut)
           → other_at (match_ordering o ((key, new) ∷ row ∷ others) ((row.0, new) ∷ others) (row ∷ with_key others)) cut ≡ cond (is_key cut key) (Some new) (other_at (row ∷ others) cut)
       by Less e rest = refl
-      by Equal e rest = replaced (is_key cut key) (is_key cut row.0) (one_key cut key row.0 e)
+      by Equal e rest = replaced (is_key cut key) (is_key cut row.0) (one_key e)
       by Greater e rest =
           ap (λ (o : Option ℕ). cond (is_key cut row.0) (Some row.1) o) rest
           ∙ apart (is_key cut key) (is_key cut row.0) refl refl e
 
-  pub other_at-new : (others new_others : Others) → new_others ≡ with_key others → other_at new_others (cut_of key) ≡ Some new
-  other_at-new others new_others is =
-      ap (λ (l : Others). other_at l (cut_of key)) is ∙ other-new (cut_of key) others ∙ ap (λ (b : Bool). cond b (Some new) (other_at others (cut_of key))) (is_its_key key)
+  pub other_at-new : (others new_others : Others) → new_others ≡ with_key others → other_at new_others of ≡ Some new
+  other_at-new others new_others are =
+      ap (λ (l : Others). other_at l of) are ∙ other-new of others ∙ ap (λ (b : Bool). cond b (Some new) (other_at others of)) is_its_key
 
-  pub other_at-other : (others new_others : Others) → new_others ≡ with_key others → (i : ℕ) (cut : Cut) → other_at others cut ≡ Some i → (cut ≡ cut_of key → i ≡ new) → other_at new_others cut ≡ Some i
-  other_at-other others new_others is i cut at one = ap (λ (l : Others). other_at l cut) is ∙ other-new cut others ∙ by (is_key cut key) refl
+  pub other_at-other : (others new_others : Others) → new_others ≡ with_key others → (i : ℕ) (cut : Cut) → other_at others cut ≡ Some i → (cut ≡ of → i ≡ new) → other_at new_others cut ≡ Some i
+  other_at-other others new_others are i cut at one = ap (λ (l : Others). other_at l cut) are ∙ other-new cut others ∙ by (is_key cut key) refl
     where
       by : (b : Bool) → is_key cut key ≡ b → cond b (Some new) (other_at others cut) ≡ Some i
-      by true h = ap Some (sym (one (same_key cut key h)))
+      by true h = ap Some (sym (one (same_key cut h)))
       by false h = at
 
 -- ---- a cut is found still, where a free place was taken
@@ -200,6 +219,23 @@ module _ (cuts : List Cut) (places : List Place) (others : Others) (are : AreFou
   place_when_full nowhere (Ok None) found none = new_when_full nowhere none
   place_when_full nowhere (Ok (Some i)) found none = found
 
+  -- the same, where the tree comes to know a cut that it did not
+  pub place_when_known : IsToldNowhere cuts places cut most_probes → (Told : Type 0) → (answer : Result (Option ℕ) AllocError)
+      → IfOk answer (λ known. IfSome known (λ i. slice_get cuts i ≡ Some cut))
+      → IfOk answer (λ known. IfNone known (((i : ℕ) → slice_get cuts i ≡ Some cut → other_at others cut ≡ Some i → ⊥) × Told))
+      → IfOk answer (IsPlaceOf cuts cut)
+  place_when_known nowhere Told (Err e) known new = tt
+  place_when_known nowhere Told (Ok None) known new = new_when_full nowhere new.0
+  place_when_known nowhere Told (Ok (Some i)) known new = known
+
+-- and then it is found there
+pub found_when_known : (places : List Place) (others : Others) (cut : Cut) (last : ℕ) → most_probes < length places → AreTaken places (start_of (length places) cut) most_probes
+    → (Untold : Type 0) → (answer : Result (Option ℕ) AllocError) → IfOk answer (λ known. IfNone known (Untold × (other_at others cut ≡ Some last)))
+    → IfOk answer (λ known. IfNone known (IsFoundAt places others cut last))
+found_when_known places others cut last roomy taken Untold (Err e) new = tt
+found_when_known places others cut last roomy taken Untold (Ok None) new = record { roomy = roomy; probes = most_probes; taken = taken; there = inr (refl, new.1) }
+found_when_known places others cut last roomy taken Untold (Ok (Some i)) new = tt
+
 -- ---- a list with a cut more
 
 pub slice_get-more : {X : Type 0} (xs : List X) (y : X) (i : ℕ) (x : X) → slice_get (xs ++ y ∷ []) i ≡ Some x → (slice_get xs i ≡ Some x) ⊎ ((i ≡ length xs) × (x ≡ y))
@@ -230,6 +266,3 @@ settled_more cuts cut places others are found i p at = by (slice_get-more cuts c
     by (inr b) = subst (λ (n : ℕ). IsFoundAt places others p n) (sym b.0) (subst (λ (q : Cut). IsFoundAt places others q (length cuts)) (sym b.1) found)
 
 -- what was found still is, where a new cut was settled
-pub settled_still : (cuts : List Cut) (cut : Cut) (index : ℕ) (places new_places : List Place) (others new_others : Others) → AreFound cuts places others → IsNew cuts cut
-    → ((i : ℕ) (p : Cut) → IsFoundAt places others p i → (p ≡ cut → i ≡ index) → IsFoundAt new_places new_others p i) → AreFound cuts new_places new_others
-settled_still cuts cut index places new_places others new_others are new keeps i p at = keeps i p (are i p at) (λ e. absurd (new i (at ∙ ap Some e)))

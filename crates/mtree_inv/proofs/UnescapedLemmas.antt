@@ -1,7 +1,9 @@
 -- A word without escapes: its parts are its pieces between slashes.
 use Rattle.std.proofs.Common.{◌≡◌, ℕ, Bool, true, false, cond, ◌||◌, List, [], ◌∷◌, refl, sym, ap, ◌∙◌, true≢false, arith}
-use Rattle.std.specs.Prelude.{filter, map, drop, slice_index, ◌==◌}
+use Rattle.std.proofs.lemmas.Bool.{eqb-true}
+use Rattle.std.specs.Prelude.{filter, map, drop, slice_index, ◌==◌, codes}
 use Rattle.std.specs.List.{list_any, slice_split, onto_first}
+use Rattle.std.specs.Str.{bytes_eq}
 use Rattle.idtext.specs.Escapes.{Front, backslash_front, front, characters, bytes_of, is_bad}
 use Rattle.idtext.specs.Pieces.{pieces}
 use Rattle.idtext.specs.declared.escapes.Character.{Character}
@@ -10,6 +12,7 @@ use Rattle.idtext.proofs.EscapeLemmas.{characters-empty, front-first}
 use Rattle.mtree_inv.specs.Open.{is_full}
 use Rattle.mtree_inv.specs.Paths.{is_kept, is_bad_component, is_slash, parts, components, has_bad_component}
 use Rattle.mtree_inv.specs.Machine.{joined_onto}
+use Rattle.mtree_inv.specs.Views.{has_separator}
 use Rattle.mtree_inv.proofs.PartLemmas.{kept-joined, with_part}
 
 or_parts : (a b : Bool) → (a || b) ≡ false → (a ≡ false) × (b ≡ false)
@@ -103,4 +106,56 @@ module _ (path rest : List ℕ) (bad : Bool) (whole : List ℕ) (last : pieces 4
   pub last-piece-path : with_part path rest ≡ whole
   last-piece-path = sym (kept-joined path rest [] (is_kept rest)) ∙ ap (λ (ps : List (List ℕ)). joined_onto path (filter is_kept ps)) (sym last) ∙ read.path_is
 
--- ---- no slash where there is none
+-- ---- a NUL byte of a word stands in a part of it
+
+or_assoc : (a b c : Bool) → ((a || b) || c) ≡ (a || (b || c))
+or_assoc true b c = refl
+or_assoc false b c = refl
+
+slash_no_nul : (x : ℕ) → (x == 47) ≡ true → (x == 0) ≡ false
+slash_no_nul x e = ap (λ (n : ℕ). n == 0) (eqb-true x 47 e)
+
+separators : (word : List ℕ) → list_any has_separator (slice_split (λ b. b == 47) word) ≡ list_any (λ b. b == 0) word
+separators [] = refl
+separators (x ∷ xs) = by (x == 47) refl (slice_split (λ b. b == 47) xs) (separators xs)
+  where
+    by : (b : Bool) → (x == 47) ≡ b → (ps : List (List ℕ)) → list_any has_separator ps ≡ list_any (λ b. b == 0) xs
+        → list_any has_separator (cond b ([] ∷ ps) (onto_first x ps)) ≡ ((x == 0) || list_any (λ b. b == 0) xs)
+    by true e ps rest = rest ∙ ap (λ (b : Bool). b || list_any (λ b. b == 0) xs) (sym (slash_no_nul x e))
+    by false e [] rest =
+        or_assoc ((x == 47) || (x == 0)) false false ∙ ap (λ (b : Bool). (b || (x == 0)) || false) e ∙ ap (λ (b : Bool). (x == 0) || b) rest
+    by false e (first ∷ more) rest =
+        or_assoc ((x == 47) || (x == 0)) (has_separator first) (list_any has_separator more)
+        ∙ ap (λ (b : Bool). (b || (x == 0)) || (has_separator first || list_any has_separator more)) e
+        ∙ ap (λ (b : Bool). (x == 0) || b) rest
+
+or_right : (a b : Bool) → b ≡ true → (a || b) ≡ true
+or_right true b e = refl
+or_right false b e = e
+
+some_bad : (ps : List (List ℕ)) → list_any has_separator ps ≡ true → list_any is_bad_component ps ≡ true
+some_bad [] e = e
+some_bad (p ∷ ps) e = by (has_separator p) refl e (some_bad ps)
+  where
+    by : (b : Bool) → has_separator p ≡ b → (b || list_any has_separator ps) ≡ true → (list_any has_separator ps ≡ true → list_any is_bad_component ps ≡ true)
+        → list_any is_bad_component (p ∷ ps) ≡ true
+    by true has e more = ap (λ (b : Bool). b || list_any is_bad_component ps) (or_right (bytes_eq p (codes "..")) (has_separator p) has)
+    by false has e more = or_right (is_bad_component p) (list_any is_bad_component ps) (more e)
+
+pub nul-bad : (word : List ℕ) → list_any (λ b. b == 92) word ≡ false → list_any (λ b. b == 0) word ≡ true → has_bad_component word ≡ true
+unfolding pieces
+nul-bad word none nul = sym (bad-plain word none) ∙ some_bad (pieces 47 word) (separators word ∙ nul)
+
+-- the parts of a rest have no separators
+abbrev pub AreNames : List ℕ → Type 0
+AreNames rest = list_any has_separator (pieces 47 rest) ≡ false
+
+pub names-begun : (word : List ℕ) → list_any (λ b. b == 0) word ≡ false → AreNames word
+unfolding pieces
+names-begun word none = separators word ∙ none
+
+pub name-first : (part after rest : List ℕ) → pieces 47 rest ≡ part ∷ pieces 47 after → AreNames rest → (has_separator part ≡ false) × AreNames after
+name-first part after rest cut are = or_parts (has_separator part) (list_any has_separator (pieces 47 after)) (sym (ap (list_any has_separator) cut) ∙ are)
+
+pub name-last : (rest : List ℕ) → pieces 47 rest ≡ rest ∷ [] → AreNames rest → has_separator rest ≡ false
+name-last rest last are = (or_parts (has_separator rest) false (sym (ap (list_any has_separator) last) ∙ are)).0

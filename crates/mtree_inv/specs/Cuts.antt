@@ -1,5 +1,5 @@
 -- Words of private contracts: cuts, and a list in which each stands once.
-use Rattle.std.specs.Prelude.{◌≡◌, ℕ, List, Option, Some, None, slice_get}
+use Rattle.std.specs.Prelude.{◌≡◌, ℕ, List, [], ◌∷◌, ◌++◌, Option, Some, None, slice_get}
 
 -- a number and bytes: of a path the number of its front, and what stands behind that
 abbrev pub Cut : Type 0
@@ -18,3 +18,8 @@ AreDistinct cuts =
 abbrev pub IsPlaceOf : List Cut → Cut → Option ℕ → Type 0
 IsPlaceOf cuts cut None = IsNew cuts cut
 IsPlaceOf cuts cut (Some i) = slice_get cuts i ≡ Some cut
+
+-- the list with the cut, where it stands in it already or nowhere
+abbrev pub with_cut : List Cut → Cut → Option ℕ → List Cut
+with_cut cuts cut None = cuts ++ cut ∷ []
+with_cut cuts cut (Some i) = cuts

@@ -8,7 +8,9 @@ use Rattle.std.specs.Ordering.{nat_cmp, is_eq, ordering_then}
 use Rattle.std.specs.Cmp.Lexicographic.{slice_cmp}
 use Rattle.std.specs.Hash as fed
 use Rattle.std.specs.Hash.FoldHasher.{initial, write, finish}
+use Rattle.std.specs.Hash.DefaultHasher as sip
 use Rattle.std.specs.declared.alloc.Global.{Global}
+use Rattle.std.specs.declared.cmp.Ordering.{Ordering}
 use Rattle.mtree_inv.specs.declared.places.Place.{Place}
 use Rattle.mtree_inv.specs.Cuts.{Cut}
 
@@ -41,14 +43,31 @@ TellsOf place cut i = place ≡ record { hash = half (hash_of cut); number = suc
 
 -- ---- a search tree, for the cuts that found no place free
 
+-- another hash, which is hardly ever the same for two, whoever names the files
+unfoldable pub digest_of : Cut → ℕ
+digest_of cut = sip.finish (sip.write (fold sip.write sip.initial (fed.u32 cut.0)) cut.1)
+
+-- a digest, and a cut
+abbrev pub Key : Type 0
+Key = ℕ × ℕ × Vec ℕ Global
+
+pub record IsKeyOf (key : Key) (cut : Cut) : Type 0 where
+  pub digest : key.0 ≡ digest_of cut
+  pub front : key.1 ≡ cut.0
+  pub tail : key.2.items ≡ cut.1
+
+-- keys in the order of the tree
+abbrev pub key_cmp : ℕ × ℕ × List ℕ → ℕ × ℕ × List ℕ → Ordering
+key_cmp a b =
+    ordering_then (ordering_then (nat_cmp a.0 b.0) (nat_cmp a.1 b.1)) (slice_cmp nat_cmp a.2 b.2)
+
 abbrev pub Others : Type 0
-Others = List ((ℕ × Vec ℕ Global) × ℕ)
+Others = List (Key × ℕ)
 
 -- what it says of a cut
 abbrev pub other_at : Others → Cut → Option ℕ
 other_at others cut =
-    lookup (λ c. is_eq (ordering_then (nat_cmp cut.0 c.0) (slice_cmp nat_cmp cut.1 c.1.items)))
-    others
+    lookup (λ key. is_eq (key_cmp (digest_of cut, cut.0, cut.1) (key.0, key.1, key.2.items))) others
 
 -- ---- both
 

@@ -2,15 +2,19 @@
 use Rattle.std.specs.Prelude.{◌≡◌, ◌<◌, ℕ, ◌+◌, List, length, Some, slice_get}
 use Rattle.mtree_inv.specs.declared.places.Place.{Place}
 use Rattle.mtree_inv.specs.declared.places.Probed.{Probed}
-use Rattle.mtree_inv.specs.declared.places.Probed.TheVariants.{At, Nowhere, Full}
+use Rattle.mtree_inv.specs.declared.places.Probed.TheVariants.{At, Free, Full}
 use Rattle.mtree_inv.specs.Cuts.{Cut}
-use Rattle.mtree_inv.specs.Places.{most_probes, place_at, start_of, IsToldNowhere}
+use Rattle.mtree_inv.specs.Places.{most_probes, half, hash_of, place_at, start_of, AreTaken}
+use Rattle.mtree_inv.specs.Places.{IsToldNowhere}
 
 abbrev pub IsAnswer : List Cut → List Place → Cut → Probed → Type 0
 IsAnswer cuts places cut (At i) = slice_get cuts i ≡ Some cut
--- a place is free, and none before it tells of the cut
-IsAnswer cuts places cut Nowhere =
-    (k : ℕ) × (k < most_probes)
-    × ((place_at places (start_of (length places) cut + k)).number ≡ 0)
-    × IsToldNowhere cuts places cut k
-IsAnswer cuts places cut Full = IsToldNowhere cuts places cut most_probes
+-- the place is the first free one, and none before it tells of the cut
+IsAnswer cuts places cut (Free at hash) =
+    (k : ℕ) × (k < most_probes) × (at ≡ start_of (length places) cut + k)
+    × ((place_at places at).number ≡ 0) × AreTaken places (start_of (length places) cut) k
+    × IsToldNowhere cuts places cut k × (hash ≡ half (hash_of cut))
+-- all are taken, and none tells of it
+IsAnswer cuts places cut Full =
+    AreTaken places (start_of (length places) cut) most_probes
+    × IsToldNowhere cuts places cut most_probes

@@ -5,7 +5,7 @@ ghost use Rattle.mtree_inv.specs.Places.{most_probes, AreFound};
 
 use crate::held_cuts::{Rows, no_rows};
 use crate::places::{
-    MOST_PROBES, Others, Place, Probed, all_settled, look_at_places, other, settle,
+    MOST_PROBES, Others, Place, Probed, all_settled, find_or_settle, look_at_places, other,
 };
 use std::alloc::{AllocError, Global};
 use std::collections::BTreeMap;
@@ -28,7 +28,8 @@ fn places_for(cuts: usize) -> usize
     cuts.saturating_mul(4).saturating_add(FEWEST_PLACES)
 }
 
-// Sees to it that few enough places are taken for one cut more.
+// Sees to it that few enough places are taken for one cut more. What the tree has takes no place,
+// so that cuts of one hash make no table grow. Some stand in both, since the table has grown.
 fn make_room(
     rows: &Rows,
     places: &mut Vec<Place>,
@@ -40,7 +41,8 @@ fn make_room(
     ensures found { AreFound rows.now places.new.items others.new.entries }
     ensures roomy { OnOk result (most_probes < length places.new.items) }
 {
-    if is_crowded(rows.len(), places.len()) {
+    let placed = rows.len().saturating_sub(others.len());
+    if is_crowded(placed, places.len()) {
         *places = all_settled(rows, others, alloc, places_for(rows.len()))?;
     }
     Ok(())
@@ -51,7 +53,8 @@ fn make_room(
 ///
 /// Whoever names files chooses their paths, and may so bring it about that a table of hashes has
 /// many cuts where it looks for each. So only 16 places are looked at, and what finds none of them
-/// free stands in a search tree, where no look-up costs more than a few comparisons.
+/// free stands in a search tree, where no look-up costs more than a few comparisons. They are of
+/// digests first, which hardly ever are the same for two, so that few bytes are compared.
 #[derive(Drop)]
 pub(crate) struct Cuts {
     rows: Rows,
@@ -84,9 +87,8 @@ pub(crate) fn no_cuts(alloc: Global) -> Cuts
 }
 
 impl Cuts {
-    ghost use Rattle.std.specs.Prelude.{◌≡◌, ◌++◌, ◌∷◌, [], length, IfOk, is_ok};
-    ghost use Rattle.std.specs.Prelude.{if◌then◌else◌};
-    ghost use Rattle.mtree_inv.specs.Cuts.{IsNew, IsPlaceOf};
+    ghost use Rattle.std.specs.Prelude.{◌≡◌, length, IfOk, OnErr};
+    ghost use Rattle.mtree_inv.specs.Cuts.{IsPlaceOf, with_cut};
 
     /// How many cuts there are.
     pub(crate) fn len(&self) -> usize
@@ -109,27 +111,37 @@ impl Cuts {
         }
         match look_at_places(&self.rows, &self.places, front, tail) {
             Probed::At(index) => Ok(Some(index)),
-            Probed::Nowhere => Ok(None),
+            Probed::Free(_, _) => Ok(None),
             Probed::Full => other(&self.rows, &self.others, alloc, front, tail),
         }
     }
 
-    /// Appends a cut that is new.
-    pub(crate) fn push(&mut self, alloc: Global, front: u32, tail: &[u8]) -> Result<(), AllocError>
-        requires { IsNew self.old (front, tail.now) }
-        ensures { self.new
-            ≡ (if is_ok result then self.old ++ (front, tail.now) ∷ [] else self.old) }
+    /// The index of a cut, or None where it is new: then it is appended.
+    pub(crate) fn find_or_push(
+        &mut self,
+        alloc: Global,
+        front: u32,
+        tail: &[u8],
+    ) -> Result<Option<usize>, AllocError>
+        ensures place { IfOk result (IsPlaceOf self.old (front, tail.now)) }
+        ensures cuts { IfOk result
+            (λ known. self.new ≡ with_cut self.old (front, tail.now) known) }
+        ensures err { OnErr result (self.new ≡ self.old) }
     {
         make_room(&self.rows, &mut self.places, &mut self.others, alloc)?;
-        let index = self.rows.len();
-        settle(
+        match find_or_settle(
+            &self.rows,
             &mut self.places,
             &mut self.others,
             alloc,
-            index,
             front,
             tail,
-        )?;
-        self.rows.push(front, tail)
+        )? {
+            Some(index) => Ok(Some(index)),
+            None => {
+                self.rows.push(front, tail)?;
+                Ok(None)
+            }
+        }
     }
 }

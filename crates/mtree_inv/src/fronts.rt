@@ -52,12 +52,11 @@ fn number_of(
     ensures fronts { AreFronts fronts.new }
     ensures grow { GrowTo fronts.old fronts.new }
 {
-    if let Some(index) = fronts.cuts.find(alloc, front, block)? {
+    let last = fronts.cuts.len();
+    if let Some(index) = fronts.cuts.find_or_push(alloc, front, block)? {
         return number_at(index).ok_or(AllocError);
     }
-    let index = fronts.cuts.len();
-    fronts.cuts.push(alloc, front, block)?;
-    number_at(index).ok_or(AllocError)
+    number_at(last).ok_or(AllocError)
 }
 
 /// Cuts a path. Fronts of it that lack are added, and stay where memory is refused: then no path

@@ -1,8 +1,9 @@
 //! Where a cut is looked for among many, so that its number is found.
 ghost use Rattle.std.specs.Prelude.{◌≡◌, ◌<◌, ℕ, suc, ◌+◌, ◌-◌, ◌%◌, length, true, Some, slice_get};
-ghost use Rattle.std.specs.Prelude.{IfOk, IfSome, MatchOption, OnOk};
-ghost use Rattle.mtree_inv.specs.Cuts.{Cut, AreDistinct};
+ghost use Rattle.std.specs.Prelude.{IfOk, IfSome, IfNone, MatchOption, OnOk};
+ghost use Rattle.mtree_inv.specs.Cuts.{Cut, AreDistinct, IsPlaceOf};
 ghost use Rattle.mtree_inv.specs.Places.{hash_of as hash_of_cut, half, place_at};
+ghost use Rattle.mtree_inv.specs.Places.{digest_of as digest_of_cut, IsKeyOf};
 ghost use Rattle.mtree_inv.specs.Places.{most_probes, AreTaken, other_at, IsFoundAt, AreFound};
 ghost use Rattle.mtree_inv.specs.Places.{KeepFound, KeepOthers};
 ghost use Rattle.mtree_inv.specs.Probed.{IsAnswer};
@@ -10,7 +11,7 @@ ghost use Rattle.mtree_inv.specs.Probed.{IsAnswer};
 use crate::held_cuts::Rows;
 use std::alloc::{AllocError, Global};
 use std::collections::BTreeMap;
-use std::hash::{FoldHasher, Hasher};
+use std::hash::{DefaultHasher, FoldHasher, Hasher};
 
 // How many places are looked at for a cut.
 pub(crate) const MOST_PROBES: usize = 16;
@@ -27,8 +28,11 @@ pub(crate) struct Place {
 
 const FREE: Place = Place { hash: 0, number: 0 };
 
+/// A digest of a cut, and the cut.
+pub(crate) type Key = (u64, u32, Vec<u8>);
+
 /// The index of each cut that found no place free.
-pub(crate) type Others = BTreeMap<(u32, Vec<u8>), usize>;
+pub(crate) type Others = BTreeMap<Key, usize>;
 
 // A number that tells most cuts from others. Whoever names files may make it the same for many.
 #[tactic(auto, unfolding(crate::specs::Places::hash_of))]
@@ -39,6 +43,25 @@ fn hash_of(front: u32, tail: &[u8]) -> u64
     hasher.write_u32(front);
     hasher.write(tail);
     hasher.finish()
+}
+
+// A number that tells almost all cuts from one another, whoever names the files. It takes longer.
+#[tactic(auto, unfolding(crate::specs::Places::digest_of))]
+fn digest_of(front: u32, tail: &[u8]) -> u64
+    ensures { result ≡ digest_of_cut (front, tail.now) }
+{
+    let mut digest = DefaultHasher::new();
+    digest.write_u32(front);
+    digest.write(tail);
+    digest.finish()
+}
+
+// What a cut is looked for by in the tree. The digest comes first, so that few cuts are compared.
+fn key_of(alloc: Global, front: u32, tail: &[u8]) -> Result<Key, AllocError>
+    ensures { IfOk result (λ key. IsKeyOf key (front, tail.now)) }
+{
+    let tail_kept = Vec::from_slice(alloc, tail)?;
+    Ok((digest_of(front, tail), front, tail_kept))
 }
 
 // The half of a hash that a place keeps.
@@ -73,8 +96,8 @@ fn is_at(rows: &Rows, index: usize, front: u32, tail: &[u8]) -> bool
 pub(crate) enum Probed {
     /// It is the one at this index.
     At(usize),
-    /// It is nowhere.
-    Nowhere,
+    /// It is nowhere. At this place it would stand, with this half of its hash.
+    Free(usize, u32),
     /// All places where it might stand are taken: the tree has it, if it is anywhere.
     Full,
 }
@@ -90,7 +113,7 @@ pub(crate) fn look_at_places(rows: &Rows, places: &[Place], front: u32, tail: &[
     for probe in 0..MOST_PROBES {
         let place = places[start + probe];
         let Some(index) = place.number.checked_sub(1) else {
-            return Probed::Nowhere;
+            return Probed::Free(start + probe, half);
         };
         if place.hash == half && is_at(rows, index as usize, front, tail) {
             return Probed::At(index as usize);
@@ -113,7 +136,7 @@ pub(crate) fn other(
         ((i : ℕ) → slice_get rows.now i ≡ Some (front, tail.now)
         → other_at others.now.entries (front, tail.now) ≡ Some i → ⊥) (λ _. Unit {0})) }
 {
-    let key = (front, Vec::from_slice(alloc, tail)?);
+    let key = key_of(alloc, front, tail)?;
     match others.get(&key).copied() {
         Some(index) if is_at(rows, index, front, tail) => Ok(Some(index)),
         _ => Ok(None),
@@ -143,7 +166,7 @@ pub(crate) fn number_at(index: usize) -> Option<u32>
 }
 
 // Keeps where a cut is found.
-pub(crate) fn settle(
+fn settle(
     places: &mut [Place],
     others: &mut Others,
     alloc: Global,
@@ -168,7 +191,7 @@ pub(crate) fn settle(
     let hash = hash_of(front, tail);
     let start = start_of(places.len(), hash);
     let Some(at) = free_place(places, start) else {
-        others.insert((front, Vec::from_slice(alloc, tail)?), index)?;
+        others.insert(key_of(alloc, front, tail)?, index)?;
         return Ok(());
     };
     places[at] = Place {
@@ -176,6 +199,61 @@ pub(crate) fn settle(
         number,
     };
     Ok(())
+}
+
+// Finds a cut in the tree, or lets the tree know it as the one at the end of the list.
+fn other_or_last(
+    rows: &Rows,
+    others: &mut Others,
+    alloc: Global,
+    front: u32,
+    tail: &[u8],
+) -> Result<Option<usize>, AllocError>
+    ensures known { IfOk result (λ known. IfSome known
+        (λ i. slice_get rows.now i ≡ Some (front, tail.now))) }
+    ensures new { IfOk result (λ known. IfNone known
+        (((i : ℕ) → slice_get rows.now i ≡ Some (front, tail.now)
+        → other_at others.old.entries (front, tail.now) ≡ Some i → ⊥)
+        × (other_at others.new.entries (front, tail.now) ≡ Some (length rows.now)))) }
+    ensures others { KeepOthers rows.now others.old.entries others.new.entries }
+{
+    let key = key_of(alloc, front, tail)?;
+    let index = others.entry(key)?.or_insert(rows.len());
+    if is_at(rows, *index, front, tail) {
+        return Ok(Some(*index));
+    }
+    *index = rows.len();
+    Ok(None)
+}
+
+/// The index of a cut, or None where it is new: then it is found at the end of the list.
+pub(crate) fn find_or_settle(
+    rows: &Rows,
+    places: &mut [Place],
+    others: &mut Others,
+    alloc: Global,
+    front: u32,
+    tail: &[u8],
+) -> Result<Option<usize>, AllocError>
+    requires roomy { most_probes < length places.old }
+    requires found { AreFound rows.now places.old others.old.entries }
+    ensures place { IfOk result (IsPlaceOf rows.now (front, tail.now)) }
+    ensures settled { IfOk result (λ known. IfNone known
+        (IsFoundAt places.new others.new.entries (front, tail.now) (length rows.now))) }
+    ensures found { AreFound rows.now places.new others.new.entries }
+    ensures len { length places.new ≡ length places.old }
+{
+    let Some(number) = number_at(rows.len()) else {
+        return Err(AllocError);
+    };
+    match look_at_places(rows, places, front, tail) {
+        Probed::At(index) => Ok(Some(index)),
+        Probed::Free(at, hash) => {
+            places[at] = Place { hash, number };
+            Ok(None)
+        }
+        Probed::Full => other_or_last(rows, others, alloc, front, tail),
+    }
 }
 
 // Keeps where the cut at an index of the list is found.

@@ -71,8 +71,8 @@ impl Reader {
     ///
     /// One pass over the piece and over the whole path of each entry. For each 256 bytes of a path
     /// there is one look-up by hash, which looks at 16 places at most. Only where these are taken,
-    /// as where somebody chose the paths so, it goes on in a search tree, with a few comparisons of
-    /// at most as many bytes: about one for each binary digit of the number of files.
+    /// as where somebody chose the paths so, it goes on in a search tree, with about one comparison
+    /// for each binary digit of the number of files: of digests, and hardly ever of the bytes.
     pub fn feed(&mut self, piece: &[u8]) -> Result<(), ReadError>
         requires { self.old.is_finished ≡ false }
         ensures stands { (text : List ℕ) → StandsFor self.old text

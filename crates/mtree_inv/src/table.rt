@@ -1,8 +1,8 @@
 //! The files so far by path, each path once.
-ghost use Rattle.std.specs.Prelude.{◌≡◌, [], ◌++◌, ◌∷◌, length, option_map, None};
-ghost use Rattle.std.specs.Prelude.{IfOk, OnOk, OnErr};
+ghost use Rattle.std.specs.Prelude.{◌≡◌, [], length, option_map, IfOk, OnOk, OnErr};
 ghost use Rattle.mtree_inv.specs.Fronts.{IsCut, IsCutOf, path_of_cut};
 ghost use Rattle.mtree_inv.specs.Inventory.{file_at};
+ghost use Rattle.mtree_inv.specs.Machine.{with_new_file};
 ghost use Rattle.mtree_inv.specs.Table.{file, listed};
 
 use crate::cuts::{Cuts, no_cuts};
@@ -88,25 +88,28 @@ pub(crate) fn len(table: &Table) -> usize
     table.owners.len()
 }
 
-/// Adds a file whose path is new.
-pub(crate) fn insert(
+/// The owner of the file with a path, if there is one; else the file is added.
+pub(crate) fn find_or_insert(
     table: &mut Table,
     alloc: Global,
     front: u32,
     tail: &[u8],
     owner: Owner,
-) -> Result<(), AllocError>
-    requires cut { IsCut table.old.fronts (front, tail.now) }
-    requires new { file_at (listed table.old) (path_of_cut table.old.fronts (front, tail.now))
-        ≡ None }
-    ensures ok { OnOk result (listed table.new
-        ≡ listed table.old ++ file (path_of_cut table.old.fronts (front, tail.now)) owner ∷ []) }
+) -> Result<Option<Owner>, AllocError>
+    requires { IsCut table.old.fronts (front, tail.now) }
+    ensures known { IfOk result
+        (λ known. option_map (file (path_of_cut table.old.fronts (front, tail.now))) known
+        ≡ file_at (listed table.old) (path_of_cut table.old.fronts (front, tail.now))) }
+    ensures files { OnOk result (listed table.new ≡ with_new_file (listed table.old)
+        (file (path_of_cut table.old.fronts (front, tail.now)) owner)) }
     ensures err { OnErr result (listed table.new ≡ listed table.old) }
 {
-    table.owners.push(owner)?;
-    if table.paths.push(alloc, front, tail).is_err() {
-        let _ = table.owners.pop();
-        return Err(AllocError);
+    table.owners.reserve(1)?;
+    match table.paths.find_or_push(alloc, front, tail)? {
+        Some(index) => Ok(Some(table.owners[index])),
+        None => {
+            table.owners.push_reserved(owner);
+            Ok(None)
+        }
     }
-    Ok(())
 }

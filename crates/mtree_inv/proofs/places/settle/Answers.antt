@@ -1,4 +1,4 @@
-use Rattle.std.proofs.Common.{◌%◌, ◌-◌, ◌≡◌, ◌<◌, ℕ, List, length, refl, ap, subst, ◌∙◌, inr, arith, length-set, get_or-set_same, get_or-set_other}
+use Rattle.std.proofs.Common.{◌%◌, ◌-◌, ◌≡◌, ◌<◌, ℕ, length, refl, ap, subst, ◌∙◌, inr, arith, length-set, get_or-set_same, get_or-set_other}
 use Rattle.std.specs.Prelude.{Some, slice_set}
 use Rattle.mtree_inv.specs.declared.places.Place.{Place}
 use Rattle.mtree_inv.specs.Cuts.{Cut}
@@ -8,20 +8,15 @@ use Rattle.mtree_inv.proofs.places.settle.Goals as goal
 
 others : (c : goal.In_ok-insert) (i : ℕ) (cut : Cut) → other_at c.args.others.now.entries cut ≡ Some i → (cut ≡ (c.args.front, c.args.tail.now) → i ≡ c.args.index)
     → other_at c.insert.new.self.entries cut ≡ Some i
-others c i cut at one =
-    other_at-other (c.args.front, c.in_ok-from_slice.field-0) c.args.index c.args.others.now.entries c.insert.new.self.entries c.in_ok-insert.ensures.entries i cut at
-    (λ e. one (e ∙ ap (λ (xs : List ℕ). (c.args.front, xs)) c.in_ok-from_slice.ensures.items))
+others c = other_at-other _ (c.args.front, c.args.tail.now) c.in_ok-key_of.ensures c.args.index c.args.others.now.entries c.insert.new.self.entries c.in_ok-insert.ensures.entries
 
 pub returns-in_default-free_place-clause-settled : goal.returns-in_default-free_place-clause-settled
-returns-in_default-free_place-clause-settled c =
-    let told : other_at c.insert.new.self.entries (c.args.front, c.in_ok-from_slice.field-0.items) ≡ Some c.args.index =
-    other_at-new (c.args.front, c.in_ok-from_slice.field-0) c.args.index c.args.others.now.entries c.insert.new.self.entries c.in_ok-insert.ensures.entries in
-    record {
-      roomy = c.requires;
-      probes = most_probes;
-      taken = subst (λ (n : ℕ). AreTaken c.args.places.now n most_probes) (c.start_of-start.ensures.start ∙ ap (λ (h : ℕ). h % (length c.args.places.now - most_probes)) c.hash_of-hash.ensures) c.in_default-free_place.ensures;
-      there = inr (refl, subst (λ (xs : List ℕ). other_at c.insert.new.self.entries (c.args.front, xs) ≡ Some c.args.index) c.in_ok-from_slice.ensures.items told);
-    }
+returns-in_default-free_place-clause-settled c = record {
+  roomy = c.requires;
+  probes = most_probes;
+  taken = subst (λ (n : ℕ). AreTaken c.args.places.now n most_probes) (c.start_of-start.ensures.start ∙ ap (λ (h : ℕ). h % (length c.args.places.now - most_probes)) c.hash_of-hash.ensures) c.in_default-free_place.ensures;
+  there = inr (refl, other_at-new _ (c.args.front, c.args.tail.now) c.in_ok-key_of.ensures c.args.index c.args.others.now.entries c.insert.new.self.entries c.in_ok-insert.ensures.entries);
+}
 
 pub returns-in_default-free_place-clause-found : goal.returns-in_default-free_place-clause-found
 returns-in_default-free_place-clause-found c = λ i cut found one.

@@ -1,0 +1,40 @@
+use Rattle.std.proofs.Common.{◌<◌, ◌∙◌, ℕ, length, sym, ap, arith, length-set, get_or-set_same, get_or-set_other}
+use Rattle.std.specs.Prelude.{slice_set}
+use Rattle.mtree_inv.specs.declared.places.Place.{Place}
+use Rattle.mtree_inv.specs.Places.{place_at}
+use Rattle.mtree_inv.proofs.PlaceLemmas.{new_at_free, found_still, found_beside, place_when_known, found_when_known}
+use Rattle.mtree_inv.proofs.places.find_or_settle.Goals as goal
+
+abbrev free : Place
+free = record { hash = 0; number = 0 }
+
+pub returns-in-Free-clause-place : goal.returns-in-Free-clause-place
+returns-in-Free-clause-place c =
+    let h = c.in-Free.ensures in
+    new_at_free c.args.rows.now c.args.places.now c.args.others.now.entries c.requires.found (c.args.front, c.args.tail.now) h.0 h.1
+    (ap (λ (n : ℕ). (place_at c.args.places.now n).number) (sym h.2) ∙ h.3) h.5
+
+pub returns-in-Free-clause-found : goal.returns-in-Free-clause-found
+returns-in-Free-clause-found c = λ i cut stands.
+    let h = c.in-Free.ensures in
+    let places = c.args.places.now in
+    let at = c.in-Free.at in
+    let place : Place = record { hash = c.in-Free.hash; number = c.in-Some.number } in
+    let within : at < length places = omega (arith, h.1, h.2, c.requires.roomy) in
+    found_still places (slice_set places at place) c.args.others.now.entries at (length-set places at place)
+    (λ n apart. get_or-set_other places at n place free apart) h.3 c.in-Free.hash c.len.result
+    (get_or-set_same places at place free within ∙ ap (λ (m : ℕ). (let p : Place = record { hash = c.in-Free.hash; number = m } in p)) c.in-Some.ensures) cut i (c.requires.found i cut stands)
+
+pub returns-in-Full-clause-place : goal.returns-in-Full-clause-place
+returns-in-Full-clause-place c =
+    place_when_known c.args.rows.now c.args.places.now c.args.others.now.entries c.requires.found (c.args.front, c.args.tail.now) c.in-Full.ensures.1
+    _ c.other_or_last.result c.other_or_last.ensures.known c.other_or_last.ensures.new
+
+pub returns-in-Full-clause-settled : goal.returns-in-Full-clause-settled
+returns-in-Full-clause-settled c =
+    found_when_known c.args.places.now c.other_or_last.new.others.entries (c.args.front, c.args.tail.now) _ c.requires.roomy c.in-Full.ensures.0
+    _ c.other_or_last.result c.other_or_last.ensures.new
+
+pub returns-in-Full-clause-found : goal.returns-in-Full-clause-found
+returns-in-Full-clause-found c = λ i cut stands.
+    found_beside c.args.places.now c.args.others.now.entries c.other_or_last.new.others.entries cut i (λ told. c.other_or_last.ensures.others i cut stands told) (c.requires.found i cut stands)
