@@ -142,7 +142,7 @@ solving_from p joined merged turn inv whole over are first =
       read = inv.read;
       accepted = inv.accepted;
       passed_are = inv.passed_are;
-      turns = λ goes host here. fresh_turn host joined merged 0 turn first.0 (first.1 host here);
+      turns = λ host here goes. fresh_turn host joined merged 0 turn first.0 (first.1 host here);
     }
 
 pub solved_from : (p : Pass) (joined : Joined) (merged : Merged) (turn : PlanTurn) → IsMergedOf (seen p) joined merged → IsFreshTurn turn → IsSolvedFrom (seen p) joined (second.seen (solved_pass p joined merged turn))

@@ -134,5 +134,5 @@ pub record IsSolving (p : Pass) : Type 0 where
   pub read : List (Host × List Entry)
   pub accepted : each site_of (loaded_from p.hosts p.first) ≡ Ok read
   pub passed_are : p.passed ≡ map (λ here. row_files here.0 here.1) read
-  pub turns : p.turn.stop ≡ None → (host : Host) → slice_get p.hosts p.ended ≡ Some host
+  pub turns : (host : Host) → slice_get p.hosts p.ended ≡ Some host → p.turn.stop ≡ None
       → TurnsFor host p.joined p.merged p.ended p.turn p.taken.text p.taken.planned

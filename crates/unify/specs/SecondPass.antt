@@ -92,6 +92,18 @@ ended_in s = length s.ended
 abbrev pub IsNext : SolvedValue → Host → Type 0
 IsNext s host = (slice_get s.hosts (ended_in s) ≡ Some host) × (s.met ≡ None)
 
+-- nothing of the next inventory has come, and no fault was met
+pub record IsFresh (s : SolvedValue) : Type 0 where
+  pub none : s.text ≡ []
+  pub unplanned : s.planned ≡ []
+  pub unmet : s.met ≡ None
+
+-- the hosts, and what was merged, stay
+abbrev pub IsOfSameSite : SolvedValue → SolvedValue → Type 0
+IsOfSameSite old new =
+    new
+    ≡ record old { ended = new.ended; text = new.text; planned = new.planned; met = new.met }
+
 -- the hosts with their files of the first pass
 abbrev pub first_in : SolvedValue → Result (List (Host × List Entry)) Fault
 first_in s = each site_of (loaded_from s.hosts s.first)

@@ -122,7 +122,10 @@ impl<'a> JoinedSite<'a> {
         };
         let JoinedSite { inventories, site } = self;
         let Inventories {
-            hosts, passed, log, ..
+            hosts,
+            passed,
+            log,
+            ..
         } = inventories;
         Ok(Solved {
             alloc,

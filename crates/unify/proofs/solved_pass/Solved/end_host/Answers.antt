@@ -7,12 +7,26 @@ use Rattle.reown_plan.specs.Spelling.{end}
 use Rattle.unify_texts.specs.Told.{told}
 use Rattle.unify_texts.specs.declared.fault.Fault.TheVariants.{InventoryChanged, Memory}
 use Rattle.unify.specs.declared.plan_turn.Stop.TheVariants as stop
-use Rattle.unify.specs.PlanTurns.{IsSolving, TurnsFor, pass_of, seen}
+use Rattle.unify.specs.PlanTurns.{IsSolving, Pass, TurnsFor, pass_of, seen}
 use Rattle.unify.specs.RowFiles.{RowFiles, row_files}
 use Rattle.unify.specs.SecondPass.{HaveSameCounts, IsUnfinished, WereFirst, second_files, whole_plan}
 use Rattle.unify.specs.Taken.{Taken}
 use Rattle.unify.proofs.SecondPasses.{accepted_unfinished, accepted_whole, after_seen, after_solving, again_stopped, changed_told, first_rows, for_next, fresh_turn, stopped_seen, turn_of, was_unmet}
 use Rattle.unify.proofs.solved_pass.Solved.end_host.Goals as goal
+
+pub finish_plan-requires-clause-goes : goal.finish_plan-requires-clause-goes
+finish_plan-requires-clause-goes c =
+    let p = pass_of c.self.inside in
+    let host = c.index-host.result.now in
+    let is = turn_of p host c.self.invariant (rw (← c.self.view_is) at c.requires.left) c.index-host.ensures in
+    λ none. (p.taken.text, p.taken.planned, is.inv.turns host is.here none)
+
+pub finish_plan-requires-clause-known : goal.finish_plan-requires-clause-known
+finish_plan-requires-clause-known c =
+    let p = pass_of c.self.inside in
+    let host = c.index-host.result.now in
+    let is = turn_of p host c.self.invariant (rw (← c.self.view_is) at c.requires.left) c.index-host.ensures in
+    is.inv.whole.known p.ended host is.here
 
 pub returns-in-Err-clause-told : goal.returns-in-Err-clause-told
 returns-in-Err-clause-told c =
@@ -86,17 +100,17 @@ returns-clause-planned c =
     (let so_far = c.in_default.ensures.stands p.taken.text p.taken.planned turns in
     (so_far.0 ++ end, c.in_default-next_turn.ensures.plan ∙ ap (λ t. t ++ end) so_far.1 ∙ append_assoc c.args.plan.now.items so_far.0 end, (so_far.2.files, so_far.2.are, accepted_whole host p.joined p.merged p.ended p.taken.text p.taken.planned so_far.0 so_far.2)))))
 
-pub invariant_of-self : goal.invariant_of-self
-invariant_of-self c =
+pub invariant_of-self-2 : goal.invariant_of-self-2
+invariant_of-self-2 c =
     let p = pass_of c.self.inside in
     let host = c.index-host.result.now in
     let is = turn_of p host c.self.invariant (rw (← c.self.view_is) at c.requires.left) c.index-host.ensures in
     let turn = c.next_turn.new.turn in
     let rows : (next : Host) → slice_get p.hosts (p.ended + 1) ≡ Some next → turn.rows ≡ row_files next [] = rw c.as_slice.ensures.value at c.in_default-next_turn.ensures.rows in
-    let new = λ next at. fresh_turn next p.joined p.merged (p.ended + 1) turn c.in_default-next_turn.ensures.fresh (rows next at) in
+    let new : (next : Host) → slice_get p.hosts (p.ended + 1) ≡ Some next → TurnsFor next p.joined p.merged (p.ended + 1) turn [] [] = λ next at. fresh_turn next p.joined p.merged (p.ended + 1) turn c.in_default-next_turn.ensures.fresh (rows next at) in
     let same = c.finish_plan.new.turn ≡ p.turn in
     let kept = c.finish_plan.new.plan ≡ c.args.plan.now in
-    let after = λ (t : Taken). record p { ended = p.ended + 1; turn = turn; taken = t } in
+    let after : Taken → Pass = λ t. record p { ended = p.ended + 1; turn = turn; taken = t } in
     subst (λ (t : Taken). IsSolving (after t)) (sym c.note.ensures) (after_solving is c.in_default.field-0 same kept c.in_default.ensures.again turn new)
 
 pub returns-clause-ended : goal.returns-clause-ended
@@ -106,10 +120,10 @@ returns-clause-ended c =
     let is = turn_of p host c.self.invariant (rw (← c.self.view_is) at c.requires.left) c.index-host.ensures in
     let turn = c.next_turn.new.turn in
     let rows : (next : Host) → slice_get p.hosts (p.ended + 1) ≡ Some next → turn.rows ≡ row_files next [] = rw c.as_slice.ensures.value at c.in_default-next_turn.ensures.rows in
-    let new = λ next at. fresh_turn next p.joined p.merged (p.ended + 1) turn c.in_default-next_turn.ensures.fresh (rows next at) in
+    let new : (next : Host) → slice_get p.hosts (p.ended + 1) ≡ Some next → TurnsFor next p.joined p.merged (p.ended + 1) turn [] [] = λ next at. fresh_turn next p.joined p.merged (p.ended + 1) turn c.in_default-next_turn.ensures.fresh (rows next at) in
     let same = c.finish_plan.new.turn ≡ p.turn in
     let kept = c.finish_plan.new.plan ≡ c.args.plan.now in
-    let after = λ (t : Taken). record p { ended = p.ended + 1; turn = turn; taken = t } in
+    let after : Taken → Pass = λ t. record p { ended = p.ended + 1; turn = turn; taken = t } in
     rw (← c.self.view_is) (ap (λ (t : Taken). seen (after t)) c.note.ensures ∙ after_seen is c.in_default.field-0 same kept c.in_default.ensures.again turn new c.in_default-next_turn.ensures.fresh.goes)
 
 pub returns-clause-again : goal.returns-clause-again

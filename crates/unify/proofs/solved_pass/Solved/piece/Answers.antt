@@ -7,8 +7,22 @@ use Rattle.unify.specs.Passes.{is_read}
 use Rattle.unify.specs.PlanTurns.{IsSolving, pass_of, seen}
 use Rattle.unify.specs.SecondPass.{IsPlannedSoFar, IsUnfinished, owned_lines, second_lines}
 use Rattle.unify.specs.Taken.{Taken}
-use Rattle.unify.proofs.SecondPasses.{again_stopped, fed, fed_solving, fed_told, for_next, lines_changed, lines_known, stopped_seen, turned, turn_of, was_unmet}
+use Rattle.unify.proofs.SecondPasses.{again_stopped, fed_solving, fed_told, for_next, lines_changed, lines_known, stopped_seen, turned, turn_of, was_unmet}
 use Rattle.unify.proofs.solved_pass.Solved.piece.Goals as goal
+
+pub feed_plan-requires-clause-goes : goal.feed_plan-requires-clause-goes
+feed_plan-requires-clause-goes c =
+    let p = pass_of c.self.inside in
+    let host = c.index-host.result.now in
+    let is = turn_of p host c.self.invariant (rw (← c.self.view_is) at c.requires.left) c.index-host.ensures in
+    λ none. (p.taken.text, p.taken.planned, is.inv.turns host is.here none)
+
+pub feed_plan-requires-clause-known : goal.feed_plan-requires-clause-known
+feed_plan-requires-clause-known c =
+    let p = pass_of c.self.inside in
+    let host = c.index-host.result.now in
+    let is = turn_of p host c.self.invariant (rw (← c.self.view_is) at c.requires.left) c.index-host.ensures in
+    is.inv.whole.known p.ended host is.here
 
 pub returns-in-Err-clause-told : goal.returns-in-Err-clause-told
 returns-in-Err-clause-told c =
@@ -43,8 +57,8 @@ returns-in-Err-clause-again c =
     let is = turn_of p host c.self.invariant (rw (← c.self.view_is) at c.requires.left) c.index-host.ensures in
     rw (← c.self.view_is) (again_stopped is c.feed_plan.new.turn c.in-Err.stop c.stopped.result (c.feed_plan.new.plan ≡ c.args.plan.now) c.stopped.ensures c.in-Err.ensures.again)
 
-pub invariant_of-self : goal.invariant_of-self
-invariant_of-self c =
+pub invariant_of-self-2 : goal.invariant_of-self-2
+invariant_of-self-2 c =
     let p = pass_of c.self.inside in
     let host = c.index-host.result.now in
     let is = turn_of p host c.self.invariant (rw (← c.self.view_is) at c.requires.left) c.index-host.ensures in
@@ -55,7 +69,8 @@ invariant_of-self c =
     let u = c.in_default.field-0 in
     let again = c.in_default.ensures.again in
     let stands = c.in_default.ensures.stands in
-    let noted : c.note.new.self.taken ≡ record p.taken { text = p.taken.text ++ bytes; planned = p.taken.planned ++ drop (length old) new } = rw (c.len-before.ensures, c.deref.ensures.value) at c.note.ensures in
+    let before : c.len-before.result ≡ length old = omega (arith, c.len-before.ensures, c.args.plan.now.ok.0) in
+    let noted : c.note.new.self.taken ≡ record p.taken { text = p.taken.text ++ bytes; planned = p.taken.planned ++ drop (length old) new } = rw (before, c.deref.ensures.value) at c.note.ensures in
     subst (λ (t : Taken). IsSolving (record (turned is turn) { taken = t })) (sym noted) (fed_solving is u (turn ≡ p.turn) (c.feed_plan.new.plan ≡ c.args.plan.now) again turn bytes old new stands)
 
 pub returns-clause-told : goal.returns-clause-told
@@ -79,10 +94,13 @@ returns-clause-planned c =
     let u = c.in_default.field-0 in
     let again = c.in_default.ensures.again in
     let stands = c.in_default.ensures.stands in
-    let noted : c.note.new.self.taken ≡ record p.taken { text = p.taken.text ++ bytes; planned = p.taken.planned ++ drop (length old) new } = rw (c.len-before.ensures, c.deref.ensures.value) at c.note.ensures in
+    let before : c.len-before.result ≡ length old = omega (arith, c.len-before.ensures, c.args.plan.now.ok.0) in
+    let noted : c.note.new.self.taken ≡ record p.taken { text = p.taken.text ++ bytes; planned = p.taken.planned ++ drop (length old) new } = rw (before, c.deref.ensures.value) at c.note.ensures in
     let told = fed_told is u (turn ≡ p.turn) (c.feed_plan.new.plan ≡ c.args.plan.now) again turn bytes old new stands c.in_default.ensures.begun in
-    rw (← c.self.view_is, noted) (for_next is (λ h. (more : List ℕ) × (new ≡ old ++ more) × (seen (fed is u (turn ≡ p.turn) (c.feed_plan.new.plan ≡ c.args.plan.now) again turn bytes old new stands) ≡ record (seen p) { text = p.taken.text ++ bytes; planned = p.taken.planned ++ more })
-    × IsPlannedSoFar (seen (fed is u (turn ≡ p.turn) (c.feed_plan.new.plan ≡ c.args.plan.now) again turn bytes old new stands)) h) (λ turns. told))
+    let Told : Taken → Host → Type 0 = λ t h. (more : List ℕ) × (new ≡ old ++ more) × (seen (record (turned is turn) { taken = t }) ≡ record (seen p) { text = p.taken.text ++ bytes; planned = p.taken.planned ++ more }) × IsPlannedSoFar (seen (record (turned is turn) { taken = t })) h in
+    rw (← c.self.view_is) (λ other next.
+    let now = for_next is (Told c.note.new.self.taken) (λ turns. subst (λ (t : Taken). Told t host) (sym noted) told) other next in
+    (now.0, now.1, (now.2, now.3)))
 
 pub returns-clause-again : goal.returns-clause-again
 returns-clause-again c =
@@ -96,5 +114,6 @@ returns-clause-again c =
     let u = c.in_default.field-0 in
     let again = c.in_default.ensures.again in
     let stands = c.in_default.ensures.stands in
-    let noted : c.note.new.self.taken ≡ record p.taken { text = p.taken.text ++ bytes; planned = p.taken.planned ++ drop (length old) new } = rw (c.len-before.ensures, c.deref.ensures.value) at c.note.ensures in
+    let before : c.len-before.result ≡ length old = omega (arith, c.len-before.ensures, c.args.plan.now.ok.0) in
+    let noted : c.note.new.self.taken ≡ record p.taken { text = p.taken.text ++ bytes; planned = p.taken.planned ++ drop (length old) new } = rw (before, c.deref.ensures.value) at c.note.ensures in
     rw (← c.self.view_is, was_unmet is u (turn ≡ p.turn) (c.feed_plan.new.plan ≡ c.args.plan.now) again) tt
