@@ -20,7 +20,7 @@ use Rattle.unify.specs.Merging.{HoldsCounted, IsMerged}
 use Rattle.unify.specs.Passes.{AreTogether, InventoriesValue, read_in}
 use Rattle.unify.specs.Reading.{WholeSite, added_from, added_on}
 use Rattle.unify.specs.RowFiles.{RowFiles, row_files}
-use Rattle.unify.specs.Turns.{AreComing, Pass, seen}
+use Rattle.unify.specs.Turns.{AreCounting, Pass, seen}
 use Rattle.unify.specs.PlanTurns as second
 use Rattle.unify.specs.PlanTurns.{IsFreshTurn, IsSolving}
 use Rattle.unify.specs.SecondPass.{IsSolvedFrom, at_start}
@@ -116,7 +116,7 @@ merged_of c joined counted (Ok solved) whole over made counts_are merged = λ re
 merged_of c joined counted (Err e) whole over made counts_are merged = tt
 
 -- the site that the first pass read
-pub whole_of : (p : Pass) (joined : Joined) (counted : Counted) → AreComing p → AreTogether p.hosts joined → IsOver (seen p) → counts.IsMadeFor joined counted → AreCountersOf (seen p) joined counted → (whole : WholeSite) × IsWhole whole × HoldsCounted whole p.hosts joined counted
+pub whole_of : (p : Pass) (joined : Joined) (counted : Counted) → AreCounting p.hosts p.taken.ended p.passed → AreTogether p.hosts joined → IsOver (seen p) → counts.IsMadeFor joined counted → AreCountersOf (seen p) joined counted → (whole : WholeSite) × IsWhole whole × HoldsCounted whole p.hosts joined counted
 whole_of p joined counted inv whole over made are =
     (record { hosts = inv.read; joined = joined }, over_whole (seen p) joined inv.read whole over inv.accepted, over_holds (seen p) joined counted inv.read whole over made inv.accepted (are inv.read inv.accepted))
 
@@ -130,18 +130,18 @@ solved_pass p joined merged turn = record { hosts = p.hosts; joined = joined; pa
 abbrev pub AreFirstRows : List Host → PlanTurn → Type 0
 AreFirstRows hosts turn = (host : Host) → slice_get hosts 0 ≡ Some host → turn.rows ≡ row_files host []
 
-pub solving_from : (p : Pass) (joined : Joined) (merged : Merged) (turn : PlanTurn) → AreComing p → AreTogether p.hosts joined → IsOver (seen p) → IsMergedOf (seen p) joined merged → IsFreshTurn turn × AreFirstRows p.hosts turn → IsSolving (solved_pass p joined merged turn)
+pub solving_from : (p : Pass) (joined : Joined) (merged : Merged) (turn : PlanTurn) → AreCounting p.hosts p.taken.ended p.passed → AreTogether p.hosts joined → IsOver (seen p) → IsMergedOf (seen p) joined merged → IsFreshTurn turn × AreFirstRows p.hosts turn → IsSolving (solved_pass p joined merged turn)
 solving_from p joined merged turn inv whole over are first =
     let is = are inv.read inv.accepted in
     record {
-      whole = whole;
-      for_site = record { users_len = is.answered.least.admissible.users.len; groups_len = is.answered.least.admissible.groups.len };
+      behind = record {
+        whole = whole;
+        for_site = record { users_len = is.answered.least.admissible.users.len; groups_len = is.answered.least.admissible.groups.len };
+        one_each = omega (arith, inv.ended_are, over);
+        counting = inv;
+      };
       ended_are = refl;
       within = omega arith;
-      one_each = omega (arith, inv.ended_are, over);
-      read = inv.read;
-      accepted = inv.accepted;
-      passed_are = inv.passed_are;
       turns = λ host here goes. fresh_turn host joined merged 0 turn first.0 (first.1 host here);
     }
 

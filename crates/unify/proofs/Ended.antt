@@ -1,6 +1,6 @@
 -- Inventories of which no host is left.
 use Rattle.std.proofs.Common.{◌≡◌, ℕ, ◌+◌, ◌<◌, ◌≤◌, Bool, true, false, cond, List, [], ◌∷◌, ◌++◌, length, map, take, get_or, Option, Some, None, Ok, sym, ap, subst, ◌∙◌, arith}
-use Rattle.std.specs.List.{All, slice_get}
+use Rattle.std.specs.List.{All}
 use Rattle.std.proofs.lemmas.List.{get_or-map, length-map, take_more}
 use Rattle.std.proofs.lemmas.List.Sums.{sum_by-le, sum_by_more_le}
 use Rattle.std.proofs.lemmas.Option.{slice_get-get_or}
@@ -21,7 +21,7 @@ use Rattle.unify.specs.Hosts.{files_of}
 use Rattle.unify.specs.Loading.{loaded_from}
 use Rattle.unify.specs.Passes.{InventoriesValue, ended_in, read_in}
 use Rattle.unify.specs.RowFiles.{RowFiles, row_files}
-use Rattle.unify.specs.Turns.{AreComing, Pass, seen}
+use Rattle.unify.specs.Turns.{AreCounting, Pass, seen}
 use Rattle.unify.proofs.Owners.{files_read}
 use Rattle.unify.proofs.Sites.{cost_more}
 use Rattle.unify.proofs.Whole.{hosts_held}
@@ -51,7 +51,7 @@ pub record AreFilesAt (read : List (Host × List Entry)) (index : ℕ) (host : H
   pub rows_are : rows ≡ row_files host files
   pub few : length files ≤ 16777216
 
-pub files_at : (p : Pass) → AreComing p → IsOver (seen p) → (read : List (Host × List Entry)) → read_in (seen p) ≡ Ok read → (index : ℕ) (host : Host) (rows : RowFiles) → index < length p.passed → host ≡ get_or p.hosts index host → rows ≡ get_or p.passed index rows
+pub files_at : (p : Pass) → AreCounting p.hosts p.taken.ended p.passed → IsOver (seen p) → (read : List (Host × List Entry)) → read_in (seen p) ≡ Ok read → (index : ℕ) (host : Host) (rows : RowFiles) → index < length p.passed → host ≡ get_or p.hosts index host → rows ≡ get_or p.passed index rows
     → AreFilesAt read index host rows
 files_at p inv over read are index host rows left host_is rows_are =
     let at = get_or read index (host, []) in

@@ -15,7 +15,7 @@ use Rattle.unify.specs.declared.turn.Turn.{Turn}
 use Rattle.unify.specs.Count.{site_of}
 use Rattle.unify.specs.Loading.{loaded_from}
 use Rattle.unify.specs.Passes.{IsNext, TellsFault, at_start}
-use Rattle.unify.specs.RowFiles.{RowFiles, row_files}
+use Rattle.unify.specs.RowFiles.{row_files}
 use Rattle.unify.specs.Taken.{nothing}
 use Rattle.unify.specs.Turns.{AreComing, IsAccepted, Pass, TurnsFor, met_at, met_by, met_in, met_on, seen}
 use Rattle.unify.proofs.Sites.{site_given}
@@ -69,13 +69,7 @@ IsNew hosts k turn = (host : Host) → slice_get hosts k ≡ Some host → Turns
 
 pub coming_start : (hosts : List Host) (turn : Turn) → length hosts ≤ 64 → All IsLawfulHost hosts → IsNew hosts 0 turn → AreComing (record { hosts = hosts; passed = []; turn = turn; taken = nothing })
 coming_start hosts turn few lawful new = record {
-  few = few;
-  lawful = lawful;
-  within = omega arith;
-  ended_are = refl;
-  read = [];
-  accepted = none_read hosts;
-  passed_are = refl;
+  counting = record { few = few; lawful = lawful; within = omega arith; ended_are = refl; read = []; accepted = none_read hosts; passed_are = refl };
   turns = λ none. new;
 }
 
@@ -101,7 +95,7 @@ pub record IsTurnOf (p : Pass) (host : Host) : Type 0 where
 -- at an index that is looked up
 pub turn_of : (p : Pass) (k : ℕ) (host : Host) → AreComing p → k ≡ length p.passed → length p.taken.ended < length p.hosts → host ≡ get_or p.hosts k host → IsTurnOf p host
 turn_of p k host inv is asked at =
-    let left : length p.passed < length p.hosts = omega (arith, asked, inv.ended_are) in
+    let left : length p.passed < length p.hosts = omega (arith, asked, inv.counting.ended_are) in
     record { inv = inv; left = left; here = slice_get-get_or p.hosts (length p.passed) host left ∙ ap (λ (h : Host). Some h) (sym (rw is at at)) }
 
 module _ {p : Pass} {host : Host} (is : IsTurnOf p host) where
@@ -125,20 +119,14 @@ module _ {p : Pass} {host : Host} (is : IsTurnOf p host) where
   -- what a turn that goes on has, the next host has
   pub for_next : (P : Host → Type 0) → (TurnsFor host p.turn p.taken.text → P host) → (other : Host) → IsNext (seen p) other → P other
   for_next P has other next =
-      let there : slice_get p.hosts (length p.passed) ≡ Some other = ap (slice_get p.hosts) (sym inv.ended_are) ∙ next.0 in
+      let there : slice_get p.hosts (length p.passed) ≡ Some other = ap (slice_get p.hosts) (sym inv.counting.ended_are) ∙ next.0 in
       subst P (same_host p.hosts (length p.passed) host other here there) (has (inv.turns next.1 host here))
 
   -- ---- a fault
 
   pub refused_coming : (turn : Turn) (f : Fault) → met_by host turn ≡ Some f → AreComing (turned turn)
   refused_coming turn f met = record {
-    few = inv.few;
-    lawful = inv.lawful;
-    within = inv.within;
-    ended_are = inv.ended_are;
-    read = inv.read;
-    accepted = inv.accepted;
-    passed_are = inv.passed_are;
+    counting = inv.counting;
     turns = λ none.
         let bad : Some f ≡ None = sym (met_here turn ∙ met) ∙ none in
         absurd (cc);
@@ -185,13 +173,7 @@ module _ {p : Pass} {host : Host} (is : IsTurnOf p host) where
 
     pub fed_coming : AreComing fed
     fed_coming = record {
-      few = inv.few;
-      lawful = inv.lawful;
-      within = inv.within;
-      ended_are = inv.ended_are;
-      read = inv.read;
-      accepted = inv.accepted;
-      passed_are = inv.passed_are;
+      counting = inv.counting;
       turns = λ none other there. subst (λ (h : Host). TurnsFor h turn (p.taken.text ++ bytes)) (same_host p.hosts (length p.passed) host other here there) fed_turns;
     }
 
@@ -213,19 +195,22 @@ module _ {p : Pass} {host : Host} (is : IsTurnOf p host) where
 
     pub after_coming : AreComing after
     after_coming =
+        let was = inv.counting in
         let text = p.taken.text in
         let l : Loaded = record { host = host; mtree = text } in
         let a = accepts text (inv.turns (was_unmet turn again) host here) in
         let rows = λ (at : Host × List Entry). row_files at.0 at.1 in
-        let there : slice_get p.hosts (length p.taken.ended) ≡ Some host = ap (slice_get p.hosts) inv.ended_are ∙ here in
+        let there : slice_get p.hosts (length p.taken.ended) ≡ Some host = ap (slice_get p.hosts) was.ended_are ∙ here in
         record {
-          few = inv.few;
-          lawful = inv.lawful;
-          within = omega (arith, is.left, one_more);
-          ended_are = omega (arith, inv.ended_are, length-append p.taken.ended (text ∷ []), one_more);
-          read = inv.read ++ (host, a.files) ∷ [];
-          accepted = ap (each site_of) (loaded_push p.hosts p.taken.ended host text there) ∙ each_push site_of (loaded_from p.hosts p.taken.ended) l inv.read (host, a.files) inv.accepted (site_given l text a.files refl a.are);
-          passed_are = (λ i. inv.passed_are i ++ a.rows i ∷ []) ∙ sym (map-append rows inv.read ((host, a.files) ∷ []));
+          counting = record {
+            few = was.few;
+            lawful = was.lawful;
+            within = omega (arith, is.left, one_more);
+            ended_are = omega (arith, was.ended_are, length-append p.taken.ended (text ∷ []), one_more);
+            read = was.read ++ (host, a.files) ∷ [];
+            accepted = ap (each site_of) (loaded_push p.hosts p.taken.ended host text there) ∙ each_push site_of (loaded_from p.hosts p.taken.ended) l was.read (host, a.files) was.accepted (site_given l text a.files refl a.are);
+            passed_are = (λ i. was.passed_are i ++ a.rows i ∷ []) ∙ sym (map-append rows was.read ((host, a.files) ∷ []));
+          };
           turns = λ none. new_here;
         }
 

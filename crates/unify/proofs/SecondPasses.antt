@@ -170,9 +170,10 @@ module _ {p : Pass} {host : Host} (turn_is : IsTurnOf p host) where
   -- how many files its rows owned in the first pass
   pub first_rows : (rows : RowFiles) (were : List Entry) → rows ≡ get_or p.passed p.ended rows → WereFirst (seen p) host were → rows ≡ row_files host were
   first_rows rows were is first =
-      let at : slice_get p.passed p.ended ≡ Some rows = slice_get-get_or p.passed p.ended rows (omega (arith, turn_is.left, inv.one_each)) ∙ ap (λ (x : RowFiles). Some x) (sym is) in
+      let at : slice_get p.passed p.ended ≡ Some rows = slice_get-get_or p.passed p.ended rows (omega (arith, turn_is.left, inv.behind.one_each)) ∙ ap (λ (x : RowFiles). Some x) (sym is) in
+      let counting = inv.behind.counting in
       let count : Host × List Entry → RowFiles = λ there. row_files there.0 there.1 in
-      let passed : p.passed ≡ map count first.0 = inv.passed_are ∙ ap (map count) (ok_same inv.read first.0 (sym inv.accepted ∙ first.1)) in
+      let passed : p.passed ≡ map count first.0 = counting.passed_are ∙ ap (map count) (ok_same counting.read first.0 (sym counting.accepted ∙ first.1)) in
       let was : slice_get first.0 p.ended ≡ Some (host, were) = ap (slice_get first.0) (sym inv.ended_are) ∙ first.2 in
       let counted : slice_get p.passed p.ended ≡ Some (row_files host were) = ap (λ rs. slice_get rs p.ended) passed ∙ slice_get-map count first.0 p.ended ∙ ap (option_map count) was in
       same_at p.passed p.ended rows (row_files host were) at counted
@@ -211,14 +212,9 @@ module _ {p : Pass} {host : Host} (turn_is : IsTurnOf p host) where
 
       pub fed_solving : IsSolving fed
       fed_solving = record {
-        whole = inv.whole;
-        for_site = inv.for_site;
+        behind = inv.behind;
         ended_are = inv.ended_are;
         within = inv.within;
-        one_each = inv.one_each;
-        read = inv.read;
-        accepted = inv.accepted;
-        passed_are = inv.passed_are;
         turns = λ other there goes. subst (λ (h : Host). TurnsFor h p.joined p.merged p.ended turn (p.taken.text ++ bytes) (p.taken.planned ++ drop (length old) new)) (same_at p.hosts p.ended host other here there) fed_here;
       }
 
@@ -241,14 +237,9 @@ module _ {p : Pass} {host : Host} (turn_is : IsTurnOf p host) where
 
       pub after_solving : IsSolving after
       after_solving = record {
-        whole = inv.whole;
-        for_site = inv.for_site;
+        behind = inv.behind;
         ended_are = omega (arith, inv.ended_are, length-append p.taken.ended (p.taken.text ∷ []));
         within = omega (arith, turn_is.left);
-        one_each = inv.one_each;
-        read = inv.read;
-        accepted = inv.accepted;
-        passed_are = inv.passed_are;
         turns = λ next there goes. new next there;
       }
 

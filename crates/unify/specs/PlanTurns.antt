@@ -1,8 +1,8 @@
 -- What private contracts of the second pass go by: the turn of a host, and what a pass keeps.
 -- Source: this project's own rule.
-use Rattle.std.specs.Prelude.{◌≡◌, ◌≤◌, ℕ, Bool, true, false, List, [], length, map, Option, Some}
+use Rattle.std.specs.Prelude.{◌≡◌, ◌≤◌, ℕ, Bool, true, false, List, [], length, Option, Some}
 use Rattle.std.specs.Prelude.{None, Ok, slice_get}
-use Rattle.idtext.specs.First.{each, first_fault}
+use Rattle.idtext.specs.First.{first_fault}
 use Rattle.idtext.specs.declared.faults.ReadError.{ReadError}
 use Rattle.idtext.specs.declared.faults.ReadError.TheVariants as read
 use Rattle.mtree_inv.specs.declared.entry.Entry.{Entry}
@@ -17,13 +17,12 @@ use Rattle.unify.specs.declared.plan_turn.PlanTurn.{PlanTurn}
 use Rattle.unify.specs.declared.plan_turn.Stop.{Stop}
 use Rattle.unify.specs.declared.plan_turn.Stop.TheVariants as stop
 use Rattle.unify.specs.declared.solved_pass.Solved.TheInside.{Inside}
-use Rattle.unify.specs.Count.{site_of}
 use Rattle.unify.specs.Hosts.{owner_fault}
-use Rattle.unify.specs.Loading.{loaded_from}
 use Rattle.unify.specs.Passes.{AreTogether}
 use Rattle.unify.specs.RowFiles.{RowFiles, row_files}
 use Rattle.unify.specs.SecondPass.{SolvedValue, plan_before_end, second_files}
 use Rattle.unify.specs.Taken.{Taken}
+use Rattle.unify.specs.Turns.{AreCounting}
 
 -- ---- the turn of a host
 
@@ -123,16 +122,18 @@ seen p = record {
   met = met_on (slice_get p.hosts p.ended) p.turn.stop;
 }
 
--- the files of the first pass are counted, and unless a fault was met the turn is that of the text
--- that has come
+-- the files of the first pass are counted, and what was merged is for the accounts of its hosts
+pub record IsBehindFirst (hosts : List Host) (joined : Joined) (merged : Merged)
+    (first : List (List ℕ)) (passed : List RowFiles) : Type 0 where
+  pub whole : AreTogether hosts joined
+  pub for_site : AreForSite joined merged.users merged.groups
+  pub one_each : length passed ≡ length hosts
+  pub counting : AreCounting hosts first passed
+
+-- and unless a fault was met the turn is that of the text that has come
 pub record IsSolving (p : Pass) : Type 0 where
-  pub whole : AreTogether p.hosts p.joined
-  pub for_site : AreForSite p.joined p.merged.users p.merged.groups
+  pub behind : IsBehindFirst p.hosts p.joined p.merged p.first p.passed
   pub ended_are : length p.taken.ended ≡ p.ended
   pub within : p.ended ≤ length p.hosts
-  pub one_each : length p.passed ≡ length p.hosts
-  pub read : List (Host × List Entry)
-  pub accepted : each site_of (loaded_from p.hosts p.first) ≡ Ok read
-  pub passed_are : p.passed ≡ map (λ here. row_files here.0 here.1) read
   pub turns : (host : Host) → slice_get p.hosts p.ended ≡ Some host → p.turn.stop ≡ None
       → TurnsFor host p.joined p.merged p.ended p.turn p.taken.text p.taken.planned

@@ -99,15 +99,19 @@ seen p = record {
   met = met_in p;
 }
 
--- the texts that were ended are accepted and their files counted, and unless a fault was met the
--- turn is that of the text that has come
+-- the hosts are lawful; the texts that were ended are accepted, and their files counted
+pub record AreCounting (hosts : List Host) (ended : List (List ℕ)) (passed : List RowFiles) : Type 0
+  where
+    pub few : length hosts ≤ 64
+    pub lawful : All IsLawfulHost hosts
+    pub within : length passed ≤ length hosts
+    pub ended_are : length ended ≡ length passed
+    pub read : List (Host × List Entry)
+    pub accepted : each site_of (loaded_from hosts ended) ≡ Ok read
+    pub passed_are : passed ≡ map (λ here. row_files here.0 here.1) read
+
+-- and unless a fault was met the turn is that of the text that has come
 pub record AreComing (p : Pass) : Type 0 where
-  pub few : length p.hosts ≤ 64
-  pub lawful : All IsLawfulHost p.hosts
-  pub within : length p.passed ≤ length p.hosts
-  pub ended_are : length p.taken.ended ≡ length p.passed
-  pub read : List (Host × List Entry)
-  pub accepted : each site_of (loaded_from p.hosts p.taken.ended) ≡ Ok read
-  pub passed_are : p.passed ≡ map (λ here. row_files here.0 here.1) read
+  pub counting : AreCounting p.hosts p.taken.ended p.passed
   pub turns : met_in p ≡ None → (host : Host) → slice_get p.hosts (length p.passed) ≡ Some host
       → TurnsFor host p.turn p.taken.text

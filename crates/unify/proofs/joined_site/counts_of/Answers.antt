@@ -29,7 +29,7 @@ add_host-requires-clause-counted c =
     let left : index < length p.passed = omega (arith, c.loop-index-test.true, ap length c.deref-rows-items.ensures.value) in
     let users = c.as_slice.ensures.value ∙ ap (λ (r : RowFiles). r.users) c.rows.view_is in
     let groups = c.as_slice-in-loop-index.ensures.value ∙ ap (λ (r : RowFiles). r.groups) c.rows.view_is in
-    let inv = c.inventories.invariant in
+    let inv = c.inventories.invariant.counting in
     let read = inv.read in
     let at = files_at p inv over read inv.accepted index host rows left c.index-host.ensures rows_are in
     (files_here index host rows read at, of_host index host rows read at, row_counts index host rows read at c.as_slice.result.now c.as_slice-in-loop-index.result.now users groups, few_here index host rows read at)
@@ -42,7 +42,7 @@ add_host-requires-clause-room c =
     let index = c.loop-index.index in
     let so_far : AreCountersBefore p site c.loop-index.counts index = rw (← c.inventories.view_is) at c.loop-index.invariant.counted in
     let together : AreTogether p.hosts site = rw (← c.inventories.view_is) at c.requires.together in
-    let inv = c.inventories.invariant in
+    let inv = c.inventories.invariant.counting in
     room_before (seen p) site c.loop-index.counts inv.read index over inv.accepted together.few (so_far inv.read inv.accepted)
 
 pub loop-index-preserved : goal.loop-index-preserved
@@ -61,7 +61,7 @@ loop-index-preserved c =
     record {
       made = c.add_host.ensures.made;
       counted = rw (← c.inventories.view_is) (λ read are.
-          let at = files_at p c.inventories.invariant over read are index host rows left c.index-host.ensures rows_are in
+          let at = files_at p c.inventories.invariant.counting over read are index host rows left c.index-host.ensures rows_are in
           subst (counters.StandsFor site c.add_host.new.self) (sym (more_files index host rows read at))
           (c.add_host.ensures.added (files_before read index) (files_here index host rows read at) (so_far read are) (of_host index host rows read at) (row_counts index host rows read at c.as_slice.result.now c.as_slice-in-loop-index.result.now users groups)));
     }
@@ -74,5 +74,5 @@ returns-clause-counted c =
     let index = c.loop-index.index in
     let so_far : AreCountersBefore p site c.loop-index.counts index = rw (← c.inventories.view_is) at c.loop-index.invariant.counted in
     rw (← c.inventories.view_is) (λ read are.
-    let all : length read ≤ index = omega (arith, read_length (seen p) read over are, c.inventories.invariant.ended_are, over, c.loop-index-test.false, ap length c.deref-rows-items.ensures.value) in
+    let all : length read ≤ index = omega (arith, read_length (seen p) read over are, c.inventories.invariant.counting.ended_are, over, c.loop-index-test.false, ap length c.deref-rows-items.ensures.value) in
     subst (λ (hs : List (Host × List Entry)). counters.StandsFor site c.loop-index.counts (added_from 0 hs)) (take_all index read all) (so_far read are))

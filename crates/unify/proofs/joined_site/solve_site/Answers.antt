@@ -15,7 +15,7 @@ solve_counted-requires c =
     let over : IsOver (seen p) = rw (← c.begun.view_is) at c.requires.none_left in
     let together : AreTogether p.hosts site = rw (← c.begun.view_is) at c.requires.together in
     let are : AreCountersOf (seen p) site counts = rw (← c.begun.view_is) at c.in_ok-counts.ensures.counted in
-    rw c.deref.ensures.value (whole_of p site counts c.begun.invariant together over c.in_ok-counts.ensures.made are)
+    rw c.deref.ensures.value (whole_of p site counts c.begun.invariant.counting together over c.in_ok-counts.ensures.made are)
 
 pub returns-clause-merged : goal.returns-clause-merged
 returns-clause-merged c =

@@ -4,11 +4,11 @@ use Rattle.std.proofs.lemmas.Result.{err_from_is_err_and}
 use Rattle.unify_texts.specs.Told.{told}
 use Rattle.unify_texts.specs.declared.fault.Fault.TheVariants.{Memory}
 use Rattle.unify.specs.Hosts.{files_of}
-use Rattle.unify.specs.Passes.{InventoriesValue, IsFaultOf, IsToldAs, is_read}
+use Rattle.unify.specs.Passes.{InventoriesValue, IsFaultOf, is_read}
 use Rattle.unify.specs.RowFiles.{RowFiles}
 use Rattle.unify.specs.Taken.{Taken}
-use Rattle.unify.specs.Turns.{AreComing, Pass, met_by, met_in, pass_of, seen}
-use Rattle.unify.proofs.Passing.{after, after_coming, after_seen, again_as, for_next, going, met_as, met_same, on_err, refused_coming, refused_seen, turned, turn_of, was_unmet}
+use Rattle.unify.specs.Turns.{AreComing, met_by, met_in, pass_of, seen}
+use Rattle.unify.proofs.Passing.{after_coming, after_seen, again_as, for_next, going, met_as, met_same, on_err, refused_coming, refused_seen, turned, turn_of, was_unmet}
 use Rattle.unify.proofs.inventories.Inventories.end_host.Goals as goal
 
 pub end_turn-requires : goal.end_turn-requires
@@ -144,7 +144,7 @@ returns-clause-read c =
     let new = rw (c.deref.ensures.value) at c.in_ok-next_host.ensures.next in
     let passed = c.in_ok-next_host.ensures.passed in
     let over = after_coming is turn next again accepts new in
-    (over.read, rw c.note.ensures over.accepted)
+    (over.counting.read, rw c.note.ensures over.counting.accepted)
 
 pub returns-clause-again : goal.returns-clause-again
 returns-clause-again c =

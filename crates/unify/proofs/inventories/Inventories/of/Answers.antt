@@ -1,4 +1,4 @@
-use Rattle.std.proofs.Common.{◌≡◌, List, Some, [], refl, subst, sym, ap, ◌∙◌, arith}
+use Rattle.std.proofs.Common.{◌≡◌, List, Some, [], subst, sym, ap, ◌∙◌}
 use Rattle.std.specs.List.{slice_get}
 use Rattle.unify.specs.RowFiles.{RowFiles}
 use Rattle.unify.specs.Taken.{Taken}

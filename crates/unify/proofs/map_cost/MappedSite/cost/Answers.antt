@@ -27,7 +27,7 @@ fields_on-here-requires-clause-counted c =
     let index = c.loop-index.index in
     let rows_are = c.rows-item.is ∙ ap (λ (rs : List RowFiles). get_or rs index c.rows-item.result) c.deref-rows-items.ensures.value in
     let left : index < length p.passed = omega (arith, c.loop-index-test.true, ap length c.deref-rows-items.ensures.value) in
-    let inv = c.self.invariant in
+    let inv = c.self.invariant.counting in
     let at = files_at p inv over inv.read inv.accepted index c.index.result.now c.rows-item.result left c.index.ensures rows_are in
     (at.files, at.rows_are, at.few)
 
@@ -40,7 +40,7 @@ overflow_add-cost c =
     let left : index < length p.passed = omega (arith, c.loop-index-test.true, ap length c.deref-rows-items.ensures.value) in
     let names = c.self.inside.0.1.0 in
     let so_far : IsCostBefore p names c.loop-index.cost index = rw (← c.self.view_is) at c.loop-index.invariant in
-    let inv = c.self.invariant in
+    let inv = c.self.invariant.counting in
     let at = files_at p inv over inv.read inv.accepted index c.index.result.now c.rows-item.result left c.index.ensures rows_are in
     let is = c.fields_on-here.ensures at.files at.rows_are in
     let room = cost_room names inv.read index c.index.result.now c.rows-item.result c.loop-index.cost c.fields_on-here.result at (so_far inv.read inv.accepted) is (loaded_from p.hosts p.taken.ended) inv.accepted (omega (arith, read_length (seen p) inv.read over inv.accepted, inv.few)) in
@@ -55,7 +55,7 @@ overflow_add-cost-in-loop-index c =
     let left : index < length p.passed = omega (arith, c.loop-index-test.true, ap length c.deref-rows-items.ensures.value) in
     let names = c.self.inside.0.1.0 in
     let so_far : IsCostBefore p names c.loop-index.cost index = rw (← c.self.view_is) at c.loop-index.invariant in
-    let inv = c.self.invariant in
+    let inv = c.self.invariant.counting in
     let at = files_at p inv over inv.read inv.accepted index c.index.result.now c.rows-item.result left c.index.ensures rows_are in
     let is = c.fields_on-here.ensures at.files at.rows_are in
     let room = cost_room names inv.read index c.index.result.now c.rows-item.result c.loop-index.cost c.fields_on-here.result at (so_far inv.read inv.accepted) is (loaded_from p.hosts p.taken.ended) inv.accepted (omega (arith, read_length (seen p) inv.read over inv.accepted, inv.few)) in
@@ -71,7 +71,7 @@ loop-index-preserved c =
     let names = c.self.inside.0.1.0 in
     let so_far : IsCostBefore p names c.loop-index.cost index = rw (← c.self.view_is) at c.loop-index.invariant in
     rw (← c.self.view_is) (λ read are.
-    let at = files_at p c.self.invariant over read are index c.index.result.now c.rows-item.result left c.index.ensures rows_are in
+    let at = files_at p c.self.invariant.counting over read are index c.index.result.now c.rows-item.result left c.index.ensures rows_are in
     one_host_more names read index c.index.result.now c.rows-item.result c.loop-index.cost c.fields_on-here.result at (so_far read are) (c.fields_on-here.ensures at.files at.rows_are))
 
 pub returns : goal.returns
@@ -81,6 +81,6 @@ returns c =
     let index = c.loop-index.index in
     let names = c.self.inside.0.1.0 in
     let so_far : IsCostBefore p names c.loop-index.cost index = rw (← c.self.view_is) at c.loop-index.invariant in
-    let inv = c.self.invariant in
+    let inv = c.self.invariant.counting in
     let all : length inv.read ≤ index = omega (arith, read_length (seen p) inv.read over inv.accepted, inv.ended_are, over, c.loop-index-test.false, ap length c.deref-rows-items.ensures.value) in
     rw (← c.self.view_is) (total_is names (read_in (seen p)) inv.read c.loop-index.cost inv.accepted (so_far inv.read inv.accepted ∙ ap (cost_of names) (take_all index inv.read all)))

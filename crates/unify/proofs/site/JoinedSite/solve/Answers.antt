@@ -17,7 +17,7 @@ invariant_of-result c =
     let rows : AreFirstRows p.hosts c.in-Ok.turn = rw (← c.self.view_is) at c.in-Ok.ensures.rows in
     let over : IsOver (seen p) = rw (← c.self.view_is) at c.requires.none_left in
     let together : AreTogether p.hosts site = rw (← c.self.view_is) at c.requires.together in
-    subst (λ (t : Taken). IsSolving (record (solved_pass p site c.in-Ok.merged c.in-Ok.turn) { taken = t })) (sym c.new.ensures) (solving_from p site c.in-Ok.merged c.in-Ok.turn c.self.invariant together over are (c.in-Ok.ensures.fresh, rows))
+    subst (λ (t : Taken). IsSolving (record (solved_pass p site c.in-Ok.merged c.in-Ok.turn) { taken = t })) (sym c.new.ensures) (solving_from p site c.in-Ok.merged c.in-Ok.turn c.self.invariant.counting together over are (c.in-Ok.ensures.fresh, rows))
 
 pub returns : goal.returns
 returns c =

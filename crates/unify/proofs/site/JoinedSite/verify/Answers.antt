@@ -8,7 +8,7 @@ pub verify_counted-requires-clause-stands : goal.verify_counted-requires-clause-
 verify_counted-requires-clause-stands c =
     let p = pass_of c.self.inside.0.0 in
     let are : AreCountersOf (seen p) c.self.inside.0.1.0 c.in_ok-counts.counts = rw (← c.self.view_is) at c.in_ok-counts.ensures.counted in
-    let inv = c.self.invariant in
+    let inv = c.self.invariant.counting in
     (added_from 0 inv.read, are inv.read inv.accepted)
 
 pub returns : goal.returns

@@ -1,4 +1,4 @@
-use Rattle.std.proofs.Common.{◌≡◌, ℕ, ◌+◌, ◌<◌, List, [], ◌∷◌, ◌++◌, length, Some, Result, Ok, Err, refl, sym, ap, subst, ◌∙◌, arith, append_assoc}
+use Rattle.std.proofs.Common.{◌≡◌, ℕ, ◌+◌, List, [], ◌++◌, length, Some, Ok, refl, sym, ap, subst, ◌∙◌, append_assoc}
 use Rattle.std.specs.Prelude.{IfSome}
 use Rattle.std.specs.List.{slice_get}
 use Rattle.mtree_inv.specs.declared.entry.Entry.{Entry}
@@ -8,7 +8,7 @@ use Rattle.unify_texts.specs.Told.{told}
 use Rattle.unify_texts.specs.declared.fault.Fault.TheVariants.{InventoryChanged, Memory}
 use Rattle.unify.specs.declared.plan_turn.Stop.TheVariants as stop
 use Rattle.unify.specs.PlanTurns.{IsSolving, Pass, TurnsFor, pass_of, seen}
-use Rattle.unify.specs.RowFiles.{RowFiles, row_files}
+use Rattle.unify.specs.RowFiles.{row_files}
 use Rattle.unify.specs.SecondPass.{HaveSameCounts, IsUnfinished, WereFirst, second_files, whole_plan}
 use Rattle.unify.specs.Taken.{Taken}
 use Rattle.unify.proofs.SecondPasses.{accepted_unfinished, accepted_whole, after_seen, after_solving, again_stopped, changed_told, first_rows, for_next, fresh_turn, stopped_seen, turn_of, was_unmet}
@@ -26,7 +26,7 @@ finish_plan-requires-clause-known c =
     let p = pass_of c.self.inside in
     let host = c.index-host.result.now in
     let is = turn_of p host c.self.invariant (rw (← c.self.view_is) at c.requires.left) c.index-host.ensures in
-    is.inv.whole.known p.ended host is.here
+    is.inv.behind.whole.known p.ended host is.here
 
 pub returns-in-Err-clause-told : goal.returns-in-Err-clause-told
 returns-in-Err-clause-told c =

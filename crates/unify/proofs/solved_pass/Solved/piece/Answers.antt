@@ -1,6 +1,5 @@
-use Rattle.std.proofs.Common.{◌≡◌, ℕ, ◌<◌, List, ◌++◌, drop, length, Some, Ok, Err, refl, sym, ap, subst, ◌∙◌, arith}
+use Rattle.std.proofs.Common.{◌≡◌, ℕ, List, ◌++◌, drop, length, Ok, Err, sym, subst, arith}
 use Rattle.std.specs.Prelude.{IfSome}
-use Rattle.std.specs.List.{slice_get}
 use Rattle.hosts_join.specs.declared.host.Host.{Host}
 use Rattle.unify_texts.specs.Told.{told}
 use Rattle.unify.specs.Passes.{is_read}
@@ -22,7 +21,7 @@ feed_plan-requires-clause-known c =
     let p = pass_of c.self.inside in
     let host = c.index-host.result.now in
     let is = turn_of p host c.self.invariant (rw (← c.self.view_is) at c.requires.left) c.index-host.ensures in
-    is.inv.whole.known p.ended host is.here
+    is.inv.behind.whole.known p.ended host is.here
 
 pub returns-in-Err-clause-told : goal.returns-in-Err-clause-told
 returns-in-Err-clause-told c =
