@@ -134,7 +134,8 @@ impl<'a> Inventories<'a> {
         ensures ended { OnOk result
             (self.new
             ≡ record self.old { ended = self.old.ended ++ self.old.text ∷ []; text = [] }) }
-        ensures read { OnOk result ((read : List (Host × List Entry)) × (read_in self.new ≡ Ok read)) }
+        ensures read { OnOk result
+            ((read : List (Host × List Entry)) × (read_in self.new ≡ Ok read)) }
         ensures refused { IfErr result
             (λ e. (f : Fault) × (self.new ≡ record self.old { met = Some f }) × IsToldAs f e) }
         ensures met { (host : Host) → IsNext self.old host
