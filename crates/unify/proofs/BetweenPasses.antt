@@ -5,7 +5,6 @@ use Rattle.std.specs.declared.alloc.AllocError.{AllocError}
 use Rattle.std.specs.List.{All, slice_get}
 use Rattle.std.proofs.lemmas.List.{length-map, take_more}
 use Rattle.std.proofs.lemmas.List.Elements.{All-head, All-map, All-tail}
-use Rattle.idtext.specs.First.{first_fault}
 use Rattle.hosts_join.specs.Site.{Joined}
 use Rattle.hosts_join.specs.declared.host.Host.{Host}
 use Rattle.hosts_join.proofs.Refusals.{count_by-of-map}
@@ -15,27 +14,30 @@ use Rattle.ownership.specs.Counts.{Counted}
 use Rattle.ownership.specs.Files.{Added}
 use Rattle.unify.specs.declared.merging.Merged.{Merged}
 use Rattle.unify.specs.declared.plan_turn.PlanTurn.{PlanTurn}
-use Rattle.unify.specs.Hosts.{owner_fault}
 use Rattle.unify.specs.Laws.{IsWhole}
 use Rattle.unify.specs.Loading.{loaded_from}
 use Rattle.unify.specs.Merging.{HoldsCounted, IsMerged}
-use Rattle.unify.specs.Passes.{AreComing, AreTogether, InventoriesValue, StandsFor}
+use Rattle.unify.specs.Passes.{AreTogether, InventoriesValue, read_in}
 use Rattle.unify.specs.Reading.{WholeSite, added_from, added_on}
 use Rattle.unify.specs.RowFiles.{RowFiles, row_files}
-use Rattle.unify.specs.SecondPass as second
-use Rattle.unify.specs.SecondPass.{IsFreshTurn, IsSolvedFrom, IsSolving, SolvedValue}
+use Rattle.unify.specs.Turns.{AreCounting, Pass, seen}
+use Rattle.unify.specs.PlanTurns as second
+use Rattle.unify.specs.PlanTurns.{IsFreshTurn, IsSolving}
+use Rattle.unify.specs.SecondPass.{IsSolvedFrom, at_start}
+use Rattle.unify.specs.Taken.{nothing}
 use Rattle.ownership.specs.HostFiles.{AreOfHost, AreRowCounts}
 use Rattle.ownership.proofs.HostFiles.{owned_few}
 use Rattle.unify.proofs.Adding.{added_from-push}
-use Rattle.unify.proofs.Ended.{AreFilesAt, IsOver, all_few, over_stands, read_length}
+use Rattle.unify.proofs.Ended.{AreFilesAt, IsOver, all_few, read_length}
 use Rattle.unify.proofs.Reading.{whole-read}
+use Rattle.unify.proofs.SecondPasses.{fresh_turn, unstopped_met}
 use Rattle.unify.proofs.Whole.{hosts_held}
 
 -- ---- hosts whose inventories were ended
 
 -- the site that was read is whole
-pub over_whole : (c : InventoriesValue) (joined : Joined) (ended : List (List ℕ)) → AreTogether c.hosts joined → IsOver c → (were : StandsFor c ended []) → IsWhole (record { hosts = were.read; joined = joined })
-over_whole c joined ended whole over were = whole-read c.hosts joined ended were.read whole (were.ended_are ∙ over) were.accepted
+pub over_whole : (c : InventoriesValue) (joined : Joined) (read : List (Host × List Entry)) → AreTogether c.hosts joined → IsOver c → read_in c ≡ Ok read → IsWhole (record { hosts = read; joined = joined })
+over_whole c joined read whole over are = whole-read c.hosts joined c.ended read whole over are
 
 -- ---- counters of all hosts
 
@@ -56,11 +58,11 @@ few_before start (here ∷ read) (suc index) few = omega (
   few_before (start + 1) read index (All-tail (λ (h : Host × List Entry). length h.1 ≤ 16777216) here read few),
 )
 
-pub room_before : (c : InventoriesValue) (joined : Joined) (counted : Counted) (ended : List (List ℕ)) (were : StandsFor c ended []) (index : ℕ) → IsOver c → length c.hosts ≤ 64 → counts.StandsFor joined counted (files_before were.read index)
+pub room_before : (c : InventoriesValue) (joined : Joined) (counted : Counted) (read : List (Host × List Entry)) (index : ℕ) → IsOver c → read_in c ≡ Ok read → length c.hosts ≤ 64 → counts.StandsFor joined counted (files_before read index)
     → (counted.user_files ≤ 1073741824) × (counted.group_files ≤ 1073741824)
-room_before c joined counted ended were index over few stands =
-    let files = files_before were.read index in
-    let all : length files ≤ 1073741824 = omega (arith, few_before 0 were.read index (all_few (loaded_from c.hosts ended) were.read were.accepted), read_length c ended were, over, few) in (
+room_before c joined counted read index over are few stands =
+    let files = files_before read index in
+    let all : length files ≤ 1073741824 = omega (arith, few_before 0 read index (all_few (loaded_from c.hosts c.ended) read are), read_length c read over are, few) in (
       omega (arith, stands.user_files, owned_few joined.users.names (λ f. f.uid) files, all),
       omega (arith, stands.group_files, owned_few joined.groups.names (λ f. f.gid) files, all),
     )
@@ -87,10 +89,10 @@ module _ (index : ℕ) (host : Host) (rows : RowFiles) (read : List (Host × Lis
 
 -- ---- what is held
 
-pub over_holds : (c : InventoriesValue) (joined : Joined) (counted : Counted) (ended : List (List ℕ)) → AreTogether c.hosts joined → IsOver c → counts.IsMadeFor joined counted → (were : StandsFor c ended []) → counts.StandsFor joined counted (added_from 0 were.read)
-    → HoldsCounted (record { hosts = were.read; joined = joined }) c.hosts joined counted
-over_holds c joined counted ended whole over made were stands = record {
-  hosts_are = (hosts_held c.hosts ended were.read (were.ended_are ∙ over) were.accepted).0;
+pub over_holds : (c : InventoriesValue) (joined : Joined) (counted : Counted) (read : List (Host × List Entry)) → AreTogether c.hosts joined → IsOver c → counts.IsMadeFor joined counted → read_in c ≡ Ok read → counts.StandsFor joined counted (added_from 0 read)
+    → HoldsCounted (record { hosts = read; joined = joined }) c.hosts joined counted
+over_holds c joined counted read whole over made are stands = record {
+  hosts_are = (hosts_held c.hosts c.ended read over are).0;
   joined_is = refl;
   together = whole.together;
   made = made;
@@ -99,76 +101,52 @@ over_holds c joined counted ended whole over made were stands = record {
   lawful = whole.lawful;
 }
 
--- counters that are right for whatever texts it stands for
+-- counters that are right for the files that were read
 abbrev pub AreCountersOf : InventoriesValue → Joined → Counted → Type 0
-AreCountersOf c joined counted = (ended : List (List ℕ)) (were : StandsFor c ended []) → counts.StandsFor joined counted (added_from 0 were.read)
+AreCountersOf c joined counted = (read : List (Host × List Entry)) → read_in c ≡ Ok read → counts.StandsFor joined counted (added_from 0 read)
 
--- what is merged is right for whatever texts it stands for
+-- what is merged is right for them
 abbrev pub IsMergedOf : InventoriesValue → Joined → Merged → Type 0
-IsMergedOf c joined merged = (ended : List (List ℕ)) (were : StandsFor c ended []) → IsMerged (record { hosts = were.read; joined = joined }) merged
+IsMergedOf c joined merged = (read : List (Host × List Entry)) → read_in c ≡ Ok read → IsMerged (record { hosts = read; joined = joined }) merged
 
 -- so it is if it is right for what is held
 pub merged_of : (c : InventoriesValue) (joined : Joined) (counted : Counted) (result : Result (Merged × PlanTurn) AllocError) → AreTogether c.hosts joined → IsOver c → counts.IsMadeFor joined counted → AreCountersOf c joined counted
     → IfOk result (λ solved. (whole : WholeSite) → HoldsCounted whole c.hosts joined counted → IsMerged whole solved.0) → IfOk result (λ solved. IsMergedOf c joined solved.0)
-merged_of c joined counted (Ok solved) whole over made are merged = λ ended were. merged (record { hosts = were.read; joined = joined }) (over_holds c joined counted ended whole over made were (are ended were))
-merged_of c joined counted (Err e) whole over made are merged = tt
+merged_of c joined counted (Ok solved) whole over made counts_are merged = λ read are. merged (record { hosts = read; joined = joined }) (over_holds c joined counted read whole over made are (counts_are read are))
+merged_of c joined counted (Err e) whole over made counts_are merged = tt
 
--- the site of which the first pass stands for the texts
-pub whole_of : (c : InventoriesValue) (joined : Joined) (counted : Counted) → AreComing c → AreTogether c.hosts joined → IsOver c → counts.IsMadeFor joined counted → AreCountersOf c joined counted → (whole : WholeSite) × IsWhole whole × HoldsCounted whole c.hosts joined counted
-whole_of c joined counted coming whole over made are =
-    let s = over_stands c coming over in
-    (record { hosts = s.1.read; joined = joined }, over_whole c joined s.0 whole over s.1, over_holds c joined counted s.0 whole over made s.1 (are s.0 s.1))
+-- the site that the first pass read
+pub whole_of : (p : Pass) (joined : Joined) (counted : Counted) → AreCounting p.hosts p.taken.ended p.passed → AreTogether p.hosts joined → IsOver (seen p) → counts.IsMadeFor joined counted → AreCountersOf (seen p) joined counted → (whole : WholeSite) × IsWhole whole × HoldsCounted whole p.hosts joined counted
+whole_of p joined counted inv whole over made are =
+    (record { hosts = inv.read; joined = joined }, over_whole (seen p) joined inv.read whole over inv.accepted, over_holds (seen p) joined counted inv.read whole over made inv.accepted (are inv.read inv.accepted))
 
 -- ---- the second pass
 
--- the turn of a host of whose second inventory nothing has come
-fresh_turn : (host : Host) (joined : Joined) (merged : Merged) (index : ℕ) (turn : PlanTurn) → IsFreshTurn turn → turn.rows ≡ row_files host [] → second.TurnsFor host joined merged index turn [] []
-unfolding first_fault
-fresh_turn host joined merged index turn fresh rows = record {
-  goes = fresh.goes;
-  reading = fresh.reading;
-  most = fresh.most;
-  going = fresh.going;
-  sound = fresh.sound;
-  waiting = fresh.waiting;
-  owned = ap (first_fault (owner_fault host) []) fresh.none;
-  rows = rows ∙ ap (row_files host) (sym fresh.none);
-  none_unbegun = λ no. fresh.none;
-  planned_is = rw fresh.unbegun refl;
-}
-
 -- behind a first pass of which no host is left
-abbrev pub solved_value : InventoriesValue → Joined → Merged → PlanTurn → SolvedValue
-solved_value c joined merged turn = record { hosts = c.hosts; joined = joined; passed = c.passed; merged = merged; ended = 0; turn = turn }
+abbrev pub solved_pass : Pass → Joined → Merged → PlanTurn → second.Pass
+solved_pass p joined merged turn = record { hosts = p.hosts; joined = joined; passed = p.passed; merged = merged; ended = 0; turn = turn; first = p.taken.ended; taken = nothing }
 
 -- the turn of its first host
 abbrev pub AreFirstRows : List Host → PlanTurn → Type 0
 AreFirstRows hosts turn = (host : Host) → slice_get hosts 0 ≡ Some host → turn.rows ≡ row_files host []
 
-abbrev pub IsFirstTurn : List Host → PlanTurn → Type 0
-IsFirstTurn hosts turn = IsFreshTurn turn × AreFirstRows hosts turn
-
-first_turn : (c : InventoriesValue) (joined : Joined) (merged : Merged) (turn : PlanTurn) (host : Host) → IsFirstTurn c.hosts turn → slice_get c.hosts 0 ≡ Some host → second.TurnsFor host joined merged 0 turn [] []
-first_turn c joined merged turn host first here = fresh_turn host joined merged 0 turn first.0 (first.1 host here)
-
-pub solving_from : (c : InventoriesValue) (joined : Joined) (merged : Merged) (turn : PlanTurn) → AreComing c → AreTogether c.hosts joined → IsOver c → IsMergedOf c joined merged → IsFirstTurn c.hosts turn → IsSolving (solved_value c joined merged turn)
-solving_from c joined merged turn coming whole over are first =
-    let s = over_stands c coming over in
-    let is = are s.0 s.1 in
+pub solving_from : (p : Pass) (joined : Joined) (merged : Merged) (turn : PlanTurn) → AreCounting p.hosts p.taken.ended p.passed → AreTogether p.hosts joined → IsOver (seen p) → IsMergedOf (seen p) joined merged → IsFreshTurn turn × AreFirstRows p.hosts turn → IsSolving (solved_pass p joined merged turn)
+solving_from p joined merged turn inv whole over are first =
+    let is = are inv.read inv.accepted in
     record {
-      whole = whole;
-      for_site = record { users_len = is.answered.least.admissible.users.len; groups_len = is.answered.least.admissible.groups.len };
+      behind = record {
+        whole = whole;
+        for_site = record { users_len = is.answered.least.admissible.users.len; groups_len = is.answered.least.admissible.groups.len };
+        one_each = omega (arith, inv.ended_are, over);
+        counting = inv;
+      };
+      ended_are = refl;
       within = omega arith;
-      passed_are = over;
-      standing = λ host here goes. ([], [], first_turn c joined merged turn host first here);
+      turns = λ host here goes. fresh_turn host joined merged 0 turn first.0 (first.1 host here);
     }
 
-pub solved_from : (c : InventoriesValue) (joined : Joined) (merged : Merged) (turn : PlanTurn) → IsMergedOf c joined merged → IsFirstTurn c.hosts turn → IsSolvedFrom c joined (solved_value c joined merged turn)
-solved_from c joined merged turn are first = record {
-  hosts = refl;
-  joined_is = refl;
-  passed = refl;
-  ended = refl;
-  stands = λ host here. first_turn c joined merged turn host first here;
+pub solved_from : (p : Pass) (joined : Joined) (merged : Merged) (turn : PlanTurn) → IsMergedOf (seen p) joined merged → IsFreshTurn turn → IsSolvedFrom (seen p) joined (second.seen (solved_pass p joined merged turn))
+solved_from p joined merged turn are fresh = record {
+  start = ap (λ o. record (at_start (seen p) joined merged) { met = o }) (unstopped_met (slice_get p.hosts 0) turn.stop fresh.goes);
   merged = are;
 }

@@ -1,9 +1,9 @@
 -- Inventories of which no host is left.
-use Rattle.std.proofs.Common.{◌≡◌, ℕ, ◌+◌, ◌<◌, ◌≤◌, Bool, true, false, cond, List, [], ◌∷◌, ◌++◌, length, take, get_or, Option, Some, None, Ok, sym, ap, subst, ◌∙◌, arith}
-use Rattle.std.specs.List.{All, slice_get}
+use Rattle.std.proofs.Common.{◌≡◌, ℕ, ◌+◌, ◌<◌, ◌≤◌, Bool, true, false, cond, List, [], ◌∷◌, ◌++◌, length, map, take, get_or, Option, Some, None, Ok, sym, ap, subst, ◌∙◌, arith}
+use Rattle.std.specs.List.{All}
 use Rattle.std.proofs.lemmas.List.{get_or-map, length-map, take_more}
 use Rattle.std.proofs.lemmas.List.Sums.{sum_by-le, sum_by_more_le}
-use Rattle.std.proofs.lemmas.Option.{slice_get-get_or, slice_get_past}
+use Rattle.std.proofs.lemmas.Option.{slice_get-get_or}
 use Rattle.idtext.specs.First.{each}
 use Rattle.idtext.proofs.OkLemmas.{bind_ok, each-ok, ok_same}
 use Rattle.mtree_inv.specs.declared.entry.Entry.{Entry}
@@ -19,34 +19,15 @@ use Rattle.unify.specs.Cost.{changed, cost_of, groups_changed, host_cost, is_num
 use Rattle.unify.specs.Count.{site_of}
 use Rattle.unify.specs.Hosts.{files_of}
 use Rattle.unify.specs.Loading.{loaded_from}
-use Rattle.unify.specs.Passes.{AreComing, InventoriesValue, StandsFor, ended_in, fault_met, met_on}
+use Rattle.unify.specs.Passes.{InventoriesValue, ended_in, read_in}
 use Rattle.unify.specs.RowFiles.{RowFiles, row_files}
+use Rattle.unify.specs.Turns.{AreCounting, Pass, seen}
 use Rattle.unify.proofs.Owners.{files_read}
 use Rattle.unify.proofs.Sites.{cost_more}
 use Rattle.unify.proofs.Whole.{hosts_held}
 
 abbrev pub IsOver : InventoriesValue → Type 0
 IsOver c = ended_in c ≡ length c.hosts
-
--- they met no fault
-over_unmet : (c : InventoriesValue) → IsOver c → fault_met c ≡ None
-over_unmet c over = ap (λ o. met_on o c.turn) (slice_get_past c.hosts (ended_in c) (omega (arith, over)))
-
--- so they stand for some texts
-pub over_stands : (c : InventoriesValue) → AreComing c → IsOver c → (ended : List (List ℕ)) × StandsFor c ended []
-over_stands c coming over =
-    let s = coming.standing (over_unmet c over) in (
-      s.0,
-      record {
-        read = s.2.read;
-        accepted = s.2.accepted;
-        ended_are = s.2.ended_are;
-        passed = s.2.passed;
-        turns = λ host here.
-            let none : slice_get c.hosts (ended_in c) ≡ None = slice_get_past c.hosts (ended_in c) (omega (arith, over)) in
-            absurd (cc);
-      },
-    )
 
 -- ---- the files of each host
 
@@ -59,8 +40,8 @@ all_few loaded read are = λ k d within.
     let filed = bind_ok (files_of l) (λ fs. Ok (l.host, fs)) here from.2 in
     subst (λ (p : Host × List Entry). length p.1 ≤ 16777216) (ok_same (l.host, filed.0) here filed.2) (inventory-few 16777216 l.mtree filed.0 (files_read l filed.0 filed.1).0)
 
-pub read_length : (c : InventoriesValue) (ended : List (List ℕ)) (were : StandsFor c ended []) → length were.read ≡ ended_in c
-read_length c ended were = sym (ap length were.passed ∙ length-map were.read (λ (here : Host × List Entry). row_files here.0 here.1))
+pub read_length : (c : InventoriesValue) (read : List (Host × List Entry)) → IsOver c → read_in c ≡ Ok read → length read ≡ length c.hosts
+read_length c read over are = sym (ap length (hosts_held c.hosts c.ended read over are).0 ∙ length-map read (λ (h : Host × List Entry). h.0))
 
 -- the rows of the host at the index count these files of it
 pub record AreFilesAt (read : List (Host × List Entry)) (index : ℕ) (host : Host) (rows : RowFiles) : Type 0 where
@@ -70,21 +51,21 @@ pub record AreFilesAt (read : List (Host × List Entry)) (index : ℕ) (host : H
   pub rows_are : rows ≡ row_files host files
   pub few : length files ≤ 16777216
 
-pub files_at : (c : InventoriesValue) (ended : List (List ℕ)) → IsOver c → (were : StandsFor c ended []) (index : ℕ) (host : Host) (rows : RowFiles) → index < length c.passed → host ≡ get_or c.hosts index host → rows ≡ get_or c.passed index rows
-    → AreFilesAt were.read index host rows
-files_at c ended over were index host rows left host_is rows_are =
-    let read = were.read in
-    let p = get_or read index (host, []) in
-    let within : index < length read = omega (arith, left, read_length c ended were) in
-    let held = (hosts_held c.hosts ended read (were.ended_are ∙ over) were.accepted).0 in
-    let host_here : host ≡ p.0 = host_is ∙ ap (λ (hs : List Host). get_or hs index host) held ∙ get_or-map (λ (h : Host × List Entry). h.0) read index (host, []) host within in
-    let rows_here : rows ≡ row_files p.0 p.1 = rows_are ∙ ap (λ (rs : List RowFiles). get_or rs index rows) were.passed ∙ get_or-map (λ (here : Host × List Entry). row_files here.0 here.1) read index (host, []) rows within in
-    let all = all_few (loaded_from c.hosts ended) read were.accepted in
+pub files_at : (p : Pass) → AreCounting p.hosts p.taken.ended p.passed → IsOver (seen p) → (read : List (Host × List Entry)) → read_in (seen p) ≡ Ok read → (index : ℕ) (host : Host) (rows : RowFiles) → index < length p.passed → host ≡ get_or p.hosts index host → rows ≡ get_or p.passed index rows
+    → AreFilesAt read index host rows
+files_at p inv over read are index host rows left host_is rows_are =
+    let at = get_or read index (host, []) in
+    let within : index < length read = omega (arith, left, inv.within, read_length (seen p) read over are) in
+    let held = (hosts_held p.hosts p.taken.ended read over are).0 in
+    let passed : p.passed ≡ map (λ here. row_files here.0 here.1) read = inv.passed_are ∙ ap (map (λ here. row_files here.0 here.1)) (ok_same inv.read read (sym inv.accepted ∙ are)) in
+    let host_here : host ≡ at.0 = host_is ∙ ap (λ (hs : List Host). get_or hs index host) held ∙ get_or-map (λ (h : Host × List Entry). h.0) read index (host, []) host within in
+    let rows_here : rows ≡ row_files at.0 at.1 = rows_are ∙ ap (λ (rs : List RowFiles). get_or rs index rows) passed ∙ get_or-map (λ (here : Host × List Entry). row_files here.0 here.1) read index (host, []) rows within in
+    let all = all_few (loaded_from p.hosts p.taken.ended) read are in
     record {
-      files = p.1;
+      files = at.1;
       within = within;
-      here = ap (λ (h : Host). (h, p.1)) (sym host_here);
-      rows_are = rows_here ∙ ap (λ (h : Host). row_files h p.1) (sym host_here);
+      here = ap (λ (h : Host). (h, at.1)) (sym host_here);
+      rows_are = rows_here ∙ ap (λ (h : Host). row_files h at.1) (sym host_here);
       few = all index (host, []) within;
     }
 

@@ -35,7 +35,8 @@ use Rattle.unify.specs.declared.plan_turn.Stop.{Stop}
 use Rattle.unify.specs.declared.plan_turn.Stop.TheVariants as stop
 use Rattle.unify.specs.Hosts.{owner_fault, files_of}
 use Rattle.unify.specs.RowFiles.{RowFiles, row_files}
-use Rattle.unify.specs.SecondPass.{IsUnfinished, TurnsFor, or_changed, owned_lines, plan_before_end, planned_so_far, second_files, stop_of}
+use Rattle.unify.specs.PlanTurns.{TurnsFor, planned_so_far, stop_of}
+use Rattle.unify.specs.SecondPass.{IsUnfinished, or_changed, owned_lines, plan_before_end, second_files}
 use Rattle.unify.proofs.FilesSoFar.{files_first, files_so_far}
 use Rattle.unify.proofs.Turns.{files_with, grown_files, inventory_is, none_then}
 
@@ -155,7 +156,7 @@ pub lines_with : (host : Host) (text : List ℕ) (files : List Entry) (o : Optio
 unfolding owned_lines
 lines_with host text files o h is = rw (h, is) refl
 
-lines_are : (most : ℕ) (text : List ℕ) (files : List Entry) → most ≡ 16777216 → inventory_of_lines most (whole_lines text) ≡ Ok files → inventory_of_lines 16777216 (whole_lines text) ≡ Ok files
+pub lines_are : (most : ℕ) (text : List ℕ) (files : List Entry) → most ≡ 16777216 → inventory_of_lines most (whole_lines text) ≡ Ok files → inventory_of_lines 16777216 (whole_lines text) ≡ Ok files
 lines_are most text files is h = ap (λ n. inventory_of_lines n (whole_lines text)) (sym is) ∙ h
 
 second_faulty : (host : Host) (most : ℕ) (text : List ℕ) (t : TextFault) → most ≡ 16777216 → inventory most text ≡ Err t → second_files host text ≡ Err (InventoryChanged host.name)

@@ -17,7 +17,8 @@ use Rattle.unify_texts.specs.Told.{told}
 use Rattle.unify_texts.specs.declared.fault.Fault.{Fault}
 use Rattle.unify.specs.declared.turn.Turn.{Turn}
 use Rattle.unify.specs.Hosts.{files_of, owner_fault}
-use Rattle.unify.specs.Passes.{AreCounted, IsAccepted, IsFaultOf, IsToldAs, TurnsFor, is_read, met_at, or_memory, owner_told, read_told}
+use Rattle.unify.specs.Passes.{IsFaultOf, IsToldAs, is_read, read_told}
+use Rattle.unify.specs.Turns.{AreCounted, IsAccepted, TurnsFor, met_at, or_memory, owner_told}
 use Rattle.unify.specs.RowFiles.{RowFiles, row_files}
 use Rattle.unify.proofs.Faults.{memory_or, told_is}
 

@@ -4,15 +4,15 @@ use Rattle.std.specs.Prelude.{◌≡◌}
 use Rattle.unify.specs.declared.site.JoinedSite.{JoinedSite}
 use Rattle.unify.specs.declared.map_cost.MappedSite.{MappedSite}
 use Rattle.unify.specs.Costing.{BegunCost}
-use Rattle.unify.specs.Passes.{AreAtStart, AreTogether, BegunSite}
+use Rattle.unify.specs.Passes.{AreTogether, BegunSite, at_start}
 
 -- the hosts with their tables, and the accounts over all of them
 pub record IsBegun (begun : BegunSite) (held : JoinedSite) : Type 0 where
-  pub start : AreAtStart begun.hosts held.inventories
+  pub start : held.inventories ≡ at_start begun.hosts
   pub joined : held.site ≡ begun.joined
   pub whole : AreTogether begun.hosts begun.joined
 
 -- the hosts with their tables, and the map
 pub record IsBegunCost (begun : BegunCost) (held : MappedSite) : Type 0 where
-  pub start : AreAtStart begun.hosts held.inventories
+  pub start : held.inventories ≡ at_start begun.hosts
   pub names : held.names ≡ begun.names

@@ -1,14 +1,13 @@
 //! The inventories of a site's hosts, which come in pieces: their files are counted for the rows of
 //! their host's tables.
 
-ghost use Rattle.std.specs.Prelude.{◌≡◌, ◌+◌, ◌≤◌, ◌++◌, ◌∷◌, [], length, All, Some, IfOk, OnOk};
-ghost use Rattle.std.specs.Prelude.{OnErr, slice_get};
-ghost use Rattle.hosts_join.specs.Hosts.{IsLawfulHost};
+ghost use Rattle.std.specs.Prelude.{◌≡◌, ◌+◌, ◌++◌, ◌∷◌, [], length, Some, OnOk, OnErr, slice_get};
 ghost use Rattle.hosts_join.specs.declared.host.Host.{Host};
-ghost use Rattle.unify.specs.Passes.{AreAtStart, TurnsFor};
+ghost use Rattle.unify.specs.Turns.{TurnsFor};
 
 use crate::host::MOST_FILES;
 use crate::row_files::{RowFiles, no_files};
+use crate::text_log::{Call, TextLog};
 use crate::turn::{Turn, end_turn, feed_turn, new_turn};
 use hosts_join::Host;
 use mtree_inv::Reader;
@@ -26,17 +25,19 @@ pub struct Inventories<'a> {
     pub(crate) hosts: Vec<Host<'a>>,
     pub(crate) passed: Vec<RowFiles>,
     pub(crate) turn: Turn,
+    pub(crate) log: TextLog,
 }
 
 impl<'a> Model for Inventories<'a> {
-    ghost use Rattle.unify.specs.Passes.{InventoriesValue, AreComing};
+    ghost use Rattle.unify.specs.Passes.{InventoriesValue};
 
     ghost Value = { InventoriesValue };
 
-    ghost view = { λ c. record { hosts = c.hosts.items; passed = c.passed.items; turn = c.turn } };
+    ghost use Rattle.unify.specs.Turns.{AreComing, pass_of, seen};
 
-    ghost invariant = { λ c. AreComing
-        (record { hosts = c.hosts.items; passed = c.passed.items; turn = c.turn }) };
+    ghost view = { λ c. seen (pass_of c) };
+
+    ghost invariant = { λ c. AreComing (pass_of c) };
 }
 
 // Notes how many files each row of the present host owns, and begins the turn of the host behind
@@ -64,22 +65,24 @@ fn next_host(
 }
 
 impl<'a> Inventories<'a> {
-    ghost use Rattle.std.specs.Prelude.{◌≡◌, ◌+◌, ◌-◌, ◌<◌, ◌≤◌, ◌++◌, ◌∷◌, [], ℕ, List, length};
-    ghost use Rattle.std.specs.Prelude.{Some, IfSome, IfNone, IfErr, OnOk, MatchResult, slice_get};
+    ghost use Rattle.std.specs.Prelude.{◌≡◌, ◌-◌, ◌<◌, ◌≤◌, ◌++◌, ◌∷◌, [], List, All, length, Some};
+    ghost use Rattle.std.specs.Prelude.{Ok, IfSome, IfNone, IfOk, IfErr, OnOk};
     ghost use Rattle.idtext.specs.First.{Gives};
+    ghost use Rattle.mtree_inv.specs.declared.entry.Entry.{Entry};
+    ghost use Rattle.hosts_join.specs.Hosts.{IsLawfulHost};
     ghost use Rattle.hosts_join.specs.declared.host.Host.{Host};
     ghost use Rattle.unify_texts.specs.declared.fault.Fault.{Fault};
     ghost use Rattle.unify_texts.specs.Told.{told};
     ghost use Rattle.unify.specs.Hosts.{files_of};
-    ghost use Rattle.unify.specs.Passes.{is_read, lines_of, StandsFor, ended_in, fault_met};
-    ghost use Rattle.unify.specs.Passes.{IsToldAs, TellsFault, IsFaultOf};
+    ghost use Rattle.unify.specs.Passes.{at_start, ended_in, is_read, lines_of, read_in, IsNext};
+    ghost use Rattle.unify.specs.Passes.{IsFaultOf, IsToldAs, TellsFault};
 
     /// The inventories of these hosts, of which none has come. Memory in step with the rows of a
     /// host.
     pub fn of(alloc: Global, hosts: Vec<Host<'a>>) -> Result<Inventories<'a>, AllocError>
         requires few { length hosts.items ≤ 64 }
         requires lawful { All IsLawfulHost hosts.items }
-        ensures { IfOk result (AreAtStart hosts.entry.items) }
+        ensures { IfOk result (λ c. c ≡ at_start hosts.entry.items) }
     {
         let rows = no_files(alloc, &hosts, 0)?;
         Ok(Inventories {
@@ -87,6 +90,7 @@ impl<'a> Inventories<'a> {
             hosts,
             passed: Vec::new(alloc),
             turn: new_turn(alloc, rows),
+            log: TextLog::new(),
         })
     }
 
@@ -100,24 +104,19 @@ impl<'a> Inventories<'a> {
     /// One pass over the bytes, and two look-ups by hash for each file.
     pub fn piece(&mut self, bytes: &[u8]) -> Result<(), Fault<'a>>
         requires left { ended_in self.old < length self.old.hosts }
-        ensures told { (ended : List (List ℕ)) (text : List ℕ) (host : Host)
-            → StandsFor self.old ended text
-            → slice_get self.old.hosts (ended_in self.old) ≡ Some host
-            → Gives (λ _. tt) told result (is_read (lines_of host (text ++ bytes.now))) }
-        ensures stands { OnOk result
-            ((ended : List (List ℕ)) (text : List ℕ) → StandsFor self.old ended text
-            → StandsFor self.new ended (text ++ bytes.now)) }
-        ensures met { IfNone (fault_met self.old)
-            (IfErr result (λ e. fault_met self.new ≡ Some e)) }
-        ensures failed { IfErr result
-            (λ e. (f : Fault) × (fault_met self.new ≡ Some f) × IsToldAs f e) }
-        ensures again { IfSome (fault_met self.old)
-            (λ f. TellsFault f result × (self.new ≡ self.old)) }
-        ensures site { self.new ≡ record self.old { turn = self.new.turn } }
+        ensures told { (host : Host) → IsNext self.old host
+            → Gives (λ _. tt) told result (is_read (lines_of host (self.old.text ++ bytes.now))) }
+        ensures come { OnOk result
+            (self.new ≡ record self.old { text = self.old.text ++ bytes.now }) }
+        ensures met { IfNone self.old.met
+            (IfErr result (λ e. self.new ≡ record self.old { met = Some e })) }
+        ensures again { IfSome self.old.met (λ f. TellsFault f result × (self.new ≡ self.old)) }
     {
         let index = self.passed.len();
         let host = &self.hosts[index];
-        feed_turn(self.alloc, &mut self.turn, host, bytes)
+        feed_turn(self.alloc, &mut self.turn, host, bytes)?;
+        self.log.note(&Call::Piece(bytes));
+        Ok(())
     }
 
     /// Ends the inventory of the present host. Asked is that a host is left.
@@ -129,30 +128,25 @@ impl<'a> Inventories<'a> {
     /// changes. At most one line is still to be read here.
     pub fn end_host(&mut self) -> Result<(), Fault<'a>>
         requires left { ended_in self.old < length self.old.hosts }
-        ensures told { (ended : List (List ℕ)) (text : List ℕ) (host : Host)
-            → StandsFor self.old ended text
-            → slice_get self.old.hosts (ended_in self.old) ≡ Some host
+        ensures told { (host : Host) → IsNext self.old host
             → Gives (λ _. tt) told result
-            (is_read (files_of (record { host = host; mtree = text }))) }
-        ensures stands { OnOk result
-            ((ended : List (List ℕ)) (text : List ℕ) → StandsFor self.old ended text
-            → StandsFor self.new (ended ++ text ∷ []) []) }
-        ensures met { (ended : List (List ℕ)) (text : List ℕ) (host : Host)
-            → StandsFor self.old ended text
-            → slice_get self.old.hosts (ended_in self.old) ≡ Some host
-            → IfErr result (λ _. IfSome (fault_met self.new) (IsFaultOf host text)) }
-        ensures failed { IfErr result
-            (λ e. (f : Fault) × (fault_met self.new ≡ Some f) × IsToldAs f e) }
-        ensures again { IfSome (fault_met self.old)
-            (λ f. TellsFault f result × (self.new ≡ self.old)) }
-        ensures left { MatchResult result (λ _. ended_in self.new ≡ ended_in self.old + 1)
-            (λ _. self.new.passed ≡ self.old.passed) }
-        ensures site { self.new.hosts ≡ self.old.hosts }
+            (is_read (files_of (record { host = host; mtree = self.old.text }))) }
+        ensures ended { OnOk result
+            (self.new
+            ≡ record self.old { ended = self.old.ended ++ self.old.text ∷ []; text = [] }) }
+        ensures read { OnOk result
+            ((read : List (Host × List Entry)) × (read_in self.new ≡ Ok read)) }
+        ensures refused { IfErr result
+            (λ e. (f : Fault) × (self.new ≡ record self.old { met = Some f }) × IsToldAs f e) }
+        ensures met { (host : Host) → IsNext self.old host
+            → IfErr result (λ _. IfSome self.new.met (IsFaultOf host self.old.text)) }
+        ensures again { IfSome self.old.met (λ f. TellsFault f result × (self.new ≡ self.old)) }
     {
         let index = self.passed.len();
         let host = &self.hosts[index];
         end_turn(self.alloc, &mut self.turn, host)?;
         next_host(self.alloc, &self.hosts, &mut self.passed, &mut self.turn)?;
+        self.log.note(&Call::End);
         Ok(())
     }
 

@@ -1,15 +1,16 @@
 //! A site whose inventories were read: its merge, and the check of a certificate of it.
 
-ghost use Rattle.std.specs.Prelude.{◌≡◌, ℕ, List, [], length, Some, IfOk, slice_get};
+ghost use Rattle.std.specs.Prelude.{◌≡◌, List, [], length, Some, Ok, IfOk, slice_get};
+ghost use Rattle.mtree_inv.specs.declared.entry.Entry.{Entry};
 ghost use Rattle.hosts_join.specs.declared.host.Host.{Host};
 ghost use Rattle.ownership.specs.Counts as counters;
 ghost use Rattle.ownership.specs.Counts.{IsMadeFor};
 ghost use Rattle.unify.specs.Laws.{IsWhole};
 ghost use Rattle.unify.specs.Merging.{HoldsCounted, IsMerged};
-ghost use Rattle.unify.specs.Passes.{AreTogether, StandsFor, ended_in};
+ghost use Rattle.unify.specs.Passes.{AreTogether, ended_in, read_in};
+ghost use Rattle.unify.specs.PlanTurns.{IsFreshTurn};
 ghost use Rattle.unify.specs.Reading.{WholeSite, added_from};
 ghost use Rattle.unify.specs.RowFiles.{row_files};
-ghost use Rattle.unify.specs.SecondPass.{IsFreshTurn};
 
 use crate::inventories::Inventories;
 use crate::merging::{Merged, merge_counted};
@@ -17,6 +18,7 @@ use crate::plan_turn::{PlanTurn, new_turn};
 use crate::row_files::no_files;
 use crate::site::JoinedSite;
 use crate::solved_pass::Solved;
+use crate::text_log::TextLog;
 use crate::verifying::verify_counted;
 use hosts_join::{Host, Site};
 use ownership::Counts;
@@ -33,8 +35,8 @@ fn counts_of(
     requires none_left { ended_in inventories.now ≡ length inventories.now.hosts }
     ensures made { IfOk result (IsMadeFor site.now) }
     ensures counted { IfOk result
-        (λ counts. (ended : List (List ℕ)) (were : StandsFor inventories.now ended [])
-        → counters.StandsFor site.now counts (added_from 0 were.read)) }
+        (λ counts. (read : List (Host × List Entry)) → read_in inventories.now ≡ Ok read
+        → counters.StandsFor site.now counts (added_from 0 read)) }
 {
     let mut counts = Counts::new(alloc, site)?;
     for (index, rows) in inventories.passed.iter().enumerate() {
@@ -78,8 +80,8 @@ fn solve_site(alloc: Global, begun: &JoinedSite<'_>) -> Result<(Merged, PlanTurn
     requires together { AreTogether begun.now.inventories.hosts begun.now.site }
     requires none_left { ended_in begun.now.inventories ≡ length begun.now.inventories.hosts }
     ensures merged { IfOk result
-        (λ solved. (ended : List (List ℕ)) (were : StandsFor begun.now.inventories ended [])
-        → IsMerged (record { hosts = were.read; joined = begun.now.site }) solved.0) }
+        (λ solved. (read : List (Host × List Entry)) → read_in begun.now.inventories ≡ Ok read
+        → IsMerged (record { hosts = read; joined = begun.now.site }) solved.0) }
     ensures fresh { IfOk result (λ solved. IsFreshTurn solved.1) }
     ensures rows { IfOk result
         (λ solved. (host : Host) → slice_get begun.now.inventories.hosts 0 ≡ Some host
@@ -90,13 +92,15 @@ fn solve_site(alloc: Global, begun: &JoinedSite<'_>) -> Result<(Merged, PlanTurn
 }
 
 impl<'a> JoinedSite<'a> {
-    ghost use Rattle.std.specs.Prelude.{◌≡◌, ℕ, List, [], length, MatchResult};
+    ghost use Rattle.std.specs.Prelude.{◌≡◌, List, length, Ok, MatchResult};
     ghost use Rattle.idtext.specs.First.{Gives};
+    ghost use Rattle.mtree_inv.specs.declared.entry.Entry.{Entry};
+    ghost use Rattle.hosts_join.specs.declared.host.Host.{Host};
     ghost use Rattle.certcheck.specs.Reading.{certificate_in};
     ghost use Rattle.unify_texts.specs.Told.{told};
     ghost use Rattle.unify.specs.Checking.{checked};
     ghost use Rattle.unify.specs.Told.{in_certificate};
-    ghost use Rattle.unify.specs.Passes.{AreTogether, StandsFor, ended_in};
+    ghost use Rattle.unify.specs.Passes.{AreTogether, ended_in, read_in};
     ghost use Rattle.unify.specs.SecondPass.{IsSolvedFrom};
 
     /// Merges the site whose inventories were ended. Asked is that no host is left, and that the
@@ -117,7 +121,12 @@ impl<'a> JoinedSite<'a> {
             return Err(self);
         };
         let JoinedSite { inventories, site } = self;
-        let Inventories { hosts, passed, .. } = inventories;
+        let Inventories {
+            hosts,
+            passed,
+            log,
+            ..
+        } = inventories;
         Ok(Solved {
             alloc,
             hosts,
@@ -126,6 +135,8 @@ impl<'a> JoinedSite<'a> {
             merged,
             ended: 0,
             turn,
+            first: log,
+            log: TextLog::new(),
         })
     }
 
@@ -139,9 +150,9 @@ impl<'a> JoinedSite<'a> {
     pub fn verify(&self, certificate: &'a [u8]) -> Result<u64, Fault<'a>>
         requires together { AreTogether self.now.inventories.hosts self.now.site }
         requires none_left { ended_in self.now.inventories ≡ length self.now.inventories.hosts }
-        ensures { (ended : List (List ℕ)) (were : StandsFor self.now.inventories ended [])
+        ensures { (read : List (Host × List Entry)) → read_in self.now.inventories ≡ Ok read
             → Gives (λ cost. cost) told result
-            (checked (record { hosts = were.read; joined = self.now.site })
+            (checked (record { hosts = read; joined = self.now.site })
             (in_certificate (certificate_in certificate.now))) }
     {
         let alloc = self.inventories.alloc;

@@ -156,19 +156,15 @@ fn fields_on(names: &MapText<'_>, host: &Host<'_>, rows: &RowFiles) -> Cost
 }
 
 impl<'a> MappedSite<'a> {
-    ghost use Rattle.std.specs.Prelude.{◌≡◌, ℕ, List, [], length, Ok};
-    ghost use Rattle.idtext.specs.First.{each};
-    ghost use Rattle.unify.specs.Count.{site_of, total_of};
-    ghost use Rattle.unify.specs.Loading.{loaded_from};
-    ghost use Rattle.unify.specs.Passes.{StandsFor, ended_in};
+    ghost use Rattle.std.specs.Prelude.{◌≡◌, length, Ok};
+    ghost use Rattle.unify.specs.Count.{total_of};
+    ghost use Rattle.unify.specs.Passes.{ended_in, read_in};
 
     /// How many owner and group fields of the files the map changes. Asked is that no host is left.
     /// One pass over the account rows, with a look-up by hash for each; it takes no memory.
     pub fn cost(&self) -> Cost
         requires none_left { ended_in self.now.inventories ≡ length self.now.inventories.hosts }
-        ensures { (ended : List (List ℕ)) → StandsFor self.now.inventories ended []
-            → total_of self.now.names (each site_of (loaded_from self.now.inventories.hosts ended))
-            ≡ Ok result }
+        ensures { total_of self.now.names (read_in self.now.inventories) ≡ Ok result }
     {
         let mut cost = Cost {
             users: 0,

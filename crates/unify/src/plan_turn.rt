@@ -14,9 +14,9 @@ ghost use Rattle.unify_texts.specs.declared.fault.Fault.{Fault};
 ghost use Rattle.unify.specs.declared.plan_turn.Stop.TheVariants as stop;
 ghost use Rattle.unify.specs.Hosts.{owner_fault};
 ghost use Rattle.unify.specs.Places.{ArePlaces};
+ghost use Rattle.unify.specs.PlanTurns.{IsAccepted, IsFreshTurn, TurnsFor, stop_of};
 ghost use Rattle.unify.specs.RowFiles.{row_files};
-ghost use Rattle.unify.specs.SecondPass.{HaveSameCounts, IsAccepted, IsFreshTurn, IsUnfinished};
-ghost use Rattle.unify.specs.SecondPass.{TurnsFor, owned_lines, second_files, stop_of};
+ghost use Rattle.unify.specs.SecondPass.{HaveSameCounts, IsUnfinished, owned_lines, second_files};
 
 use crate::host::MOST_FILES;
 use crate::merging::Merged;

@@ -1,12 +1,13 @@
 //! The second pass over inventories that come in pieces: plans are appended.
 
-ghost use Rattle.std.specs.Prelude.{◌≡◌, List};
-ghost use Rattle.unify.specs.SecondPass.{stop_told};
+ghost use Rattle.std.specs.Prelude.{◌≡◌};
+ghost use Rattle.unify.specs.PlanTurns.{stop_told};
 
 use crate::merging::Merged;
 use crate::outcome::Outcome;
 use crate::plan_turn::{PlanTurn, Stop, feed_plan, finish_plan, next_turn};
 use crate::row_files::RowFiles;
+use crate::text_log::{Call, TextLog};
 use hosts_join::{Host, Site};
 use idtext::Name;
 use mergedfiles::{host_group_text, host_passwd_text};
@@ -27,31 +28,20 @@ pub struct Solved<'a> {
     pub(crate) merged: Merged,
     pub(crate) ended: usize,
     pub(crate) turn: PlanTurn,
+    pub(crate) first: TextLog,
+    pub(crate) log: TextLog,
 }
 
 impl<'a> Model for Solved<'a> {
-    ghost use Rattle.unify.specs.SecondPass.{SolvedValue, IsSolving};
+    ghost use Rattle.unify.specs.SecondPass.{SolvedValue};
 
     ghost Value = { SolvedValue };
 
-    ghost view = { λ s. record {
-      hosts = s.hosts.items;
-      joined = s.site;
-      passed = s.passed.items;
-      merged = s.merged;
-      ended = s.ended;
-      turn = s.turn;
-    } };
+    ghost use Rattle.unify.specs.PlanTurns.{IsSolving, pass_of, seen};
 
-    ghost invariant = { λ s. IsSolving
-        (record {
-          hosts = s.hosts.items;
-          joined = s.site;
-          passed = s.passed.items;
-          merged = s.merged;
-          ended = s.ended;
-          turn = s.turn;
-        }) };
+    ghost view = { λ s. seen (pass_of s) };
+
+    ghost invariant = { λ s. IsSolving (pass_of s) };
 }
 
 // Why the reading of a host's second inventory ended, as it is told.
@@ -65,7 +55,7 @@ fn stopped<'a>(host: &Host<'a>, stop: Stop) -> Fault<'a>
 }
 
 impl<'a> Solved<'a> {
-    ghost use Rattle.std.specs.Prelude.{◌≡◌, ◌+◌, ◌-◌, ◌<◌, ◌≤◌, ◌++◌, [], ℕ, length, true, Ok};
+    ghost use Rattle.std.specs.Prelude.{◌≡◌, ◌-◌, ◌<◌, ◌≤◌, ◌++◌, ◌∷◌, [], ℕ, List, length, Ok};
     ghost use Rattle.std.specs.Prelude.{Err, Some, IfSome, IfOk, IfErr, OnOk, MatchResult};
     ghost use Rattle.std.specs.Prelude.{slice_get};
     ghost use Rattle.idtext.specs.First.{Gives};
@@ -75,9 +65,9 @@ impl<'a> Solved<'a> {
     ghost use Rattle.unify_texts.specs.Told.{told};
     ghost use Rattle.unify_texts.specs.declared.fault.Fault.TheVariants.{InventoryChanged};
     ghost use Rattle.unify.specs.Passes.{is_read};
-    ghost use Rattle.unify.specs.RowFiles.{RowFiles, row_files};
-    ghost use Rattle.unify.specs.SecondPass.{HaveSameCounts, IsUnfinished, StandsFor, fault_met};
-    ghost use Rattle.unify.specs.SecondPass.{second_files, second_lines, whole_plan};
+    ghost use Rattle.unify.specs.SecondPass.{HaveSameCounts, IsNext, IsPlannedSoFar, IsUnfinished};
+    ghost use Rattle.unify.specs.SecondPass.{WereFirst, ended_in, second_files, second_lines};
+    ghost use Rattle.unify.specs.SecondPass.{whole_plan};
 
     /// What was merged; its list of plans is empty. No cost.
     pub fn outcome(&self) -> &Outcome
@@ -105,26 +95,26 @@ impl<'a> Solved<'a> {
     ///
     /// One pass over the bytes, and a few look-ups by hash for each file.
     pub fn piece(&mut self, bytes: &[u8], plan: &mut Vec<u8>) -> Result<(), Fault<'a>>
-        requires left { self.old.ended < length self.old.hosts }
-        ensures told { (host : Host) (text planned : List ℕ)
-            → slice_get self.old.hosts self.old.ended ≡ Some host
-            → StandsFor self.old host text planned
-            → Gives (λ _. tt) told result (is_read (second_lines host (text ++ bytes.now))) }
-        ensures planned { (host : Host) (text planned : List ℕ)
-            → slice_get self.old.hosts self.old.ended ≡ Some host
-            → StandsFor self.old host text planned → (more : List ℕ)
+        requires left { ended_in self.old < length self.old.hosts }
+        ensures told { (host : Host) → IsNext self.old host
+            → Gives (λ _. tt) told result
+            (is_read (second_lines host (self.old.text ++ bytes.now))) }
+        ensures planned { (host : Host) → IsNext self.old host → (more : List ℕ)
             × (plan.new.items ≡ plan.old.items ++ more)
             × MatchResult result
-            (λ _. StandsFor self.new host (text ++ bytes.now) (planned ++ more))
-            (λ _. IsUnfinished host self.old.joined self.old.merged self.old.ended
-            (text ++ bytes.now) (planned ++ more)) }
-        ensures begun { OnOk result (self.new.turn.is_begun ≡ true) }
-        ensures stopped { IfErr result (λ e. fault_met self.new ≡ Some e) }
-        ensures again { IfSome (fault_met self.old)
+            (λ _. (self.new
+            ≡ record self.old {
+              text = self.old.text ++ bytes.now;
+              planned = self.old.planned ++ more;
+            }) × IsPlannedSoFar self.new host)
+            (λ _. IsUnfinished host self.old.joined self.old.merged (ended_in self.old)
+            (self.old.text ++ bytes.now) (self.old.planned ++ more)) }
+        ensures stopped { IfErr result (λ e. self.new ≡ record self.old { met = Some e }) }
+        ensures again { IfSome self.old.met
             (λ f. (result ≡ Err f) × (self.new ≡ self.old) × (plan.new ≡ plan.old)) }
-        ensures site { self.new ≡ record self.old { turn = self.new.turn } }
     {
         let host = &self.hosts[self.ended];
+        let before = plan.len();
         if let Err(stop) = feed_plan(
             &mut self.turn,
             &self.site,
@@ -136,6 +126,7 @@ impl<'a> Solved<'a> {
         ) {
             return Err(stopped(host, stop));
         }
+        self.log.note(&Call::Planned(bytes, before, plan));
         Ok(())
     }
 
@@ -148,37 +139,34 @@ impl<'a> Solved<'a> {
     /// appended is a prefix of a plan without its `end` line, for files that the text has before
     /// its first fault.
     pub fn end_host(&mut self, plan: &mut Vec<u8>) -> Result<(), Fault<'a>>
-        requires left { self.old.ended < length self.old.hosts }
-        ensures told { (host : Host) (first : RowFiles) (were : List Entry) (text planned : List ℕ)
-            → slice_get self.old.hosts self.old.ended ≡ Some host
-            → slice_get self.old.passed self.old.ended ≡ Some first → first ≡ row_files host were
-            → StandsFor self.old host text planned
+        requires left { ended_in self.old < length self.old.hosts }
+        ensures told { (host : Host) (were : List Entry) → IsNext self.old host
+            → WereFirst self.old host were
             → MatchResult result
-            (λ _. (files : List Entry) × (second_files host text ≡ Ok files)
+            (λ _. (files : List Entry) × (second_files host self.old.text ≡ Ok files)
             × HaveSameCounts host were files)
             (λ e. IfSome (told e)
             (λ f. (f ≡ InventoryChanged host.name)
-            × ((files : List Entry) → second_files host text ≡ Ok files
+            × ((files : List Entry) → second_files host self.old.text ≡ Ok files
             → HaveSameCounts host were files → ⊥))) }
-        ensures planned { (host : Host) (text planned : List ℕ)
-            → slice_get self.old.hosts self.old.ended ≡ Some host
-            → StandsFor self.old host text planned → (more : List ℕ)
+        ensures planned { (host : Host) → IsNext self.old host → (more : List ℕ)
             × (plan.new.items ≡ plan.old.items ++ more)
             × MatchResult result
-            (λ _. (files : List Entry) × (second_files host text ≡ Ok files)
-            × (planned ++ more
-            ≡ whole_plan host self.old.joined self.old.merged self.old.ended files))
-            (λ _. IsUnfinished host self.old.joined self.old.merged self.old.ended text
-            (planned ++ more)) }
-        ensures next { OnOk result
-            ((host : Host) → slice_get self.new.hosts self.new.ended ≡ Some host
-            → StandsFor self.new host [] []) }
-        ensures left { MatchResult result (λ _. self.new.ended ≡ self.old.ended + 1)
-            (λ _. self.new.ended ≡ self.old.ended) }
-        ensures stopped { IfErr result (λ e. fault_met self.new ≡ Some e) }
-        ensures again { IfSome (fault_met self.old)
+            (λ _. (files : List Entry) × (second_files host self.old.text ≡ Ok files)
+            × (self.old.planned ++ more
+            ≡ whole_plan host self.old.joined self.old.merged (ended_in self.old) files))
+            (λ _. IsUnfinished host self.old.joined self.old.merged (ended_in self.old)
+            self.old.text (self.old.planned ++ more)) }
+        ensures ended { OnOk result
+            (self.new
+            ≡ record self.old {
+              ended = self.old.ended ++ self.old.text ∷ [];
+              text = [];
+              planned = [];
+            }) }
+        ensures stopped { IfErr result (λ e. self.new ≡ record self.old { met = Some e }) }
+        ensures again { IfSome self.old.met
             (λ f. (result ≡ Err f) × (self.new ≡ self.old) × (plan.new ≡ plan.old)) }
-        ensures site { self.new ≡ record self.old { ended = self.new.ended; turn = self.new.turn } }
     {
         let host = &self.hosts[self.ended];
         if let Err(stop) = finish_plan(
@@ -204,6 +192,7 @@ impl<'a> Solved<'a> {
             return Err(Fault::Memory);
         }
         self.ended = next;
+        self.log.note(&Call::End);
         Ok(())
     }
 
@@ -257,8 +246,8 @@ impl<'a> Solved<'a> {
 
     /// How many hosts' inventories have not been ended a second time. No cost.
     pub fn hosts_left(&self) -> usize
-        ensures left { result ≡ length self.now.hosts - self.now.ended }
-        ensures within { self.now.ended ≤ length self.now.hosts }
+        ensures left { result ≡ length self.now.hosts - ended_in self.now }
+        ensures within { ended_in self.now ≤ length self.now.hosts }
     {
         self.hosts.len() - self.ended
     }

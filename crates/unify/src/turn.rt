@@ -9,10 +9,9 @@ ghost use Rattle.unify_texts.specs.declared.fault.Fault.{Fault};
 ghost use Rattle.unify_texts.specs.declared.fault.Fault.TheVariants.{Memory};
 ghost use Rattle.unify_texts.specs.Told.{told};
 ghost use Rattle.unify.specs.Hosts.{files_of};
-ghost use Rattle.unify.specs.Passes.{is_read, lines_of, AreCounted, TurnsFor, IsAccepted};
-ghost use Rattle.unify.specs.Passes.{read_told, owner_told, met_by, IsToldAs, TellsFault};
-ghost use Rattle.unify.specs.Passes.{IsFaultOf};
+ghost use Rattle.unify.specs.Passes.{is_read, lines_of, read_told, IsFaultOf, IsToldAs, TellsFault};
 ghost use Rattle.unify.specs.RowFiles.{row_files};
+ghost use Rattle.unify.specs.Turns.{AreCounted, IsAccepted, TurnsFor, met_by, owner_told};
 
 use crate::host::{MOST_FILES, line_fault, ownership_fault};
 use crate::row_files::{RowFiles, count_file};

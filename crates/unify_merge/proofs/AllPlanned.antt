@@ -7,8 +7,7 @@ use Rattle.mtree_inv.specs.declared.entry.Entry.{Entry}
 use Rattle.hosts_join.specs.declared.host.Host.{Host}
 use Rattle.hosts_join.specs.declared.texts.HostText.{HostText}
 use Rattle.unify_texts.specs.Told.{told}
-use Rattle.unify.specs.RowFiles.{RowFiles, row_files}
-use Rattle.unify.specs.SecondPass.{SolvedValue, StandsFor, whole_plan}
+use Rattle.unify.specs.SecondPass.{IsFresh, IsOfSameSite, SolvedValue, ended_in, first_in, whole_plan}
 use Rattle.unify.proofs.Agreeing.{item_at}
 use Rattle.unify.proofs.SiteRuns.{some_same}
 use Rattle.unify_merge.specs.Ledger.{Ledger}
@@ -36,19 +35,21 @@ read_len s read was =
     let first : Host × List Entry → Host = λ h. h.0 in
     sym (length-map read first) ∙ ap length was.hosts
 
+-- one site, however often
+pub same_site : (s mid new : SolvedValue) {text planned : List ℕ} → mid ≡ record s { text = text; planned = planned } → IsOfSameSite mid new → IsOfSameSite s new
+same_site s mid new come site = site ∙ ap (λ (v : SolvedValue). record v { ended = new.ended; text = new.text; planned = new.planned; met = new.met }) come
+
+pub same_again : (s mid new : SolvedValue) → IsOfSameSite s mid → IsOfSameSite mid new → IsOfSameSite s new
+same_again s mid new one two = two ∙ ap (λ (v : SolvedValue). record v { ended = new.ended; text = new.text; planned = new.planned; met = new.met }) one
+
 -- now: the second pass behind the hosts before it
-pub turn_of : (s now : SolvedValue) (read : List (Host × List Entry)) (index : ℕ) (host : Host) (were : List Entry) → now ≡ record s { ended = now.ended; turn = now.turn } → now.ended ≡ index → WereRead s read → slice_get read index ≡ Some (host, were)
-    → ((here : Host) → slice_get now.hosts now.ended ≡ Some here → StandsFor now here [] []) → IsTurnOf now host were
-turn_of s now read index host were site ended was at stands =
-    let hosts : now.hosts ≡ s.hosts = ap (λ (v : SolvedValue). v.hosts) site in
-    let passed : now.passed ≡ s.passed = ap (λ (v : SolvedValue). v.passed) site in
-    let rows : Host × List Entry → RowFiles = λ h. row_files h.0 h.1 in
-    let here : slice_get now.hosts now.ended ≡ Some host = (λ j. slice_get (hosts j) (ended j)) ∙ host_at s read index host were was at in
-    record {
-      here = here;
-      passed = (λ j. slice_get (passed j) (ended j)) ∙ ap (λ rs. slice_get rs index) was.passed ∙ mapped_at rows read index (host, were) at;
-      stands = stands host here;
-    }
+pub turn_of : (s now : SolvedValue) (read : List (Host × List Entry)) (index : ℕ) (host : Host) (were : List Entry) → IsOfSameSite s now → ended_in now ≡ index → WereRead s read → slice_get read index ≡ Some (host, were)
+    → IsFresh now → IsTurnOf now host were
+turn_of s now read index host were site ended was at fresh = record {
+  here = (λ j. slice_get (site j).hosts (ended j)) ∙ host_at s read index host were was at;
+  first = (read, ap first_in site ∙ was.files, ap (slice_get read) ended ∙ at);
+  fresh = fresh;
+}
 
 -- the reading of one inventory ended early, and so did that of all
 pub planning_stopped : (names : List HostText) (s : SolvedValue) (read : List (Host × List Entry)) (index : ℕ) (host : Host) (were : List Entry) (old mid new : Ledger) (failed : Bool) (fault : MergeFault) → PlannedSoFar names s read index old mid

@@ -12,7 +12,7 @@ use Rattle.unify.specs.declared.host.Loaded.{Loaded}
 use Rattle.unify.specs.Count.{site_of}
 use Rattle.unify.specs.Hosts.{files_of}
 use Rattle.unify.specs.Loading.{loaded_from}
-use Rattle.unify.specs.SecondPass.{SolvedValue, or_changed, whole_plan}
+use Rattle.unify.specs.SecondPass.{IsOfSameSite, SolvedValue, ended_in, or_changed, whole_plan}
 use Rattle.unify.proofs.OnePiece.{at_end, at_front}
 use Rattle.unify.proofs.Passing.{each_push, loaded_push}
 use Rattle.unify.proofs.SiteRuns.{some_same}
@@ -99,14 +99,14 @@ unchanged host (Err f) files h = absurd (cc)
 -- one host more
 -- now: the second pass behind the hosts before it
 pub one_planned : (names : List HostText) (s now : SolvedValue) (read : List (Host × List Entry)) (index : ℕ) (name : HostText) (host : Host) (were : List Entry) (old mid new : Ledger) → PlannedSoFar names s read index old mid
-    → now ≡ record s { ended = now.ended; turn = now.turn } → now.ended ≡ index → slice_get names index ≡ Some name → slice_get s.hosts index ≡ Some host → slice_get read index ≡ Some (host, were)
+    → IsOfSameSite s now → ended_in now ≡ index → slice_get names index ≡ Some name → slice_get s.hosts index ≡ Some host → slice_get read index ≡ Some (host, were)
     → HasPlan now host were (plan_name name) mid new → PlannedSoFar names s read (index + 1) old new
 one_planned names s now read index name host were old mid new so_far site ended named here there plan =
-    let whole : whole_plan host now.joined now.merged now.ended plan.files ≡ whole_plan host s.joined s.merged index plan.files = ap (λ (v : SolvedValue). whole_plan host v.joined v.merged now.ended plan.files) site ∙ ap (λ i. whole_plan host s.joined s.merged i plan.files) ended in
+    let whole : whole_plan host now.joined now.merged (ended_in now) plan.files ≡ whole_plan host s.joined s.merged index plan.files = ap (λ (v : SolvedValue). whole_plan host v.joined v.merged (ended_in now) plan.files) site ∙ ap (λ i. whole_plan host s.joined s.merged i plan.files) ended in
     let made = whole_plan host s.joined s.merged index plan.files in
     let l : Loaded = record { host = host; mtree = plan.text } in
     let file : NamedText = record { name = plan_name name; text = made } in
-    let read_at : ◌≡◌ {A = List Reading} (record { host = now.ended; text = plan.text } ∷ []) (record { host = index; text = plan.text } ∷ []) = ap (λ i. record { host = i; text = plan.text } ∷ []) ended in
+    let read_at : ◌≡◌ {A = List Reading} (record { host = ended_in now; text = plan.text } ∷ []) (record { host = index; text = plan.text } ∷ []) = ap (λ i. record { host = i; text = plan.text } ∷ []) ended in
     let written : new ≡ record (after_files (file ∷ []) mid) { read = new.read; reading = new.reading; writing = new.writing } =
     plan.written ∙ (λ j. record (after_files (record { name = plan_name name; text = whole j } ∷ []) mid) { read = new.read; reading = new.reading; writing = sym (ap (λ (x : Ledger). x.writing) plan.written) j }) in
     record {

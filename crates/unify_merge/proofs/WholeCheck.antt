@@ -12,7 +12,7 @@ use Rattle.unify.specs.declared.rules.SiteRules.{SiteRules}
 use Rattle.unify.specs.Checking.{checked}
 use Rattle.unify.specs.Count.{site_of}
 use Rattle.unify.specs.Loading.{loaded_from}
-use Rattle.unify.specs.Passes.{BegunSite, InventoriesValue, StandsFor, ended_in, site_begun}
+use Rattle.unify.specs.Passes.{BegunSite, site_begun}
 use Rattle.unify.specs.Reading.{WholeSite, site_read}
 use Rattle.unify.specs.Told.{in_certificate}
 use Rattle.unify.proofs.Verified.{answer_of_site, cost_means}
@@ -33,34 +33,30 @@ check_counted_stopped texts rules certificate begun hosts old new failed (Refuse
     if_told (told e) _ _ (λ f fault. inr (inl (begun, is, subst (λ (hs : List Host). IsInventoryFault hs old new f) same fault))) stops
 
 -- The inventories of hosts were read as these texts.
-pub record IsReadSite (hosts : List HostText) (rules : SiteRules) (old new : Ledger) (over : InventoriesValue) (joined : Joined) (texts : List (List ℕ)) (were : StandsFor over texts []) : Type 0 where
+pub record IsReadSite (hosts : List HostText) (rules : SiteRules) (old new : Ledger) (joined : Joined) (texts : List (List ℕ)) (read : List (Host × List Entry)) : Type 0 where
   pub were_read : WereEachRead hosts texts old new
-  pub read : site_read (with_inventories hosts texts) rules ≡ Ok (record { hosts = were.read; joined = joined })
+  pub is : site_read (with_inventories hosts texts) rules ≡ Ok (record { hosts = read; joined = joined })
 
-pub read_site : (hosts : List HostText) (rules : SiteRules) (begun : BegunSite) (over : InventoriesValue) (joined : Joined) (old new : Ledger) (texts : List (List ℕ)) (were : StandsFor over texts []) → site_begun hosts rules ≡ Ok begun → over.hosts ≡ begun.hosts → joined ≡ begun.joined
-    → ended_in over ≡ length over.hosts → length over.hosts ≡ length hosts → new.read ≡ old.read ++ readings_from 0 texts → IsReadSite hosts rules old new over joined texts were
-read_site hosts rules begun over joined old new texts were is same join none_left each_text readings =
-    let one_each : length texts ≡ length hosts = were.ended_are ∙ none_left ∙ each_text in
-    let accepted : each site_of (loaded_from begun.hosts texts) ≡ Ok were.read = subst (λ (hs : List Host). each site_of (loaded_from hs texts) ≡ Ok were.read) same were.accepted in
-    record {
-      were_read = record { one_each = one_each; readings = readings };
-      read = read-with hosts texts rules begun were.read one_each is accepted ∙ ap (λ j. Ok (record { hosts = were.read; joined = j })) (sym join);
-    }
+pub read_site : (hosts : List HostText) (rules : SiteRules) (begun : BegunSite) (joined : Joined) (old new : Ledger) (texts : List (List ℕ)) (read : List (Host × List Entry)) → site_begun hosts rules ≡ Ok begun → joined ≡ begun.joined
+    → length texts ≡ length hosts → each site_of (loaded_from begun.hosts texts) ≡ Ok read → new.read ≡ old.read ++ readings_from 0 texts → IsReadSite hosts rules old new joined texts read
+read_site hosts rules begun joined old new texts read is join one_each accepted readings = record {
+  were_read = record { one_each = one_each; readings = readings };
+  is = read-with hosts texts rules begun read one_each is accepted ∙ ap (λ j. Ok (record { hosts = read; joined = j })) (sym join);
+}
 
-module _ (hosts : List HostText) (rules : SiteRules) (certificate : List ℕ) (old new : Ledger) (over : InventoriesValue) (joined : Joined) (texts : List (List ℕ)) (were : StandsFor over texts []) (site : IsReadSite hosts rules old new over joined texts were) where
+module _ (hosts : List HostText) (rules : SiteRules) (certificate : List ℕ) (old new : Ledger) (joined : Joined) (texts : List (List ℕ)) (read : List (Host × List Entry)) (site : IsReadSite hosts rules old new joined texts read) where
+  whole : WholeSite
+  whole = record { hosts = read; joined = joined }
+
   -- the answer is that of the counters
-  pub has_checked : (cost : ℕ) → checked (record { hosts = were.read; joined = joined }) (in_certificate (certificate_in certificate)) ≡ Ok cost → HasChecked hosts rules certificate old new cost
-  has_checked cost is =
-      let whole : WholeSite = record { hosts = were.read; joined = joined } in
-      record {
-        texts = texts;
-        were_read = site.were_read;
-        answer = answer_of_site (with_inventories hosts texts) rules certificate whole site.read ∙ is;
-        means = cost_means (with_inventories hosts texts) rules certificate whole site.read (Ok cost) is;
-      }
+  pub has_checked : (cost : ℕ) → checked whole (in_certificate (certificate_in certificate)) ≡ Ok cost → HasChecked hosts rules certificate old new cost
+  has_checked cost is = record {
+    texts = texts;
+    were_read = site.were_read;
+    answer = answer_of_site (with_inventories hosts texts) rules certificate whole site.is ∙ is;
+    means = cost_means (with_inventories hosts texts) rules certificate whole site.is (Ok cost) is;
+  }
 
   -- and so is the fault
-  pub check_refused : (failed : Bool) (e : Fault) → IfSome (told e) (λ f. checked (record { hosts = were.read; joined = joined }) (in_certificate (certificate_in certificate)) ≡ Err f) → StopsCheck hosts rules certificate old new failed (Refused e)
-  check_refused failed e fault =
-      let whole : WholeSite = record { hosts = were.read; joined = joined } in
-      if_told (told e) _ _ (λ f is. inr (inr (texts, site.were_read, answer_of_site (with_inventories hosts texts) rules certificate whole site.read ∙ is))) fault
+  pub check_refused : (failed : Bool) (e : Fault) → IfSome (told e) (λ f. checked whole (in_certificate (certificate_in certificate)) ≡ Err f) → StopsCheck hosts rules certificate old new failed (Refused e)
+  check_refused failed e fault = if_told (told e) _ _ (λ f is. inr (inr (texts, site.were_read, answer_of_site (with_inventories hosts texts) rules certificate whole site.is ∙ is))) fault

@@ -10,7 +10,7 @@ use Rattle.unify.specs.declared.counting.Cost.{Cost}
 use Rattle.unify.specs.Costing.{BegunCost, cost_begun}
 use Rattle.unify.specs.Count.{site_of, total_of}
 use Rattle.unify.specs.Loading.{loaded_from}
-use Rattle.unify.specs.Passes.{InventoriesValue, StandsFor, ended_in}
+use Rattle.unify.specs.Passes.{InventoriesValue, behind, read_in}
 use Rattle.unify.proofs.CountSteps.{count_behind}
 use Rattle.unify_merge.specs.Count.{HasCounted, StopsCount}
 use Rattle.unify_merge.specs.FirstReading.{IsInventoryFault, StopsCounting, readings_from, with_inventories}
@@ -29,13 +29,13 @@ count_stopped texts keep map_text begun hosts old new failed (Refused e) is same
     if_told (told e) _ _ (λ f fault. inr (begun, is, subst (λ (hs : List Host). IsInventoryFault hs old new f) same fault)) stops
 
 -- the inventories were read, and this is the cost
-pub has_counted : (hosts : List HostText) (keep : KeepRules) (map_text : List ℕ) (begun : BegunCost) (over : InventoriesValue) (names : MapText) (old new : Ledger) (texts : List (List ℕ)) (cost : Cost) → StandsFor over texts [] → cost_begun hosts keep map_text ≡ Ok begun → over.hosts ≡ begun.hosts
-    → names ≡ begun.names → ended_in over ≡ length over.hosts → length over.hosts ≡ length hosts → new.read ≡ old.read ++ readings_from 0 texts → total_of names (each site_of (loaded_from over.hosts texts)) ≡ Ok cost → HasCounted hosts keep map_text old new cost
-has_counted hosts keep map_text begun over names old new texts cost were is same named none_left each_text readings total =
-    let one_each : length texts ≡ length hosts = were.ended_are ∙ none_left ∙ each_text in
+pub has_counted : (hosts : List HostText) (keep : KeepRules) (map_text : List ℕ) (begun : BegunCost) (over : InventoriesValue) (names : MapText) (old new : Ledger) (texts : List (List ℕ)) (cost : Cost) → over ≡ behind begun.hosts texts → cost_begun hosts keep map_text ≡ Ok begun → names ≡ begun.names
+    → length texts ≡ length begun.hosts → length begun.hosts ≡ length hosts → new.read ≡ old.read ++ readings_from 0 texts → total_of names (read_in over) ≡ Ok cost → HasCounted hosts keep map_text old new cost
+has_counted hosts keep map_text begun over names old new texts cost same is named all each_text readings total =
+    let one_each : length texts ≡ length hosts = all ∙ each_text in
     record {
       texts = texts;
       were_read = record { one_each = one_each; readings = readings };
       answer = count_behind (with_inventories hosts texts) keep map_text begun (cost_begun-with hosts texts keep map_text one_each ∙ is)
-          ∙ (λ j. total_of (sym named j) (each site_of (loaded_from (sym same j) (mtrees-with hosts texts one_each j)))) ∙ total;
+          ∙ (λ j. total_of (sym named j) (each site_of (loaded_from begun.hosts (mtrees-with hosts texts one_each j)))) ∙ ap (λ v. total_of names (read_in v)) (sym same) ∙ total;
     }

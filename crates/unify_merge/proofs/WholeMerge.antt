@@ -23,9 +23,9 @@ use Rattle.unify.specs.Laws.{IsWhole}
 use Rattle.unify.specs.Loading.{loaded_from}
 use Rattle.unify.specs.Merging.{IsMerged, mappings_in}
 use Rattle.unify.specs.Outcomes.{IsOutcome}
-use Rattle.unify.specs.Passes.{AreTogether, BegunSite, InventoriesValue, StandsFor, ended_in, site_begun}
+use Rattle.unify.specs.Passes.{AreTogether, BegunSite, InventoriesValue, behind, read_in, site_begun}
 use Rattle.unify.specs.Reading.{WholeSite}
-use Rattle.unify.specs.SecondPass.{IsSolvedFrom, SolvedValue}
+use Rattle.unify.specs.SecondPass.{IsSolvedFrom, SolvedValue, at_start, ended_in, first_in}
 use Rattle.unify.proofs.BetweenPasses.{over_whole}
 use Rattle.unify.proofs.HostTexts.{begun_sites_are_in_full, empty_texts_keep_no_name, tables_are_of_texts, text_keeps}
 use Rattle.unify.proofs.OwnFiles.{same_mappings}
@@ -96,31 +96,35 @@ written_stopped texts rules old mid new s failed (Refused e) h stops =
     if_told (told e) _ _ (λ f is. inr (inr (record { begun = h.begun; begun_is = h.begun_is; first = h.first; were = h.were; first_read = h.first_read; change = is }))) from
 
 -- the first pass is over, and the second is at its start
-pub has_solved : (texts : List HostText) (rules : SiteRules) (begun : BegunSite) (over : InventoriesValue) (site : Joined) (s : SolvedValue) (old new : Ledger) (read : List (List ℕ)) (stands : StandsFor over read []) → site_begun texts rules ≡ Ok begun → over.hosts ≡ begun.hosts
-    → site ≡ begun.joined → ended_in over ≡ length over.hosts → length over.hosts ≡ length texts → AreTogether over.hosts site → IsSolvedFrom over site s → new.read ≡ old.read ++ readings_from 0 read → HasSolved texts rules old new s
-has_solved texts rules begun over site s old new read stands is same joined none_left each_text together from readings =
-    let one_each : length read ≡ length over.hosts = stands.ended_are ∙ none_left in
+pub has_solved : (texts : List HostText) (rules : SiteRules) (begun : BegunSite) (over : InventoriesValue) (site : Joined) (s : SolvedValue) (old new : Ledger) (first : List (List ℕ)) (read : List (Host × List Entry)) → over ≡ behind begun.hosts first → read_in over ≡ Ok read → site_begun texts rules ≡ Ok begun
+    → site ≡ begun.joined → length first ≡ length begun.hosts → length begun.hosts ≡ length texts → AreTogether begun.hosts site → IsSolvedFrom over site s → new.read ≡ old.read ++ readings_from 0 first → HasSolved texts rules old new s
+has_solved texts rules begun over site s old new first read same accepted is joined one_each each_text together from readings =
+    let c = behind begun.hosts first in
+    let was : read_in c ≡ Ok read = subst (λ (v : InventoriesValue). read_in v ≡ Ok read) same accepted in
+    let start : s ≡ at_start c site s.merged = from.start ∙ ap (λ (v : InventoriesValue). at_start v site s.merged) same in
+    let site_is : site ≡ s.joined = sym (ap (λ (v : SolvedValue). v.joined) start) in
     record {
       begun = begun;
       begun_is = is;
-      first = read;
-      were = stands.read;
-      first_read = record {
-        one_each = one_each ∙ ap length same;
-        accepted = subst (λ (hs : List Host). each site_of (loaded_from hs read) ≡ Ok stands.read) same stands.accepted;
-      };
+      first = first;
+      were = read;
+      first_read = record { one_each = one_each; accepted = was };
       readings = readings;
-      hosts = from.hosts ∙ same;
-      joined = from.joined_is ∙ joined;
-      each_text = sym each_text ∙ ap length (sym from.hosts);
+      hosts = ap (λ (v : SolvedValue). v.hosts) start;
+      joined = sym site_is ∙ joined;
+      each_text = sym each_text ∙ ap (λ (v : SolvedValue). length v.hosts) (sym start);
       was_read = record {
-        hosts = sym (hosts_held over.hosts read stands.read one_each stands.accepted).0 ∙ sym from.hosts;
-        passed = from.passed ∙ stands.passed;
+        hosts = sym (hosts_held begun.hosts first read one_each was).0 ∙ ap (λ (v : SolvedValue). v.hosts) (sym start);
+        files = ap first_in start ∙ was;
       };
-      whole = subst (λ (j : Joined). IsWhole (record { hosts = stands.read; joined = j })) (sym from.joined_is) (over_whole over site read together none_left stands);
-      merged = subst (λ (j : Joined). IsMerged (record { hosts = stands.read; joined = j }) s.merged) (sym from.joined_is) (from.merged read stands);
-      none_ended = from.ended;
-      stands = from.stands;
+      whole = subst (λ (j : Joined). IsWhole (record { hosts = read; joined = j })) site_is (over_whole c site read together one_each was);
+      merged = subst (λ (j : Joined). IsMerged (record { hosts = read; joined = j }) s.merged) site_is (from.merged read accepted);
+      none_ended = ap ended_in start;
+      fresh = record {
+        none = ap (λ (v : SolvedValue). v.text) start;
+        unplanned = ap (λ (v : SolvedValue). v.planned) start;
+        unmet = ap (λ (v : SolvedValue). v.met) start;
+      };
     }
 
 -- whether a name is kept is seen before the inventories are read

@@ -22,7 +22,7 @@ use Rattle.unify.specs.Loading.{loaded_from}
 use Rattle.unify.specs.Merging.{IsMerged, mappings_in}
 use Rattle.unify.specs.Outcomes.{IsOutcome}
 use Rattle.unify.specs.Passes.{BegunSite, site_begun}
-use Rattle.unify.specs.SecondPass.{SolvedValue, StandsFor}
+use Rattle.unify.specs.SecondPass.{IsFresh, SolvedValue, ended_in}
 use Rattle.unify_merge.specs.Ledger.{Ledger, after_files, cleared}
 use Rattle.unify_merge.specs.FirstReading.{IsInventoryFault, IsTooLarge, ReadsOnly, readings_from}
 use Rattle.unify_merge.specs.HostFiles.{host_names}
@@ -101,8 +101,8 @@ pub record HasSolved (texts : List HostText) (rules : SiteRules) (old new : Ledg
   pub was_read : WereRead s were
   pub whole : IsWhole (record { hosts = were; joined = s.joined })
   pub merged : IsMerged (record { hosts = were; joined = s.joined }) s.merged
-  pub none_ended : s.ended ≡ 0
-  pub stands : (host : Host) → slice_get s.hosts 0 ≡ Some host → StandsFor s host [] []
+  pub none_ended : ended_in s ≡ 0
+  pub fresh : IsFresh s
 
 -- the inventories were read again, and what was merged stands in its files, with plans for that
 -- reading

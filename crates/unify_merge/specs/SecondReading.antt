@@ -11,11 +11,9 @@ use Rattle.unify_texts.specs.declared.fault.Fault.{Fault}
 use Rattle.unify_texts.specs.declared.fault.Fault.TheVariants.{InventoryChanged}
 use Rattle.unify.specs.Count.{site_of}
 use Rattle.unify.specs.Loading.{loaded_from}
-use Rattle.unify.specs.Passes.{ArePassed, is_read}
-use Rattle.unify.specs.RowFiles.{row_files}
-use Rattle.unify.specs.SecondPass as second
-use Rattle.unify.specs.SecondPass.{HaveSameCounts, SolvedValue, second_files, second_lines}
-use Rattle.unify.specs.SecondPass.{whole_plan}
+use Rattle.unify.specs.Passes.{is_read}
+use Rattle.unify.specs.SecondPass.{HaveSameCounts, IsFresh, SolvedValue, WereFirst, ended_in}
+use Rattle.unify.specs.SecondPass.{first_in, second_files, second_lines, whole_plan}
 use Rattle.unify.specs.TwoPasses.{AreReadAgain, AreWholePlans}
 use Rattle.unify.specs.declared.site_files.NamedText.{NamedText}
 use Rattle.unify_merge.specs.Ledger.{Ledger, Reading, after_files}
@@ -27,9 +25,9 @@ use Rattle.unify_merge.specs.declared.fault.MergeFault.TheVariants.{Failed, TooL
 
 -- the turn of the host has come, whose inventory had these files
 pub record IsTurnOf (s : SolvedValue) (host : Host) (were : List Entry) : Type 0 where
-  pub here : slice_get s.hosts s.ended ≡ Some host
-  pub passed : slice_get s.passed s.ended ≡ Some (row_files host were)
-  pub stands : second.StandsFor s host [] []
+  pub here : slice_get s.hosts (ended_in s) ≡ Some host
+  pub first : WereFirst s host were
+  pub fresh : IsFresh s
 
 -- The inventory of a host is not what it was: its whole lines so far have a fault, or a file
 -- without an account; or the whole of it has, or a user or a group of the host owns not as many of
@@ -91,9 +89,9 @@ pub record IsPlanned (s : SolvedValue) (host : Host) (were : List Entry) (name :
   pub text : List ℕ
   pub files : List Entry
   pub again : IsReadAgain host were text files
-  pub readings : HasRead old.read s.ended text new
+  pub readings : HasRead old.read (ended_in s) text new
   pub written : new.writing
-      ≡ Some (record { name = name; text = whole_plan host s.joined s.merged s.ended files })
+      ≡ Some (record { name = name; text = whole_plan host s.joined s.merged (ended_in s) files })
 
 -- it was, and the plan for its files is a file now
 pub record HasPlan (s : SolvedValue) (host : Host) (were : List Entry) (name : List ℕ)
@@ -101,10 +99,10 @@ pub record HasPlan (s : SolvedValue) (host : Host) (were : List Entry) (name : L
   pub text : List ℕ
   pub files : List Entry
   pub again : IsReadAgain host were text files
-  pub readings : HasRead old.read s.ended text new
+  pub readings : HasRead old.read (ended_in s) text new
   pub written : new
       ≡ record (after_files
-      (record { name = name; text = whole_plan host s.joined s.merged s.ended files } ∷ [])
+      (record { name = name; text = whole_plan host s.joined s.merged (ended_in s) files } ∷ [])
       old) { read = new.read; reading = new.reading }
 
 -- ---- those of all inventories
@@ -123,7 +121,7 @@ plan_files (host ∷ hosts) (plan ∷ plans) =
 -- the inventories of the hosts were read before with these files
 pub record WereRead (s : SolvedValue) (read : List (Host × List Entry)) : Type 0 where
   pub hosts : map (λ h. h.0) read ≡ s.hosts
-  pub passed : ArePassed s.passed read
+  pub files : first_in s ≡ Ok read
 
 -- The inventories of the hosts were read again as these texts, of which each user and each group of
 -- each host owns as many files as before, and the plan of each host is for the files that it has

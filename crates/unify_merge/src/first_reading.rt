@@ -1,9 +1,10 @@
 //! A reading of the inventories of all hosts: their files are counted.
 
-ghost use Rattle.std.specs.Prelude.{◌≡◌, ◌+◌, ◌<◌, ◌++◌, ◌∷◌, [], ℕ, List, length, Some, slice_get};
+ghost use Rattle.std.specs.Prelude.{◌≡◌, ◌<◌, ◌++◌, ◌∷◌, [], ℕ, List, length, Some, Ok, slice_get};
 ghost use Rattle.std.specs.Prelude.{OnOk, IfErr};
+ghost use Rattle.mtree_inv.specs.declared.entry.Entry.{Entry};
 ghost use Rattle.hosts_join.specs.declared.host.Host.{Host};
-ghost use Rattle.unify.specs.Passes.{StandsFor, ended_in};
+ghost use Rattle.unify.specs.Passes.{at_start, behind, ended_in, read_in};
 ghost use Rattle.unify_merge.specs.FirstReading.{HasRead, ReadsOnly, StopsCounting, StopsFirst};
 ghost use Rattle.unify_merge.specs.FirstReading.{readings_from};
 
@@ -20,20 +21,20 @@ fn count_reading<'a, F: ReadFiles>(
     bytes: &mut Vec<u8>,
 ) -> Result<(), MergeFault<'a>>
     requires left { ended_in inventories.old < length inventories.old.hosts }
+    requires fresh { inventories.old ≡ behind inventories.old.hosts inventories.old.ended }
     requires begun { (F.ledger files.old).reading
         ≡ Some (record { host = ended_in inventories.old; text = [] }) }
-    ensures counted { OnOk result
-        ((ended : List (List ℕ)) → StandsFor inventories.old ended [] → (text : List ℕ)
-        × StandsFor inventories.new (ended ++ text ∷ []) []
+    ensures counted { OnOk result ((text : List ℕ)
+        × (inventories.new ≡ behind inventories.old.hosts (inventories.old.ended ++ text ∷ []))
         × HasRead (F.ledger files.old).read (ended_in inventories.old) text (F.ledger files.new)) }
+    ensures accepted { OnOk result
+        ((read : List (Host × List Entry)) × (read_in inventories.new ≡ Ok read)) }
     ensures stopped { IfErr result
-        (λ fault. (ended : List (List ℕ)) (host : Host) → StandsFor inventories.old ended []
+        (λ fault. (host : Host)
         → slice_get inventories.old.hosts (ended_in inventories.old) ≡ Some host
         → StopsFirst host (ended_in inventories.old) (F.ledger files.old).read (F.ledger files.new)
         (F.has_failed files.new) fault) }
     ensures reads { ReadsOnly (F.ledger files.old) (F.ledger files.new) }
-    ensures ended { OnOk result (ended_in inventories.new ≡ ended_in inventories.old + 1) }
-    ensures site { inventories.new.hosts ≡ inventories.old.hosts }
 {
     let mut left = MOST_BYTES;
     while next_piece(files, bytes, &mut left)? {
@@ -52,18 +53,17 @@ fn count_host<'a, F: ReadFiles>(
 ) -> Result<(), MergeFault<'a>>
     requires next { index ≡ ended_in inventories.old }
     requires left { index < length inventories.old.hosts }
-    ensures counted { OnOk result
-        ((ended : List (List ℕ)) → StandsFor inventories.old ended [] → (text : List ℕ)
-        × StandsFor inventories.new (ended ++ text ∷ []) []
+    requires fresh { inventories.old ≡ behind inventories.old.hosts inventories.old.ended }
+    ensures counted { OnOk result ((text : List ℕ)
+        × (inventories.new ≡ behind inventories.old.hosts (inventories.old.ended ++ text ∷ []))
         × HasRead (F.ledger files.old).read index text (F.ledger files.new)) }
+    ensures accepted { OnOk result
+        ((read : List (Host × List Entry)) × (read_in inventories.new ≡ Ok read)) }
     ensures stopped { IfErr result
-        (λ fault. (ended : List (List ℕ)) (host : Host) → StandsFor inventories.old ended []
-        → slice_get inventories.old.hosts index ≡ Some host
+        (λ fault. (host : Host) → slice_get inventories.old.hosts index ≡ Some host
         → StopsFirst host index (F.ledger files.old).read (F.ledger files.new)
         (F.has_failed files.new) fault) }
     ensures reads { ReadsOnly (F.ledger files.old) (F.ledger files.new) }
-    ensures ended { OnOk result (ended_in inventories.new ≡ index + 1) }
-    ensures site { inventories.new.hosts ≡ inventories.old.hosts }
 {
     files.open(index)?;
     count_reading(files, inventories, bytes)
@@ -75,16 +75,17 @@ pub fn count_hosts<'a, F: ReadFiles>(
     files: &mut F,
     inventories: &mut Inventories<'a>,
 ) -> Result<(), MergeFault<'a>>
-    requires start { StandsFor inventories.old [] [] }
-    ensures counted { OnOk result
-        ((texts : List (List ℕ)) × StandsFor inventories.new texts []
+    requires start { inventories.old ≡ at_start inventories.old.hosts }
+    ensures counted { OnOk result ((texts : List (List ℕ))
+        × (inventories.new ≡ behind inventories.old.hosts texts)
+        × (length texts ≡ length inventories.old.hosts)
         × ((F.ledger files.new).read ≡ (F.ledger files.old).read ++ readings_from 0 texts)) }
+    ensures accepted { OnOk result
+        ((read : List (Host × List Entry)) × (read_in inventories.new ≡ Ok read)) }
     ensures stopped { IfErr result
         (λ fault. StopsCounting inventories.old.hosts (F.ledger files.old) (F.ledger files.new)
         (F.has_failed files.new) fault) }
     ensures reads { ReadsOnly (F.ledger files.old) (F.ledger files.new) }
-    ensures ended { OnOk result (ended_in inventories.new ≡ length inventories.new.hosts) }
-    ensures site { inventories.new.hosts ≡ inventories.old.hosts }
 {
     let mut bytes = Vec::new(alloc);
     for index in 0..inventories.hosts_left() {

@@ -6,7 +6,7 @@ ghost use Rattle.mtree_inv.specs.declared.entry.Entry.{Entry};
 ghost use Rattle.hosts_join.specs.declared.host.Host.{Host};
 ghost use Rattle.unify_texts.specs.declared.fault.Fault.TheVariants.{Memory};
 ghost use Rattle.unify.specs.Passes.{AreTogether, ended_in};
-ghost use Rattle.unify.specs.SecondPass.{IsSolvedFrom, StandsFor};
+ghost use Rattle.unify.specs.SecondPass.{IsFresh, IsSolvedFrom, ended_in as ended_again};
 ghost use Rattle.unify_merge.specs.Ledger.{HasBegun, after_files};
 ghost use Rattle.unify_merge.specs.FirstReading.{ReadsOnly};
 ghost use Rattle.unify_merge.specs.HostFiles.{HasFiles};
@@ -103,10 +103,9 @@ fn write_merged<'a, F: MergeFiles>(
     solved: &mut Solved<'a>,
     hosts: &[HostText],
 ) -> Result<Cost, MergeFault<'a>>
-    requires start { solved.old.ended ≡ 0 }
+    requires start { ended_again solved.old ≡ 0 }
     requires each { length hosts.now ≡ length solved.old.hosts }
-    requires stands { (host : Host) → slice_get solved.old.hosts 0 ≡ Some host
-        → StandsFor solved.old host [] [] }
+    requires fresh { IsFresh solved.old }
     ensures written { IfOk result
         (λ cost. (read : List (Host × List Entry)) → WereRead solved.old read
         → HasWritten hosts.now solved.old read (F.ledger files.old) (F.ledger files.new) cost) }

@@ -1,11 +1,11 @@
 //! The second reading of the inventories: plans are written.
 
 ghost use Rattle.std.specs.Prelude.{◌≡◌, ◌+◌, ◌<◌, ◌++◌, ◌∷◌, [], ℕ, List, length, map, true, Some};
-ghost use Rattle.std.specs.Prelude.{slice_get, IfOk, OnOk, IfErr, OnErr, MatchResult};
+ghost use Rattle.std.specs.Prelude.{None, IfOk, OnOk, IfErr, OnErr, MatchResult};
 ghost use Rattle.mtree_inv.specs.declared.entry.Entry.{Entry};
 ghost use Rattle.hosts_join.specs.declared.host.Host.{Host};
-ghost use Rattle.unify.specs.RowFiles.{row_files};
-ghost use Rattle.unify.specs.SecondPass.{StandsFor, whole_plan};
+ghost use Rattle.unify.specs.SecondPass.{IsFresh, IsNext, IsOfSameSite, WereFirst, ended_in};
+ghost use Rattle.unify.specs.SecondPass.{whole_plan};
 ghost use Rattle.unify_merge.specs.Ledger.{HasBegun, with_bytes};
 ghost use Rattle.unify_merge.specs.SecondReading.{ArePlanned, HasPlan, IsPlanned, IsReadAgain};
 ghost use Rattle.unify_merge.specs.SecondReading.{IsTurnOf, IsWithinFile, StopsEnd, StopsPiece};
@@ -33,21 +33,20 @@ fn plan_piece<'a, F: MergeFiles>(
     bytes: &[u8],
     plan: &mut Vec<u8>,
 ) -> Result<(), MergeFault<'a>>
-    requires left { solved.old.ended < length solved.old.hosts }
+    requires left { ended_in solved.old < length solved.old.hosts }
     ensures told { IfErr result
-        (λ fault. (host : Host) (text planned : List ℕ)
-        → slice_get solved.old.hosts solved.old.ended ≡ Some host
-        → StandsFor solved.old host text planned
-        → StopsPiece host (text ++ bytes.now) (F.has_failed files.new) fault) }
+        (λ fault. (host : Host) → IsNext solved.old host
+        → StopsPiece host (solved.old.text ++ bytes.now) (F.has_failed files.new) fault) }
     ensures planned { OnOk result
-        ((host : Host) (text planned : List ℕ)
-        → slice_get solved.old.hosts solved.old.ended ≡ Some host
-        → StandsFor solved.old host text planned → (more : List ℕ)
+        ((host : Host) → IsNext solved.old host → (more : List ℕ)
         × (F.ledger files.new ≡ with_bytes more (F.ledger files.old))
-        × StandsFor solved.new host (text ++ bytes.now) (planned ++ more)) }
+        × (solved.new
+        ≡ record solved.old {
+          text = solved.old.text ++ bytes.now;
+          planned = solved.old.planned ++ more;
+        })) }
     ensures none { OnErr result (F.ledger files.new ≡ F.ledger files.old) }
     ensures writes { WritesOnly (F.ledger files.old) (F.ledger files.new) }
-    ensures site { solved.new ≡ record solved.old { turn = solved.new.turn } }
 {
     plan.clear();
     solved.piece(bytes, plan)?;
@@ -61,30 +60,23 @@ fn end_plan<'a, F: MergeFiles>(
     solved: &mut Solved<'a>,
     plan: &mut Vec<u8>,
 ) -> Result<(), MergeFault<'a>>
-    requires left { solved.old.ended < length solved.old.hosts }
+    requires left { ended_in solved.old < length solved.old.hosts }
     ensures told { IfErr result
-        (λ fault. (host : Host) (were : List Entry) (text planned : List ℕ)
-        → slice_get solved.old.hosts solved.old.ended ≡ Some host
-        → slice_get solved.old.passed solved.old.ended ≡ Some (row_files host were)
-        → StandsFor solved.old host text planned
-        → StopsEnd host were text (F.has_failed files.new) fault) }
+        (λ fault. (host : Host) (were : List Entry) → IsNext solved.old host
+        → WereFirst solved.old host were
+        → StopsEnd host were solved.old.text (F.has_failed files.new) fault) }
     ensures planned { OnOk result
-        ((host : Host) (were : List Entry) (text planned : List ℕ)
-        → slice_get solved.old.hosts solved.old.ended ≡ Some host
-        → slice_get solved.old.passed solved.old.ended ≡ Some (row_files host were)
-        → StandsFor solved.old host text planned → (more : List ℕ)
+        ((host : Host) (were : List Entry) → IsNext solved.old host
+        → WereFirst solved.old host were → (more : List ℕ)
         × (F.ledger files.new ≡ with_bytes more (F.ledger files.old)) × (found : List Entry)
-        × IsReadAgain host were text found
-        × (planned ++ more ≡ whole_plan host solved.old.joined solved.old.merged solved.old.ended
-        found)) }
+        × IsReadAgain host were solved.old.text found
+        × (solved.old.planned ++ more
+        ≡ whole_plan host solved.old.joined solved.old.merged (ended_in solved.old) found)) }
     ensures none { OnErr result (F.ledger files.new ≡ F.ledger files.old) }
     ensures writes { WritesOnly (F.ledger files.old) (F.ledger files.new) }
-    ensures next { OnOk result
-        ((host : Host) → slice_get solved.new.hosts solved.new.ended ≡ Some host
-        → StandsFor solved.new host [] []) }
-    ensures ended { OnOk result (solved.new.ended ≡ solved.old.ended + 1) }
-    ensures site { solved.new
-        ≡ record solved.old { ended = solved.new.ended; turn = solved.new.turn } }
+    ensures fresh { solved.old.met ≡ None → OnOk result (IsFresh solved.new) }
+    ensures ended { OnOk result (ended_in solved.new ≡ ended_in solved.old + 1) }
+    ensures site { IsOfSameSite solved.old solved.new }
 {
     plan.clear();
     solved.end_host(plan)?;
@@ -98,9 +90,10 @@ fn plan_reading<'a, F: MergeFiles>(
     solved: &mut Solved<'a>,
     buffers: &mut Buffers,
 ) -> Result<(), MergeFault<'a>>
-    requires left { solved.old.ended < length solved.old.hosts }
+    requires left { ended_in solved.old < length solved.old.hosts }
+    requires fresh { IsFresh solved.old }
     requires begun { (F.ledger files.old).reading
-        ≡ Some (record { host = solved.old.ended; text = [] }) }
+        ≡ Some (record { host = ended_in solved.old; text = [] }) }
     requires file { (name : List ℕ)
         × ((F.ledger files.old).writing ≡ Some (record { name = name; text = [] })) }
     ensures planned { OnOk result
@@ -109,15 +102,12 @@ fn plan_reading<'a, F: MergeFiles>(
         → IsPlanned solved.old host were name (F.ledger files.old) (F.ledger files.new)) }
     ensures stopped { IfErr result
         (λ fault. (host : Host) (were : List Entry) → IsTurnOf solved.old host were
-        → StopsSecond host were solved.old.ended (F.ledger files.old).read (F.ledger files.new)
+        → StopsSecond host were (ended_in solved.old) (F.ledger files.old).read (F.ledger files.new)
         (F.has_failed files.new) fault) }
     ensures kept { IsWithinFile (F.ledger files.old) (F.ledger files.new) }
-    ensures next { OnOk result
-        ((host : Host) → slice_get solved.new.hosts solved.new.ended ≡ Some host
-        → StandsFor solved.new host [] []) }
-    ensures ended { OnOk result (solved.new.ended ≡ solved.old.ended + 1) }
-    ensures site { solved.new
-        ≡ record solved.old { ended = solved.new.ended; turn = solved.new.turn } }
+    ensures fresh { OnOk result (IsFresh solved.new) }
+    ensures ended { OnOk result (ended_in solved.new ≡ ended_in solved.old + 1) }
+    ensures site { IsOfSameSite solved.old solved.new }
 {
     let mut left = MOST_BYTES;
     while next_piece(files, &mut buffers.bytes, &mut left)? {
@@ -136,7 +126,8 @@ fn plan_host<'a, F: MergeFiles>(
     buffers: &mut Buffers,
 ) -> Result<(), MergeFault<'a>>
     requires clear { (F.ledger files.old).is_clear ≡ true }
-    requires next { index ≡ solved.old.ended }
+    requires next { index ≡ ended_in solved.old }
+    requires fresh { IsFresh solved.old }
     requires left { index < length solved.old.hosts }
     ensures planned { OnOk result
         ((host : Host) (were : List Entry) → IsTurnOf solved.old host were
@@ -149,12 +140,9 @@ fn plan_host<'a, F: MergeFiles>(
     ensures begun { MatchResult result
         (λ _. (F.ledger files.new).begun ≡ (F.ledger files.old).begun ++ name.now ∷ [])
         (λ _. HasBegun (name.now ∷ []) (F.ledger files.old) (F.ledger files.new)) }
-    ensures next { OnOk result
-        ((host : Host) → slice_get solved.new.hosts solved.new.ended ≡ Some host
-        → StandsFor solved.new host [] []) }
-    ensures ended { OnOk result (solved.new.ended ≡ index + 1) }
-    ensures site { solved.new
-        ≡ record solved.old { ended = solved.new.ended; turn = solved.new.turn } }
+    ensures fresh { OnOk result (IsFresh solved.new) }
+    ensures ended { OnOk result (ended_in solved.new ≡ index + 1) }
+    ensures site { IsOfSameSite solved.old solved.new }
 {
     files.begin(name)?;
     files.open(index)?;
@@ -173,7 +161,8 @@ fn plan_named<'a, F: MergeFiles>(
     buffers: &mut Buffers,
 ) -> Result<(), MergeFault<'a>>
     requires clear { (F.ledger files.old).is_clear ≡ true }
-    requires next { index ≡ solved.old.ended }
+    requires next { index ≡ ended_in solved.old }
+    requires fresh { IsFresh solved.old }
     requires left { index < length solved.old.hosts }
     ensures planned { OnOk result
         ((here : Host) (were : List Entry) → IsTurnOf solved.old here were
@@ -187,12 +176,9 @@ fn plan_named<'a, F: MergeFiles>(
     ensures begun { MatchResult result
         (λ _. (F.ledger files.new).begun ≡ (F.ledger files.old).begun ++ plan_name host.now ∷ [])
         (λ _. HasBegun (plan_name host.now ∷ []) (F.ledger files.old) (F.ledger files.new)) }
-    ensures next { OnOk result
-        ((here : Host) → slice_get solved.new.hosts solved.new.ended ≡ Some here
-        → StandsFor solved.new here [] []) }
-    ensures ended { OnOk result (solved.new.ended ≡ index + 1) }
-    ensures site { solved.new
-        ≡ record solved.old { ended = solved.new.ended; turn = solved.new.turn } }
+    ensures fresh { OnOk result (IsFresh solved.new) }
+    ensures ended { OnOk result (ended_in solved.new ≡ index + 1) }
+    ensures site { IsOfSameSite solved.old solved.new }
 {
     let name = host_file_name(alloc, b"plan.", host)?;
     plan_host(files, solved, index, &name, buffers)
@@ -206,10 +192,9 @@ pub fn plan_hosts<'a, F: MergeFiles>(
     hosts: &[HostText],
 ) -> Result<(), MergeFault<'a>>
     requires clear { (F.ledger files.old).is_clear ≡ true }
-    requires start { solved.old.ended ≡ 0 }
+    requires start { ended_in solved.old ≡ 0 }
     requires each { length hosts.now ≡ length solved.old.hosts }
-    requires stands { (host : Host) → slice_get solved.old.hosts 0 ≡ Some host
-        → StandsFor solved.old host [] [] }
+    requires fresh { IsFresh solved.old }
     ensures planned { OnOk result
         ((read : List (Host × List Entry)) → WereRead solved.old read
         → ArePlanned hosts.now solved.old read (F.ledger files.old) (F.ledger files.new)) }
@@ -221,8 +206,7 @@ pub fn plan_hosts<'a, F: MergeFiles>(
     ensures begun { MatchResult result
         (λ _. (F.ledger files.new).begun ≡ (F.ledger files.old).begun ++ map plan_name hosts.now)
         (λ _. HasBegun (map plan_name hosts.now) (F.ledger files.old) (F.ledger files.new)) }
-    ensures site { solved.new
-        ≡ record solved.old { ended = solved.new.ended; turn = solved.new.turn } }
+    ensures site { IsOfSameSite solved.old solved.new }
 {
     let mut buffers = Buffers {
         bytes: Vec::new(alloc),

@@ -1,7 +1,7 @@
 use Rattle.std.proofs.Common.{◌≡◌, ◌+◌, ◌∙◌, None, Some, [], length, refl, subst, sym, arith}
 use Rattle.std.specs.List.{slice_get}
 use Rattle.idtext.specs.First.{first_fault}
-use Rattle.unify.specs.Passes.{AreCounted}
+use Rattle.unify.specs.Turns.{AreCounted}
 use Rattle.unify.proofs.inventories.next_host.Goals as goal
 
 pub returns-clause-next : goal.returns-clause-next

@@ -3,7 +3,7 @@ use Rattle.mtree_inv.specs.Standing as standing
 use Rattle.mtree_inv.specs.declared.entry.Entry.{Entry}
 use Rattle.std.specs.Prelude.{IfSome}
 use Rattle.unify.specs.Places.{ArePlaces}
-use Rattle.unify.specs.Passes.{AreCounted}
+use Rattle.unify.specs.Turns.{AreCounted}
 use Rattle.unify.specs.RowFiles.{row_files}
 use Rattle.unify.proofs.turn.count_waiting.Given as goal
 

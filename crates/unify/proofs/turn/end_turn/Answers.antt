@@ -2,8 +2,8 @@ use Rattle.std.proofs.Common.{◌≡◌, List, sym, ap, subst, ◌∙◌, inl, r
 use Rattle.mtree_inv.specs.Standing.{ReaderValue}
 use Rattle.mtree_inv.proofs.StandLemmas.{at_none}
 use Rattle.mtree_inv.specs.declared.entry.Entry.{Entry}
-use Rattle.unify.specs.Passes.{AreCounted}
-use Rattle.unify.specs.Passes.{is_read, owner_told}
+use Rattle.unify.specs.Passes.{is_read}
+use Rattle.unify.specs.Turns.{AreCounted, owner_told}
 use Rattle.unify.proofs.Turns.{accepted_at_end, refused_at_end, room_after}
 use Rattle.unify.proofs.Turns.{files_fail, grown_files, inventory_is, met_by_owner, met_by_reader, met_none, sound_before}
 use Rattle.unify.proofs.turn.end_turn.Goals as goal

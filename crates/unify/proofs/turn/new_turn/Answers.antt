@@ -1,6 +1,6 @@
 use Rattle.std.proofs.Common.{None, [], refl, subst, sym}
 use Rattle.idtext.specs.First.{first_fault}
-use Rattle.unify.specs.Passes.{AreCounted}
+use Rattle.unify.specs.Turns.{AreCounted}
 use Rattle.unify.proofs.turn.new_turn.Goals as goal
 
 pub returns : goal.returns

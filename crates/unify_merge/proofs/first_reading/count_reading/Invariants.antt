@@ -1,5 +1,5 @@
 use Rattle.std.proofs.Common.{◌≡◌, ◌+◌, ℕ, List, [], length, Some}
-use Rattle.unify.specs.Passes.{StandsFor, ended_in}
+use Rattle.unify.specs.Passes.{behind, ended_in}
 use Rattle.unify_merge.specs.FirstReading.{ReadsOnly}
 use Rattle.unify_merge.proofs.first_reading.count_reading.Given as goal
 
@@ -11,9 +11,7 @@ invariant-loop-inventories g l = record {
   read : (g.F.ReadFiles.ledger l.files).read ≡ (g.F.ReadFiles.ledger l.initial.files).read;
   only : ReadsOnly (g.F.ReadFiles.ledger l.initial.files) (g.F.ReadFiles.ledger l.files);
   may : l.left + length text ≡ 4294967295;
-  stands : (ended : List (List ℕ)) → StandsFor l.initial.inventories ended [] → StandsFor l.inventories ended text;
-  passed : l.inventories.passed ≡ l.initial.inventories.passed;
-  hosts : l.inventories.hosts ≡ l.initial.inventories.hosts;
+  come : l.inventories ≡ record (behind l.initial.inventories.hosts l.initial.inventories.ended) { text = text };
 }
 
 abbrev pub decreases-loop-inventories : goal.decreases-loop-inventories

@@ -1,5 +1,5 @@
 use Rattle.std.proofs.Common.{◌++◌, ◌∷◌, [], ap, ◌∙◌}
-use Rattle.unify.specs.SecondPass.{whole_plan}
+use Rattle.unify.specs.SecondPass.{ended_in, whole_plan}
 use Rattle.unify.specs.declared.site_files.NamedText.{NamedText}
 use Rattle.unify_merge.specs.Ledger.{Ledger, Reading, finished_on}
 use Rattle.unify_merge.proofs.second_reading.plan_host.Goals as goal
@@ -11,8 +11,8 @@ returns-clause-planned g c = λ host were turn.
     let opened = c.in_ok-open.ensures.opened in
     let kept = c.in_ok-plan_reading.ensures.kept in
     let p = c.in_ok-plan_reading.ensures.planned host were c.args.name.now turn (ap (λ (l : Ledger). l.writing) opened ∙ ap (λ (l : Ledger). l.writing) begun) in
-    let file : NamedText = record { name = c.args.name.now; text = whole_plan host solved.joined solved.merged solved.ended p.files } in
-    let r : Reading = record { host = solved.ended; text = p.text } in
+    let file : NamedText = record { name = c.args.name.now; text = whole_plan host solved.joined solved.merged (ended_in solved) p.files } in
+    let r : Reading = record { host = ended_in solved; text = p.text } in
     let l = g.F.ReadFiles.ledger c.plan_reading.new.files in
     let new = g.F.ReadFiles.ledger c.finish.new.self in
     let done = c.in_ok-finish.ensures.finished ∙ ap (λ o. finished_on o l) p.written in

@@ -4,13 +4,12 @@ use Rattle.std.specs.List.{slice_get}
 use Rattle.std.proofs.lemmas.Option.{slice_get-get_or}
 use Rattle.std.proofs.lemmas.Result.{err_from_is_err_and}
 use Rattle.hosts_join.specs.declared.texts.HostText.{HostText}
-use Rattle.unify.specs.SecondPass.{SolvedValue}
 use Rattle.unify.proofs.Agreeing.{item_at}
 use Rattle.unify.proofs.SiteRuns.{some_same}
 use Rattle.unify_merge.specs.Ledger.{HasBegun}
 use Rattle.unify_merge.specs.SecondReading.{plan_name}
 use Rattle.unify_merge.proofs.Begun.{begun_behind, begun_front, map_from}
-use Rattle.unify_merge.proofs.AllPlanned.{all_planned, host_at, planning_stopped, read_len, turn_of}
+use Rattle.unify_merge.proofs.AllPlanned.{all_planned, host_at, planning_stopped, read_len, same_again, turn_of}
 use Rattle.unify_merge.proofs.Planned.{none_planned, one_planned}
 use Rattle.unify_merge.proofs.second_reading.plan_hosts.Goals as goal
 
@@ -20,7 +19,7 @@ loop-index-init g c = record {
   clear = c.requires.clear;
   ended = c.requires.start;
   site = refl;
-  stands = λ here at. c.requires.stands here (ap (λ k. slice_get c.args.solved.now.hosts k) (sym c.requires.start) ∙ at);
+  fresh = c.requires.fresh;
   so_far = λ read was. none_planned c.args.hosts.now c.args.solved.now read (g.F.ReadFiles.ledger c.args.files.now);
 }
 
@@ -35,7 +34,7 @@ returns-in_err-plan_named-clause-stopped g c =
     let here = item_at read index (omega (arith, c.loop-index-test.true, c.requires.each, read_len solved read was)) in
     planning_stopped c.args.hosts.now solved read index here.0.0 here.0.1 (g.F.ReadFiles.ledger c.args.files.now) (g.F.ReadFiles.ledger c.loop-index.files) (g.F.ReadFiles.ledger now) (g.F.ReadFiles.has_failed now) c.in_err-plan_named.field-0.0
     (inv.so_far read was) here.1
-    (c.in_err-plan_named.ensures.stopped here.0.0 here.0.1 (turn_of solved c.loop-index.solved read index here.0.0 here.0.1 inv.site inv.ended was here.1 inv.stands)))
+    (c.in_err-plan_named.ensures.stopped here.0.0 here.0.1 (turn_of solved c.loop-index.solved read index here.0.0 here.0.1 inv.site inv.ended was here.1 inv.fresh)))
 
 pub loop-index-preserved : goal.loop-index-preserved
 loop-index-preserved g c =
@@ -43,7 +42,6 @@ loop-index-preserved g c =
     let index = c.loop-index.index in
     let solved = c.args.solved.now in
     let names = c.args.hosts.now in
-    let next = c.plan_named.new.solved in
     let named : slice_get names index ≡ Some c.index-hosts-index.result = slice_get-get_or names index _ c.loop-index-test.true ∙ ap (λ (h : HostText). Some h) (sym c.index-hosts-index.is) in
     let old = g.F.ReadFiles.ledger c.args.files.now in
     let more : map plan_name (take (index + 1) names) ≡ map plan_name (take index names) ++ plan_name c.index-hosts-index.result ∷ [] =
@@ -53,11 +51,11 @@ loop-index-preserved g c =
       begun = c.in_ok-plan_named.ensures.begun ∙ ap (λ ns. ns ++ plan_name c.index-hosts-index.result ∷ []) inv.begun ∙ append_assoc old.begun (map plan_name (take index names)) (plan_name c.index-hosts-index.result ∷ []) ∙ ap (λ ns. old.begun ++ ns) (sym more);
       clear = c.in_ok-plan_named.ensures.clear;
       ended = c.in_ok-plan_named.ensures.ended;
-      site = c.in_ok-plan_named.ensures.site ∙ ap (λ (v : SolvedValue). record v { ended = next.ended; turn = next.turn }) inv.site;
-      stands = c.in_ok-plan_named.ensures.next;
+      site = same_again solved c.loop-index.solved c.plan_named.new.solved inv.site c.in_ok-plan_named.ensures.site;
+      fresh = c.in_ok-plan_named.ensures.fresh;
       so_far = λ read was.
           let here = item_at read index (omega (arith, c.loop-index-test.true, c.requires.each, read_len solved read was)) in
-          let turn = turn_of solved c.loop-index.solved read index here.0.0 here.0.1 inv.site inv.ended was here.1 inv.stands in
+          let turn = turn_of solved c.loop-index.solved read index here.0.0 here.0.1 inv.site inv.ended was here.1 inv.fresh in
           one_planned names solved c.loop-index.solved read index c.index-hosts-index.result here.0.0 here.0.1 (g.F.ReadFiles.ledger c.args.files.now) (g.F.ReadFiles.ledger c.loop-index.files) (g.F.ReadFiles.ledger c.plan_named.new.files) (inv.so_far read was)
           inv.site inv.ended named (host_at solved read index here.0.0 here.0.1 was here.1) here.1 (c.in_ok-plan_named.ensures.planned here.0.0 here.0.1 turn);
     }

@@ -1,8 +1,7 @@
-use Rattle.std.proofs.Common.{◌≡◌, ◌++◌, List, [], map, take, Some, true}
-use Rattle.std.specs.List.{slice_get}
+use Rattle.std.proofs.Common.{◌≡◌, ◌++◌, List, map, take, true}
 use Rattle.mtree_inv.specs.declared.entry.Entry.{Entry}
 use Rattle.hosts_join.specs.declared.host.Host.{Host}
-use Rattle.unify.specs.SecondPass.{StandsFor}
+use Rattle.unify.specs.SecondPass.{IsFresh, IsOfSameSite, ended_in}
 use Rattle.unify_merge.specs.SecondReading.{WereRead, plan_name}
 use Rattle.unify_merge.proofs.Planned.{PlannedSoFar}
 use Rattle.unify_merge.proofs.second_reading.plan_hosts.Given as goal
@@ -11,8 +10,8 @@ abbrev pub invariant-loop-index : goal.invariant-loop-index
 invariant-loop-index g l = record {
   begun : (g.F.ReadFiles.ledger l.files).begun ≡ (g.F.ReadFiles.ledger l.initial.files).begun ++ map plan_name (take l.index l.hosts);
   clear : (g.F.ReadFiles.ledger l.files).is_clear ≡ true;
-  ended : l.solved.ended ≡ l.index;
-  site : l.solved ≡ record l.initial.solved { ended = l.solved.ended; turn = l.solved.turn };
-  stands : (here : Host) → slice_get l.solved.hosts l.solved.ended ≡ Some here → StandsFor l.solved here [] [];
+  ended : ended_in l.solved ≡ l.index;
+  site : IsOfSameSite l.initial.solved l.solved;
+  fresh : IsFresh l.solved;
   so_far : (read : List (Host × List Entry)) → WereRead l.initial.solved read → PlannedSoFar l.hosts l.initial.solved read l.index (g.F.ReadFiles.ledger l.initial.files) (g.F.ReadFiles.ledger l.files);
 }

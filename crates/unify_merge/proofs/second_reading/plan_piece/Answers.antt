@@ -7,12 +7,12 @@ use Rattle.unify_merge.proofs.second_reading.plan_piece.Goals as goal
 pub returns-in_err-piece-clause-told : goal.returns-in_err-piece-clause-told
 returns-in_err-piece-clause-told g c =
     let p = err_from_is_err_and c.from_residual.result c.from_residual.ensures.1 in
-    rw (p.1, p.2) (λ host text planned here stands.
-    piece_stopped host (text ++ c.args.bytes.now) (g.F.ReadFiles.has_failed c.args.files.now) c.in_err-piece.field-0.0 (c.in_err-piece.ensures.told host text planned here stands))
+    rw (p.1, p.2) (λ host next.
+    piece_stopped host (c.args.solved.now.text ++ c.args.bytes.now) (g.F.ReadFiles.has_failed c.args.files.now) c.in_err-piece.field-0.0 (c.in_err-piece.ensures.told host next))
 
 pub returns-clause-planned : goal.returns-clause-planned
-returns-clause-planned g c = λ host text planned here stands.
-    let p = c.in_ok-piece.ensures.planned host text planned here stands in
+returns-clause-planned g c = λ host next.
+    let p = c.in_ok-piece.ensures.planned host next in
     let more = p.0 in
     let written : c.deref.result.now ≡ more = c.deref.ensures.value ∙ p.1 ∙ ap (λ (xs : List ℕ). xs ++ more) c.clear.ensures.items in
-    (more, c.in_ok-append.ensures.written ∙ ap (λ bytes. with_bytes bytes (g.F.ReadFiles.ledger c.args.files.now)) written, p.2)
+    (more, c.in_ok-append.ensures.written ∙ ap (λ bytes. with_bytes bytes (g.F.ReadFiles.ledger c.args.files.now)) written, p.2.0)

@@ -1,12 +1,16 @@
-use Rattle.std.proofs.Common.{◌≡◌, ◌++◌, ◌∷◌, [], Some, sym, ap, ◌∙◌, arith, length-append}
+use Rattle.std.proofs.Common.{◌≡◌, ◌+◌, ◌++◌, ◌∷◌, [], ℕ, List, Some, refl, sym, ap, subst, ◌∙◌, arith, length-append}
+use Rattle.std.specs.Prelude.{OnOk}
 use Rattle.std.proofs.lemmas.Result.{err_from_is_err_and}
-use Rattle.unify.specs.SecondPass.{SolvedValue, whole_plan}
+use Rattle.mtree_inv.specs.declared.entry.Entry.{Entry}
+use Rattle.unify.specs.SecondPass.{IsNext, SolvedValue, WereFirst, ended_in, whole_plan}
+use Rattle.unify.proofs.Agreeing.{item_at}
 use Rattle.unify.proofs.SiteRuns.{some_same}
 use Rattle.unify.specs.declared.site_files.NamedText.{NamedText}
-use Rattle.unify_merge.specs.Ledger.{Ledger, Reading}
+use Rattle.unify_merge.specs.Ledger.{Ledger, Reading, with_bytes}
+use Rattle.unify_merge.specs.SecondReading.{IsReadAgain, StopsEnd, StopsPiece}
+use Rattle.unify_merge.proofs.AllPlanned.{same_site}
 use Rattle.unify_merge.proofs.Changes.{second_ended, second_lines_stop, second_whole_stop}
 use Rattle.unify_merge.proofs.Readings.{if_err, on_ok}
-use Rattle.unify_merge.proofs.Stops.{at_same}
 use Rattle.unify_merge.proofs.Writing.{within_file, written_more}
 use Rattle.unify_merge.proofs.second_reading.plan_reading.Goals as goal
 
@@ -14,25 +18,45 @@ pub returns-in_err-next_piece-clause-stopped : goal.returns-in_err-next_piece-cl
 returns-in_err-next_piece-clause-stopped g c =
     let inv = c.loop-files.invariant in
     let p = err_from_is_err_and c.from_residual.result c.from_residual.ensures.1 in
-    let r : Reading = record { host = c.args.solved.now.ended; text = inv.text } in
+    let r : Reading = record { host = ended_in c.args.solved.now; text = inv.text } in
     let before = (g.F.ReadFiles.ledger c.args.files.now).read in
     let now = c.next_piece.new.files in
     rw (p.1, p.2) (λ host were turn.
     second_ended host were r.host c.loop-files.left inv.text c.next_piece.new.bytes.items before (g.F.ReadFiles.ledger c.loop-files.files) (g.F.ReadFiles.ledger now) (g.F.ReadFiles.has_failed now) c.in_err-next_piece.field-0.0 inv.may (c.in_err-next_piece.ensures.stopped r inv.reading))
 
+pub loop-files-init : goal.loop-files-init
+loop-files-init g c =
+    let fresh = c.requires.fresh in
+    record {
+      text = [];
+      planned = [];
+      reading = c.requires.begun;
+      read = refl;
+      only = refl;
+      may = refl;
+      name = c.requires.file.0;
+      was = c.requires.file.1;
+      writing = c.requires.file.1;
+      come = λ j. record c.args.solved.now { text = fresh.none j; planned = fresh.unplanned j };
+    }
+
 pub loop-files-preserved : goal.loop-files-preserved
 loop-files-preserved g c =
     let inv = c.loop-files.invariant in
+    let start = c.args.solved.now in
     let old = g.F.ReadFiles.ledger c.args.files.now in
     let mid = g.F.ReadFiles.ledger c.next_piece.new.files in
     let new = g.F.ReadFiles.ledger c.plan_piece.new.files in
-    let solved = c.plan_piece.new.solved in
-    let r : Reading = record { host = c.args.solved.now.ended; text = inv.text } in
+    let r : Reading = record { host = ended_in start; text = inv.text } in
     let goes = rw c.if-branch.true at c.in_ok-next_piece.ensures.read r inv.reading in
     let writes = c.in_ok-plan_piece.ensures.writes in
     let bytes = c.next_piece.new.bytes.items in
+    let at = item_at start.hosts (ended_in start) c.requires.left in
+    let next : IsNext c.loop-files.solved at.0 = subst (λ (v : SolvedValue). IsNext v at.0) (sym inv.come) (at.1, c.requires.fresh.unmet) in
+    let p = rw c.deref.ensures.value at c.in_ok-plan_piece.ensures.planned at.0 next in
     record {
       text = inv.text ++ bytes;
+      planned = inv.planned ++ p.0;
       reading = ap (λ (l : Ledger). l.reading) writes ∙ ap (λ (l : Ledger). l.reading) goes.0;
       read = ap (λ (l : Ledger). l.read) writes ∙ ap (λ (l : Ledger). l.read) goes.0 ∙ inv.read;
       only = within_file old new (ap (λ (l : Ledger). l.is_clear) writes ∙ ap (λ (l : Ledger). l.is_clear) goes.0 ∙ ap (λ (l : Ledger). l.is_clear) inv.only)
@@ -41,69 +65,76 @@ loop-files-preserved g c =
       may = omega (arith, goes.1, inv.may, length-append inv.text bytes);
       name = inv.name;
       was = inv.was;
-      stands = λ host were turn.
-          let s = inv.stands host were turn in
-          let here = at_same _ _ _ _ _ (ap (λ (v : SolvedValue). v.hosts) inv.site) (ap (λ (v : SolvedValue). v.ended) inv.site) turn.here in
-          let p = rw c.deref.ensures.value at c.in_ok-plan_piece.ensures.planned host inv.text s.0 here s.1 in
-          (s.0 ++ p.0, p.2, ap (λ (l : Ledger). l.writing) p.1 ∙ written_more mid inv.name s.0 p.0 (ap (λ (l : Ledger). l.writing) goes.0 ∙ s.2));
-      site = c.in_ok-plan_piece.ensures.site ∙ ap (λ (v : SolvedValue). record v { turn = solved.turn }) inv.site;
+      writing = ap (λ (l : Ledger). l.writing) p.1 ∙ written_more mid inv.name inv.planned p.0 (ap (λ (l : Ledger). l.writing) goes.0 ∙ inv.writing);
+      come = p.2 ∙ ap (λ (v : SolvedValue). record v { text = v.text ++ bytes; planned = v.planned ++ p.0 }) inv.come;
     }
 
 pub returns-in_err-plan_piece-clause-stopped : goal.returns-in_err-plan_piece-clause-stopped
 returns-in_err-plan_piece-clause-stopped g c =
     let inv = c.loop-files.invariant in
     let p = err_from_is_err_and c.from_residual-in_err-plan_piece.result c.from_residual-in_err-plan_piece.ensures.1 in
-    let r : Reading = record { host = c.args.solved.now.ended; text = inv.text } in
+    let r : Reading = record { host = ended_in c.args.solved.now; text = inv.text } in
     let before = (g.F.ReadFiles.ledger c.args.files.now).read in
     let goes = rw c.if-branch.true at c.in_ok-next_piece.ensures.read r inv.reading in
     let writes = c.in_err-plan_piece.ensures.writes in
     let now = c.plan_piece.new.files in
+    let failed = g.F.ReadFiles.has_failed now in
+    let fault = c.in_err-plan_piece.field-0.0 in
     let bytes = c.next_piece.new.bytes.items in
+    let told = rw c.deref.ensures.value at c.in_err-plan_piece.ensures.told in
     rw (p.1, p.2) (λ host were turn.
-    let s = inv.stands host were turn in
-    let here = at_same _ _ _ _ _ (ap (λ (v : SolvedValue). v.hosts) inv.site) (ap (λ (v : SolvedValue). v.ended) inv.site) turn.here in
-    second_lines_stop host were r.host (inv.text ++ bytes) before (g.F.ReadFiles.ledger now) (g.F.ReadFiles.has_failed now) c.in_err-plan_piece.field-0.0
+    second_lines_stop host were r.host (inv.text ++ bytes) before (g.F.ReadFiles.ledger now) failed fault
     (ap (λ (l : Ledger). l.read) writes ∙ ap (λ (l : Ledger). l.read) goes.0 ∙ inv.read, ap (λ (l : Ledger). l.reading) writes ∙ ap (λ (l : Ledger). l.reading) goes.0)
-    (rw c.deref.ensures.value at c.in_err-plan_piece.ensures.told host inv.text s.0 here s.1))
+    (subst (λ (v : SolvedValue). IsNext v host → StopsPiece host (v.text ++ bytes) failed fault) inv.come (told host) (turn.here, turn.fresh.unmet)))
 
 pub returns-clause-planned : goal.returns-clause-planned
 returns-clause-planned g c =
     let inv = c.loop-files.invariant in
+    let start = c.args.solved.now in
     let mid = g.F.ReadFiles.ledger c.next_piece.new.files in
-    let r : Reading = record { host = c.args.solved.now.ended; text = inv.text } in
+    let end = g.F.ReadFiles.ledger c.end_plan.new.files in
+    let r : Reading = record { host = ended_in start; text = inv.text } in
     let goes = rw c.if-branch.false at c.in_ok-next_piece.ensures.read r inv.reading in
     let writes = c.end_plan.ensures.writes in
     on_ok c.end_plan.result _ _ (λ planned host were name turn file.
-    let s = inv.stands host were turn in
-    let here = at_same _ _ _ _ _ (ap (λ (v : SolvedValue). v.hosts) inv.site) (ap (λ (v : SolvedValue). v.ended) inv.site) turn.here in
-    let passed = at_same _ _ _ _ _ (ap (λ (v : SolvedValue). v.passed) inv.site) (ap (λ (v : SolvedValue). v.ended) inv.site) turn.passed in
-    let p = planned host were inv.text s.0 here passed s.1 in
+    let p = subst (λ (v : SolvedValue). IsNext v host → WereFirst v host were → (more : List ℕ) × (end ≡ with_bytes more mid) × (found : List Entry) × IsReadAgain host were v.text found × (v.planned ++ more ≡ whole_plan host v.joined v.merged (ended_in v) found)) inv.come
+    (planned host were) (turn.here, turn.fresh.unmet) turn.first in
     let one : NamedText = record { name = inv.name; text = [] } in
     let other : NamedText = record { name = name; text = [] } in
     let names : inv.name ≡ name = ap (λ (f : NamedText). f.name) (some_same one other (sym inv.was ∙ file)) in
-    let whole = p.4 ∙ ap (λ (v : SolvedValue). whole_plan host v.joined v.merged v.ended p.2) inv.site in
     record {
       text = inv.text;
       files = p.2;
       again = p.3;
       readings = ap (λ (l : Ledger). l.read) writes ∙ ap (λ (l : Ledger). l.read) goes ∙ ap (λ rs. rs ++ r ∷ []) inv.read;
-      written = ap (λ (l : Ledger). l.writing) p.1 ∙ written_more mid inv.name s.0 p.0 (ap (λ (l : Ledger). l.writing) goes ∙ s.2) ∙ (λ j. Some (record { name = names j; text = whole j }));
+      written = ap (λ (l : Ledger). l.writing) p.1 ∙ written_more mid inv.name inv.planned p.0 (ap (λ (l : Ledger). l.writing) goes ∙ inv.writing) ∙ (λ j. Some (record { name = names j; text = p.4 j }));
     })
     c.end_plan.ensures.planned
 
 pub returns-clause-stopped : goal.returns-clause-stopped
 returns-clause-stopped g c =
     let inv = c.loop-files.invariant in
-    let r : Reading = record { host = c.args.solved.now.ended; text = inv.text } in
+    let r : Reading = record { host = ended_in c.args.solved.now; text = inv.text } in
     let before = (g.F.ReadFiles.ledger c.args.files.now).read in
     let goes = rw c.if-branch.false at c.in_ok-next_piece.ensures.read r inv.reading in
     let writes = c.end_plan.ensures.writes in
     let now = c.end_plan.new.files in
+    let failed = g.F.ReadFiles.has_failed now in
     if_err c.end_plan.result _ _ (λ fault stops host were turn.
-    let s = inv.stands host were turn in
-    let here = at_same _ _ _ _ _ (ap (λ (v : SolvedValue). v.hosts) inv.site) (ap (λ (v : SolvedValue). v.ended) inv.site) turn.here in
-    let passed = at_same _ _ _ _ _ (ap (λ (v : SolvedValue). v.passed) inv.site) (ap (λ (v : SolvedValue). v.ended) inv.site) turn.passed in
-    second_whole_stop host were r.host inv.text before (g.F.ReadFiles.ledger now) (g.F.ReadFiles.has_failed now) fault
+    second_whole_stop host were r.host inv.text before (g.F.ReadFiles.ledger now) failed fault
     (ap (λ (l : Ledger). l.read) writes ∙ ap (λ (l : Ledger). l.read) goes ∙ ap (λ rs. rs ++ r ∷ []) inv.read)
-    (stops host were inv.text s.0 here passed s.1))
+    (subst (λ (v : SolvedValue). IsNext v host → WereFirst v host were → StopsEnd host were v.text failed fault) inv.come (stops host were) (turn.here, turn.fresh.unmet) turn.first))
     c.end_plan.ensures.told
+
+pub returns-clause-fresh : goal.returns-clause-fresh
+returns-clause-fresh g c =
+    let inv = c.loop-files.invariant in
+    c.end_plan.ensures.fresh (ap (λ (v : SolvedValue). v.met) inv.come ∙ c.requires.fresh.unmet)
+
+pub returns-clause-ended : goal.returns-clause-ended
+returns-clause-ended g c =
+    let inv = c.loop-files.invariant in
+    subst (λ n. OnOk c.end_plan.result (ended_in c.end_plan.new.solved ≡ n + 1)) (ap ended_in inv.come) c.end_plan.ensures.ended
+
+pub returns-clause-site : goal.returns-clause-site
+returns-clause-site g c = same_site c.args.solved.now c.loop-files.solved c.end_plan.new.solved c.loop-files.invariant.come c.end_plan.ensures.site

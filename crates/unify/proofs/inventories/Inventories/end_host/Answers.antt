@@ -1,127 +1,159 @@
-use Rattle.std.proofs.Common.{rules, ◌≡◌, ◌<◌, List, [], ◌∷◌, ◌++◌, Some, Ok, Err, refl, length, sym, subst, inl, arith}
+use Rattle.std.proofs.Common.{rules, ◌≡◌, List, [], ◌∷◌, ◌++◌, Some, Ok, Err, refl, sym, ap, subst, ◌∙◌, inl, arith}
 use Rattle.std.specs.Prelude.{IfErr, IfSome}
-use Rattle.std.specs.List.{slice_get}
 use Rattle.std.proofs.lemmas.Result.{err_from_is_err_and}
-use Rattle.hosts_join.specs.declared.host.Host.{Host}
 use Rattle.unify_texts.specs.Told.{told}
 use Rattle.unify_texts.specs.declared.fault.Fault.TheVariants.{Memory}
 use Rattle.unify.specs.Hosts.{files_of}
-use Rattle.unify.specs.Passes.{AreComing, InventoriesValue, IsFaultOf, IsToldAs, StandsFor, ended_in, fault_met, is_read, met_by, met_on}
+use Rattle.unify.specs.Passes.{InventoriesValue, IsFaultOf, is_read}
 use Rattle.unify.specs.RowFiles.{RowFiles}
-use Rattle.unify.proofs.Passing.{again_as, at_present, ended_coming, failed_for_memory, failed_if, going, met_as, met_memory, met_same, on_err, refused_coming, same_host, stands_ended}
+use Rattle.unify.specs.Taken.{Taken}
+use Rattle.unify.specs.Turns.{AreComing, met_by, met_in, pass_of, seen}
+use Rattle.unify.proofs.Passing.{after_coming, after_seen, again_as, for_next, going, met_as, met_same, on_err, refused_coming, refused_seen, turned, turn_of, was_unmet}
 use Rattle.unify.proofs.inventories.Inventories.end_host.Goals as goal
 
 pub end_turn-requires : goal.end_turn-requires
 end_turn-requires c =
-    let v : InventoriesValue = record { hosts = c.self.inside.hosts.items; passed = c.self.inside.passed.items; turn = c.self.inside.turn } in
-    let host = c.index-host.result.now in
-    let left : ended_in v < length v.hosts = rw (← c.self.view_is) at c.requires.left in
-    let here : slice_get v.hosts (ended_in v) ≡ Some host = at_present v.hosts v.passed c.len-index.result host (omega (arith, c.len-index.ensures, c.self.inside.passed.ok.0)) left c.index-host.ensures in
-    going v host c.self.invariant here
+    let p = pass_of c.self.inside in
+    let is = turn_of p c.len-index.result c.index-host.result.now c.self.invariant (omega (arith, c.len-index.ensures, c.self.inside.passed.ok.0)) (rw (← c.self.view_is) at c.requires.left) c.index-host.ensures in
+    going is
+
+pub invariant_of-self : goal.invariant_of-self
+invariant_of-self c =
+    let p = pass_of c.self.inside in
+    let is = turn_of p c.len-index.result c.index-host.result.now c.self.invariant (omega (arith, c.len-index.ensures, c.self.inside.passed.ok.0)) (rw (← c.self.view_is) at c.requires.left) c.index-host.ensures in
+    let f = c.in_err-end_turn.ensures.failed in
+    refused_coming is c.end_turn.new.turn f.0 f.1
 
 pub returns-in_err-end_turn-clause-told : goal.returns-in_err-end_turn-clause-told
 returns-in_err-end_turn-clause-told c =
-    let v : InventoriesValue = record { hosts = c.self.inside.hosts.items; passed = c.self.inside.passed.items; turn = c.self.inside.turn } in
-    let host = c.index-host.result.now in
-    let left : ended_in v < length v.hosts = rw (← c.self.view_is) at c.requires.left in
-    let here : slice_get v.hosts (ended_in v) ≡ Some host = at_present v.hosts v.passed c.len-index.result host (omega (arith, c.len-index.ensures, c.self.inside.passed.ok.0)) left c.index-host.ensures in
-    let p = err_from_is_err_and c.from_residual.result c.from_residual.ensures.1 in
+    let p = pass_of c.self.inside in
+    let is = turn_of p c.len-index.result c.index-host.result.now c.self.invariant (omega (arith, c.len-index.ensures, c.self.inside.passed.ok.0)) (rw (← c.self.view_is) at c.requires.left) c.index-host.ensures in
+    let q = err_from_is_err_and c.from_residual.result c.from_residual.ensures.1 in
     let e = c.in_err-end_turn.field-0.0 in
-    rw (p.1, p.2, ← c.self.view_is)
-    (λ ended text other s there. subst (λ (h : Host). IfSome (told e) (λ f. is_read (files_of (record { host = h; mtree = text })) ≡ Err f)) (same_host v.hosts (ended_in v) host other here there) (c.in_err-end_turn.ensures.told text (s.turns host here)))
+    rw (q.1, q.2, ← c.self.view_is) (for_next is (λ h. IfSome (told e) (λ f. is_read (files_of (record { host = h; mtree = p.taken.text })) ≡ Err f)) (λ turns. c.in_err-end_turn.ensures.told p.taken.text turns))
 
-pub returns-in_err-end_turn-clause-failed : goal.returns-in_err-end_turn-clause-failed
-returns-in_err-end_turn-clause-failed c =
-    let v : InventoriesValue = record { hosts = c.self.inside.hosts.items; passed = c.self.inside.passed.items; turn = c.self.inside.turn } in
-    let host = c.index-host.result.now in
-    let left : ended_in v < length v.hosts = rw (← c.self.view_is) at c.requires.left in
-    let here : slice_get v.hosts (ended_in v) ≡ Some host = at_present v.hosts v.passed c.len-index.result host (omega (arith, c.len-index.ensures, c.self.inside.passed.ok.0)) left c.index-host.ensures in
-    let p = err_from_is_err_and c.from_residual.result c.from_residual.ensures.1 in
-    rw (p.1, p.2) (failed_if v c.end_turn.new.turn host (Err c.in_err-end_turn.field-0.0) here c.in_err-end_turn.ensures.failed)
-
-pub returns-in_err-end_turn-clause-again : goal.returns-in_err-end_turn-clause-again
-returns-in_err-end_turn-clause-again c =
-    let v : InventoriesValue = record { hosts = c.self.inside.hosts.items; passed = c.self.inside.passed.items; turn = c.self.inside.turn } in
-    let host = c.index-host.result.now in
-    let left : ended_in v < length v.hosts = rw (← c.self.view_is) at c.requires.left in
-    let here : slice_get v.hosts (ended_in v) ≡ Some host = at_present v.hosts v.passed c.len-index.result host (omega (arith, c.len-index.ensures, c.self.inside.passed.ok.0)) left c.index-host.ensures in
-    let p = err_from_is_err_and c.from_residual.result c.from_residual.ensures.1 in
+pub returns-in_err-end_turn-clause-refused : goal.returns-in_err-end_turn-clause-refused
+returns-in_err-end_turn-clause-refused c =
+    let p = pass_of c.self.inside in
+    let is = turn_of p c.len-index.result c.index-host.result.now c.self.invariant (omega (arith, c.len-index.ensures, c.self.inside.passed.ok.0)) (rw (← c.self.view_is) at c.requires.left) c.index-host.ensures in
+    let q = err_from_is_err_and c.from_residual.result c.from_residual.ensures.1 in
     let e = c.in_err-end_turn.field-0.0 in
-    let new : InventoriesValue = record v { turn = c.end_turn.new.turn } in
-    rw (p.1, p.2) (subst (λ (w : InventoriesValue). IfSome (fault_met w) (λ f. IsToldAs f e × (new ≡ w))) c.self.view_is (again_as v c.end_turn.new.turn host (Err e) here c.in_err-end_turn.ensures.again))
+    let f = c.in_err-end_turn.ensures.failed in
+    rw (q.1, q.2, ← c.self.view_is) (f.0, refused_seen is c.end_turn.new.turn f.0 f.1, f.2)
 
 pub returns-in_err-end_turn-clause-met : goal.returns-in_err-end_turn-clause-met
 returns-in_err-end_turn-clause-met c =
-    let v : InventoriesValue = record { hosts = c.self.inside.hosts.items; passed = c.self.inside.passed.items; turn = c.self.inside.turn } in
-    let host = c.index-host.result.now in
-    let left : ended_in v < length v.hosts = rw (← c.self.view_is) at c.requires.left in
-    let here : slice_get v.hosts (ended_in v) ≡ Some host = at_present v.hosts v.passed c.len-index.result host (omega (arith, c.len-index.ensures, c.self.inside.passed.ok.0)) left c.index-host.ensures in
+    let p = pass_of c.self.inside in
+    let is = turn_of p c.len-index.result c.index-host.result.now c.self.invariant (omega (arith, c.len-index.ensures, c.self.inside.passed.ok.0)) (rw (← c.self.view_is) at c.requires.left) c.index-host.ensures in
     let r = c.from_residual.result in
-    rw (← c.self.view_is)
-    (λ ended text other s there. subst (λ (h : Host). IfErr r (λ e. IfSome (met_on (slice_get v.hosts (ended_in v)) c.end_turn.new.turn) (IsFaultOf h text))) (same_host v.hosts (ended_in v) host other here there)
-    (on_err _ r (met_as (IsFaultOf host text) v c.end_turn.new.turn host here (c.in_err-end_turn.ensures.met text (s.turns host here)))))
+    let now = met_in (turned is c.end_turn.new.turn) in
+    rw (← c.self.view_is) (for_next is (λ h. IfErr r (λ e. IfSome now (IsFaultOf h p.taken.text)))
+    (λ turns. on_err _ r (met_as is (IsFaultOf c.index-host.result.now p.taken.text) c.end_turn.new.turn (c.in_err-end_turn.ensures.met p.taken.text turns))))
+
+pub returns-in_err-end_turn-clause-again : goal.returns-in_err-end_turn-clause-again
+returns-in_err-end_turn-clause-again c =
+    let p = pass_of c.self.inside in
+    let is = turn_of p c.len-index.result c.index-host.result.now c.self.invariant (omega (arith, c.len-index.ensures, c.self.inside.passed.ok.0)) (rw (← c.self.view_is) at c.requires.left) c.index-host.ensures in
+    let q = err_from_is_err_and c.from_residual.result c.from_residual.ensures.1 in
+    let e = c.in_err-end_turn.field-0.0 in
+    rw (q.1, q.2, ← c.self.view_is) (again_as is c.end_turn.new.turn (Err e) c.in_err-end_turn.ensures.again)
 
 pub invariant_of-self-in_err-next_host : goal.invariant_of-self-in_err-next_host
 invariant_of-self-in_err-next_host c =
-    let v : InventoriesValue = record { hosts = c.self.inside.hosts.items; passed = c.self.inside.passed.items; turn = c.self.inside.turn } in
-    let host = c.index-host.result.now in
-    let left : ended_in v < length v.hosts = rw (← c.self.view_is) at c.requires.left in
-    let here : slice_get v.hosts (ended_in v) ≡ Some host = at_present v.hosts v.passed c.len-index.result host (omega (arith, c.len-index.ensures, c.self.inside.passed.ok.0)) left c.index-host.ensures in
+    let p = pass_of c.self.inside in
+    let is = turn_of p c.len-index.result c.index-host.result.now c.self.invariant (omega (arith, c.len-index.ensures, c.self.inside.passed.ok.0)) (rw (← c.self.view_is) at c.requires.left) c.index-host.ensures in
     let refused = c.in_err-next_host.ensures.refused in
-    let met : met_by host c.next_host.new.turn ≡ Some Memory = met_same host c.next_host.new.turn c.end_turn.new.turn (Some Memory) refused.1 refused.2 c.in_ok-end_turn.ensures.ended in
-    subst (λ (ps : List RowFiles). AreComing (record { hosts = v.hosts; passed = ps; turn = c.next_host.new.turn })) (sym refused.0) (refused_coming v host c.next_host.new.turn Memory c.self.invariant here met)
+    let turn = c.next_host.new.turn in
+    let met : met_by c.index-host.result.now turn ≡ Some Memory = met_same c.index-host.result.now turn c.end_turn.new.turn (Some Memory) refused.1 refused.2 c.in_ok-end_turn.ensures.ended in
+    subst (λ (ps : List RowFiles). AreComing (record (turned is turn) { passed = ps })) (sym refused.0) (refused_coming is turn Memory met)
 
-pub returns-in_err-next_host-clause-failed : goal.returns-in_err-next_host-clause-failed
-returns-in_err-next_host-clause-failed c =
-    let v : InventoriesValue = record { hosts = c.self.inside.hosts.items; passed = c.self.inside.passed.items; turn = c.self.inside.turn } in
-    let host = c.index-host.result.now in
-    let left : ended_in v < length v.hosts = rw (← c.self.view_is) at c.requires.left in
-    let here : slice_get v.hosts (ended_in v) ≡ Some host = at_present v.hosts v.passed c.len-index.result host (omega (arith, c.len-index.ensures, c.self.inside.passed.ok.0)) left c.index-host.ensures in
+pub returns-in_err-next_host-clause-refused : goal.returns-in_err-next_host-clause-refused
+returns-in_err-next_host-clause-refused c =
+    let p = pass_of c.self.inside in
+    let is = turn_of p c.len-index.result c.index-host.result.now c.self.invariant (omega (arith, c.len-index.ensures, c.self.inside.passed.ok.0)) (rw (← c.self.view_is) at c.requires.left) c.index-host.ensures in
     let refused = c.in_err-next_host.ensures.refused in
-    let met : met_by host c.next_host.new.turn ≡ Some Memory = met_same host c.next_host.new.turn c.end_turn.new.turn (Some Memory) refused.1 refused.2 c.in_ok-end_turn.ensures.ended in
-    let there : slice_get v.hosts (length c.next_host.new.passed.items) ≡ Some host = subst (λ (ps : List RowFiles). slice_get v.hosts (length ps) ≡ Some host) (sym refused.0) here in
+    let turn = c.next_host.new.turn in
+    let met : met_by c.index-host.result.now turn ≡ Some Memory = met_same c.index-host.result.now turn c.end_turn.new.turn (Some Memory) refused.1 refused.2 c.in_ok-end_turn.ensures.ended in
     let memory : c.from_residual-in_err-next_host.result ≡ Err Memory = search rules in
-    failed_for_memory (record { hosts = v.hosts; passed = c.next_host.new.passed.items; turn = c.next_host.new.turn }) host c.from_residual-in_err-next_host.result there met memory
+    let now : seen (record (turned is turn) { passed = c.next_host.new.passed.items }) ≡ record (seen p) { met = Some Memory } = ap (λ (ps : List RowFiles). seen (record (turned is turn) { passed = ps })) refused.0 ∙ refused_seen is turn Memory met in
+    rw (memory, ← c.self.view_is) (Memory, now, inl refl)
 
 pub returns-in_err-next_host-clause-met : goal.returns-in_err-next_host-clause-met
 returns-in_err-next_host-clause-met c =
-    let v : InventoriesValue = record { hosts = c.self.inside.hosts.items; passed = c.self.inside.passed.items; turn = c.self.inside.turn } in
-    let host = c.index-host.result.now in
-    let left : ended_in v < length v.hosts = rw (← c.self.view_is) at c.requires.left in
-    let here : slice_get v.hosts (ended_in v) ≡ Some host = at_present v.hosts v.passed c.len-index.result host (omega (arith, c.len-index.ensures, c.self.inside.passed.ok.0)) left c.index-host.ensures in
+    let p = pass_of c.self.inside in
+    let is = turn_of p c.len-index.result c.index-host.result.now c.self.invariant (omega (arith, c.len-index.ensures, c.self.inside.passed.ok.0)) (rw (← c.self.view_is) at c.requires.left) c.index-host.ensures in
     let refused = c.in_err-next_host.ensures.refused in
-    let met : met_by host c.next_host.new.turn ≡ Some Memory = met_same host c.next_host.new.turn c.end_turn.new.turn (Some Memory) refused.1 refused.2 c.in_ok-end_turn.ensures.ended in
-    let there : slice_get v.hosts (length c.next_host.new.passed.items) ≡ Some host = subst (λ (ps : List RowFiles). slice_get v.hosts (length ps) ≡ Some host) (sym refused.0) here in
-    λ ended text other s at. on_err _ c.from_residual-in_err-next_host.result (met_memory (IsFaultOf other text) (record { hosts = v.hosts; passed = c.next_host.new.passed.items; turn = c.next_host.new.turn }) host there met (inl refl))
+    let turn = c.next_host.new.turn in
+    let met : met_by c.index-host.result.now turn ≡ Some Memory = met_same c.index-host.result.now turn c.end_turn.new.turn (Some Memory) refused.1 refused.2 c.in_ok-end_turn.ensures.ended in
+    let memory : c.from_residual-in_err-next_host.result ≡ Err Memory = search rules in
+    let now : seen (record (turned is turn) { passed = c.next_host.new.passed.items }) ≡ record (seen p) { met = Some Memory } = ap (λ (ps : List RowFiles). seen (record (turned is turn) { passed = ps })) refused.0 ∙ refused_seen is turn Memory met in
+    rw (memory) (λ other next. rw (ap (λ (v : InventoriesValue). v.met) now) (inl refl))
+
+pub returns-in_err-next_host-clause-again : goal.returns-in_err-next_host-clause-again
+returns-in_err-next_host-clause-again c =
+    let p = pass_of c.self.inside in
+    let is = turn_of p c.len-index.result c.index-host.result.now c.self.invariant (omega (arith, c.len-index.ensures, c.self.inside.passed.ok.0)) (rw (← c.self.view_is) at c.requires.left) c.index-host.ensures in
+    let refused = c.in_err-next_host.ensures.refused in
+    let turn = c.next_host.new.turn in
+    let met : met_by c.index-host.result.now turn ≡ Some Memory = met_same c.index-host.result.now turn c.end_turn.new.turn (Some Memory) refused.1 refused.2 c.in_ok-end_turn.ensures.ended in
+    let memory : c.from_residual-in_err-next_host.result ≡ Err Memory = search rules in
+    let now : seen (record (turned is turn) { passed = c.next_host.new.passed.items }) ≡ record (seen p) { met = Some Memory } = ap (λ (ps : List RowFiles). seen (record (turned is turn) { passed = ps })) refused.0 ∙ refused_seen is turn Memory met in
+    rw (memory, ← c.self.view_is, was_unmet is c.end_turn.new.turn c.in_ok-end_turn.ensures.again) tt
 
 pub invariant_of-self-2 : goal.invariant_of-self-2
 invariant_of-self-2 c =
-    let v : InventoriesValue = record { hosts = c.self.inside.hosts.items; passed = c.self.inside.passed.items; turn = c.self.inside.turn } in
-    let host = c.index-host.result.now in
-    let left : ended_in v < length v.hosts = rw (← c.self.view_is) at c.requires.left in
-    let here : slice_get v.hosts (ended_in v) ≡ Some host = at_present v.hosts v.passed c.len-index.result host (omega (arith, c.len-index.ensures, c.self.inside.passed.ok.0)) left c.index-host.ensures in
+    let p = pass_of c.self.inside in
+    let is = turn_of p c.len-index.result c.index-host.result.now c.self.invariant (omega (arith, c.len-index.ensures, c.self.inside.passed.ok.0)) (rw (← c.self.view_is) at c.requires.left) c.index-host.ensures in
+    let turn = c.end_turn.new.turn in
+    let next = c.next_host.new.turn in
+    let again = c.in_ok-end_turn.ensures.again in
+    let accepts = c.in_ok-end_turn.ensures.accepted in
+    let new = rw (c.deref.ensures.value) at c.in_ok-next_host.ensures.next in
     let passed = c.in_ok-next_host.ensures.passed in
-    let next = rw (c.deref.ensures.value) at c.in_ok-next_host.ensures.next in
-    subst (λ (ps : List RowFiles). AreComing (record { hosts = v.hosts; passed = ps; turn = c.next_host.new.turn })) (sym passed)
-    (ended_coming v host c.end_turn.new.turn c.next_host.new.turn c.self.invariant left here (c.in_ok-end_turn.ensures.accepted, c.in_ok-end_turn.ensures.again) next)
+    subst (λ (ps : List RowFiles). AreComing (record { hosts = p.hosts; passed = ps; turn = next; taken = c.note.new.self.taken })) (sym passed)
+    (subst (λ (t : Taken). AreComing (record { hosts = p.hosts; passed = p.passed ++ turn.rows ∷ []; turn = next; taken = t })) (sym c.note.ensures) (after_coming is turn next again accepts new))
 
 pub returns-clause-told : goal.returns-clause-told
 returns-clause-told c =
-    let v : InventoriesValue = record { hosts = c.self.inside.hosts.items; passed = c.self.inside.passed.items; turn = c.self.inside.turn } in
-    let host = c.index-host.result.now in
-    let left : ended_in v < length v.hosts = rw (← c.self.view_is) at c.requires.left in
-    let here : slice_get v.hosts (ended_in v) ≡ Some host = at_present v.hosts v.passed c.len-index.result host (omega (arith, c.len-index.ensures, c.self.inside.passed.ok.0)) left c.index-host.ensures in
-    rw (← c.self.view_is)
-    (λ ended text other s there. subst (λ (h : Host). is_read (files_of (record { host = h; mtree = text })) ≡ Ok (tt {0})) (same_host v.hosts (ended_in v) host other here there) (c.in_ok-end_turn.ensures.told text (s.turns host here)))
+    let p = pass_of c.self.inside in
+    let is = turn_of p c.len-index.result c.index-host.result.now c.self.invariant (omega (arith, c.len-index.ensures, c.self.inside.passed.ok.0)) (rw (← c.self.view_is) at c.requires.left) c.index-host.ensures in
+    rw (← c.self.view_is) (for_next is (λ h. is_read (files_of (record { host = h; mtree = p.taken.text })) ≡ Ok (tt {0})) (λ turns. c.in_ok-end_turn.ensures.told p.taken.text turns))
 
-pub returns-clause-stands : goal.returns-clause-stands
-returns-clause-stands c =
-    let v : InventoriesValue = record { hosts = c.self.inside.hosts.items; passed = c.self.inside.passed.items; turn = c.self.inside.turn } in
-    let host = c.index-host.result.now in
-    let left : ended_in v < length v.hosts = rw (← c.self.view_is) at c.requires.left in
-    let here : slice_get v.hosts (ended_in v) ≡ Some host = at_present v.hosts v.passed c.len-index.result host (omega (arith, c.len-index.ensures, c.self.inside.passed.ok.0)) left c.index-host.ensures in
+pub returns-clause-ended : goal.returns-clause-ended
+returns-clause-ended c =
+    let p = pass_of c.self.inside in
+    let is = turn_of p c.len-index.result c.index-host.result.now c.self.invariant (omega (arith, c.len-index.ensures, c.self.inside.passed.ok.0)) (rw (← c.self.view_is) at c.requires.left) c.index-host.ensures in
+    let turn = c.end_turn.new.turn in
+    let next = c.next_host.new.turn in
+    let again = c.in_ok-end_turn.ensures.again in
+    let accepts = c.in_ok-end_turn.ensures.accepted in
+    let new = rw (c.deref.ensures.value) at c.in_ok-next_host.ensures.next in
     let passed = c.in_ok-next_host.ensures.passed in
-    let next = rw (c.deref.ensures.value) at c.in_ok-next_host.ensures.next in
     rw (← c.self.view_is)
-    (λ ended text s. subst (λ (ps : List RowFiles). StandsFor (record { hosts = v.hosts; passed = ps; turn = c.next_host.new.turn }) (ended ++ text ∷ []) []) (sym passed)
-    (stands_ended v c.end_turn.new.turn c.next_host.new.turn ended text host s here (c.in_ok-end_turn.ensures.accepted text (s.turns host here)) next))
+    (ap (λ (ps : List RowFiles). seen (record { hosts = p.hosts; passed = ps; turn = next; taken = c.note.new.self.taken })) passed
+    ∙ ap (λ (t : Taken). seen (record { hosts = p.hosts; passed = p.passed ++ turn.rows ∷ []; turn = next; taken = t })) c.note.ensures ∙ after_seen is turn next again accepts new)
+
+pub returns-clause-read : goal.returns-clause-read
+returns-clause-read c =
+    let p = pass_of c.self.inside in
+    let is = turn_of p c.len-index.result c.index-host.result.now c.self.invariant (omega (arith, c.len-index.ensures, c.self.inside.passed.ok.0)) (rw (← c.self.view_is) at c.requires.left) c.index-host.ensures in
+    let turn = c.end_turn.new.turn in
+    let next = c.next_host.new.turn in
+    let again = c.in_ok-end_turn.ensures.again in
+    let accepts = c.in_ok-end_turn.ensures.accepted in
+    let new = rw (c.deref.ensures.value) at c.in_ok-next_host.ensures.next in
+    let passed = c.in_ok-next_host.ensures.passed in
+    let over = after_coming is turn next again accepts new in
+    (over.counting.read, rw c.note.ensures over.counting.accepted)
+
+pub returns-clause-again : goal.returns-clause-again
+returns-clause-again c =
+    let p = pass_of c.self.inside in
+    let is = turn_of p c.len-index.result c.index-host.result.now c.self.invariant (omega (arith, c.len-index.ensures, c.self.inside.passed.ok.0)) (rw (← c.self.view_is) at c.requires.left) c.index-host.ensures in
+    let turn = c.end_turn.new.turn in
+    let next = c.next_host.new.turn in
+    let again = c.in_ok-end_turn.ensures.again in
+    let accepts = c.in_ok-end_turn.ensures.accepted in
+    let new = rw (c.deref.ensures.value) at c.in_ok-next_host.ensures.next in
+    let passed = c.in_ok-next_host.ensures.passed in
+    rw (← c.self.view_is, was_unmet is turn again) tt
