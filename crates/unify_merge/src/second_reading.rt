@@ -10,6 +10,7 @@ ghost use Rattle.unify_merge.specs.Ledger.{HasBegun, with_bytes};
 ghost use Rattle.unify_merge.specs.SecondReading.{ArePlanned, HasPlan, IsPlanned, IsReadAgain};
 ghost use Rattle.unify_merge.specs.SecondReading.{IsTurnOf, IsWithinFile, StopsEnd, StopsPiece};
 ghost use Rattle.unify_merge.specs.SecondReading.{StopsPlanning, StopsSecond, WereRead, WritesOnly};
+ghost use Rattle.unify_merge.specs.SecondReading.{HasReadOneAtMost, PlanBrokeOff, PlansBrokeOff};
 ghost use Rattle.unify_merge.specs.SecondReading.{plan_name};
 
 use crate::fault::MergeFault;
@@ -112,6 +113,7 @@ fn plan_reading<'a, F: MergeFiles>(
         → StopsSecond host were solved.old.ended (F.ledger files.old).read (F.ledger files.new)
         (F.has_failed files.new) fault) }
     ensures kept { IsWithinFile (F.ledger files.old) (F.ledger files.new) }
+    ensures reads { HasReadOneAtMost (F.ledger files.old).read (F.ledger files.new) }
     ensures next { OnOk result
         ((host : Host) → slice_get solved.new.hosts solved.new.ended ≡ Some host
         → StandsFor solved.new host [] []) }
@@ -146,9 +148,9 @@ fn plan_host<'a, F: MergeFiles>(
         → StopsSecond host were index (F.ledger files.old).read (F.ledger files.new)
         (F.has_failed files.new) fault) }
     ensures clear { OnOk result ((F.ledger files.new).is_clear ≡ true) }
-    ensures begun { MatchResult result
-        (λ _. (F.ledger files.new).begun ≡ (F.ledger files.old).begun ++ name.now ∷ [])
-        (λ _. HasBegun (name.now ∷ []) (F.ledger files.old) (F.ledger files.new)) }
+    ensures begun { OnErr result
+        (HasBegun (name.now ∷ []) (F.ledger files.old) (F.ledger files.new)) }
+    ensures left { OnErr result (PlanBrokeOff (F.ledger files.old) (F.ledger files.new)) }
     ensures next { OnOk result
         ((host : Host) → slice_get solved.new.hosts solved.new.ended ≡ Some host
         → StandsFor solved.new host [] []) }
@@ -184,9 +186,9 @@ fn plan_named<'a, F: MergeFiles>(
         → StopsSecond here were index (F.ledger files.old).read (F.ledger files.new)
         (F.has_failed files.new) fault) }
     ensures clear { OnOk result ((F.ledger files.new).is_clear ≡ true) }
-    ensures begun { MatchResult result
-        (λ _. (F.ledger files.new).begun ≡ (F.ledger files.old).begun ++ plan_name host.now ∷ [])
-        (λ _. HasBegun (plan_name host.now ∷ []) (F.ledger files.old) (F.ledger files.new)) }
+    ensures begun { OnErr result
+        (HasBegun (plan_name host.now ∷ []) (F.ledger files.old) (F.ledger files.new)) }
+    ensures left { OnErr result (PlanBrokeOff (F.ledger files.old) (F.ledger files.new)) }
     ensures next { OnOk result
         ((here : Host) → slice_get solved.new.hosts solved.new.ended ≡ Some here
         → StandsFor solved.new here [] []) }
@@ -218,9 +220,9 @@ pub fn plan_hosts<'a, F: MergeFiles>(
         → StopsPlanning read (F.ledger files.old) (F.ledger files.new) (F.has_failed files.new)
         fault) }
     ensures clear { OnOk result ((F.ledger files.new).is_clear ≡ true) }
-    ensures begun { MatchResult result
-        (λ _. (F.ledger files.new).begun ≡ (F.ledger files.old).begun ++ map plan_name hosts.now)
-        (λ _. HasBegun (map plan_name hosts.now) (F.ledger files.old) (F.ledger files.new)) }
+    ensures left { OnErr result
+        ((read : List (Host × List Entry)) → WereRead solved.old read
+        → PlansBrokeOff hosts.now solved.old read (F.ledger files.old) (F.ledger files.new)) }
     ensures site { solved.new
         ≡ record solved.old { ended = solved.new.ended; turn = solved.new.turn } }
 {
