@@ -33,6 +33,12 @@ second_ended host were index left text bytes before old new failed Failed may ea
 second_ended host were index left text bytes before old new failed TooLarge may early = is_too_large index left text bytes new may (ap (λ (l : Ledger). l.reading) early.0) early.1
 second_ended host were index left text bytes before old new failed (Refused e) may early = absurd early
 
+-- and no reading came to its end
+pub early_read : (r : Reading) (bytes : List ℕ) (left : ℕ) (old new : Ledger) (failed : Bool) (fault : MergeFault) → EndsEarly r bytes left old new failed fault → new.read ≡ old.read
+early_read r bytes left old new failed Failed early = ap (λ (l : Ledger). l.read) early.1
+early_read r bytes left old new failed TooLarge early = ap (λ (l : Ledger). l.read) early.0
+early_read r bytes left old new failed (Refused e) early = absurd early
+
 -- its lines have a fault
 pub second_lines_stop : (host : Host) (were : List Entry) (index : ℕ) (text : List ℕ) (before : List Reading) (l : Ledger) (failed : Bool) (fault : MergeFault) → IsReading before index text l → StopsPiece host text failed fault → StopsSecond host were index before l failed fault
 second_lines_stop host were index text before l failed Failed reading stops = stops

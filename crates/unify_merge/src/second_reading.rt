@@ -10,6 +10,7 @@ ghost use Rattle.unify_merge.specs.Ledger.{HasBegun, with_bytes};
 ghost use Rattle.unify_merge.specs.SecondReading.{ArePlanned, HasPlan, IsPlanned, IsReadAgain};
 ghost use Rattle.unify_merge.specs.SecondReading.{IsTurnOf, IsWithinFile, StopsEnd, StopsPiece};
 ghost use Rattle.unify_merge.specs.SecondReading.{StopsPlanning, StopsSecond, WereRead, WritesOnly};
+ghost use Rattle.unify_merge.specs.SecondReading.{HasReadOneAtMost, PlanBrokeOff, PlansBrokeOff};
 ghost use Rattle.unify_merge.specs.SecondReading.{plan_name};
 
 use crate::fault::MergeFault;
@@ -105,6 +106,7 @@ fn plan_reading<'a, F: MergeFiles>(
         → StopsSecond host were (ended_in solved.old) (F.ledger files.old).read (F.ledger files.new)
         (F.has_failed files.new) fault) }
     ensures kept { IsWithinFile (F.ledger files.old) (F.ledger files.new) }
+    ensures reads { HasReadOneAtMost (F.ledger files.old).read (F.ledger files.new) }
     ensures fresh { OnOk result (IsFresh solved.new) }
     ensures ended { OnOk result (ended_in solved.new ≡ ended_in solved.old + 1) }
     ensures site { IsOfSameSite solved.old solved.new }
@@ -137,9 +139,9 @@ fn plan_host<'a, F: MergeFiles>(
         → StopsSecond host were index (F.ledger files.old).read (F.ledger files.new)
         (F.has_failed files.new) fault) }
     ensures clear { OnOk result ((F.ledger files.new).is_clear ≡ true) }
-    ensures begun { MatchResult result
-        (λ _. (F.ledger files.new).begun ≡ (F.ledger files.old).begun ++ name.now ∷ [])
-        (λ _. HasBegun (name.now ∷ []) (F.ledger files.old) (F.ledger files.new)) }
+    ensures begun { OnErr result
+        (HasBegun (name.now ∷ []) (F.ledger files.old) (F.ledger files.new)) }
+    ensures left { OnErr result (PlanBrokeOff (F.ledger files.old) (F.ledger files.new)) }
     ensures fresh { OnOk result (IsFresh solved.new) }
     ensures ended { OnOk result (ended_in solved.new ≡ index + 1) }
     ensures site { IsOfSameSite solved.old solved.new }
@@ -173,9 +175,9 @@ fn plan_named<'a, F: MergeFiles>(
         → StopsSecond here were index (F.ledger files.old).read (F.ledger files.new)
         (F.has_failed files.new) fault) }
     ensures clear { OnOk result ((F.ledger files.new).is_clear ≡ true) }
-    ensures begun { MatchResult result
-        (λ _. (F.ledger files.new).begun ≡ (F.ledger files.old).begun ++ plan_name host.now ∷ [])
-        (λ _. HasBegun (plan_name host.now ∷ []) (F.ledger files.old) (F.ledger files.new)) }
+    ensures begun { OnErr result
+        (HasBegun (plan_name host.now ∷ []) (F.ledger files.old) (F.ledger files.new)) }
+    ensures left { OnErr result (PlanBrokeOff (F.ledger files.old) (F.ledger files.new)) }
     ensures fresh { OnOk result (IsFresh solved.new) }
     ensures ended { OnOk result (ended_in solved.new ≡ index + 1) }
     ensures site { IsOfSameSite solved.old solved.new }
@@ -203,9 +205,9 @@ pub fn plan_hosts<'a, F: MergeFiles>(
         → StopsPlanning read (F.ledger files.old) (F.ledger files.new) (F.has_failed files.new)
         fault) }
     ensures clear { OnOk result ((F.ledger files.new).is_clear ≡ true) }
-    ensures begun { MatchResult result
-        (λ _. (F.ledger files.new).begun ≡ (F.ledger files.old).begun ++ map plan_name hosts.now)
-        (λ _. HasBegun (map plan_name hosts.now) (F.ledger files.old) (F.ledger files.new)) }
+    ensures left { OnErr result
+        ((read : List (Host × List Entry)) → WereRead solved.old read
+        → PlansBrokeOff hosts.now solved.old read (F.ledger files.old) (F.ledger files.new)) }
     ensures site { IsOfSameSite solved.old solved.new }
 {
     let mut buffers = Buffers {
