@@ -76,7 +76,7 @@ fn end_plan<'a, F: MergeFiles>(
     ensures writes { WritesOnly (F.ledger files.old) (F.ledger files.new) }
     ensures fresh { solved.old.met ≡ None → OnOk result (IsFresh solved.new) }
     ensures ended { OnOk result (ended_in solved.new ≡ ended_in solved.old + 1) }
-    ensures site { IsOfSameSite solved.old solved.new }
+    ensures site { OnOk result (IsOfSameSite solved.old solved.new) }
 {
     plan.clear();
     solved.end_host(plan)?;
@@ -107,7 +107,7 @@ fn plan_reading<'a, F: MergeFiles>(
     ensures kept { IsWithinFile (F.ledger files.old) (F.ledger files.new) }
     ensures fresh { OnOk result (IsFresh solved.new) }
     ensures ended { OnOk result (ended_in solved.new ≡ ended_in solved.old + 1) }
-    ensures site { IsOfSameSite solved.old solved.new }
+    ensures site { OnOk result (IsOfSameSite solved.old solved.new) }
 {
     let mut left = MOST_BYTES;
     while next_piece(files, &mut buffers.bytes, &mut left)? {
@@ -142,7 +142,7 @@ fn plan_host<'a, F: MergeFiles>(
         (λ _. HasBegun (name.now ∷ []) (F.ledger files.old) (F.ledger files.new)) }
     ensures fresh { OnOk result (IsFresh solved.new) }
     ensures ended { OnOk result (ended_in solved.new ≡ index + 1) }
-    ensures site { IsOfSameSite solved.old solved.new }
+    ensures site { OnOk result (IsOfSameSite solved.old solved.new) }
 {
     files.begin(name)?;
     files.open(index)?;
@@ -178,7 +178,7 @@ fn plan_named<'a, F: MergeFiles>(
         (λ _. HasBegun (plan_name host.now ∷ []) (F.ledger files.old) (F.ledger files.new)) }
     ensures fresh { OnOk result (IsFresh solved.new) }
     ensures ended { OnOk result (ended_in solved.new ≡ index + 1) }
-    ensures site { IsOfSameSite solved.old solved.new }
+    ensures site { OnOk result (IsOfSameSite solved.old solved.new) }
 {
     let name = host_file_name(alloc, b"plan.", host)?;
     plan_host(files, solved, index, &name, buffers)
@@ -206,7 +206,7 @@ pub fn plan_hosts<'a, F: MergeFiles>(
     ensures begun { MatchResult result
         (λ _. (F.ledger files.new).begun ≡ (F.ledger files.old).begun ++ map plan_name hosts.now)
         (λ _. HasBegun (map plan_name hosts.now) (F.ledger files.old) (F.ledger files.new)) }
-    ensures site { IsOfSameSite solved.old solved.new }
+    ensures site { OnOk result (IsOfSameSite solved.old solved.new) }
 {
     let mut buffers = Buffers {
         bytes: Vec::new(alloc),

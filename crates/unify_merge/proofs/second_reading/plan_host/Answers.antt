@@ -1,7 +1,9 @@
-use Rattle.std.proofs.Common.{◌++◌, ◌∷◌, [], ap, ◌∙◌}
+use Rattle.std.proofs.Common.{◌++◌, ◌∷◌, [], sym, ap, ◌∙◌}
+use Rattle.std.proofs.lemmas.Result.{err_from_is_err_and}
 use Rattle.unify.specs.SecondPass.{ended_in, whole_plan}
 use Rattle.unify.specs.declared.site_files.NamedText.{NamedText}
 use Rattle.unify_merge.specs.Ledger.{Ledger, Reading, finished_on}
+use Rattle.unify_merge.proofs.Changes.{second_same}
 use Rattle.unify_merge.proofs.second_reading.plan_host.Goals as goal
 
 pub returns-clause-planned : goal.returns-clause-planned
@@ -27,3 +29,12 @@ returns-clause-planned g c = λ host were turn.
       readings = ap (λ (x : Ledger). x.read) done ∙ p.readings ∙ ap (λ (x : Ledger). x.read ++ r ∷ []) opened ∙ ap (λ (x : Ledger). x.read ++ r ∷ []) begun;
       written = λ j. record { read = new.read; reading = new.reading; is_clear = clear j; begun = names j; finished = finished j; writing = writing j };
     }
+
+pub returns-in_err-plan_reading-clause-stopped : goal.returns-in_err-plan_reading-clause-stopped
+returns-in_err-plan_reading-clause-stopped g c =
+    let p = err_from_is_err_and c.from_residual-in_err-plan_reading.result c.from_residual-in_err-plan_reading.ensures.1 in
+    let now = c.plan_reading.new.files in
+    let read = ap (λ (x : Ledger). x.read) c.in_ok-open.ensures.opened ∙ ap (λ (x : Ledger). x.read) c.in_ok-begin.ensures.begun in
+    let fault = c.in_err-plan_reading.field-0.0 in
+    rw (p.1, p.2) (λ host were turn.
+    second_same host were _ _ _ _ (g.F.ReadFiles.ledger now) (g.F.ReadFiles.has_failed now) fault (sym c.requires.next) read (c.in_err-plan_reading.ensures.stopped host were turn))
