@@ -1,5 +1,5 @@
 -- Why a second reading of an inventory ended early.
-use Rattle.std.proofs.Common.{◌≡◌, ◌+◌, ℕ, Bool, List, length, Result, Ok, Err, ap, inl, inr}
+use Rattle.std.proofs.Common.{◌≡◌, ◌+◌, ℕ, Bool, List, length, Result, Ok, Err, ap, subst, inl, inr}
 use Rattle.std.specs.Prelude.{IfSome}
 use Rattle.mtree_inv.specs.declared.entry.Entry.{Entry}
 use Rattle.hosts_join.specs.declared.host.Host.{Host}
@@ -50,3 +50,8 @@ pub second_whole_stop : (host : Host) (were : List Entry) (index : ℕ) (text : 
 second_whole_stop host were index text before l failed Failed read stops = stops
 second_whole_stop host were index text before l failed TooLarge read stops = absurd stops
 second_whole_stop host were index text before l failed (Refused e) read stops = if_told (told e) _ _ (λ f is. (is.0, (text, inr (read, is.1)))) stops
+
+-- the same reading, told by other words
+pub second_same : (host : Host) (were : List Entry) (i j : ℕ) (before other : List Reading) (l : Ledger) (failed : Bool) (fault : MergeFault) → i ≡ j → before ≡ other → StopsSecond host were i before l failed fault → StopsSecond host were j other l failed fault
+second_same host were i j before other l failed fault same equal stops =
+    subst (λ b. StopsSecond host were j b l failed fault) equal (subst (λ k. StopsSecond host were k before l failed fault) same stops)

@@ -77,7 +77,7 @@ fn end_plan<'a, F: MergeFiles>(
     ensures writes { WritesOnly (F.ledger files.old) (F.ledger files.new) }
     ensures fresh { solved.old.met ≡ None → OnOk result (IsFresh solved.new) }
     ensures ended { OnOk result (ended_in solved.new ≡ ended_in solved.old + 1) }
-    ensures site { IsOfSameSite solved.old solved.new }
+    ensures site { OnOk result (IsOfSameSite solved.old solved.new) }
 {
     plan.clear();
     solved.end_host(plan)?;
@@ -109,7 +109,7 @@ fn plan_reading<'a, F: MergeFiles>(
     ensures reads { HasReadOneAtMost (F.ledger files.old).read (F.ledger files.new) }
     ensures fresh { OnOk result (IsFresh solved.new) }
     ensures ended { OnOk result (ended_in solved.new ≡ ended_in solved.old + 1) }
-    ensures site { IsOfSameSite solved.old solved.new }
+    ensures site { OnOk result (IsOfSameSite solved.old solved.new) }
 {
     let mut left = MOST_BYTES;
     while next_piece(files, &mut buffers.bytes, &mut left)? {
@@ -144,7 +144,7 @@ fn plan_host<'a, F: MergeFiles>(
     ensures left { OnErr result (PlanBrokeOff (F.ledger files.old) (F.ledger files.new)) }
     ensures fresh { OnOk result (IsFresh solved.new) }
     ensures ended { OnOk result (ended_in solved.new ≡ index + 1) }
-    ensures site { IsOfSameSite solved.old solved.new }
+    ensures site { OnOk result (IsOfSameSite solved.old solved.new) }
 {
     files.begin(name)?;
     files.open(index)?;
@@ -180,7 +180,7 @@ fn plan_named<'a, F: MergeFiles>(
     ensures left { OnErr result (PlanBrokeOff (F.ledger files.old) (F.ledger files.new)) }
     ensures fresh { OnOk result (IsFresh solved.new) }
     ensures ended { OnOk result (ended_in solved.new ≡ index + 1) }
-    ensures site { IsOfSameSite solved.old solved.new }
+    ensures site { OnOk result (IsOfSameSite solved.old solved.new) }
 {
     let name = host_file_name(alloc, b"plan.", host)?;
     plan_host(files, solved, index, &name, buffers)
@@ -208,7 +208,7 @@ pub fn plan_hosts<'a, F: MergeFiles>(
     ensures left { OnErr result
         ((read : List (Host × List Entry)) → WereRead solved.old read
         → PlansBrokeOff hosts.now solved.old read (F.ledger files.old) (F.ledger files.new)) }
-    ensures site { IsOfSameSite solved.old solved.new }
+    ensures site { OnOk result (IsOfSameSite solved.old solved.new) }
 {
     let mut buffers = Buffers {
         bytes: Vec::new(alloc),

@@ -1,10 +1,12 @@
-use Rattle.std.proofs.Common.{◌++◌, ◌∷◌, [], List, ap, subst, ◌∙◌}
+use Rattle.std.proofs.Common.{◌++◌, ◌∷◌, [], List, sym, ap, subst, ◌∙◌}
+use Rattle.std.proofs.lemmas.Result.{err_from_is_err_and}
 use Rattle.unify.specs.SecondPass.{ended_in, whole_plan}
 use Rattle.unify.specs.declared.site_files.NamedText.{NamedText}
 use Rattle.unify_merge.specs.Ledger.{Ledger, Reading, finished_on}
 use Rattle.unify_merge.specs.SecondReading.{HasReadOneAtMost, PlanBrokeOff}
 use Rattle.unify_merge.proofs.Begun.{on_err}
 use Rattle.unify_merge.proofs.BreakingOff.{finishes_none, has_read_none}
+use Rattle.unify_merge.proofs.Changes.{second_same}
 use Rattle.unify_merge.proofs.second_reading.plan_host.Goals as goal
 
 pub returns-clause-planned : goal.returns-clause-planned
@@ -75,3 +77,12 @@ returns-in_err-finish-clause-left g c =
       no_file = finishes_none old new (ap (λ (l : Ledger). l.is_clear) none ∙ ap (λ (l : Ledger). l.is_clear) kept ∙ ap (λ (l : Ledger). l.is_clear) opened ∙ ap (λ (l : Ledger). l.is_clear) begun)
           (ap (λ (l : Ledger). l.finished) none ∙ ap (λ (l : Ledger). l.finished) kept ∙ ap (λ (l : Ledger). l.finished) opened ∙ ap (λ (l : Ledger). l.finished) begun);
     })
+
+pub returns-in_err-plan_reading-clause-stopped : goal.returns-in_err-plan_reading-clause-stopped
+returns-in_err-plan_reading-clause-stopped g c =
+    let p = err_from_is_err_and c.from_residual-in_err-plan_reading.result c.from_residual-in_err-plan_reading.ensures.1 in
+    let now = c.plan_reading.new.files in
+    let read = ap (λ (x : Ledger). x.read) c.in_ok-open.ensures.opened ∙ ap (λ (x : Ledger). x.read) c.in_ok-begin.ensures.begun in
+    let fault = c.in_err-plan_reading.field-0.0 in
+    rw (p.1, p.2) (λ host were turn.
+    second_same host were _ _ _ _ (g.F.ReadFiles.ledger now) (g.F.ReadFiles.has_failed now) fault (sym c.requires.next) read (c.in_err-plan_reading.ensures.stopped host were turn))

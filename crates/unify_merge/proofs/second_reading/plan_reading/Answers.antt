@@ -138,7 +138,7 @@ returns-clause-ended g c =
     subst (λ n. OnOk c.end_plan.result (ended_in c.end_plan.new.solved ≡ n + 1)) (ap ended_in inv.come) c.end_plan.ensures.ended
 
 pub returns-clause-site : goal.returns-clause-site
-returns-clause-site g c = same_site c.args.solved.now c.loop-files.solved c.end_plan.new.solved c.loop-files.invariant.come c.end_plan.ensures.site
+returns-clause-site g c = on_ok c.end_plan.result _ _ (same_site c.args.solved.now c.loop-files.solved c.end_plan.new.solved c.loop-files.invariant.come) c.end_plan.ensures.site
 
 pub returns-in_err-next_piece-clause-reads : goal.returns-in_err-next_piece-clause-reads
 returns-in_err-next_piece-clause-reads g c =
