@@ -1,7 +1,7 @@
 //! The second reading of the inventories: plans are written.
 
 ghost use Rattle.std.specs.Prelude.{◌≡◌, ◌+◌, ◌<◌, ◌++◌, ◌∷◌, [], ℕ, List, length, map, true, Some};
-ghost use Rattle.std.specs.Prelude.{None, IfOk, OnOk, IfErr, OnErr, MatchResult};
+ghost use Rattle.std.specs.Prelude.{None, OnOk, IfErr, OnErr, MatchResult};
 ghost use Rattle.mtree_inv.specs.declared.entry.Entry.{Entry};
 ghost use Rattle.hosts_join.specs.declared.host.Host.{Host};
 ghost use Rattle.unify.specs.SecondPass.{IsFresh, IsNext, IsOfSameSite, WereFirst, ended_in};
