@@ -12,10 +12,9 @@ use Rattle.unify.proofs.Agreeing.{item_at}
 use Rattle.unify.proofs.SiteRuns.{some_same}
 use Rattle.unify_merge.specs.Ledger.{Ledger}
 use Rattle.unify_merge.specs.FirstReading.{readings_from}
-use Rattle.unify_merge.specs.SecondReading.{ArePlanned, IsChangeFault, IsTurnOf, StopsPlanning, StopsSecond, WereRead}
+use Rattle.unify_merge.specs.SecondReading.{ArePlanned, IsChangeFault, IsTurnOf, PlannedSoFar, StopsPlanning, StopsSecond, WereRead}
 use Rattle.unify_merge.specs.declared.fault.MergeFault.{MergeFault}
 use Rattle.unify_merge.specs.declared.fault.MergeFault.TheVariants.{Failed, TooLarge, Refused}
-use Rattle.unify_merge.proofs.Planned.{PlannedSoFar}
 use Rattle.unify_merge.proofs.Stops.{if_told}
 
 mapped_at : {A B : Type 0} (f : A → B) (xs : List A) (k : ℕ) (x : A) → slice_get xs k ≡ Some x → slice_get (map f xs) k ≡ Some (f x)
@@ -57,34 +56,34 @@ pub planning_stopped : (names : List HostText) (s : SolvedValue) (read : List (H
 planning_stopped names s read index host were old mid new failed Failed so_far at stops = stops
 planning_stopped names s read index host were old mid new failed TooLarge so_far at stops = stops
 planning_stopped names s read index host were old mid new failed (Refused e) so_far at stops = if_told (told e) _ _ (λ f is. record {
-  texts = so_far.texts;
+  texts = so_far.site.texts;
   host = host;
   were = were;
-  here = subst (λ k. slice_get read k ≡ Some (host, were)) (sym so_far.texts_are) at;
-  change = subst (λ k. IsChangeFault host were k (old.read ++ readings_from 0 so_far.texts) new f) (sym so_far.texts_are) (subst (λ b. IsChangeFault host were index b new f) so_far.readings is);
+  here = subst (λ k. slice_get read k ≡ Some (host, were)) (sym so_far.site.texts_are) at;
+  change = subst (λ k. IsChangeFault host were k (old.read ++ readings_from 0 so_far.site.texts) new f) (sym so_far.site.texts_are) (subst (λ b. IsChangeFault host were index b new f) so_far.readings is);
 }) stops
 
 -- the plans of all hosts
 pub all_planned : (names : List HostText) (s : SolvedValue) (read : List (Host × List Entry)) (index : ℕ) (old new : Ledger) → PlannedSoFar names s read index old new → WereRead s read → index ≡ length s.hosts → ArePlanned names s read old new
 all_planned names s read index old new so_far was all = record {
   site = record {
-    texts = so_far.texts;
-    one_each = so_far.texts_are ∙ all;
-    again = so_far.again;
-    accepted = so_far.accepted;
+    texts = so_far.site.texts;
+    one_each = so_far.site.texts_are ∙ all;
+    again = so_far.site.again;
+    accepted = so_far.site.accepted;
     same = record {
-      one_each = omega (arith, so_far.again_are, all, read_len s read was);
+      one_each = omega (arith, so_far.site.again_are, all, read_len s read was);
       each_host = λ k host were at.
-          let it = so_far.each_host k host were (omega (arith, slice_get_within read k (host, were) at, all, read_len s read was)) at in
+          let it = so_far.site.each_host k host were (omega (arith, slice_get_within read k (host, were) at, all, read_len s read was)) at in
           (it.0, it.1, it.2.accepted, it.2.same, it.3);
     };
-    plans = so_far.plans;
+    plans = so_far.site.plans;
     whole = record {
-      one_each = omega (arith, so_far.plans_are, so_far.again_are);
+      one_each = omega (arith, so_far.site.plans_are, so_far.site.again_are);
       each_plan = λ k host files at.
-          let within : k < index = omega (arith, slice_get_within so_far.again k (host, files) at, so_far.again_are) in
+          let within : k < index = omega (arith, slice_get_within so_far.site.again k (host, files) at, so_far.site.again_are) in
           let here = item_at read k (omega (arith, within, all, read_len s read was)) in
-          let it = so_far.each_host k here.0.0 here.0.1 within here.1 in
+          let it = so_far.site.each_host k here.0.0 here.0.1 within here.1 in
           let pair : (here.0.0, it.1) ≡ (host, files) = some_same (here.0.0, it.1) (host, files) (sym it.3 ∙ at) in
           it.4 ∙ (λ j. Some (whole_plan (pair j).0 s.joined s.merged k (pair j).1));
     };

@@ -1,11 +1,19 @@
--- Files that were begun, in their order.
-use Rattle.std.proofs.Common.{◌≡◌, ◌++◌, ◌∷◌, [], ℕ, zero, suc, Bool, true, false, List, map, take, drop, Some, Result, Ok, Err, refl, sym, ap, ◌∙◌, append_assoc, append-nil}
-use Rattle.std.specs.Prelude.{OnErr}
-use Rattle.std.specs.List.{slice_get}
+-- Names of files that were begun, in their order.
+use Rattle.std.proofs.Common.{◌≡◌, ◌++◌, ◌∷◌, [], ℕ, Bool, true, false, List, length, map, Result, Ok, Err, refl, sym, ap, ◌∙◌, arith, append_assoc, append-nil}
+use Rattle.std.proofs.lemmas.List.{map-append}
+use Rattle.std.specs.Prelude.{OnErr, codes}
+use Rattle.hosts_join.specs.Site.{Joined}
+use Rattle.hosts_join.specs.declared.host.Host.{Host}
+use Rattle.hosts_join.specs.declared.texts.HostText.{HostText}
+use Rattle.ownership.specs.Mappings.{Mappings}
+use Rattle.unify.specs.HostTexts.{host_files}
+use Rattle.unify.specs.Passes.{BegunSite}
 use Rattle.unify.specs.declared.outcome.Outcome.{Outcome}
-use Rattle.unify_merge.specs.Ledger.{HasBegun, Ledger, after_files, cleared}
-use Rattle.unify_merge.specs.HostFiles.{HasFiles}
-use Rattle.unify_merge.specs.Merge.{account_files, account_names, first_files, first_names}
+use Rattle.unify.specs.declared.site_files.NamedText.{NamedText}
+use Rattle.unify_merge.specs.Ledger.{BrokeOff, HasBegun, Ledger}
+use Rattle.unify_merge.specs.HostFiles.{host_names}
+use Rattle.unify_merge.specs.Merge.{files_before_report, first_files, first_names, names_before_report}
+use Rattle.unify_merge.specs.SecondReading.{plan_files, plan_name}
 
 -- an error, and what follows from one
 pub on_err : {T E : Type 0} (r : Result T E) (P : Type 0) → P → OnErr r P
@@ -16,20 +24,9 @@ pub on_err_goes : {T E : Type 0} (r : Result T E) (P Q : Type 0) → (P → Q) �
 on_err_goes (Ok x) P Q goes p = tt
 on_err_goes (Err e) P Q goes p = goes p
 
--- more were to come
-pub begun_front : (names more : List (List ℕ)) (old new : Ledger) → HasBegun names old new → HasBegun (names ++ more) old new
-begun_front names more old new b = record { first = b.first; left = b.left ++ more; are = ap (λ ns. ns ++ more) b.are ∙ append_assoc b.first b.left more; begun = b.begun }
+-- ---- an early end
 
--- these came before
-pub begun_behind : (before names : List (List ℕ)) (old mid new : Ledger) → mid.begun ≡ old.begun ++ before → HasBegun names mid new → HasBegun (before ++ names) old new
-begun_behind before names old mid new all b = record {
-  first = before ++ b.first;
-  left = b.left;
-  are = ap (λ ns. before ++ ns) b.are ∙ sym (append_assoc before b.first b.left);
-  begun = b.begun ∙ ap (λ ns. ns ++ b.first) all ∙ append_assoc old.begun before b.first;
-}
-
--- none had come
+-- none had come before
 pub begun_from : (names : List (List ℕ)) (old mid new : Ledger) → mid.begun ≡ old.begun → HasBegun names mid new → HasBegun names old new
 begun_from names old mid new same b = record { first = b.first; left = b.left; are = b.are; begun = b.begun ∙ ap (λ ns. ns ++ b.first) same }
 
@@ -37,24 +34,18 @@ begun_from names old mid new same b = record { first = b.first; left = b.left; a
 pub begun_none : (names : List (List ℕ)) (old new : Ledger) → new.begun ≡ old.begun → HasBegun names old new
 begun_none names old new same = record { first = []; left = names; are = refl; begun = same ∙ sym (append-nil old.begun) }
 
--- all were begun
-pub begun_all : (names : List (List ℕ)) (old new : Ledger) → new.begun ≡ old.begun ++ names → HasBegun names old new
-begun_all names old new all = record { first = names; left = []; are = sym (append-nil names); begun = all }
+-- those of files whose writing broke off
+pub begun_broken : (files : List NamedText) (names : List (List ℕ)) (old new : Ledger) → map (λ file. file.name) files ≡ names → BrokeOff files old new → HasBegun names old new
+begun_broken files names old new same b =
+    let name_of : NamedText → List ℕ = λ file. file.name in
+    record {
+      first = map name_of (b.whole ++ b.next);
+      left = map name_of b.left;
+      are = sym same ∙ ap (map name_of) (b.are ∙ sym (append_assoc b.whole b.next b.left)) ∙ map-append name_of (b.whole ++ b.next) b.left;
+      begun = ap (λ (l : Ledger). l.begun) b.stands;
+    }
 
--- what is made of the items of a list, before one of them and from it on
-pub map_from : {A B : Type 0} (f : A → B) (xs : List A) (k : ℕ) (x : A) → slice_get xs k ≡ Some x → map f xs ≡ map f (take k xs) ++ (f x ∷ map f (drop (suc k) xs))
-map_from f [] k x here = absurd (cc)
-map_from f (y ∷ xs) zero x here = let same : y ≡ x = (cc) in ap (λ z. f z ∷ map f xs) same
-map_from f (y ∷ xs) (suc k) x here = ap (λ ys. f y ∷ ys) (map_from f xs k x here)
-
--- ---- the first files
-
-pub names_of_accounts : (o : Outcome) → map (λ file. file.name) (account_files o) ≡ account_names o.keeps_names
-names_of_accounts o = names_where o.keeps_names
-  where
-    names_where : (keeps : Bool) → map (λ file. file.name) (account_files (record o { keeps_names = keeps })) ≡ account_names keeps
-    names_where true = refl
-    names_where false = refl
+-- ---- the names of the files of a merge
 
 names_of_first : (o : Outcome) → map (λ file. file.name) (first_files o) ≡ first_names o.keeps_names
 names_of_first o = names_where o.keeps_names
@@ -63,12 +54,22 @@ names_of_first o = names_where o.keeps_names
     names_where true = refl
     names_where false = refl
 
--- passwd and group were begun, unless a name is kept
-pub accounts_begun : (o : Outcome) (old new : Ledger) → HasFiles (account_files o) old new → new.begun ≡ old.begun ++ account_names o.keeps_names
-accounts_begun o old new written = ap (λ (l : Ledger). l.begun) written ∙ ap (λ ns. old.begun ++ ns) (names_of_accounts o)
+names_of_plans : (names : List HostText) (plans : List (List ℕ)) → length plans ≡ length names → map (λ file. file.name) (plan_files names plans) ≡ map plan_name names
+names_of_plans [] plans same = refl
+names_of_plans (n ∷ names) [] same = absurd (omega (arith, same))
+names_of_plans (n ∷ names) (p ∷ plans) same = ap (λ ns. plan_name n ∷ ns) (names_of_plans names plans (omega (arith, same)))
 
--- the first files were begun behind what was cleared away
-pub first_begun : (o told : Outcome) (old mid new : Ledger) → told ≡ o → mid ≡ cleared old → new ≡ after_files (first_files told) mid → new.begun ≡ old.begun ++ first_names o.keeps_names
-first_begun o told old mid new same clear written =
-    let names = names_of_first told ∙ ap (λ (x : Outcome). first_names x.keeps_names) same in
-    ap (λ (l : Ledger). l.begun) written ∙ ap (λ ns. mid.begun ++ ns) names ∙ ap (λ (l : Ledger). l.begun ++ first_names o.keeps_names) clear
+names_of_own : (site : Joined) (m : Mappings) (texts : List HostText) (hosts : List Host) → length texts ≡ length hosts → map (λ file. file.name) (host_files site m texts hosts) ≡ host_names texts
+names_of_own site m [] hosts same = refl
+names_of_own site m (t ∷ texts) [] same = absurd (omega (arith, same))
+names_of_own site m (t ∷ texts) (h ∷ hosts) same =
+    let both : List (List ℕ) → List (List ℕ) = λ ns. (codes "passwd." ++ t.name) ∷ (codes "group." ++ t.name) ∷ ns in
+    ap both (names_of_own site m texts hosts (omega (arith, same)))
+
+-- those of all but the report
+pub names_of_files : (names : List HostText) (begun : BegunSite) (m : Mappings) (o : Outcome) → length o.plans ≡ length names → length names ≡ length begun.hosts → map (λ file. file.name) (files_before_report names begun m o) ≡ names_before_report o.keeps_names names
+names_of_files names begun m o plans each_name =
+    let name_of : NamedText → List ℕ = λ file. file.name in
+    let own = host_files begun.joined m names begun.hosts in
+    let rest = map-append name_of (plan_files names o.plans) own ∙ (λ j. names_of_plans names o.plans plans j ++ names_of_own begun.joined m names begun.hosts each_name j) in
+    map-append name_of (first_files o) (plan_files names o.plans ++ own) ∙ (λ j. names_of_first o j ++ rest j)

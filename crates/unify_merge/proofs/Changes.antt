@@ -1,5 +1,5 @@
 -- Why a second reading of an inventory ended early.
-use Rattle.std.proofs.Common.{◌≡◌, ◌+◌, ℕ, Bool, List, length, Result, Ok, Err, ap, inl, inr}
+use Rattle.std.proofs.Common.{◌≡◌, ◌+◌, ℕ, Bool, List, length, Result, Ok, Err, ap, subst, inl, inr}
 use Rattle.std.specs.Prelude.{IfSome}
 use Rattle.mtree_inv.specs.declared.entry.Entry.{Entry}
 use Rattle.hosts_join.specs.declared.host.Host.{Host}
@@ -33,6 +33,12 @@ second_ended host were index left text bytes before old new failed Failed may ea
 second_ended host were index left text bytes before old new failed TooLarge may early = is_too_large index left text bytes new may (ap (λ (l : Ledger). l.reading) early.0) early.1
 second_ended host were index left text bytes before old new failed (Refused e) may early = absurd early
 
+-- and no reading came to its end
+pub early_read : (r : Reading) (bytes : List ℕ) (left : ℕ) (old new : Ledger) (failed : Bool) (fault : MergeFault) → EndsEarly r bytes left old new failed fault → new.read ≡ old.read
+early_read r bytes left old new failed Failed early = ap (λ (l : Ledger). l.read) early.1
+early_read r bytes left old new failed TooLarge early = ap (λ (l : Ledger). l.read) early.0
+early_read r bytes left old new failed (Refused e) early = absurd early
+
 -- its lines have a fault
 pub second_lines_stop : (host : Host) (were : List Entry) (index : ℕ) (text : List ℕ) (before : List Reading) (l : Ledger) (failed : Bool) (fault : MergeFault) → IsReading before index text l → StopsPiece host text failed fault → StopsSecond host were index before l failed fault
 second_lines_stop host were index text before l failed Failed reading stops = stops
@@ -44,3 +50,8 @@ pub second_whole_stop : (host : Host) (were : List Entry) (index : ℕ) (text : 
 second_whole_stop host were index text before l failed Failed read stops = stops
 second_whole_stop host were index text before l failed TooLarge read stops = absurd stops
 second_whole_stop host were index text before l failed (Refused e) read stops = if_told (told e) _ _ (λ f is. (is.0, (text, inr (read, is.1)))) stops
+
+-- the same reading, told by other words
+pub second_same : (host : Host) (were : List Entry) (i j : ℕ) (before other : List Reading) (l : Ledger) (failed : Bool) (fault : MergeFault) → i ≡ j → before ≡ other → StopsSecond host were i before l failed fault → StopsSecond host were j other l failed fault
+second_same host were i j before other l failed fault same equal stops =
+    subst (λ b. StopsSecond host were j b l failed fault) equal (subst (λ k. StopsSecond host were k before l failed fault) same stops)

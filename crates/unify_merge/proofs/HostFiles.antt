@@ -3,11 +3,15 @@ use Rattle.std.proofs.Common.{◌≡◌, ◌++◌, ◌∷◌, [], ℕ, zero, suc
 use Rattle.std.specs.Prelude.{OnOk}
 use Rattle.std.specs.List.{slice_get}
 use Rattle.std.proofs.lemmas.List.{map-append}
+use Rattle.hosts_join.specs.Site.{Joined}
+use Rattle.hosts_join.specs.declared.host.Host.{Host}
 use Rattle.hosts_join.specs.declared.texts.HostText.{HostText}
+use Rattle.ownership.specs.Mappings.{Mappings}
+use Rattle.unify.specs.HostTexts.{group_file, host_files, passwd_file}
 use Rattle.unify.proofs.SiteRuns.{some_same}
 use Rattle.unify.specs.declared.site_files.NamedText.{NamedText}
 use Rattle.unify_merge.specs.Ledger.{Ledger, after_files}
-use Rattle.unify_merge.specs.HostFiles.{HasFiles, host_names, own_names}
+use Rattle.unify_merge.specs.HostFiles.{HasFiles}
 
 -- what follows from a success
 pub on_ok_goes : {T E : Type 0} (r : Result T E) (P Q : Type 0) → (P → Q) → OnOk r P → OnOk r Q
@@ -40,19 +44,17 @@ more_written one two old mid new first then =
     let finished = ap (λ (l : Ledger). l.finished) then ∙ ap (λ (l : Ledger). l.finished ++ two) first ∙ append_assoc old.finished one two in
     λ j. record { read = read j; reading = reading j; is_clear = clear j; begun = begun j; finished = finished j; writing = new.writing }
 
--- ---- one host more
+-- ---- one host
 
-pub host_names_more : (texts : List HostText) (k : ℕ) (text : HostText) → slice_get texts k ≡ Some text → host_names (take (suc k) texts) ≡ host_names (take k texts) ++ own_names text
-host_names_more [] k text at = absurd (cc)
-host_names_more (t ∷ texts) zero text at =
-    let same : t ≡ text = some_same t text at in
-    ap own_names same
-host_names_more (t ∷ texts) (suc k) text at = ap (λ ns. own_names t ++ ns) (host_names_more texts k text at)
-
--- the names before a host, its own, and those behind it
-pub host_names_from : (texts : List HostText) (k : ℕ) (text : HostText) → slice_get texts k ≡ Some text → host_names texts ≡ host_names (take k texts) ++ (own_names text ++ host_names (drop (suc k) texts))
-host_names_from [] k text at = absurd (cc)
-host_names_from (t ∷ texts) zero text at =
-    let same : t ≡ text = some_same t text at in
-    ap (λ x. own_names x ++ host_names texts) same
-host_names_from (t ∷ texts) (suc k) text at = ap (λ ns. own_names t ++ ns) (host_names_from texts k text at)
+-- the files of the hosts before it, its own, and those behind it
+pub host_files_from : (site : Joined) (m : Mappings) (texts : List HostText) (hosts : List Host) (k : ℕ) (text : HostText) (host : Host) → slice_get texts k ≡ Some text → slice_get hosts k ≡ Some host
+    → host_files site m texts hosts ≡ host_files site m (take k texts) hosts ++ (passwd_file host site m text ∷ group_file site m text ∷ host_files site m (drop (suc k) texts) (drop (suc k) hosts))
+host_files_from site m [] hosts k text host at there = absurd (cc)
+host_files_from site m (t ∷ texts) [] k text host at there = absurd (cc)
+host_files_from site m (t ∷ texts) (h ∷ hosts) zero text host at there =
+    let same_text : t ≡ text = some_same t text at in
+    let same_host : h ≡ host = some_same h host there in
+    λ j. passwd_file (same_host j) site m (same_text j) ∷ group_file site m (same_text j) ∷ host_files site m texts hosts
+host_files_from site m (t ∷ texts) (h ∷ hosts) (suc k) text host at there =
+    let both : List NamedText → List NamedText = λ fs. passwd_file h site m t ∷ group_file site m t ∷ fs in
+    ap both (host_files_from site m texts hosts k text host at there)

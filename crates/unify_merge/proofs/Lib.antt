@@ -6,6 +6,9 @@ pub mod Writing
 pub mod HostFiles
 pub mod Planned
 pub mod AllPlanned
+pub mod BreakingOff
+pub mod ReadLast
+pub mod Leaving
 pub mod WholeMerge
 pub mod Inventories
 pub mod WholeCheck

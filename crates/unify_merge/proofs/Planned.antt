@@ -19,24 +19,8 @@ use Rattle.unify.proofs.SiteRuns.{some_same}
 use Rattle.unify.proofs.Sites.{site_given}
 use Rattle.unify.specs.declared.site_files.NamedText.{NamedText}
 use Rattle.unify_merge.specs.Ledger.{Ledger, Reading, after_files}
-use Rattle.unify_merge.specs.FirstReading.{readings_from}
-use Rattle.unify_merge.specs.SecondReading.{HasPlan, IsReadAgain, plan_files, plan_name}
+use Rattle.unify_merge.specs.SecondReading.{ArePlannedFirst, HasPlan, IsReadAgain, PlannedSoFar, plan_files, plan_name}
 use Rattle.unify_merge.proofs.Readings.{read_more}
-
--- The inventories of the first hosts were read again, and their plans are files.
--- index: how many hosts
-pub record PlannedSoFar (names : List HostText) (s : SolvedValue) (read : List (Host × List Entry)) (index : ℕ) (old new : Ledger) : Type 0 where
-  pub texts : List (List ℕ)
-  pub again : List (Host × List Entry)
-  pub plans : List (List ℕ)
-  pub texts_are : length texts ≡ index
-  pub again_are : length again ≡ index
-  pub plans_are : length plans ≡ index
-  pub accepted : each site_of (loaded_from s.hosts texts) ≡ Ok again
-  pub each_host : (k : ℕ) (host : Host) (were : List Entry) → k < index → slice_get read k ≡ Some (host, were)
-      → (text : List ℕ) × (files : List Entry) × IsReadAgain host were text files × (slice_get again k ≡ Some (host, files)) × (slice_get plans k ≡ Some (whole_plan host s.joined s.merged k files))
-  pub readings : new.read ≡ old.read ++ readings_from 0 texts
-  pub files : new ≡ record (after_files (plan_files names plans) old) { read = new.read; reading = new.reading; writing = new.writing }
 
 -- ---- one plan more
 
@@ -65,7 +49,7 @@ files_more one two old mid new first then =
     let finished = ap (λ (l : Ledger). l.finished) then ∙ ap (λ (l : Ledger). l.finished ++ two) first ∙ append_assoc old.finished one two in
     λ j. record { read = new.read; reading = new.reading; is_clear = clear j; begun = begun j; finished = finished j; writing = new.writing }
 
-none_loaded : (hosts : List Host) → loaded_from hosts [] ≡ []
+pub none_loaded : (hosts : List Host) → loaded_from hosts [] ≡ []
 none_loaded [] = refl
 none_loaded (h ∷ hosts) = refl
 
@@ -77,9 +61,9 @@ no_files l =
     λ j. record { read = l.read; reading = l.reading; is_clear = l.is_clear; begun = begun j; finished = finished j; writing = l.writing }
 
 -- no host as yet
-pub none_planned : (names : List HostText) (s : SolvedValue) (read : List (Host × List Entry)) (l : Ledger) → PlannedSoFar names s read 0 l l
+unfoldable pub none_first : (s : SolvedValue) (read : List (Host × List Entry)) → ArePlannedFirst s read 0
 unfolding each
-none_planned names s read l = record {
+none_first s read = record {
   texts = [];
   again = [];
   plans = [];
@@ -88,6 +72,12 @@ none_planned names s read l = record {
   plans_are = refl;
   accepted = ap (each site_of) (none_loaded s.hosts);
   each_host = λ k host were within here. absurd (omega (arith, within));
+}
+
+pub none_planned : (names : List HostText) (s : SolvedValue) (read : List (Host × List Entry)) (l : Ledger) → PlannedSoFar names s read 0 l l
+unfolding none_first
+none_planned names s read l = record {
+  site = none_first s read;
   readings = sym (append-nil l.read);
   files = no_files l ∙ (λ j. record (after_files (sym (plan_files_none names) j) l) { read = l.read; reading = l.reading; writing = l.writing });
 }
@@ -110,30 +100,32 @@ one_planned names s now read index name host were old mid new so_far site ended 
     let written : new ≡ record (after_files (file ∷ []) mid) { read = new.read; reading = new.reading; writing = new.writing } =
     plan.written ∙ (λ j. record (after_files (record { name = plan_name name; text = whole j } ∷ []) mid) { read = new.read; reading = new.reading; writing = sym (ap (λ (x : Ledger). x.writing) plan.written) j }) in
     record {
-      texts = so_far.texts ++ plan.text ∷ [];
-      again = so_far.again ++ (host, plan.files) ∷ [];
-      plans = so_far.plans ++ made ∷ [];
-      texts_are = omega (arith, so_far.texts_are, length-append so_far.texts (plan.text ∷ []));
-      again_are = omega (arith, so_far.again_are, length-append so_far.again ((host, plan.files) ∷ []));
-      plans_are = omega (arith, so_far.plans_are, length-append so_far.plans (made ∷ []));
-      accepted = ap (each site_of) (loaded_push s.hosts so_far.texts host plan.text (subst (λ k. slice_get s.hosts k ≡ Some host) (sym so_far.texts_are) here))
-          ∙ each_push site_of (loaded_from s.hosts so_far.texts) l so_far.again (host, plan.files) so_far.accepted (site_given l plan.text plan.files refl (unchanged host (files_of l) plan.files plan.again.accepted));
-      each_host = λ k other others within at. earlier k other others at (eq-or-lt_of_le (omega (arith, within)));
-      readings = read_more old.read mid.read new.read index so_far.texts plan.text (sym so_far.texts_are) so_far.readings (plan.readings ∙ ap (λ rs. mid.read ++ rs) read_at);
-      files = files_more (plan_files names so_far.plans) (file ∷ []) old mid new so_far.files written
-          ∙ (λ j. record (after_files (sym (plan_files_push names so_far.plans name made (subst (λ k. slice_get names k ≡ Some name) (sym so_far.plans_are) named)) j) old) { read = new.read; reading = new.reading; writing = new.writing });
+      site = record {
+        texts = so_far.site.texts ++ plan.text ∷ [];
+        again = so_far.site.again ++ (host, plan.files) ∷ [];
+        plans = so_far.site.plans ++ made ∷ [];
+        texts_are = omega (arith, so_far.site.texts_are, length-append so_far.site.texts (plan.text ∷ []));
+        again_are = omega (arith, so_far.site.again_are, length-append so_far.site.again ((host, plan.files) ∷ []));
+        plans_are = omega (arith, so_far.site.plans_are, length-append so_far.site.plans (made ∷ []));
+        accepted = ap (each site_of) (loaded_push s.hosts so_far.site.texts host plan.text (subst (λ k. slice_get s.hosts k ≡ Some host) (sym so_far.site.texts_are) here))
+            ∙ each_push site_of (loaded_from s.hosts so_far.site.texts) l so_far.site.again (host, plan.files) so_far.site.accepted (site_given l plan.text plan.files refl (unchanged host (files_of l) plan.files plan.again.accepted));
+        each_host = λ k other others within at. earlier k other others at (eq-or-lt_of_le (omega (arith, within)));
+      };
+      readings = read_more old.read mid.read new.read index so_far.site.texts plan.text (sym so_far.site.texts_are) so_far.readings (plan.readings ∙ ap (λ rs. mid.read ++ rs) read_at);
+      files = files_more (plan_files names so_far.site.plans) (file ∷ []) old mid new so_far.files written
+          ∙ (λ j. record (after_files (sym (plan_files_push names so_far.site.plans name made (subst (λ k. slice_get names k ≡ Some name) (sym so_far.site.plans_are) named)) j) old) { read = new.read; reading = new.reading; writing = new.writing });
     }
   where
     earlier : (k : ℕ) (other : Host) (others : List Entry) → slice_get read k ≡ Some (other, others) → (k ≡ index) ⊎ (k < index)
-        → (text : List ℕ) × (files : List Entry) × IsReadAgain other others text files × (slice_get (so_far.again ++ (host, plan.files) ∷ []) k ≡ Some (other, files))
-        × (slice_get (so_far.plans ++ whole_plan host s.joined s.merged index plan.files ∷ []) k ≡ Some (whole_plan other s.joined s.merged k files))
+        → (text : List ℕ) × (files : List Entry) × IsReadAgain other others text files × (slice_get (so_far.site.again ++ (host, plan.files) ∷ []) k ≡ Some (other, files))
+        × (slice_get (so_far.site.plans ++ whole_plan host s.joined s.merged index plan.files ∷ []) k ≡ Some (whole_plan other s.joined s.merged k files))
     earlier k other others at (inl same) =
         let made = whole_plan host s.joined s.merged index plan.files in
-        let again_at = at_end so_far.again (host, plan.files) k (omega (arith, same, so_far.again_are)) in
-        let plan_at = at_end so_far.plans made k (omega (arith, same, so_far.plans_are)) ∙ ap (λ i. Some (whole_plan host s.joined s.merged i plan.files)) (sym same) in
+        let again_at = at_end so_far.site.again (host, plan.files) k (omega (arith, same, so_far.site.again_are)) in
+        let plan_at = at_end so_far.site.plans made k (omega (arith, same, so_far.site.plans_are)) ∙ ap (λ i. Some (whole_plan host s.joined s.merged i plan.files)) (sym same) in
         let pair : (host, were) ≡ (other, others) = some_same (host, were) (other, others) (sym there ∙ ap (λ i. slice_get read i) (sym same) ∙ at) in
-        subst (λ (p : Host × List Entry). (text : List ℕ) × (files : List Entry) × IsReadAgain p.0 p.1 text files × (slice_get (so_far.again ++ (host, plan.files) ∷ []) k ≡ Some (p.0, files))
-        × (slice_get (so_far.plans ++ made ∷ []) k ≡ Some (whole_plan p.0 s.joined s.merged k files))) pair (plan.text, plan.files, plan.again, again_at, plan_at)
+        subst (λ (p : Host × List Entry). (text : List ℕ) × (files : List Entry) × IsReadAgain p.0 p.1 text files × (slice_get (so_far.site.again ++ (host, plan.files) ∷ []) k ≡ Some (p.0, files))
+        × (slice_get (so_far.site.plans ++ made ∷ []) k ≡ Some (whole_plan p.0 s.joined s.merged k files))) pair (plan.text, plan.files, plan.again, again_at, plan_at)
     earlier k other others at (inr less) =
-        let was = so_far.each_host k other others less at in
-        (was.0, was.1, was.2, at_front so_far.again (host, plan.files) (other, was.1) k was.3, at_front so_far.plans (whole_plan host s.joined s.merged index plan.files) (whole_plan other s.joined s.merged k was.1) k was.4)
+        let was = so_far.site.each_host k other others less at in
+        (was.0, was.1, was.2, at_front so_far.site.again (host, plan.files) (other, was.1) k was.3, at_front so_far.site.plans (whole_plan host s.joined s.merged index plan.files) (whole_plan other s.joined s.merged k was.1) k was.4)

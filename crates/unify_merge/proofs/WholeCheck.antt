@@ -1,8 +1,9 @@
 -- What a check answers, and what it stops for.
-use Rattle.std.proofs.Common.{◌≡◌, ◌++◌, [], ℕ, Bool, List, length, Ok, Err, sym, ap, subst, ◌∙◌, inl, inr}
+use Rattle.std.proofs.Common.{◌≡◌, ◌++◌, ℕ, Bool, List, length, Ok, Err, sym, ap, subst, ◌∙◌, inl, inr}
 use Rattle.std.specs.Prelude.{IfSome}
 use Rattle.idtext.specs.First.{each}
 use Rattle.certcheck.specs.Reading.{certificate_in}
+use Rattle.mtree_inv.specs.declared.entry.Entry.{Entry}
 use Rattle.hosts_join.specs.Site.{Joined}
 use Rattle.hosts_join.specs.declared.host.Host.{Host}
 use Rattle.hosts_join.specs.declared.texts.HostText.{HostText}
@@ -45,7 +46,7 @@ read_site hosts rules begun joined old new texts read is join one_each accepted 
 }
 
 module _ (hosts : List HostText) (rules : SiteRules) (certificate : List ℕ) (old new : Ledger) (joined : Joined) (texts : List (List ℕ)) (read : List (Host × List Entry)) (site : IsReadSite hosts rules old new joined texts read) where
-  whole : WholeSite
+  abbrev pub whole : WholeSite
   whole = record { hosts = read; joined = joined }
 
   -- the answer is that of the counters

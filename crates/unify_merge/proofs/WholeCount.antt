@@ -1,5 +1,5 @@
 -- What a count of a map answers, and what it stops for.
-use Rattle.std.proofs.Common.{◌≡◌, ◌++◌, [], ℕ, Bool, List, length, Ok, sym, subst, ◌∙◌, inr}
+use Rattle.std.proofs.Common.{◌≡◌, ◌++◌, ℕ, Bool, List, length, Ok, sym, ap, subst, ◌∙◌, inr}
 use Rattle.idtext.specs.First.{each}
 use Rattle.hosts_join.specs.declared.host.Host.{Host}
 use Rattle.hosts_join.specs.declared.texts.HostText.{HostText}

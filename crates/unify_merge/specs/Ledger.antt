@@ -1,7 +1,7 @@
 -- What was read and written, as the calls tell it that succeeded.
 -- Source: this project's own rule.
-use Rattle.std.specs.Prelude.{◌≡◌, ℕ, Bool, true, false, List, [], ◌∷◌, ◌++◌, map, Option, Some}
-use Rattle.std.specs.Prelude.{None}
+use Rattle.std.specs.Prelude.{◌≡◌, ◌≤◌, ℕ, Bool, true, false, List, [], ◌∷◌, ◌++◌, length, map}
+use Rattle.std.specs.Prelude.{Option, Some, None}
 use Rattle.unify.specs.declared.site_files.NamedText.{NamedText}
 
 -- a reading of the inventory of the host with the index, as far as it went
@@ -98,3 +98,17 @@ pub record HasBegun (names : List (List ℕ)) (old new : Ledger) : Type 0 where
   pub left : List (List ℕ)
   pub are : names ≡ first ++ left
   pub begun : new.begun ≡ old.begun ++ first
+
+-- The writing of these files broke off: the first of them are whole, in order; at most the next was
+-- begun and is not; and nothing else was done.
+pub record BrokeOff (files : List NamedText) (old new : Ledger) : Type 0 where
+  pub whole : List NamedText
+  pub next : List NamedText
+  pub left : List NamedText
+  pub are : files ≡ whole ++ (next ++ left)
+  pub one_at_most : length next ≤ 1
+  pub stands : new
+      ≡ record (after_files whole old) {
+        begun = old.begun ++ map (λ file. file.name) (whole ++ next);
+        writing = new.writing;
+      }

@@ -1,7 +1,7 @@
 -- What a merge does, from the bytes that it reads to the bytes of each file.
 -- Source: this project's own rule.
-use Rattle.std.specs.Prelude.{◌≡◌, ℕ, ◌⊎◌, Bool, true, false, List, [], ◌∷◌, ◌++◌, length, map}
-use Rattle.std.specs.Prelude.{if◌then◌else◌, codes, Some, Result, Ok, Err, IfSome, slice_get}
+use Rattle.std.specs.Prelude.{◌≡◌, ◌<◌, ◌≤◌, ◌+◌, ℕ, ◌⊎◌, Bool, true, false, List, [], ◌∷◌, ◌++◌}
+use Rattle.std.specs.Prelude.{length, map, drop, if◌then◌else◌, codes, Result, Ok, Err, IfSome}
 use Rattle.idtext.specs.First.{each}
 use Rattle.mtree_inv.specs.declared.entry.Entry.{Entry}
 use Rattle.hosts_join.specs.declared.host.Host.{Host}
@@ -23,11 +23,12 @@ use Rattle.unify.specs.Merging.{IsMerged, mappings_in}
 use Rattle.unify.specs.Outcomes.{IsOutcome}
 use Rattle.unify.specs.Passes.{BegunSite, site_begun}
 use Rattle.unify.specs.SecondPass.{IsFresh, SolvedValue, ended_in}
-use Rattle.unify_merge.specs.Ledger.{Ledger, after_files, cleared}
+use Rattle.unify_merge.specs.Ledger.{BrokeOff, Ledger, after_files, cleared}
 use Rattle.unify_merge.specs.FirstReading.{IsInventoryFault, IsTooLarge, ReadsOnly, readings_from}
 use Rattle.unify_merge.specs.HostFiles.{host_names}
-use Rattle.unify_merge.specs.SecondReading.{IsPlannedAgain, IsSiteChange, WereRead, plan_files}
-use Rattle.unify_merge.specs.SecondReading.{plan_name}
+use Rattle.unify_merge.specs.SecondReading.{ArePlannedFirst, IsPlannedAgain, IsSiteChange}
+use Rattle.unify_merge.specs.SecondReading.{HasReadOneAtMost, WereRead, plan_files, plan_name}
+use Rattle.unify_merge.specs.SecondReading.{plans_from}
 use Rattle.unify_merge.specs.declared.fault.MergeFault.{MergeFault}
 use Rattle.unify_merge.specs.declared.fault.MergeFault.TheVariants.{Failed, TooLarge, Refused}
 
@@ -57,6 +58,12 @@ merged_files texts begun m outcome =
     first_files outcome
     ++ (plan_files texts outcome.plans
     ++ (host_files begun.joined m texts begun.hosts ++ report_file outcome ∷ []))
+
+-- all but the report, in this order
+abbrev pub files_before_report : List HostText → BegunSite → Mappings → Outcome → List NamedText
+files_before_report texts begun m outcome =
+    first_files outcome
+    ++ (plan_files texts outcome.plans ++ host_files begun.joined m texts begun.hosts)
 
 -- the names of those before the report, in this order, where a name of the hosts is kept or none is
 abbrev pub account_names : Bool → List (List ℕ)
@@ -182,3 +189,52 @@ StopsMerge texts rules old new failed Failed = failed ≡ true
 StopsMerge texts rules old new failed TooLarge = IsTooLarge new
 StopsMerge texts rules old new failed (Refused e) =
     IfSome (told e) (IsMergeFault texts rules old new)
+
+-- ---- what an early end leaves
+
+-- What was merged was being written behind a clearing away, and that broke off. The inventories of
+-- the first hosts were read again, and the plans of these are for the files that they have now;
+-- those of the others would be for the files that they had.
+-- index: how many hosts
+pub record WritingBrokeOff (names : List HostText) (s : SolvedValue)
+    (read : List (Host × List Entry)) (old new : Ledger) : Type 0 where
+  pub index : ℕ
+  pub within : index ≤ length names
+  pub site : ArePlannedFirst s read index
+  pub reads : HasReadOneAtMost (old.read ++ readings_from 0 site.texts) new
+  pub files : BrokeOff
+      (files_before_report names (record { hosts = s.hosts; joined = s.joined })
+      (mappings_in s.merged)
+      (record s.merged.outcome { plans = site.plans ++ plans_from s index (drop index read) }))
+      (record (cleared old) { read = new.read; reading = new.reading }) new
+  pub in_turn : index < length names
+      → length files.whole ≤ length (first_files s.merged.outcome) + index
+
+-- The tables and the rules were read, and the inventory of each host, all of which are accepted;
+-- the inventories of the first hosts were read again, and are accepted again. Behind a clearing
+-- away the files of an outcome were being written that is right, with the headline, for the
+-- inventories as they were read last, and that broke off before the report: which of them are whole
+-- is known, with their bytes. No plan is whole of a host whose inventory was not read again, and no
+-- host's own file before all were.
+pub record MergeBrokeOff (texts : List HostText) (rules : SiteRules) (old new : Ledger) : Type 0
+  where
+    pub begun : BegunSite
+    pub begun_is : site_begun texts rules ≡ Ok begun
+    pub first : List (List ℕ)
+    pub were : List (Host × List Entry)
+    pub first_read : AreInventories begun.hosts first were
+    pub again : List (List ℕ)
+    pub last : List (Host × List Entry)
+    pub last_read : AreInventories begun.hosts (again ++ drop (length again) first) last
+    pub reads : HasReadOneAtMost ((old.read ++ readings_from 0 first) ++ readings_from 0 again) new
+    pub outcome : Outcome
+    pub is_right : IsOutcome (record { hosts = last; joined = begun.joined }) outcome
+    pub is_believed : Headline (record { hosts = last; joined = begun.joined }) outcome
+    pub files : BrokeOff (files_before_report texts begun is_believed.mappings outcome)
+        (record (cleared old) { read = new.read; reading = new.reading }) new
+    pub in_turn : length again < length texts
+        → length files.whole ≤ length (first_files outcome) + length again
+
+-- nothing was written or cleared away; or all inventories were accepted, and the writing broke off
+abbrev pub Leaves : List HostText → SiteRules → Ledger → Ledger → Type 0
+Leaves texts rules old new = ReadsOnly old new ⊎ MergeBrokeOff texts rules old new

@@ -1,7 +1,7 @@
 -- The inventories as they are read the second time, while plans are written.
 -- Source: this project's own rule.
-use Rattle.std.specs.Prelude.{◌≡◌, ℕ, ◌⊎◌, Bool, true, List, [], ◌∷◌, ◌++◌, length, map, codes}
-use Rattle.std.specs.Prelude.{Some, Ok, Err, IfSome, slice_get}
+use Rattle.std.specs.Prelude.{◌≡◌, ◌≤◌, ◌<◌, ◌+◌, ℕ, ◌⊎◌, Bool, true, List, [], ◌∷◌, ◌++◌, length}
+use Rattle.std.specs.Prelude.{map, codes, Some, Ok, Err, IfSome, slice_get}
 use Rattle.idtext.specs.First.{each}
 use Rattle.mtree_inv.specs.declared.entry.Entry.{Entry}
 use Rattle.hosts_join.specs.declared.host.Host.{Host}
@@ -16,7 +16,7 @@ use Rattle.unify.specs.SecondPass.{HaveSameCounts, IsFresh, SolvedValue, WereFir
 use Rattle.unify.specs.SecondPass.{first_in, second_files, second_lines, whole_plan}
 use Rattle.unify.specs.TwoPasses.{AreReadAgain, AreWholePlans}
 use Rattle.unify.specs.declared.site_files.NamedText.{NamedText}
-use Rattle.unify_merge.specs.Ledger.{Ledger, Reading, after_files}
+use Rattle.unify_merge.specs.Ledger.{HasBegun, Ledger, Reading, after_files}
 use Rattle.unify_merge.specs.FirstReading.{HasRead, IsReading, IsTooLarge, readings_from}
 use Rattle.unify_merge.specs.declared.fault.MergeFault.{MergeFault}
 use Rattle.unify_merge.specs.declared.fault.MergeFault.TheVariants.{Failed, TooLarge, Refused}
@@ -105,6 +105,28 @@ pub record HasPlan (s : SolvedValue) (host : Host) (were : List Entry) (name : L
       (record { name = name; text = whole_plan host s.joined s.merged (ended_in s) files } ∷ [])
       old) { read = new.read; reading = new.reading }
 
+-- behind some readings at most one more came to its end
+pub record HasReadOneAtMost (before : List Reading) (l : Ledger) : Type 0 where
+  pub more : List Reading
+  pub one_at_most : length more ≤ 1
+  pub readings : l.read ≡ before ++ more
+
+-- no file became whole, and nothing was cleared away
+abbrev pub FinishesNone : Ledger → Ledger → Type 0
+FinishesNone old new =
+    new
+    ≡ record old {
+      read = new.read;
+      reading = new.reading;
+      begun = new.begun;
+      writing = new.writing;
+    }
+
+-- a plan broke off, and is no file
+pub record PlanBrokeOff (old new : Ledger) : Type 0 where
+  pub reads : HasReadOneAtMost old.read new
+  pub no_file : FinishesNone old new
+
 -- ---- those of all inventories
 
 -- the file of a host's plan
@@ -146,6 +168,55 @@ pub record ArePlanned (names : List HostText) (s : SolvedValue) (read : List (Ho
         reading = new.reading;
         writing = new.writing;
       }
+
+-- The inventories of the first hosts were read again as these texts, of which each user and each
+-- group of each of these hosts owns as many files as before; and these are the plans for the files
+-- that they have now.
+-- index: how many hosts
+pub record ArePlannedFirst (s : SolvedValue) (read : List (Host × List Entry)) (index : ℕ) : Type 0
+  where
+    pub texts : List (List ℕ)
+    pub again : List (Host × List Entry)
+    pub plans : List (List ℕ)
+    pub texts_are : length texts ≡ index
+    pub again_are : length again ≡ index
+    pub plans_are : length plans ≡ index
+    pub accepted : each site_of (loaded_from s.hosts texts) ≡ Ok again
+    pub each_host : (k : ℕ) (host : Host) (were : List Entry) → k < index
+        → slice_get read k ≡ Some (host, were)
+        → (text : List ℕ) × (files : List Entry) × IsReadAgain host were text files
+        × (slice_get again k ≡ Some (host, files))
+        × (slice_get plans k ≡ Some (whole_plan host s.joined s.merged k files))
+
+-- they were read so, and these plans are files now
+pub record PlannedSoFar (names : List HostText) (s : SolvedValue) (read : List (Host × List Entry))
+    (index : ℕ) (old new : Ledger) : Type 0 where
+  pub site : ArePlannedFirst s read index
+  pub readings : new.read ≡ old.read ++ readings_from 0 site.texts
+  pub files : new
+      ≡ record (after_files (plan_files names site.plans) old) {
+        read = new.read;
+        reading = new.reading;
+        writing = new.writing;
+      }
+
+-- the plans of the first hosts are files now, and that of the next, which at most was begun, broke
+-- off
+pub record PlansBrokeOff (names : List HostText) (s : SolvedValue) (read : List (Host × List Entry))
+    (old new : Ledger) : Type 0 where
+  pub index : ℕ
+  pub name : HostText
+  pub here : slice_get names index ≡ Some name
+  pub middle : Ledger
+  pub so_far : PlannedSoFar names s read index old middle
+  pub begun : HasBegun (plan_name name ∷ []) middle new
+  pub next : PlanBrokeOff middle new
+
+-- the plans of the hosts from an index on, for these files of theirs
+abbrev pub plans_from : SolvedValue → ℕ → List (Host × List Entry) → List (List ℕ)
+plans_from s index [] = []
+plans_from s index (host ∷ hosts) =
+    whole_plan host.0 s.joined s.merged index host.1 ∷ plans_from s (index + 1) hosts
 
 -- the inventories of the first hosts were read again, and that of the next is not what it was
 pub record IsSiteChange (read : List (Host × List Entry)) (old new : Ledger) (f : Fault) : Type 0

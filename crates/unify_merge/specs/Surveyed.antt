@@ -15,7 +15,7 @@ use Rattle.unify_merge.specs.Check.{HasChecked, StopsCheck}
 use Rattle.unify_merge.specs.Count.{HasCounted, StopsCount}
 use Rattle.unify_merge.specs.FirstReading.{IsTooLarge, ReadsOnly, readings_from}
 use Rattle.unify_merge.specs.Ledger.{Ledger}
-use Rattle.unify_merge.specs.Merge.{HasMerged, StopsMerge}
+use Rattle.unify_merge.specs.Merge.{HasMerged, MergeBrokeOff, StopsMerge}
 use Rattle.unify_merge.specs.Survey.{IsSurveyFault}
 use Rattle.unify_merge.specs.declared.fault.MergeFault.{MergeFault}
 use Rattle.unify_merge.specs.declared.fault.MergeFault.TheVariants.{Failed, TooLarge, Refused}
@@ -69,6 +69,13 @@ StopsMergeFiles hosts pins keep old new failed fault =
     StopsFinding hosts keep old new failed fault
     ⊎ Behind hosts keep old
     (λ unowned middle. StopsMerge hosts (rules_by pins keep unowned) middle new failed fault)
+
+-- nothing was written or cleared away; or behind the survey the writing broke off
+abbrev pub LeavesFiles : List HostText → List ℕ → List ℕ → Ledger → Ledger → Type 0
+LeavesFiles hosts pins keep old new =
+    ReadsOnly old new
+    ⊎ Behind hosts keep old
+    (λ unowned middle. MergeBrokeOff hosts (rules_by pins keep unowned) middle new)
 
 abbrev pub HasCheckedFiles : List HostText → List ℕ → List ℕ → List ℕ → Ledger → Ledger → ℕ
     → Type 0

@@ -1,12 +1,12 @@
 //! Each host's own passwd and group with their new numbers are written.
 
-ghost use Rattle.std.specs.Prelude.{◌≡◌, ◌<◌, ◌++◌, ◌∷◌, [], codes, length, true, Some, slice_get};
-ghost use Rattle.std.specs.Prelude.{IfOk, OnOk, IfErr, OnErr, MatchResult};
+ghost use Rattle.std.specs.Prelude.{◌≡◌, ◌<◌, ◌++◌, ◌∷◌, [], length, true, Some, slice_get};
+ghost use Rattle.std.specs.Prelude.{IfOk, OnOk, IfErr, OnErr};
 ghost use Rattle.hosts_join.specs.declared.host.Host.{Host};
 ghost use Rattle.unify.specs.HostTexts.{group_file, host_files, passwd_file};
 ghost use Rattle.unify.specs.Merging.{mappings_in};
-ghost use Rattle.unify_merge.specs.Ledger.{HasBegun, after_files};
-ghost use Rattle.unify_merge.specs.HostFiles.{HasFiles, StopsWriting, host_names, own_names};
+ghost use Rattle.unify_merge.specs.Ledger.{BrokeOff, after_files};
+ghost use Rattle.unify_merge.specs.HostFiles.{HasFiles, StopsWriting};
 
 use crate::fault::MergeFault;
 use crate::files::MergeFiles;
@@ -29,8 +29,9 @@ fn write_text<'a, F: MergeFiles>(
         ≡ after_files (record { name = start.now ++ host.now.name; text = text.now } ∷ [])
         (F.ledger files.old)) }
     ensures stopped { IfErr result (StopsWriting (F.has_failed files.new)) }
-    ensures begun { OnErr result
-        (HasBegun ((start.now ++ host.now.name) ∷ []) (F.ledger files.old) (F.ledger files.new)) }
+    ensures left { OnErr result
+        (BrokeOff (record { name = start.now ++ host.now.name; text = text.now } ∷ [])
+        (F.ledger files.old) (F.ledger files.new)) }
 {
     let name = host_file_name(alloc, start, host)?;
     write_file(files, &name, text)?;
@@ -54,9 +55,11 @@ fn write_passwd<'a, F: MergeFiles>(
         (passwd_file here solved.now.joined (mappings_in solved.now.merged) host.now ∷ [])
         (F.ledger files.old)) }
     ensures stopped { IfErr result (StopsWriting (F.has_failed files.new)) }
-    ensures begun { OnErr result
-        (HasBegun ((codes "passwd." ++ host.now.name) ∷ []) (F.ledger files.old)
-        (F.ledger files.new)) }
+    ensures left { OnErr result
+        ((here : Host) → slice_get solved.now.hosts index ≡ Some here
+        → BrokeOff
+        (passwd_file here solved.now.joined (mappings_in solved.now.merged) host.now ∷ [])
+        (F.ledger files.old) (F.ledger files.new)) }
 {
     let text = solved.host_passwd(index, host.passwd.bytes())?;
     write_text(alloc, files, b"passwd.", host, &text)
@@ -75,9 +78,9 @@ fn write_group<'a, F: MergeFiles>(
         ≡ after_files (group_file solved.now.joined (mappings_in solved.now.merged) host.now ∷ [])
         (F.ledger files.old)) }
     ensures stopped { IfErr result (StopsWriting (F.has_failed files.new)) }
-    ensures begun { OnErr result
-        (HasBegun ((codes "group." ++ host.now.name) ∷ []) (F.ledger files.old)
-        (F.ledger files.new)) }
+    ensures left { OnErr result
+        (BrokeOff (group_file solved.now.joined (mappings_in solved.now.merged) host.now ∷ [])
+        (F.ledger files.old) (F.ledger files.new)) }
 {
     let text = solved.host_group(host.group.bytes())?;
     write_text(alloc, files, b"group.", host, &text)
@@ -101,8 +104,12 @@ fn write_host<'a, F: MergeFiles>(
         ∷ group_file solved.now.joined (mappings_in solved.now.merged) host.now ∷ [])
         (F.ledger files.old)) }
     ensures stopped { IfErr result (StopsWriting (F.has_failed files.new)) }
-    ensures begun { OnErr result
-        (HasBegun (own_names host.now) (F.ledger files.old) (F.ledger files.new)) }
+    ensures left { OnErr result
+        ((here : Host) → slice_get solved.now.hosts index ≡ Some here
+        → BrokeOff
+        (passwd_file here solved.now.joined (mappings_in solved.now.merged) host.now
+        ∷ group_file solved.now.joined (mappings_in solved.now.merged) host.now ∷ [])
+        (F.ledger files.old) (F.ledger files.new)) }
 {
     write_passwd(alloc, files, solved, index, host)?;
     write_group(alloc, files, solved, host)
@@ -122,9 +129,10 @@ pub fn write_hosts<'a, F: MergeFiles>(
         (host_files solved.now.joined (mappings_in solved.now.merged) hosts.now solved.now.hosts)
         (F.ledger files.old) (F.ledger files.new)) }
     ensures stopped { IfErr result (StopsWriting (F.has_failed files.new)) }
-    ensures begun { MatchResult result
-        (λ _. (F.ledger files.new).begun ≡ (F.ledger files.old).begun ++ host_names hosts.now)
-        (λ _. HasBegun (host_names hosts.now) (F.ledger files.old) (F.ledger files.new)) }
+    ensures left { OnErr result
+        (BrokeOff
+        (host_files solved.now.joined (mappings_in solved.now.merged) hosts.now solved.now.hosts)
+        (F.ledger files.old) (F.ledger files.new)) }
     ensures clear { OnOk result ((F.ledger files.new).is_clear ≡ true) }
 {
     for (index, host) in hosts.iter().enumerate() {

@@ -1,20 +1,19 @@
 //! A merge, from the bytes that it reads to the bytes of each file.
 
-ghost use Rattle.std.specs.Prelude.{◌≡◌, ◌∷◌, [], List, length, true, Some, slice_get, IfOk, OnOk};
-ghost use Rattle.std.specs.Prelude.{IfErr, OnErr};
+ghost use Rattle.std.specs.Prelude.{◌≡◌, ◌⊎◌, List, length, true, IfOk, OnOk, IfErr, OnErr};
 ghost use Rattle.mtree_inv.specs.declared.entry.Entry.{Entry};
 ghost use Rattle.hosts_join.specs.declared.host.Host.{Host};
 ghost use Rattle.unify_texts.specs.declared.fault.Fault.TheVariants.{Memory};
 ghost use Rattle.unify.specs.Passes.{AreTogether, ended_in};
 ghost use Rattle.unify.specs.SecondPass.{IsFresh, IsSolvedFrom, ended_in as ended_again};
-ghost use Rattle.unify_merge.specs.Ledger.{HasBegun, after_files};
+ghost use Rattle.unify_merge.specs.Ledger.{BrokeOff, HasBegun, after_files};
 ghost use Rattle.unify_merge.specs.FirstReading.{ReadsOnly};
 ghost use Rattle.unify_merge.specs.HostFiles.{HasFiles};
 ghost use Rattle.unify_merge.specs.SecondReading.{StopsPlanning, WereRead};
-ghost use Rattle.unify_merge.specs.Merge.{HasMade, HasMerged, HasSolved, HasWritten, StopsMerge};
-ghost use Rattle.unify_merge.specs.Merge.{account_files, account_names, first_files, first_names};
+ghost use Rattle.unify_merge.specs.Merge.{HasMade, HasMerged, HasSolved, HasWritten, Leaves};
+ghost use Rattle.unify_merge.specs.Merge.{StopsMerge, WritingBrokeOff, account_files, first_files};
 ghost use Rattle.unify_merge.specs.Merge.{keeps_in, names_before_report};
-ghost use Rattle.unify_merge.specs.Surveyed.{HasMergedFiles, StopsMergeFiles};
+ghost use Rattle.unify_merge.specs.Surveyed.{HasMergedFiles, LeavesFiles, StopsMergeFiles};
 ghost use Rattle.unify.specs.Rules.{rules_by};
 ghost use Rattle.kept_accounts.specs.Reserving.{UnownedNumbers};
 ghost use Rattle.unify_merge.specs.declared.fault.MergeFault.TheVariants.{Refused};
@@ -37,9 +36,8 @@ fn write_accounts<F: MergeFiles>(files: &mut F, outcome: &Outcome) -> Result<(),
     ensures written { OnOk result
         (HasFiles (account_files outcome.now) (F.ledger files.old) (F.ledger files.new)) }
     ensures failed { OnErr result (F.has_failed files.new ≡ true) }
-    ensures begun { OnErr result
-        (HasBegun (account_names outcome.now.keeps_names) (F.ledger files.old)
-        (F.ledger files.new)) }
+    ensures left { OnErr result
+        (BrokeOff (account_files outcome.now) (F.ledger files.old) (F.ledger files.new)) }
 {
     if outcome.keeps_names {
         return Ok(());
@@ -54,9 +52,8 @@ fn write_first<F: MergeFiles>(files: &mut F, outcome: &Outcome) -> Result<(), Ca
     ensures written { OnOk result
         (F.ledger files.new ≡ after_files (first_files outcome.now) (F.ledger files.old)) }
     ensures failed { OnErr result (F.has_failed files.new ≡ true) }
-    ensures begun { OnErr result
-        (HasBegun (first_names outcome.now.keeps_names) (F.ledger files.old)
-        (F.ledger files.new)) }
+    ensures left { OnErr result
+        (BrokeOff (first_files outcome.now) (F.ledger files.old) (F.ledger files.new)) }
 {
     write_accounts(files, outcome)?;
     write_file(files, b"map", outcome.map.bytes())?;
@@ -113,9 +110,10 @@ fn write_merged<'a, F: MergeFiles>(
         (λ fault. (read : List (Host × List Entry)) → WereRead solved.old read
         → StopsPlanning read (F.ledger files.old) (F.ledger files.new) (F.has_failed files.new)
         fault) }
-    ensures begun { OnErr result
-        (HasBegun (names_before_report solved.old.merged.outcome.keeps_names hosts.now)
-        (F.ledger files.old) (F.ledger files.new)) }
+    ensures left { OnErr result
+        ((read : List (Host × List Entry)) → WereRead solved.old read
+        → ReadsOnly (F.ledger files.old) (F.ledger files.new)
+        ⊎ WritingBrokeOff hosts.now solved.old read (F.ledger files.old) (F.ledger files.new)) }
     ensures merged { OnOk result (solved.new.merged ≡ solved.old.merged) }
 {
     files.clear()?;
@@ -137,7 +135,9 @@ fn write_merged<'a, F: MergeFiles>(
 /// early where a call on the files fails, where an inventory has more than 4,294,967,295 bytes, at
 /// the first fault of what is read, where an inventory has changed when it is read the second time
 /// (`Fault::InventoryChanged`), or where a growth is refused (`Fault::Memory`); no file was begun
-/// then but the first of these, and no report.
+/// then but the first of these, and no report. Wherever it ends early, either nothing was written
+/// and nothing cleared away, or every inventory was accepted before that; then the files that are
+/// whole are the first of these, with their bytes, and at most the next was begun.
 ///
 /// Two passes over each inventory, with two look-ups by hash for each file; the rest is near linear
 /// in the names and account rows, but for the solver, which is near linear where few numbers are
@@ -156,6 +156,8 @@ pub fn merge_outcome<'a, F: MergeFiles>(
     ensures begun { OnErr result
         (HasBegun (names_before_report (keeps_in hosts.now rules.now) hosts.now)
         (F.ledger files.old) (F.ledger files.new)) }
+    ensures left { OnErr result
+        (Leaves hosts.now rules.now (F.ledger files.old) (F.ledger files.new)) }
 {
     let mut solved = solve_hosts(alloc, files, hosts, rules)?;
     write_merged(alloc, files, &mut solved, hosts)?;
@@ -178,6 +180,8 @@ pub fn merge_by<'a, F: MergeFiles>(
     ensures begun { OnErr result
         (HasBegun (names_before_report (keeps_in hosts.now rules.now) hosts.now)
         (F.ledger files.old) (F.ledger files.new)) }
+    ensures left { OnErr result
+        (Leaves hosts.now rules.now (F.ledger files.old) (F.ledger files.new)) }
 {
     let outcome = merge_outcome(alloc, files, hosts, rules)?;
     Ok(outcome.cost)
@@ -204,6 +208,8 @@ pub fn merge_files<'a, F: MergeFiles>(
     ensures begun { OnErr result ((unowned : UnownedNumbers)
         × HasBegun (names_before_report (keeps_in hosts.now (rules_by pins.now keep.now unowned))
         hosts.now) (F.ledger files.old) (F.ledger files.new)) }
+    ensures left { OnErr result
+        (LeavesFiles hosts.now pins.now keep.now (F.ledger files.old) (F.ledger files.new)) }
 {
     let unowned = survey_files(alloc, files, hosts, keep)?;
     let rules = SiteRules::new(pins, KeepRules::new(keep, unowned));

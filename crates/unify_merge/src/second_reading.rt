@@ -1,7 +1,7 @@
 //! The second reading of the inventories: plans are written.
 
-ghost use Rattle.std.specs.Prelude.{◌≡◌, ◌+◌, ◌<◌, ◌++◌, ◌∷◌, [], ℕ, List, length, map, true, Some};
-ghost use Rattle.std.specs.Prelude.{None, IfOk, OnOk, IfErr, OnErr, MatchResult};
+ghost use Rattle.std.specs.Prelude.{◌≡◌, ◌+◌, ◌<◌, ◌++◌, ◌∷◌, [], ℕ, List, length, true, Some};
+ghost use Rattle.std.specs.Prelude.{None, OnOk, IfErr, OnErr};
 ghost use Rattle.mtree_inv.specs.declared.entry.Entry.{Entry};
 ghost use Rattle.hosts_join.specs.declared.host.Host.{Host};
 ghost use Rattle.unify.specs.SecondPass.{IsFresh, IsNext, IsOfSameSite, WereFirst, ended_in};
@@ -10,6 +10,7 @@ ghost use Rattle.unify_merge.specs.Ledger.{HasBegun, with_bytes};
 ghost use Rattle.unify_merge.specs.SecondReading.{ArePlanned, HasPlan, IsPlanned, IsReadAgain};
 ghost use Rattle.unify_merge.specs.SecondReading.{IsTurnOf, IsWithinFile, StopsEnd, StopsPiece};
 ghost use Rattle.unify_merge.specs.SecondReading.{StopsPlanning, StopsSecond, WereRead, WritesOnly};
+ghost use Rattle.unify_merge.specs.SecondReading.{HasReadOneAtMost, PlanBrokeOff, PlansBrokeOff};
 ghost use Rattle.unify_merge.specs.SecondReading.{plan_name};
 
 use crate::fault::MergeFault;
@@ -76,7 +77,7 @@ fn end_plan<'a, F: MergeFiles>(
     ensures writes { WritesOnly (F.ledger files.old) (F.ledger files.new) }
     ensures fresh { solved.old.met ≡ None → OnOk result (IsFresh solved.new) }
     ensures ended { OnOk result (ended_in solved.new ≡ ended_in solved.old + 1) }
-    ensures site { IsOfSameSite solved.old solved.new }
+    ensures site { OnOk result (IsOfSameSite solved.old solved.new) }
 {
     plan.clear();
     solved.end_host(plan)?;
@@ -105,9 +106,10 @@ fn plan_reading<'a, F: MergeFiles>(
         → StopsSecond host were (ended_in solved.old) (F.ledger files.old).read (F.ledger files.new)
         (F.has_failed files.new) fault) }
     ensures kept { IsWithinFile (F.ledger files.old) (F.ledger files.new) }
+    ensures reads { HasReadOneAtMost (F.ledger files.old).read (F.ledger files.new) }
     ensures fresh { OnOk result (IsFresh solved.new) }
     ensures ended { OnOk result (ended_in solved.new ≡ ended_in solved.old + 1) }
-    ensures site { IsOfSameSite solved.old solved.new }
+    ensures site { OnOk result (IsOfSameSite solved.old solved.new) }
 {
     let mut left = MOST_BYTES;
     while next_piece(files, &mut buffers.bytes, &mut left)? {
@@ -137,12 +139,12 @@ fn plan_host<'a, F: MergeFiles>(
         → StopsSecond host were index (F.ledger files.old).read (F.ledger files.new)
         (F.has_failed files.new) fault) }
     ensures clear { OnOk result ((F.ledger files.new).is_clear ≡ true) }
-    ensures begun { MatchResult result
-        (λ _. (F.ledger files.new).begun ≡ (F.ledger files.old).begun ++ name.now ∷ [])
-        (λ _. HasBegun (name.now ∷ []) (F.ledger files.old) (F.ledger files.new)) }
+    ensures begun { OnErr result
+        (HasBegun (name.now ∷ []) (F.ledger files.old) (F.ledger files.new)) }
+    ensures left { OnErr result (PlanBrokeOff (F.ledger files.old) (F.ledger files.new)) }
     ensures fresh { OnOk result (IsFresh solved.new) }
     ensures ended { OnOk result (ended_in solved.new ≡ index + 1) }
-    ensures site { IsOfSameSite solved.old solved.new }
+    ensures site { OnOk result (IsOfSameSite solved.old solved.new) }
 {
     files.begin(name)?;
     files.open(index)?;
@@ -173,12 +175,12 @@ fn plan_named<'a, F: MergeFiles>(
         → StopsSecond here were index (F.ledger files.old).read (F.ledger files.new)
         (F.has_failed files.new) fault) }
     ensures clear { OnOk result ((F.ledger files.new).is_clear ≡ true) }
-    ensures begun { MatchResult result
-        (λ _. (F.ledger files.new).begun ≡ (F.ledger files.old).begun ++ plan_name host.now ∷ [])
-        (λ _. HasBegun (plan_name host.now ∷ []) (F.ledger files.old) (F.ledger files.new)) }
+    ensures begun { OnErr result
+        (HasBegun (plan_name host.now ∷ []) (F.ledger files.old) (F.ledger files.new)) }
+    ensures left { OnErr result (PlanBrokeOff (F.ledger files.old) (F.ledger files.new)) }
     ensures fresh { OnOk result (IsFresh solved.new) }
     ensures ended { OnOk result (ended_in solved.new ≡ index + 1) }
-    ensures site { IsOfSameSite solved.old solved.new }
+    ensures site { OnOk result (IsOfSameSite solved.old solved.new) }
 {
     let name = host_file_name(alloc, b"plan.", host)?;
     plan_host(files, solved, index, &name, buffers)
@@ -203,10 +205,10 @@ pub fn plan_hosts<'a, F: MergeFiles>(
         → StopsPlanning read (F.ledger files.old) (F.ledger files.new) (F.has_failed files.new)
         fault) }
     ensures clear { OnOk result ((F.ledger files.new).is_clear ≡ true) }
-    ensures begun { MatchResult result
-        (λ _. (F.ledger files.new).begun ≡ (F.ledger files.old).begun ++ map plan_name hosts.now)
-        (λ _. HasBegun (map plan_name hosts.now) (F.ledger files.old) (F.ledger files.new)) }
-    ensures site { IsOfSameSite solved.old solved.new }
+    ensures left { OnErr result
+        ((read : List (Host × List Entry)) → WereRead solved.old read
+        → PlansBrokeOff hosts.now solved.old read (F.ledger files.old) (F.ledger files.new)) }
+    ensures site { OnOk result (IsOfSameSite solved.old solved.new) }
 {
     let mut buffers = Buffers {
         bytes: Vec::new(alloc),

@@ -1,7 +1,7 @@
 //! A file that is written whole.
 
 ghost use Rattle.std.specs.Prelude.{◌≡◌, ◌∷◌, [], true, OnOk, OnErr};
-ghost use Rattle.unify_merge.specs.Ledger.{HasBegun, after_files};
+ghost use Rattle.unify_merge.specs.Ledger.{BrokeOff, after_files};
 
 use crate::files::{CallFailed, MergeFiles};
 
@@ -12,8 +12,9 @@ pub fn write_file<F: MergeFiles>(files: &mut F, name: &[u8], text: &[u8]) -> Res
         (F.ledger files.new ≡ after_files (record { name = name.now; text = text.now } ∷ [])
         (F.ledger files.old)) }
     ensures failed { OnErr result (F.has_failed files.new ≡ true) }
-    ensures begun { OnErr result
-        (HasBegun (name.now ∷ []) (F.ledger files.old) (F.ledger files.new)) }
+    ensures left { OnErr result
+        (BrokeOff (record { name = name.now; text = text.now } ∷ []) (F.ledger files.old)
+        (F.ledger files.new)) }
 {
     files.begin(name)?;
     files.append(text)?;

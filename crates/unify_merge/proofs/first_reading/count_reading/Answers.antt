@@ -1,7 +1,6 @@
-use Rattle.std.proofs.Common.{◌≡◌, ◌++◌, ◌∷◌, [], refl, subst, ap, ◌∙◌}
+use Rattle.std.proofs.Common.{◌≡◌, ◌++◌, ◌∷◌, [], Err, refl, subst, ap, ◌∙◌}
 use Rattle.std.specs.Prelude.{IfSome}
 use Rattle.std.proofs.lemmas.Result.{err_from_is_err_and}
-use Rattle.hosts_join.specs.declared.host.Host.{Host}
 use Rattle.unify_texts.specs.Told.{told}
 use Rattle.unify.specs.Hosts.{files_of}
 use Rattle.unify.specs.Passes.{InventoriesValue, IsNext, ended_in, is_read, lines_of}

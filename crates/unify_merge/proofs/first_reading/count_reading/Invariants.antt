@@ -1,4 +1,4 @@
-use Rattle.std.proofs.Common.{◌≡◌, ◌+◌, ℕ, List, [], length, Some}
+use Rattle.std.proofs.Common.{◌≡◌, ◌+◌, ℕ, List, length, Some}
 use Rattle.unify.specs.Passes.{behind, ended_in}
 use Rattle.unify_merge.specs.FirstReading.{ReadsOnly}
 use Rattle.unify_merge.proofs.first_reading.count_reading.Given as goal

@@ -1,11 +1,12 @@
-use Rattle.std.proofs.Common.{◌++◌, ◌∷◌, [], ap, ◌∙◌}
-use Rattle.std.specs.Prelude.{codes}
+use Rattle.std.proofs.Common.{◌≡◌, ◌∷◌, [], Some, ap, ◌∙◌}
+use Rattle.std.specs.List.{slice_get}
+use Rattle.hosts_join.specs.declared.host.Host.{Host}
 use Rattle.unify.specs.Merging.{mappings_in}
 use Rattle.unify.proofs.Agreeing.{item_at}
-use Rattle.unify_merge.specs.Ledger.{HasBegun, Ledger, after_files}
+use Rattle.unify_merge.specs.Ledger.{BrokeOff, Ledger, after_files}
 use Rattle.unify.specs.HostTexts.{group_file, passwd_file}
-use Rattle.unify_merge.specs.HostFiles.{own_names}
-use Rattle.unify_merge.proofs.Begun.{begun_behind, begun_front, on_err, on_err_goes}
+use Rattle.unify_merge.proofs.Begun.{on_err, on_err_goes}
+use Rattle.unify_merge.proofs.BreakingOff.{broken_behind, broken_front, wrote}
 use Rattle.unify_merge.proofs.HostFiles.{files_behind, on_ok_goes}
 use Rattle.unify_merge.proofs.host_files.write_host.Goals as goal
 
@@ -24,22 +25,28 @@ returns-clause-written g c =
     group ∙ ap (after_files (group_file v.joined m text ∷ [])) (c.in_ok-write_passwd.ensures.written here at) ∙ files_behind (passwd_file here v.joined m text ∷ []) (group_file v.joined m text ∷ []) old)
     c.write_group.ensures.written
 
-pub returns-clause-begun : goal.returns-clause-begun
-returns-clause-begun g c =
+pub returns-clause-left : goal.returns-clause-left
+returns-clause-left g c =
     let v = c.args.solved.now in
+    let m = mappings_in v.merged in
     let text = c.args.host.now in
-    let here = item_at v.hosts c.args.index c.requires.within in
     let old = g.F.ReadFiles.ledger c.args.files.now in
     let mid = g.F.ReadFiles.ledger c.write_passwd.new.files in
     let new = g.F.ReadFiles.ledger c.write_group.new.files in
-    on_err_goes c.write_group.result _ (HasBegun (own_names text) old new)
-    (begun_behind ((codes "passwd." ++ text.name) ∷ []) ((codes "group." ++ text.name) ∷ []) old mid new (ap (λ (l : Ledger). l.begun) (c.in_ok-write_passwd.ensures.written here.0 here.1)))
-    c.write_group.ensures.begun
+    let one = group_file v.joined m text in
+    on_err_goes c.write_group.result _ ((here : Host) → slice_get v.hosts c.args.index ≡ Some here → BrokeOff (passwd_file here v.joined m text ∷ one ∷ []) old new)
+    (λ left here at.
+    let own = passwd_file here v.joined m text in
+    broken_behind (own ∷ []) (one ∷ []) old mid new (wrote (own ∷ []) old mid (c.in_ok-write_passwd.ensures.written here at)) left)
+    c.write_group.ensures.left
 
-pub returns-in_err-write_passwd-clause-begun : goal.returns-in_err-write_passwd-clause-begun
-returns-in_err-write_passwd-clause-begun g c =
+pub returns-in_err-write_passwd-clause-left : goal.returns-in_err-write_passwd-clause-left
+returns-in_err-write_passwd-clause-left g c =
+    let v = c.args.solved.now in
+    let m = mappings_in v.merged in
     let text = c.args.host.now in
     let old = g.F.ReadFiles.ledger c.args.files.now in
     let new = g.F.ReadFiles.ledger c.write_passwd.new.files in
-    on_err c.from_residual.result (HasBegun (own_names text) old new)
-    (begun_front ((codes "passwd." ++ text.name) ∷ []) ((codes "group." ++ text.name) ∷ []) old new c.in_err-write_passwd.ensures.begun)
+    let one = group_file v.joined m text in
+    on_err c.from_residual.result ((here : Host) → slice_get v.hosts c.args.index ≡ Some here → BrokeOff (passwd_file here v.joined m text ∷ one ∷ []) old new)
+    (λ here at. broken_front (passwd_file here v.joined m text ∷ []) (one ∷ []) old new (c.in_err-write_passwd.ensures.left here at))

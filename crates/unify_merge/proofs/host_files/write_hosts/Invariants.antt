@@ -1,12 +1,11 @@
-use Rattle.std.proofs.Common.{◌≡◌, ◌++◌, take, true}
+use Rattle.std.proofs.Common.{◌≡◌, take, true}
 use Rattle.unify.specs.HostTexts.{host_files}
 use Rattle.unify.specs.Merging.{mappings_in}
-use Rattle.unify_merge.specs.HostFiles.{HasFiles, host_names}
+use Rattle.unify_merge.specs.HostFiles.{HasFiles}
 use Rattle.unify_merge.proofs.host_files.write_hosts.Given as goal
 
 abbrev pub invariant-loop-index : goal.invariant-loop-index
 invariant-loop-index g l = record {
   clear : (g.F.ReadFiles.ledger l.files).is_clear ≡ true;
-  begun : (g.F.ReadFiles.ledger l.files).begun ≡ (g.F.ReadFiles.ledger l.initial.files).begun ++ host_names (take l.index l.hosts);
   written : HasFiles (host_files l.solved.joined (mappings_in l.solved.merged) (take l.index l.hosts) l.solved.hosts) (g.F.ReadFiles.ledger l.initial.files) (g.F.ReadFiles.ledger l.files);
 }

@@ -1,10 +1,11 @@
-use Rattle.std.proofs.Common.{◌≡◌, sym, ap, subst, ◌∙◌}
+use Rattle.std.proofs.Common.{ap, ◌∙◌, inl}
 use Rattle.std.proofs.lemmas.Result.{err_from_is_err_and}
 use Rattle.unify.specs.declared.merging.Merged.{Merged}
 use Rattle.unify_merge.specs.Ledger.{HasBegun, Ledger}
-use Rattle.unify_merge.specs.Merge.{keeps_in, names_before_report}
-use Rattle.unify_merge.proofs.Begun.{begun_from, begun_none, on_err}
-use Rattle.unify_merge.proofs.WholeMerge.{has_made, keeps_as_begun, written_stopped}
+use Rattle.unify_merge.specs.Merge.{Leaves, keeps_in, names_before_report}
+use Rattle.unify_merge.proofs.Begun.{begun_none, on_err}
+use Rattle.unify_merge.proofs.Leaving.{leaves_begun, merge_leaves}
+use Rattle.unify_merge.proofs.WholeMerge.{has_made, written_stopped}
 use Rattle.unify_merge.proofs.merge.merge_outcome.Goals as goal
 
 pub returns-clause-merged : goal.returns-clause-merged
@@ -35,11 +36,24 @@ pub returns-in_err-write_merged-clause-begun : goal.returns-in_err-write_merged-
 returns-in_err-write_merged-clause-begun g c =
     let texts = c.args.hosts.now in
     let rules = c.args.rules.now in
-    let s = c.in_ok-solved.solved in
-    let names = names_before_report s.merged.outcome.keeps_names texts in
+    let h = c.in_ok-solved.ensures.solved in
     let old = g.F.ReadFiles.ledger c.args.files.now in
     let mid = g.F.ReadFiles.ledger c.solve_hosts.new.files in
     let new = g.F.ReadFiles.ledger c.write_merged.new.files in
     on_err c.from_residual-in_err-write_merged.result (HasBegun (names_before_report (keeps_in texts rules) texts) old new)
-    (subst (λ k. HasBegun (names_before_report k texts) old new) (keeps_as_begun texts rules old mid s c.in_ok-solved.ensures.solved)
-    (begun_from names old mid new (ap (λ (l : Ledger). l.begun) c.in_ok-solved.ensures.reads) c.in_err-write_merged.ensures.begun))
+    (leaves_begun texts rules c.in_ok-solved.solved old mid new h c.in_ok-solved.ensures.reads (c.in_err-write_merged.ensures.left h.were h.was_read))
+
+pub returns-in_err-solved-clause-left : goal.returns-in_err-solved-clause-left
+returns-in_err-solved-clause-left g c =
+    on_err c.from_residual.result (Leaves c.args.hosts.now c.args.rules.now (g.F.ReadFiles.ledger c.args.files.now) (g.F.ReadFiles.ledger c.solve_hosts.new.files)) (inl c.in_err-solved.ensures.reads)
+
+pub returns-in_err-write_merged-clause-left : goal.returns-in_err-write_merged-clause-left
+returns-in_err-write_merged-clause-left g c =
+    let texts = c.args.hosts.now in
+    let rules = c.args.rules.now in
+    let h = c.in_ok-solved.ensures.solved in
+    let old = g.F.ReadFiles.ledger c.args.files.now in
+    let mid = g.F.ReadFiles.ledger c.solve_hosts.new.files in
+    let new = g.F.ReadFiles.ledger c.write_merged.new.files in
+    on_err c.from_residual-in_err-write_merged.result (Leaves texts rules old new)
+    (merge_leaves texts rules c.in_ok-solved.solved old mid new h c.in_ok-solved.ensures.reads (c.in_err-write_merged.ensures.left h.were h.was_read))

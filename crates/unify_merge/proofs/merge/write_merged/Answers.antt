@@ -1,15 +1,14 @@
-use Rattle.std.proofs.Common.{◌≡◌, ◌++◌, ◌∷◌, [], length, map, sym, ap, subst, ◌∙◌, append_assoc}
+use Rattle.std.proofs.Common.{◌≡◌, ◌++◌, ◌∷◌, [], length, sym, ap, subst, ◌∙◌, inl, inr}
 use Rattle.std.proofs.lemmas.Result.{err_from_is_err_and}
-use Rattle.unify.specs.declared.outcome.Outcome.{Outcome}
 use Rattle.unify.specs.Merging.{mappings_in}
 use Rattle.unify.specs.SecondPass.{SolvedValue}
-use Rattle.unify_merge.specs.Ledger.{HasBegun, Ledger, after_files, cleared}
+use Rattle.unify_merge.specs.Ledger.{BrokeOff, Ledger, after_files, cleared}
 use Rattle.unify.specs.HostTexts.{host_files}
-use Rattle.unify_merge.specs.HostFiles.{HasFiles, host_names}
-use Rattle.unify_merge.specs.Merge.{first_files, first_names, names_before_report, report_file}
+use Rattle.unify_merge.specs.HostFiles.{HasFiles}
+use Rattle.unify_merge.specs.Merge.{first_files, report_file}
 use Rattle.unify_merge.specs.FirstReading.{readings_from}
-use Rattle.unify_merge.specs.SecondReading.{plan_name}
-use Rattle.unify_merge.proofs.Begun.{begun_all, begun_behind, begun_from, begun_front, first_begun, on_err}
+use Rattle.unify_merge.proofs.BreakingOff.{broken_all}
+use Rattle.unify_merge.proofs.Leaving.{first_left, own_left, plan_left}
 use Rattle.unify_merge.proofs.WholeMerge.{merged_all, planning_same, writing_stopped}
 use Rattle.unify_merge.proofs.merge.write_merged.Goals as goal
 
@@ -55,57 +54,58 @@ returns-clause-written g c = λ read was.
       cost_is = ap (λ o. o.cost) (c.outcome-3.ensures ∙ ap (λ m. m.outcome) solved);
     }
 
-pub returns-in_err-write_first-clause-begun : goal.returns-in_err-write_first-clause-begun
-returns-in_err-write_first-clause-begun g c =
-    let texts = c.args.hosts.now in
-    let keeps = c.args.solved.now.merged.outcome.keeps_names in
+pub returns-clause-merged : goal.returns-clause-merged
+returns-clause-merged g c = ap (λ (x : SolvedValue). x.merged) c.in_ok-plan_hosts.ensures.site
+
+pub returns-in_err-clear-clause-left : goal.returns-in_err-clear-clause-left
+returns-in_err-clear-clause-left g c =
+    let p = err_from_is_err_and c.from_residual.result c.from_residual.ensures.1 in
+    let new = g.F.ReadFiles.ledger c.clear.new.self in
+    rw p.1 (λ read was. inl (λ j. record (c.in_err-clear.ensures.none j) { read = new.read; reading = new.reading }))
+
+pub returns-in_err-write_first-clause-left : goal.returns-in_err-write_first-clause-left
+returns-in_err-write_first-clause-left g c =
+    let p = err_from_is_err_and c.from_residual-in_err-write_first.result c.from_residual-in_err-write_first.ensures.1 in
     let old = g.F.ReadFiles.ledger c.args.files.now in
-    let mid = g.F.ReadFiles.ledger c.clear.new.self in
+    let clear = g.F.ReadFiles.ledger c.clear.new.self in
     let new = g.F.ReadFiles.ledger c.write_first.new.files in
-    let first = subst (λ (o : Outcome). HasBegun (first_names o.keeps_names) mid new) c.outcome.ensures c.in_err-write_first.ensures.begun in
-    on_err c.from_residual-in_err-write_first.result (HasBegun (names_before_report keeps texts) old new)
-    (begun_from (names_before_report keeps texts) old mid new (ap (λ (l : Ledger). l.begun) c.in_ok-clear.ensures.clear) (begun_front (first_names keeps) (map plan_name texts ++ host_names texts) mid new first))
+    rw p.1 (λ read was. inr (first_left c.args.hosts.now c.args.solved.now read c.outcome.result.now old clear c.outcome.ensures c.in_ok-clear.ensures.clear new c.in_err-write_first.ensures.left))
 
-pub returns-in_err-plan_hosts-clause-begun : goal.returns-in_err-plan_hosts-clause-begun
-returns-in_err-plan_hosts-clause-begun g c =
-    let texts = c.args.hosts.now in
-    let keeps = c.args.solved.now.merged.outcome.keeps_names in
-    let plans = map plan_name texts in
+pub returns-in_err-plan_hosts-clause-left : goal.returns-in_err-plan_hosts-clause-left
+returns-in_err-plan_hosts-clause-left g c =
+    let p = err_from_is_err_and c.from_residual-in_err-plan_hosts.result c.from_residual-in_err-plan_hosts.ensures.1 in
     let old = g.F.ReadFiles.ledger c.args.files.now in
-    let mid = g.F.ReadFiles.ledger c.write_first.new.files in
+    let clear = g.F.ReadFiles.ledger c.clear.new.self in
+    let first = g.F.ReadFiles.ledger c.write_first.new.files in
     let new = g.F.ReadFiles.ledger c.plan_hosts.new.files in
-    let begun = first_begun c.args.solved.now.merged.outcome c.outcome.result.now old (g.F.ReadFiles.ledger c.clear.new.self) mid c.outcome.ensures c.in_ok-clear.ensures.clear c.in_ok-write_first.ensures.written in
-    on_err c.from_residual-in_err-plan_hosts.result (HasBegun (names_before_report keeps texts) old new)
-    (begun_behind (first_names keeps) (plans ++ host_names texts) old mid new begun (begun_front plans (host_names texts) mid new c.in_err-plan_hosts.ensures.begun))
+    rw p.1 (λ read was. inr
+    (plan_left c.args.hosts.now c.args.solved.now read c.outcome.result.now old clear c.outcome.ensures c.in_ok-clear.ensures.clear first c.in_ok-write_first.ensures.written was c.requires.each new (c.in_err-plan_hosts.ensures.left read was)))
 
-pub returns-in_err-write_hosts-clause-begun : goal.returns-in_err-write_hosts-clause-begun
-returns-in_err-write_hosts-clause-begun g c =
+pub returns-in_err-write_hosts-clause-left : goal.returns-in_err-write_hosts-clause-left
+returns-in_err-write_hosts-clause-left g c =
+    let p = err_from_is_err_and c.from_residual-in_err-write_hosts.result c.from_residual-in_err-write_hosts.ensures.1 in
     let texts = c.args.hosts.now in
-    let keeps = c.args.solved.now.merged.outcome.keeps_names in
-    let plans = map plan_name texts in
     let old = g.F.ReadFiles.ledger c.args.files.now in
+    let clear = g.F.ReadFiles.ledger c.clear.new.self in
     let first = g.F.ReadFiles.ledger c.write_first.new.files in
     let mid = g.F.ReadFiles.ledger c.plan_hosts.new.files in
     let new = g.F.ReadFiles.ledger c.write_hosts.new.files in
-    let begun = first_begun c.args.solved.now.merged.outcome c.outcome.result.now old (g.F.ReadFiles.ledger c.clear.new.self) first c.outcome.ensures c.in_ok-clear.ensures.clear c.in_ok-write_first.ensures.written in
-    on_err c.from_residual-in_err-write_hosts.result (HasBegun (names_before_report keeps texts) old new)
-    (begun_behind (first_names keeps) (plans ++ host_names texts) old first new begun (begun_behind plans (host_names texts) first mid new c.in_ok-plan_hosts.ensures.begun c.in_err-write_hosts.ensures.begun))
+    let left = subst (λ (x : SolvedValue). BrokeOff (host_files x.joined (mappings_in x.merged) texts x.hosts) mid new) c.in_ok-plan_hosts.ensures.site c.in_err-write_hosts.ensures.left in
+    rw p.1 (λ read was. inr
+    (own_left texts c.args.solved.now read c.outcome.result.now old clear c.outcome.ensures c.in_ok-clear.ensures.clear first c.in_ok-write_first.ensures.written was c.requires.each mid new (c.in_ok-plan_hosts.ensures.planned read was) left))
 
-pub returns-in_err-seal-clause-begun : goal.returns-in_err-seal-clause-begun
-returns-in_err-seal-clause-begun g c =
+pub returns-in_err-seal-clause-left : goal.returns-in_err-seal-clause-left
+returns-in_err-seal-clause-left g c =
+    let p = err_from_is_err_and c.from_residual-in_err-seal.result c.from_residual-in_err-seal.ensures.1 in
+    let v = c.args.solved.now in
     let texts = c.args.hosts.now in
-    let keeps = c.args.solved.now.merged.outcome.keeps_names in
-    let hosts = host_names texts in
-    let plans = map plan_name texts in
     let old = g.F.ReadFiles.ledger c.args.files.now in
+    let clear = g.F.ReadFiles.ledger c.clear.new.self in
     let first = g.F.ReadFiles.ledger c.write_first.new.files in
+    let mid = g.F.ReadFiles.ledger c.plan_hosts.new.files in
     let new = g.F.ReadFiles.ledger c.seal.new.self in
-    let begun = first_begun c.args.solved.now.merged.outcome c.outcome.result.now old (g.F.ReadFiles.ledger c.clear.new.self) first c.outcome.ensures c.in_ok-clear.ensures.clear c.in_ok-write_first.ensures.written in
-    let planned = c.in_ok-plan_hosts.ensures.begun ∙ ap (λ ns. ns ++ plans) begun in
-    let own = c.in_ok-write_hosts.ensures.begun ∙ ap (λ ns. ns ++ hosts) planned in
-    let all = own ∙ append_assoc (old.begun ++ first_names keeps) plans hosts ∙ append_assoc old.begun (first_names keeps) (plans ++ hosts) in
-    on_err c.from_residual-in_err-seal.result (HasBegun (names_before_report keeps texts) old new)
-    (begun_all (names_before_report keeps texts) old new (ap (λ (l : Ledger). l.begun) c.in_err-seal.ensures.none ∙ all))
-
-pub returns-clause-merged : goal.returns-clause-merged
-returns-clause-merged g c = ap (λ (x : SolvedValue). x.merged) c.in_ok-plan_hosts.ensures.site
+    let own = host_files v.joined (mappings_in v.merged) texts v.hosts in
+    let written = subst (λ (x : SolvedValue). HasFiles (host_files x.joined (mappings_in x.merged) texts x.hosts) mid (g.F.ReadFiles.ledger c.write_hosts.new.files)) c.in_ok-plan_hosts.ensures.site c.in_ok-write_hosts.ensures.written in
+    let left = broken_all own mid new (subst (λ (l : Ledger). HasFiles own mid l) (sym c.in_err-seal.ensures.none) written) in
+    rw p.1 (λ read was. inr
+    (own_left texts v read c.outcome.result.now old clear c.outcome.ensures c.in_ok-clear.ensures.clear first c.in_ok-write_first.ensures.written was c.requires.each mid new (c.in_ok-plan_hosts.ensures.planned read was) left))

@@ -1,21 +1,16 @@
-use Rattle.std.proofs.Common.{◌≡◌, ◌+◌, ◌++◌, ◌∷◌, [], suc, map, take, drop, Some, refl, sym, ap, subst, ◌∙◌, arith, append_assoc, append-nil}
-use Rattle.std.proofs.lemmas.List.{map-append, take_all, take_more}
+use Rattle.std.proofs.Common.{◌≡◌, Some, refl, sym, ap, ◌∙◌, arith}
 use Rattle.std.specs.List.{slice_get}
 use Rattle.std.proofs.lemmas.Option.{slice_get-get_or}
 use Rattle.std.proofs.lemmas.Result.{err_from_is_err_and}
 use Rattle.hosts_join.specs.declared.texts.HostText.{HostText}
 use Rattle.unify.proofs.Agreeing.{item_at}
 use Rattle.unify.proofs.SiteRuns.{some_same}
-use Rattle.unify_merge.specs.Ledger.{HasBegun}
-use Rattle.unify_merge.specs.SecondReading.{plan_name}
-use Rattle.unify_merge.proofs.Begun.{begun_behind, begun_front, map_from}
 use Rattle.unify_merge.proofs.AllPlanned.{all_planned, host_at, planning_stopped, read_len, same_again, turn_of}
 use Rattle.unify_merge.proofs.Planned.{none_planned, one_planned}
 use Rattle.unify_merge.proofs.second_reading.plan_hosts.Goals as goal
 
 pub loop-index-init : goal.loop-index-init
 loop-index-init g c = record {
-  begun = sym (append-nil (g.F.ReadFiles.ledger c.args.files.now).begun);
   clear = c.requires.clear;
   ended = c.requires.start;
   site = refl;
@@ -43,12 +38,7 @@ loop-index-preserved g c =
     let solved = c.args.solved.now in
     let names = c.args.hosts.now in
     let named : slice_get names index ≡ Some c.index-hosts-index.result = slice_get-get_or names index _ c.loop-index-test.true ∙ ap (λ (h : HostText). Some h) (sym c.index-hosts-index.is) in
-    let old = g.F.ReadFiles.ledger c.args.files.now in
-    let more : map plan_name (take (index + 1) names) ≡ map plan_name (take index names) ++ plan_name c.index-hosts-index.result ∷ [] =
-    ap (map plan_name) (take_more names index c.index-hosts-index.result c.loop-index-test.true ∙ ap (λ h. take index names ++ h ∷ []) (some_same _ _ (sym (slice_get-get_or names index c.index-hosts-index.result c.loop-index-test.true) ∙ named)))
-    ∙ map-append plan_name (take index names) (c.index-hosts-index.result ∷ []) in
     record {
-      begun = c.in_ok-plan_named.ensures.begun ∙ ap (λ ns. ns ++ plan_name c.index-hosts-index.result ∷ []) inv.begun ∙ append_assoc old.begun (map plan_name (take index names)) (plan_name c.index-hosts-index.result ∷ []) ∙ ap (λ ns. old.begun ++ ns) (sym more);
       clear = c.in_ok-plan_named.ensures.clear;
       ended = c.in_ok-plan_named.ensures.ended;
       site = same_again solved c.loop-index.solved c.plan_named.new.solved inv.site c.in_ok-plan_named.ensures.site;
@@ -65,23 +55,20 @@ returns-clause-planned g c = λ read was.
     let inv = c.loop-index.invariant in
     all_planned c.args.hosts.now c.args.solved.now read c.loop-index.index (g.F.ReadFiles.ledger c.args.files.now) (g.F.ReadFiles.ledger c.loop-index.files) (inv.so_far read was) was (omega (arith, c.loop-index-test.false, c.requires.each))
 
-pub returns-in_err-plan_named-clause-begun : goal.returns-in_err-plan_named-clause-begun
-returns-in_err-plan_named-clause-begun g c =
+pub returns-in_err-plan_named-clause-left : goal.returns-in_err-plan_named-clause-left
+returns-in_err-plan_named-clause-left g c =
     let inv = c.loop-index.invariant in
     let index = c.loop-index.index in
     let names = c.args.hosts.now in
     let p = err_from_is_err_and c.from_residual.result c.from_residual.ensures.1 in
-    let old = g.F.ReadFiles.ledger c.args.files.now in
-    let mid = g.F.ReadFiles.ledger c.loop-index.files in
-    let new = g.F.ReadFiles.ledger c.plan_named.new.files in
     let host = c.index-hosts-index.result in
-    let rest = map plan_name (drop (suc index) names) in
     let named : slice_get names index ≡ Some host = slice_get-get_or names index _ c.loop-index-test.true ∙ ap (λ (h : HostText). Some h) (sym c.index-hosts-index.is) in
-    rw p.1 (subst (λ ns. HasBegun ns old new) (sym (map_from plan_name names index host named))
-    (begun_behind (map plan_name (take index names)) (plan_name host ∷ rest) old mid new inv.begun (begun_front (plan_name host ∷ []) rest mid new c.in_err-plan_named.ensures.begun)))
-
-pub returns-clause-begun : goal.returns-clause-begun
-returns-clause-begun g c =
-    let inv = c.loop-index.invariant in
-    let names = c.args.hosts.now in
-    inv.begun ∙ ap (λ hs. (g.F.ReadFiles.ledger c.args.files.now).begun ++ map plan_name hs) (take_all c.loop-index.index names (omega (arith, c.loop-index-test.false)))
+    rw p.1 (λ read was. record {
+      index = index;
+      name = host;
+      here = named;
+      middle = g.F.ReadFiles.ledger c.loop-index.files;
+      so_far = inv.so_far read was;
+      begun = c.in_err-plan_named.ensures.begun;
+      next = c.in_err-plan_named.ensures.left;
+    })

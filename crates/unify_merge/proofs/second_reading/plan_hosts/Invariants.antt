@@ -1,14 +1,12 @@
-use Rattle.std.proofs.Common.{◌≡◌, ◌++◌, List, map, take, true}
+use Rattle.std.proofs.Common.{◌≡◌, List, true}
 use Rattle.mtree_inv.specs.declared.entry.Entry.{Entry}
 use Rattle.hosts_join.specs.declared.host.Host.{Host}
 use Rattle.unify.specs.SecondPass.{IsFresh, IsOfSameSite, ended_in}
-use Rattle.unify_merge.specs.SecondReading.{WereRead, plan_name}
-use Rattle.unify_merge.proofs.Planned.{PlannedSoFar}
+use Rattle.unify_merge.specs.SecondReading.{PlannedSoFar, WereRead}
 use Rattle.unify_merge.proofs.second_reading.plan_hosts.Given as goal
 
 abbrev pub invariant-loop-index : goal.invariant-loop-index
 invariant-loop-index g l = record {
-  begun : (g.F.ReadFiles.ledger l.files).begun ≡ (g.F.ReadFiles.ledger l.initial.files).begun ++ map plan_name (take l.index l.hosts);
   clear : (g.F.ReadFiles.ledger l.files).is_clear ≡ true;
   ended : ended_in l.solved ≡ l.index;
   site : IsOfSameSite l.initial.solved l.solved;

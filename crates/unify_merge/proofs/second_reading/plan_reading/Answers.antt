@@ -9,7 +9,8 @@ use Rattle.unify.specs.declared.site_files.NamedText.{NamedText}
 use Rattle.unify_merge.specs.Ledger.{Ledger, Reading, with_bytes}
 use Rattle.unify_merge.specs.SecondReading.{IsReadAgain, StopsEnd, StopsPiece}
 use Rattle.unify_merge.proofs.AllPlanned.{same_site}
-use Rattle.unify_merge.proofs.Changes.{second_ended, second_lines_stop, second_whole_stop}
+use Rattle.unify_merge.proofs.BreakingOff.{has_read_none, has_read_one}
+use Rattle.unify_merge.proofs.Changes.{early_read, second_ended, second_lines_stop, second_whole_stop}
 use Rattle.unify_merge.proofs.Readings.{if_err, on_ok}
 use Rattle.unify_merge.proofs.Writing.{within_file, written_more}
 use Rattle.unify_merge.proofs.second_reading.plan_reading.Goals as goal
@@ -137,4 +138,30 @@ returns-clause-ended g c =
     subst (λ n. OnOk c.end_plan.result (ended_in c.end_plan.new.solved ≡ n + 1)) (ap ended_in inv.come) c.end_plan.ensures.ended
 
 pub returns-clause-site : goal.returns-clause-site
-returns-clause-site g c = same_site c.args.solved.now c.loop-files.solved c.end_plan.new.solved c.loop-files.invariant.come c.end_plan.ensures.site
+returns-clause-site g c = on_ok c.end_plan.result _ _ (same_site c.args.solved.now c.loop-files.solved c.end_plan.new.solved c.loop-files.invariant.come) c.end_plan.ensures.site
+
+pub returns-in_err-next_piece-clause-reads : goal.returns-in_err-next_piece-clause-reads
+returns-in_err-next_piece-clause-reads g c =
+    let inv = c.loop-files.invariant in
+    let r : Reading = record { host = ended_in c.args.solved.now; text = inv.text } in
+    let old = g.F.ReadFiles.ledger c.args.files.now in
+    let mid = g.F.ReadFiles.ledger c.loop-files.files in
+    let new = g.F.ReadFiles.ledger c.next_piece.new.files in
+    has_read_none old.read new
+    (early_read r c.next_piece.new.bytes.items c.loop-files.left mid new (g.F.ReadFiles.has_failed c.next_piece.new.files) c.in_err-next_piece.field-0.0 (c.in_err-next_piece.ensures.stopped r inv.reading) ∙ inv.read)
+
+pub returns-in_err-plan_piece-clause-reads : goal.returns-in_err-plan_piece-clause-reads
+returns-in_err-plan_piece-clause-reads g c =
+    let inv = c.loop-files.invariant in
+    let r : Reading = record { host = ended_in c.args.solved.now; text = inv.text } in
+    let goes = rw c.if-branch.true at c.in_ok-next_piece.ensures.read r inv.reading in
+    has_read_none (g.F.ReadFiles.ledger c.args.files.now).read (g.F.ReadFiles.ledger c.plan_piece.new.files)
+    (ap (λ (l : Ledger). l.read) c.in_err-plan_piece.ensures.writes ∙ ap (λ (l : Ledger). l.read) goes.0 ∙ inv.read)
+
+pub returns-clause-reads : goal.returns-clause-reads
+returns-clause-reads g c =
+    let inv = c.loop-files.invariant in
+    let r : Reading = record { host = ended_in c.args.solved.now; text = inv.text } in
+    let goes = rw c.if-branch.false at c.in_ok-next_piece.ensures.read r inv.reading in
+    has_read_one (g.F.ReadFiles.ledger c.args.files.now).read r (g.F.ReadFiles.ledger c.end_plan.new.files)
+    (ap (λ (l : Ledger). l.read) c.end_plan.ensures.writes ∙ ap (λ (l : Ledger). l.read) goes ∙ ap (λ rs. rs ++ r ∷ []) inv.read)
