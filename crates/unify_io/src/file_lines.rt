@@ -1,5 +1,7 @@
 //! Which lines of an inventory are of files, for warnings.
 
+use memchr::memchr_iter;
+
 /// What the bytes of a line that have come say of its first word.
 #[derive(Clone, Copy, PartialEq, Eq)]
 enum LineStart {
@@ -62,15 +64,13 @@ impl FileLines {
 
     /// Takes the next bytes.
     pub fn take(&mut self, bytes: &[u8]) {
-        for part in bytes.split_inclusive(|byte| *byte == b'\n') {
-            match part.strip_suffix(b"\n") {
-                Some(line) => {
-                    self.take_part(line);
-                    self.end_line();
-                }
-                None => self.take_part(part),
-            }
+        let mut start: usize = 0;
+        for end in memchr_iter(b'\n', bytes) {
+            self.take_part(bytes.get(start..end).unwrap_or(&[]));
+            self.end_line();
+            start = end.saturating_add(1);
         }
+        self.take_part(bytes.get(start..).unwrap_or(&[]));
     }
 
     // Takes a part of a line.
