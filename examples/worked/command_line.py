@@ -87,6 +87,8 @@ LINKED_LINES = f"./linked type=dir {OWNED}\n./linked/to\\040nothing type=link {O
 COMMENTS = "unify: warning: user {} has another comment on host {} than on {}\n".format
 # An inventory with three files, of which one stands on three lines; the second of these lines is joined of two.
 AGAIN = "# of alice\n./file uid=1001 gid=100\n/set uid=1001 gid=100\n\n  ./file \\\n  type=file\n. type=dir\nfile\n..\nother\n"
+# The same behind a comment, so long that the program gets the `..` in two pieces, which have 1,024 bytes each.
+PIECED = "#" + "x" * (1021 - AGAIN.index("..\n")) + "\n" + AGAIN
 # The files of b in inventories that unify writes: whole, two one behind the other, cut behind a line, with a line lost, and cut
 # before another.
 HEAD = "# unify inventory 1 b 2026-01-02T03:04:05Z /\n"
@@ -385,6 +387,7 @@ TABLE = [
         GETS("users", "a", "no member", ", ".join(f"u{number}" for number in MANY[:8]) + " and others"),
     ),
     ("merge out a=again b=again", 0, NOTHING_COUNTED, "unify: warning: lines of inventories whose path stood there before: 4\n"),
+    ("merge out a=pieced b=pieced", 0, NOTHING_COUNTED, "unify: warning: lines of inventories whose path stood there before: 4\n"),
     ("merge -q out a=again b=again", 0, NOTHING_COUNTED, ""),
     ("check --pins cut-pins good a=returns b", 4, "", CUT + RETURNS + "unify: 32 PinBroken user bob\n"),
     ("check -q --pins cut-pins good a=returns b", 4, "", "unify: 32 PinBroken user bob\n"),
@@ -519,6 +522,8 @@ def lay_out(room):
         (room / host / "mtree").write_text(mtree)
     shutil.copytree(room / "web", room / "again")
     (room / "again/mtree").write_text(AGAIN)
+    shutil.copytree(room / "web", room / "pieced")
+    (room / "pieced/mtree").write_text(PIECED)
     (room / TREE[1]).mkdir(parents=True)
     (room / TREE[2]).touch()
     (room / LINKED).parent.mkdir()
