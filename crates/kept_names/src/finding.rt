@@ -1,5 +1,5 @@
 //! What is found of one file.
-ghost use Rattle.std.specs.Prelude.{◌≡◌, option_copied, option_map};
+ghost use Rattle.std.specs.Prelude.{◌≡◌, option_copied};
 ghost use Rattle.kept_names.specs.Kept as kept;
 ghost use Rattle.kept_names.specs.Kept.{left_of, loss_of, unnamed_of, is_new};
 

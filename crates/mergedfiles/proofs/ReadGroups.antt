@@ -8,7 +8,7 @@ use Rattle.std.proofs.lemmas.List.Elements.{recursion_from_All}
 use Rattle.idtext.specs.Names.{is_lawful_name}
 use Rattle.idtext.specs.Pieces.{fields_of}
 use Rattle.idtext.proofs.NumberLemmas.{decimal-back}
-use Rattle.accounts.specs.Rows.{Group, group_from, members_of}
+use Rattle.accounts.specs.Rows.{Group, group_from}
 use Rattle.accounts.specs.Rows as row
 use Rattle.accounts.specs.Tables.{group_table}
 use Rattle.accounts.proofs.AcceptedLemmas.{group_accepted}

@@ -4,7 +4,7 @@ use Rattle.std.specs.Prelude.{slice_get}
 use Rattle.std.specs.List.{All, AllByRecursion, cons_option, find}
 use Rattle.std.specs.Option.{option_map}
 use Rattle.std.specs.Str.{bytes_eq}
-use Rattle.std.proofs.lemmas.Bool.{cases_Bool, and_parts}
+use Rattle.std.proofs.lemmas.Bool.{cases_Bool}
 use Rattle.std.proofs.lemmas.List.{length-map}
 use Rattle.std.proofs.lemmas.List.Elements.{recursion_from_All}
 use Rattle.std.proofs.lemmas.Option.{same_Some}
@@ -21,7 +21,7 @@ use Rattle.hosts_join.proofs.Grouping.{bytes_same, bytes_refl}
 use Rattle.hosts_join.proofs.Knowing.{host-known}
 use Rattle.mergedfiles.specs.declared.Field.{Field}
 use Rattle.mergedfiles.specs.declared.Field.TheVariants.{Password, Comment, Home, Shell, Group}
-use Rattle.mergedfiles.specs.Alike.{Covers, CoversHosts, IsCovered, IsSaidBy, SaysThat, field_said, fields_agree, is_differing, says_same, seen_at}
+use Rattle.mergedfiles.specs.Alike.{Covers, CoversHosts, IsCovered, SaysThat, is_differing, seen_at}
 use Rattle.mergedfiles.specs.declared.alike.Said.{Said}
 use Rattle.mergedfiles.specs.declared.alike.Sameness.{Sameness}
 use Rattle.mergedfiles.specs.declared.alike.Sameness.TheVariants.{Unseen, Same, Differing}
@@ -34,34 +34,6 @@ use Rattle.mergedfiles.proofs.ReadOrder.{place-named}
 use Rattle.mergedfiles.proofs.SameRows.{row_on}
 
 -- ---- rows that say the same
-
-fields-same : (first user : Said) → says_same first user ≡ true → (what : Field) → field_said user what ≡ field_said first what
-fields-same first user e what =
-    let abcd = and_parts (fields_agree first.row.now user.row.now) (bytes_eq user.group.now first.group.now) e in
-    let abc = and_parts _ (bytes_eq user.row.now.shell first.row.now.shell) abcd.0 in
-    let ab = and_parts _ (bytes_eq user.row.now.home first.row.now.home) abc.0 in
-    let a = and_parts (bytes_eq user.row.now.password first.row.now.password) (bytes_eq user.row.now.comment first.row.now.comment) ab.0 in
-    elim what as (λ w. field_said user w ≡ field_said first w) [
-      | Password ↦ bytes_same user.row.now.password first.row.now.password a.0
-      | Comment ↦ bytes_same user.row.now.comment first.row.now.comment a.1
-      | Home ↦ bytes_same user.row.now.home first.row.now.home ab.1
-      | Shell ↦ bytes_same user.row.now.shell first.row.now.shell abc.1
-      | Group ↦ bytes_same user.group.now first.group.now abcd.1
-    ]
-
--- a row says what was said by it
-pub says-that : (said : Said) (user : UserRow) → IsSaidBy user said → SaysThat said user
-says-that said user is what = elim what as (λ w. user_field w user ≡ field_said said w) [
-  | Password ↦ ap (λ (r : Passwd). r.password) (sym is.0)
-  | Comment ↦ ap (λ (r : Passwd). r.comment) (sym is.0)
-  | Home ↦ ap (λ (r : Passwd). r.home) (sym is.0)
-  | Shell ↦ ap (λ (r : Passwd). r.shell) (sym is.0)
-  | Group ↦ sym is.1
-]
-
--- and what the first said, where the two are the same
-pub says-same : (first said : Said) (user : UserRow) → says_same first said ≡ true → IsSaidBy user said → SaysThat first user
-says-same first said user e is = λ what. says-that said user is what ∙ fields-same first said e what
 
 abbrev AllSay : Said → List UserRow → Type 0
 AllSay said rows = AllByRecursion (SaysThat said) rows

@@ -2,8 +2,7 @@
 //!
 //! They are found by going over the rows host by host, in the order of their files. To look each
 //! row up by its name would take far longer: it is all over the memory.
-ghost use Rattle.std.specs.Prelude.{◌≡◌, ℕ, ◌<◌, ◌≤◌, length, IfOk};
-ghost use Rattle.std.specs.Str.{bytes_eq};
+ghost use Rattle.std.specs.Prelude.{◌≡◌, ℕ, ◌<◌, length, IfOk};
 ghost use Rattle.mergedfiles.specs.Alike as spec;
 ghost use Rattle.mergedfiles.specs.Alike.{Covers, CoversHost, CoversHosts, IsSaidBy, seen_at};
 ghost use Rattle.mergedfiles.specs.Differences as differences;

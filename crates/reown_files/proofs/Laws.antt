@@ -13,7 +13,7 @@ use Rattle.reown_plan.specs.declared.plan.Record.{Record}
 use Rattle.reown_plan.specs.PlanData.{PlanRecord}
 use Rattle.reown_plan.specs.Records.{record_of}
 use Rattle.reown_files.specs.declared.answers.Modes.{Modes}
-use Rattle.reown_files.specs.Calls.{Called, Gave, SetMode, Kept, Settled, PutMark, LostMode, PutModes}
+use Rattle.reown_files.specs.Calls.{Called, Gave, SetMode, Kept, Settled, PutMark, LostMode}
 use Rattle.reown_files.specs.Lawful.{is_planned, is_given, gives_by_plan, modes_stay, was_kept, all_kept, is_settled, is_synced, marks_last, is_unchanged, was_asked, all_asked, is_begun, begins_first, is_lawful}
 use Rattle.reown_files.specs.Real.{Grows, grows_on}
 
@@ -84,10 +84,6 @@ module _ (mark : PlanMark) (records : List PlanRecord) (calls : List Called) whe
       (and_true (modes_stay calls) (marks_last mark records calls && begins_first mark records calls) modes
       (and_true (marks_last mark records calls) (begins_first mark records calls) last begins))
 
--- one more file that was kept
-pub lawful_kept : (mark : PlanMark) (records : List PlanRecord) (calls : List Called) (path : List ℕ) (owner : Owner) (done : Bool) → is_lawful mark records calls ≡ true → is_lawful mark records (Kept path owner done ∷ calls) ≡ true
-lawful_kept mark records calls path owner done h = h
-
 module _ (mark : PlanMark) (records : List PlanRecord) (calls : List Called) (path : List ℕ) (before after : Owner) (planned : is_planned records path before after ≡ true) (begun : is_begun records calls ≡ true) (h : is_lawful mark records calls ≡ true) where
   abbrev parts : (gives_by_plan records calls ≡ true) × (modes_stay calls ≡ true) × (marks_last mark records calls ≡ true) × (begins_first mark records calls ≡ true)
   parts = lawful_parts mark records calls h
@@ -146,15 +142,6 @@ module _ (mark : PlanMark) (records : List PlanRecord) (calls : List Called) (un
     lawful_found mode done =
         lawful_of mark records (SetMode path owner mode done ∷ LostMode mark path owner (Some mode) ∷ calls) held.0
         (and_true (bytes_eq path path && (mode == mode)) (modes_stay calls) (and_true (bytes_eq path path) (mode == mode) (bytes_same path) (nat_same mode)) held.1) held.2 (asks (Some mode))
-
-  -- those that this run may lose
-  pub lawful_put : (done : Bool) → is_lawful mark records (PutModes mark done ∷ calls) ≡ true
-  lawful_put done =
-      lawful_of mark records (PutModes mark done ∷ calls) held.0 held.1 held.2
-      (and_true (mark_eq mark mark) (is_unchanged calls && begins_first mark records calls) (mark_same mark) (and_true (is_unchanged calls) (begins_first mark records calls) unchanged held.3))
-
-pub begun_put : (records : List PlanRecord) (calls : List Called) (plan : PlanMark) → all_asked records calls ≡ true → is_begun records (PutModes plan true ∷ calls) ≡ true
-begun_put records calls plan h = or_first (all_asked records calls) (is_begun records calls) h
 
 all_also : (p q : PlanRecord → Bool) → ((r : PlanRecord) → p r ≡ true → q r ≡ true) → (rs : List PlanRecord) → list_all p rs ≡ true → list_all q rs ≡ true
 all_also p q each [] h = refl

@@ -1,5 +1,5 @@
 -- Modes that are written down, and read.
-use Rattle.std.proofs.Common.{◌≡◌, ◌<◌, ◌≤◌, ◌+◌, ◌-◌, ◌*◌, ◌/◌, ◌%◌, ◌==◌, ◌&&◌, ℕ, Bool, true, false, cond, not, nat_le, List, [], ◌∷◌, ◌++◌, Option, None, Some, All, refl, sym, ◌∙◌, ap, append_assoc, arith}
+use Rattle.std.proofs.Common.{◌≡◌, ◌<◌, ◌≤◌, ◌+◌, ◌-◌, ◌*◌, ◌/◌, ◌%◌, ◌==◌, ◌&&◌, ℕ, Bool, true, false, cond, not, nat_le, List, [], ◌∷◌, ◌++◌, None, Some, All, refl, sym, ◌∙◌, ap, append_assoc, arith}
 use Rattle.std.specs.List.{list_all, onto_first}
 use Rattle.std.specs.Option.{option_map, option_and_then}
 use Rattle.std.proofs.lemmas.Bool.{and_parts, le-leb, leb-true}
@@ -98,18 +98,3 @@ lines_back (e ∷ entries) all =
     ap lines_read (lines-cut ((said ++ (10 ∷ [])) ++ more) said more cut)
     ∙ ap (option_and_then (λ (x : Entry). option_map (λ (es : List Entry). x ∷ es) (lines_read (lines more)))) (line-back e.0 e.1 here.0 here.1)
     ∙ ap (option_map (λ (es : List Entry). e ∷ es)) rest
-
--- ---- lines that are read one after the other
-
-pub nothing_before : (o : Option (List Entry)) → o ≡ option_map (λ (rest : List Entry). [] ++ rest) o
-nothing_before None = refl
-nothing_before (Some rest) = refl
-
-joined : (before : List Entry) (e : Entry) (o : Option (List Entry)) → option_map (λ (rest : List Entry). before ++ rest) (option_map (λ (rest : List Entry). e ∷ rest) o) ≡ option_map (λ (rest : List Entry). (before ++ e ∷ []) ++ rest) o
-joined before e None = refl
-joined before e (Some rest) = ap (λ es. Some es) (sym (append_assoc before (e ∷ []) rest))
-
-pub one_more_line : (whole : Option (List Entry)) (before : List Entry) (line : List ℕ) (left : List (List ℕ)) (e : Entry) → whole ≡ option_map (λ (rest : List Entry). before ++ rest) (lines_read (line ∷ left)) → line_read line ≡ Some e
-    → whole ≡ option_map (λ (rest : List Entry). (before ++ e ∷ []) ++ rest) (lines_read left)
-one_more_line whole before line left e is said =
-    is ∙ ap (λ (o : Option Entry). option_map (λ (rest : List Entry). before ++ rest) (option_and_then (λ (x : Entry). option_map (λ (es : List Entry). x ∷ es) (lines_read left)) o)) said ∙ joined before e (lines_read left)

@@ -10,9 +10,8 @@ use Rattle.reown_plan.specs.declared.mark.PlanMark.{PlanMark}
 use Rattle.reown_plan.specs.declared.plan.Owner.{Owner}
 use Rattle.reown_plan.specs.PlanData.{PlanRecord, HaveDistinctPaths}
 use Rattle.reown_runner.specs.declared.memory.FileCell.{FileCell}
-use Rattle.reown_runner.specs.Tree.{Cells, SameMark, Writes, Syncs, Stops, MayDo, Write, IsCounted, cells_of, ForEachPlan}
+use Rattle.reown_runner.specs.Tree.{Cells, SameMark, Writes, MayDo, Write, IsCounted, cells_of}
 use Rattle.reown_runner.specs.Memory.{Mem, known_mem, settled_cell, marked}
-use Rattle.reown_runner.specs.MemoryReads.{readable_mem}
 use Rattle.reown_runner.specs.Halfway.{mem_of_records}
 use Rattle.reown_runner.proofs.Cellwise.{either}
 use Rattle.reown_runner.proofs.Lists.{position_or_len-map, slice_get-map, slice_get-past}
@@ -143,19 +142,6 @@ module _ (old new : List Called) (m n : Mem) (path : List ℕ) (to : Owner) (pla
   pub written_replay : replay new ≡ with_owner path (Some to) (replay old) → IsReplay old m → IsReplay new n
   written_replay e r =
       record { owner = λ q. written (replay old) r.owner q ∙ sym (ap (λ (h : Held). h.owner q) e); mark = mark ∙ r.mark ∙ sym (ap (λ (h : Held). h.mark) e) }
-
--- ---- a stop
-
--- a sync leaves what a stop may leave
-pub stops_of_syncs : (m n : Mem) → ForEachPlan Syncs (known_mem m) (known_mem n) → ForEachPlan Stops (known_mem m) (known_mem n)
-stops_of_syncs m n syncs plan =
-    let s = syncs plan in
-    let c = cells_of plan (known_mem m) in
-    record {
-      owner = λ path. subst (c.owner_left path) (sym (s.owner path)) ((readable_mem m plan).owner path);
-      mark = subst c.mark_left (sym s.mark) (readable_mem m plan).mark;
-      settled = s.settled;
-    }
 
 -- ---- a tree in memory
 

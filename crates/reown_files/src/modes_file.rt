@@ -1,7 +1,7 @@
 //! The modes that a run of a plan may lose, as a file beside the mark. A change of its owner clears
 //! the set-user-ID and the set-group-ID bit of a file (chown(2)), and the next call sets them back:
 //! this is for a stop between the two.
-ghost use Rattle.std.specs.Prelude.{ℕ, ◌≡◌, ◌<◌, ◌+◌, ◌++◌, ◌↔◌, Some, IfOk, IfSome, IsTrue, OnOk};
+ghost use Rattle.std.specs.Prelude.{◌≡◌, ◌<◌, ◌+◌, ◌++◌, ◌↔◌, Some, IfOk, IfSome, IsTrue, OnOk};
 ghost use Rattle.std.specs.Prelude.{IfErr, None, false, map};
 ghost use Rattle.std.specs.Option.{option_copied};
 ghost use Rattle.reown_files.specs.declared.answers.Trouble.TheVariants.{NotModes};

@@ -1,6 +1,6 @@
 //! Directories and files that are open, and what a name in the working directory stands for.
 
-ghost use Rattle.std.specs.Prelude.{◌≡◌, ◌↔◌, IsTrue, IfOk};
+ghost use Rattle.std.specs.Prelude.{◌↔◌, IsTrue};
 ghost use Rattle.reown_files.specs.OneFile.{AreOneFile};
 
 use crate::Trouble;

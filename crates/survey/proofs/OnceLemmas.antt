@@ -63,11 +63,6 @@ once_more test old new before number passes is was =
     is ∙ ap (λ (ns : List ℕ). if has ns number then ns else ns ++ number ∷ []) was ∙ sym (each_once-push (filter test before) number)
     ∙ ap each_once (ap (λ (b : Bool). filter test before ++ cond b (number ∷ []) []) (sym passes) ∙ sym (filter-append test before (number ∷ [])))
 
--- one that does not
-pub once_same : (test : ℕ → Bool) (old before : List ℕ) (number : ℕ) → test number ≡ false → old ≡ each_once (filter test before) → old ≡ each_once (filter test (before ++ number ∷ []))
-once_same test old before number fails was =
-    was ∙ ap each_once (sym (append-nil (filter test before)) ∙ ap (λ (b : Bool). filter test before ++ cond b (number ∷ []) []) (sym fails) ∙ sym (filter-append test before (number ∷ [])))
-
 -- ---- which they are
 
 absorbed : (x y : ℕ) (b : Bool) → (nat_eq y x || (not (nat_eq x y) && b)) ≡ (nat_eq y x || b)

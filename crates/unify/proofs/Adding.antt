@@ -1,5 +1,5 @@
 -- The files of hosts, host after host.
-use Rattle.std.proofs.Common.{◌≡◌, ℕ, zero, suc, ◌+◌, ◌<◌, List, [], ◌∷◌, ◌++◌, length, map, get_or, refl, sym, ap, ◌∙◌, arith, append_assoc, append-nil}
+use Rattle.std.proofs.Common.{◌≡◌, ℕ, suc, ◌+◌, List, [], ◌∷◌, ◌++◌, length, map, refl, sym, ap, ◌∙◌, arith, append_assoc, append-nil}
 use Rattle.mtree_inv.specs.declared.entry.Entry.{Entry}
 use Rattle.hosts_join.specs.declared.host.Host.{Host}
 use Rattle.unify.specs.declared.host.Loaded.{Loaded}
@@ -19,13 +19,6 @@ pub length-loaded_from : (hosts : List Host) (mtrees : List (List ℕ)) → leng
 length-loaded_from [] mtrees same = refl
 length-loaded_from (host ∷ hosts) [] same = absurd (omega (arith, same))
 length-loaded_from (host ∷ hosts) (mtree ∷ mtrees) same = ap suc (length-loaded_from hosts mtrees (omega (arith, same)))
-
--- the host at an index, with the text that stands at it
-pub at-loaded_from : (hosts : List Host) (mtrees : List (List ℕ)) (i : ℕ) (host d : Host) (mtree e : List ℕ) (x : Loaded) → i < length hosts → i < length mtrees → host ≡ get_or hosts i d → mtree ≡ get_or mtrees i e → record { host = host; mtree = mtree } ≡ get_or (loaded_from hosts mtrees) i x
-at-loaded_from [] mtrees i host d mtree e x hi mi h m = absurd (omega arith)
-at-loaded_from (a ∷ hosts) [] i host d mtree e x hi mi h m = absurd (omega arith)
-at-loaded_from (a ∷ hosts) (b ∷ mtrees) zero host d mtree e x hi mi h m = λ i. record { host = h i; mtree = m i }
-at-loaded_from (a ∷ hosts) (b ∷ mtrees) (suc i) host d mtree e x hi mi h m = at-loaded_from hosts mtrees i host d mtree e x (omega arith) (omega arith) h m
 
 pub loaded_from-parts : (loaded : List Loaded) → loaded_from (map (λ l. l.host) loaded) (map (λ l. l.mtree) loaded) ≡ loaded
 loaded_from-parts [] = refl

@@ -1,7 +1,6 @@
 -- A host's own passwd and group with their new numbers keep the names that a finished plan keeps.
 use Rattle.std.proofs.Common.{◌≡◌, ◌||◌, inl, inr, ℕ, Bool, true, false, List, [], map, Option, Some, None, Ok, refl, sym, ap, subst, ◌∙◌}
 use Rattle.std.specs.List.{Contains, slice_get}
-use Rattle.std.specs.Option.{option_map}
 use Rattle.std.proofs.lemmas.List.Elements.{All-weaker}
 use Rattle.std.proofs.lemmas.Option.{get_or_from_slice_get, slice_get-map, slice_get_within}
 use Rattle.idtext.proofs.OkLemmas.{bind_ok, each-ok, ok_same}
@@ -31,9 +30,8 @@ use Rattle.unify.specs.HostTexts.{AreJoinedInFull, BegunSitesAreInFull, EmptyTex
 use Rattle.unify.specs.Hosts.{host_of}
 use Rattle.unify.specs.Laws.{IsWhole}
 use Rattle.unify.specs.Others.{Others, keeping_nothing, others_loaded, pinned_site, reserving}
-use Rattle.unify.specs.Outcomes.{hosts_in}
 use Rattle.unify.specs.Passes.{BegunSite, site_begun}
-use Rattle.unify.specs.Reading.{WholeSite, site_read}
+use Rattle.unify.specs.Reading.{WholeSite}
 use Rattle.unify.specs.Told.{in_site}
 use Rattle.unify.proofs.InFull.{numbered_rows, own_group_in_full, own_passwd_in_full, primary_groups}
 use Rattle.unify.proofs.Installed.{is-paired, mapped-there, paired}
@@ -261,13 +259,6 @@ empty_texts_keep_no_name texts rules begun empty is =
     λ j. names_reserve (users j) || names_reserve (groups j)
 
 -- ---- a site that was read
-
-pub site_texts : (texts : List HostText) (rules : SiteRules) (site : WholeSite) → site_read texts rules ≡ Ok site → (h : ℕ) (host : Host) (files : List Entry) (text : HostText) → slice_get site.hosts h ≡ Some (host, files) → slice_get texts h ≡ Some text → IsTextOf site.joined host text
-site_texts texts rules site read h host files text here there =
-    let s = steps texts rules site read in
-    let first = λ (x : Host × List Entry). x.0 in
-    let at : slice_get (hosts_in site) h ≡ Some host = slice_get-map first site.hosts h ∙ ap (option_map first) here in
-    text_of texts rules.keep s.others (are-loaded texts rules.keep s.others s.others_are) rules.pins site.joined s.joined_is h host text (ap (λ (hs : List Host). slice_get hs h) (hosts-are texts rules site s) ∙ at) there
 
 pub read_sites_are_in_full : ReadSitesAreInFull
 read_sites_are_in_full texts rules site read none =

@@ -1,10 +1,9 @@
 -- What was joined of a host, and its own files by it.
 use Rattle.std.proofs.Common.{◌≡◌, ℕ, ◌==◌, true, false, List, [], ◌∷◌, map, Option, Some, None, Ok, refl, sym, ap, subst, ◌∙◌}
 use Rattle.std.specs.Prelude.{MatchOption, is_some}
-use Rattle.std.specs.List.{AllByRecursion, AllZip, filter, find}
+use Rattle.std.specs.List.{AllByRecursion, AllZip, find}
 use Rattle.std.specs.Option.{option_and_then, option_map}
-use Rattle.std.proofs.lemmas.Bool.{true≢false}
-use Rattle.std.proofs.lemmas.List.Elements.{All-from_recursion, All-weaker}
+use Rattle.std.proofs.lemmas.List.Elements.{All-weaker}
 use Rattle.accounts.specs.Laws.{AreDistinct}
 use Rattle.accounts.specs.Rows.{Passwd, Group}
 use Rattle.accounts.specs.Tables.{passwd_table, group_table}
@@ -30,7 +29,7 @@ use Rattle.mergedfiles.proofs.ReadHosts.{all-primary}
 use Rattle.mergedfiles.proofs.ReadLines.{both-hold}
 use Rattle.mergedfiles.proofs.ReadText.{all-says}
 use Rattle.unify_texts.specs.WrittenMap.{SayMapping}
-use Rattle.unify.specs.HostTexts.{AreJoinedRows, IsJoinedPart}
+use Rattle.unify.specs.HostTexts.{AreJoinedRows}
 use Rattle.unify.proofs.Installed.{is-paired}
 use Rattle.unify.proofs.Keeping.{is_mapping}
 use Rattle.unify.proofs.Sparing.{unreserved}
@@ -45,10 +44,6 @@ module _ {Row : Type 0} (name : Row → List ℕ) (a : Accounts) where
   abbrev IsOfSite : Row → Type 0
   IsOfSite row = is_name a.names (name row) ≡ true
 
-  all_joined : (rows : List Row) → AllByRecursion IsOfSite rows → filter (λ row. is_name a.names (name row)) rows ≡ rows
-  all_joined [] all = refl
-  all_joined (row ∷ rows) all = rw all.0 (ap (λ rs. row ∷ rs) (all_joined rows all.1))
-
 module _ {Row : Type 0} (name : Row → List ℕ) (number : Row → ℕ) (a : Accounts) where
   abbrev IsKept : Row → Type 0
   IsKept row = is_name a.names (name row) ≡ false → is_reserved a.reserved (number row) ≡ true
@@ -58,23 +53,11 @@ module _ {Row : Type 0} (name : Row → List ℕ) (number : Row → ℕ) (a : Ac
   all_of_site h rows apart known =
       all-says (IsFound name number rows) (IsOfSite name a) (λ row found. named_there a h (number row) (name row) (option_map name (find (λ r. number row == number r) rows)) (known (number row)) found) rows (each-found name number rows apart)
 
-  joined_rows : (rows : List Row) → AllByRecursion (IsOfSite name a) rows → AreJoinedRows name number a rows rows
-  joined_rows rows all = record {
-    joined_are = sym (all_joined name a rows all);
-    kept = All-from_recursion IsKept rows (all-says (IsOfSite name a) IsKept (λ row of_site none. absurd (true≢false (sym of_site ∙ none))) rows all);
-  }
-
 users_of_site : (site : Joined) (h : ℕ) (host : Host) → IsLawfulHost host → KnowsHost site h host → AllByRecursion (IsOfSite user_name site.users) host.users
 users_of_site site h host lawful known = all_of_site user_name user_number site.users h host.users lawful.users.numbers_differ known.users
 
 groups_of_site : (site : Joined) (h : ℕ) (host : Host) → IsLawfulHost host → KnowsHost site h host → AllByRecursion (IsOfSite group_name site.groups) host.groups
 groups_of_site site h host lawful known = all_of_site group_name group_number site.groups h host.groups lawful.groups.numbers_differ known.groups
-
-pub joined_in_full : (site : Joined) (h : ℕ) (host : Host) → IsLawfulHost host → KnowsHost site h host → IsJoinedPart site host host
-joined_in_full site h host lawful known = record {
-  users = joined_rows user_name user_number site.users host.users (users_of_site site h host lawful known);
-  groups = joined_rows group_name group_number site.groups host.groups (groups_of_site site h host lawful known);
-}
 
 -- ---- a host of which some rows are kept
 

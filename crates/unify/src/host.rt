@@ -1,6 +1,6 @@
 //! What the texts of a host say.
 
-ghost use Rattle.std.specs.Prelude.{◌≡◌, ◌≤◌, [], length, Ok, Err, IfOk, IfErr, IfSome, All};
+ghost use Rattle.std.specs.Prelude.{◌≡◌, [], length, Ok, Err, IfOk, IfErr, IfSome, All};
 ghost use Rattle.std.specs.Prelude.{option_map};
 ghost use Rattle.idtext.specs.First.{Gives, each};
 ghost use Rattle.accounts.specs.Laws.{IsPasswdTable, IsGroupTable};
@@ -13,7 +13,7 @@ ghost use Rattle.unify_texts.specs.declared.fault.Fault.{Fault};
 ghost use Rattle.unify_texts.specs.declared.fault.Fault.TheVariants.{Line};
 ghost use Rattle.unify_texts.specs.Told.{told};
 ghost use Rattle.unify.specs.Told.{in_file, site_told, in_site};
-ghost use Rattle.unify.specs.Hosts.{allows_gid, allows_uid, host_of, owner_fault, sparing_none};
+ghost use Rattle.unify.specs.Hosts.{allows_gid, allows_uid, host_of, owner_fault};
 
 use accounts::{GroupTable, PasswdTable, read_group, read_passwd};
 use hosts_join::{Host, HostText, Runs, SiteFault, check_primary};

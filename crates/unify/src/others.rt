@@ -6,12 +6,10 @@ ghost use Rattle.hosts_join.specs.declared.reserving.Reserved.{Reserved};
 ghost use Rattle.kept_accounts.specs.Keeping.{IsKeeping, groups_on, keeps, users_on};
 ghost use Rattle.kept_accounts.specs.Others.{without};
 ghost use Rattle.kept_accounts.specs.Reserving.{reserved_groups, reserved_users};
-ghost use Rattle.keep_text.specs.KeepTexts.{keep_of};
 ghost use Rattle.unify_texts.specs.Told.{told};
 ghost use Rattle.unify.specs.Others.{keep_read, others_of, others_read};
 ghost use Rattle.unify.specs.OthersHeld.{others_in};
 ghost use Rattle.unify.specs.Sparing.{SparesNothing};
-ghost use Rattle.unify.specs.Told.{in_keep};
 
 use crate::rules::KeepRules;
 use hosts_join::{Groups, Host, Reserved, Users};

@@ -1,6 +1,6 @@
 //! The mounts that this process sees, as the system tells them (proc(5)): where a directory is
 //! among them, and what is below it.
-ghost use Rattle.std.specs.Prelude.{◌≡◌, map, codes, option_map, option_copied, IfOk};
+ghost use Rattle.std.specs.Prelude.{◌≡◌, option_map, option_copied, IfOk};
 ghost use Rattle.idtext.specs.First.{Gives};
 ghost use Rattle.idtext.specs.Words.{words};
 ghost use Rattle.unify_apply.specs.Mounts.{text_of, kind_in, mount_in, mount_told, mounts_in};

@@ -1,13 +1,11 @@
 -- Why a rehearsal ended early.
-use Rattle.std.proofs.Common.{◌≡◌, ◌+◌, ℕ, Bool, List, length, Ok, Err, IfSome, ap, refl, inl, inr}
+use Rattle.std.proofs.Common.{◌≡◌, ◌+◌, ℕ, Bool, List, length, Ok, IfSome, ap, inl, inr}
 use Rattle.reown_plan.specs.PlanData.{PlanData}
 use Rattle.reown_plan.specs.Reading.{ReadsAs}
 use Rattle.unify_texts.specs.Told.{told}
 use Rattle.unify_texts.specs.declared.fault.Fault.{Fault}
-use Rattle.unify_texts.specs.declared.fault.Fault.TheVariants.{BadPlan}
 use Rattle.unify.specs.PlanRehearsal.{IsRefusedBy}
-use Rattle.unify.specs.Rehearsing.{rehearsed}
-use Rattle.unify_merge.specs.FirstReading.{HasRead, IsReading}
+use Rattle.unify_merge.specs.FirstReading.{IsReading}
 use Rattle.unify_merge.specs.Ledger.{Ledger, Reading}
 use Rattle.unify_merge.specs.Pieces.{EndsEarly}
 use Rattle.unify_merge.specs.Rehearse.{StopsCarrying, StopsRehearsal}
@@ -26,16 +24,8 @@ carrying_ended plan left text bytes before old new failed (Refused e) may early 
 pub piece_refused : (plan : PlanData) (text : List ℕ) (before : List Reading) (l : Ledger) (failed : Bool) (e : Fault) → IsReading before 0 text l → IfSome (told e) (IsRefusedBy plan text) → StopsCarrying plan before l failed (Refused e)
 piece_refused plan text before l failed e reading fault = if_told (told e) _ _ (λ f is. (text, inl (reading, is))) fault
 
--- all of it is
-pub end_refused : (plan : PlanData) (text : List ℕ) (before : List Reading) (l : Ledger) (failed : Bool) (e : Fault) → HasRead before 0 text l → IfSome (told e) (λ f. rehearsed (Ok plan) text ≡ Err f) → StopsCarrying plan before l failed (Refused e)
-end_refused plan text before l failed e read fault = if_told (told e) _ _ (λ f is. (text, inr (read, is))) fault
-
 -- with the text of the plan
 pub rehearsal_stopped : (text : List ℕ) (plan : PlanData) (old new : Ledger) (failed : Bool) (fault : MergeFault) → ReadsAs text (Ok plan) → StopsCarrying plan old.read new failed fault → StopsRehearsal text old new failed fault
 rehearsal_stopped text plan old new failed Failed reads stops = stops
 rehearsal_stopped text plan old new failed TooLarge reads stops = stops
 rehearsal_stopped text plan old new failed (Refused e) reads stops = if_told (told e) _ _ (λ f is. inr (plan, reads, is)) stops
-
--- the plan is refused
-pub plan_stopped : (text : List ℕ) (old : Ledger) (failed : Bool) (e : Fault) → IfSome (told e) (λ f. (offset : ℕ) × (f ≡ BadPlan offset) × ReadsAs text (Err offset)) → StopsRehearsal text old old failed (Refused e)
-plan_stopped text old failed e h = if_told (told e) _ _ (λ f is. inl (is.0, is.2, is.1, refl)) h

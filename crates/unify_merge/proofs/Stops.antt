@@ -1,7 +1,6 @@
 -- Why a reading of an inventory ended early.
-use Rattle.std.proofs.Common.{◌≡◌, ◌+◌, ◌<◌, ◌++◌, ℕ, Bool, List, length, Option, Some, None, Err, ap, ◌∙◌, arith, inl, inr, length-append}
+use Rattle.std.proofs.Common.{◌≡◌, ◌+◌, ◌<◌, ◌++◌, ℕ, Bool, List, length, Option, Some, None, Err, ap, arith, inl, inr, length-append}
 use Rattle.std.specs.Prelude.{IfSome}
-use Rattle.std.specs.List.{slice_get}
 use Rattle.hosts_join.specs.declared.host.Host.{Host}
 use Rattle.unify_texts.specs.Told.{told}
 use Rattle.unify_texts.specs.declared.fault.Fault.{Fault}
@@ -17,10 +16,6 @@ use Rattle.unify_merge.specs.declared.fault.MergeFault.TheVariants.{Failed, TooL
 pub if_told : (o : Option Fault) (P Q : Fault → Type 0) → ((f : Fault) → P f → Q f) → IfSome o P → IfSome o Q
 if_told None P Q goes p = tt
 if_told (Some f) P Q goes p = goes f p
-
--- what stands in a list at an index stands in the same list at the same index
-pub at_same : {A : Type 0} (xs ys : List A) (k j : ℕ) (x : A) → ys ≡ xs → j ≡ k → slice_get xs k ≡ Some x → slice_get ys j ≡ Some x
-at_same xs ys k j x same equal here = (λ i. slice_get (same i) (equal i)) ∙ here
 
 -- more bytes than there may be
 pub is_too_large : (host left : ℕ) (text bytes : List ℕ) (l : Ledger) → left + length text ≡ 4294967295 → l.reading ≡ Some (record { host = host; text = text ++ bytes }) → left < length bytes → IsTooLarge l

@@ -1,7 +1,7 @@
 //! Each host's own passwd and group with their new numbers are written.
 
 ghost use Rattle.std.specs.Prelude.{◌≡◌, ◌<◌, ◌++◌, ◌∷◌, [], length, true, Some, slice_get};
-ghost use Rattle.std.specs.Prelude.{IfOk, OnOk, IfErr, OnErr};
+ghost use Rattle.std.specs.Prelude.{OnOk, IfErr, OnErr};
 ghost use Rattle.hosts_join.specs.declared.host.Host.{Host};
 ghost use Rattle.unify.specs.HostTexts.{group_file, host_files, passwd_file};
 ghost use Rattle.unify.specs.Merging.{mappings_in};

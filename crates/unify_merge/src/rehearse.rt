@@ -1,6 +1,6 @@
 //! A rehearsal of a plan, from the bytes that it reads.
 
-ghost use Rattle.std.specs.Prelude.{List, [], IfErr, IfOk, ℕ};
+ghost use Rattle.std.specs.Prelude.{[], IfErr, IfOk};
 ghost use Rattle.reown_plan.specs.PlanData.{PlanData};
 ghost use Rattle.unify.specs.PlanRehearsal.{StandsFor};
 ghost use Rattle.unify_merge.specs.FirstReading.{ReadsOnly};
