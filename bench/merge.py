@@ -5,14 +5,15 @@
 
 `count` reads the accounts, and reads and counts the files; it makes no join. `check` joins the accounts too, and checks the
 certificate. `merge` reads the inventories twice, and also joins, solves and writes. What these two take is also told as a ratio to
-`count`. The parts are differences between such runs, on the site and on the same hosts with one file of fifty, where joining and
-solving are as hard and the inventories take a fiftieth. Run `make program` first. The site is made below bench/work, which git does not see.
+`count`, of the seconds that go by, in which a merge waits for the disk, and of those of a processor, the least of three runs each.
+The parts are differences between such runs, on the site and on the same hosts with one file of fifty, where joining and solving
+are as hard and the inventories take a fiftieth. Run `make program` first. The site is made below bench/work, which git does not see.
 """
 import os
 import shutil
 import sys
 
-from measure import HERE, UNIFY, timed
+from measure import HERE, UNIFY, least_processor_seconds, timed
 from site_of import write_site
 
 
@@ -35,27 +36,29 @@ def thinned(folder, words):
     return thin
 
 
+def commands_of(folder, words):
+    """The three commands by name; a check reads the certificate of the merge before it."""
+    out = f"{folder}/out"
+    commands = {"count": ["count", f"{folder}/map"], "merge": ["merge", out], "check": ["check", f"{out}/certificate"]}
+    return {name: [UNIFY, *command, *words] for name, command in commands.items()}
+
+
 def run(folder, words, files):
     """Runs the three commands, and tells and answers their times by name."""
-    out = f"{folder}/out"
-    shutil.rmtree(out, ignore_errors=True)
-    os.mkdir(out)
+    shutil.rmtree(f"{folder}/out", ignore_errors=True)
+    os.mkdir(f"{folder}/out")
     times = {}
-    for name, command in [
-        ("count", ["count", f"{folder}/map"]),
-        ("merge", ["merge", out]),
-        ("check", ["check", f"{out}/certificate"]),
-    ]:
-        seconds, peak, printed = timed([UNIFY, *command, *words])
+    for name, command in commands_of(folder, words).items():
+        seconds, peak, printed = timed(command)
         times[name] = seconds
         print(f"unify {name}: {seconds:6.2f} s, {files / seconds:9,.0f} files/s, peak {peak:6,.0f} MiB; {' '.join(printed.split())}", flush=True)
     return times
 
 
-def print_ratios(times):
+def print_ratios(times, what):
     """How many times as long as a count, which reads once, the other two take."""
     for name in ("merge", "check"):
-        print(f"unify {name} / count: {times[name] / times['count']:.2f}")
+        print(f"unify {name} / count, {what}: {times[name] / times['count']:.2f}")
 
 
 def print_parts(whole, thin):
@@ -79,7 +82,8 @@ def main():
     size = sum(os.path.getsize(f"{word.split('=')[1]}/mtree") for word in words)
     print(f"{hosts} hosts, {users} users and {files} files a host: {size / 1e6:.1f} MB of inventories", flush=True)
     whole = run(folder, words, hosts * files)
-    print_ratios(whole)
+    print_ratios(whole, "seconds")
+    print_ratios(least_processor_seconds(commands_of(folder, words), rounds=3)[0], "seconds of a processor")
     name, directory = words[0].split("=")
     seconds, peak, printed = timed([UNIFY, "rehearse", f"{folder}/out/plan.{name}", f"{directory}/mtree"])
     print(f"unify rehearse {name}: {seconds:.2f} s, peak {peak:,.0f} MiB; {' '.join(printed.split())}")

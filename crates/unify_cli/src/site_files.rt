@@ -36,7 +36,7 @@ impl Output<'_> {
 
     // Gives the file its name.
     fn finish(&mut self) -> Result<(), FileFault> {
-        match &self.file {
+        match &mut self.file {
             Some(file) => file.keep(self.rt)?,
             None => return Err(no_host(self.rt)),
         }

@@ -6,7 +6,7 @@ use crate::output::{MARK, OWN_GROUP, OWN_PASSWD, PLAN, TEMPORARY, is_file_with, 
 use crate::report::file_failed;
 use std::alloc::AllocError;
 use std::fs::File;
-use std::io::Write;
+use std::io::{BufWriter, Write};
 use std::path::{Path, PathBuf};
 use std::{fs, io, str};
 
@@ -21,12 +21,15 @@ fn path_of(
     Path::new(directory).join(rt.alloc(), name.as_str())
 }
 
+// How many bytes of a file are handed on at once, at least: a plan comes in many small pieces.
+const BUFFER_BYTES: usize = 65536;
+
 /// A file that is written under a temporary name, and renamed when it is whole.
 #[derive(Drop)]
 pub struct NewFile {
     path: PathBuf,
     temporary: PathBuf,
-    file: File,
+    writer: BufWriter<File>,
 }
 
 impl NewFile {
@@ -34,19 +37,27 @@ impl NewFile {
     pub fn create(rt: &HostRuntime, directory: &str, name: &str) -> Result<NewFile, FileFault> {
         let temporary = path_of(rt, directory, TEMPORARY, name)?;
         let path = Path::new(directory).join(rt.alloc(), name)?;
-        match File::create_new(rt, temporary.as_str()) {
-            Ok(file) => Ok(NewFile {
+        let file = match File::create_new(rt, temporary.as_str()) {
+            Ok(file) => file,
+            Err(error) => return Err(file_failed(rt, temporary.as_str(), &error)),
+        };
+        match BufWriter::with_capacity(rt.alloc(), BUFFER_BYTES, file) {
+            Ok(writer) => Ok(NewFile {
                 path,
                 temporary,
-                file,
+                writer,
             }),
-            Err(error) => Err(file_failed(rt, temporary.as_str(), &error)),
+            Err(error) => {
+                let _ = fs::remove_file(rt, temporary.as_str());
+                Err(file_failed(rt, temporary.as_str(), &error))
+            }
         }
     }
 
-    // Syncs the file and gives it its name.
-    fn take_place(&self, rt: &HostRuntime) -> io::Result<()> {
-        self.file.sync_all()?;
+    // Hands on what waits, syncs the file and gives it its name.
+    fn take_place(&mut self, rt: &HostRuntime) -> io::Result<()> {
+        self.writer.flush()?;
+        self.writer.get_ref().sync_all()?;
         fs::rename(rt, self.temporary.as_str(), self.path.as_str())
     }
 
@@ -61,16 +72,17 @@ impl NewFile {
         let _ = fs::remove_file(rt, self.temporary.as_str());
     }
 
-    /// Appends bytes. What there is of a file that cannot be written is removed.
+    /// Appends bytes, some of which may wait until the file is kept. What there is of a file that
+    /// cannot be written is removed.
     pub fn write(&mut self, rt: &HostRuntime, bytes: &[u8]) -> Result<(), FileFault> {
-        match self.file.write_all(bytes) {
+        match self.writer.write_all(bytes) {
             Ok(()) => Ok(()),
             Err(error) => Err(self.given_up(rt, &error)),
         }
     }
 
-    /// Syncs the file and gives it its name.
-    pub fn keep(&self, rt: &HostRuntime) -> Result<(), FileFault> {
+    /// Writes what waits, syncs the file and gives it its name.
+    pub fn keep(&mut self, rt: &HostRuntime) -> Result<(), FileFault> {
         match self.take_place(rt) {
             Ok(()) => Ok(()),
             Err(error) => Err(self.given_up(rt, &error)),
