@@ -2,7 +2,7 @@
 use Rattle.std.proofs.Common.{◌≡◌, ◌≢◌, ℕ, ◌+◌, ◌<◌, ◌≤◌, Bool, true, false, not, List, [], ◌∷◌, ◌++◌, length, map, get_or, Option, Some, None, Result, Ok, Err, refl, sym, ap, subst, ◌∙◌, arith, append-nil, append_assoc, inl, inr, length-append}
 use Rattle.std.specs.Prelude.{IfSome, if◌then◌else◌}
 use Rattle.std.specs.List.{All, filter}
-use Rattle.std.specs.Result.{MatchResult, OnOk}
+use Rattle.std.specs.Result.{OnOk}
 use Rattle.std.proofs.lemmas.Bool.{true≢false}
 use Rattle.std.proofs.lemmas.List.{get_or_append_left, map-append}
 use Rattle.std.proofs.lemmas.List.Concat.{flat_map-append}
@@ -37,7 +37,7 @@ use Rattle.unify.specs.declared.plan_turn.Stop.TheVariants as stop
 use Rattle.unify.specs.Hosts.{owner_fault, files_of}
 use Rattle.unify.specs.LastOwner.{IsLastOwner}
 use Rattle.unify.specs.RowFiles.{RowFiles, row_files}
-use Rattle.unify.specs.PlanTurns.{TurnsFor, planned_so_far, stop_of}
+use Rattle.unify.specs.PlanTurns.{GoesOn, TellsLines, TurnsFor, planned_so_far, stop_of}
 use Rattle.unify.specs.SecondPass.{IsUnfinished, or_changed, owned_lines, plan_before_end, second_files}
 use Rattle.unify.proofs.FilesSoFar.{files_first, files_so_far}
 use Rattle.unify.proofs.Turns.{files_with, grown_files, inventory_is, none_then}
@@ -218,10 +218,6 @@ more_after host joined merged index old turn after text fed planned turns is mos
     let begun = begun_turn host joined merged index old turn text planned turns is in
     record { turns = begun; begun = ap (λ (t : PlanTurn). t.is_begun) is; most = most; grow = grow; stands = goes begun.reading }
 
--- the turn goes on, or the plan stays without its end
-abbrev pub GoesOn : Host → Joined → Merged → ℕ → PlanTurn → List ℕ → Result (Unit {0}) Stop → List ℕ → Type 0
-GoesOn host joined merged index turn text r planned = MatchResult r (λ _. TurnsFor host joined merged index turn text planned) (λ _. IsUnfinished host joined merged index text planned)
-
 module _ (host : Host) (joined : Joined) (merged : Merged) (index : ℕ) (turn : PlanTurn) (after : ReaderValue) (text fed planned : List ℕ) (more : HasMore host joined merged index turn after text fed planned) where
   -- they stand behind those that were appended
   files_more : after.files ≡ turn.reader.files ++ after.waiting
@@ -297,7 +293,7 @@ module _ (host : Host) (joined : Joined) (merged : Merged) (index : ℕ) (turn :
   -- what is told of whole lines
   pub told_more : (r : Result (Unit {0}) Stop) → inventory_of_lines turn.reader.most (whole_lines fed) ≡ Ok after.files → OnOk r (All (λ f. owner_fault host [] f ≡ None) after.waiting)
       → (r ≡ Err stop.Changed → (f : Fault) × (first_fault (owner_fault host) [] after.waiting ≡ Some f))
-      → MatchResult r (λ _. (files : List Entry) × (owned_lines host fed ≡ Ok files)) (λ s. s ≡ stop.Changed → (f : Fault) × (owned_lines host fed ≡ Err f))
+      → TellsLines host fed r
   told_more (Ok u) told owned unowned = (after.files, lines_with host fed after.files None (lines_are turn.reader.most fed after.files more.turns.most told) (owned_more owned))
   told_more (Err s) told owned unowned = λ changed.
       let first = unowned (ap (λ x. Err x) changed) in

@@ -1,8 +1,8 @@
 //! The inventory of one host a second time, in pieces, and its plan.
 
 ghost use Rattle.std.specs.Prelude.{◌≡◌, ◌+◌, ◌≤◌, ◌++◌, ◌∷◌, ℕ, List, [], length, All, true};
-ghost use Rattle.std.specs.Prelude.{if◌then◌else◌, is_ok, slice_get, Some, None, Ok, Err, IfSome};
-ghost use Rattle.std.specs.Prelude.{IfErr, OnOk, OnErr, MatchResult};
+ghost use Rattle.std.specs.Prelude.{if◌then◌else◌, is_ok, slice_get, Some, None, Err, IfSome};
+ghost use Rattle.std.specs.Prelude.{IfErr, OnOk, OnErr};
 ghost use Rattle.mtree_inv.specs.Standing as standing;
 ghost use Rattle.mtree_inv.specs.declared.entry.Entry.{Entry};
 ghost use Rattle.hosts_join.specs.Laws.{KnowsHost};
@@ -14,9 +14,9 @@ ghost use Rattle.unify_texts.specs.declared.fault.Fault.{Fault};
 ghost use Rattle.unify.specs.declared.plan_turn.Stop.TheVariants as stop;
 ghost use Rattle.unify.specs.Hosts.{owner_fault};
 ghost use Rattle.unify.specs.LastOwner.{IsLastOwner, no_owner};
-ghost use Rattle.unify.specs.PlanTurns.{IsAccepted, IsFreshTurn, TurnsFor, stop_of};
+ghost use Rattle.unify.specs.PlanTurns.{IsFreshTurn, TurnsFor, stop_of};
+ghost use Rattle.unify.specs.PlanTurns.{GoesOn, Ends, TellsLines, TellsFiles};
 ghost use Rattle.unify.specs.RowFiles.{row_files};
-ghost use Rattle.unify.specs.SecondPass.{HaveSameCounts, IsUnfinished, owned_lines, second_files};
 
 use crate::host::MOST_FILES;
 use crate::merging::Merged;
@@ -230,17 +230,12 @@ fn read_on(
     requires for_site { AreForSite site.now merged.now.users merged.now.groups }
     ensures told { (text planned : List ℕ)
         → TurnsFor host.now site.now merged.now index turn.old text planned
-        → MatchResult result
-        (λ _. (files : List Entry) × (owned_lines host.now (text ++ bytes.now) ≡ Ok files))
-        (λ s. s ≡ stop.Changed → (f : Fault) × (owned_lines host.now (text ++ bytes.now) ≡ Err f)) }
+        → TellsLines host.now (text ++ bytes.now) result }
     ensures stands { (text planned : List ℕ)
         → TurnsFor host.now site.now merged.now index turn.old text planned → (more : List ℕ)
         × (plan.new.items ≡ plan.old.items ++ more)
-        × MatchResult result
-        (λ _. TurnsFor host.now site.now merged.now index turn.new (text ++ bytes.now)
-        (planned ++ more))
-        (λ _. IsUnfinished host.now site.now merged.now index (text ++ bytes.now)
-        (planned ++ more)) }
+        × GoesOn host.now site.now merged.now index turn.new (text ++ bytes.now) result
+        (planned ++ more) }
     ensures begun { OnOk result (turn.new.is_begun ≡ true) }
 {
     begin_plan(turn, host, plan)?;
@@ -271,17 +266,12 @@ pub fn feed_plan(
     requires for_site { AreForSite site.now merged.now.users merged.now.groups }
     ensures told { (text planned : List ℕ)
         → TurnsFor host.now site.now merged.now index turn.old text planned
-        → MatchResult result
-        (λ _. (files : List Entry) × (owned_lines host.now (text ++ bytes.now) ≡ Ok files))
-        (λ s. s ≡ stop.Changed → (f : Fault) × (owned_lines host.now (text ++ bytes.now) ≡ Err f)) }
+        → TellsLines host.now (text ++ bytes.now) result }
     ensures stands { (text planned : List ℕ)
         → TurnsFor host.now site.now merged.now index turn.old text planned → (more : List ℕ)
         × (plan.new.items ≡ plan.old.items ++ more)
-        × MatchResult result
-        (λ _. TurnsFor host.now site.now merged.now index turn.new (text ++ bytes.now)
-        (planned ++ more))
-        (λ _. IsUnfinished host.now site.now merged.now index (text ++ bytes.now)
-        (planned ++ more)) }
+        × GoesOn host.now site.now merged.now index turn.new (text ++ bytes.now) result
+        (planned ++ more) }
     ensures begun { OnOk result (turn.new.is_begun ≡ true) }
     ensures stopped { IfErr result (λ s. turn.new.stop ≡ Some s) }
     ensures again { IfSome turn.old.stop
@@ -314,18 +304,11 @@ fn read_end(
     requires for_site { AreForSite site.now merged.now.users merged.now.groups }
     ensures told { (text planned : List ℕ) (were : List Entry)
         → TurnsFor host.now site.now merged.now index turn.old text planned
-        → first.now ≡ row_files host.now were
-        → MatchResult result
-        (λ _. (files : List Entry) × (second_files host.now text ≡ Ok files)
-        × HaveSameCounts host.now were files)
-        (λ s. s ≡ stop.Changed → (files : List Entry) → second_files host.now text ≡ Ok files
-        → HaveSameCounts host.now were files → ⊥) }
+        → first.now ≡ row_files host.now were → TellsFiles host.now were text result }
     ensures stands { (text planned : List ℕ)
         → TurnsFor host.now site.now merged.now index turn.old text planned → (more : List ℕ)
         × (plan.new.items ≡ plan.old.items ++ more)
-        × MatchResult result
-        (λ _. IsAccepted host.now site.now merged.now index text (planned ++ more))
-        (λ _. IsUnfinished host.now site.now merged.now index text (planned ++ more)) }
+        × Ends host.now site.now merged.now index text result (planned ++ more) }
 {
     begin_plan(turn, host, plan)?;
     turn.reader.finish()?;
@@ -357,18 +340,11 @@ pub fn finish_plan(
     requires for_site { AreForSite site.now merged.now.users merged.now.groups }
     ensures told { (text planned : List ℕ) (were : List Entry)
         → TurnsFor host.now site.now merged.now index turn.old text planned
-        → first.now ≡ row_files host.now were
-        → MatchResult result
-        (λ _. (files : List Entry) × (second_files host.now text ≡ Ok files)
-        × HaveSameCounts host.now were files)
-        (λ s. s ≡ stop.Changed → (files : List Entry) → second_files host.now text ≡ Ok files
-        → HaveSameCounts host.now were files → ⊥) }
+        → first.now ≡ row_files host.now were → TellsFiles host.now were text result }
     ensures stands { (text planned : List ℕ)
         → TurnsFor host.now site.now merged.now index turn.old text planned → (more : List ℕ)
         × (plan.new.items ≡ plan.old.items ++ more)
-        × MatchResult result
-        (λ _. IsAccepted host.now site.now merged.now index text (planned ++ more))
-        (λ _. IsUnfinished host.now site.now merged.now index text (planned ++ more)) }
+        × Ends host.now site.now merged.now index text result (planned ++ more) }
     ensures stopped { IfErr result (λ s. turn.new.stop ≡ Some s) }
     ensures again { IfSome turn.old.stop
         (λ s. (result ≡ Err s) × (turn.new ≡ turn.old) × (plan.new ≡ plan.old)) }

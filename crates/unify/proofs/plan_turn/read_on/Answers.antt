@@ -3,7 +3,8 @@ use Rattle.std.proofs.lemmas.Result.{err_from_is_err_and, on_ok_weaker}
 use Rattle.mtree_inv.proofs.StandLemmas.{at_none}
 use Rattle.reown_plan.specs.Spelling.{lines}
 use Rattle.reown_plan.specs.Target.{plan_of}
-use Rattle.unify.proofs.PlanTurns.{GoesOn, begun_turn, head_left, head_more, lines_changed, memory-changed, more_after, room_more, stands_more, told_more, unfinished_still, unfinished_turn}
+use Rattle.unify.specs.PlanTurns.{GoesOn}
+use Rattle.unify.proofs.PlanTurns.{begun_turn, head_left, head_more, lines_changed, memory-changed, more_after, room_more, stands_more, told_more, unfinished_still, unfinished_turn}
 use Rattle.unify.proofs.plan_turn.read_on.Goals as goal
 
 pub returns-in_err-begin_plan-clause-told : goal.returns-in_err-begin_plan-clause-told
