@@ -13,9 +13,9 @@ use ownership::Mapping;
 use std::alloc::AllocError;
 use std::marker::Model;
 
-/// An owner of files of a host, the owner that they get there, and, where that is another one, the
-/// numbers of their records as they are printed. `push_plan_entry` keeps that of a file for the next
-/// one, which mostly has the same owner. It takes no memory of its own.
+/// What `push_plan_entry` keeps of a file for the next one, which mostly has the same owner: this
+/// owner, what its files get on the host, and, where that is another owner, the numbers of their
+/// records as they are printed. It takes no memory of its own. A contract sees both owners.
 #[derive(Drop)]
 pub struct OwnerChange {
     before: Owner,

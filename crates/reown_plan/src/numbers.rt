@@ -1,5 +1,6 @@
 //! The numbers of a record, printed.
-ghost use Rattle.std.specs.Prelude.{◌≡◌, ◌+◌, ◌≤◌, ◌++◌, ◌∷◌, [], is_ok, if◌then◌else◌, length, drop};
+ghost use Rattle.std.specs.Prelude.{◌≡◌, ◌+◌, ◌≤◌, ◌++◌, ◌∷◌, [], is_ok, if◌then◌else◌};
+ghost use Rattle.std.specs.Prelude.{length, drop};
 ghost use Rattle.reown_plan.specs.Spelling.{number};
 ghost use Rattle.reown_plan.specs.Numbers.{numbers};
 
@@ -59,7 +60,8 @@ fn write_length(length: usize, bytes: &mut [u8; 21]) -> usize
 }
 
 impl PrintedNumbers {
-    // Those of files that have the first owner and get the other. Takes constant time and no memory.
+    // Those of files that have the first owner and get the other. Takes constant time, and no
+    // memory.
     pub(crate) fn new(before: Owner, after: Owner) -> PrintedNumbers
         ensures { result ≡ numbers before after }
     {
