@@ -6,5 +6,7 @@ pub mod Mark
 pub mod Owners
 pub mod Target
 pub mod Keeps
+pub mod OwnerChange
+pub mod Numbers
 pub mod Places
 pub mod Fronts

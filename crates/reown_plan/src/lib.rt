@@ -1,8 +1,10 @@
 //! Plans: which files of a host get which new owner.
 #![tactic(auto)]
 
+mod change;
 mod laws;
 mod mark;
+mod numbers;
 mod places;
 mod plan;
 mod read;
@@ -10,6 +12,7 @@ mod records;
 mod spell;
 mod write;
 
+pub use change::OwnerChange;
 pub use laws::{marks_tell_plans, one_reading, one_spelling, plans_keep_names, plans_read_back};
 pub use mark::PlanMark;
 pub use plan::{Owner, Plan, PlanFault, Record};

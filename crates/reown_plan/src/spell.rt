@@ -4,8 +4,8 @@ ghost use Rattle.reown_plan.specs.Spelling.{head, line, end};
 ghost use Rattle.reown_plan.specs.Records.{record_of};
 
 use crate::Record;
+use crate::numbers::PrintedNumbers;
 use idtext::push_parts;
-use itoa::Buffer;
 use std::alloc::AllocError;
 
 /// Appends the first line of a host's plan. `AllocError` where memory runs out; the text is then as
@@ -24,28 +24,7 @@ pub fn push_record(text: &mut Vec<u8>, planned: &Record<'_>) -> Result<(), Alloc
         ≡ (if is_ok result then text.old.items ++ line (record_of planned.now)
         else text.old.items) }
 {
-    let mut old_uid = Buffer::new();
-    let mut old_gid = Buffer::new();
-    let mut new_uid = Buffer::new();
-    let mut new_gid = Buffer::new();
-    let mut size = Buffer::new();
-    push_parts(
-        text,
-        &[
-            old_uid.format(planned.before.uid).as_bytes(),
-            b" ".as_slice(),
-            old_gid.format(planned.before.gid).as_bytes(),
-            b" ".as_slice(),
-            new_uid.format(planned.after.uid).as_bytes(),
-            b" ".as_slice(),
-            new_gid.format(planned.after.gid).as_bytes(),
-            b" ".as_slice(),
-            size.format(planned.path.len()).as_bytes(),
-            b" ".as_slice(),
-            planned.path,
-            b"\n".as_slice(),
-        ],
-    )
+    PrintedNumbers::new(planned.before, planned.after).push_record(text, planned.path)
 }
 
 /// Appends the last line. `AllocError` where memory runs out; the text is then as before. Takes

@@ -1,54 +1,38 @@
 //! A plan from an inventory.
-ghost use Rattle.std.specs.Prelude.{◌≡◌, ◌++◌, ◌<◌, false, not, length, if◌then◌else◌, IfOk};
+ghost use Rattle.std.specs.Prelude.{◌≡◌, ◌++◌, ◌<◌, false, not, length, if◌then◌else◌};
+ghost use Rattle.std.specs.Prelude.{IfOk, IfSome};
 ghost use Rattle.std.specs.Result.{result_unwrap_or};
+ghost use Rattle.reown_plan.specs.OwnerChange.{IsChange};
 ghost use Rattle.reown_plan.specs.Owners.{owner_of, owner_eq};
-ghost use Rattle.reown_plan.specs.Target.{renumbered, target, record_to, host_plan, AreForSite};
+ghost use Rattle.reown_plan.specs.Target.{target, record_to, host_plan, AreForSite};
 ghost use Rattle.reown_plan.specs.Spelling.{line, spelling};
 
-use crate::{Owner, Record, push_plan_end, push_plan_head, push_record};
-use hosts_join::{Host, Names, Site};
+use crate::{Owner, OwnerChange, push_plan_end, push_plan_head};
+use hosts_join::{Host, Site};
 use mtree_inv::{Entry, Inventory};
 use ownership::Mapping;
 use std::alloc::{AllocError, Global};
 
-// The new number of the name that has the number on the host.
-fn renumber(names: &Names<'_>, mapping: &Mapping, host: u32, number: u32) -> u32
-    requires { length mapping.now ≡ length names.now.names }
-    ensures { result ≡ renumbered names.now mapping.now host number }
-{
-    match names.owner(host, number) {
-        Some(index) => mapping.number(index),
-        None => number,
-    }
-}
-
-// The owner that a file gets.
-fn target_of(site: &Site<'_>, users: &Mapping, groups: &Mapping, host: u32, entry: &Entry) -> Owner
-    requires { AreForSite site.now users.now groups.now }
-    ensures { result ≡ target site.now users.now groups.now host entry.now }
-{
-    Owner {
-        uid: renumber(site.users(), users, host, entry.uid),
-        gid: renumber(site.groups(), groups, host, entry.gid),
-    }
-}
-
 /// Appends the record of a file of the host at an index where the mappings give the file another
 /// owner, and nothing for another file; true exactly where a record was appended. A uid or a gid
 /// that no name of the site has there stays as it is. Asked is that the mappings have one number
-/// for each name of the site.
+/// for each name of the site, and that `last` is none, or what a call left there for a file of this
+/// host with these mappings.
 ///
-/// Refused where memory is; the text is then as before. Two look-ups by hash, and one pass over the
-/// path where a record is appended.
+/// Refused where memory is; the text is then as before. Where the file has the owner that `last`
+/// keeps, nothing is looked up; else two look-ups by hash, and `last` then keeps this owner. One
+/// pass over the path where a record is appended. No memory but that of the text.
 pub fn push_plan_entry(
     text: &mut Vec<u8>,
+    last: &mut Option<OwnerChange>,
     host: u32,
     site: &Site<'_>,
     users: &Mapping,
     groups: &Mapping,
     entry: &Entry,
 ) -> Result<bool, AllocError>
-    requires { AreForSite site.now users.now groups.now }
+    requires for_site { AreForSite site.now users.now groups.now }
+    requires last { IfSome last.old (IsChange site.now users.now groups.now host) }
     ensures appended { IfOk result
         (λ appended. appended
         ≡ not
@@ -58,25 +42,22 @@ pub fn push_plan_entry(
         then text.old.items
         ++ line (record_to (target site.now users.now groups.now host) entry.now)
         else text.old.items) }
+    ensures last { IfSome last.new (IsChange site.now users.now groups.now host) }
 {
-    let before = Owner {
+    let owner = Owner {
         uid: entry.uid,
         gid: entry.gid,
     };
-    let after = target_of(site, users, groups, host, entry);
-    if before == after {
-        return Ok(false);
-    }
     let path = entry.path.bytes();
-    push_record(
-        text,
-        &Record {
-            before,
-            after,
-            path,
-        },
-    )?;
-    Ok(true)
+    match last {
+        Some(change) if change.is_of(owner) => change.push_record(text, path),
+        Some(_) | None => {
+            let change = OwnerChange::new(host, site, users, groups, owner);
+            let pushed = change.push_record(text, path);
+            *last = Some(change);
+            pushed
+        }
+    }
 }
 
 /// The text of the plan of the host at an index: a record for each file of its inventory that gets
@@ -84,8 +65,8 @@ pub fn push_plan_entry(
 /// file, and `push_plan_end`. Asked is that the host is there and that the mappings have one number
 /// for each name of the site.
 ///
-/// `AllocError` where memory is refused. Two look-ups by hash for each file, and memory in step
-/// with the text.
+/// `AllocError` where memory is refused. Two look-ups by hash for each file that has not the owner
+/// of the one before it, and memory in step with the text.
 pub fn plan_text(
     alloc: Global,
     host: u32,
@@ -103,8 +84,9 @@ pub fn plan_text(
 {
     let mut text = Vec::new(alloc);
     push_plan_head(&mut text, hosts[host as usize].name.bytes())?;
+    let mut last = None;
     for entry in inventory.entries() {
-        push_plan_entry(&mut text, host, site, users, groups, entry)?;
+        push_plan_entry(&mut text, &mut last, host, site, users, groups, entry)?;
     }
     push_plan_end(&mut text)?;
     Ok(text)

@@ -2,7 +2,7 @@
 use Rattle.std.proofs.Common.{◌≡◌, ◌≢◌, ℕ, ◌+◌, ◌<◌, ◌≤◌, Bool, true, false, not, List, [], ◌∷◌, ◌++◌, length, map, get_or, Option, Some, None, Result, Ok, Err, refl, sym, ap, subst, ◌∙◌, arith, append-nil, append_assoc, inl, inr, length-append}
 use Rattle.std.specs.Prelude.{IfSome, if◌then◌else◌}
 use Rattle.std.specs.List.{All, filter}
-use Rattle.std.specs.Result.{MatchResult, OnOk}
+use Rattle.std.specs.Result.{OnOk}
 use Rattle.std.proofs.lemmas.Bool.{true≢false}
 use Rattle.std.proofs.lemmas.List.{get_or_append_left, map-append}
 use Rattle.std.proofs.lemmas.List.Concat.{flat_map-append}
@@ -30,12 +30,14 @@ use Rattle.unify_texts.specs.declared.bundle_line.FileName.TheVariants as file
 use Rattle.unify_texts.specs.declared.fault.Fault.{Fault}
 use Rattle.unify_texts.specs.declared.fault.Fault.TheVariants.{InventoryChanged, Line}
 use Rattle.unify.specs.declared.merging.Merged.{Merged}
+use Rattle.unify.specs.declared.plan_turn.LastOwner.{LastOwner}
 use Rattle.unify.specs.declared.plan_turn.PlanTurn.{PlanTurn}
 use Rattle.unify.specs.declared.plan_turn.Stop.{Stop}
 use Rattle.unify.specs.declared.plan_turn.Stop.TheVariants as stop
 use Rattle.unify.specs.Hosts.{owner_fault, files_of}
+use Rattle.unify.specs.LastOwner.{IsLastOwner}
 use Rattle.unify.specs.RowFiles.{RowFiles, row_files}
-use Rattle.unify.specs.PlanTurns.{TurnsFor, planned_so_far, stop_of}
+use Rattle.unify.specs.PlanTurns.{GoesOn, TellsLines, TurnsFor, planned_so_far, stop_of}
 use Rattle.unify.specs.SecondPass.{IsUnfinished, or_changed, owned_lines, plan_before_end, second_files}
 use Rattle.unify.proofs.FilesSoFar.{files_first, files_so_far}
 use Rattle.unify.proofs.Turns.{files_with, grown_files, inventory_is, none_then}
@@ -109,6 +111,7 @@ begun_turn host joined merged index old turn text planned turns is =
       waiting = turns.waiting;
       owned = turns.owned;
       rows = turns.rows;
+      last = turns.last;
       none_unbegun = λ e. absurd (true≢false e);
       planned_is = begun_plan host joined merged index old.is_begun old.reader.files planned turns.none_unbegun turns.planned_is;
     })
@@ -193,11 +196,11 @@ not_both r x f e o = absurd (cc)
 -- ---- files that are appended
 
 -- one more of the files that wait was appended
-pub next_stays : (initial turn : PlanTurn) (after : ReaderValue) (rows : RowFiles) → turn ≡ record initial { reader = record initial.reader { waiting = turn.reader.waiting }; rows = turn.rows } → after ≡ record turn.reader { waiting = after.waiting }
-    → record turn { reader = after; rows = rows } ≡ record initial { reader = record initial.reader { waiting = after.waiting }; rows = rows }
-next_stays initial turn after rows stays next =
+pub next_stays : (initial turn : PlanTurn) (after : ReaderValue) (rows : RowFiles) (last : LastOwner) → turn ≡ record initial { reader = record initial.reader { waiting = turn.reader.waiting }; rows = turn.rows; last = turn.last } → after ≡ record turn.reader { waiting = after.waiting }
+    → record turn { reader = after; rows = rows; last = last } ≡ record initial { reader = record initial.reader { waiting = after.waiting }; rows = rows; last = last }
+next_stays initial turn after rows last stays next =
     let same : after ≡ record initial.reader { waiting = after.waiting } = next ∙ ap (λ (t : PlanTurn). record t.reader { waiting = after.waiting }) stays in
-    λ i. record { reader = same i; rows = rows; is_begun = (stays i).is_begun; stop = (stays i).stop }
+    λ i. record { reader = same i; rows = rows; last = last; is_begun = (stays i).is_begun; stop = (stays i).stop }
 
 -- the plan has its header, and the reader took more, of which the files wait
 -- text: what came before; fed: what came by now
@@ -214,10 +217,6 @@ pub more_after : (host : Host) (joined : Joined) (merged : Merged) (index : ℕ)
 more_after host joined merged index old turn after text fed planned turns is most grow goes =
     let begun = begun_turn host joined merged index old turn text planned turns is in
     record { turns = begun; begun = ap (λ (t : PlanTurn). t.is_begun) is; most = most; grow = grow; stands = goes begun.reading }
-
--- the turn goes on, or the plan stays without its end
-abbrev pub GoesOn : Host → Joined → Merged → ℕ → PlanTurn → List ℕ → Result (Unit {0}) Stop → List ℕ → Type 0
-GoesOn host joined merged index turn text r planned = MatchResult r (λ _. TurnsFor host joined merged index turn text planned) (λ _. IsUnfinished host joined merged index text planned)
 
 module _ (host : Host) (joined : Joined) (merged : Merged) (index : ℕ) (turn : PlanTurn) (after : ReaderValue) (text fed planned : List ℕ) (more : HasMore host joined merged index turn after text fed planned) where
   -- they stand behind those that were appended
@@ -266,9 +265,9 @@ module _ (host : Host) (joined : Joined) (merged : Merged) (index : ℕ) (turn :
   rows_more rows counted = counted turn.reader.files more.turns.rows ∙ ap (row_files host) (sym files_more)
 
   -- the turn when all of them were appended
-  turn_more : (new : PlanTurn) → new ≡ record turn { reader = record after { waiting = [] }; rows = new.rows } → after.is_finished ≡ false → after.fault ≡ None → standing.StandsFor new.reader fed → All (λ f. owner_fault host [] f ≡ None) after.waiting
+  turn_more : (new : PlanTurn) → new ≡ record turn { reader = record after { waiting = [] }; rows = new.rows; last = new.last } → IsLastOwner host joined merged index new.last → after.is_finished ≡ false → after.fault ≡ None → standing.StandsFor new.reader fed → All (λ f. owner_fault host [] f ≡ None) after.waiting
       → ((files : List Entry) → turn.rows ≡ row_files host files → new.rows ≡ row_files host (files ++ after.waiting)) → TurnsFor host joined merged index new fed (planned ++ lines (plan_of joined merged.users merged.groups index after.waiting))
-  turn_more new is going sound stands owned counted =
+  turn_more new is last going sound stands owned counted =
       let begun : new.is_begun ≡ true = ap (λ (t : PlanTurn). t.is_begun) is ∙ more.begun in
       let files : new.reader.files ≡ after.files = ap (λ (t : PlanTurn). t.reader.files) is in
       record {
@@ -280,6 +279,7 @@ module _ (host : Host) (joined : Joined) (merged : Merged) (index : ℕ) (turn :
         waiting = ap (λ (t : PlanTurn). t.reader.waiting) is;
         owned = ap (first_fault (owner_fault host) []) files ∙ owned_more owned;
         rows = rows_more new.rows counted ∙ ap (row_files host) (sym files);
+        last = last;
         none_unbegun = λ e. absurd (true≢false (sym begun ∙ e));
         planned_is = planned_all ∙ ap (plan_before_end host joined merged index) (sym files) ∙ ap (λ b. planned_so_far host joined merged index b new.reader.files) (sym begun);
       }
@@ -293,17 +293,17 @@ module _ (host : Host) (joined : Joined) (merged : Merged) (index : ℕ) (turn :
   -- what is told of whole lines
   pub told_more : (r : Result (Unit {0}) Stop) → inventory_of_lines turn.reader.most (whole_lines fed) ≡ Ok after.files → OnOk r (All (λ f. owner_fault host [] f ≡ None) after.waiting)
       → (r ≡ Err stop.Changed → (f : Fault) × (first_fault (owner_fault host) [] after.waiting ≡ Some f))
-      → MatchResult r (λ _. (files : List Entry) × (owned_lines host fed ≡ Ok files)) (λ s. s ≡ stop.Changed → (f : Fault) × (owned_lines host fed ≡ Err f))
+      → TellsLines host fed r
   told_more (Ok u) told owned unowned = (after.files, lines_with host fed after.files None (lines_are turn.reader.most fed after.files more.turns.most told) (owned_more owned))
   told_more (Err s) told owned unowned = λ changed.
       let first = unowned (ap (λ x. Err x) changed) in
       (first.0, lines_with host fed after.files (Some first.0) (lines_are turn.reader.most fed after.files more.turns.most told) (unowned_more first.0 first.1))
 
   -- and how the turn and the plan go on
-  pub stands_more : (r : Result (Unit {0}) Stop) (new : PlanTurn) (done left : List Entry) → after.waiting ≡ done ++ left → OnOk r (left ≡ []) → OnOk r (new ≡ record turn { reader = record after { waiting = [] }; rows = new.rows }) → after.is_finished ≡ false → after.fault ≡ None
+  pub stands_more : (r : Result (Unit {0}) Stop) (new : PlanTurn) (done left : List Entry) → after.waiting ≡ done ++ left → OnOk r (left ≡ []) → OnOk r (new ≡ record turn { reader = record after { waiting = [] }; rows = new.rows; last = new.last }) → OnOk r (IsLastOwner host joined merged index new.last) → after.is_finished ≡ false → after.fault ≡ None
       → OnOk r (standing.StandsFor new.reader fed) → OnOk r (All (λ f. owner_fault host [] f ≡ None) after.waiting) → OnOk r ((files : List Entry) → turn.rows ≡ row_files host files → new.rows ≡ row_files host (files ++ after.waiting))
       → GoesOn host joined merged index new fed r (planned ++ lines (plan_of joined merged.users merged.groups index done))
-  stands_more (Ok u) new done left split none is going sound stands owned counted =
+  stands_more (Ok u) new done left split none is last going sound stands owned counted =
       let whole : after.waiting ≡ done = split ∙ ap (λ ws. done ++ ws) none ∙ append-nil done in
-      subst (λ ws. TurnsFor host joined merged index new fed (planned ++ lines (plan_of joined merged.users merged.groups index ws))) whole (turn_more new is going sound stands owned counted)
-  stands_more (Err s) new done left split none is going sound stands owned counted = unfinished_more done left split sound
+      subst (λ ws. TurnsFor host joined merged index new fed (planned ++ lines (plan_of joined merged.users merged.groups index ws))) whole (turn_more new is last going sound stands owned counted)
+  stands_more (Err s) new done left split none is last going sound stands owned counted = unfinished_more done left split sound

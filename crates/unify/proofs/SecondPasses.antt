@@ -23,6 +23,7 @@ use Rattle.unify.specs.declared.plan_turn.PlanTurn.{PlanTurn}
 use Rattle.unify.specs.declared.plan_turn.Stop.{Stop}
 use Rattle.unify.specs.declared.plan_turn.Stop.TheVariants as stop
 use Rattle.unify.specs.Hosts.{owner_fault}
+use Rattle.unify.specs.LastOwner.{IsLastOwner}
 use Rattle.unify.specs.Passes.{is_read}
 use Rattle.unify.specs.PlanTurns.{IsAccepted, IsFreshTurn, IsSolving, Pass, TurnsFor, met_on, planned_so_far, seen, stop_told}
 use Rattle.unify.specs.RowFiles.{RowFiles, row_files}
@@ -103,6 +104,7 @@ fresh_turn host joined merged index turn fresh rows = record {
   waiting = fresh.waiting;
   owned = ap (first_fault (owner_fault host) []) fresh.none;
   rows = rows ∙ ap (row_files host) (sym fresh.none);
+  last = subst (IsLastOwner host joined merged index) (sym fresh.no_last) (record { places = tt; change = tt });
   none_unbegun = λ no. fresh.none;
   planned_is = rw fresh.unbegun refl;
 }

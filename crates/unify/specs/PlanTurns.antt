@@ -1,7 +1,7 @@
 -- What private contracts of the second pass go by: the turn of a host, and what a pass keeps.
 -- Source: this project's own rule.
 use Rattle.std.specs.Prelude.{◌≡◌, ◌≤◌, ℕ, Bool, true, false, List, [], length, Option, Some}
-use Rattle.std.specs.Prelude.{None, Ok, slice_get}
+use Rattle.std.specs.Prelude.{None, Result, Ok, Err, MatchResult, slice_get}
 use Rattle.idtext.specs.First.{first_fault}
 use Rattle.idtext.specs.declared.faults.ReadError.{ReadError}
 use Rattle.idtext.specs.declared.faults.ReadError.TheVariants as read
@@ -18,9 +18,11 @@ use Rattle.unify.specs.declared.plan_turn.Stop.{Stop}
 use Rattle.unify.specs.declared.plan_turn.Stop.TheVariants as stop
 use Rattle.unify.specs.declared.solved_pass.Solved.TheInside.{Inside}
 use Rattle.unify.specs.Hosts.{owner_fault}
+use Rattle.unify.specs.LastOwner.{IsLastOwner, no_owner}
 use Rattle.unify.specs.Passes.{AreTogether}
 use Rattle.unify.specs.RowFiles.{RowFiles, row_files}
-use Rattle.unify.specs.SecondPass.{SolvedValue, plan_before_end, second_files}
+use Rattle.unify.specs.SecondPass.{HaveSameCounts, IsUnfinished, SolvedValue, owned_lines}
+use Rattle.unify.specs.SecondPass.{plan_before_end, second_files}
 use Rattle.unify.specs.Taken.{Taken}
 use Rattle.unify.specs.Turns.{AreCounting}
 
@@ -45,6 +47,7 @@ pub record IsFreshTurn (turn : PlanTurn) : Type 0 where
   pub sound : turn.reader.fault ≡ None
   pub waiting : turn.reader.waiting ≡ []
   pub none : turn.reader.files ≡ []
+  pub no_last : turn.last ≡ no_owner
   pub unbegun : turn.is_begun ≡ false
 
 -- of the second inventory of the host with the index this text has come, in which there is no fault
@@ -59,6 +62,7 @@ pub record TurnsFor (host : Host) (joined : Joined) (merged : Merged) (index : �
   pub waiting : turn.reader.waiting ≡ []
   pub owned : first_fault (owner_fault host) [] turn.reader.files ≡ None
   pub rows : turn.rows ≡ row_files host turn.reader.files
+  pub last : IsLastOwner host joined merged index turn.last
   pub none_unbegun : turn.is_begun ≡ false → turn.reader.files ≡ []
   pub planned_is : planned ≡ planned_so_far host joined merged index turn.is_begun turn.reader.files
 
@@ -69,6 +73,36 @@ pub record IsAccepted (host : Host) (joined : Joined) (merged : Merged) (index :
   pub files : List Entry
   pub are : second_files host text ≡ Ok files
   pub planned_is : planned ≡ plan_before_end host joined merged index files
+
+-- ---- what a call answers
+
+-- the next piece: the turn goes on, or the plan stays without its end
+abbrev pub GoesOn : Host → Joined → Merged → ℕ → PlanTurn → List ℕ → Result (Unit {0}) Stop
+    → List ℕ → Type 0
+GoesOn host joined merged index turn text result planned =
+    MatchResult result (λ _. TurnsFor host joined merged index turn text planned)
+    (λ _. IsUnfinished host joined merged index text planned)
+
+-- the end: the inventory is accepted, or the plan stays without its end
+abbrev pub Ends : Host → Joined → Merged → ℕ → List ℕ → Result (Unit {0}) Stop → List ℕ → Type 0
+Ends host joined merged index text result planned =
+    MatchResult result (λ _. IsAccepted host joined merged index text planned)
+    (λ _. IsUnfinished host joined merged index text planned)
+
+-- what is told of the whole lines of a text
+abbrev pub TellsLines : Host → List ℕ → Result (Unit {0}) Stop → Type 0
+TellsLines host text result =
+    MatchResult result (λ _. (files : List Entry) × (owned_lines host text ≡ Ok files))
+    (λ s. s ≡ stop.Changed → (f : Fault) × (owned_lines host text ≡ Err f))
+
+-- what is told of a whole text, where the first pass had files
+abbrev pub TellsFiles : Host → List Entry → List ℕ → Result (Unit {0}) Stop → Type 0
+TellsFiles host were text result =
+    MatchResult result
+    (λ _. (files : List Entry) × (second_files host text ≡ Ok files)
+    × HaveSameCounts host were files)
+    (λ s. s ≡ stop.Changed → (files : List Entry) → second_files host text ≡ Ok files
+    → HaveSameCounts host were files → ⊥)
 
 -- ---- why it stopped
 

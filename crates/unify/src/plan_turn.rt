@@ -1,8 +1,8 @@
 //! The inventory of one host a second time, in pieces, and its plan.
 
 ghost use Rattle.std.specs.Prelude.{◌≡◌, ◌+◌, ◌≤◌, ◌++◌, ◌∷◌, ℕ, List, [], length, All, true};
-ghost use Rattle.std.specs.Prelude.{if◌then◌else◌, is_ok, slice_get, Some, None, Ok, Err, IfSome};
-ghost use Rattle.std.specs.Prelude.{IfErr, OnOk, OnErr, MatchResult};
+ghost use Rattle.std.specs.Prelude.{if◌then◌else◌, is_ok, slice_get, Some, None, Err, IfSome};
+ghost use Rattle.std.specs.Prelude.{IfErr, OnOk, OnErr};
 ghost use Rattle.mtree_inv.specs.Standing as standing;
 ghost use Rattle.mtree_inv.specs.declared.entry.Entry.{Entry};
 ghost use Rattle.hosts_join.specs.Laws.{KnowsHost};
@@ -13,10 +13,10 @@ ghost use Rattle.reown_plan.specs.Target.{AreForSite, plan_of};
 ghost use Rattle.unify_texts.specs.declared.fault.Fault.{Fault};
 ghost use Rattle.unify.specs.declared.plan_turn.Stop.TheVariants as stop;
 ghost use Rattle.unify.specs.Hosts.{owner_fault};
-ghost use Rattle.unify.specs.Places.{ArePlaces};
-ghost use Rattle.unify.specs.PlanTurns.{IsAccepted, IsFreshTurn, TurnsFor, stop_of};
+ghost use Rattle.unify.specs.LastOwner.{IsLastOwner, no_owner};
+ghost use Rattle.unify.specs.PlanTurns.{IsFreshTurn, TurnsFor, stop_of};
+ghost use Rattle.unify.specs.PlanTurns.{GoesOn, Ends, TellsLines, TellsFiles};
 ghost use Rattle.unify.specs.RowFiles.{row_files};
-ghost use Rattle.unify.specs.SecondPass.{HaveSameCounts, IsUnfinished, owned_lines, second_files};
 
 use crate::host::MOST_FILES;
 use crate::merging::Merged;
@@ -24,7 +24,7 @@ use crate::row_files::{OwnerPlaces, RowFiles, are_same, count_file, no_files};
 use hosts_join::{Host, Site};
 use idtext::ReadError;
 use mtree_inv::{Entry, Reader};
-use reown_plan::{push_plan_end, push_plan_entry, push_plan_head};
+use reown_plan::{OwnerChange, push_plan_end, push_plan_entry, push_plan_head};
 use std::alloc::{AllocError, Global};
 
 /// Why a second reading ended early.
@@ -55,12 +55,34 @@ impl From<ReadError> for Stop {
     }
 }
 
-/// The reader of a host's inventory, how many of its files each row of the host's tables owns,
-/// whether its plan has its header, and why the reading ended early, if it did.
+/// What was found of the owner of the last file: the places of the rows that have it, and what it
+/// gets. The next file mostly has the same owner.
+#[derive(Drop)]
+pub struct LastOwner {
+    places: Option<OwnerPlaces>,
+    change: Option<OwnerChange>,
+}
+
+impl LastOwner {
+    // That there was no file.
+    fn none() -> LastOwner
+        ensures { result ≡ no_owner }
+    {
+        LastOwner {
+            places: None,
+            change: None,
+        }
+    }
+}
+
+/// The reader of a host's inventory, how many of its files each row of the host's tables owns, the
+/// owner of the last of them, whether its plan has its header, and why the reading ended early, if
+/// it did.
 #[derive(Drop)]
 pub struct PlanTurn {
     pub reader: Reader,
     pub rows: RowFiles,
+    pub last: LastOwner,
     pub is_begun: bool,
     pub stop: Option<Stop>,
 }
@@ -73,6 +95,7 @@ pub fn new_turn(alloc: Global, rows: RowFiles) -> PlanTurn
     PlanTurn {
         reader: Reader::new(alloc, MOST_FILES),
         rows,
+        last: LastOwner::none(),
         is_begun: false,
         stop: None,
     }
@@ -97,7 +120,7 @@ fn begin_plan(turn: &mut PlanTurn, host: &Host<'_>, plan: &mut Vec<u8>) -> Resul
 // Counts a file of the host with the index, and appends its record.
 fn plan_file(
     rows: &mut RowFiles,
-    before: &mut Option<OwnerPlaces>,
+    last: &mut LastOwner,
     site: &Site<'_>,
     merged: &Merged,
     index: u32,
@@ -107,10 +130,10 @@ fn plan_file(
 ) -> Result<(), Stop>
     requires room { (files : List Entry) × (rows.old ≡ row_files host.now files)
         × (length files ≤ 2147483648) }
-    requires before { IfSome before.old (ArePlaces host.now) }
+    requires last { IsLastOwner host.now site.now merged.now index last.old }
     requires known { KnowsHost site.now index host.now }
     requires for_site { AreForSite site.now merged.now.users merged.now.groups }
-    ensures before { IfSome before.new (ArePlaces host.now) }
+    ensures last { IsLastOwner host.now site.now merged.now index last.new }
     ensures owned { OnOk result (owner_fault host.now [] file.now ≡ None) }
     ensures counted { OnOk result
         ((files : List Entry) → rows.old ≡ row_files host.now files
@@ -122,10 +145,18 @@ fn plan_file(
     ensures changed { result ≡ Err stop.Changed → (fault : Fault)
         × (owner_fault host.now [] file.now ≡ Some fault) }
 {
-    if !count_file(rows, before, host, file) {
+    if !count_file(rows, &mut last.places, host, file) {
         return Err(Stop::Changed);
     }
-    push_plan_entry(plan, index, site, &merged.users, &merged.groups, file)?;
+    push_plan_entry(
+        plan,
+        &mut last.change,
+        index,
+        site,
+        &merged.users,
+        &merged.groups,
+        file,
+    )?;
     Ok(())
 }
 
@@ -141,6 +172,7 @@ fn plan_waiting(
 ) -> Result<(), Stop>
     requires room { (files : List Entry) × (turn.old.rows ≡ row_files host.now files)
         × (length files + length turn.old.reader.waiting ≤ 2147483648) }
+    requires last { IsLastOwner host.now site.now merged.now index turn.old.last }
     requires known { KnowsHost site.now index host.now }
     requires for_site { AreForSite site.now merged.now.users merged.now.groups }
     ensures turn { OnOk result
@@ -148,7 +180,9 @@ fn plan_waiting(
         ≡ record turn.old {
           reader = record turn.old.reader { waiting = [] };
           rows = turn.new.rows;
+          last = turn.new.last;
         }) }
+    ensures last { OnOk result (IsLastOwner host.now site.now merged.now index turn.new.last) }
     ensures stands { OnOk result
         ((text : List ℕ) → standing.StandsFor turn.old.reader text
         → standing.StandsFor turn.new.reader text) }
@@ -165,11 +199,10 @@ fn plan_waiting(
     ensures changed { result ≡ Err stop.Changed → (fault : Fault)
         × (first_fault (owner_fault host.now) [] turn.old.reader.waiting ≡ Some fault) }
 {
-    let mut before = None;
     while let Some(file) = turn.reader.next_entry() {
         plan_file(
             &mut turn.rows,
-            &mut before,
+            &mut turn.last,
             site,
             merged,
             index,
@@ -197,17 +230,12 @@ fn read_on(
     requires for_site { AreForSite site.now merged.now.users merged.now.groups }
     ensures told { (text planned : List ℕ)
         → TurnsFor host.now site.now merged.now index turn.old text planned
-        → MatchResult result
-        (λ _. (files : List Entry) × (owned_lines host.now (text ++ bytes.now) ≡ Ok files))
-        (λ s. s ≡ stop.Changed → (f : Fault) × (owned_lines host.now (text ++ bytes.now) ≡ Err f)) }
+        → TellsLines host.now (text ++ bytes.now) result }
     ensures stands { (text planned : List ℕ)
         → TurnsFor host.now site.now merged.now index turn.old text planned → (more : List ℕ)
         × (plan.new.items ≡ plan.old.items ++ more)
-        × MatchResult result
-        (λ _. TurnsFor host.now site.now merged.now index turn.new (text ++ bytes.now)
-        (planned ++ more))
-        (λ _. IsUnfinished host.now site.now merged.now index (text ++ bytes.now)
-        (planned ++ more)) }
+        × GoesOn host.now site.now merged.now index turn.new (text ++ bytes.now) result
+        (planned ++ more) }
     ensures begun { OnOk result (turn.new.is_begun ≡ true) }
 {
     begin_plan(turn, host, plan)?;
@@ -221,7 +249,8 @@ fn read_on(
 /// changes. What is appended until then is a prefix of a plan without its `end` line. After the
 /// first piece the plan has its header.
 ///
-/// One pass over the piece, with a few look-ups by hash for each file.
+/// One pass over the piece, with a few look-ups by hash for each file that has not the owner of the
+/// one before it.
 pub fn feed_plan(
     turn: &mut PlanTurn,
     site: &Site<'_>,
@@ -237,17 +266,12 @@ pub fn feed_plan(
     requires for_site { AreForSite site.now merged.now.users merged.now.groups }
     ensures told { (text planned : List ℕ)
         → TurnsFor host.now site.now merged.now index turn.old text planned
-        → MatchResult result
-        (λ _. (files : List Entry) × (owned_lines host.now (text ++ bytes.now) ≡ Ok files))
-        (λ s. s ≡ stop.Changed → (f : Fault) × (owned_lines host.now (text ++ bytes.now) ≡ Err f)) }
+        → TellsLines host.now (text ++ bytes.now) result }
     ensures stands { (text planned : List ℕ)
         → TurnsFor host.now site.now merged.now index turn.old text planned → (more : List ℕ)
         × (plan.new.items ≡ plan.old.items ++ more)
-        × MatchResult result
-        (λ _. TurnsFor host.now site.now merged.now index turn.new (text ++ bytes.now)
-        (planned ++ more))
-        (λ _. IsUnfinished host.now site.now merged.now index (text ++ bytes.now)
-        (planned ++ more)) }
+        × GoesOn host.now site.now merged.now index turn.new (text ++ bytes.now) result
+        (planned ++ more) }
     ensures begun { OnOk result (turn.new.is_begun ≡ true) }
     ensures stopped { IfErr result (λ s. turn.new.stop ≡ Some s) }
     ensures again { IfSome turn.old.stop
@@ -280,18 +304,11 @@ fn read_end(
     requires for_site { AreForSite site.now merged.now.users merged.now.groups }
     ensures told { (text planned : List ℕ) (were : List Entry)
         → TurnsFor host.now site.now merged.now index turn.old text planned
-        → first.now ≡ row_files host.now were
-        → MatchResult result
-        (λ _. (files : List Entry) × (second_files host.now text ≡ Ok files)
-        × HaveSameCounts host.now were files)
-        (λ s. s ≡ stop.Changed → (files : List Entry) → second_files host.now text ≡ Ok files
-        → HaveSameCounts host.now were files → ⊥) }
+        → first.now ≡ row_files host.now were → TellsFiles host.now were text result }
     ensures stands { (text planned : List ℕ)
         → TurnsFor host.now site.now merged.now index turn.old text planned → (more : List ℕ)
         × (plan.new.items ≡ plan.old.items ++ more)
-        × MatchResult result
-        (λ _. IsAccepted host.now site.now merged.now index text (planned ++ more))
-        (λ _. IsUnfinished host.now site.now merged.now index text (planned ++ more)) }
+        × Ends host.now site.now merged.now index text result (planned ++ more) }
 {
     begin_plan(turn, host, plan)?;
     turn.reader.finish()?;
@@ -323,18 +340,11 @@ pub fn finish_plan(
     requires for_site { AreForSite site.now merged.now.users merged.now.groups }
     ensures told { (text planned : List ℕ) (were : List Entry)
         → TurnsFor host.now site.now merged.now index turn.old text planned
-        → first.now ≡ row_files host.now were
-        → MatchResult result
-        (λ _. (files : List Entry) × (second_files host.now text ≡ Ok files)
-        × HaveSameCounts host.now were files)
-        (λ s. s ≡ stop.Changed → (files : List Entry) → second_files host.now text ≡ Ok files
-        → HaveSameCounts host.now were files → ⊥) }
+        → first.now ≡ row_files host.now were → TellsFiles host.now were text result }
     ensures stands { (text planned : List ℕ)
         → TurnsFor host.now site.now merged.now index turn.old text planned → (more : List ℕ)
         × (plan.new.items ≡ plan.old.items ++ more)
-        × MatchResult result
-        (λ _. IsAccepted host.now site.now merged.now index text (planned ++ more))
-        (λ _. IsUnfinished host.now site.now merged.now index text (planned ++ more)) }
+        × Ends host.now site.now merged.now index text result (planned ++ more) }
     ensures stopped { IfErr result (λ s. turn.new.stop ≡ Some s) }
     ensures again { IfSome turn.old.stop
         (λ s. (result ≡ Err s) × (turn.new ≡ turn.old) × (plan.new ≡ plan.old)) }
@@ -369,6 +379,7 @@ pub fn next_turn(
     push_plan_end(plan)?;
     turn.reader = Reader::new(alloc, MOST_FILES);
     turn.rows = rows;
+    turn.last = LastOwner::none();
     turn.is_begun = false;
     turn.stop = None;
     Ok(())

@@ -7,4 +7,7 @@ use Rattle.reown_plan.proofs.write.plan_text.Goals as goal
 pub loop-entry-preserved : goal.loop-entry-preserved
 loop-entry-preserved c =
     let within : c.loop-entry.entry-index < length c.entries-entry-items.result.now = search rules in
-    text_more (target c.args.site.now c.args.users.now c.args.groups.now c.args.host) (head (name_at c.args.hosts.now c.args.host)) c.loop-entry.text.items _ _ c.loop-entry.entry-index c.entry-item.result c.in_ok-push_plan_entry.field-0 within c.entry-item.is c.in_ok-push_plan_entry.ensures.appended c.loop-entry.invariant c.in_ok-push_plan_entry.ensures.text
+    record {
+      planned = text_more (target c.args.site.now c.args.users.now c.args.groups.now c.args.host) (head (name_at c.args.hosts.now c.args.host)) c.loop-entry.text.items _ _ c.loop-entry.entry-index c.entry-item.result c.in_ok-push_plan_entry.field-0 within c.entry-item.is c.in_ok-push_plan_entry.ensures.appended c.loop-entry.invariant.planned c.in_ok-push_plan_entry.ensures.text;
+      last = c.push_plan_entry.ensures.last;
+    }

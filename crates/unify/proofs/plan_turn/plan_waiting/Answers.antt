@@ -35,13 +35,13 @@ loop-file-preserved c =
     let index = c.args.index in
     let start = c.args.plan.now.items in
     record {
-      stays = next_stays c.args.turn.now c.loop-file.turn c.next_entry.new.self c.plan_file.new.rows inv.stays c.in-Some.ensures.stays;
+      stays = next_stays c.args.turn.now c.loop-file.turn c.next_entry.new.self c.plan_file.new.rows c.plan_file.new.last inv.stays c.in-Some.ensures.stays;
       stands = λ text s. c.in-Some.ensures.stands text (inv.stands text s);
       done = inv.done ++ file ∷ [];
       so_far = inv.so_far ∙ ap (λ ws. inv.done ++ ws) c.in-Some.ensures.next ∙ sym (append_assoc inv.done (file ∷ []) left);
       owned = All-push (λ f. owner_fault host [] f ≡ None) inv.done file inv.owned c.in_ok-plan_file.ensures.owned;
       counted = λ files s. c.in_ok-plan_file.ensures.counted (files ++ inv.done) (inv.counted files s) ∙ ap (row_files host) (append_assoc files inv.done (file ∷ []));
-      before = c.plan_file.ensures.before;
+      last = c.plan_file.ensures.last;
       planned = c.in_ok-plan_file.ensures.plan
           ∙ ap (λ t. t ++ lines (plan_of site merged.users merged.groups index (file ∷ []))) inv.planned
           ∙ append_assoc start (lines (plan_of site merged.users merged.groups index inv.done)) (lines (plan_of site merged.users merged.groups index (file ∷ [])))

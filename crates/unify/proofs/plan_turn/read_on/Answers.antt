@@ -3,7 +3,8 @@ use Rattle.std.proofs.lemmas.Result.{err_from_is_err_and, on_ok_weaker}
 use Rattle.mtree_inv.proofs.StandLemmas.{at_none}
 use Rattle.reown_plan.specs.Spelling.{lines}
 use Rattle.reown_plan.specs.Target.{plan_of}
-use Rattle.unify.proofs.PlanTurns.{GoesOn, begun_turn, head_left, head_more, lines_changed, memory-changed, more_after, room_more, stands_more, told_more, unfinished_still, unfinished_turn}
+use Rattle.unify.specs.PlanTurns.{GoesOn}
+use Rattle.unify.proofs.PlanTurns.{begun_turn, head_left, head_more, lines_changed, memory-changed, more_after, room_more, stands_more, told_more, unfinished_still, unfinished_turn}
 use Rattle.unify.proofs.plan_turn.read_on.Goals as goal
 
 pub returns-in_err-begin_plan-clause-told : goal.returns-in_err-begin_plan-clause-told
@@ -46,6 +47,11 @@ plan_waiting-requires-clause-room c =
     let more = more_after host c.args.site.now c.args.merged.now c.args.index old turn after goes.0 (goes.0 ++ c.args.bytes.now) goes.1 goes.2 c.in_ok-begin_plan.ensures.turn c.in_ok-feed.ensures.most c.in_ok-feed.ensures.grow (c.in_ok-feed.ensures.stands goes.0) in
     room_more host c.args.site.now c.args.merged.now c.args.index turn after goes.0 (goes.0 ++ c.args.bytes.now) (goes.1 ++ head_left host old.is_begun) more
 
+pub plan_waiting-requires-clause-last : goal.plan_waiting-requires-clause-last
+plan_waiting-requires-clause-last c =
+    let goes = c.requires.goes in
+    (begun_turn c.args.host.now c.args.site.now c.args.merged.now c.args.index c.args.turn.now c.begin_plan.new.turn goes.0 goes.1 goes.2 c.in_ok-begin_plan.ensures.turn).last
+
 pub returns-clause-told : goal.returns-clause-told
 returns-clause-told c = λ text planned turns.
     let old = c.args.turn.now in
@@ -77,6 +83,6 @@ returns-clause-stands c = λ text planned turns.
       heading ++ added,
       done.3 ∙ ap (λ t. t ++ added) (c.in_ok-begin_plan.ensures.plan ∙ head_more host old.is_begun start) ∙ append_assoc start heading added,
       subst (GoesOn host site merged index new fed r) (append_assoc planned heading added)
-          (stands_more host site merged index turn after text fed (planned ++ heading) more r new done.0 done.1 done.2 done.4 c.plan_waiting.ensures.turn c.in_ok-feed.ensures.going sound
+          (stands_more host site merged index turn after text fed (planned ++ heading) more r new done.0 done.1 done.2 done.4 c.plan_waiting.ensures.turn c.plan_waiting.ensures.last c.in_ok-feed.ensures.going sound
           (on_ok_weaker r (λ go. go fed more.stands) c.plan_waiting.ensures.stands) c.plan_waiting.ensures.owned c.plan_waiting.ensures.counted),
     )

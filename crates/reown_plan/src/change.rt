@@ -1,0 +1,105 @@
+//! What the files of one owner get.
+ghost use Rattle.std.specs.Prelude.{◌≡◌, ◌++◌, false, not, length, if◌then◌else◌, IfOk};
+ghost use Rattle.std.specs.Result.{result_unwrap_or};
+ghost use Rattle.reown_plan.specs.OwnerChange.{IsChange};
+ghost use Rattle.reown_plan.specs.Owners.{owner_eq};
+ghost use Rattle.reown_plan.specs.Spelling.{line};
+ghost use Rattle.reown_plan.specs.Target.{renumbered, AreForSite};
+
+use crate::Owner;
+use crate::numbers::PrintedNumbers;
+use hosts_join::{Names, Site};
+use ownership::Mapping;
+use std::alloc::AllocError;
+use std::marker::Model;
+
+/// What `push_plan_entry` keeps of a file for the next one, which mostly has the same owner: this
+/// owner, what its files get on the host, and, where that is another owner, the numbers of their
+/// records as they are printed. It takes no memory of its own. A contract sees both owners.
+#[derive(Drop)]
+pub struct OwnerChange {
+    before: Owner,
+    after: Owner,
+    // None where the owner stays.
+    numbers: Option<PrintedNumbers>,
+}
+
+impl Model for OwnerChange {
+    ghost use Rattle.reown_plan.specs.OwnerChange as spec;
+
+    ghost Value = { spec.OwnerChange };
+
+    ghost use Rattle.std.specs.Prelude.{◌≡◌};
+    ghost use Rattle.reown_plan.specs.Numbers.{printed};
+
+    ghost view = { λ c. record { before = c.before; after = c.after } };
+
+    ghost invariant = { λ c. c.numbers ≡ printed c.before c.after };
+}
+
+// The new number of the name that has the number on the host.
+fn renumber(names: &Names<'_>, mapping: &Mapping, host: u32, number: u32) -> u32
+    requires { length mapping.now ≡ length names.now.names }
+    ensures { result ≡ renumbered names.now mapping.now host number }
+{
+    match names.owner(host, number) {
+        Some(index) => mapping.number(index),
+        None => number,
+    }
+}
+
+impl OwnerChange {
+    // What the files of an owner get on the host at an index. Two look-ups by hash.
+    pub(crate) fn new(
+        host: u32,
+        site: &Site<'_>,
+        users: &Mapping,
+        groups: &Mapping,
+        before: Owner,
+    ) -> OwnerChange
+        requires { AreForSite site.now users.now groups.now }
+        ensures owner { result.before ≡ before }
+        ensures change { IsChange site.now users.now groups.now host result }
+    {
+        let after = Owner {
+            uid: renumber(site.users(), users, host, before.uid),
+            gid: renumber(site.groups(), groups, host, before.gid),
+        };
+        let numbers = if before == after {
+            None
+        } else {
+            Some(PrintedNumbers::new(before, after))
+        };
+        OwnerChange {
+            before,
+            after,
+            numbers,
+        }
+    }
+
+    // Whether it is that of this owner.
+    pub(crate) fn is_of(&self, owner: Owner) -> bool
+        ensures { result ≡ owner_eq self.now.before owner }
+    {
+        self.before == owner
+    }
+
+    // Appends the record of a file that has the owner, if it gets another; true exactly where it
+    // was appended. `AllocError` where memory is refused; the text is then as before.
+    pub(crate) fn push_record(&self, text: &mut Vec<u8>, path: &[u8]) -> Result<bool, AllocError>
+        ensures appended { IfOk result
+            (λ appended. appended ≡ not (owner_eq self.now.before self.now.after)) }
+        ensures text { text.new.items
+            ≡ (if result_unwrap_or result false
+            then text.old.items
+            ++ line
+            (record { before = self.now.before; after = self.now.after; path = path.now })
+            else text.old.items) }
+    {
+        let Some(numbers) = &self.numbers else {
+            return Ok(false);
+        };
+        numbers.push_record(text, path)?;
+        Ok(true)
+    }
+}
