@@ -2,12 +2,10 @@
 //! fresh numbers to the names that keep none.
 #![tactic(auto)]
 
-ghost use Rattle.std.specs.Prelude.{◌≡◌, ℕ, ◌<◌, ◌≤◌, ◌↔◌, ◌==◌, ◌&&◌, length, List, IfOk, Some};
-ghost use Rattle.std.specs.Prelude.{true, count_by, drop, slice_index};
-ghost use Rattle.std.specs.List.{list_any, prefix_len};
-ghost use Rattle.candidates.specs.Ascending.{AreAscending};
+ghost use Rattle.std.specs.Prelude.{◌≡◌, ℕ, ◌<◌, ◌≤◌, ◌↔◌, true, length, List, IfOk, Some};
+ghost use Rattle.hosts_join.specs.Accounts.{lines};
 ghost use Rattle.hosts_join.specs.RangeLists.{lies_in_some};
-ghost use Rattle.hosts_join.specs.Rules.{class_at, in_pool};
+ghost use Rattle.hosts_join.specs.Rules.{account, class_at, in_pool};
 ghost use Rattle.ownership.specs.Counts.{AreMadeFor, AreWithin, CountFiles};
 ghost use Rattle.ownership.specs.Files.{File};
 ghost use Rattle.ownership.specs.Mappings.{number_at, IsAdmissible};
@@ -21,7 +19,7 @@ mod filling;
 
 use crate::fill::{fill, settle, waiting};
 use crate::filling::Filling;
-use hosts_join::{Names, Pool, Spot};
+use hosts_join::{Names, Pool};
 use ownership::{KindCounts, Mapping};
 use smallvec::SmallVec;
 use std::alloc::{AllocError, Global};
@@ -55,38 +53,18 @@ impl<'n, 'a> Model for Rows<'n, 'a> {
     ghost invariant = { λ r. AreRows (choices_of r) };
 }
 
-/// The numbers of spots that are in the pool, ascending.
-fn pooled(alloc: Global, spots: &[Spot], pool: &Pool) -> Result<Vec<u32>, AllocError>
-    ensures ascending { IfOk result (λ ns. AreAscending ns.items) }
-    ensures numbers { IfOk result
-        (λ ns. (v : ℕ) → list_any (λ t. t == v) ns.items
-        ≡ (lies_in_some pool.now v && list_any (λ s. s.number == v) spots.now)) }
-    ensures counts { IfOk result
-        (λ ns. (v : ℕ) → lies_in_some pool.now v ≡ true
-        → count_by (λ t. t == v) ns.items ≡ count_by (λ s. s.number == v) spots.now) }
+/// On how many hosts the name at an index has a number. Known may be that it has each of its numbers
+/// on one host.
+fn lines_of(names: &Names<'_>, index: u32, number: u32, is_each_once: bool) -> u64
+    requires within { index < length names.now.names }
+    requires once { is_each_once ≡ true → lines (account names.now index) number ≡ 1 }
+    ensures { result ≡ lines (account names.now index) number }
 {
-    let mut numbers = Vec::new(alloc);
-    for spot in spots {
-        if pool.has(spot.number) {
-            numbers.push(spot.number)?;
-        }
+    if is_each_once {
+        1
+    } else {
+        names.lines(index, number)
     }
-    numbers.sort_unstable();
-    Ok(numbers)
-}
-
-/// How many numbers from a place on are as the one there.
-fn run_at(numbers: &[u32], at: usize) -> u64
-    requires { at < length numbers.now }
-    ensures { result ≡ prefix_len (λ t. t == slice_index numbers.now at) (drop at numbers.now) }
-{
-    let number = numbers[at];
-    for end in at..numbers.len() {
-        if numbers[end] != number {
-            return (end - at) as u64;
-        }
-    }
-    (numbers.len() - at) as u64
 }
 
 /// The candidates of the name at an index.
@@ -102,17 +80,18 @@ fn candidates_of(
     ensures { IfOk result (λ row. IsToldRow names.now counts.now index row.items) }
 {
     let file_weight = names.all_lines() + 1;
-    let numbers = pooled(alloc, names.spots(index), names.pool(names.class(index)))?;
-    let mut row = SmallVec::new(alloc);
-    let mut next: u64 = 0;
-    for (at, number) in numbers.as_slice().iter().enumerate() {
-        if next <= u64::from(*number) {
-            let lines = run_at(numbers.as_slice(), at);
+    let pool = names.pool(names.class(index));
+    let cells = counts.cells(index);
+    // A name with as many numbers as hosts has each of them on one.
+    let is_each_once = cells.len() == names.spots(index).len();
+    let mut row = SmallVec::with_capacity(alloc, cells.len())?;
+    for cell in cells {
+        if pool.has(cell.number) {
+            let lines = lines_of(names, index, cell.number, is_each_once);
             row.push(Candidate {
-                number: *number,
-                weight: file_weight * counts.kept(index, *number) + lines,
+                number: cell.number,
+                weight: file_weight * cell.files + lines,
             })?;
-            next = u64::from(*number) + 1;
         }
     }
     Ok(row)
