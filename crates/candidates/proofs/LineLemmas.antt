@@ -1,5 +1,5 @@
 -- On how many hosts a name has each of the numbers that ascending counters have.
-use Rattle.std.proofs.Common.{◌≡◌, ℕ, zero, suc, ◌+◌, ◌<◌, ◌≤◌, ◌==◌, true, false, cond, List, [], ◌∷◌, length, get_or, refl, sym, ◌∙◌, ap, arith, inl, inr}
+use Rattle.std.proofs.Common.{◌≡◌, ℕ, zero, suc, ◌+◌, ◌<◌, ◌≤◌, ◌==◌, false, cond, List, [], ◌∷◌, length, get_or, refl, sym, ◌∙◌, ap, arith, inl, inr}
 use Rattle.std.specs.List.{count_by, list_any, sum_by}
 use Rattle.std.proofs.lemmas.Bool.{cases_eq, eq-eqb, ne_eqb}
 use Rattle.std.proofs.lemmas.List.Folds.{list_any_at}
@@ -58,8 +58,13 @@ no-rows (e ∷ es) = omega (arith, sum_by-cons (rows []) e es, no-rows es)
 one-more : (s : Spot) (ss : List Spot) (es : List (ℕ × ℕ)) → sum_by (rows (s ∷ ss)) es ≡ count_by (λ e. s.number == e.0) es + sum_by (rows ss) es
 one-more s ss [] = refl
 one-more s ss (e ∷ es) = omega (
-    arith, sum_by-cons (rows (s ∷ ss)) e es, sum_by-cons (rows ss) e es, sum_by-cons (λ (x : ℕ × ℕ). cond (s.number == x.0) 1 0) e es, sum_by-cons (λ (x : Spot). cond (x.number == e.0) 1 0) s ss,
-    one-more s ss es)
+  arith,
+  sum_by-cons (rows (s ∷ ss)) e es,
+  sum_by-cons (rows ss) e es,
+  sum_by-cons (λ (x : ℕ × ℕ). cond (s.number == x.0) 1 0) e es,
+  sum_by-cons (λ (x : Spot). cond (x.number == e.0) 1 0) s ss,
+  one-more s ss es,
+)
 
 all-rows : (ss : List Spot) (es : List (ℕ × ℕ)) → AscendsByNumber es → sum_by (rows ss) es ≤ length ss
 all-rows [] es up = omega (arith, no-rows es)

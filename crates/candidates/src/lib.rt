@@ -102,11 +102,11 @@ impl<'n, 'a> Rows<'n, 'a> {
     /// counters were made for these names, and that none is above 2147483648, as those that
     /// `Counts::users` and `Counts::groups` lend.
     ///
-    /// Near linear in the account rows: the numbers of a name, at most 64, are sorted, each is
-    /// sought in the pool by a binary search, and its files by a scan of the name's counters. A
-    /// name takes 80 bytes, and with more than four candidates up to 32 more for each; so an
-    /// account row takes at most 80 bytes, and 64 hosts of 65,536 rows some 336 MB. `AllocError`
-    /// where memory is refused.
+    /// One pass over the counters of each name, at most 64, in which each number is sought in the
+    /// pool by a binary search, and in the name's spots by a scan, but for a name that has another
+    /// number on each of its hosts. A name takes 80 bytes, and with more than four numbers 16 more
+    /// for each; so an account row takes at most 80 bytes, and 64 hosts of 65,536 rows some 336 MB.
+    /// `AllocError` where memory is refused.
     pub fn build(
         alloc: Global,
         names: &'n Names<'a>,

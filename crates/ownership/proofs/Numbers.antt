@@ -1,5 +1,5 @@
 -- Numbers of which each is left once.
-use Rattle.std.proofs.Common.{◌≡◌, ℕ, ◌==◌, eqb, true, List, refl, sym, ◌∙◌, arith, inl, inr}
+use Rattle.std.proofs.Common.{◌≡◌, ℕ, ◌==◌, eqb, true, List, sym, ◌∙◌, inl, inr}
 use Rattle.std.specs.List.{list_any, dedup, Contains}
 use Rattle.std.proofs.lemmas.Bool.{cases_Bool, eqb-true, eq-eqb, both_ways}
 use Rattle.std.proofs.lemmas.List.Folds.{list_any_at}

@@ -1,18 +1,17 @@
-use Rattle.std.proofs.Common.{◌≡◌, ℕ, ◌+◌, ◌*◌, ◌<◌, ◌≤◌, ◌^◌, ◌==◌, List, map, length, get_or, refl, sym, ◌∙◌, ap, subst, arith}
+use Rattle.std.proofs.Common.{◌≡◌, ℕ, ◌+◌, ◌*◌, ◌<◌, ◌≤◌, ◌^◌, ◌==◌, List, map, length, get_or, refl, sym, ◌∙◌, ap, arith}
 use Rattle.std.specs.List.{list_any}
 use Rattle.std.proofs.lemmas.Bool.{eqb-true}
 use Rattle.std.proofs.lemmas.List.{get_or-map, length-map}
 use Rattle.hosts_join.specs.Accounts.{Accounts, all_lines, lines}
 use Rattle.hosts_join.specs.Rules.{account, in_pool, class_at}
 use Rattle.hosts_join.specs.declared.Class.{Class}
-use Rattle.hosts_join.specs.declared.Spot.{Spot}
 use Rattle.ownership.specs.Cells.{cell_of}
 use Rattle.ownership.specs.Counts.{Tally, AreMadeFor, AreWithin, count_in, has_cell, tally_at, told_kept}
 use Rattle.ownership.specs.Potentials.{AscendsByNumber}
 use Rattle.ownership.specs.Weights.{told_weight}
 use Rattle.ownership.specs.declared.tally.Cell.{Cell}
 use Rattle.candidates.proofs.LineLemmas.{count-at, one-line, some-line}
-use Rattle.candidates.proofs.RowLemmas.{key_at, lines-few, so-far-end, so-far-none, so-far-push, so-far-skip, weight-fits}
+use Rattle.candidates.proofs.RowLemmas.{key_at, lines-few, so-far-end, so-far-push, so-far-skip, weight-fits}
 use Rattle.candidates.proofs.candidates_of.Goals as goal
 use Rattle.candidates.proofs.candidates_of.Goals.{then-has+in_ok-push, else-has}
 

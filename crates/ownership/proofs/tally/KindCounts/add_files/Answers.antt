@@ -1,5 +1,5 @@
-use Rattle.std.proofs.Common.{◌≡◌, ◌+◌, ◌<◌, length, set, cond, nat_eq, subst, sym, ◌∙◌, ap, arith}
-use Rattle.ownership.specs.Counts.{Tally, has_cell, count_in, CountsMore}
+use Rattle.std.proofs.Common.{◌+◌, ◌<◌, length, cond, nat_eq, sym, ◌∙◌, ap, arith}
+use Rattle.ownership.specs.Counts.{Tally, has_cell, count_in}
 use Rattle.ownership.proofs.CellLemmas.{counts_more}
 use Rattle.ownership.proofs.Reading.{tally-read}
 use Rattle.ownership.proofs.tally.KindCounts.add_files.Goals as goal
