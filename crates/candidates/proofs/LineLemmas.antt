@@ -1,7 +1,8 @@
 -- On how many hosts a name has each of the numbers that ascending counters have.
-use Rattle.std.proofs.Common.{◌≡◌, ℕ, zero, suc, ◌+◌, ◌<◌, ◌≤◌, ◌==◌, false, cond, List, [], ◌∷◌, length, get_or, refl, sym, ◌∙◌, ap, arith, inl, inr}
+use Rattle.std.proofs.Common.{◌≡◌, ℕ, zero, suc, ◌+◌, ◌<◌, ◌≤◌, ◌==◌, false, cond, List, [], ◌∷◌, length, drop, get_or, refl, sym, ◌∙◌, ap, arith, inl, inr}
 use Rattle.std.specs.List.{count_by, list_any, sum_by}
 use Rattle.std.proofs.lemmas.Bool.{cases_eq, eq-eqb, ne_eqb}
+use Rattle.std.proofs.lemmas.List.{drop_more}
 use Rattle.std.proofs.lemmas.List.Folds.{list_any_at}
 use Rattle.std.proofs.lemmas.List.Sums.{sum_by-cons}
 use Rattle.hosts_join.specs.Accounts.{Account, lines}
@@ -29,7 +30,7 @@ count-at (e ∷ es) (suc k) up h =
 pub some-line : (a : Account) (es : List (ℕ × ℕ)) (k : ℕ) → ((v : ℕ) → has_cell es v ≡ list_any (λ s. v == s.number) a.spots) → k < length es → 1 ≤ lines a (key_at es k)
 some-line a es k same h = lines-some a (key_at es k) (sym (turned a.spots (key_at es k)) ∙ sym (same (key_at es k)) ∙ list_any_at (λ (e : ℕ × ℕ). key_at es k == e.0) es k (0, 0) h (eq-eqb (key_at es k) (key_at es k) refl))
 
--- ---- as many numbers as rows
+-- ---- how many rows have the numbers from a place on
 
 none-above : (n : ℕ) (es : List (ℕ × ℕ)) → ((j : ℕ) (d : ℕ × ℕ) → j < length es → n < (get_or es j d).0) → count_by (λ e. n == e.0) es ≡ 0
 none-above n [] up = refl
@@ -74,11 +75,28 @@ many : (f : ℕ × ℕ → ℕ) (es : List (ℕ × ℕ)) → ((k : ℕ) → k < 
 many f [] some = omega arith
 many f (e ∷ es) some = omega (arith, sum_by-cons f e es, some 0 (omega arith), many f es (λ k h. some (suc k) (omega arith)))
 
-each-one : (f : ℕ × ℕ → ℕ) (es : List (ℕ × ℕ)) → ((k : ℕ) → k < length es → 1 ≤ f (get_or es k (0, 0))) → sum_by f es ≤ length es → (k : ℕ) → k < length es → f (get_or es k (0, 0)) ≡ 1
-each-one f [] some few k h = absurd (omega arith)
-each-one f (e ∷ es) some few zero h = omega (arith, few, sum_by-cons f e es, some 0 (omega arith), many f es (λ k h. some (suc k) (omega arith)))
-each-one f (e ∷ es) some few (suc k) h = each-one f es (λ k h. some (suc k) (omega arith)) (omega (arith, few, sum_by-cons f e es, some 0 (omega arith))) k (omega arith)
+-- the rows with the numbers from a place on
+abbrev pub left : Account → List (ℕ × ℕ) → ℕ → ℕ
+left a es k = sum_by (rows a.spots) (drop k es)
 
--- a name with as many numbers as rows has each number in one row
-pub one-line : (a : Account) (es : List (ℕ × ℕ)) (k : ℕ) → AscendsByNumber es → ((v : ℕ) → has_cell es v ≡ list_any (λ s. v == s.number) a.spots) → length es ≡ length a.spots → k < length es → lines a (key_at es k) ≡ 1
-one-line a es k up same long h = each-one (rows a.spots) es (λ j l. some-line a es j same l) (omega (arith, all-rows a.spots es up, long)) k h
+-- the numbers from a place on are in one row each, and in at most so many more
+abbrev pub IsEnough : Account → List (ℕ × ℕ) → ℕ → ℕ → Type 0
+IsEnough a es k more = left a es k + k ≤ more + length es
+
+module _ (a : Account) (es : List (ℕ × ℕ)) (up : AscendsByNumber es) (same : (v : ℕ) → has_cell es v ≡ list_any (λ s. v == s.number) a.spots) where
+  pub left-all : left a es 0 ≤ length a.spots
+  left-all = all-rows a.spots es up
+
+  pub numbers-few : length es ≤ length a.spots
+  numbers-few = omega (arith, left-all, many (rows a.spots) es (λ k h. some-line a es k same h))
+
+  pub left-one : (k : ℕ) → k < length es → left a es k ≡ lines a (key_at es k) + left a es (k + 1)
+  left-one k h = ap (sum_by (rows a.spots)) (drop_more es k (0, 0) h) ∙ sum_by-cons (rows a.spots) (get_or es k (0, 0)) (drop (k + 1) es)
+
+  pub left-many : (k : ℕ) → length es ≤ k + left a es k
+  left-many k = from (rows a.spots) es k (λ j h. some-line a es j same h)
+    where
+      from : (f : ℕ × ℕ → ℕ) (es : List (ℕ × ℕ)) (k : ℕ) → ((j : ℕ) → j < length es → 1 ≤ f (get_or es j (0, 0))) → length es ≤ k + sum_by f (drop k es)
+      from f [] k some = omega arith
+      from f (e ∷ es) zero some = omega (arith, many f (e ∷ es) some)
+      from f (e ∷ es) (suc k) some = omega (arith, from f es k (λ j h. some (suc j) (omega arith)))

@@ -2,7 +2,7 @@
 //! fresh numbers to the names that keep none.
 #![tactic(auto)]
 
-ghost use Rattle.std.specs.Prelude.{◌≡◌, ℕ, ◌<◌, ◌≤◌, ◌↔◌, true, length, List, IfOk, Some};
+ghost use Rattle.std.specs.Prelude.{◌≡◌, ℕ, ◌<◌, ◌≤◌, ◌↔◌, ◌+◌, length, List, IfOk, Some};
 ghost use Rattle.hosts_join.specs.Accounts.{lines};
 ghost use Rattle.hosts_join.specs.RangeLists.{lies_in_some};
 ghost use Rattle.hosts_join.specs.Rules.{account, class_at, in_pool};
@@ -53,14 +53,14 @@ impl<'n, 'a> Model for Rows<'n, 'a> {
     ghost invariant = { λ r. AreRows (choices_of r) };
 }
 
-/// On how many hosts the name at an index has a number. Known may be that it has each of its numbers
-/// on one host.
-fn lines_of(names: &Names<'_>, index: u32, number: u32, is_each_once: bool) -> u64
+/// On how many hosts the name at an index has a number: on one, and at most a few more.
+fn lines_of(names: &Names<'_>, index: u32, number: u32, most_more: u64) -> u64
     requires within { index < length names.now.names }
-    requires once { is_each_once ≡ true → lines (account names.now index) number ≡ 1 }
+    requires some { 1 ≤ lines (account names.now index) number }
+    requires few { lines (account names.now index) number ≤ most_more + 1 }
     ensures { result ≡ lines (account names.now index) number }
 {
-    if is_each_once {
+    if most_more == 0 {
         1
     } else {
         names.lines(index, number)
@@ -82,12 +82,13 @@ fn candidates_of(
     let file_weight = names.all_lines() + 1;
     let pool = names.pool(names.class(index));
     let cells = counts.cells(index);
-    // A name with as many numbers as hosts has each of them on one.
-    let is_each_once = cells.len() == names.spots(index).len();
+    // On how many more hosts the name has the numbers that are left than on one each.
+    let mut more = names.spots(index).len() as u64 - cells.len() as u64;
     let mut row = SmallVec::with_capacity(alloc, cells.len())?;
     for cell in cells {
         if pool.has(cell.number) {
-            let lines = lines_of(names, index, cell.number, is_each_once);
+            let lines = lines_of(names, index, cell.number, more);
+            more -= lines - 1;
             row.push(Candidate {
                 number: cell.number,
                 weight: file_weight * cell.files + lines,
@@ -102,11 +103,11 @@ impl<'n, 'a> Rows<'n, 'a> {
     /// counters were made for these names, and that none is above 2147483648, as those that
     /// `Counts::users` and `Counts::groups` lend.
     ///
-    /// One pass over the counters of each name, at most 64, in which each number is sought in the
-    /// pool by a binary search, and in the name's spots by a scan, but for a name that has another
-    /// number on each of its hosts. A name takes 80 bytes, and with more than four numbers 16 more
-    /// for each; so an account row takes at most 80 bytes, and 64 hosts of 65,536 rows some 336 MB.
-    /// `AllocError` where memory is refused.
+    /// One pass over the counters of each name, at most 64: each number is sought in the pool by a
+    /// binary search, and among the name's spots by a scan as long as more spots than numbers are
+    /// left. A name takes 80 bytes, and with more than four numbers 16 more for each; so an account
+    /// row takes at most 80 bytes, and 64 hosts of 65,536 rows some 336 MB. `AllocError` where
+    /// memory is refused.
     pub fn build(
         alloc: Global,
         names: &'n Names<'a>,
