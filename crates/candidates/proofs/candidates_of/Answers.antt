@@ -1,6 +1,5 @@
 use Rattle.std.proofs.Common.{◌≡◌, ℕ, ◌+◌, ◌-◌, ◌*◌, ◌<◌, ◌≤◌, ◌^◌, ◌==◌, List, map, length, get_or, refl, sym, ◌∙◌, ap, arith}
 use Rattle.std.specs.List.{list_any}
-use Rattle.std.proofs.lemmas.Bool.{eqb-true}
 use Rattle.std.proofs.lemmas.List.{get_or-map, length-map}
 use Rattle.hosts_join.specs.Accounts.{Accounts, all_lines, lines}
 use Rattle.hosts_join.specs.Rules.{account, in_pool, class_at}
