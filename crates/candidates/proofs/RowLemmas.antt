@@ -1,12 +1,9 @@
 -- Rows of candidates.
-use Rattle.std.proofs.Common.{◌≡◌, ℕ, zero, suc, ◌+◌, ◌-◌, ◌*◌, ◌<◌, ◌≤◌, ◌^◌, ◌==◌, ◌&&◌, ◌||◌, Bool, true, false, cond, List, [], ◌∷◌, ◌++◌, length, take, get_or, refl, sym, ◌∙◌, ap, arith, inl, inr, mul-le-mul}
+use Rattle.std.proofs.Common.{◌≡◌, ℕ, zero, suc, ◌+◌, ◌*◌, ◌<◌, ◌≤◌, ◌^◌, ◌==◌, ◌&&◌, Bool, true, false, cond, List, [], ◌∷◌, ◌++◌, length, take, get_or, refl, sym, ◌∙◌, ap, arith, inl, inr, mul-le-mul}
 use Rattle.std.specs.List.{list_any, count_by, All}
 use Rattle.std.proofs.Math.Bool.{or-false, or-true}
 use Rattle.std.proofs.lemmas.Bool.{cases_Bool, cases_lt, cases_eq, eqb-true, eq-eqb, false≢true, true≢false}
-use Rattle.std.proofs.lemmas.List.Elements.{All-nil, All-head, All-tail, All-push, All-weaker}
-use Rattle.logindefs.specs.declared.ranges.IdRange.{IdRange}
-use Rattle.candidates.specs.Ascending.{AreAscending}
-use Rattle.hosts_join.specs.RangeLists.{lies_in_some}
+use Rattle.std.proofs.lemmas.List.Elements.{All-nil, All-head, All-tail, All-push}
 use Rattle.candidates.specs.declared.Candidate.{Candidate}
 use Rattle.std.proofs.lemmas.List.Folds.{list_any_more}
 use Rattle.hosts_join.specs.Accounts.{Accounts, Account, lines, all_lines, nobody}
@@ -15,6 +12,7 @@ use Rattle.hosts_join.specs.declared.Class.{Class}
 use Rattle.hosts_join.specs.declared.Class.TheVariants.{Pinned, Regular, System}
 use Rattle.ownership.specs.Counts.{Tally, told_kept, count_in, has_cell, tally_at, AreMadeFor, CountFiles}
 use Rattle.candidates.specs.Told.{IsToldRow}
+use Rattle.ownership.specs.Potentials.{AscendsByNumber}
 use Rattle.ownership.specs.Weights.{told_weight}
 use Rattle.hosts_join.specs.declared.Spot.{Spot}
 use Rattle.ownership.specs.Files.{File}
@@ -24,22 +22,6 @@ use Rattle.std.proofs.lemmas.List.Sums.{sum_by-cons, count_by-le-length}
 use Rattle.std.proofs.lemmas.Bool.{ne_eqb}
 use Rattle.candidates.specs.Rows.{IsAscending, IsWeighed, IsLawfulRow, weight_in, IsCandidate, IsRow, row_at}
 use Rattle.ownership.specs.Weights.{file_weight, weight}
-
-pub pool-push : (pool : List IdRange) (n v : ℕ) (L A : Bool) → lies_in_some pool n ≡ true → L ≡ (lies_in_some pool v && A) → (L || (n == v)) ≡ (lies_in_some pool v && (A || (n == v)))
-pool-push pool n v L A there e = elim (cases_Bool (n == v)) [
-  | inl t ↦ let here : lies_in_some pool v ≡ true = ap (lies_in_some pool) (sym (eqb-true n v t)) ∙ there in rw (t, here, or-true L, or-true A) refl
-  | inr f ↦ rw (f, or-false L, or-false A) e
-]
-
-pub pool-skip : (pool : List IdRange) (n v : ℕ) (L A : Bool) → lies_in_some pool n ≡ false → L ≡ (lies_in_some pool v && A) → L ≡ (lies_in_some pool v && (A || (n == v)))
-pool-skip pool n v L A away e = elim (cases_Bool (n == v)) [
-  | inl t ↦ let here : lies_in_some pool v ≡ false = ap (lies_in_some pool) (sym (eqb-true n v t)) ∙ away in let e' = rw here at e in rw (t, here) e'
-  | inr f ↦ rw (f, or-false A) e
-]
-
-pub list_any-push : {X : Type 0} (p : X → Bool) (xs : List X) (x : X) → list_any p (xs ++ x ∷ []) ≡ (list_any p xs || p x)
-list_any-push p [] x = or-false (p x)
-list_any-push p (y ∷ xs) x = elim (cases_Bool (p y)) [ inl t ↦ rw t refl | inr f ↦ rw f (list_any-push p xs x) ]
 
 -- a candidate above all others
 pub IsAscending-push : (row : List Candidate) (c : Candidate) → All (λ d. d.number < c.number) row → IsAscending row → IsAscending (row ++ c ∷ [])
@@ -57,61 +39,55 @@ weight_in-push (x ∷ row) c v below = elim (cases_Bool (x.number == v)) [
   | inr f ↦ rw f (weight_in-push row c v (All-tail (λ (d : Candidate). d.number < c.number) x row below))
 ]
 
-any-take : (xs : List ℕ) (k j v : ℕ) → j < k → j < length xs → get_or xs j 0 ≡ v → list_any (λ t. t == v) (take k xs) ≡ true
-any-take [] k j v l h e = absurd (omega arith)
-any-take (x ∷ xs) zero j v l h e = absurd (omega arith)
-any-take (x ∷ xs) (suc k) zero v l h e = rw (eq-eqb x v e) refl
-any-take (x ∷ xs) (suc k) (suc j) v l h e = rw (any-take xs k j v (omega arith) (omega arith) e) (or-true (x == v))
+-- the number of the item at a place
+abbrev pub key_at : List (ℕ × ℕ) → ℕ → ℕ
+key_at es k = (get_or es k (0, 0)).0
 
-pub any-here : (xs : List ℕ) (k : ℕ) → k < length xs → list_any (λ t. t == get_or xs k 0) xs ≡ true
-any-here [] k h = absurd (omega arith)
-any-here (x ∷ xs) zero h = rw (eq-eqb x x refl) refl
-any-here (x ∷ xs) (suc k) h = rw (any-here xs k (omega arith)) (or-true (x == get_or xs k 0))
-
--- A row in the making: the candidates of the first numbers, each below the next.
-pub record IsRowSoFar (a : Accounts) (tallies : List Tally) (i k next : ℕ) (numbers : List ℕ) (row : List Candidate) : Type 0 where
+-- A row in the making: the candidates among the first counters, each below the counters that follow.
+pub record IsRowSoFar (a : Accounts) (tallies : List Tally) (i k : ℕ) (es : List (ℕ × ℕ)) (row : List Candidate) : Type 0 where
   pub lawful : IsLawfulRow a i row
-  pub below : All (λ c. c.number < next) row
-  pub last : (u : ℕ) → next ≡ suc u → (j : ℕ) × (j < k) × (get_or numbers j 0 ≡ u)
-  pub weights : (v : ℕ) → weight_in row v ≡ cond (list_any (λ t. t == v) (take k numbers)) (told_weight a tallies i v) 0
+  pub below : (j : ℕ) → k ≤ j → j < length es → All (λ c. c.number < key_at es j) row
+  pub weights : (v : ℕ) → weight_in row v ≡ cond (in_pool a (class_at a i) v && has_cell (take k es) v) (told_weight a tallies i v) 0
 
-pub so-far-push : (a : Accounts) (tallies : List Tally) (i k next : ℕ) (numbers : List ℕ) (row : List Candidate) (w : ℕ) → AreAscending numbers → k < length numbers
-    → next ≤ get_or numbers k 0 → in_pool a (class_at a i) (get_or numbers k 0) ≡ true → w ≡ told_weight a tallies i (get_or numbers k 0) → 1 ≤ w → w < 2 ^ 63
-    → IsRowSoFar a tallies i k next numbers row → IsRowSoFar a tallies i (k + 1) (get_or numbers k 0 + 1) numbers (row ++ record { number = get_or numbers k 0; weight = w } ∷ [])
-so-far-push a tallies i k next numbers row w up h low pool is some fits s =
-    let n = get_or numbers k 0 in
+pub so-far-none : (a : Accounts) (tallies : List Tally) (i : ℕ) (es : List (ℕ × ℕ)) → IsRowSoFar a tallies i 0 es []
+so-far-none a tallies i es = record {
+  lawful = record { ascending = tt; weighed = All-nil IsWeighed; pooled = All-nil (λ (c : Candidate). in_pool a (class_at a i) c.number ≡ true) };
+  below = λ j l h. All-nil (λ (c : Candidate). c.number < key_at es j);
+  weights = λ v. rw (and-false (in_pool a (class_at a i) v)) refl;
+}
+
+pub so-far-push : (a : Accounts) (tallies : List Tally) (i k w : ℕ) (es : List (ℕ × ℕ)) (row : List Candidate) → AscendsByNumber es → k < length es
+    → in_pool a (class_at a i) (key_at es k) ≡ true → w ≡ told_weight a tallies i (key_at es k) → 1 ≤ w → w < 2 ^ 63
+    → IsRowSoFar a tallies i k es row → IsRowSoFar a tallies i (k + 1) es (row ++ record { number = key_at es k; weight = w } ∷ [])
+so-far-push a tallies i k w es row up h pool is some fits s =
+    let n = key_at es k in
     let c : Candidate = record { number = n; weight = w } in
-    let under : All (λ (d : Candidate). d.number < n) row = All-weaker (λ (d : Candidate). d.number < next) (λ (d : Candidate). d.number < n) (λ d l. omega arith) row s.below in
+    let under : All (λ (d : Candidate). d.number < n) row = s.below k (omega arith) h in
     record {
       lawful = record {
         ascending = IsAscending-push row c under s.lawful.ascending;
         weighed = All-push IsWeighed row c s.lawful.weighed (some, fits);
         pooled = All-push (λ (d : Candidate). in_pool a (class_at a i) d.number ≡ true) row c s.lawful.pooled pool;
       };
-      below = All-push (λ (d : Candidate). d.number < n + 1) row c (All-weaker (λ (d : Candidate). d.number < n) (λ (d : Candidate). d.number < n + 1) (λ d l. omega arith) row under) (omega arith);
-      last = λ u e. let same : n ≡ u = omega arith in (k, omega arith, same);
-      weights = λ v. weight_in-push row c v under ∙ (rw (list_any_more (λ t. t == v) numbers k 0 h) (elim (cases_Bool (n == v)) [
-        | inl t ↦ let same : n ≡ v = eqb-true n v t in rw (t, or-true (list_any (λ t. t == v) (take k numbers))) (is ∙ ap (told_weight a tallies i) same)
-        | inr f ↦ rw (f, or-false (list_any (λ t. t == v) (take k numbers))) (s.weights v)
+      below = λ j l within. All-push (λ (d : Candidate). d.number < key_at es j) row c (s.below j (omega (arith, l)) within) (up k j (0, 0) (omega (arith, l)) within);
+      weights = λ v. weight_in-push row c v under ∙ (rw (list_any_more (λ (e : ℕ × ℕ). v == e.0) es k (0, 0) h) (elim (cases_eq n v) [
+        | inl same ↦
+            let here : in_pool a (class_at a i) v ≡ true = ap (in_pool a (class_at a i)) (sym same) ∙ pool in
+            rw (eq-eqb n v same, eq-eqb v n (sym same), here, or-true (has_cell (take k es) v)) (is ∙ ap (told_weight a tallies i) same)
+        | inr other ↦ rw (ne_eqb n v other, ne_eqb v n (λ e. other (sym e)), or-false (has_cell (take k es) v)) (s.weights v)
       ]));
     }
 
-pub so-far-skip : (a : Accounts) (tallies : List Tally) (i k next : ℕ) (numbers : List ℕ) (row : List Candidate) → AreAscending numbers → k < length numbers
-    → get_or numbers k 0 < next → IsRowSoFar a tallies i k next numbers row → IsRowSoFar a tallies i (k + 1) next numbers row
-so-far-skip a tallies i k next numbers row up h low s =
-    let n = get_or numbers k 0 in
-    let u = next - 1 in
-    let e : next ≡ suc u = omega arith in
-    let old : list_any (λ t. t == n) (take k numbers) ≡ true = let before = s.last u e in any-take numbers k before.0 n before.1 (omega (arith, before.1)) (omega (arith, before.1, before.2, up before.0 k (omega (arith, before.1)) h)) in
-    record {
-      lawful = s.lawful;
-      below = s.below;
-      last = λ u e. let before = s.last u e in (before.0, omega (arith, before.1), before.2);
-      weights = λ v. s.weights v ∙ ap (λ b. cond b (told_weight a tallies i v) 0) (sym (list_any_more (λ t. t == v) numbers k 0 h ∙ elim (cases_Bool (n == v)) [
-        | inl t ↦ let there : list_any (λ t. t == v) (take k numbers) ≡ true = ap (λ m. list_any (λ t. t == m) (take k numbers)) (sym (eqb-true n v t)) ∙ old in rw there refl
-        | inr f ↦ rw f (or-false _)
-      ]));
-    }
+pub so-far-skip : (a : Accounts) (tallies : List Tally) (i k : ℕ) (es : List (ℕ × ℕ)) (row : List Candidate) → k < length es → in_pool a (class_at a i) (key_at es k) ≡ false
+    → IsRowSoFar a tallies i k es row → IsRowSoFar a tallies i (k + 1) es row
+so-far-skip a tallies i k es row h away s = record {
+  lawful = s.lawful;
+  below = λ j l within. s.below j (omega (arith, l)) within;
+  weights = λ v. s.weights v ∙ (rw (list_any_more (λ (e : ℕ × ℕ). v == e.0) es k (0, 0) h) (elim (cases_eq v (key_at es k)) [
+    | inl same ↦ let out : in_pool a (class_at a i) v ≡ false = ap (in_pool a (class_at a i)) same ∙ away in rw out refl
+    | inr other ↦ rw (ne_eqb v (key_at es k) other, or-false (has_cell (take k es) v)) refl
+  ]));
+}
 
 -- a name that has a number has a line with it
 pub lines-some : (a : Account) (v : ℕ) → list_any (λ s. s.number == v) a.spots ≡ true → 1 ≤ lines a v
@@ -147,7 +123,7 @@ kept-none tallies i v e = among (tally_at tallies i).cells e
     among [] e = refl
     among (c ∷ cs) e = elim (cases_Bool (v == c.0)) [ inl t ↦ let e' = rw t at e in absurd (true≢false e') | inr f ↦ let e' = rw f at e in rw f (among cs e') ]
 
-turned : (ss : List Spot) (v : ℕ) → list_any (λ s. v == s.number) ss ≡ list_any (λ s. s.number == v) ss
+pub turned : (ss : List Spot) (v : ℕ) → list_any (λ s. v == s.number) ss ≡ list_any (λ s. s.number == v) ss
 turned [] v = refl
 turned (s ∷ ss) v = rw (both v s.number, turned ss v) refl
   where
@@ -160,15 +136,17 @@ told-none a tallies i v made h e =
     let l = lines-none (account a i) v e in
     rw (k, l) (omega arith)
 
--- where all numbers are done, the row is what the counters tell
-pub so-far-end : (a : Accounts) (tallies : List Tally) (i k next : ℕ) (numbers : List ℕ) (row : List Candidate) → AreMadeFor a.names tallies → i < length a.names → length numbers ≤ k
-    → ((v : ℕ) → list_any (λ t. t == v) numbers ≡ (in_pool a (class_at a i) v && list_any (λ s. s.number == v) (account a i).spots)) → IsRowSoFar a tallies i k next numbers row → IsToldRow a tallies i row
-so-far-end a tallies i k next numbers row made h all members s = record {
+-- where all counters are done, the row is what they tell
+pub so-far-end : (a : Accounts) (tallies : List Tally) (i k : ℕ) (es : List (ℕ × ℕ)) (row : List Candidate) → AreMadeFor a.names tallies → i < length a.names → es ≡ (tally_at tallies i).cells → length es ≤ k
+    → IsRowSoFar a tallies i k es row → IsToldRow a tallies i row
+so-far-end a tallies i k es row made h are all s = record {
   lawful = s.lawful;
-  weights = λ v. s.weights v ∙ ap (λ ns. cond (list_any (λ t. t == v) ns) (told_weight a tallies i v) 0) (take_all k numbers all) ∙ (rw (members v) (elim (cases_Bool (list_any (λ (s : Spot). s.number == v) (account a i).spots)) [
+  weights = λ v. s.weights v ∙ ap (λ xs. cond (in_pool a (class_at a i) v && has_cell xs v) (told_weight a tallies i v) 0) (take_all k es all ∙ are) ∙ (elim (cases_Bool (has_cell (tally_at tallies i).cells v)) [
     | inl t ↦ rw (t, and-true (in_pool a (class_at a i) v)) refl
-    | inr f ↦ let none = told-none a tallies i v made h f in rw (f, none, and-false (in_pool a (class_at a i) v)) (sym (cond-same (in_pool a (class_at a i) v)))
-  ]));
+    | inr f ↦
+        let none = told-none a tallies i v made h (sym (turned (account a i).spots v) ∙ sym (made.cells i v h) ∙ f) in
+        rw (f, none, and-false (in_pool a (class_at a i) v)) (sym (cond-same (in_pool a (class_at a i) v)))
+  ]);
 }
   where
     cond-same : (b : Bool) → ◌≡◌ {A = ℕ} (cond b 0 0) 0

@@ -3,4 +3,3 @@ pub mod Fill
 pub mod Told
 pub mod RowsInside
 pub mod Settled
-pub mod Ascending

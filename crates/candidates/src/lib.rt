@@ -2,12 +2,10 @@
 //! fresh numbers to the names that keep none.
 #![tactic(auto)]
 
-ghost use Rattle.std.specs.Prelude.{◌≡◌, ℕ, ◌<◌, ◌≤◌, ◌↔◌, ◌==◌, ◌&&◌, length, List, IfOk, Some};
-ghost use Rattle.std.specs.Prelude.{true, count_by, drop, slice_index};
-ghost use Rattle.std.specs.List.{list_any, prefix_len};
-ghost use Rattle.candidates.specs.Ascending.{AreAscending};
+ghost use Rattle.std.specs.Prelude.{◌≡◌, ℕ, ◌<◌, ◌≤◌, ◌↔◌, ◌+◌, length, List, IfOk, Some};
+ghost use Rattle.hosts_join.specs.Accounts.{lines};
 ghost use Rattle.hosts_join.specs.RangeLists.{lies_in_some};
-ghost use Rattle.hosts_join.specs.Rules.{class_at, in_pool};
+ghost use Rattle.hosts_join.specs.Rules.{account, class_at, in_pool};
 ghost use Rattle.ownership.specs.Counts.{AreMadeFor, AreWithin, CountFiles};
 ghost use Rattle.ownership.specs.Files.{File};
 ghost use Rattle.ownership.specs.Mappings.{number_at, IsAdmissible};
@@ -21,7 +19,7 @@ mod filling;
 
 use crate::fill::{fill, settle, waiting};
 use crate::filling::Filling;
-use hosts_join::{Names, Pool, Spot};
+use hosts_join::{Names, Pool};
 use ownership::{KindCounts, Mapping};
 use smallvec::SmallVec;
 use std::alloc::{AllocError, Global};
@@ -55,38 +53,18 @@ impl<'n, 'a> Model for Rows<'n, 'a> {
     ghost invariant = { λ r. AreRows (choices_of r) };
 }
 
-/// The numbers of spots that are in the pool, ascending.
-fn pooled(alloc: Global, spots: &[Spot], pool: &Pool) -> Result<Vec<u32>, AllocError>
-    ensures ascending { IfOk result (λ ns. AreAscending ns.items) }
-    ensures numbers { IfOk result
-        (λ ns. (v : ℕ) → list_any (λ t. t == v) ns.items
-        ≡ (lies_in_some pool.now v && list_any (λ s. s.number == v) spots.now)) }
-    ensures counts { IfOk result
-        (λ ns. (v : ℕ) → lies_in_some pool.now v ≡ true
-        → count_by (λ t. t == v) ns.items ≡ count_by (λ s. s.number == v) spots.now) }
+/// On how many hosts the name at an index has a number: on one, and at most a few more.
+fn lines_of(names: &Names<'_>, index: u32, number: u32, most_more: u64) -> u64
+    requires within { index < length names.now.names }
+    requires some { 1 ≤ lines (account names.now index) number }
+    requires few { lines (account names.now index) number ≤ most_more + 1 }
+    ensures { result ≡ lines (account names.now index) number }
 {
-    let mut numbers = Vec::new(alloc);
-    for spot in spots {
-        if pool.has(spot.number) {
-            numbers.push(spot.number)?;
-        }
+    if most_more == 0 {
+        1
+    } else {
+        names.lines(index, number)
     }
-    numbers.sort_unstable();
-    Ok(numbers)
-}
-
-/// How many numbers from a place on are as the one there.
-fn run_at(numbers: &[u32], at: usize) -> u64
-    requires { at < length numbers.now }
-    ensures { result ≡ prefix_len (λ t. t == slice_index numbers.now at) (drop at numbers.now) }
-{
-    let number = numbers[at];
-    for end in at..numbers.len() {
-        if numbers[end] != number {
-            return (end - at) as u64;
-        }
-    }
-    (numbers.len() - at) as u64
 }
 
 /// The candidates of the name at an index.
@@ -102,17 +80,19 @@ fn candidates_of(
     ensures { IfOk result (λ row. IsToldRow names.now counts.now index row.items) }
 {
     let file_weight = names.all_lines() + 1;
-    let numbers = pooled(alloc, names.spots(index), names.pool(names.class(index)))?;
-    let mut row = SmallVec::new(alloc);
-    let mut next: u64 = 0;
-    for (at, number) in numbers.as_slice().iter().enumerate() {
-        if next <= u64::from(*number) {
-            let lines = run_at(numbers.as_slice(), at);
+    let pool = names.pool(names.class(index));
+    let cells = counts.cells(index);
+    // On how many more hosts the name has the numbers that are left than on one each.
+    let mut more = names.spots(index).len() as u64 - cells.len() as u64;
+    let mut row = SmallVec::with_capacity(alloc, cells.len())?;
+    for cell in cells {
+        if pool.has(cell.number) {
+            let lines = lines_of(names, index, cell.number, more);
+            more -= lines - 1;
             row.push(Candidate {
-                number: *number,
-                weight: file_weight * counts.kept(index, *number) + lines,
+                number: cell.number,
+                weight: file_weight * cell.files + lines,
             })?;
-            next = u64::from(*number) + 1;
         }
     }
     Ok(row)
@@ -123,11 +103,11 @@ impl<'n, 'a> Rows<'n, 'a> {
     /// counters were made for these names, and that none is above 2147483648, as those that
     /// `Counts::users` and `Counts::groups` lend.
     ///
-    /// Near linear in the account rows: the numbers of a name, at most 64, are sorted, each is
-    /// sought in the pool by a binary search, and its files by a scan of the name's counters. A
-    /// name takes 80 bytes, and with more than four candidates up to 32 more for each; so an
-    /// account row takes at most 80 bytes, and 64 hosts of 65,536 rows some 336 MB. `AllocError`
-    /// where memory is refused.
+    /// One pass over the counters of each name, at most 64: each number is sought in the pool by a
+    /// binary search, and among the name's spots by a scan as long as more spots than numbers are
+    /// left. A name takes 80 bytes, and with more than four numbers 16 more for each; so an account
+    /// row takes at most 80 bytes, and 64 hosts of 65,536 rows some 336 MB. `AllocError` where
+    /// memory is refused.
     pub fn build(
         alloc: Global,
         names: &'n Names<'a>,

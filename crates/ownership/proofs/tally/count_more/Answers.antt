@@ -1,10 +1,11 @@
-use Rattle.std.proofs.Common.{◌≡◌, ℕ, ◌==◌, ◌<◌, true, false, List, map, get_or, sym, ◌∙◌, ap, arith, Option, Some, length, set}
+use Rattle.std.proofs.Common.{◌≡◌, ℕ, ◌==◌, ◌<◌, true, false, List, map, get_or, sym, ◌∙◌, ap, arith, Option, Some, length, set, subst}
 use Rattle.std.specs.List.{position}
 use Rattle.std.proofs.lemmas.List.Quantifiers.{position-Some}
 use Rattle.ownership.specs.declared.tally.Cell.{Cell}
 use Rattle.ownership.specs.Cells.{cell_of}
+use Rattle.ownership.specs.Potentials.{AscendsByNumber}
 use Rattle.ownership.specs.Counts.{has_cell, count_in}
-use Rattle.ownership.proofs.CellLemmas.{has_cell-bump, count_in-bump, count-here, bumped, no-position, has_cell-any}
+use Rattle.ownership.proofs.CellLemmas.{has_cell-bump, count_in-bump, count-here, bumped, no-position, has_cell-any, ascends-bump}
 use Rattle.std.proofs.lemmas.Bool.{both_ways}
 use Rattle.ownership.proofs.tally.count_more.Goals as goal
 
@@ -20,6 +21,11 @@ overflow_add-index_mut c =
     let here = count-here cs c.in-Some.index c.args.number d f.0 f.1 f.2 in
     let here' : count_in (map cell_of cs) c.args.number ≡ d.files = here ∙ ap (λ (x : Cell). x.files) (sym c.index_mut.ensures.value) in
     omega (arith, here', c.requires.room)
+
+pub returns-in-Some-clause-ascending : goal.returns-in-Some-clause-ascending
+returns-in-Some-clause-ascending c =
+    let cs = c.args.cells.now.items in
+    subst (λ (x : Cell). AscendsByNumber (map cell_of (set cs c.in-Some.index (bumped c.args.files x)))) (sym c.index_mut.ensures.value) (ascends-bump cs c.in-Some.index c.args.files c.index_mut.result.now c.requires.ascending)
 
 pub returns-in-Some-clause-cells : goal.returns-in-Some-clause-cells
 returns-in-Some-clause-cells c = λ v.
