@@ -1,13 +1,29 @@
--- The value that a keyword gives to a key.
-use Rattle.std.proofs.Common.{◌≡◌, ℕ, zero, suc, Bool, true, false, cond, not, ◌&&◌, ◌||◌, ◌+◌, List, [], ◌∷◌, length, take, drop, refl, sym, ap, ◌∙◌, true≢false, arith}
-use Rattle.std.proofs.lemmas.Bool.{eqb-true, or_parts}
+-- White space in front of keywords, and the value that a keyword gives to a key.
+use Rattle.std.proofs.Common.{◌≡◌, ℕ, zero, suc, Bool, true, false, cond, not, ◌&&◌, ◌||◌, ◌+◌, ◌<◌, List, [], ◌∷◌, length, take, drop, get_or, refl, sym, ap, ◌∙◌, true≢false, arith}
+use Rattle.std.proofs.lemmas.Bool.{eqb-true, or_parts, and_parts}
 use Rattle.std.specs.Prelude.{Option, Some, None, ◌==◌}
-use Rattle.std.specs.List.{list_any, position_or_len}
+use Rattle.std.specs.List.{list_any, list_all, position_or_len}
 use Rattle.std.specs.Str.{bytes_eq}
+use Rattle.idtext.specs.Words.{is_white, words}
+use Rattle.idtext.proofs.WordLemmas.{words-skip}
 use Rattle.mtree_inv.specs.Keywords.{is_equals_sign, given_by}
 use Rattle.mtree_inv.specs.Views.{is_end_of_key}
 
--- the same, byte by byte from the front on
+-- a line that begins with white space
+pub words-behind : (white line : List ℕ) → list_all is_white white ≡ true → bytes_eq (take (length white) line) white ≡ true → words (drop (length white) line) ≡ words line
+words-behind [] line all is = refl
+words-behind (w ∷ white) [] all is = absurd (true≢false (sym is))
+words-behind (w ∷ white) (b ∷ line) all is =
+    let whites = and_parts (is_white w) (list_all is_white white) all in
+    let same = and_parts (b == w) (bytes_eq (take (length white) line) white) is in
+    words-behind white line whites.1 same.1 ∙ sym (words-skip 1 (b ∷ line) (omega arith) (λ k less. by k less (ap is_white (eqb-true b w same.0) ∙ whites.0)))
+  where
+    by : (k : ℕ) → k < 1 → is_white b ≡ true → is_white (get_or (b ∷ line) k 0) ≡ true
+    by zero less is = is
+    by (suc k) less is = absurd (omega arith)
+
+-- ---- the value, byte by byte from the front on
+
 abbrev given_at : List ℕ → List ℕ → Option (List ℕ)
 given_at [] word = cond (is_end_of_key word) (Some (drop 1 word)) None
 given_at (k ∷ key) [] = None
