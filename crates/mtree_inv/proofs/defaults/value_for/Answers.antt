@@ -1,6 +1,6 @@
 use Rattle.std.proofs.Common.{true, false, sym, ap, ◌∙◌}
 use Rattle.std.specs.Prelude.{Some}
-use Rattle.mtree_inv.proofs.KeywordLemmas.{given-begun, given-not}
+use Rattle.mtree_inv.proofs.KeywordLemmas.{given-begun}
 use Rattle.mtree_inv.proofs.defaults.value_for.Goals as goal
 
 pub returns-then-ends_key : goal.returns-then-ends_key

@@ -2,7 +2,7 @@ use Rattle.std.proofs.Common.{◌≡◌, length, sym, ◌∙◌, arith, subst}
 use Rattle.std.specs.Prelude.{OnOk}
 use Rattle.std.proofs.lemmas.Bool.{eqb-false}
 use Rattle.mtree_inv.specs.OpenLines.{open_line}
-use Rattle.mtree_inv.proofs.OpenLemmas.{bytes-plain, bytes-none, bytes-backslash}
+use Rattle.mtree_inv.proofs.OpenLemmas.{bytes-plain, bytes-backslash}
 use Rattle.mtree_inv.proofs.open_line.OpenLine.take.Goals as goal
 
 pub returns-then-not-ends_in_backslash : goal.returns-then-not-ends_in_backslash
