@@ -68,15 +68,15 @@ after-one : (line : Open) (b : ℕ) → IsAfter line (b == 92) (with_bytes line 
 after-one line b = by (b == 92)
   where
     by : (t : Bool) → IsAfter line t (cond t (with_backslash line) (with_plain line (b ∷ [])))
-    by true = record { ends = refl; first = refl; current = refl; }
-    by false = record { ends = refl; first = refl; current = refl; }
+    by true = record { ends = refl; first = refl; current = refl }
+    by false = record { ends = refl; first = refl; current = refl }
 
 after-bytes : (line : Open) (b : ℕ) (bytes : List ℕ) → IsAfter line (ends_in_backslash (b ∷ bytes)) (with_bytes line (b ∷ bytes))
 after-bytes line b [] = after-one line b
 after-bytes line b (c ∷ bytes) =
     let one = after-one line b in
     let more = after-bytes (with_bytes line (b ∷ [])) c bytes in
-    record { ends = more.ends; first = more.first ∙ one.first; current = more.current ∙ one.current; }
+    record { ends = more.ends; first = more.first ∙ one.first; current = more.current ∙ one.current }
 
 abbrev open_of : Option (List ℕ) → Ends → ℕ → ℕ → Open
 open_of joined ends first current = record { joined = joined; ends = ends; first = first; current = current }
@@ -144,7 +144,7 @@ record IsWhole (line : Open) (bytes : List ℕ) (new : Open) : Type 0 where
   current : new.current ≡ line.current
 
 is_whole : (line : Open) (bytes : List ℕ) → is_joining line.ends ≡ false → line.joined ≡ Some [] → ends_in_backslash bytes ≡ false → IsWhole line bytes (with_bytes line bytes)
-is_whole line [] joins none plain = record { joins = joins; joined = none; first = refl; current = refl; }
+is_whole line [] joins none plain = record { joins = joins; joined = none; first = refl; current = refl }
 is_whole line (b ∷ bytes) joins none plain =
     let after = after-bytes line b bytes in record {
       joins = ap is_joining (after.ends ∙ ap (λ (t : Bool). cond t Backslash Byte) plain);
