@@ -1,7 +1,7 @@
 -- Bytes read by a reader.
-use Rattle.std.proofs.Common.{◌≡◌, ℕ, zero, suc, ◌<◌, ◌≤◌, Bool, true, false, cond, List, [], ◌∷◌, ◌++◌, length, take, drop, get_or, refl, sym, ap, ◌∙◌, append-nil, append_assoc, subst, arith}
-use Rattle.std.proofs.lemmas.Bool.{false≢true, and_parts, and_from, not-true, not_from_false, ne_eqb}
-use Rattle.std.specs.Prelude.{Option, Some, None, Result, Ok, Err, MatchResult, fold, if◌then◌else◌, ◌==◌, not, is_none, is_ok, OnErr}
+use Rattle.std.proofs.Common.{◌≡◌, ℕ, zero, suc, ◌<◌, ◌+◌, Bool, true, false, cond, List, [], ◌∷◌, ◌++◌, length, take, drop, get_or, refl, sym, ap, ◌∙◌, append-nil, append_assoc, subst, arith}
+use Rattle.std.proofs.lemmas.Bool.{false≢true, ne_eqb}
+use Rattle.std.specs.Prelude.{Option, Some, None, Result, Ok, Err, MatchResult, fold, if◌then◌else◌, ◌==◌, is_none, is_ok, OnErr}
 use Rattle.idtext.specs.First.{◌>>=◌, Gives, or_else}
 use Rattle.idtext.specs.declared.faults.TextCode.{TextCode}
 use Rattle.idtext.specs.declared.faults.TextCode.TheVariants.{BadPath, CutInventory}
@@ -13,12 +13,11 @@ use Rattle.mtree_inv.specs.declared.open_line.Ends.TheVariants.{Nothing, Joined,
 use Rattle.mtree_inv.specs.Kinds.{Kind, TooLong, Cut, Ignored, Begins, Counts, Sets, Unsets, Unknown, Up, Names}
 use Rattle.mtree_inv.specs.Inventory.{file_at, clash}
 use Rattle.mtree_inv.specs.Machine.{Kept, effective, owned, or_dot, path_below, is_bad_entry, with_file, with_new_file, unless_fault, entry_kept, with_opened, opens_directory, entry_step, closed, step, with_file_given, is_unended, begun_now}
-use Rattle.mtree_inv.specs.Reading.{Open, clip, grown, held, with_plain, with_backslash, with_join, is_joining, fresh, clipped_kind, Reading, after_step, with_line, with_newline, unless_ended, read_byte, read_bytes, at_end, last_read, finished, end_lacking, with_end_seen}
+use Rattle.mtree_inv.specs.Reading.{Open, with_plain, with_backslash, with_join, with_bytes, with_run, is_joining, fresh, clipped_kind, Reading, after_step, with_line, with_newline, unless_ended, read_byte, read_bytes, at_end, last_read, finished, end_lacking, with_end_seen}
 use Rattle.idtext.specs.Faults.{fault_told}
-use Rattle.mtree_inv.specs.Parts.{is_plain, at_line, TakenTo, FailedTo}
+use Rattle.mtree_inv.specs.Parts.{HasNoNewline, at_line, TakenTo, FailedTo}
 use Rattle.idtext.specs.declared.faults.ReadError.{ReadError}
 use Rattle.idtext.specs.declared.faults.ReadError.TheVariants.{Memory, Fault}
-use Rattle.mtree_inv.proofs.LineLemmas.{clip-grown}
 
 -- ---- files only come
 
@@ -148,58 +147,48 @@ failed-more most files (Fault f) reading bytes h = (ap (λ (r : Reading). r.faul
     stays [] = refl
     stays (b ∷ bs) = ap (λ (o : Option TextFault). fold (read_byte most) (unless_ended o most reading b) bs) h.0 ∙ stays bs
 
-first_byte : (rest : List ℕ) → 0 < length rest → rest ≡ get_or rest 0 0 ∷ drop 1 rest
-first_byte [] h = absurd (omega arith)
-first_byte (b ∷ rest) h = refl
+-- ---- bytes up to a newline, and bytes without one
 
-pub read-newline : (most : ℕ) (kept : Kept) (line : Open) (rest : List ℕ) → 0 < length rest → get_or rest 0 0 ≡ 10
-    → read_bytes most (reading_at kept line) rest ≡ read_bytes most (with_newline most (reading_at kept line)) (drop 1 rest)
+one_byte : (most : ℕ) (kept : Kept) (line : Open) (b : ℕ) → (b ≡ 10 → ⊥) → read_byte most (reading_at kept line) b ≡ reading_at kept (with_bytes line (b ∷ []))
+one_byte most kept line b other = ap (λ (t : Bool). cond t (with_newline most (reading_at kept line)) (reading_at kept (with_bytes line (b ∷ [])))) (ne_eqb b 10 other)
+
+pub read-line : (most at : ℕ) (kept : Kept) (line : Open) (bytes : List ℕ) → at < length bytes → HasNoNewline at bytes → get_or bytes at 0 ≡ 10
+    → read_bytes most (reading_at kept line) bytes ≡ read_bytes most (with_newline most (with_run (reading_at kept line) (take at bytes))) (drop (at + 1) bytes)
 unfolding read_bytes
-read-newline most kept line rest h e =
-    ap (λ (bs : List ℕ). fold (read_byte most) (reading_at kept line) bs) (first_byte rest h)
-    ∙ ap (λ (b : ℕ). fold (read_byte most) (reading_at kept line) (b ∷ drop 1 rest)) e
+read-line most at kept line bytes within none newline =
+    let more : suc at ≡ at + 1 = omega arith in
+    by at line bytes within none newline
+    ∙ ap (λ (n : ℕ). read_bytes most (with_newline most (with_run (reading_at kept line) (take at bytes))) (drop n bytes)) more
+  where
+    by : (n : ℕ) (line : Open) (bytes : List ℕ) → n < length bytes → HasNoNewline n bytes → get_or bytes n 0 ≡ 10
+        → read_bytes most (reading_at kept line) bytes ≡ read_bytes most (with_newline most (with_run (reading_at kept line) (take n bytes))) (drop (suc n) bytes)
+    by n line [] within none newline = absurd (omega (arith, within))
+    by zero line (b ∷ bytes) within none newline = ap (λ (x : ℕ). fold (read_byte most) (reading_at kept line) (x ∷ bytes)) newline
+    by (suc n) line (b ∷ bytes) within none newline =
+        ap (λ (m : Reading). fold (read_byte most) m bytes) (one_byte most kept line b (none 0 (omega arith)))
+        ∙ by n (with_bytes line (b ∷ [])) bytes (omega (arith, within)) (λ k less. none (suc k) (omega (arith, less))) newline
 
-pub read-backslash : (most : ℕ) (kept : Kept) (line : Open) (rest : List ℕ) → 0 < length rest → get_or rest 0 0 ≡ 92
-    → read_bytes most (reading_at kept line) rest ≡ read_bytes most (reading_at kept (with_backslash line)) (drop 1 rest)
+-- a line and its newline, as the reader took them
+module _ (most at : ℕ) (kept : Kept) (begun : Open) (rest line : List ℕ) (within : at < length rest) (none : HasNoNewline at rest) (newline : get_or rest at 0 ≡ 10) (is : line ≡ take at rest) where
+  line_taken : read_bytes most (reading_at kept begun) rest ≡ read_bytes most (with_newline most (with_run (reading_at kept begun) line)) (drop (at + 1) rest)
+  line_taken =
+      read-line most at kept begun rest within none newline
+      ∙ ap (λ (l : List ℕ). read_bytes most (with_newline most (with_run (reading_at kept begun) l)) (drop (at + 1) rest)) (sym is)
+
+  pub line-taken : (new : Reading) → with_newline most (with_run (reading_at kept begun) line) ≡ new → read_bytes most (reading_at kept begun) rest ≡ read_bytes most new (drop (at + 1) rest)
+  line-taken new e = line_taken ∙ ap (λ (m : Reading). read_bytes most m (drop (at + 1) rest)) e
+
+  pub line-failed : (files : List Entry) (fault : ReadError) → FailedTo files fault (with_newline most (with_run (reading_at kept begun) line)) → FailedTo files fault (read_bytes most (reading_at kept begun) rest)
+  line-failed files fault h =
+      subst (FailedTo files fault) (sym line_taken) (failed-more most files fault (with_newline most (with_run (reading_at kept begun) line)) (drop (at + 1) rest) h)
+
+pub read-rest : (most : ℕ) (kept : Kept) (line : Open) (bytes : List ℕ) → HasNoNewline (length bytes) bytes
+    → read_bytes most (reading_at kept line) bytes ≡ reading_at kept (with_bytes line bytes)
 unfolding read_bytes
-read-backslash most kept line rest h e =
-    ap (λ (bs : List ℕ). fold (read_byte most) (reading_at kept line) bs) (first_byte rest h)
-    ∙ ap (λ (b : ℕ). fold (read_byte most) (reading_at kept line) (b ∷ drop 1 rest)) e
-
-grown-twice : (joined : Option (List ℕ)) (a b : List ℕ) → grown (grown joined a) b ≡ grown joined (a ++ b)
-grown-twice None a b = refl
-grown-twice (Some bytes) a b = clip-grown (bytes ++ a) b ∙ ap clip (append_assoc bytes a b)
-
-plain-twice : (line : Open) (a b : List ℕ) → with_plain (with_plain line a) b ≡ with_plain line (a ++ b)
-plain-twice line a b = ap (λ (j : Option (List ℕ)). (let x : Open = record { joined = j; ends = Byte; first = line.first; current = line.current } in x)) (grown-twice (held line.ends line.joined) a b)
-
-read_plain : (most : ℕ) (kept : Kept) (line : Open) (b : ℕ) → is_plain b ≡ true → read_byte most (reading_at kept line) b ≡ reading_at kept (with_plain line (b ∷ []))
-read_plain most kept line b e =
-    let parts = and_parts (not (b == 10)) (not (b == 92)) e in
-    ap (λ (t : Bool). cond t (with_newline most (reading_at kept line)) (reading_at kept (if b == 92 then with_backslash line else with_plain line (b ∷ [])))) (not-true (b == 10) parts.0)
-    ∙ ap (λ (t : Bool). reading_at kept (cond t (with_backslash line) (with_plain line (b ∷ [])))) (not-true (b == 92) parts.1)
-
-pub read-run : (most : ℕ) (n : ℕ) (kept : Kept) (line : Open) (bytes : List ℕ) → suc n ≤ length bytes → ((k : ℕ) → k < suc n → is_plain (get_or bytes k 0) ≡ true)
-    → read_bytes most (reading_at kept line) bytes ≡ read_bytes most (reading_at kept (with_plain line (take (suc n) bytes))) (drop (suc n) bytes)
-unfolding read_bytes
-read-run most n kept line [] le plain = absurd (omega arith)
-read-run most zero kept line (b ∷ bytes) le plain = ap (λ (m : Reading). fold (read_byte most) m bytes) (read_plain most kept line b (plain 0 (omega arith)))
-read-run most (suc n) kept line (b ∷ bytes) le plain =
-    ap (λ (m : Reading). fold (read_byte most) m bytes) (read_plain most kept line b (plain 0 (omega arith)))
-    ∙ read-run most n kept (with_plain line (b ∷ [])) bytes (omega arith) (λ k lt. plain (suc k) (omega arith))
-    ∙ ap (λ (o : Open). fold (read_byte most) (reading_at kept o) (drop (suc n) bytes)) (plain-twice line (b ∷ []) (take (suc n) bytes))
-
-pub read-plain-run : (most n : ℕ) (kept : Kept) (line new : Open) (bytes run : List ℕ) → 0 < length bytes → n ≤ length bytes → ((k : ℕ) → k < n → is_plain (get_or bytes k 0) ≡ true) → (n < length bytes → is_plain (get_or bytes n 0) ≡ false)
-    → is_plain (get_or bytes 0 0) ≡ true → run ≡ take n bytes → new ≡ with_plain line run
-    → read_bytes most (reading_at kept line) bytes ≡ read_bytes most (reading_at kept new) (drop n bytes)
-read-plain-run most zero kept line new bytes run some le plain ends first e f = absurd (false≢true (sym (ends some) ∙ first))
-read-plain-run most (suc n) kept line new bytes run some le plain ends first e f =
-    read-run most n kept line bytes le plain
-    ∙ ap (λ (r : List ℕ). read_bytes most (reading_at kept (with_plain line r)) (drop (suc n) bytes)) (sym e)
-    ∙ ap (λ (o : Open). read_bytes most (reading_at kept o) (drop (suc n) bytes)) (sym f)
-
-pub plain-first : (b : ℕ) → (b ≡ 10 → ⊥) → (b ≡ 92 → ⊥) → is_plain b ≡ true
-plain-first b n m = and_from (not (b == 10)) (not (b == 92)) (not_from_false (b == 10) (ne_eqb b 10 n)) (not_from_false (b == 92) (ne_eqb b 92 m))
+read-rest most kept line [] none = refl
+read-rest most kept line (b ∷ bytes) none =
+    ap (λ (m : Reading). fold (read_byte most) m bytes) (one_byte most kept line b (none 0 (omega arith)))
+    ∙ read-rest most kept (with_bytes line (b ∷ [])) bytes (λ k less. none (suc k) (omega (arith, less)))
 
 pub newline-line : (most : ℕ) (reading : Reading) → is_joining reading.open_line.ends ≡ false → with_newline most reading ≡ with_line most reading
 newline-line most reading e = ap (λ (b : Bool). cond b (record reading { open_line = with_join reading.open_line }) (with_line most reading)) e

@@ -1,8 +1,9 @@
 -- A word without escapes: its parts are its pieces between slashes.
-use Rattle.std.proofs.Common.{◌≡◌, ℕ, Bool, true, false, cond, ◌||◌, List, [], ◌∷◌, refl, sym, ap, ◌∙◌, true≢false, arith}
-use Rattle.std.proofs.lemmas.Bool.{eqb-true}
-use Rattle.std.specs.Prelude.{filter, map, drop, slice_index, ◌==◌, codes}
-use Rattle.std.specs.List.{list_any, slice_split, onto_first}
+use Rattle.std.proofs.Common.{◌≡◌, ℕ, Bool, true, false, cond, not, ◌||◌, ◌&&◌, List, [], ◌∷◌, ◌++◌, length, refl, sym, ap, ◌∙◌, true≢false, arith}
+use Rattle.std.proofs.lemmas.Bool.{eqb-true, and_parts, not-true, false≢true}
+use Rattle.std.proofs.lemmas.List.Splits.{join_with_byte-slice_split}
+use Rattle.std.specs.Prelude.{filter, map, take, drop, slice_index, ◌==◌, codes}
+use Rattle.std.specs.List.{list_any, list_all, slice_split, onto_first, join_with_byte}
 use Rattle.std.specs.Str.{bytes_eq}
 use Rattle.idtext.specs.Escapes.{Front, backslash_front, front, characters, bytes_of, is_bad}
 use Rattle.idtext.specs.Pieces.{pieces}
@@ -12,8 +13,9 @@ use Rattle.idtext.proofs.EscapeLemmas.{characters-empty, front-first}
 use Rattle.mtree_inv.specs.Open.{is_full}
 use Rattle.mtree_inv.specs.Paths.{is_kept, is_bad_component, is_slash, parts, components, has_bad_component}
 use Rattle.mtree_inv.specs.Machine.{joined_onto}
-use Rattle.mtree_inv.specs.Views.{has_separator}
+use Rattle.mtree_inv.specs.Views.{has_separator, is_simple_part, is_simple, HasPartsOf}
 use Rattle.mtree_inv.proofs.PartLemmas.{kept-joined, with_part}
+use Rattle.mtree_inv.proofs.PathLemmas.{joined_onto-slashed, join_with_byte-slashed}
 
 or_parts : (a b : Bool) → (a || b) ≡ false → (a ≡ false) × (b ≡ false)
 or_parts true b h = absurd (true≢false h)
@@ -159,3 +161,93 @@ name-first part after rest cut are = or_parts (has_separator part) (list_any has
 
 pub name-last : (rest : List ℕ) → pieces 47 rest ≡ rest ∷ [] → AreNames rest → has_separator rest ≡ false
 name-last rest last are = (or_parts (has_separator rest) false (sym (ap (list_any has_separator) last) ∙ are)).0
+
+-- ---- a name alone, and simple words
+
+pub name-alone : (word : List ℕ) → list_any (λ b. b == 47) word ≡ false → pieces 47 word ≡ word ∷ []
+unfolding pieces
+name-alone [] none = refl
+name-alone (x ∷ xs) none =
+    let both = or_parts (x == 47) (list_any (λ b. b == 47) xs) none in
+    ap (λ (t : Bool). cond t ([] ∷ slice_split (λ b. b == 47) xs) (onto_first x (slice_split (λ b. b == 47) xs))) both.0
+    ∙ ap (onto_first x) (name-alone xs both.1)
+
+same-parts : (word other part : List ℕ) → pieces 47 word ≡ part ∷ pieces 47 other → is_kept part ≡ false → is_bad_component part ≡ false → has_separator part ≡ false → HasPartsOf word other
+same-parts word other part cut kept bad none = record {
+  kept = sym (ap (filter is_kept) cut ∙ ap (λ (b : Bool). cond b (part ∷ filter is_kept (pieces 47 other)) (filter is_kept (pieces 47 other))) kept);
+  bad = sym (ap (list_any is_bad_component) cut ∙ ap (λ (b : Bool). b || list_any is_bad_component (pieces 47 other)) bad);
+  separators = sym (ap (list_any has_separator) cut ∙ ap (λ (b : Bool). b || list_any has_separator (pieces 47 other)) none);
+}
+
+dot-cut : (word : List ℕ) → bytes_eq (take 2 word) (codes "./") ≡ true → pieces 47 word ≡ codes "." ∷ pieces 47 (drop 2 word)
+unfolding pieces
+dot-cut [] is = absurd (false≢true is)
+dot-cut (x ∷ []) is = absurd (false≢true (sym (and_false (x == 46)) ∙ is))
+  where
+    and_false : (b : Bool) → (b && false) ≡ false
+    and_false true = refl
+    and_false false = refl
+dot-cut (x ∷ y ∷ word) is =
+    let one = and_parts (x == 46) ((y == 47) && true) is in
+    let two = and_parts (y == 47) true one.1 in
+    ap (λ (n : ℕ). slice_split (λ b. b == 47) (n ∷ y ∷ word)) (eqb-true x 46 one.0)
+    ∙ ap (λ (n : ℕ). slice_split (λ b. b == 47) (46 ∷ n ∷ word)) (eqb-true y 47 two.0)
+
+pub dot-dropped : (word rest : List ℕ) → bytes_eq (take 2 word) (codes "./") ≡ true → rest ≡ drop 2 word → HasPartsOf word rest
+dot-dropped word rest is at =
+    same-parts word rest (codes ".") (dot-cut word is ∙ ap (λ (r : List ℕ). codes "." ∷ pieces 47 r) (sym at)) refl refl refl
+
+pub pieces-same : (path word rest : List ℕ) (bad : Bool) (whole : List ℕ) → HasPartsOf word rest → PiecesTo path word bad whole → PiecesTo path rest bad whole
+pieces-same path word rest bad whole same read = record {
+  bad_is = same.bad ∙ read.bad_is;
+  path_is = ap (joined_onto path) same.kept ∙ read.path_is;
+}
+
+simple-kept : (ps : List (List ℕ)) → list_all is_simple_part ps ≡ true → filter is_kept ps ≡ ps
+simple-kept [] simple = refl
+simple-kept ([] ∷ ps) simple = absurd (false≢true simple)
+simple-kept ((b ∷ p) ∷ ps) simple =
+    let both = and_parts (not (b == 46)) (list_all is_simple_part ps) simple in
+    ap (λ (t : Bool). cond (not (t && bytes_eq p [])) ((b ∷ p) ∷ filter is_kept ps) (filter is_kept ps)) (not-true (b == 46) both.0)
+    ∙ ap (λ (l : List (List ℕ)). (b ∷ p) ∷ l) (simple-kept ps both.1)
+
+simple-lawful : (ps : List (List ℕ)) → list_all is_simple_part ps ≡ true → list_any has_separator ps ≡ false → list_any is_bad_component ps ≡ false
+simple-lawful [] simple none = refl
+simple-lawful ([] ∷ ps) simple none = absurd (false≢true simple)
+simple-lawful ((b ∷ p) ∷ ps) simple none =
+    let both = and_parts (not (b == 46)) (list_all is_simple_part ps) simple in
+    let nones = or_parts (has_separator (b ∷ p)) (list_any has_separator ps) none in
+    ap (λ (t : Bool). ((t && bytes_eq p (46 ∷ [])) || has_separator (b ∷ p)) || list_any is_bad_component ps) (not-true (b == 46) both.0)
+    ∙ ap (λ (t : Bool). t || list_any is_bad_component ps) nones.0 ∙ simple-lawful ps both.1 nones.1
+
+simple-joined : (ps : List (List ℕ)) → list_all is_simple_part ps ≡ true → joined_onto [] ps ≡ join_with_byte 47 ps
+simple-joined [] simple = refl
+simple-joined ([] ∷ ps) simple = absurd (false≢true simple)
+simple-joined ((b ∷ p) ∷ ps) simple = joined_onto-slashed b p ps ∙ sym (join_with_byte-slashed (b ∷ p) ps)
+
+module _ (word : List ℕ) (simple : is_simple word ≡ true) where
+  pub simple-bad : AreNames word → list_any is_bad_component (pieces 47 word) ≡ false
+  simple-bad are = simple-lawful (pieces 47 word) simple are
+
+  simple-whole : joined_onto [] (filter is_kept (pieces 47 word)) ≡ word
+  unfolding pieces
+  simple-whole = ap (joined_onto []) (simple-kept (pieces 47 word) simple) ∙ simple-joined (pieces 47 word) simple ∙ join_with_byte-slice_split 47 word
+
+pub simple-written : (path rest new : List ℕ) (bad : Bool) (whole : List ℕ) → length path ≡ 0 → is_simple rest ≡ true → PiecesTo path rest bad whole → new ≡ path ++ rest → new ≡ whole
+simple-written [] rest new bad whole none simple read e = e ∙ sym (simple-whole rest simple) ∙ read.path_is
+simple-written (x ∷ path) rest new bad whole none simple read e = absurd (omega (arith, none))
+
+-- whether a rest is simple tells it of the whole word
+module _ (part after rest : List ℕ) (cut : pieces 47 rest ≡ part ∷ pieces 47 after) where
+  pub simple-on : is_simple_part part ≡ true → is_simple after ≡ is_simple rest
+  simple-on is = sym (ap (list_all is_simple_part) cut ∙ ap (λ (b : Bool). b && is_simple after) is)
+
+  pub simple-not : is_simple_part part ≡ false → is_simple rest ≡ false
+  simple-not is = ap (list_all is_simple_part) cut ∙ ap (λ (b : Bool). b && is_simple after) is
+
+pub simple-last : (rest : List ℕ) → pieces 47 rest ≡ rest ∷ [] → is_simple_part rest ≡ is_simple rest
+simple-last rest last = sym (ap (list_all is_simple_part) last ∙ and_true (is_simple_part rest))
+  where
+    and_true : (b : Bool) → (b && true) ≡ b
+    and_true true = refl
+    and_true false = refl

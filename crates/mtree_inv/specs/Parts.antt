@@ -1,6 +1,5 @@
 -- Words of private contracts: what a reader that has met no fault stands for.
-use Rattle.std.specs.Prelude.{◌≡◌, ℕ, Bool, not, ◌&&◌, ◌==◌, List, ◌++◌, Some, None, Result, Ok}
-use Rattle.std.specs.Prelude.{Err}
+use Rattle.std.specs.Prelude.{◌≡◌, ℕ, ◌<◌, slice_index, List, ◌++◌, Some, None, Result, Ok, Err}
 use Rattle.idtext.specs.declared.faults.TextCode.{TextCode}
 use Rattle.idtext.specs.declared.faults.TextFault.{TextFault}
 use Rattle.idtext.specs.declared.faults.ReadError.{ReadError}
@@ -13,8 +12,9 @@ use Rattle.mtree_inv.specs.Views.{listed}
 use Rattle.mtree_inv.specs.Walked.{kept_of, waiting_of}
 use Rattle.mtree_inv.specs.OpenLines.{open_line}
 
-abbrev pub is_plain : ℕ → Bool
-is_plain b = not (b == 10) && not (b == 92)
+-- so many bytes at the front are no newline
+abbrev pub HasNoNewline : ℕ → List ℕ → Type 0
+HasNoNewline n bytes = (k : ℕ) → k < n → slice_index bytes k ≡ 10 → ⊥
 
 abbrev pub most_of : ReaderParts → ℕ
 most_of parts = parts.walk.files.most

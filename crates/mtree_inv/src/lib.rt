@@ -51,6 +51,7 @@ mod places;
 mod reader;
 mod table;
 mod walk;
+mod words;
 
 pub use entry::Entry;
 pub use inventory::{Inventory, read_inventory};

@@ -1,25 +1,81 @@
 //! A walk over the bytes of a text.
-ghost use Rattle.std.specs.Prelude.{◌≡◌, ◌≤◌, ◌<◌, ℕ, length, true, false, slice_index};
-ghost use Rattle.mtree_inv.specs.Parts.{is_plain};
+ghost use Rattle.std.specs.Prelude.{◌≡◌, ◌<◌, ◌+◌, length, slice_index, false, Some, MatchOption};
+ghost use Rattle.std.specs.Prelude.{IfSome, OnErr};
+ghost use Rattle.idtext.specs.Faults.{fault_told};
+ghost use Rattle.idtext.specs.First.{Gives};
+ghost use Rattle.idtext.specs.declared.faults.TextCode.TheVariants.{LineTooLong};
+ghost use Rattle.mtree_inv.specs.Kinds.{kind_of_text};
+ghost use Rattle.mtree_inv.specs.Machine.{step};
+ghost use Rattle.mtree_inv.specs.Parts.{HasNoNewline, at_line};
+ghost use Rattle.mtree_inv.specs.Reading.{clip, clipped_kind};
+ghost use Rattle.mtree_inv.specs.Standing.{GrowAlike};
+ghost use Rattle.mtree_inv.specs.Views.{listed};
+ghost use Rattle.mtree_inv.specs.Walked.{kept_of, waiting_of};
 
 use crate::entry::Entry;
 use crate::fault::LineFault;
-use crate::open_line::{Ends, OpenLine};
+use crate::open_line::{Ends, OpenLine, ends_in_backslash};
 use crate::walk::Walk;
-use idtext::{ReadError, TextCode, TextFault};
-use memchr::memchr2;
+use idtext::{MOST_BYTES, ReadError, TextCode, TextFault};
+use memchr::memchr;
 use std::alloc::Global;
 
-// How many bytes at the front are neither a newline nor a backslash.
-fn plain_len(bytes: &[u8]) -> usize
-    ensures within { result ≤ length bytes.now }
-    ensures plain { (k : ℕ) → k < result → is_plain (slice_index bytes.now k) ≡ true }
-    ensures special { result < length bytes.now → is_plain (slice_index bytes.now result) ≡ false }
+// Where the first newline stands, if there is one.
+fn newline_at(bytes: &[u8]) -> Option<usize>
+    ensures first { MatchOption result (HasNoNewline (length bytes.now) bytes.now)
+        (λ at. HasNoNewline at bytes.now × (slice_index bytes.now at ≡ 10)) }
+    ensures within { IfSome result (λ at. at < length bytes.now) }
+    ensures fits { IfSome result (λ at. at + 1 < 18446744073709551616) }
 {
-    match memchr2(b'\n', b'\\', bytes) {
-        Some(at) => at,
-        None => bytes.len(),
+    memchr(b'\n', bytes)
+}
+
+// Goes over one logical line, whose first line has this number.
+fn take_text(walk: &mut Walk, alloc: Global, number: u64, text: &[u8]) -> Result<(), ReadError>
+    ensures exact { Gives (λ _. kept_of walk.new) fault_told result
+        (at_line number (step walk.old.files.most (kept_of walk.old) (kind_of_text text.now))) }
+    ensures grow { GrowAlike (listed walk.old.files.table) (listed walk.new.files.table)
+        (waiting_of walk.old) (waiting_of walk.new) }
+    ensures err { OnErr result (listed walk.new.files.table ≡ listed walk.old.files.table) }
+    ensures most { walk.new.files.most ≡ walk.old.files.most }
+{
+    match walk.line(alloc, text) {
+        Ok(()) => Ok(()),
+        Err(LineFault::Memory) => Err(ReadError::Memory),
+        Err(LineFault::Code(code)) => Err(ReadError::Fault(TextFault { code, line: number })),
     }
+}
+
+// A line that is too long.
+fn too_long(number: u64) -> ReadError
+    ensures { fault_told result ≡ Some (record { code = LineTooLong; line = number }) }
+{
+    ReadError::Fault(TextFault {
+        code: TextCode::LineTooLong,
+        line: number,
+    })
+}
+
+// The same, unless the line is too long.
+#[tactic(auto, unfolding(crate::specs::Machine::step))]
+fn take_unless_long(
+    walk: &mut Walk,
+    alloc: Global,
+    number: u64,
+    text: &[u8],
+) -> Result<(), ReadError>
+    ensures exact { Gives (λ _. kept_of walk.new) fault_told result
+        (at_line number (step walk.old.files.most (kept_of walk.old)
+        (clipped_kind (clip text.now) false))) }
+    ensures grow { GrowAlike (listed walk.old.files.table) (listed walk.new.files.table)
+        (waiting_of walk.old) (waiting_of walk.new) }
+    ensures err { OnErr result (listed walk.new.files.table ≡ listed walk.old.files.table) }
+    ensures most { walk.new.files.most ≡ walk.old.files.most }
+{
+    if text.len() > MOST_BYTES {
+        return Err(too_long(number));
+    }
+    take_text(walk, alloc, number, text)
 }
 
 /// A reader that has met no fault.
@@ -31,17 +87,19 @@ pub(crate) struct Parts {
 }
 
 impl Parts {
-    ghost use Rattle.std.specs.Prelude.{◌≡◌, [], ◌∷◌, ◌<◌, ◌≤◌, drop, length, OnErr, IfOk};
-    ghost use Rattle.std.specs.Prelude.{MatchResult, MatchOption};
+    ghost use Rattle.std.specs.Prelude.{◌≡◌, ◌<◌, ◌+◌, [], ◌∷◌, drop, length, slice_index, false};
+    ghost use Rattle.std.specs.Prelude.{Some, OnErr, MatchResult, MatchOption};
     ghost use Rattle.idtext.specs.First.{Gives};
     ghost use Rattle.mtree_inv.specs.Machine.{step};
-    ghost use Rattle.mtree_inv.specs.Reading.{clipped_kind, with_newline, read_bytes, last_read};
-    ghost use Rattle.mtree_inv.specs.Reading.{finished, start};
+    ghost use Rattle.mtree_inv.specs.Logical.{ends_in_backslash as is_ended_in_backslash};
+    ghost use Rattle.mtree_inv.specs.OpenLines.{open_line};
+    ghost use Rattle.mtree_inv.specs.Reading.{clipped_kind, is_joining, with_newline, with_run};
+    ghost use Rattle.mtree_inv.specs.Reading.{read_bytes, last_read, finished, start};
     ghost use Rattle.mtree_inv.specs.Standing.{GrowAlike};
     ghost use Rattle.mtree_inv.specs.Walked.{kept_of};
     ghost use Rattle.idtext.specs.Faults.{fault_told};
     ghost use Rattle.mtree_inv.specs.Parts.{most_of, files_of_parts, waiting_in, reading_of};
-    ghost use Rattle.mtree_inv.specs.Parts.{at_line, TakenTo, FailedTo};
+    ghost use Rattle.mtree_inv.specs.Parts.{at_line, HasNoNewline, TakenTo, FailedTo};
 
     pub(crate) fn new(alloc: Global, most: u32) -> Self
         ensures reading { reading_of result ≡ start }
@@ -70,10 +128,7 @@ impl Parts {
     {
         let number = self.in_progress.first;
         if self.in_progress.is_too_long {
-            return Err(ReadError::Fault(TextFault {
-                code: TextCode::LineTooLong,
-                line: number,
-            }));
+            return Err(too_long(number));
         }
         if is_cut {
             return Err(ReadError::Fault(TextFault {
@@ -81,11 +136,7 @@ impl Parts {
                 line: number,
             }));
         }
-        match self.walk.line(self.alloc, &self.in_progress.bytes) {
-            Ok(()) => Ok(()),
-            Err(LineFault::Memory) => Err(ReadError::Memory),
-            Err(LineFault::Code(code)) => Err(ReadError::Fault(TextFault { code, line: number })),
-        }
+        take_text(&mut self.walk, self.alloc, number, &self.in_progress.bytes)
     }
 
     // Takes a newline.
@@ -107,38 +158,62 @@ impl Parts {
         taken
     }
 
-    // Takes some bytes at the front, and answers how many.
-    fn take_some(&mut self, rest: &[u8]) -> Result<usize, ReadError>
-        requires { 0 < length rest.now }
-        ensures some { IfOk result (λ n. 0 < n) }
-        ensures within { IfOk result (λ n. n ≤ length rest.now) }
+    // Takes a whole line that came in one piece, and its newline. It need not be kept.
+    fn take_whole(&mut self, line: &[u8]) -> Result<(), ReadError>
+        requires joins { is_joining self.old.in_progress.ends ≡ false }
+        requires none { (open_line self.old.in_progress).joined ≡ Some [] }
+        requires plain { is_ended_in_backslash line.now ≡ false }
+        ensures taken { TakenTo (files_of_parts self.new) (reading_of self.new) result
+            (with_newline (most_of self.old) (with_run (reading_of self.old) line.now)) }
+        ensures grow { GrowAlike (files_of_parts self.old) (files_of_parts self.new)
+            (waiting_in self.old) (waiting_in self.new) }
+        ensures most { most_of self.new ≡ most_of self.old }
+    {
+        let number = self.in_progress.first;
+        match take_unless_long(&mut self.walk, self.alloc, number, line) {
+            Ok(()) => {
+                self.in_progress.restart();
+                Ok(())
+            }
+            Err(fault) => Err(fault),
+        }
+    }
+
+    // Takes what stands before a newline, with no other among it, and the newline.
+    fn take_ended(&mut self, line: &[u8]) -> Result<(), ReadError>
+        ensures taken { TakenTo (files_of_parts self.new) (reading_of self.new) result
+            (with_newline (most_of self.old) (with_run (reading_of self.old) line.now)) }
+        ensures grow { GrowAlike (files_of_parts self.old) (files_of_parts self.new)
+            (waiting_in self.old) (waiting_in self.new) }
+        ensures most { most_of self.new ≡ most_of self.old }
+    {
+        if self.in_progress.is_clear() && !ends_in_backslash(line) {
+            return self.take_whole(line);
+        }
+        if self.in_progress.take(line).is_err() {
+            return Err(ReadError::Memory);
+        }
+        self.newline()
+    }
+
+    // Takes the bytes up to the first newline, which stands at an index, and that newline.
+    fn take_to(&mut self, rest: &[u8], at: usize) -> Result<(), ReadError>
+        requires within { at < length rest.now }
+        requires first { HasNoNewline at rest.now }
+        requires newline { slice_index rest.now at ≡ 10 }
         ensures taken { MatchResult result
-            (λ n. read_bytes (most_of self.old) (reading_of self.old) rest.now
-            ≡ read_bytes (most_of self.old) (reading_of self.new) (drop n rest.now))
+            (λ _. read_bytes (most_of self.old) (reading_of self.old) rest.now
+            ≡ read_bytes (most_of self.old) (reading_of self.new) (drop (at + 1) rest.now))
             (λ e. FailedTo (files_of_parts self.new) e
             (read_bytes (most_of self.old) (reading_of self.old) rest.now)) }
         ensures grow { GrowAlike (files_of_parts self.old) (files_of_parts self.new)
             (waiting_in self.old) (waiting_in self.new) }
         ensures most { most_of self.new ≡ most_of self.old }
     {
-        let first = rest[0];
-        if first == b'\n' {
-            return match self.newline() {
-                Ok(()) => Ok(1),
-                Err(fault) => Err(fault),
-            };
-        }
-        if first == b'\\' {
-            return match self.in_progress.backslash() {
-                Ok(()) => Ok(1),
-                Err(_) => Err(ReadError::Memory),
-            };
-        }
-        let len = plain_len(rest);
-        let (plain, _) = rest.split_at(len);
-        match self.in_progress.plain(plain) {
-            Ok(()) => Ok(len),
-            Err(_) => Err(ReadError::Memory),
+        let (line, _) = rest.split_at(at);
+        match self.take_ended(line) {
+            Ok(()) => Ok(()),
+            Err(fault) => Err(fault),
         }
     }
 
@@ -151,12 +226,15 @@ impl Parts {
         ensures most { most_of self.new ≡ most_of self.old }
     {
         let mut rest = piece;
-        while !rest.is_empty() {
-            let taken = self.take_some(rest)?;
-            let (_, after) = rest.split_at(taken);
-            rest = after;
+        while let Some(at) = newline_at(rest) {
+            self.take_to(rest, at)?;
+            let (_, behind) = rest.split_at(at + 1);
+            rest = behind;
         }
-        Ok(())
+        match self.in_progress.take(rest) {
+            Ok(()) => Ok(()),
+            Err(_) => Err(ReadError::Memory),
+        }
     }
 
     // Takes the line in progress where the text ends.

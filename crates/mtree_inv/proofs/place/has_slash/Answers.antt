@@ -9,5 +9,5 @@ use Rattle.mtree_inv.proofs.place.has_slash.Goals as goal
 pub returns : goal.returns
 returns c = sym (ap is_full c.in_default.ensures.characters ∙ ap (list_any is_slash) characters-empty) ∙ c.loop-character.invariant
 
-pub returns-then-not-contains : goal.returns-then-not-contains
-returns-then-not-contains c = c.contains-then-not-contains.ensures.value ∙ sym (full-plain c.args.word.now (sym c.if-not-contains.ensures.value))
+pub returns-then-not-with_backslash : goal.returns-then-not-with_backslash
+returns-then-not-with_backslash c = c.contains.ensures.value ∙ sym (full-plain c.args.word.now (sym c.requires ∙ c.if-not-with_backslash.true))
