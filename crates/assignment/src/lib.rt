@@ -15,6 +15,7 @@ ghost use Rattle.candidates.specs.Rows.{AreRowsOf};
 ghost use Rattle.assignment.specs.Solutions.{Proves, IsFreshIn, WeakDuality};
 
 mod duals;
+mod forest;
 mod graph;
 mod guess;
 mod pairs;
