@@ -1,11 +1,11 @@
 //! The trees of a guess. Each grows from a name that has no number, its root: a name of a tree
 //! reaches the numbers whose pairs with it are tight, and the names that have these numbers join
-//! the tree (alternating trees of the primal-dual method: Kuhn 1955, Edmonds 1965). All trees grow
-//! at once while the potentials of their names fall at one rate, so that each name that one tree
-//! has reached is passed by the others. A tree is out once one of its names reaches a number that
-//! nobody has, or has no potential left: then the names on the path to the root take the numbers
-//! that they have reached, and the tree is felled, so that others may reach what it held. So what a
-//! root costs is its own tree, and not all that it could reach.
+//! the tree, as in the primal-dual method (Kuhn 1955). All trees grow at once, while the potentials
+//! of their names fall at one rate, and none takes what another holds. A tree is out once one of
+//! its names reaches a number that nobody has, or has no potential left: then the names on the path
+//! to the root take the numbers that they have reached, and the tree is felled. Its names may be
+//! reached anew by the others, which stay as they are (tree grafting: Azad, Buluc and Pothen 2015).
+//! So a root costs what its own tree holds, and not all that can be reached from it.
 use crate::graph::Graph;
 use std::alloc::{AllocError, Global};
 use std::cmp::Reverse;
@@ -215,7 +215,7 @@ impl Forest {
         }
         now.alarm = level;
         self.set_name(name, now);
-        if self.queue.len() / 4 > self.names.len() {
+        if self.queue.len() / 2 > self.names.len() {
             self.sweep()?;
         }
         self.queue.push((Reverse(level), name))?;
