@@ -11,8 +11,8 @@ use std::alloc::{AllocError, Global};
 use std::cmp::Reverse;
 use std::collections::{BinaryHeap, VecDeque};
 
-/// A name: its potential, which falls below this while it is in a tree; the place of its number;
-/// and what it has in a tree.
+/// A name: its potential, in a tree as it was when the name joined; the place of its number; and
+/// where it stands in a tree.
 #[derive(Clone, Copy, Debug)]
 struct GuessedName {
     y: u64,
@@ -44,7 +44,7 @@ pub struct Forest {
     numbers: Vec<GuessedNumber>,
     /// How many trees there are.
     pub trees: usize,
-    /// By how much the potential of a name has fallen that was in a tree all the time.
+    /// The level: by how much the potentials of names have fallen that were in trees all the time.
     now: u64,
     /// Names and the places of numbers that they reach at the level now.
     ready: VecDeque<(u32, u32)>,
@@ -88,25 +88,11 @@ impl Forest {
         }
     }
 
-    fn set_name(&mut self, name: u32, now: GuessedName) {
-        let at = name as usize;
-        if at < self.names.len() {
-            self.names[at] = now;
-        }
-    }
-
     /// The number at a place as it is now.
     fn number(&self, place: u32) -> GuessedNumber {
         match self.numbers.get(place as usize) {
             Some(found) => *found,
             None => no_number(),
-        }
-    }
-
-    fn set_number(&mut self, place: u32, now: GuessedNumber) {
-        let at = place as usize;
-        if at < self.numbers.len() {
-            self.numbers[at] = now;
         }
     }
 
@@ -137,29 +123,30 @@ impl Forest {
 
     /// Takes a name into the tree of a root, from the name that reached its number.
     fn enter(&mut self, name: u32, root: u32, parent: u32) {
-        let mut first = self.name(root);
-        let mut now = self.name(name);
-        now.root = Some(root);
-        now.parent = parent;
-        now.level = self.now;
-        now.next = None;
+        let mut next = None;
         if name != root {
-            now.next = first.next;
-            first.next = Some(name);
-            self.set_name(root, first);
+            if let Some(first) = self.names.get_mut(root as usize) {
+                next = first.next;
+                first.next = Some(name);
+            }
         }
-        self.set_name(name, now);
-        if let Some(place) = now.place {
-            let mut held = self.number(place);
-            held.is_held = true;
-            self.set_number(place, held);
+        if let Some(now) = self.names.get_mut(name as usize) {
+            now.root = Some(root);
+            now.parent = parent;
+            now.next = next;
+            now.level = self.now;
+        }
+        if let Some(place) = self.place(name) {
+            if let Some(held) = self.numbers.get_mut(place as usize) {
+                held.is_held = true;
+            }
         }
     }
 
     /// Reads the pairs of a name of a tree: the tree is out, or the name has reached what it can at
     /// the level now, and waits for a later one.
     fn read(&mut self, graph: &Graph, name: u32) -> Result<(), AllocError> {
-        let mut now = self.name(name);
+        let now = self.name(name);
         let high = now.y.saturating_sub(self.now.saturating_sub(now.level));
         if high == 0 {
             return self.serve(graph, name, None);
@@ -169,8 +156,7 @@ impl Forest {
                 return self.serve(graph, name, Some(pair.place));
             }
         }
-        now.alarm = u64::MAX;
-        self.set_name(name, now);
+        self.set_alarm(name, u64::MAX);
         self.reach(graph, name, high)
     }
 
@@ -197,8 +183,8 @@ impl Forest {
         self.wait(name, self.now.saturating_add(least))
     }
 
-    /// Notes that a name reaches a number at the level now. There are no more notes than pairs: if
-    /// there would be, the name is to be read again.
+    /// Notes that a name reaches a number at the level now. Where there are as many notes as pairs,
+    /// the name is to be read again in place of one more.
     fn reach_now(&mut self, graph: &Graph, name: u32, place: u32) -> Result<(), AllocError> {
         if self.ready.len() >= graph.pairs.len() {
             return self.wait(name, self.now);
@@ -207,14 +193,18 @@ impl Forest {
         Ok(())
     }
 
-    /// Has a name be read again at a level, if it is not to be read before that.
+    fn set_alarm(&mut self, name: u32, level: u64) {
+        if let Some(now) = self.names.get_mut(name as usize) {
+            now.alarm = level;
+        }
+    }
+
+    /// Has a name read again at a level, unless it is to be read before that.
     fn wait(&mut self, name: u32, level: u64) -> Result<(), AllocError> {
-        let mut now = self.name(name);
-        if level >= now.alarm {
+        if level >= self.name(name).alarm {
             return Ok(());
         }
-        now.alarm = level;
-        self.set_name(name, now);
+        self.set_alarm(name, level);
         if self.queue.len() / 2 > self.names.len() {
             self.sweep()?;
         }
@@ -259,16 +249,17 @@ impl Forest {
             let Some(name) = first else {
                 return Ok(());
             };
-            let mut now = self.name(name);
+            let now = self.name(name);
             let by = self.now.saturating_sub(now.level);
-            now.y = now.y.saturating_sub(by);
-            now.root = None;
-            self.set_name(name, now);
+            if let Some(felled) = self.names.get_mut(name as usize) {
+                felled.y = now.y.saturating_sub(by);
+                felled.root = None;
+            }
             if let Some(place) = now.place {
-                let mut held = self.number(place);
-                held.z = held.z.saturating_add(by);
-                held.is_held = false;
-                self.set_number(place, held);
+                if let Some(held) = self.numbers.get_mut(place as usize) {
+                    held.z = held.z.saturating_add(by);
+                    held.is_held = false;
+                }
                 self.freed.push(place)?;
             }
             first = now.next;
@@ -280,19 +271,19 @@ impl Forest {
     /// and so on to the root.
     fn flip(&mut self, root: u32, mut name: u32, mut place: Option<u32>) {
         for _ in 0..self.names.len() {
-            let mut now = self.name(name);
-            let held = now.place;
-            now.place = place;
-            self.set_name(name, now);
+            let now = self.name(name);
+            if let Some(served) = self.names.get_mut(name as usize) {
+                served.place = place;
+            }
             if let Some(place) = place {
-                let mut number = self.number(place);
-                number.owner = Some(name);
-                self.set_number(place, number);
+                if let Some(number) = self.numbers.get_mut(place as usize) {
+                    number.owner = Some(name);
+                }
             }
             if name == root {
                 return;
             }
-            place = held;
+            place = now.place;
             name = now.parent;
         }
     }
