@@ -74,7 +74,7 @@ fn without_indent(line: &[u8]) -> &[u8]
 }
 
 /// The first keyword of a line, and all that stands behind it; None where the line has none. Most
-/// are short, and a search that is begun anew for each would take longer.
+/// are short: a search that is begun anew for each would take longer, and so would a call.
 #[inline(always)]
 pub(crate) fn first_keyword(line: &[u8]) -> Option<(&[u8], &[u8])>
     ensures words { MatchOption result (words line.now ≡ [])
