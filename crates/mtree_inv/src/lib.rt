@@ -43,6 +43,7 @@ mod files;
 mod fronts;
 mod held_cuts;
 mod inventory;
+mod keywords;
 mod laws;
 mod open_line;
 mod parts;
@@ -51,7 +52,6 @@ mod places;
 mod reader;
 mod table;
 mod walk;
-mod words;
 
 pub use entry::Entry;
 pub use inventory::{Inventory, read_inventory};

@@ -30,6 +30,16 @@ fn newline_at(bytes: &[u8]) -> Option<usize>
     memchr(b'\n', bytes)
 }
 
+// A line that is too long.
+fn too_long(number: u64) -> ReadError
+    ensures { fault_told result ≡ Some (record { code = LineTooLong; line = number }) }
+{
+    ReadError::Fault(TextFault {
+        code: TextCode::LineTooLong,
+        line: number,
+    })
+}
+
 // Goes over one logical line, whose first line has this number.
 fn take_text(walk: &mut Walk, alloc: Global, number: u64, text: &[u8]) -> Result<(), ReadError>
     ensures exact { Gives (λ _. kept_of walk.new) fault_told result
@@ -44,16 +54,6 @@ fn take_text(walk: &mut Walk, alloc: Global, number: u64, text: &[u8]) -> Result
         Err(LineFault::Memory) => Err(ReadError::Memory),
         Err(LineFault::Code(code)) => Err(ReadError::Fault(TextFault { code, line: number })),
     }
-}
-
-// A line that is too long.
-fn too_long(number: u64) -> ReadError
-    ensures { fault_told result ≡ Some (record { code = LineTooLong; line = number }) }
-{
-    ReadError::Fault(TextFault {
-        code: TextCode::LineTooLong,
-        line: number,
-    })
 }
 
 // The same, unless the line is too long.

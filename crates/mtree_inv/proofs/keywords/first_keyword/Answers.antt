@@ -1,6 +1,6 @@
 use Rattle.std.proofs.Common.{arith, sym, ◌∙◌}
 use Rattle.idtext.proofs.WordLemmas.{words-none, words-found}
-use Rattle.mtree_inv.proofs.words.first_word.Goals as goal
+use Rattle.mtree_inv.proofs.keywords.first_keyword.Goals as goal
 
 pub returns-then-start-rest-clause-words : goal.returns-then-start-rest-clause-words
 returns-then-start-rest-clause-words c =

@@ -1,6 +1,6 @@
 use Rattle.std.proofs.Common.{◌≡◌, ℕ, ◌<◌, ◌≤◌, ◌-◌, length, get_or, false}
 use Rattle.idtext.specs.Words.{is_white}
-use Rattle.mtree_inv.proofs.words.black_len.Given as goal
+use Rattle.mtree_inv.proofs.keywords.black_len.Given as goal
 
 abbrev pub invariant-loop-at : goal.invariant-loop-at
 invariant-loop-at l = (l.at ≤ length l.line) × ((k : ℕ) → k < l.at → is_white (get_or l.line k 0) ≡ false)

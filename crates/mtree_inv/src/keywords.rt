@@ -1,4 +1,4 @@
-//! The words of a line, which are mostly short.
+//! The keywords of a line.
 ghost use Rattle.std.specs.Prelude.{◌≡◌, ◌≤◌, ◌<◌, ◌+◌, ℕ, [], ◌∷◌, length, slice_index};
 ghost use Rattle.std.specs.Prelude.{true, false, IfSome, MatchOption};
 ghost use Rattle.idtext.specs.Words.{is_white as is_space, words};
@@ -73,10 +73,10 @@ fn without_indent(line: &[u8]) -> &[u8]
     rest
 }
 
-/// The first word of a line, and all that stands behind it; None where the line has no word. As
-/// that of idtext, but quicker where words are short.
+/// The first keyword of a line, and all that stands behind it; None where the line has none. Most
+/// are short: a search that is begun anew for each would take longer, and so would a call.
 #[inline(always)]
-pub(crate) fn first_word(line: &[u8]) -> Option<(&[u8], &[u8])>
+pub(crate) fn first_keyword(line: &[u8]) -> Option<(&[u8], &[u8])>
     ensures words { MatchOption result (words line.now ≡ [])
         (λ found. words line.now ≡ found.0.now ∷ words found.1.now) }
     ensures shorter { IfSome result (λ found. length found.1.now < length line.now) }

@@ -1,7 +1,7 @@
 use Rattle.std.proofs.Common.{codes, refl, ap, ◌∙◌, arith}
 use Rattle.idtext.specs.Words.{words}
 use Rattle.mtree_inv.proofs.KeywordLemmas.{words-behind}
-use Rattle.mtree_inv.proofs.words.without_indent.Goals as goal
+use Rattle.mtree_inv.proofs.keywords.without_indent.Goals as goal
 
 pub loop-behind-preserved : goal.loop-behind-preserved
 loop-behind-preserved c = (
