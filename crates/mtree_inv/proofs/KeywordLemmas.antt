@@ -79,22 +79,9 @@ begun (k ∷ key) (b ∷ word) is = by (b == k) is (begun key word)
     by true is more = more is
     by false is more = absurd (true≢false (sym is))
 
-not_begun : (key word : List ℕ) → bytes_eq (take (length key) word) key ≡ false → given_at key word ≡ None
-not_begun [] word is = absurd (true≢false is)
-not_begun (k ∷ key) [] is = refl
-not_begun (k ∷ key) (b ∷ word) is = by (b == k) is (not_begun key word)
-  where
-    by : (t : Bool) → (t && bytes_eq (take (length key) word) key) ≡ false
-        → (bytes_eq (take (length key) word) key ≡ false → given_at key word ≡ None) → cond t (given_at key word) None ≡ None
-    by true is more = more is
-    by false is more = refl
-
--- a keyword that begins with the key, and one that does not
+-- a keyword that begins with the key
 module _ (key word : List ℕ) (none : list_any is_equals_sign key ≡ false) where
   pub given-begun : (behind : List ℕ) (ends : Bool) → bytes_eq (take (length key) word) key ≡ true → behind ≡ drop (length key) word → is_end_of_key behind ≡ ends
       → given_by key word ≡ cond ends (Some (drop 1 behind)) None
   given-begun behind ends is at end =
       given_is key word none ∙ begun key word is ∙ ap (given_at []) (sym at) ∙ ap (λ (t : Bool). cond t (Some (drop 1 behind)) None) end
-
-  pub given-not : bytes_eq (take (length key) word) key ≡ false → given_by key word ≡ None
-  given-not is = given_is key word none ∙ not_begun key word is

@@ -242,8 +242,3 @@ pub end-failed : (most : ℕ) (reading : Reading) (files : List Entry) (fault : 
 unfolding finished
 end-failed most reading files Memory h = h
 end-failed most reading files (Fault f) h = (ap (λ (o : Option TextFault). or_else o (end_lacking (last_read most reading))) h.0, h.1)
-
-pub read-none : (most : ℕ) (reading : Reading) (rest : List ℕ) → length rest ≡ 0 → read_bytes most reading rest ≡ reading
-unfolding read_bytes
-read-none most reading [] e = refl
-read-none most reading (b ∷ rest) e = absurd (omega arith)

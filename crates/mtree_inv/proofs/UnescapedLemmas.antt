@@ -83,20 +83,6 @@ pub record PiecesTo (path rest : List ℕ) (bad : Bool) (whole : List ℕ) : Typ
 pub pieces-begun : (path word : List ℕ) → list_any (λ b. b == 92) word ≡ false → PiecesTo path word (has_bad_component word) (joined_onto path (components word))
 pieces-begun path word none = record { bad_is = bad-plain word none; path_is = ap (joined_onto path) (components-plain word none) }
 
-module _ (path part after rest : List ℕ) (bad : Bool) (whole : List ℕ) (cut : pieces 47 rest ≡ part ∷ pieces 47 after) (read : PiecesTo path rest bad whole) where
-  pub piece-bad : is_bad_component part ≡ true → bad ≡ true
-  piece-bad is =
-      sym read.bad_is ∙ ap (list_any is_bad_component) cut ∙ ap (λ (b : Bool). b || list_any is_bad_component (pieces 47 after)) is
-
-  pub piece-on : (new : List ℕ) → is_bad_component part ≡ false → new ≡ with_part path part → PiecesTo new after bad whole
-  piece-on new not_bad e = record {
-    bad_is = ap (λ (b : Bool). b || list_any is_bad_component (pieces 47 after)) (sym not_bad) ∙ ap (list_any is_bad_component) (sym cut) ∙ read.bad_is;
-    path_is =
-        ap (λ (p : List ℕ). joined_onto p (filter is_kept (pieces 47 after))) e
-        ∙ sym (kept-joined path part (filter is_kept (pieces 47 after)) (is_kept part))
-        ∙ ap (λ (ps : List (List ℕ)). joined_onto path (filter is_kept ps)) (sym cut) ∙ read.path_is;
-  }
-
 module _ (path rest : List ℕ) (bad : Bool) (whole : List ℕ) (last : pieces 47 rest ≡ rest ∷ []) (read : PiecesTo path rest bad whole) where
   pub last-piece-bad : is_bad_component rest ≡ bad
   last-piece-bad = sym (or_false (is_bad_component rest)) ∙ ap (list_any is_bad_component) (sym last) ∙ read.bad_is
@@ -155,9 +141,6 @@ AreNames rest = list_any has_separator (pieces 47 rest) ≡ false
 pub names-begun : (word : List ℕ) → list_any (λ b. b == 0) word ≡ false → AreNames word
 unfolding pieces
 names-begun word none = separators word ∙ none
-
-pub name-first : (part after rest : List ℕ) → pieces 47 rest ≡ part ∷ pieces 47 after → AreNames rest → (has_separator part ≡ false) × AreNames after
-name-first part after rest cut are = or_parts (has_separator part) (list_any has_separator (pieces 47 after)) (sym (ap (list_any has_separator) cut) ∙ are)
 
 pub name-last : (rest : List ℕ) → pieces 47 rest ≡ rest ∷ [] → AreNames rest → has_separator rest ≡ false
 name-last rest last are = (or_parts (has_separator rest) false (sym (ap (list_any has_separator) last) ∙ are)).0
@@ -236,18 +219,3 @@ module _ (word : List ℕ) (simple : is_simple word ≡ true) where
 pub simple-written : (path rest new : List ℕ) (bad : Bool) (whole : List ℕ) → length path ≡ 0 → is_simple rest ≡ true → PiecesTo path rest bad whole → new ≡ path ++ rest → new ≡ whole
 simple-written [] rest new bad whole none simple read e = e ∙ sym (simple-whole rest simple) ∙ read.path_is
 simple-written (x ∷ path) rest new bad whole none simple read e = absurd (omega (arith, none))
-
--- whether a rest is simple tells it of the whole word
-module _ (part after rest : List ℕ) (cut : pieces 47 rest ≡ part ∷ pieces 47 after) where
-  pub simple-on : is_simple_part part ≡ true → is_simple after ≡ is_simple rest
-  simple-on is = sym (ap (list_all is_simple_part) cut ∙ ap (λ (b : Bool). b && is_simple after) is)
-
-  pub simple-not : is_simple_part part ≡ false → is_simple rest ≡ false
-  simple-not is = ap (list_all is_simple_part) cut ∙ ap (λ (b : Bool). b && is_simple after) is
-
-pub simple-last : (rest : List ℕ) → pieces 47 rest ≡ rest ∷ [] → is_simple_part rest ≡ is_simple rest
-simple-last rest last = sym (ap (list_all is_simple_part) last ∙ and_true (is_simple_part rest))
-  where
-    and_true : (b : Bool) → (b && true) ≡ b
-    and_true true = refl
-    and_true false = refl

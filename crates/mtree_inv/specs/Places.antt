@@ -1,5 +1,5 @@
 -- Words of private contracts: where a cut of a list is looked for, so that its number is found.
-use Rattle.std.specs.Prelude.{◌≡◌, ◌≢◌, ◌<◌, ◌⊎◌, ℕ, suc, ◌+◌, ◌-◌, ◌/◌, ◌%◌, List, length}
+use Rattle.std.specs.Prelude.{◌≡◌, ◌≢◌, ◌<◌, ◌⊎◌, ℕ, suc, ◌+◌, ◌-◌, ◌/◌, ◌*◌, List, length}
 use Rattle.std.specs.Prelude.{Option, Some}
 use Rattle.std.specs.Prelude.{slice_get, slice_index_or, Vec}
 use Rattle.std.specs.List.{fold}
@@ -29,9 +29,13 @@ half hash = hash / 4294967296
 abbrev pub place_at : List Place → ℕ → Place
 place_at places at = slice_index_or places at (record { hash = 0; number = 0 })
 
--- the first place where a cut is looked for, of so many
+-- how many hashes there are
+abbrev pub all_hashes : ℕ
+all_hashes = 18446744073709551616
+
+-- the first place where a cut is looked for, of so many: as far among them as its hash among all
 abbrev pub start_of : ℕ → Cut → ℕ
-start_of len cut = hash_of cut % (len - most_probes)
+start_of len cut = hash_of cut * (len - most_probes) / all_hashes
 
 -- the first places from a start on, so many, are not free
 abbrev pub AreTaken : List Place → ℕ → ℕ → Type 0

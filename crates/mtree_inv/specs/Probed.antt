@@ -13,7 +13,7 @@ IsAnswer cuts places cut (At i) = slice_get cuts i ≡ Some cut
 IsAnswer cuts places cut (Free at hash) =
     (k : ℕ) × (k < most_probes) × (at ≡ start_of (length places) cut + k)
     × ((place_at places at).number ≡ 0) × AreTaken places (start_of (length places) cut) k
-    × IsToldNowhere cuts places cut k × (hash ≡ half (hash_of cut))
+    × IsToldNowhere cuts places cut k × (hash ≡ half (hash_of cut)) × (at < length places)
 -- all are taken, and none tells of it
 IsAnswer cuts places cut Full =
     AreTaken places (start_of (length places) cut) most_probes

@@ -1,10 +1,10 @@
 //! Where a cut is looked for among many, so that its number is found.
-ghost use Rattle.std.specs.Prelude.{◌≡◌, ◌<◌, ℕ, suc, ◌+◌, ◌-◌, ◌%◌, length, true, Some, slice_get};
+ghost use Rattle.std.specs.Prelude.{◌≡◌, ◌<◌, ℕ, suc, ◌+◌, ◌-◌, ◌*◌, ◌/◌, length, true, Some, slice_get};
 ghost use Rattle.std.specs.Prelude.{IfOk, IfSome, IfNone, MatchOption, OnOk};
 ghost use Rattle.mtree_inv.specs.Cuts.{Cut, AreDistinct, IsPlaceOf};
 ghost use Rattle.mtree_inv.specs.Places.{hash_of as hash_of_cut, half, place_at};
 ghost use Rattle.mtree_inv.specs.Places.{digest_of as digest_of_cut, IsKeyOf};
-ghost use Rattle.mtree_inv.specs.Places.{most_probes, AreTaken, other_at, IsFoundAt, AreFound};
+ghost use Rattle.mtree_inv.specs.Places.{all_hashes, most_probes, AreTaken, other_at, IsFoundAt, AreFound};
 ghost use Rattle.mtree_inv.specs.Places.{KeepFound, KeepOthers};
 ghost use Rattle.mtree_inv.specs.Probed.{IsAnswer};
 
@@ -71,13 +71,15 @@ fn half_of(hash: u64) -> u32
     (hash / HALF) as u32
 }
 
-// The first place, of so many, where a cut with this hash is looked for.
+// The first place, of so many, where a cut with this hash is looked for: as far among the places as
+// the hash is among all hashes. So it takes a product, where a remainder would take a division.
 fn start_of(len: usize, hash: u64) -> usize
     requires { most_probes < len }
-    ensures start { result ≡ hash % (len - most_probes) }
+    ensures start { result ≡ hash * (len - most_probes) / all_hashes }
     ensures within { result + most_probes < len }
 {
-    (hash % (len - MOST_PROBES) as u64) as usize
+    let product = u128::from(hash) * (len - MOST_PROBES) as u128;
+    (product >> 64) as usize
 }
 
 // Whether the cut at an index is this one.

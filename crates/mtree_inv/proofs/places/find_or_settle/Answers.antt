@@ -1,4 +1,4 @@
-use Rattle.std.proofs.Common.{◌<◌, ◌∙◌, ℕ, length, sym, ap, arith, length-set, get_or-set_same, get_or-set_other}
+use Rattle.std.proofs.Common.{◌∙◌, ℕ, sym, ap, length-set, get_or-set_same, get_or-set_other}
 use Rattle.std.specs.Prelude.{slice_set}
 use Rattle.mtree_inv.specs.declared.places.Place.{Place}
 use Rattle.mtree_inv.specs.Places.{place_at}
@@ -20,10 +20,9 @@ returns-in-Free-clause-found c = λ i cut stands.
     let places = c.args.places.now in
     let at = c.in-Free.at in
     let place : Place = record { hash = c.in-Free.hash; number = c.in-Some.number } in
-    let within : at < length places = omega (arith, h.1, h.2, c.requires.roomy) in
     found_still places (slice_set places at place) c.args.others.now.entries at (length-set places at place)
     (λ n apart. get_or-set_other places at n place free apart) h.3 c.in-Free.hash c.len.result
-    (get_or-set_same places at place free within ∙ ap (λ (m : ℕ). (let p : Place = record { hash = c.in-Free.hash; number = m } in p)) c.in-Some.ensures) cut i (c.requires.found i cut stands)
+    (get_or-set_same places at place free h.7 ∙ ap (λ (m : ℕ). (let p : Place = record { hash = c.in-Free.hash; number = m } in p)) c.in-Some.ensures) cut i (c.requires.found i cut stands)
 
 pub returns-in-Full-clause-place : goal.returns-in-Full-clause-place
 returns-in-Full-clause-place c =

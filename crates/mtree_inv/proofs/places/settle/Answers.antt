@@ -1,8 +1,8 @@
-use Rattle.std.proofs.Common.{◌%◌, ◌-◌, ◌≡◌, ◌<◌, ℕ, length, refl, ap, subst, ◌∙◌, inr, arith, length-set, get_or-set_same, get_or-set_other}
+use Rattle.std.proofs.Common.{◌*◌, ◌/◌, ◌-◌, ◌≡◌, ◌<◌, ℕ, length, refl, ap, subst, ◌∙◌, inr, arith, length-set, get_or-set_same, get_or-set_other}
 use Rattle.std.specs.Prelude.{Some, slice_set}
 use Rattle.mtree_inv.specs.declared.places.Place.{Place}
 use Rattle.mtree_inv.specs.Cuts.{Cut}
-use Rattle.mtree_inv.specs.Places.{most_probes, AreTaken, other_at}
+use Rattle.mtree_inv.specs.Places.{all_hashes, most_probes, AreTaken, other_at}
 use Rattle.mtree_inv.proofs.PlaceLemmas.{other_at-new, other_at-other, found_still, found_beside}
 use Rattle.mtree_inv.proofs.places.settle.Goals as goal
 
@@ -14,7 +14,7 @@ pub returns-in_default-free_place-clause-settled : goal.returns-in_default-free_
 returns-in_default-free_place-clause-settled c = record {
   roomy = c.requires;
   probes = most_probes;
-  taken = subst (λ (n : ℕ). AreTaken c.args.places.now n most_probes) (c.start_of-start.ensures.start ∙ ap (λ (h : ℕ). h % (length c.args.places.now - most_probes)) c.hash_of-hash.ensures) c.in_default-free_place.ensures;
+  taken = subst (λ (n : ℕ). AreTaken c.args.places.now n most_probes) (c.start_of-start.ensures.start ∙ ap (λ (h : ℕ). h * (length c.args.places.now - most_probes) / all_hashes) c.hash_of-hash.ensures) c.in_default-free_place.ensures;
   there = inr (refl, other_at-new _ (c.args.front, c.args.tail.now) c.in_ok-key_of.ensures c.args.index c.args.others.now.entries c.insert.new.self.entries c.in_ok-insert.ensures.entries);
 }
 
