@@ -5,7 +5,7 @@ ghost use Rattle.mtree_inv.specs.Places.{most_probes, AreFound};
 
 use crate::held_cuts::{Rows, no_rows};
 use crate::places::{
-    MOST_PROBES, Others, Place, Probed, all_settled, find_or_settle, look_at_places, other,
+    MOST_PROBES, Others, Place, Probed, all_settled, find_or_settle, free_all, look_at_places, other,
 };
 use std::alloc::{AllocError, Global};
 use std::collections::BTreeMap;
@@ -95,6 +95,15 @@ impl Cuts {
         ensures { result ≡ length self.now }
     {
         self.rows.len()
+    }
+
+    /// Leaves no cut, and keeps the memory.
+    pub(crate) fn clear(&mut self)
+        ensures { self.new ≡ [] }
+    {
+        self.rows.clear();
+        self.others.clear();
+        free_all(&mut self.places);
     }
 
     /// The index of a cut, or None where it is new.

@@ -61,6 +61,14 @@ impl Rows {
         Some((row.front, tail))
     }
 
+    /// Leaves no cut, and keeps the memory.
+    pub(crate) fn clear(&mut self)
+        ensures { self.new ≡ [] }
+    {
+        self.bytes.clear();
+        self.rows.clear();
+    }
+
     /// Appends a cut.
     pub(crate) fn push(&mut self, front: u32, tail: &[u8]) -> Result<(), AllocError>
         ensures { self.new

@@ -113,6 +113,16 @@ impl Parts {
         }
     }
 
+    /// Nothing of the next text has come.
+    pub(crate) fn restart(&mut self, most: u32)
+        ensures reading { reading_of self.new ≡ start }
+        ensures waiting { waiting_in self.new ≡ [] }
+        ensures most { most_of self.new ≡ most }
+    {
+        self.walk.restart(self.alloc, most);
+        self.in_progress = OpenLine::new(self.alloc);
+    }
+
     // Takes the line in progress, which is whole or cut.
     #[tactic(auto, unfolding(crate::specs::Machine::step))]
     fn take_line(&mut self, is_cut: bool) -> Result<(), ReadError>

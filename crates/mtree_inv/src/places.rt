@@ -281,6 +281,13 @@ fn settle_at(
     }
 }
 
+/// Leaves all places free.
+pub(crate) fn free_all(places: &mut [Place]) {
+    for place in places {
+        *place = FREE;
+    }
+}
+
 // So many places, which tell of each cut of the list.
 pub(crate) fn all_settled(
     rows: &Rows,

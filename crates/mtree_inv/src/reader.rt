@@ -64,6 +64,25 @@ impl Reader {
         }
     }
 
+    /// Is as a new reader then, for the next text, but keeps memory: so a reader of many texts asks
+    /// for it once, and its table of paths need not grow again for each. What it keeps of a text with
+    /// more than 1,048,576 files it gives back.
+    ///
+    /// Constant time for each place that the table has, at most some four for each file of the
+    /// longest text that was kept.
+    pub fn restart(&mut self, most: u32)
+        ensures stands { StandsFor self.new [] }
+        ensures most { self.new.most ≡ most }
+        ensures fault { self.new.fault ≡ None }
+        ensures going { self.new.is_finished ≡ false }
+        ensures waiting { self.new.waiting ≡ [] }
+        ensures files { files self.new ≡ [] }
+    {
+        self.parts.restart(most);
+        self.fault = None;
+        self.is_finished = false;
+    }
+
     /// Takes the next piece of the text, which must not be finished. The answer is
     /// `ReadError::Fault` exactly where the whole logical lines so far have a fault, with the
     /// first, and `ReadError::Memory` where memory was refused. After a fault, `Memory` too, it is

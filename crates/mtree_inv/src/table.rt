@@ -10,6 +10,9 @@ use crate::fronts::{Fronts, cut, empty_front};
 use std::alloc::{AllocError, Global};
 use std::marker::Model;
 
+// How many files there may have been where the memory is kept for the next text.
+const MOST_KEPT: usize = 1048576;
+
 /// The owner of a file.
 #[derive(Clone, Copy, Debug, PartialEq, Eq, Drop)]
 pub(crate) struct Owner {
@@ -49,6 +52,19 @@ pub(crate) fn empty_table(alloc: Global) -> Table
         paths: no_cuts(alloc),
         owners: Vec::new(alloc),
     }
+}
+
+/// Leaves no file. The memory is kept for the files of the next text, unless there were very many.
+pub(crate) fn empty(table: &mut Table, alloc: Global)
+    ensures { listed table.new ≡ [] }
+{
+    if table.owners.len() > MOST_KEPT {
+        *table = empty_table(alloc);
+        return;
+    }
+    table.fronts = empty_front(alloc);
+    table.paths.clear();
+    table.owners.clear();
 }
 
 /// The path as a key: the number of its front, and what stands behind that.

@@ -5,12 +5,10 @@ ghost use Rattle.std.specs.Prelude.{◌≡◌, ◌+◌, ◌++◌, ◌∷◌, [],
 ghost use Rattle.hosts_join.specs.declared.host.Host.{Host};
 ghost use Rattle.unify.specs.Turns.{TurnsFor};
 
-use crate::host::MOST_FILES;
 use crate::row_files::{RowFiles, no_files};
 use crate::text_log::{Call, TextLog};
-use crate::turn::{Turn, end_turn, feed_turn, new_turn};
+use crate::turn::{Turn, begin_next, end_turn, feed_turn, new_turn};
 use hosts_join::Host;
-use mtree_inv::Reader;
 use std::alloc::{AllocError, Global};
 use std::marker::Model;
 use std::mem;
@@ -59,7 +57,7 @@ fn next_host(
     let next = no_files(alloc, hosts, passed.len() + 1)?;
     let rows = mem::replace(&mut turn.rows, next);
     passed.push(rows)?;
-    turn.reader = Reader::new(alloc, MOST_FILES);
+    begin_next(&mut turn.reader, alloc, passed.len() < hosts.len());
     turn.unowned = None;
     Ok(())
 }

@@ -21,6 +21,7 @@ ghost use Rattle.unify.specs.RowFiles.{row_files};
 use crate::host::MOST_FILES;
 use crate::merging::Merged;
 use crate::row_files::{OwnerPlaces, RowFiles, are_same, count_file, no_files};
+use crate::turn::begin_next;
 use hosts_join::{Host, Site};
 use idtext::ReadError;
 use mtree_inv::{Entry, Reader};
@@ -377,7 +378,7 @@ pub fn next_turn(
 {
     let rows = no_files(alloc, hosts, next)?;
     push_plan_end(plan)?;
-    turn.reader = Reader::new(alloc, MOST_FILES);
+    begin_next(&mut turn.reader, alloc, next < hosts.len());
     turn.rows = rows;
     turn.last = LastOwner::none();
     turn.is_begun = false;

@@ -1,7 +1,7 @@
 //! The inventory of one host, which comes in pieces and whose files are counted.
 
 ghost use Rattle.std.specs.Prelude.{◌≡◌, ◌+◌, ◌≤◌, ◌++◌, ℕ, List, [], length, Some, None, IfSome};
-ghost use Rattle.std.specs.Prelude.{IfNone, IfErr, OnOk};
+ghost use Rattle.std.specs.Prelude.{IfNone, IfErr, OnOk, false};
 ghost use Rattle.idtext.specs.First.{Gives};
 ghost use Rattle.mtree_inv.specs.Standing as standing;
 ghost use Rattle.mtree_inv.specs.declared.entry.Entry.{Entry};
@@ -38,6 +38,23 @@ pub fn new_turn(alloc: Global, rows: RowFiles) -> Turn
         reader: Reader::new(alloc, MOST_FILES),
         rows,
         unowned: None,
+    }
+}
+
+/// Makes a reader ready for the next inventory, with the memory that it has. Where none is left it
+/// gives that back.
+pub fn begin_next(reader: &mut Reader, alloc: Global, is_left: bool)
+    ensures stands { standing.StandsFor reader.new [] }
+    ensures most { reader.new.most ≡ 16777216 }
+    ensures fault { reader.new.fault ≡ None }
+    ensures going { reader.new.is_finished ≡ false }
+    ensures waiting { reader.new.waiting ≡ [] }
+    ensures files { reader.new.files ≡ [] }
+{
+    if is_left {
+        reader.restart(MOST_FILES);
+    } else {
+        *reader = Reader::new(alloc, MOST_FILES);
     }
 }
 

@@ -11,10 +11,10 @@ returns-clause-next c = λ host here.
     let rows = c.replace-rows.ensures.after ∙ c.in_ok-next.ensures host (subst (λ k. slice_get c.args.hosts.now k ≡ Some host) (sym index) here) in
     let counted : AreCounted host c.replace-rows.new.dest None [] = (refl, rows) in
     record {
-      reading = c.new.ensures.stands;
-      most = c.new.ensures.most;
-      going = c.new.ensures.going;
-      sound = c.new.ensures.fault;
-      waiting = c.new.ensures.waiting;
-      counted = subst (AreCounted host c.replace-rows.new.dest None) (sym c.new.ensures.files) counted;
+      reading = c.begin_next.ensures.stands;
+      most = c.begin_next.ensures.most;
+      going = c.begin_next.ensures.going;
+      sound = c.begin_next.ensures.fault;
+      waiting = c.begin_next.ensures.waiting;
+      counted = subst (AreCounted host c.replace-rows.new.dest None) (sym c.begin_next.ensures.files) counted;
     }
