@@ -5,7 +5,8 @@ ghost use Rattle.mtree_inv.specs.Places.{most_probes, AreFound};
 
 use crate::held_cuts::{Rows, no_rows};
 use crate::places::{
-    MOST_PROBES, Others, Place, Probed, all_settled, find_or_settle, free_all, look_at_places, other,
+    MOST_PROBES, Others, Place, Probed, all_settled, find_or_settle, free_all, look_at_places,
+    other,
 };
 use std::alloc::{AllocError, Global};
 use std::collections::BTreeMap;
