@@ -1,7 +1,6 @@
 -- Words of private contracts: where a cut of a list is looked for, so that its number is found.
-use Rattle.std.specs.Prelude.{◌≡◌, ◌≢◌, ◌<◌, ◌⊎◌, ℕ, suc, ◌+◌, ◌-◌, ◌/◌, ◌*◌, List, length}
-use Rattle.std.specs.Prelude.{Option, Some}
-use Rattle.std.specs.Prelude.{slice_get, slice_index_or, Vec}
+use Rattle.std.specs.Prelude.{◌≡◌, ◌≢◌, ◌<◌, ◌⊎◌, ℕ, suc, ◌+◌, ◌-◌, ◌/◌, ◌*◌}
+use Rattle.std.specs.Prelude.{List, length, Option, Some, slice_get, slice_index_or, Vec}
 use Rattle.std.specs.List.{fold}
 use Rattle.std.specs.Map.{lookup}
 use Rattle.std.specs.Ordering.{nat_cmp, is_eq, ordering_then}

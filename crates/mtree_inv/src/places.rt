@@ -1,11 +1,11 @@
 //! Where a cut is looked for among many, so that its number is found.
-ghost use Rattle.std.specs.Prelude.{◌≡◌, ◌<◌, ℕ, suc, ◌+◌, ◌-◌, ◌*◌, ◌/◌, length, true, Some, slice_get};
-ghost use Rattle.std.specs.Prelude.{IfOk, IfSome, IfNone, MatchOption, OnOk};
+ghost use Rattle.std.specs.Prelude.{◌≡◌, ◌<◌, ℕ, suc, ◌+◌, ◌-◌, ◌*◌, ◌/◌, length, true, Some};
+ghost use Rattle.std.specs.Prelude.{slice_get, IfOk, IfSome, IfNone, MatchOption, OnOk};
 ghost use Rattle.mtree_inv.specs.Cuts.{Cut, AreDistinct, IsPlaceOf};
 ghost use Rattle.mtree_inv.specs.Places.{hash_of as hash_of_cut, half, place_at};
 ghost use Rattle.mtree_inv.specs.Places.{digest_of as digest_of_cut, IsKeyOf};
-ghost use Rattle.mtree_inv.specs.Places.{all_hashes, most_probes, AreTaken, other_at, IsFoundAt, AreFound};
-ghost use Rattle.mtree_inv.specs.Places.{KeepFound, KeepOthers};
+ghost use Rattle.mtree_inv.specs.Places.{all_hashes, most_probes, AreTaken, other_at, IsFoundAt};
+ghost use Rattle.mtree_inv.specs.Places.{AreFound, KeepFound, KeepOthers};
 ghost use Rattle.mtree_inv.specs.Probed.{IsAnswer};
 
 use crate::held_cuts::Rows;
@@ -281,7 +281,8 @@ fn settle_at(
     }
 }
 
-/// Leaves all places free.
+/// Leaves all places free. Nothing rests on it but time: a place that tells of no cut of the list is
+/// passed over.
 pub(crate) fn free_all(places: &mut [Place]) {
     for place in places {
         *place = FREE;
