@@ -1,5 +1,5 @@
 -- The turn of a host in the second pass.
-use Rattle.std.proofs.Common.{◌≡◌, ◌≢◌, ℕ, ◌+◌, ◌<◌, ◌≤◌, Bool, true, false, not, List, [], ◌∷◌, ◌++◌, length, map, get_or, Option, Some, None, Result, Ok, Err, refl, sym, ap, subst, ◌∙◌, arith, append-nil, append_assoc, inl, inr, length-append}
+use Rattle.std.proofs.Common.{◌≡◌, ◌≢◌, ℕ, ◌+◌, ◌<◌, ◌≤◌, Bool, true, false, not, List, [], ◌∷◌, ◌++◌, length, map, get_or, Option, Some, None, Result, Ok, Err, Vec, Global, refl, sym, ap, subst, ◌∙◌, arith, append-nil, append_assoc, inl, inr, length-append}
 use Rattle.std.specs.Prelude.{IfSome, if◌then◌else◌}
 use Rattle.std.specs.List.{All, filter}
 use Rattle.std.specs.Result.{OnOk}
@@ -30,12 +30,12 @@ use Rattle.unify_texts.specs.declared.bundle_line.FileName.TheVariants as file
 use Rattle.unify_texts.specs.declared.fault.Fault.{Fault}
 use Rattle.unify_texts.specs.declared.fault.Fault.TheVariants.{InventoryChanged, Line}
 use Rattle.unify.specs.declared.merging.Merged.{Merged}
-use Rattle.unify.specs.declared.plan_turn.LastOwner.{LastOwner}
+use Rattle.unify.specs.declared.known_owners.KnownOwner.{KnownOwner}
 use Rattle.unify.specs.declared.plan_turn.PlanTurn.{PlanTurn}
 use Rattle.unify.specs.declared.plan_turn.Stop.{Stop}
 use Rattle.unify.specs.declared.plan_turn.Stop.TheVariants as stop
 use Rattle.unify.specs.Hosts.{owner_fault, files_of}
-use Rattle.unify.specs.LastOwner.{IsLastOwner}
+use Rattle.unify.specs.KnownOwners.{AreKnown}
 use Rattle.unify.specs.RowFiles.{RowFiles, row_files}
 use Rattle.unify.specs.PlanTurns.{GoesOn, TellsLines, TurnsFor, planned_so_far, stop_of}
 use Rattle.unify.specs.SecondPass.{IsUnfinished, or_changed, owned_lines, plan_before_end, second_files}
@@ -111,7 +111,7 @@ begun_turn host joined merged index old turn text planned turns is =
       waiting = turns.waiting;
       owned = turns.owned;
       rows = turns.rows;
-      last = turns.last;
+      known = turns.known;
       none_unbegun = λ e. absurd (true≢false e);
       planned_is = begun_plan host joined merged index old.is_begun old.reader.files planned turns.none_unbegun turns.planned_is;
     })
@@ -196,11 +196,11 @@ not_both r x f e o = absurd (cc)
 -- ---- files that are appended
 
 -- one more of the files that wait was appended
-pub next_stays : (initial turn : PlanTurn) (after : ReaderValue) (rows : RowFiles) (last : LastOwner) → turn ≡ record initial { reader = record initial.reader { waiting = turn.reader.waiting }; rows = turn.rows; last = turn.last } → after ≡ record turn.reader { waiting = after.waiting }
-    → record turn { reader = after; rows = rows; last = last } ≡ record initial { reader = record initial.reader { waiting = after.waiting }; rows = rows; last = last }
-next_stays initial turn after rows last stays next =
+pub next_stays : (initial turn : PlanTurn) (after : ReaderValue) (rows : RowFiles) (known : Vec KnownOwner Global) → turn ≡ record initial { reader = record initial.reader { waiting = turn.reader.waiting }; rows = turn.rows; known = turn.known } → after ≡ record turn.reader { waiting = after.waiting }
+    → record turn { reader = after; rows = rows; known = known } ≡ record initial { reader = record initial.reader { waiting = after.waiting }; rows = rows; known = known }
+next_stays initial turn after rows known stays next =
     let same : after ≡ record initial.reader { waiting = after.waiting } = next ∙ ap (λ (t : PlanTurn). record t.reader { waiting = after.waiting }) stays in
-    λ i. record { reader = same i; rows = rows; last = last; is_begun = (stays i).is_begun; stop = (stays i).stop }
+    λ i. record { reader = same i; rows = rows; known = known; is_begun = (stays i).is_begun; stop = (stays i).stop }
 
 -- the plan has its header, and the reader took more, of which the files wait
 -- text: what came before; fed: what came by now
@@ -265,9 +265,9 @@ module _ (host : Host) (joined : Joined) (merged : Merged) (index : ℕ) (turn :
   rows_more rows counted = counted turn.reader.files more.turns.rows ∙ ap (row_files host) (sym files_more)
 
   -- the turn when all of them were appended
-  turn_more : (new : PlanTurn) → new ≡ record turn { reader = record after { waiting = [] }; rows = new.rows; last = new.last } → IsLastOwner host joined merged index new.last → after.is_finished ≡ false → after.fault ≡ None → standing.StandsFor new.reader fed → All (λ f. owner_fault host [] f ≡ None) after.waiting
+  turn_more : (new : PlanTurn) → new ≡ record turn { reader = record after { waiting = [] }; rows = new.rows; known = new.known } → AreKnown host joined merged index new.known.items → after.is_finished ≡ false → after.fault ≡ None → standing.StandsFor new.reader fed → All (λ f. owner_fault host [] f ≡ None) after.waiting
       → ((files : List Entry) → turn.rows ≡ row_files host files → new.rows ≡ row_files host (files ++ after.waiting)) → TurnsFor host joined merged index new fed (planned ++ lines (plan_of joined merged.users merged.groups index after.waiting))
-  turn_more new is last going sound stands owned counted =
+  turn_more new is known going sound stands owned counted =
       let begun : new.is_begun ≡ true = ap (λ (t : PlanTurn). t.is_begun) is ∙ more.begun in
       let files : new.reader.files ≡ after.files = ap (λ (t : PlanTurn). t.reader.files) is in
       record {
@@ -279,7 +279,7 @@ module _ (host : Host) (joined : Joined) (merged : Merged) (index : ℕ) (turn :
         waiting = ap (λ (t : PlanTurn). t.reader.waiting) is;
         owned = ap (first_fault (owner_fault host) []) files ∙ owned_more owned;
         rows = rows_more new.rows counted ∙ ap (row_files host) (sym files);
-        last = last;
+        known = known;
         none_unbegun = λ e. absurd (true≢false (sym begun ∙ e));
         planned_is = planned_all ∙ ap (plan_before_end host joined merged index) (sym files) ∙ ap (λ b. planned_so_far host joined merged index b new.reader.files) (sym begun);
       }
@@ -300,10 +300,10 @@ module _ (host : Host) (joined : Joined) (merged : Merged) (index : ℕ) (turn :
       (first.0, lines_with host fed after.files (Some first.0) (lines_are turn.reader.most fed after.files more.turns.most told) (unowned_more first.0 first.1))
 
   -- and how the turn and the plan go on
-  pub stands_more : (r : Result (Unit {0}) Stop) (new : PlanTurn) (done left : List Entry) → after.waiting ≡ done ++ left → OnOk r (left ≡ []) → OnOk r (new ≡ record turn { reader = record after { waiting = [] }; rows = new.rows; last = new.last }) → OnOk r (IsLastOwner host joined merged index new.last) → after.is_finished ≡ false → after.fault ≡ None
+  pub stands_more : (r : Result (Unit {0}) Stop) (new : PlanTurn) (done left : List Entry) → after.waiting ≡ done ++ left → OnOk r (left ≡ []) → OnOk r (new ≡ record turn { reader = record after { waiting = [] }; rows = new.rows; known = new.known }) → OnOk r (AreKnown host joined merged index new.known.items) → after.is_finished ≡ false → after.fault ≡ None
       → OnOk r (standing.StandsFor new.reader fed) → OnOk r (All (λ f. owner_fault host [] f ≡ None) after.waiting) → OnOk r ((files : List Entry) → turn.rows ≡ row_files host files → new.rows ≡ row_files host (files ++ after.waiting))
       → GoesOn host joined merged index new fed r (planned ++ lines (plan_of joined merged.users merged.groups index done))
-  stands_more (Ok u) new done left split none is last going sound stands owned counted =
+  stands_more (Ok u) new done left split none is known going sound stands owned counted =
       let whole : after.waiting ≡ done = split ∙ ap (λ ws. done ++ ws) none ∙ append-nil done in
-      subst (λ ws. TurnsFor host joined merged index new fed (planned ++ lines (plan_of joined merged.users merged.groups index ws))) whole (turn_more new is last going sound stands owned counted)
-  stands_more (Err s) new done left split none is last going sound stands owned counted = unfinished_more done left split sound
+      subst (λ ws. TurnsFor host joined merged index new fed (planned ++ lines (plan_of joined merged.users merged.groups index ws))) whole (turn_more new is known going sound stands owned counted)
+  stands_more (Err s) new done left split none is known going sound stands owned counted = unfinished_more done left split sound

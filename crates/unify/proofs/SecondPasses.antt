@@ -18,12 +18,13 @@ use Rattle.unify_texts.specs.Told.{told}
 use Rattle.unify_texts.specs.declared.fault.Fault.{Fault}
 use Rattle.unify_texts.specs.declared.fault.Fault.TheVariants.{InventoryChanged}
 use Rattle.unify.specs.declared.host.Loaded.{Loaded}
+use Rattle.unify.specs.declared.known_owners.KnownOwner.{KnownOwner}
 use Rattle.unify.specs.declared.merging.Merged.{Merged}
 use Rattle.unify.specs.declared.plan_turn.PlanTurn.{PlanTurn}
 use Rattle.unify.specs.declared.plan_turn.Stop.{Stop}
 use Rattle.unify.specs.declared.plan_turn.Stop.TheVariants as stop
 use Rattle.unify.specs.Hosts.{owner_fault}
-use Rattle.unify.specs.LastOwner.{IsLastOwner}
+use Rattle.unify.specs.KnownOwners.{AreKnown, IsKnown, NoneIsKnown}
 use Rattle.unify.specs.Passes.{is_read}
 use Rattle.unify.specs.PlanTurns.{IsAccepted, IsFreshTurn, IsSolving, Pass, TurnsFor, met_on, planned_so_far, seen, stop_told}
 use Rattle.unify.specs.RowFiles.{RowFiles, row_files}
@@ -92,6 +93,12 @@ planned_lines host joined merged index turn text planned turns begun =
       turns.planned_is ∙ ap (λ b. planned_so_far host joined merged index b files) begun,
     )
 
+none_known : (host : Host) (joined : Joined) (merged : Merged) (index : ℕ) (owners : List KnownOwner) → NoneIsKnown owners → AreKnown host joined merged index owners
+none_known host joined merged index owners h = record {
+  many = h.many;
+  each = λ i d within. subst (IsKnown host joined merged index) (sym (h.none i d within)) (record { places = tt; change = tt });
+}
+
 -- the turn of a host of whose second inventory nothing has come
 pub fresh_turn : (host : Host) (joined : Joined) (merged : Merged) (index : ℕ) (turn : PlanTurn) → IsFreshTurn turn → turn.rows ≡ row_files host [] → TurnsFor host joined merged index turn [] []
 unfolding first_fault
@@ -104,7 +111,7 @@ fresh_turn host joined merged index turn fresh rows = record {
   waiting = fresh.waiting;
   owned = ap (first_fault (owner_fault host) []) fresh.none;
   rows = rows ∙ ap (row_files host) (sym fresh.none);
-  last = subst (IsLastOwner host joined merged index) (sym fresh.no_last) (record { places = tt; change = tt });
+  known = none_known host joined merged index turn.known.items fresh.unknown;
   none_unbegun = λ no. fresh.none;
   planned_is = rw fresh.unbegun refl;
 }

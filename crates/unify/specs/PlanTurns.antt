@@ -18,7 +18,7 @@ use Rattle.unify.specs.declared.plan_turn.Stop.{Stop}
 use Rattle.unify.specs.declared.plan_turn.Stop.TheVariants as stop
 use Rattle.unify.specs.declared.solved_pass.Solved.TheInside.{Inside}
 use Rattle.unify.specs.Hosts.{owner_fault}
-use Rattle.unify.specs.LastOwner.{IsLastOwner, no_owner}
+use Rattle.unify.specs.KnownOwners.{AreKnown, NoneIsKnown}
 use Rattle.unify.specs.Passes.{AreTogether}
 use Rattle.unify.specs.RowFiles.{RowFiles, row_files}
 use Rattle.unify.specs.SecondPass.{HaveSameCounts, IsUnfinished, SolvedValue, owned_lines}
@@ -47,7 +47,7 @@ pub record IsFreshTurn (turn : PlanTurn) : Type 0 where
   pub sound : turn.reader.fault ≡ None
   pub waiting : turn.reader.waiting ≡ []
   pub none : turn.reader.files ≡ []
-  pub no_last : turn.last ≡ no_owner
+  pub unknown : NoneIsKnown turn.known.items
   pub unbegun : turn.is_begun ≡ false
 
 -- of the second inventory of the host with the index this text has come, in which there is no fault
@@ -62,7 +62,7 @@ pub record TurnsFor (host : Host) (joined : Joined) (merged : Merged) (index : �
   pub waiting : turn.reader.waiting ≡ []
   pub owned : first_fault (owner_fault host) [] turn.reader.files ≡ None
   pub rows : turn.rows ≡ row_files host turn.reader.files
-  pub last : IsLastOwner host joined merged index turn.last
+  pub known : AreKnown host joined merged index turn.known.items
   pub none_unbegun : turn.is_begun ≡ false → turn.reader.files ≡ []
   pub planned_is : planned ≡ planned_so_far host joined merged index turn.is_begun turn.reader.files
 

@@ -71,7 +71,8 @@ fn solve_counted(
 {
     let merged = merge_counted(alloc, hosts, site, counts)?;
     let rows = no_files(alloc, hosts, 0)?;
-    Ok((merged, new_turn(alloc, rows)))
+    let turn = new_turn(alloc, rows)?;
+    Ok((merged, turn))
 }
 
 // What is merged of a site whose inventories were ended, and the turn of the first host in the

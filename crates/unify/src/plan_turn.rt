@@ -2,7 +2,7 @@
 
 ghost use Rattle.std.specs.Prelude.{◌≡◌, ◌+◌, ◌≤◌, ◌++◌, ◌∷◌, ℕ, List, [], length, All, true};
 ghost use Rattle.std.specs.Prelude.{if◌then◌else◌, is_ok, slice_get, Some, None, Err, IfSome};
-ghost use Rattle.std.specs.Prelude.{IfErr, OnOk, OnErr};
+ghost use Rattle.std.specs.Prelude.{IfErr, IfOk, OnOk, OnErr};
 ghost use Rattle.mtree_inv.specs.Standing as standing;
 ghost use Rattle.mtree_inv.specs.declared.entry.Entry.{Entry};
 ghost use Rattle.hosts_join.specs.Laws.{KnowsHost};
@@ -13,19 +13,20 @@ ghost use Rattle.reown_plan.specs.Target.{AreForSite, plan_of};
 ghost use Rattle.unify_texts.specs.declared.fault.Fault.{Fault};
 ghost use Rattle.unify.specs.declared.plan_turn.Stop.TheVariants as stop;
 ghost use Rattle.unify.specs.Hosts.{owner_fault};
-ghost use Rattle.unify.specs.LastOwner.{IsLastOwner, no_owner};
+ghost use Rattle.unify.specs.KnownOwners.{AreKnown, IsKnown};
 ghost use Rattle.unify.specs.PlanTurns.{IsFreshTurn, TurnsFor, stop_of};
 ghost use Rattle.unify.specs.PlanTurns.{GoesOn, Ends, TellsLines, TellsFiles};
 ghost use Rattle.unify.specs.RowFiles.{row_files};
 
 use crate::host::MOST_FILES;
+use crate::known_owners::{KnownOwner, no_owners, place_of};
 use crate::merging::Merged;
-use crate::row_files::{OwnerPlaces, RowFiles, are_same, count_file, no_files};
+use crate::row_files::{RowFiles, are_same, count_file, no_files};
 use crate::turn::begin_next;
 use hosts_join::{Host, Site};
 use idtext::ReadError;
 use mtree_inv::{Entry, Reader};
-use reown_plan::{OwnerChange, push_plan_end, push_plan_entry, push_plan_head};
+use reown_plan::{push_plan_end, push_plan_entry, push_plan_head};
 use std::alloc::{AllocError, Global};
 
 /// Why a second reading ended early.
@@ -56,50 +57,31 @@ impl From<ReadError> for Stop {
     }
 }
 
-/// What was found of the owner of the last file: the places of the rows that have it, and what it
-/// gets. The next file mostly has the same owner.
-#[derive(Drop)]
-pub struct LastOwner {
-    places: Option<OwnerPlaces>,
-    change: Option<OwnerChange>,
-}
-
-impl LastOwner {
-    // That there was no file.
-    fn none() -> LastOwner
-        ensures { result ≡ no_owner }
-    {
-        LastOwner {
-            places: None,
-            change: None,
-        }
-    }
-}
-
-/// The reader of a host's inventory, how many of its files each row of the host's tables owns, the
-/// owner of the last of them, whether its plan has its header, and why the reading ended early, if
+/// The reader of a host's inventory, how many of its files each row of the host's tables owns, what
+/// was found of their owners, whether its plan has its header, and why the reading ended early, if
 /// it did.
 #[derive(Drop)]
 pub struct PlanTurn {
     pub reader: Reader,
     pub rows: RowFiles,
-    pub last: LastOwner,
+    pub known: Vec<KnownOwner>,
     pub is_begun: bool,
     pub stop: Option<Stop>,
 }
 
-/// The turn of a host of whose second inventory nothing has come. Takes no memory.
-pub fn new_turn(alloc: Global, rows: RowFiles) -> PlanTurn
-    ensures fresh { IsFreshTurn result }
-    ensures rows { result.rows ≡ rows }
+/// The turn of a host of whose second inventory nothing has come. Memory for what is found of
+/// owners; `AllocError` where it is refused.
+pub fn new_turn(alloc: Global, rows: RowFiles) -> Result<PlanTurn, AllocError>
+    ensures fresh { IfOk result IsFreshTurn }
+    ensures rows { IfOk result (λ turn. turn.rows ≡ rows) }
 {
-    PlanTurn {
+    Ok(PlanTurn {
         reader: Reader::new(alloc, MOST_FILES),
         rows,
-        last: LastOwner::none(),
+        known: no_owners(alloc)?,
         is_begun: false,
         stop: None,
-    }
+    })
 }
 
 // Appends the header of the plan, unless it has it.
@@ -121,7 +103,7 @@ fn begin_plan(turn: &mut PlanTurn, host: &Host<'_>, plan: &mut Vec<u8>) -> Resul
 // Counts a file of the host with the index, and appends its record.
 fn plan_file(
     rows: &mut RowFiles,
-    last: &mut LastOwner,
+    known: &mut KnownOwner,
     site: &Site<'_>,
     merged: &Merged,
     index: u32,
@@ -131,10 +113,10 @@ fn plan_file(
 ) -> Result<(), Stop>
     requires room { (files : List Entry) × (rows.old ≡ row_files host.now files)
         × (length files ≤ 2147483648) }
-    requires last { IsLastOwner host.now site.now merged.now index last.old }
+    requires owner { IsKnown host.now site.now merged.now index known.old }
     requires known { KnowsHost site.now index host.now }
     requires for_site { AreForSite site.now merged.now.users merged.now.groups }
-    ensures last { IsLastOwner host.now site.now merged.now index last.new }
+    ensures owner { IsKnown host.now site.now merged.now index known.new }
     ensures owned { OnOk result (owner_fault host.now [] file.now ≡ None) }
     ensures counted { OnOk result
         ((files : List Entry) → rows.old ≡ row_files host.now files
@@ -146,12 +128,12 @@ fn plan_file(
     ensures changed { result ≡ Err stop.Changed → (fault : Fault)
         × (owner_fault host.now [] file.now ≡ Some fault) }
 {
-    if !count_file(rows, &mut last.places, host, file) {
+    if !count_file(rows, &mut known.places, host, file) {
         return Err(Stop::Changed);
     }
     push_plan_entry(
         plan,
-        &mut last.change,
+        &mut known.change,
         index,
         site,
         &merged.users,
@@ -173,7 +155,7 @@ fn plan_waiting(
 ) -> Result<(), Stop>
     requires room { (files : List Entry) × (turn.old.rows ≡ row_files host.now files)
         × (length files + length turn.old.reader.waiting ≤ 2147483648) }
-    requires last { IsLastOwner host.now site.now merged.now index turn.old.last }
+    requires owners { AreKnown host.now site.now merged.now index turn.old.known.items }
     requires known { KnowsHost site.now index host.now }
     requires for_site { AreForSite site.now merged.now.users merged.now.groups }
     ensures turn { OnOk result
@@ -181,9 +163,10 @@ fn plan_waiting(
         ≡ record turn.old {
           reader = record turn.old.reader { waiting = [] };
           rows = turn.new.rows;
-          last = turn.new.last;
+          known = turn.new.known;
         }) }
-    ensures last { OnOk result (IsLastOwner host.now site.now merged.now index turn.new.last) }
+    ensures owners { OnOk result
+        (AreKnown host.now site.now merged.now index turn.new.known.items) }
     ensures stands { OnOk result
         ((text : List ℕ) → standing.StandsFor turn.old.reader text
         → standing.StandsFor turn.new.reader text) }
@@ -203,7 +186,7 @@ fn plan_waiting(
     while let Some(file) = turn.reader.next_entry() {
         plan_file(
             &mut turn.rows,
-            &mut turn.last,
+            &mut turn.known[place_of(&file)],
             site,
             merged,
             index,
@@ -250,8 +233,8 @@ fn read_on(
 /// changes. What is appended until then is a prefix of a plan without its `end` line. After the
 /// first piece the plan has its header.
 ///
-/// One pass over the piece, with a few look-ups by hash for each file that has not the owner of the
-/// one before it.
+/// One pass over the piece, with a few look-ups by hash for each file of whose owner nothing is
+/// known.
 pub fn feed_plan(
     turn: &mut PlanTurn,
     site: &Site<'_>,
@@ -377,10 +360,11 @@ pub fn next_turn(
         ≡ (if is_ok result then plan.old.items ++ end else plan.old.items) }
 {
     let rows = no_files(alloc, hosts, next)?;
+    let known = no_owners(alloc)?;
     push_plan_end(plan)?;
     begin_next(&mut turn.reader, alloc, next < hosts.len());
     turn.rows = rows;
-    turn.last = LastOwner::none();
+    turn.known = known;
     turn.is_begun = false;
     turn.stop = None;
     Ok(())

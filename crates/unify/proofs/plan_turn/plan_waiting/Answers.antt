@@ -1,10 +1,11 @@
-use Rattle.std.proofs.Common.{◌≡◌, [], ◌∷◌, ◌++◌, None, Err, length, sym, ap, ◌∙◌, arith, append_assoc, length-append}
-use Rattle.std.proofs.lemmas.List.Elements.{All-push}
+use Rattle.std.proofs.Common.{◌≡◌, [], ◌∷◌, ◌++◌, None, Err, length, sym, ap, ◌∙◌, arith, append_assoc, length-append, length-set}
+use Rattle.std.proofs.lemmas.List.Elements.{All-push, All-set}
 use Rattle.std.proofs.lemmas.Result.{err_from_is_err_and}
 use Rattle.idtext.specs.First.{first_fault}
 use Rattle.reown_plan.specs.Spelling.{lines}
 use Rattle.reown_plan.specs.Target.{plan_of}
 use Rattle.unify.specs.Hosts.{owner_fault}
+use Rattle.unify.specs.KnownOwners.{IsKnown}
 use Rattle.unify.specs.RowFiles.{row_files}
 use Rattle.unify.proofs.PlanTurns.{first_at, lines_both, next_stays}
 use Rattle.unify.proofs.plan_turn.plan_waiting.Goals as goal
@@ -35,13 +36,16 @@ loop-file-preserved c =
     let index = c.args.index in
     let start = c.args.plan.now.items in
     record {
-      stays = next_stays c.args.turn.now c.loop-file.turn c.next_entry.new.self c.plan_file.new.rows c.plan_file.new.last inv.stays c.in-Some.ensures.stays;
+      stays = next_stays c.args.turn.now c.loop-file.turn c.next_entry.new.self c.plan_file.new.rows _ inv.stays c.in-Some.ensures.stays;
       stands = λ text s. c.in-Some.ensures.stands text (inv.stands text s);
       done = inv.done ++ file ∷ [];
       so_far = inv.so_far ∙ ap (λ ws. inv.done ++ ws) c.in-Some.ensures.next ∙ sym (append_assoc inv.done (file ∷ []) left);
       owned = All-push (λ f. owner_fault host [] f ≡ None) inv.done file inv.owned c.in_ok-plan_file.ensures.owned;
       counted = λ files s. c.in_ok-plan_file.ensures.counted (files ++ inv.done) (inv.counted files s) ∙ ap (row_files host) (append_assoc files inv.done (file ∷ []));
-      last = c.plan_file.ensures.last;
+      owners = record {
+        many = length-set _ _ _ ∙ inv.owners.many;
+        each = All-set (IsKnown host site merged index) _ _ _ c.plan_file.ensures.owner inv.owners.each;
+      };
       planned = c.in_ok-plan_file.ensures.plan
           ∙ ap (λ t. t ++ lines (plan_of site merged.users merged.groups index (file ∷ []))) inv.planned
           ∙ append_assoc start (lines (plan_of site merged.users merged.groups index inv.done)) (lines (plan_of site merged.users merged.groups index (file ∷ [])))

@@ -5,20 +5,20 @@ use Rattle.mtree_inv.specs.declared.entry.Entry.{Entry}
 use Rattle.reown_plan.specs.Spelling.{lines}
 use Rattle.reown_plan.specs.Target.{plan_of}
 use Rattle.unify.specs.Hosts.{owner_fault}
-use Rattle.unify.specs.LastOwner.{IsLastOwner}
+use Rattle.unify.specs.KnownOwners.{AreKnown}
 use Rattle.unify.specs.RowFiles.{row_files}
 use Rattle.unify.proofs.plan_turn.plan_waiting.Given as goal
 
 -- done: the files that were counted and appended
 abbrev pub invariant-loop-file : goal.invariant-loop-file
 invariant-loop-file l = record {
-  stays : l.turn ≡ record l.initial.turn { reader = record l.initial.turn.reader { waiting = l.turn.reader.waiting }; rows = l.turn.rows; last = l.turn.last };
+  stays : l.turn ≡ record l.initial.turn { reader = record l.initial.turn.reader { waiting = l.turn.reader.waiting }; rows = l.turn.rows; known = l.turn.known };
   stands : (text : List ℕ) → standing.StandsFor l.initial.turn.reader text → standing.StandsFor l.turn.reader text;
   done : List Entry;
   so_far : l.initial.turn.reader.waiting ≡ done ++ l.turn.reader.waiting;
   owned : All (λ f. owner_fault l.host [] f ≡ None) done;
   counted : (files : List Entry) → l.initial.turn.rows ≡ row_files l.host files → l.turn.rows ≡ row_files l.host (files ++ done);
-  last : IsLastOwner l.host l.site l.merged l.index l.turn.last;
+  owners : AreKnown l.host l.site l.merged l.index l.turn.known.items;
   planned : l.plan.items ≡ l.initial.plan.items ++ lines (plan_of l.site l.merged.users l.merged.groups l.index done);
 }
 

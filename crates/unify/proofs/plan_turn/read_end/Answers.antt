@@ -52,10 +52,10 @@ plan_waiting-requires-clause-room c =
     let more = more_after host c.args.site.now c.args.merged.now c.args.index old turn after goes.0 goes.0 goes.1 goes.2 c.in_ok-begin_plan.ensures.turn c.in_ok-finish.ensures.most c.in_ok-finish.ensures.grow (c.in_ok-finish.ensures.stands goes.0) in
     room_more host c.args.site.now c.args.merged.now c.args.index turn after goes.0 goes.0 (goes.1 ++ head_left host old.is_begun) more
 
-pub plan_waiting-requires-clause-last : goal.plan_waiting-requires-clause-last
-plan_waiting-requires-clause-last c =
+pub plan_waiting-requires-clause-owners : goal.plan_waiting-requires-clause-owners
+plan_waiting-requires-clause-owners c =
     let goes = c.requires.goes in
-    (begun_turn c.args.host.now c.args.site.now c.args.merged.now c.args.index c.args.turn.now c.begin_plan.new.turn goes.0 goes.1 goes.2 c.in_ok-begin_plan.ensures.turn).last
+    (begun_turn c.args.host.now c.args.site.now c.args.merged.now c.args.index c.args.turn.now c.begin_plan.new.turn goes.0 goes.1 goes.2 c.in_ok-begin_plan.ensures.turn).known
 
 pub returns-in_err-plan_waiting-clause-told : goal.returns-in_err-plan_waiting-clause-told
 returns-in_err-plan_waiting-clause-told c = λ text planned were turns stood.

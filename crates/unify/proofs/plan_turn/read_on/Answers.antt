@@ -47,10 +47,10 @@ plan_waiting-requires-clause-room c =
     let more = more_after host c.args.site.now c.args.merged.now c.args.index old turn after goes.0 (goes.0 ++ c.args.bytes.now) goes.1 goes.2 c.in_ok-begin_plan.ensures.turn c.in_ok-feed.ensures.most c.in_ok-feed.ensures.grow (c.in_ok-feed.ensures.stands goes.0) in
     room_more host c.args.site.now c.args.merged.now c.args.index turn after goes.0 (goes.0 ++ c.args.bytes.now) (goes.1 ++ head_left host old.is_begun) more
 
-pub plan_waiting-requires-clause-last : goal.plan_waiting-requires-clause-last
-plan_waiting-requires-clause-last c =
+pub plan_waiting-requires-clause-owners : goal.plan_waiting-requires-clause-owners
+plan_waiting-requires-clause-owners c =
     let goes = c.requires.goes in
-    (begun_turn c.args.host.now c.args.site.now c.args.merged.now c.args.index c.args.turn.now c.begin_plan.new.turn goes.0 goes.1 goes.2 c.in_ok-begin_plan.ensures.turn).last
+    (begun_turn c.args.host.now c.args.site.now c.args.merged.now c.args.index c.args.turn.now c.begin_plan.new.turn goes.0 goes.1 goes.2 c.in_ok-begin_plan.ensures.turn).known
 
 pub returns-clause-told : goal.returns-clause-told
 returns-clause-told c = λ text planned turns.
@@ -83,6 +83,6 @@ returns-clause-stands c = λ text planned turns.
       heading ++ added,
       done.3 ∙ ap (λ t. t ++ added) (c.in_ok-begin_plan.ensures.plan ∙ head_more host old.is_begun start) ∙ append_assoc start heading added,
       subst (GoesOn host site merged index new fed r) (append_assoc planned heading added)
-          (stands_more host site merged index turn after text fed (planned ++ heading) more r new done.0 done.1 done.2 done.4 c.plan_waiting.ensures.turn c.plan_waiting.ensures.last c.in_ok-feed.ensures.going sound
+          (stands_more host site merged index turn after text fed (planned ++ heading) more r new done.0 done.1 done.2 done.4 c.plan_waiting.ensures.turn c.plan_waiting.ensures.owners c.in_ok-feed.ensures.going sound
           (on_ok_weaker r (λ go. go fed more.stands) c.plan_waiting.ensures.stands) c.plan_waiting.ensures.owned c.plan_waiting.ensures.counted),
     )
