@@ -8,11 +8,12 @@ order: a name of a site of H hosts has H candidates, and each number is wanted b
 candidates weigh the same), up to 2 or 3 (`few-files`) or up to 20 (`random`); `tight` has a fifth more names than numbers.
 `sparse` is the site of solve.py: two candidates a name, 62 names a number.
 
-Solving is what `unify merge` takes less what `unify count` takes, which reads and counts: so it has the join, the merged
-files, the certificate and the plans in it too. Of scipy it is the call alone. The weights that both find have to be equal.
-All are processor seconds, since other work on the machine changes these least. The growth is the exponent that fits the
-family's times best. Where scipy would take too long it is left out. It wants a Python that has scipy, and `make program`
-before it. Sites are made below bench/work, which git does not see, and removed after.
+Solving is what `unify merge` takes less what `unify count` takes, which reads and counts: so it has the join, the
+merged files, the certificate and the plans in it too. Of scipy it is the call alone. The weights that both find have to
+be equal. All are processor seconds, the least of three runs, since other work on the machine changes these least. The
+growth is the exponent that fits the family's times best. Where scipy would take too long it is left out. It wants a
+Python that has scipy, and `make program` before it. Sites are made below bench/work, which git does not see, and
+removed after.
 """
 import collections
 import math
@@ -22,7 +23,7 @@ import shutil
 import sys
 
 import solve
-from measure import HERE, UNIFY, timed
+from measure import HERE, UNIFY, least_processor_seconds
 from solve import FIRST, scipy_answer, weight_of_map, weights_of, write_hosts
 
 # The hosts, the files that a row owns at most, how many names there are for each number, and the names at each size.
@@ -63,14 +64,6 @@ def sites(name):
     return [(size[0], lambda size=size: solve.make_rows(*size, 1), size[0] <= MOST_FOR_SCIPY) for size in family]
 
 
-def spent(words):
-    """The processor seconds that a program takes."""
-    before = os.times()
-    timed(words)
-    after = os.times()
-    return after.children_user + after.children_system - before.children_user - before.children_system
-
-
 def solving(name, names, make, with_scipy):
     """How many candidates there are, the seconds that solving takes, and those of scipy or none; both find the same weight."""
     hosts, rows = make()
@@ -79,7 +72,9 @@ def solving(name, names, make, with_scipy):
     out = f"{folder}/out"
     os.mkdir(out)
     weights = weights_of(rows)
-    seconds = spent([UNIFY, "merge", "--quiet", out, *words]) - spent([UNIFY, "count", "--quiet", f"{out}/map", *words])
+    commands = {"merge": [UNIFY, "merge", "--quiet", out, *words], "count": [UNIFY, "count", "--quiet", f"{out}/map", *words]}
+    least, _ = least_processor_seconds(commands, rounds=3)
+    seconds = least["merge"] - least["count"]
     weight = weight_of_map(f"{out}/map", weights)
     shutil.rmtree(folder)
     if not with_scipy:
