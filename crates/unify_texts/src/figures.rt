@@ -99,8 +99,8 @@ fn staying_rows(names: &Names<'_>, mapping: &Mapping) -> u64
 
 /// The figures of a mapping of the names; `files` is how many of the counted files have one of the
 /// names as their owner. Asked is that there is a number for each name, and that the counters were
-/// made for the names; where they count files, of which so many have an owner, the figures are
-/// those of the files.
+/// made for the names and none is above 2147483648; where they count files, of which so many have
+/// an owner, the figures are those of the files.
 ///
 /// One pass over the names, with two scans of a name's rows and one of its counters, each at most
 /// 64. It takes no memory.

@@ -59,7 +59,7 @@ fn feed_a_refused_text(alloc: Global) -> AfterRefusal {
     }
 }
 
-// The next five are to be run with each growth refused in turn, too.
+// The next four are to be run with each growth refused in turn, too.
 
 // A reader answers its refusal again, whatever comes, and hands out the files before it.
 #[test]
