@@ -1,6 +1,6 @@
 //! Commands over files, each with the reply that tells what it found.
 
-ghost use Rattle.std.specs.Prelude.{IfErr, IfOk, OnErr};
+ghost use Rattle.std.specs.Prelude.{◌≡◌, IfErr, IfOk, OnErr};
 ghost use Rattle.idtext.specs.First.{Gives};
 ghost use Rattle.kept_accounts.specs.Reserving.{UnownedNumbers};
 ghost use Rattle.unify.specs.Rules.{rules_by};
@@ -11,6 +11,7 @@ ghost use Rattle.unify_merge.specs.Rehearse.{HasRehearsed, StopsRehearsal};
 ghost use Rattle.unify_merge.specs.Surveyed.{HasCheckedFiles, HasCountedFiles, HasMergedFiles};
 ghost use Rattle.unify_merge.specs.Surveyed.{LeavesFiles, StopsCheckFiles, StopsCountFiles};
 ghost use Rattle.unify_merge.specs.Surveyed.{StopsMergeFiles};
+ghost use Rattle.unify_bundle.specs.declared.answers.NoReply.TheVariants.{Memory};
 ghost use Rattle.unify_bundle.specs.Lines.{accepted_line, cost_lines, records_lines};
 ghost use Rattle.unify_bundle.specs.Replies.{cause, refusal, reply_of, reply_to};
 
@@ -35,6 +36,8 @@ pub enum NoReply {
 }
 
 impl From<AllocError> for NoReply {
+    ghost from_gives = { λ _ why. why ≡ Memory };
+
     fn from(_error: AllocError) -> NoReply {
         NoReply::Memory
     }
