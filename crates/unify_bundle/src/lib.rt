@@ -4,8 +4,8 @@
 //! with each host's own passwd and group with their new numbers, and `verify` checks a certificate:
 //! each is the command over files, whose inventories are among the texts. `run_bundle` reads a
 //! command with all its files as one text, and writes the answer. The replies of single commands
-//! are what it writes. `rehearse_site` merges a site, and carries all its plans out on trees in
-//! memory.
+//! are what it writes. `merge_answer` and its like are the commands over files, each with its
+//! reply. `rehearse_site` merges a site, and carries all its plans out on trees in memory.
 #![tactic(auto)]
 
 mod answers;
