@@ -73,6 +73,15 @@ EDITS = [
     ("first_is_doubled", "apart", "self.second as u16", "self.first as u16", "refused, "),
     ("second_is_first", "lib", "self.value.first", "self.value.second", "refused, "),
 ]
+# One that turns the contract of the function below that has to refuse it.
+TURNED = """in: src/lib.rt second
+file: src/lib.rt
+old: number as u16 + 1
+new: number as u16
+file: src/lib.rt
+old: ensures { result ≡ number + 1 }
+new: ensures { result ≡ number }
+"""
 
 
 def main():
@@ -85,13 +94,14 @@ def main():
         (crate / "src/apart.rt").write_text(APART)
         for name, file, old, new, _ in EDITS:
             (crate / f"wrong-bodies/{name}.edit").write_text(f"file: src/{file}.rt\nold: {old}\nnew: {new}\n")
+        (crate / "wrong-bodies/turned.edit").write_text(TURNED)
         script = pathlib.Path(__file__).resolve().with_name("wrong_bodies.py")
         ran = subprocess.run([script], cwd=top, stdin=subprocess.DEVNULL, capture_output=True, text=True)
     told = ran.stdout.splitlines()
-    wanted = sorted(f"small/{name}: {what}" for name, *_, what in EDITS)
+    wanted = sorted([*(f"small/{name}: {what}" for name, *_, what in EDITS), "small/turned: refused, "])
     through = sorted(f"small/{name}" for name, *_, what in EDITS if not what.startswith("refused"))
-    ends = [f"not refused: {' '.join(through)}", "4 refused, 3 let through"]
-    is_told = len(told) == len(EDITS) + 2 and all(line.startswith(it) for line, it in zip(sorted(told[:-2]), wanted))
+    ends = [f"not refused: {' '.join(through)}", "5 refused, 3 let through"]
+    is_told = len(told) == len(wanted) + 2 and all(line.startswith(it) for line, it in zip(sorted(told[:-2]), wanted))
     if not is_told or told[-2:] != ends or ran.returncode != 1:
         sys.exit(f"wrong_bodies.py, tried on a small crate, ended with {ran.returncode}:\n{ran.stdout}{ran.stderr}")
     print("wrong_bodies.py tells a wrong body that is let through")

@@ -10,6 +10,9 @@ one copy of the crate, and has these functions checked, with what they call. An 
 open in a function that the edit touches. What is not refused in a round is tried alone before it is told as let through. So
 is an edit outside of functions: all of the crate is checked with it, and it is refused where any goal is left open.
 
+An edit may turn the contracts of functions with their bodies. A line `in: PATH FUNCTION` names the one above them that has to
+refuse it; that function alone is checked then, and by itself.
+
 All is done in a copy of the repository's crates. A crate that `rt ci` has passed on this machine is taken as proved, by the
 record of rt where it keeps one and else by build/passed and the libraries that it left; any other is proved first. Crates are
 tried side by side, RT_JOBS at a time. The last line is `N refused, M let through`; the status is 1
@@ -88,11 +91,13 @@ class Function(NamedTuple):
 
 
 class Edit(NamedTuple):
-    """A wrong body: its changes, each a path, an old text and a new one, and the functions that they touch."""
+    """A wrong body: its changes, each a path, an old text and a new one; the functions that they touch, or that have to refuse
+    them; and whether these are named."""
 
     name: str
     changes: list
     functions: set
+    is_apart: bool
 
     def found_in(self, places):
         """A place that lies in a function that the edit touches, or in any, where it touches none; at best one of a clause."""
@@ -168,6 +173,11 @@ def changes_of(text):
     return changes
 
 
+def named_in(text):
+    """The functions that have to refuse an edit, by their paths and names."""
+    return re.findall(r"^in: (\S+) (\w+)$", text, re.M)
+
+
 def made(changes, texts, text_of):
     """The texts with the changes made too, by path; texts has those that were changed before."""
     texts = dict(texts)
@@ -224,15 +234,22 @@ class Crate:
         return next((it for it in [path, *sources] if declared.search(self.text_of(it))), path)
 
     def read(self, path):
-        changes = changes_of(path.read_text(encoding="utf-8"))
-        functions, texts = set(), {}
+        edit = path.read_text(encoding="utf-8")
+        changes, functions, texts = changes_of(edit), set(), {}
         for change in changes:
             text = texts.get(change[0]) or self.text_of(change[0])
             functions.add(function_at(change[0], text, text.find(change[1]), self.home_of))
             texts = made([change], texts, self.text_of)
         if not changes:
             raise Unreadable("it has no change")
-        return Edit(path.stem, changes, set() if None in functions else functions)
+        named = {self.function_named(*it) for it in named_in(edit)}
+        return Edit(path.stem, changes, named or (set() if None in functions else functions), bool(named))
+
+    def function_named(self, path, name):
+        text = self.text_of(path)
+        if found := re.search(rf"\bfn {name}\b", text):
+            return function_at(path, text, found.start(), self.home_of)
+        raise Unreadable(f"{path} has no function {name}")
 
     def round_of(self, edits):
         """The first edits that can be made at once, since they touch different functions, and the texts that they make."""
@@ -261,7 +278,7 @@ class Crate:
 
     def tried_together(self, kept):
         """Tries the edits in rounds, and returns those that were not refused."""
-        left, doubtful = self.edits, []
+        left, doubtful = ([it for it in self.edits if it.is_apart == apart] for apart in (False, True))
         while left:
             chosen, texts = self.round_of(left)
             if len(chosen) < 2:

@@ -4,10 +4,11 @@
 //! with each host's own passwd and group with their new numbers, and `verify` checks a certificate:
 //! each is the command over files, whose inventories are among the texts. `run_bundle` reads a
 //! command with all its files as one text, and writes the answer. The replies of single commands
-//! are what it writes. `rehearse_site` merges a site, and carries all its plans out on trees in
-//! memory.
+//! are what it writes. `merge_answer` and its like are the commands over files, each with its
+//! reply. `rehearse_site` merges a site, and carries all its plans out on trees in memory.
 #![tactic(auto)]
 
+mod answers;
 mod bundle_run;
 mod input;
 mod merge_text;
@@ -19,10 +20,13 @@ mod streams;
 mod text_files;
 mod texts;
 
+pub use answers::{
+    FilesAnswer, NoReply, check_answer, count_answer, merge_answer, rehearse_answer,
+};
 pub use bundle_run::{answer, run_bundle};
 pub use merge_text::{merge_hosts_reply, merge_reply};
-pub use rehearsal::{records_reply, rehearse_reply};
+pub use rehearsal::rehearse_reply;
 pub use rehearsing_site::{SiteRun, rehearse_site};
-pub use reply::{Reply, accepted_reply, check_reply, cost_reply, count_reply, refused};
+pub use reply::{Reply, check_reply, count_reply};
 pub use streams::{Sink, Source, Watched};
 pub use texts::{consolidate, consolidate_hosts, count, survey_texts, verify};

@@ -6,6 +6,15 @@ ghost use Rattle.unify_merge.specs.Noted.{noted};
 use unify_io::{FileFault, InventoryFile, host_name, no_host, warn_of_no_files};
 use unify_merge::{Call, CallFailed, Log, ReadFiles};
 
+/// Files that know why a command on them ended early.
+pub trait KnowsWhy {
+    /// Why a call failed.
+    fn fault(&self) -> FileFault;
+
+    /// Tells that the inventory that was read last has too many bytes.
+    fn too_large(&self) -> FileFault;
+}
+
 /// The inventories of the hosts that words name.
 #[derive(Drop)]
 pub struct Inventories<'w> {
@@ -150,14 +159,14 @@ impl<'w> HostFiles<'w> {
             calls: Calls::new(),
         }
     }
+}
 
-    /// Why a call failed.
-    pub fn fault(&self) -> FileFault {
+impl KnowsWhy for HostFiles<'_> {
+    fn fault(&self) -> FileFault {
         self.calls.fault()
     }
 
-    /// Tells that the inventory that was read last has too many bytes.
-    pub fn too_large(&self) -> FileFault {
+    fn too_large(&self) -> FileFault {
         self.inventories.too_large()
     }
 }
@@ -225,14 +234,14 @@ impl<'w> InventoryAt<'w> {
             calls: Calls::new(),
         })
     }
+}
 
-    /// Why a call failed.
-    pub fn fault(&self) -> FileFault {
+impl KnowsWhy for InventoryAt<'_> {
+    fn fault(&self) -> FileFault {
         self.calls.fault()
     }
 
-    /// Tells that it has too many bytes.
-    pub fn too_large(&self) -> FileFault {
+    fn too_large(&self) -> FileFault {
         self.open.inventory.too_large(self.open.rt)
     }
 }

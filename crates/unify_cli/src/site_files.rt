@@ -2,7 +2,7 @@
 
 ghost use Rattle.std.specs.Prelude.{is_some};
 
-use crate::inventories::{Calls, Inventories};
+use crate::inventories::{Calls, Inventories, KnowsWhy};
 use std::str;
 use unify_io::{FileFault, NewFile, begin_output, finish_output, no_host};
 use unify_merge::{Call, CallFailed, MergeFiles, ReadFiles};
@@ -78,21 +78,21 @@ impl<'w> SiteFiles<'w> {
         self.inventories.file_lines()
     }
 
-    /// Why a call failed.
-    pub fn fault(&self) -> FileFault {
-        self.calls.fault()
-    }
-
-    /// Tells that the inventory that was read last has too many bytes.
-    pub fn too_large(&self) -> FileFault {
-        self.inventories.too_large()
-    }
-
     /// Removes what there is of a file that was not finished.
     pub fn discard(&self) {
         if let Some(file) = &self.output.file {
             file.discard(self.output.rt);
         }
+    }
+}
+
+impl KnowsWhy for SiteFiles<'_> {
+    fn fault(&self) -> FileFault {
+        self.calls.fault()
+    }
+
+    fn too_large(&self) -> FileFault {
+        self.inventories.too_large()
     }
 }
 

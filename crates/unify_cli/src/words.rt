@@ -1,6 +1,6 @@
 //! Commands given in words.
 
-use crate::inventories::{HostFiles, InventoryAt};
+use crate::inventories::{HostFiles, InventoryAt, KnowsWhy};
 use crate::site_files::SiteFiles;
 use clap::error::ErrorKind;
 use clap::{ArgMatches, Error};
@@ -8,42 +8,36 @@ use hosts_join::HostText;
 use idtext::ByteString;
 use inventory_files::run_inventory;
 use std::alloc::AllocError;
-use unify::Cost;
 use unify_apply::run_apply;
-use unify_bundle::{Reply, accepted_reply, cost_reply, records_reply, refused};
+use unify_bundle::{
+    FilesAnswer, NoReply, check_answer, count_answer, merge_answer, rehearse_answer,
+};
 use unify_io::{
     FileFault, command_line, file_fault_told, memory_refused, no_host, open_output, print_answer,
     read_file, read_hosts_tables, read_named, tell_of_keep, warn_of_end, warn_of_hosts_tables,
     warn_of_merge, write_failed, wrong_words,
 };
-use unify_merge::{MergeFault, check_files, count_files, merge_files, rehearse_files};
-use unify_texts::Fault;
+use unify_merge::MergeFault;
 use verify_files::run_verify;
 
-// Prints an answer, and hands out its status.
-fn print_reply(rt: &HostRuntime, reply: &Reply) -> u8 {
-    print_answer(rt, reply.status, &reply.text)
-}
-
-// Prints a cost.
-fn print_cost(rt: &HostRuntime, cost: Cost) -> Result<u8, FileFault> {
-    let reply = cost_reply(rt.alloc(), cost)?;
-    Ok(print_reply(rt, &reply))
-}
-
-// Prints the sum that a certificate proves.
-fn print_accepted(rt: &HostRuntime, sum: u64) -> Result<u8, FileFault> {
-    let reply = accepted_reply(rt.alloc(), sum)?;
-    Ok(print_reply(rt, &reply))
-}
-
-// Prints why what was read is refused. Unless it is to be quiet it tells of keep texts, where one
-// may help and somebody looks on.
-fn print_refused(rt: &HostRuntime, fault: &Fault<'_>, is_quiet: bool) -> Result<u8, FileFault> {
-    let reply = refused(rt.alloc(), fault)?;
-    let status = print_reply(rt, &reply);
-    if !is_quiet {
-        tell_of_keep(rt, fault);
+// Prints what a command on files answers, and hands out the exit status. Unless it is to be quiet
+// it tells of keep texts, where one may help and somebody looks on.
+fn print_reply<T, F: KnowsWhy>(
+    rt: &HostRuntime,
+    files: &F,
+    answer: &FilesAnswer<'_, T>,
+    is_quiet: bool,
+) -> Result<u8, FileFault> {
+    let reply = match &answer.reply {
+        Ok(reply) => reply,
+        Err(NoReply::Failed) => return Err(files.fault()),
+        Err(NoReply::TooLarge) => return Err(files.too_large()),
+        Err(NoReply::Memory) => return Err(FileFault::Memory),
+    };
+    let status = print_answer(rt, reply.status, &reply.text);
+    match &answer.found {
+        Err(MergeFault::Refused(fault)) if !is_quiet => tell_of_keep(rt, fault),
+        _ => {}
     }
     Ok(status)
 }
@@ -77,21 +71,6 @@ fn hosts_named(
     Ok(hosts)
 }
 
-// Why the inventories of hosts were not all read, or what was read is refused: it is printed,
-// unless it was told.
-fn reading_refused(
-    rt: &HostRuntime,
-    files: &HostFiles<'_>,
-    fault: &MergeFault<'_>,
-    is_quiet: bool,
-) -> Result<u8, FileFault> {
-    match fault {
-        MergeFault::Refused(fault) => print_refused(rt, fault, is_quiet),
-        MergeFault::TooLarge => Err(files.too_large()),
-        MergeFault::Failed => Err(files.fault()),
-    }
-}
-
 // Prints what a map costs on hosts with these files.
 fn count_by(
     rt: &HostRuntime,
@@ -101,10 +80,8 @@ fn count_by(
     map: &ByteString,
     is_quiet: bool,
 ) -> Result<u8, FileFault> {
-    match count_files(rt.alloc(), files, hosts, keep.bytes(), map.bytes()) {
-        Ok(cost) => print_cost(rt, cost),
-        Err(fault) => reading_refused(rt, files, &fault, is_quiet),
-    }
+    let answer = count_answer(rt.alloc(), files, hosts, keep.bytes(), map.bytes());
+    print_reply(rt, files, &answer, is_quiet)
 }
 
 // Counts by a map of the hosts that words name.
@@ -139,18 +116,9 @@ fn check_by(
     keep: &ByteString,
     is_quiet: bool,
 ) -> Result<u8, FileFault> {
-    let certificate = certificate.bytes();
-    match check_files(
-        rt.alloc(),
-        files,
-        hosts,
-        pins.bytes(),
-        keep.bytes(),
-        certificate,
-    ) {
-        Ok(sum) => print_accepted(rt, sum),
-        Err(fault) => reading_refused(rt, files, &fault, is_quiet),
-    }
+    let (pins, keep) = (pins.bytes(), keep.bytes());
+    let answer = check_answer(rt.alloc(), files, hosts, pins, keep, certificate.bytes());
+    print_reply(rt, files, &answer, is_quiet)
 }
 
 // Checks a certificate of the hosts that words name by pins.
@@ -177,31 +145,12 @@ fn run_check(rt: &HostRuntime, matches: &ArgMatches<'_>) -> Result<u8, FileFault
     check_texts(rt, matches, &certificate, &pins, &keep)
 }
 
-// Prints how many records a plan has that was carried out.
-fn print_records(rt: &HostRuntime, records: u32) -> Result<u8, FileFault> {
-    let reply = records_reply(rt.alloc(), records)?;
-    Ok(print_reply(rt, &reply))
-}
-
-// Prints what a rehearsal of a plan on an inventory gives.
-fn rehearse_by(
-    rt: &HostRuntime,
-    inventory: &mut InventoryAt<'_>,
-    plan: &ByteString,
-) -> Result<u8, FileFault> {
-    match rehearse_files(rt.alloc(), inventory, plan.bytes()) {
-        Ok(records) => print_records(rt, records),
-        Err(MergeFault::Refused(fault)) => print_refused(rt, &fault, true),
-        Err(MergeFault::TooLarge) => Err(inventory.too_large()),
-        Err(MergeFault::Failed) => Err(inventory.fault()),
-    }
-}
-
 // rehearse PLAN MTREE
 fn run_rehearse(rt: &HostRuntime, matches: &ArgMatches<'_>) -> Result<u8, FileFault> {
     let plan = read_file(rt, matches.get_str("PLAN").unwrap_or(""))?;
     let mut inventory = InventoryAt::new(rt, matches.get_str("MTREE").unwrap_or(""))?;
-    rehearse_by(rt, &mut inventory, &plan)
+    let answer = rehearse_answer(rt.alloc(), &mut inventory, plan.bytes());
+    print_reply(rt, &inventory, &answer, true)
 }
 
 // Merges the hosts that words name into a directory, which is looked at first, and is locked until
@@ -231,21 +180,6 @@ fn merge_words_into(
     merge_texts(rt, matches, directory, words, &hosts, &pins, &keep)
 }
 
-// Prints why a merge ended early.
-fn merge_refused(
-    rt: &HostRuntime,
-    files: &SiteFiles<'_>,
-    fault: &MergeFault<'_>,
-    is_quiet: bool,
-) -> Result<u8, FileFault> {
-    files.discard();
-    match fault {
-        MergeFault::Refused(fault) => print_refused(rt, fault, is_quiet),
-        MergeFault::TooLarge => Err(files.too_large()),
-        MergeFault::Failed => Err(files.fault()),
-    }
-}
-
 // Warns of what was read before a merge.
 fn warn_before(
     rt: &HostRuntime,
@@ -270,14 +204,13 @@ fn merge_by(
     keep: &ByteString,
     is_quiet: bool,
 ) -> Result<u8, FileFault> {
-    let cost = match merge_files(rt.alloc(), files, hosts, pins.bytes(), keep.bytes()) {
-        Ok(cost) => cost,
-        Err(fault) => return merge_refused(rt, files, &fault, is_quiet),
-    };
-    if !is_quiet {
+    let answer = merge_answer(rt.alloc(), files, hosts, pins.bytes(), keep.bytes());
+    if answer.found.is_err() {
+        files.discard();
+    } else if !is_quiet {
         warn_of_merge(rt, hosts, directory, pins.bytes(), files.file_lines())?;
     }
-    print_cost(rt, cost)
+    print_reply(rt, files, &answer, is_quiet)
 }
 
 // Merges hosts whose texts are given but for their inventories, and prints what it costs.
