@@ -1,4 +1,4 @@
--- What holds of every site that was read.
+-- Laws of every site that was read.
 -- Source: this project's own rule.
 use Rattle.std.specs.Prelude.{◌≡◌, ◌↔◌, ℕ, true, List, [], map, Some, None, Result, Ok}
 use Rattle.std.specs.Prelude.{is_some, slice_get}
