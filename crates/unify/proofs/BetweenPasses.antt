@@ -14,7 +14,7 @@ use Rattle.ownership.specs.Counts.{Counted}
 use Rattle.ownership.specs.Files.{Added}
 use Rattle.unify.specs.declared.merging.Merged.{Merged}
 use Rattle.unify.specs.declared.plan_turn.PlanTurn.{PlanTurn}
-use Rattle.unify.specs.Laws.{IsWhole}
+use Rattle.unify.specs.Whole.{IsWhole}
 use Rattle.unify.specs.Loading.{loaded_from}
 use Rattle.unify.specs.Merging.{HoldsCounted, IsMerged}
 use Rattle.unify.specs.Passes.{AreTogether, InventoriesValue, read_in}

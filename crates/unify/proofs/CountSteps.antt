@@ -1,21 +1,15 @@
--- What a map changes is what comes before the inventories, and then, host by host, what the inventories say.
+-- What comes before the inventories of a count, step by step.
 use Rattle.std.proofs.Common.{◌≡◌, ℕ, List, Result, Ok, Err, refl, ap, ◌∙◌}
-use Rattle.idtext.specs.First.{◌>>=◌, each}
+use Rattle.idtext.specs.First.{◌>>=◌}
 use Rattle.hosts_join.specs.Checks.{hosts_checked}
 use Rattle.hosts_join.specs.declared.texts.HostText.{HostText}
 use Rattle.unify_texts.specs.declared.fault.Fault.{Fault}
 use Rattle.unify_texts.specs.declared.map_text.MapText.{MapText}
-use Rattle.unify.specs.declared.counting.Cost.{Cost}
 use Rattle.unify.specs.declared.rules.KeepRules.{KeepRules}
 use Rattle.unify.specs.Costing.{BegunCost, cost_begun}
-use Rattle.unify.specs.Count.{count_of, mapped_names, site_of, total_of}
-use Rattle.unify.specs.Loading.{loaded_from}
+use Rattle.unify.specs.Count.{mapped_names}
 use Rattle.unify.specs.Others.{Others, others_loaded}
-use Rattle.unify.specs.Texts.{mtrees}
 use Rattle.unify.specs.Told.{in_site}
-use Rattle.unify.proofs.TwoPasses.{first-step}
-
--- ---- what comes before the inventories, step by step
 
 module _ (texts : List HostText) (keep : KeepRules) (map_text : List ℕ) where
   pub list_refused : (f : Fault) → in_site (hosts_checked texts) ≡ Err f → cost_begun texts keep map_text ≡ Err f
@@ -40,22 +34,3 @@ module _ (texts : List HostText) (keep : KeepRules) (map_text : List ℕ) where
 
       pub begun_is : (pairs : MapText) → mapped_names map_text others.hosts ≡ Ok pairs → cost_begun texts keep map_text ≡ Ok (record { hosts = others.hosts; names = pairs })
       begun_is pairs n = begun_steps ∙ ap with_names n
-
--- ---- and then the inventories
-
-abbrev inventories : List HostText → BegunCost → Result Cost Fault
-inventories texts begun = total_of begun.names (each site_of (loaded_from begun.hosts (mtrees texts)))
-
-count_steps : (texts : List HostText) (keep : KeepRules) (map_text : List ℕ) → count_of texts keep map_text ≡ (cost_begun texts keep map_text >>= inventories texts)
-unfolding count_of cost_begun
-count_steps texts keep map_text =
-    first-step (in_site (hosts_checked texts)) _ _ (inventories texts)
-    (λ listed l. first-step (others_loaded texts keep) _ _ (inventories texts)
-    (λ others o. first-step (mapped_names map_text others.hosts) _ _ (inventories texts)
-    (λ pairs p. refl)))
-
-pub count_refused : (texts : List HostText) (keep : KeepRules) (map_text : List ℕ) (f : Fault) → cost_begun texts keep map_text ≡ Err f → count_of texts keep map_text ≡ Err f
-count_refused texts keep map_text f h = count_steps texts keep map_text ∙ ap (λ r. r >>= inventories texts) h
-
-pub count_behind : (texts : List HostText) (keep : KeepRules) (map_text : List ℕ) (begun : BegunCost) → cost_begun texts keep map_text ≡ Ok begun → count_of texts keep map_text ≡ total_of begun.names (each site_of (loaded_from begun.hosts (mtrees texts)))
-count_behind texts keep map_text begun h = count_steps texts keep map_text ∙ ap (λ r. r >>= inventories texts) h

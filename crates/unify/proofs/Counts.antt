@@ -1,19 +1,13 @@
 -- Two lists of files of which each row of a host's tables owns as many: whatever is asked of a file's number that only numbers of
 -- rows pass, as many pass.
-use Rattle.std.proofs.Common.{◌≡◌, ℕ, suc, ◌+◌, ◌<◌, Bool, true, false, cond, List, [], ◌∷◌, length, map, get_or, Some, refl, sym, ap, subst, ◌∙◌, arith, inl, inr, ◌==◌}
-use Rattle.std.specs.List.{All, count_by, find, slice_get, sum_by}
+use Rattle.std.proofs.Common.{◌≡◌, ℕ, suc, ◌+◌, ◌<◌, Bool, true, false, cond, List, [], ◌∷◌, length, map, get_or, refl, sym, ap, subst, ◌∙◌, arith, inl, inr, ◌==◌}
+use Rattle.std.specs.List.{All, count_by, find, sum_by}
 use Rattle.std.specs.Option.{is_some}
 use Rattle.std.proofs.lemmas.Bool.{cases_Bool, eqb-true, false_from_ne_true}
 use Rattle.std.proofs.lemmas.List.{get_or-map, length-map}
 use Rattle.std.proofs.lemmas.List.Elements.{All-head, All-tail}
-use Rattle.std.proofs.lemmas.List.Sums.{sum_by-append, sum_by-cons}
+use Rattle.std.proofs.lemmas.List.Sums.{sum_by-cons}
 use Rattle.accounts.specs.Laws.{AreDistinct}
-use Rattle.hosts_join.specs.declared.host.Host.{Host}
-use Rattle.hosts_join.proofs.Refusals.{count_by-of-map}
-use Rattle.mtree_inv.specs.declared.entry.Entry.{Entry}
-use Rattle.ownership.specs.Files.{Added}
-use Rattle.unify.specs.Reading.{added_on, added_from}
-use Rattle.unify.proofs.SiteRuns.{some_same}
 
 no_more : (b : Bool) → cond {A = ℕ} b 0 0 ≡ 0
 no_more true = refl
@@ -126,37 +120,3 @@ module _ {R : Type 0} (number : R → ℕ) where
       pub as_many : (rows : List R) → AreApart rows → (files others : List E) → ((n : ℕ) → P n ≡ true → is_some (find (λ r. n == number r) rows) ≡ true)
           → map (owned files) rows ≡ map (owned others) rows → count_by (λ e. P (of e)) files ≡ count_by (λ e. P (of e)) others
       as_many rows are files others there same = by_rows rows are files there ∙ rows_same files others rows same ∙ sym (by_rows rows are others there)
-
--- ---- the files of all hosts
-
-module _ (G : Added → Bool) where
-  abbrev on : ℕ → List Entry → ℕ
-  on h files = count_by (λ e. G (added_on h e)) files
-
-  -- where as many pass on each host, as many pass on all
-  pub on_all : (start : ℕ) (one two : List (Host × List Entry)) → length two ≡ length one
-      → ((k : ℕ) (host : Host) (were : List Entry) → slice_get one k ≡ Some (host, were) → (files : List Entry) × (slice_get two k ≡ Some (host, files)) × (on (start + k) were ≡ on (start + k) files))
-      → count_by G (added_from start one) ≡ count_by G (added_from start two)
-  on_all start [] [] same each = refl
-  on_all start [] (y ∷ ys) same each = absurd (omega (arith, same))
-  on_all start (x ∷ xs) [] same each = absurd (omega (arith, same))
-  on_all start (x ∷ xs) (y ∷ ys) same each =
-      let first = each 0 x.0 x.1 refl in
-      let is : y ≡ (x.0, first.0) = some_same y (x.0, first.0) first.1 in
-      let start_is : start + 0 ≡ start = omega arith in
-      let here : on start x.1 ≡ on start y.1 = subst (λ i. on i x.1 ≡ on i first.0) start_is first.2 ∙ ap (λ (p : Host × List Entry). on start p.1) (sym is) in
-      let later : count_by G (added_from (start + 1) xs) ≡ count_by G (added_from (start + 1) ys) =
-      on_all (start + 1) xs ys (omega (arith, same)) (λ k host were at.
-      let next = each (suc k) host were at in
-      let behind : start + suc k ≡ (start + 1) + k = omega arith in
-      (next.0, next.1, subst (λ i. on i were ≡ on i next.0) behind next.2)) in
-      let tells = λ (f : Added). cond {A = ℕ} (G f) 1 0 in
-      omega (
-        arith,
-        sum_by-append tells (map (added_on start) x.1) (added_from (start + 1) xs),
-        sum_by-append tells (map (added_on start) y.1) (added_from (start + 1) ys),
-        count_by-of-map G (added_on start) x.1,
-        count_by-of-map G (added_on start) y.1,
-        here,
-        later,
-      )

@@ -16,7 +16,6 @@ use Rattle.hosts_join.specs.Kinds.{user_at, group_at}
 use Rattle.hosts_join.specs.Laws.{IsOwnedAsTold, KnowsHost}
 use Rattle.hosts_join.specs.Site.{Joined}
 use Rattle.hosts_join.specs.declared.host.Host.{Host}
-use Rattle.ownership.specs.Faults.{unowned, uid_fault, gid_fault}
 use Rattle.unify_texts.specs.declared.bundle_line.FileName.{FileName}
 use Rattle.unify_texts.specs.declared.bundle_line.FileName.TheVariants as file
 use Rattle.unify.specs.declared.host.Loaded.{Loaded}
@@ -55,28 +54,6 @@ files_read loaded files h =
 pub owner-told : (names : List Account) (h v : ℕ) (told : Option (List ℕ)) → IsOwnedAsTold names h v told → is_some (owner names h v) ≡ is_some told
 owner-told names h v (Some name) is = ap is_some is.1
 owner-told names h v None is = ap is_some is
-
-no-fault : (user group : Option ℕ) (uid gid : ℕ) → is_some user ≡ true → is_some group ≡ true → uid_fault user uid (gid_fault group gid) ≡ None
-no-fault None group uid gid u g = absurd (cc)
-no-fault (Some i) None uid gid u g = absurd (cc)
-no-fault (Some i) (Some j) uid gid u g = refl
-
-pub both-there : (user group : Option ℕ) (uid gid : ℕ) → uid_fault user uid (gid_fault group gid) ≡ None → (is_some user ≡ true) × (is_some group ≡ true)
-both-there None group uid gid e = absurd (cc)
-both-there (Some i) None uid gid e = absurd (cc)
-both-there (Some i) (Some j) uid gid e = (refl, refl)
-
--- a file has its owners among the site's accounts exactly where it has them by the host's own tables
-pub owned-there : (site : Joined) (h : ℕ) (host : Host) (uid gid : ℕ) → KnowsHost site h host → is_some (user_at host.users uid) ≡ true → is_some (group_at host.groups gid) ≡ true → unowned site h uid gid ≡ None
-owned-there site h host uid gid knows u g =
-    no-fault _ _ uid gid (owner-told site.users.names h uid (user_at host.users uid) (knows.users uid) ∙ u) (owner-told site.groups.names h gid (group_at host.groups gid) (knows.groups gid) ∙ g)
-
-pub owned-here : (site : Joined) (h : ℕ) (host : Host) (uid gid : ℕ) → KnowsHost site h host → unowned site h uid gid ≡ None → (is_some (user_at host.users uid) ≡ true) × (is_some (group_at host.groups gid) ≡ true)
-owned-here site h host uid gid knows e =
-    let both = both-there (owner site.users.names h uid) (owner site.groups.names h gid) uid gid e in (
-      sym (owner-told site.users.names h uid (user_at host.users uid) (knows.users uid)) ∙ both.0,
-      sym (owner-told site.groups.names h gid (group_at host.groups gid) (knows.groups gid)) ∙ both.1,
-    )
 
 pub owners-told : {F : Type 0} (user group : Bool) (e f : F) → cond user (cond group None (Some e)) (Some f) ≡ None → (user ≡ true) × (group ≡ true)
 owners-told true true e f h = (refl, refl)

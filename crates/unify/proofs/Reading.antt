@@ -4,7 +4,7 @@ use Rattle.std.specs.List.{All, slice_get}
 use Rattle.std.specs.Option.{option_map}
 use Rattle.std.proofs.lemmas.Bool.{cases_Bool, both_ways, and_from, false_from_ne_true, ltb-false}
 use Rattle.std.proofs.lemmas.List.Elements.{All-nil, All-cons, All-head, All-tail, All-append, All-map}
-use Rattle.std.proofs.lemmas.Option.{slice_get-map, slice_get-get_or}
+use Rattle.std.proofs.lemmas.Option.{slice_get-get_or}
 use Rattle.idtext.specs.First.{each, first_fault}
 use Rattle.idtext.proofs.OkLemmas.{bind_ok, ok_same, unless_ok, length-each, each-ok}
 use Rattle.accounts.specs.Tables.{passwd_table, group_table}
@@ -24,29 +24,20 @@ use Rattle.hosts_join.specs.declared.texts.HostText.{HostText}
 use Rattle.mergedfiles.specs.InPart.{WasReadInPart}
 use Rattle.mergedfiles.specs.ReadBack.{WasRead}
 use Rattle.mergedfiles.specs.Together.{AreJoined}
-use Rattle.ownership.specs.Faults.{unowned}
 use Rattle.ownership.specs.Files.{Added}
 use Rattle.unify_texts.specs.declared.bundle_line.FileName.TheVariants as file
 use Rattle.unify.specs.declared.host.Loaded.{Loaded}
 use Rattle.unify.specs.Count.{site_of}
 use Rattle.unify.specs.Hosts.{host_of, files_of, sparing_none}
-use Rattle.unify.specs.Laws.{HaveAccounts, IsReadHost, IsWhole, NothingSparedAllOwned, OwnersAgree}
+use Rattle.unify.specs.Whole.{IsReadHost, IsWhole}
 use Rattle.unify.specs.Loading.{loaded_from}
-use Rattle.unify.specs.Outcomes.{hosts_in}
 use Rattle.unify.specs.Passes.{AreTogether}
 use Rattle.unify.specs.Reading.{added_on, added_from}
 use Rattle.unify.specs.Sparing.{AreOwnedOrReserved, SparesNothing}
 use Rattle.unify.specs.Told.{in_file, in_site}
 use Rattle.unify.proofs.Adding.{length-loaded_from}
-use Rattle.unify.proofs.Owners.{allowed, file_ok, files_read, none_both, owned-there, owned-here, owned-or-reserved}
-use Rattle.unify.proofs.Sparing.{accounts_there}
+use Rattle.unify.proofs.Owners.{allowed, file_ok, files_read, none_both, owned-or-reserved}
 use Rattle.unify.proofs.Whole.{hosts_held, site_ok}
-
-pub owners_agree : OwnersAgree
-owners_agree joined h host uid gid knows = (
-  (λ none. let both = owned-here joined h host uid gid knows none in record { user = both.0; group = both.1 }),
-  (λ has. owned-there joined h host uid gid knows has.user has.group),
-)
 
 -- ---- a host
 
@@ -279,29 +270,3 @@ whole-read hosts joined mtrees read whole paired accepted =
       each_host = each_host;
       owned = all-owned joined read each_host;
     }
-
--- ---- hosts that spare nothing
-
-unowned-from : (joined : Joined) (start : ℕ) (hosts : List (Host × List Entry)) → ((h : ℕ) (host : Host) (files : List Entry) → slice_get hosts h ≡ Some (host, files) → All (λ f. unowned joined (start + h) f.uid f.gid ≡ None) files) → All (λ f. unowned joined f.host f.uid f.gid ≡ None) (added_from start hosts)
-unowned-from joined start [] each_host = All-nil (λ (f : Added). unowned joined f.host f.uid f.gid ≡ None)
-unowned-from joined start (here ∷ more) each_host =
-    let first : All (λ f. unowned joined start f.uid f.gid ≡ None) here.1 = subst (λ n. All (λ f. unowned joined n f.uid f.gid ≡ None) here.1) (omega arith) (each_host 0 here.0 here.1 refl) in
-    All-append (λ (f : Added). unowned joined f.host f.uid f.gid ≡ None) (map (added_on start) here.1) (added_from (start + 1) more)
-    (All-map (λ (f : Added). unowned joined f.host f.uid f.gid ≡ None) (added_on start) here.1 first)
-    (unowned-from joined (start + 1) more (λ h host files at. subst (λ n. All (λ f. unowned joined n f.uid f.gid ≡ None) files) (omega arith) (each_host (suc h) host files at)))
-
-pub nothing_spared_all_owned : NothingSparedAllOwned
-nothing_spared_all_owned site whole none = record {
-  by_tables = have;
-  over_all_hosts = unowned-from site.joined 0 site.hosts (λ h host files here k d l.
-      let f = get_or files k d in
-      let has = have h host files here k d l in
-      let from_zero : h ≡ 0 + h = omega arith in
-      subst (λ n. unowned site.joined n f.uid f.gid ≡ None) from_zero (owned-there site.joined h host f.uid f.gid (whole.each_host h host files here).known has.user has.group));
-}
-  where
-    have : (h : ℕ) (host : Host) (files : List Entry) → slice_get site.hosts h ≡ Some (host, files) → All (λ f. HaveAccounts host f.uid f.gid) files
-    have h host files here =
-        let there : slice_get (hosts_in site) h ≡ Some host = slice_get-map (λ (x : Host × List Entry). x.0) site.hosts h ∙ ap (option_map (λ (x : Host × List Entry). x.0)) here in
-        let unsparing = all-at SparesNothing (hosts_in site) h host none there in
-        λ k d l. accounts_there host (get_or files k d).uid (get_or files k d).gid unsparing ((whole.each_host h host files here).allowed k d l)

@@ -1,6 +1,7 @@
 -- The numbers that the files of hosts have without an account.
 use Rattle.std.proofs.Common.{◌≡◌, ℕ, zero, suc, List, [], ◌∷◌, length, map, take, true, Some, Result, Ok, Err, refl, sym, ap, ◌∙◌}
 use Rattle.std.specs.List.{slice_get}
+use Rattle.std.proofs.lemmas.Option.{same_Some}
 use Rattle.idtext.specs.First.{◌>>=◌, each}
 use Rattle.idtext.proofs.OkLemmas.{bind_ok}
 use Rattle.mtree_inv.specs.Inventory.{inventory}
@@ -16,7 +17,6 @@ use Rattle.unify.specs.Hosts.{host_of}
 use Rattle.unify.specs.Others.{keep_read}
 use Rattle.unify.specs.Survey.{found_on, inventory_of, keeps_unowned, listed_of, sparing_hosts, sparing_ranges, surveyed, surveyed_hosts}
 use Rattle.unify.specs.Told.{in_site}
-use Rattle.unify.proofs.SiteRuns.{some_same}
 
 -- ---- host behind host
 
@@ -27,8 +27,8 @@ unfolding each
 list_refused_at [] texts listed k host text f are here there bad = absurd (cc)
 list_refused_at (h ∷ hosts) [] listed k host text f are here there bad = absurd (cc)
 list_refused_at (h ∷ hosts) (t ∷ texts) listed zero host text f are here there bad =
-    let same_host : h ≡ host = some_same h host here in
-    let same_text : t ≡ text = some_same t text there in
+    let same_host : h ≡ host = same_Some h host here in
+    let same_text : t ≡ text = same_Some t text there in
     let mine : inventory_of h t ≡ Err f = (λ j. inventory_of (same_host j) (same_text j)) ∙ bad in
     ap (λ (r : Result (List Entry) Fault). (r >>= λ fs. Ok (h, fs)) >>= λ y. each listed_of (loaded_from hosts texts) >>= λ ys. Ok (y ∷ ys)) mine
 list_refused_at (h ∷ hosts) (t ∷ texts) listed (suc k) host text f are here there bad =

@@ -1,25 +1,22 @@
 -- The numbers that the files of a site have without an account, where its keep text keeps them.
 -- They are found before the site is read: which numbers no name may have the join goes by.
 -- Source: this project's own rule.
-use Rattle.std.specs.Prelude.{◌≡◌, ℕ, Bool, true, ◌||◌, List, [], map, fold, Result, Ok, Err, Some}
-use Rattle.std.specs.Prelude.{if◌then◌else◌, slice_get, All}
+use Rattle.std.specs.Prelude.{ℕ, Bool, ◌||◌, List, [], map, fold, Result, Ok, Err, if◌then◌else◌}
 use Rattle.idtext.specs.First.{◌>>=◌, each}
 use Rattle.mtree_inv.specs.Inventory.{inventory}
 use Rattle.mtree_inv.specs.declared.entry.Entry.{Entry}
 use Rattle.hosts_join.specs.Checks.{hosts_checked}
 use Rattle.hosts_join.specs.declared.host.Host.{Host}
 use Rattle.hosts_join.specs.declared.texts.HostText.{HostText}
-use Rattle.keep_text.specs.KeepTexts.{keep_of}
 use Rattle.keep_text.specs.declared.keep_text.KeepText.{KeepText}
 use Rattle.kept_accounts.specs.Reserving.{UnownedNumbers, no_numbers}
 use Rattle.survey.specs.Unowned.{unowned_with}
 use Rattle.unify_texts.specs.declared.bundle_line.FileName.TheVariants as file
 use Rattle.unify_texts.specs.declared.fault.Fault.{Fault}
 use Rattle.unify.specs.declared.host.Loaded.{Loaded}
-use Rattle.unify.specs.declared.rules.KeepRules.{KeepRules}
-use Rattle.unify.specs.Hosts.{allows_gid, allows_uid, host_of}
+use Rattle.unify.specs.Hosts.{host_of}
 use Rattle.unify.specs.Loading.{loaded_from}
-use Rattle.unify.specs.Others.{Others, keep_read, others_loaded}
+use Rattle.unify.specs.Others.{keep_read}
 use Rattle.unify.specs.Told.{in_file, in_site}
 
 -- ---- whose files are looked through
@@ -71,18 +68,3 @@ unfoldable pub surveyed : List HostText → List ℕ → Result UnownedNumbers F
 surveyed texts keep_text =
     surveyed_hosts texts (keep_read keep_text) >>= λ hosts.
     found_on hosts (map (λ t. t.mtree) texts)
-
--- ---- what is found is enough
-
--- Where numbers without an account stay of a kind, a host allows those of all its files, by the
--- numbers that were found of these.
-abbrev pub SurveyedFilesAreAllowed : Type 0
-SurveyedFilesAreAllowed =
-    (texts : List HostText) (rules : KeepRules) (keep : KeepText) (others : Others)
-    → keep_of rules.text ≡ Ok keep → surveyed texts rules.text ≡ Ok rules.unowned
-    → others_loaded texts rules ≡ Ok others
-    → (h : ℕ) (host : Host) (text : HostText) (files : List Entry)
-    → slice_get others.hosts h ≡ Some host → slice_get texts h ≡ Some text
-    → inventory_of host text.mtree ≡ Ok files
-    → (keep.users.unowned ≡ true → All (λ f. allows_uid host f.uid ≡ true) files)
-    × (keep.groups.unowned ≡ true → All (λ f. allows_gid host f.gid ≡ true) files)

@@ -5,7 +5,7 @@ ghost use Rattle.mtree_inv.specs.declared.entry.Entry.{Entry};
 ghost use Rattle.hosts_join.specs.declared.host.Host.{Host};
 ghost use Rattle.ownership.specs.Counts as counters;
 ghost use Rattle.ownership.specs.Counts.{IsMadeFor};
-ghost use Rattle.unify.specs.Laws.{IsWhole};
+ghost use Rattle.unify.specs.Whole.{IsWhole};
 ghost use Rattle.unify.specs.Merging.{HoldsCounted, IsMerged};
 ghost use Rattle.unify.specs.Passes.{AreTogether, ended_in, read_in};
 ghost use Rattle.unify.specs.PlanTurns.{IsFreshTurn};

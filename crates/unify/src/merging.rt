@@ -11,7 +11,7 @@ ghost use Rattle.mergedfiles.specs.Together.{AreJoined};
 ghost use Rattle.unify_texts.specs.Report.{report_of};
 ghost use Rattle.unify_texts.specs.ReservedLines as reserved;
 ghost use Rattle.unify_texts.specs.WrittenMap.{map_text};
-ghost use Rattle.unify.specs.Laws.{IsWhole};
+ghost use Rattle.unify.specs.Whole.{IsWhole};
 ghost use Rattle.unify.specs.Merging.{HoldsCounted, IsMerged, IsPrintedButPlans};
 ghost use Rattle.unify.specs.Outcomes.{AreAnswered};
 ghost use Rattle.unify.specs.Reading.{WholeSite, files_of_site};

@@ -26,19 +26,19 @@ use Rattle.unify.specs.declared.site_files.SiteFiles.{SiteFiles}
 use Rattle.unify.specs.Checking.{IsVerified, verified}
 use Rattle.unify.specs.Count.{count_of, site_of}
 use Rattle.unify.specs.Hosts.{host_of}
-use Rattle.unify.specs.HostTexts.{AreSiteFiles, host_files}
 use Rattle.unify.specs.Loading.{loaded_from}
 use Rattle.unify.specs.Others.{keep_read}
 use Rattle.unify.specs.Outcomes.{hosts_in, plan_texts_from}
 use Rattle.unify.specs.Reading.{WholeSite, site_read}
 use Rattle.unify.specs.Survey.{keeps_unowned, listed_of, sparing_ranges, surveyed, surveyed_hosts, unowned_over}
-use Rattle.unify.specs.Texts.{mtrees}
 use Rattle.unify.specs.Told.{in_site}
-use Rattle.unify.proofs.CountSteps.{count_behind, count_refused}
 use Rattle.unify.proofs.Sites.{total_fault}
 use Rattle.unify.proofs.Surveys.{as_many_texts, found_refused, survey_behind, survey_refused}
-use Rattle.unify.proofs.TwoPasses.{begun_refused, inventories_refused, site_is}
 use Rattle.unify.proofs.Whole.{hosts_held}
+use Rattle.unify_laws.specs.HostTexts.{AreSiteFiles, host_files}
+use Rattle.unify_laws.specs.Texts.{mtrees}
+use Rattle.unify_laws.proofs.CountPasses.{count_behind, count_refused}
+use Rattle.unify_laws.proofs.TwoPasses.{begun_refused, inventories_refused, site_is}
 use Rattle.unify_merge.specs.Check.{HasChecked, IsCheckFault, StopsCheck}
 use Rattle.unify_merge.specs.Count.{HasCounted, IsCountFault, StopsCount}
 use Rattle.unify_merge.specs.FirstReading.{WereEachRead, with_inventories}

@@ -4,6 +4,7 @@ use Rattle.std.specs.Prelude.{MatchResult}
 use Rattle.std.specs.List.{All, slice_get}
 use Rattle.std.proofs.lemmas.List.{length-map}
 use Rattle.std.proofs.lemmas.List.Elements.{All-nil, All-cons}
+use Rattle.std.proofs.lemmas.Option.{same_Some}
 use Rattle.idtext.specs.First.{Yields, each}
 use Rattle.mtree_inv.specs.Inventory.{inventory}
 use Rattle.mtree_inv.specs.Files.{AreFiles, HaveDistinctFiles}
@@ -29,17 +30,17 @@ use Rattle.unify.specs.declared.outcome.Outcome.{Outcome}
 use Rattle.unify_bundle.specs.declared.rehearsing_site.SiteRun.{SiteRun}
 use Rattle.unify.specs.declared.rules.SiteRules.{SiteRules}
 use Rattle.unify_bundle.specs.Carrying.{AreInventoriesOf, AreReady, AreCarriedOut, AreSpelledFor, IsReady, at_start, new_tree_of}
-use Rattle.unify.specs.Headline.{Headline}
-use Rattle.unify.specs.Laws.{IsWhole}
+use Rattle.unify.specs.Whole.{IsWhole}
 use Rattle.unify.specs.Outcomes.{IsOutcome, hosts_in, plan_texts_from}
 use Rattle.unify.specs.Reading.{WholeSite, site_read}
-use Rattle.unify.specs.SiteRuns.{DoneKeepsNames, new_trees, new_world, runners_from}
 use Rattle.unify_bundle.specs.SiteRuns.{IsSiteRun}
-use Rattle.unify.proofs.Believed.{name_is, outcomes_are_believed}
-use Rattle.unify.proofs.Keeping.{is_mapping, plan_is_old}
-use Rattle.unify.proofs.ReadSites.{paired, steps}
-use Rattle.unify.proofs.SiteRuns.{some_same, runs_keep, runs_stay}
 use Rattle.unify.proofs.Whole.{hosts_held}
+use Rattle.unify_laws.specs.Headline.{Headline}
+use Rattle.unify_laws.specs.SiteRuns.{DoneKeepsNames, new_trees, new_world, runners_from}
+use Rattle.unify_laws.proofs.Believed.{name_is, outcomes_are_believed}
+use Rattle.unify_laws.proofs.Keeping.{is_mapping, plan_is_old}
+use Rattle.unify_laws.proofs.WholeSites.{paired, steps}
+use Rattle.unify_laws.proofs.SiteRuns.{runs_keep, runs_stay}
 
 from_zero : (k : ℕ) → k ≡ 0 + k
 from_zero k = omega arith
@@ -93,8 +94,8 @@ module _ (hosts : List Host) (site : Joined) (m : Mappings) where
       → (h : ℕ) (plan : PlanData) (tree : Mem) → slice_get (plans_from hosts site m start (map (λ h. h.1) all)) h ≡ Some plan → slice_get (map (new_tree_of keep) (map (λ h. h.1) all)) h ≡ Some tree → IsReady plan tree
   plans_ready keep start [] distinct h plan tree plan_at tree_at = absurd (cc)
   plans_ready keep start (here ∷ more) distinct zero plan tree plan_at tree_at =
-      subst (IsReady plan) (some_same (new_tree_of keep here.1) tree tree_at)
-      (subst (λ p. IsReady p (new_tree_of keep here.1)) (some_same (host_plan hosts site m.users m.groups start here.1) plan plan_at) (plan_ready keep start here.1 (distinct 0 here.0 here.1 refl)))
+      subst (IsReady plan) (same_Some (new_tree_of keep here.1) tree tree_at)
+      (subst (λ p. IsReady p (new_tree_of keep here.1)) (same_Some (host_plan hosts site m.users m.groups start here.1) plan plan_at) (plan_ready keep start here.1 (distinct 0 here.0 here.1 refl)))
   plans_ready keep start (here ∷ more) distinct (suc h) plan tree plan_at tree_at = plans_ready keep (start + 1) more (λ k host files at. distinct (suc k) host files at) h plan tree plan_at tree_at
 
 -- the plans of a site

@@ -3,8 +3,8 @@ use Rattle.std.proofs.Common.{◌≡◌, ℕ, ◌≤◌, List, [], ◌∷◌, �
 use Rattle.std.specs.List.{All, slice_get}
 use Rattle.std.proofs.lemmas.List.{length-map}
 use Rattle.std.proofs.lemmas.List.Elements.{All-head}
-use Rattle.std.proofs.lemmas.Option.{slice_get-map, slice_get_within}
 use Rattle.std.specs.Option.{option_map}
+use Rattle.std.proofs.lemmas.Option.{same_Some, slice_get-map, slice_get_within}
 use Rattle.idtext.specs.First.{each}
 use Rattle.idtext.specs.declared.faults.TextFault.{TextFault}
 use Rattle.idtext.proofs.OkLemmas.{bind_ok, ok_same}
@@ -27,17 +27,16 @@ use Rattle.unify.specs.Others.{others_loaded, pinned_site}
 use Rattle.unify.specs.Passes.{BegunSite, is_read, lines_of, site_begun}
 use Rattle.unify.specs.SecondPass.{or_changed, owned_lines, second_lines}
 use Rattle.unify.specs.Survey.{inventory_of, listed_of}
-use Rattle.unify.specs.Texts.{mtrees}
 use Rattle.unify.specs.Told.{in_file, in_site}
-use Rattle.unify.proofs.Agreeing.{item_at}
-use Rattle.unify.proofs.OnePiece.{accepted_at, lines_refused, read_refused, refused_at}
 use Rattle.unify.proofs.Owners.{files_read}
 use Rattle.unify.proofs.PlanTurns.{first_none, lines_with}
 use Rattle.unify.proofs.ReadSites.{as-many-others}
 use Rattle.unify.proofs.SecondPasses.{lines_known}
-use Rattle.unify.proofs.SiteRuns.{some_same}
 use Rattle.unify.proofs.Surveys.{list_refused_at}
 use Rattle.unify.proofs.Whole.{hosts_held}
+use Rattle.unify_laws.specs.Texts.{mtrees}
+use Rattle.unify_laws.proofs.Agreeing.{item_at}
+use Rattle.unify_laws.proofs.OnePiece.{accepted_at, lines_refused, read_refused, refused_at}
 use Rattle.unify_merge.specs.FirstReading.{HasRead, IsFirstFault, IsInventoryFault, IsReading, readings_from, with_inventories}
 use Rattle.unify_merge.specs.Ledger.{Ledger, Reading, nothing}
 use Rattle.unify_merge.specs.Merge.{AreInventories, IsSecondFault}
@@ -221,7 +220,7 @@ module _ (hosts : List HostText) (all : List (List ℕ)) where
       accepted : files_of (record { host = host; mtree = whole.0 }) ≡ Ok files
       accepted =
           let at = accepted_at begun.hosts first read (length texts) host whole.0 was.accepted host_here whole.1 in
-          let same : (host, at.0) ≡ (host, files) = some_same (host, at.0) (host, files) (sym at.2 ∙ here) in
+          let same : (host, at.0) ≡ (host, files) = same_Some (host, at.0) (host, files) (sym at.2 ∙ here) in
           at.1 ∙ (λ j. Ok (same j).1)
 
       read_first : (more : List Reading) → new.read ≡ behind ++ more → All (IsOf all) (readings_from 0 first)

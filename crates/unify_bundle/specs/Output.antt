@@ -27,7 +27,6 @@ use Rattle.unify_bundle.specs.declared.input.ReadFault.{ReadFault}
 use Rattle.unify_bundle.specs.declared.input.ReadFault.TheVariants.{Read, Memory}
 use Rattle.unify.specs.Checking.{verified}
 use Rattle.unify.specs.Count.{count_of}
-use Rattle.unify.specs.HostTexts.{AreSiteFiles}
 use Rattle.unify_bundle.specs.Lines.{cost_lines, accepted_line, records_lines, merge_lines}
 use Rattle.unify_bundle.specs.Lines.{site_lines}
 use Rattle.unify.specs.Outcomes.{IsOutcome}
@@ -35,6 +34,7 @@ use Rattle.unify.specs.Reading.{WholeSite, site_read}
 use Rattle.unify.specs.Rehearsing.{IsRehearsed}
 use Rattle.unify.specs.Rules.{rules_by}
 use Rattle.unify.specs.Survey.{surveyed}
+use Rattle.unify_laws.specs.HostTexts.{AreSiteFiles}
 
 -- the text of a file, empty where there is none
 abbrev pub text_in : List NamedFile → FileName → List ℕ

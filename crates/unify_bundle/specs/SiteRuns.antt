@@ -6,10 +6,10 @@ use Rattle.reown_runner.specs.declared.memory.Keep.{Keep}
 use Rattle.reown_runner.specs.Campaign.{EachGoes, is_done}
 use Rattle.reown_runner.specs.Memory.{known_mem}
 use Rattle.reown_runner.specs.RunnerData.{RunnerData}
-use Rattle.unify.specs.Headline.{Headline}
 use Rattle.unify.specs.Outcomes.{IsOutcome}
 use Rattle.unify.specs.Reading.{WholeSite}
-use Rattle.unify.specs.SiteRuns.{DoneKeepsNames, EachIsOldOrNamed, new_world}
+use Rattle.unify_laws.specs.Headline.{Headline}
+use Rattle.unify_laws.specs.SiteRuns.{DoneKeepsNames, EachIsOldOrNamed, new_world}
 use Rattle.unify_bundle.specs.declared.rehearsing_site.SiteRun.{SiteRun}
 
 -- A site that was merged, and whose plans went on as far as these events lead, each host by its

@@ -10,7 +10,7 @@ ghost use Rattle.reown_runner.specs.Campaign.{host_of, is_done};
 ghost use Rattle.unify_texts.specs.Told.{told};
 ghost use Rattle.unify_bundle.specs.Carrying.{AreInventoriesOf, AreReady, AreCarriedOut};
 ghost use Rattle.unify_bundle.specs.Carrying.{AreSpelledFor, new_tree_of};
-ghost use Rattle.unify.specs.Laws.{IsWhole};
+ghost use Rattle.unify.specs.Whole.{IsWhole};
 ghost use Rattle.unify.specs.Outcomes.{IsOutcome};
 ghost use Rattle.unify.specs.Reading.{WholeSite, site_read};
 ghost use Rattle.unify_bundle.specs.SiteRuns.{IsSiteRun};

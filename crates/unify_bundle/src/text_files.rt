@@ -35,7 +35,7 @@ pub struct TextFiles<'a> {
 }
 
 impl<'a> Model for TextFiles<'a> {
-    ghost use Rattle.unify.specs.Texts.{mtrees};
+    ghost use Rattle.unify_laws.specs.Texts.{mtrees};
     ghost use Rattle.unify_bundle.specs.TextFiles.{TextFilesValue, Holds, open_file};
 
     ghost Value = { TextFilesValue };
@@ -93,7 +93,7 @@ impl<'a> TextFiles<'a> {
     ghost use Rattle.unify_merge.specs.Ledger.{nothing};
     ghost use Rattle.unify_bundle.specs.TextFiles.{ReadsTexts, ledger_of};
     ghost use Rattle.unify_bundle.specs.Answers as spec;
-    ghost use Rattle.unify.specs.Texts.{mtrees};
+    ghost use Rattle.unify_laws.specs.Texts.{mtrees};
 
     /// Nothing is written as yet. No cost.
     pub fn new(alloc: Global, hosts: &'a [HostText]) -> TextFiles<'a>

@@ -5,11 +5,11 @@ ghost use Rattle.idtext.specs.First.{Gives, Yields};
 ghost use Rattle.unify_texts.specs.Told.{told};
 ghost use Rattle.unify.specs.Checking.{IsVerified, verified};
 ghost use Rattle.unify.specs.Count.{count_of};
-ghost use Rattle.unify.specs.Headline.{Headline};
-ghost use Rattle.unify.specs.HostTexts.{AreSiteFiles};
 ghost use Rattle.unify.specs.Outcomes.{IsOutcome};
 ghost use Rattle.unify.specs.Reading.{site_read};
 ghost use Rattle.unify.specs.Survey.{surveyed};
+ghost use Rattle.unify_laws.specs.Headline.{Headline};
+ghost use Rattle.unify_laws.specs.HostTexts.{AreSiteFiles};
 
 use crate::site_files::with_files;
 use crate::text_files::TextFiles;

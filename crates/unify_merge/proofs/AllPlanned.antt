@@ -2,14 +2,13 @@
 use Rattle.std.proofs.Common.{◌≡◌, ◌<◌, ◌++◌, ◌∷◌, [], ℕ, zero, suc, Bool, List, length, map, Some, sym, ap, subst, ◌∙◌, arith}
 use Rattle.std.specs.List.{slice_get}
 use Rattle.std.proofs.lemmas.List.{length-map}
-use Rattle.std.proofs.lemmas.Option.{slice_get_within}
+use Rattle.std.proofs.lemmas.Option.{same_Some, slice_get_within}
 use Rattle.mtree_inv.specs.declared.entry.Entry.{Entry}
 use Rattle.hosts_join.specs.declared.host.Host.{Host}
 use Rattle.hosts_join.specs.declared.texts.HostText.{HostText}
 use Rattle.unify_texts.specs.Told.{told}
 use Rattle.unify.specs.SecondPass.{IsFresh, IsOfSameSite, SolvedValue, ended_in, first_in, whole_plan}
-use Rattle.unify.proofs.Agreeing.{item_at}
-use Rattle.unify.proofs.SiteRuns.{some_same}
+use Rattle.unify_laws.proofs.Agreeing.{item_at}
 use Rattle.unify_merge.specs.Ledger.{Ledger}
 use Rattle.unify_merge.specs.FirstReading.{readings_from}
 use Rattle.unify_merge.specs.SecondReading.{ArePlanned, IsChangeFault, IsTurnOf, PlannedSoFar, StopsPlanning, StopsSecond, WereRead}
@@ -20,7 +19,7 @@ use Rattle.unify_merge.proofs.Stops.{if_told}
 mapped_at : {A B : Type 0} (f : A → B) (xs : List A) (k : ℕ) (x : A) → slice_get xs k ≡ Some x → slice_get (map f xs) k ≡ Some (f x)
 mapped_at f [] k x at = absurd (cc)
 mapped_at f (y ∷ ys) zero x at =
-    let same : y ≡ x = some_same y x at in
+    let same : y ≡ x = same_Some y x at in
     ap (λ z. Some (f z)) same
 mapped_at f (y ∷ ys) (suc k) x at = mapped_at f ys k x at
 
@@ -84,7 +83,7 @@ all_planned names s read index old new so_far was all = record {
           let within : k < index = omega (arith, slice_get_within so_far.site.again k (host, files) at, so_far.site.again_are) in
           let here = item_at read k (omega (arith, within, all, read_len s read was)) in
           let it = so_far.site.each_host k here.0.0 here.0.1 within here.1 in
-          let pair : (here.0.0, it.1) ≡ (host, files) = some_same (here.0.0, it.1) (host, files) (sym it.3 ∙ at) in
+          let pair : (here.0.0, it.1) ≡ (host, files) = same_Some (here.0.0, it.1) (host, files) (sym it.3 ∙ at) in
           it.4 ∙ (λ j. Some (whole_plan (pair j).0 s.joined s.merged k (pair j).1));
     };
   };

@@ -6,10 +6,10 @@ use Rattle.hosts_join.specs.Site.{Joined}
 use Rattle.hosts_join.specs.declared.host.Host.{Host}
 use Rattle.hosts_join.specs.declared.texts.HostText.{HostText}
 use Rattle.ownership.specs.Mappings.{Mappings}
-use Rattle.unify.specs.HostTexts.{host_files}
 use Rattle.unify.specs.Passes.{BegunSite}
 use Rattle.unify.specs.declared.outcome.Outcome.{Outcome}
 use Rattle.unify.specs.declared.site_files.NamedText.{NamedText}
+use Rattle.unify_laws.specs.HostTexts.{host_files}
 use Rattle.unify_merge.specs.Ledger.{BrokeOff, HasBegun, Ledger}
 use Rattle.unify_merge.specs.HostFiles.{host_names}
 use Rattle.unify_merge.specs.Merge.{files_before_report, first_files, first_names, names_before_report}

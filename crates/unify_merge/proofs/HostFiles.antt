@@ -3,13 +3,13 @@ use Rattle.std.proofs.Common.{◌≡◌, ◌++◌, ◌∷◌, [], ℕ, zero, suc
 use Rattle.std.specs.Prelude.{OnOk}
 use Rattle.std.specs.List.{slice_get}
 use Rattle.std.proofs.lemmas.List.{map-append}
+use Rattle.std.proofs.lemmas.Option.{same_Some}
 use Rattle.hosts_join.specs.Site.{Joined}
 use Rattle.hosts_join.specs.declared.host.Host.{Host}
 use Rattle.hosts_join.specs.declared.texts.HostText.{HostText}
 use Rattle.ownership.specs.Mappings.{Mappings}
-use Rattle.unify.specs.HostTexts.{group_file, host_files, passwd_file}
-use Rattle.unify.proofs.SiteRuns.{some_same}
 use Rattle.unify.specs.declared.site_files.NamedText.{NamedText}
+use Rattle.unify_laws.specs.HostTexts.{group_file, host_files, passwd_file}
 use Rattle.unify_merge.specs.Ledger.{Ledger, after_files}
 use Rattle.unify_merge.specs.HostFiles.{HasFiles}
 
@@ -52,8 +52,8 @@ pub host_files_from : (site : Joined) (m : Mappings) (texts : List HostText) (ho
 host_files_from site m [] hosts k text host at there = absurd (cc)
 host_files_from site m (t ∷ texts) [] k text host at there = absurd (cc)
 host_files_from site m (t ∷ texts) (h ∷ hosts) zero text host at there =
-    let same_text : t ≡ text = some_same t text at in
-    let same_host : h ≡ host = some_same h host there in
+    let same_text : t ≡ text = same_Some t text at in
+    let same_host : h ≡ host = same_Some h host there in
     λ j. passwd_file (same_host j) site m (same_text j) ∷ group_file site m (same_text j) ∷ host_files site m texts hosts
 host_files_from site m (t ∷ texts) (h ∷ hosts) (suc k) text host at there =
     let both : List NamedText → List NamedText = λ fs. passwd_file h site m t ∷ group_file site m t ∷ fs in

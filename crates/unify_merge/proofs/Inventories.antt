@@ -25,7 +25,7 @@ use Rattle.unify.specs.Passes.{BegunSite, site_begun}
 use Rattle.unify.specs.Reading.{site_read}
 use Rattle.unify.specs.Told.{in_file, in_site}
 use Rattle.unify.proofs.Adding.{loaded_hosts}
-use Rattle.unify.proofs.TwoPasses.{first-step, site_is}
+use Rattle.unify_laws.proofs.TwoPasses.{first-step, site_is}
 use Rattle.unify_merge.specs.FirstReading.{with_inventories}
 
 -- ---- the list of hosts

@@ -3,7 +3,7 @@ use Rattle.std.proofs.Common.{◌≡◌, ◌≤◌, ◌<◌, ◌+◌, ◌++◌, 
 use Rattle.std.specs.Prelude.{◌⊎◌}
 use Rattle.std.specs.List.{slice_get}
 use Rattle.std.proofs.lemmas.List.{drop_all}
-use Rattle.std.proofs.lemmas.Option.{slice_get_within}
+use Rattle.std.proofs.lemmas.Option.{same_Some, slice_get_within}
 use Rattle.idtext.specs.First.{each}
 use Rattle.mtree_inv.specs.declared.entry.Entry.{Entry}
 use Rattle.hosts_join.specs.declared.host.Host.{Host}
@@ -13,8 +13,6 @@ use Rattle.unify.specs.declared.outcome.Outcome.{Outcome}
 use Rattle.unify.specs.declared.rules.SiteRules.{SiteRules}
 use Rattle.unify.specs.declared.site_files.NamedText.{NamedText}
 use Rattle.unify.specs.Count.{site_of}
-use Rattle.unify.specs.Headline.{Headline}
-use Rattle.unify.specs.HostTexts.{host_files}
 use Rattle.unify.specs.Loading.{loaded_from}
 use Rattle.unify.specs.Merging.{mappings_in}
 use Rattle.unify.specs.Outcomes.{IsOutcome}
@@ -22,15 +20,16 @@ use Rattle.unify.specs.Passes.{BegunSite}
 use Rattle.unify.specs.Reading.{WholeSite}
 use Rattle.unify.specs.Rules.{rules_by}
 use Rattle.unify.specs.SecondPass.{SolvedValue, whole_plan}
-use Rattle.unify.proofs.Agreeing.{item_at}
-use Rattle.unify.proofs.OwnFiles.{same_mappings}
-use Rattle.unify.proofs.SecondReading.{second_reading_is_believed, second_reading_is_right}
-use Rattle.unify.proofs.SiteRuns.{some_same}
+use Rattle.unify_laws.specs.Headline.{Headline}
+use Rattle.unify_laws.specs.HostTexts.{host_files}
+use Rattle.unify_laws.proofs.Agreeing.{item_at}
+use Rattle.unify_laws.proofs.SecondReading.{second_reading_is_believed, second_reading_is_right}
 use Rattle.unify_merge.specs.Ledger.{BrokeOff, HasBegun, Ledger, after_files, cleared}
 use Rattle.unify_merge.specs.FirstReading.{ReadsOnly, readings_from}
 use Rattle.unify_merge.specs.SecondReading.{ArePlanned, PlansBrokeOff, WereRead, plan_files, plan_name, plans_from}
 use Rattle.unify_merge.specs.Merge.{HasSolved, Leaves, MergeBrokeOff, WritingBrokeOff, files_before_report, first_files, keeps_in, names_before_report}
 use Rattle.unify_merge.specs.Surveyed.{LeavesFiles, WereFound}
+use Rattle.unify_merge.proofs.OwnFiles.{same_mappings}
 use Rattle.unify_merge.proofs.AllPlanned.{read_len}
 use Rattle.unify_merge.proofs.Begun.{begun_broken, begun_from, begun_none, names_of_files}
 use Rattle.unify_merge.proofs.BreakingOff.{broken_as, broken_behind, broken_front, broken_plan, files_reading, reading_as, reads_same}
@@ -51,7 +50,7 @@ plan_files_from : (names : List HostText) (plans more : List (List ℕ)) (name :
     → plan_files names (plans ++ plan ∷ more) ≡ plan_files names plans ++ (record { name = plan_name name; text = plan } ∷ plan_files (drop (suc (length plans)) names) more)
 plan_files_from [] plans more name plan here = absurd (cc)
 plan_files_from (n ∷ names) [] more name plan here =
-    let same : n ≡ name = some_same n name here in
+    let same : n ≡ name = same_Some n name here in
     let named : HostText → List NamedText = λ x. record { name = plan_name x; text = plan } ∷ plan_files names more in
     ap named same
 plan_files_from (n ∷ names) (p ∷ plans) more name plan here =

@@ -3,6 +3,7 @@ pub mod Stops
 pub mod Readings
 pub mod Changes
 pub mod Writing
+pub mod OwnFiles
 pub mod HostFiles
 pub mod Planned
 pub mod AllPlanned
@@ -11,6 +12,7 @@ pub mod ReadLast
 pub mod Leaving
 pub mod WholeMerge
 pub mod Inventories
+pub mod Verified
 pub mod WholeCheck
 pub mod WholeCount
 pub mod Surveyed

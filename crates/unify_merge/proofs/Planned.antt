@@ -3,6 +3,7 @@ use Rattle.std.proofs.Common.{◌≡◌, ◌+◌, ◌<◌, ◌++◌, ◌∷◌, 
 use Rattle.std.specs.Prelude.{◌⊎◌}
 use Rattle.std.specs.List.{slice_get}
 use Rattle.std.proofs.lemmas.List.{map-append}
+use Rattle.std.proofs.lemmas.Option.{same_Some}
 use Rattle.idtext.specs.First.{each}
 use Rattle.mtree_inv.specs.declared.entry.Entry.{Entry}
 use Rattle.hosts_join.specs.declared.host.Host.{Host}
@@ -13,11 +14,10 @@ use Rattle.unify.specs.Count.{site_of}
 use Rattle.unify.specs.Hosts.{files_of}
 use Rattle.unify.specs.Loading.{loaded_from}
 use Rattle.unify.specs.SecondPass.{IsOfSameSite, SolvedValue, ended_in, or_changed, whole_plan}
-use Rattle.unify.proofs.OnePiece.{at_end, at_front}
 use Rattle.unify.proofs.Passing.{each_push, loaded_push}
-use Rattle.unify.proofs.SiteRuns.{some_same}
 use Rattle.unify.proofs.Sites.{site_given}
 use Rattle.unify.specs.declared.site_files.NamedText.{NamedText}
+use Rattle.unify_laws.proofs.OnePiece.{at_end, at_front}
 use Rattle.unify_merge.specs.Ledger.{Ledger, Reading, after_files}
 use Rattle.unify_merge.specs.SecondReading.{ArePlannedFirst, HasPlan, IsReadAgain, PlannedSoFar, plan_files, plan_name}
 use Rattle.unify_merge.proofs.Readings.{read_more}
@@ -123,7 +123,7 @@ one_planned names s now read index name host were old mid new so_far site ended 
         let made = whole_plan host s.joined s.merged index plan.files in
         let again_at = at_end so_far.site.again (host, plan.files) k (omega (arith, same, so_far.site.again_are)) in
         let plan_at = at_end so_far.site.plans made k (omega (arith, same, so_far.site.plans_are)) ∙ ap (λ i. Some (whole_plan host s.joined s.merged i plan.files)) (sym same) in
-        let pair : (host, were) ≡ (other, others) = some_same (host, were) (other, others) (sym there ∙ ap (λ i. slice_get read i) (sym same) ∙ at) in
+        let pair : (host, were) ≡ (other, others) = same_Some (host, were) (other, others) (sym there ∙ ap (λ i. slice_get read i) (sym same) ∙ at) in
         subst (λ (p : Host × List Entry). (text : List ℕ) × (files : List Entry) × IsReadAgain p.0 p.1 text files × (slice_get (so_far.site.again ++ (host, plan.files) ∷ []) k ≡ Some (p.0, files))
         × (slice_get (so_far.site.plans ++ made ∷ []) k ≡ Some (whole_plan p.0 s.joined s.merged k files))) pair (plan.text, plan.files, plan.again, again_at, plan_at)
     earlier k other others at (inr less) =

@@ -2,7 +2,7 @@
 use Rattle.std.proofs.Common.{◌≡◌, ◌≤◌, ◌<◌, ◌+◌, ◌-◌, ◌++◌, ◌∷◌, [], ℕ, zero, suc, List, length, drop, Some, Result, Ok, refl, sym, ap, ◌∙◌, arith, inl, inr, ⊎_elim, length-append, length-drop}
 use Rattle.std.specs.Prelude.{◌⊎◌}
 use Rattle.std.specs.List.{slice_get}
-use Rattle.std.proofs.lemmas.Option.{slice_get_within}
+use Rattle.std.proofs.lemmas.Option.{same_Some, slice_get_within}
 use Rattle.idtext.specs.First.{◌>>=◌, each}
 use Rattle.idtext.proofs.OkLemmas.{bind_ok, ok_same}
 use Rattle.mtree_inv.specs.declared.entry.Entry.{Entry}
@@ -10,11 +10,10 @@ use Rattle.hosts_join.specs.declared.host.Host.{Host}
 use Rattle.unify.specs.Count.{site_of}
 use Rattle.unify.specs.Loading.{loaded_from}
 use Rattle.unify.specs.SecondPass.{SolvedValue, or_changed, second_files, whole_plan}
-use Rattle.unify.specs.TwoPasses.{AreReadAgain, AreWholePlans}
-use Rattle.unify.proofs.Agreeing.{item_at}
-use Rattle.unify.proofs.OnePiece.{accepted_at}
-use Rattle.unify.proofs.SiteRuns.{some_same}
 use Rattle.unify.specs.RowFiles.{row_files}
+use Rattle.unify_laws.specs.TwoPasses.{AreReadAgain, AreWholePlans}
+use Rattle.unify_laws.proofs.Agreeing.{item_at}
+use Rattle.unify_laws.proofs.OnePiece.{accepted_at}
 use Rattle.unify_merge.specs.SecondReading.{ArePlannedFirst, IsPlannedAgain, WereRead, plans_from}
 use Rattle.unify_merge.proofs.AllPlanned.{host_at, read_len}
 
@@ -43,7 +42,7 @@ at_drop (suc n) (x ∷ xs) j (suc k) same = at_drop n xs j k (omega (arith, same
 pub drop_from : {A : Type 0} (xs : List A) (k : ℕ) (x : A) → slice_get xs k ≡ Some x → drop k xs ≡ x ∷ drop (suc k) xs
 drop_from [] k x here = absurd (cc)
 drop_from (y ∷ xs) zero x here =
-    let same : y ≡ x = some_same y x here in
+    let same : y ≡ x = same_Some y x here in
     ap (λ z. z ∷ xs) same
 drop_from (y ∷ xs) (suc k) x here = drop_from xs k x here
 
@@ -93,7 +92,7 @@ length-plans_from s index (h ∷ hosts) = ap suc (length-plans_from s (index + 1
 plans_at : (s : SolvedValue) (index : ℕ) (hosts : List (Host × List Entry)) (j k : ℕ) (host : Host) (files : List Entry) → k ≡ index + j → slice_get hosts j ≡ Some (host, files) → slice_get (plans_from s index hosts) j ≡ Some (whole_plan host s.joined s.merged k files)
 plans_at s index [] j k host files same at = absurd (cc)
 plans_at s index (h ∷ hosts) zero k host files same at =
-    let pair : h ≡ (host, files) = some_same h (host, files) at in
+    let pair : h ≡ (host, files) = same_Some h (host, files) at in
     let equal : index ≡ k = omega (arith, same) in
     λ i. Some (whole_plan (pair i).0 s.joined s.merged (equal i) (pair i).1)
 plans_at s index (h ∷ hosts) (suc j) k host files same at = plans_at s (index + 1) hosts j k host files (omega (arith, same)) at
@@ -151,7 +150,7 @@ module _ (s : SolvedValue) (first : List (List ℕ)) (read : List (Host × List 
       by k host were at (inr more) =
           let text = item_at first k (omega (arith, slice_get_within read k (host, were) at, read_len s read was, one_each)) in
           let it = accepted_at s.hosts first read k host text.0 accepted (host_at s read k host were was at) text.1 in
-          let pair : (host, it.0) ≡ (host, were) = some_same (host, it.0) (host, were) (sym it.2 ∙ at) in
+          let pair : (host, it.0) ≡ (host, were) = same_Some (host, it.0) (host, were) (sym it.2 ∙ at) in
           (text.0, were, ap (or_changed host) it.1 ∙ ap (λ (p : Host × List Entry). Ok p.1) pair, refl, past k more ∙ at)
 
   abbrev plans_last : List (List ℕ)
@@ -167,7 +166,7 @@ module _ (s : SolvedValue) (first : List (List ℕ)) (read : List (Host × List 
       by k host files at (inl less) =
           let once = item_at read k (omega (arith, less, within, read_len s read was)) in
           let it = site.each_host k once.0.0 once.0.1 less once.1 in
-          let pair : (once.0.0, it.1) ≡ (host, files) = some_same (once.0.0, it.1) (host, files) (sym (at_first site.again (drop index read) k (once.0.0, it.1) it.3) ∙ at) in
+          let pair : (once.0.0, it.1) ≡ (host, files) = same_Some (once.0.0, it.1) (host, files) (sym (at_first site.again (drop index read) k (once.0.0, it.1) it.3) ∙ at) in
           at_first site.plans (plans_from s index (drop index read)) k (whole_plan once.0.0 s.joined s.merged k it.1) it.4 ∙ (λ j. Some (whole_plan (pair j).0 s.joined s.merged k (pair j).1))
       by k host files at (inr more) =
           let there = sym (at_second site.again (drop index read) k (k - index) (omega (arith, more, site.again_are))) ∙ at in

@@ -16,12 +16,12 @@ use Rattle.unify.specs.Loading.{loaded_from}
 use Rattle.unify.specs.Passes.{BegunSite, site_begun}
 use Rattle.unify.specs.Reading.{WholeSite, site_read}
 use Rattle.unify.specs.Told.{in_certificate}
-use Rattle.unify.proofs.Verified.{answer_of_site, cost_means}
 use Rattle.unify_merge.specs.Check.{HasChecked, StopsCheck}
 use Rattle.unify_merge.specs.FirstReading.{IsInventoryFault, StopsCounting, WereEachRead, readings_from, with_inventories}
 use Rattle.unify_merge.specs.Ledger.{Ledger}
 use Rattle.unify_merge.specs.declared.fault.MergeFault.{MergeFault}
 use Rattle.unify_merge.specs.declared.fault.MergeFault.TheVariants.{Failed, TooLarge, Refused}
+use Rattle.unify_merge.proofs.Verified.{answer_of_site, cost_means}
 use Rattle.unify_merge.proofs.Inventories.{read-with}
 use Rattle.unify_merge.proofs.Stops.{if_told}
 

@@ -11,7 +11,7 @@ use Rattle.unify.specs.Costing.{BegunCost, cost_begun}
 use Rattle.unify.specs.Count.{site_of, total_of}
 use Rattle.unify.specs.Loading.{loaded_from}
 use Rattle.unify.specs.Passes.{InventoriesValue, behind, read_in}
-use Rattle.unify.proofs.CountSteps.{count_behind}
+use Rattle.unify_laws.proofs.CountPasses.{count_behind}
 use Rattle.unify_merge.specs.Count.{HasCounted, StopsCount}
 use Rattle.unify_merge.specs.FirstReading.{IsInventoryFault, StopsCounting, readings_from, with_inventories}
 use Rattle.unify_merge.specs.Ledger.{Ledger}

@@ -17,9 +17,7 @@ use Rattle.unify.specs.declared.counting.Cost.{Cost}
 use Rattle.unify.specs.declared.outcome.Outcome.{Outcome}
 use Rattle.unify.specs.declared.rules.SiteRules.{SiteRules}
 use Rattle.unify.specs.Count.{site_of}
-use Rattle.unify.specs.Headline.{Headline}
-use Rattle.unify.specs.HostTexts.{AreJoinedInFull, host_files}
-use Rattle.unify.specs.Laws.{IsWhole}
+use Rattle.unify.specs.Whole.{IsWhole}
 use Rattle.unify.specs.Loading.{loaded_from}
 use Rattle.unify.specs.Merging.{IsMerged, mappings_in}
 use Rattle.unify.specs.Outcomes.{IsOutcome}
@@ -27,10 +25,11 @@ use Rattle.unify.specs.Passes.{AreTogether, BegunSite, InventoriesValue, behind,
 use Rattle.unify.specs.Reading.{WholeSite}
 use Rattle.unify.specs.SecondPass.{IsSolvedFrom, SolvedValue, at_start, ended_in, first_in}
 use Rattle.unify.proofs.BetweenPasses.{over_whole}
-use Rattle.unify.proofs.HostTexts.{begun_sites_are_in_full, empty_texts_keep_no_name, tables_are_of_texts, text_keeps}
-use Rattle.unify.proofs.OwnFiles.{same_mappings}
-use Rattle.unify.proofs.SecondReading.{second_reading_is_believed, second_reading_is_right, still_whole}
 use Rattle.unify.proofs.Whole.{hosts_held}
+use Rattle.unify_laws.specs.Headline.{Headline}
+use Rattle.unify_laws.specs.HostTexts.{AreJoinedInFull, host_files}
+use Rattle.unify_laws.proofs.HostTexts.{begun_sites_are_in_full, empty_texts_keep_no_name, tables_are_of_texts, text_keeps}
+use Rattle.unify_laws.proofs.SecondReading.{second_reading_is_believed, second_reading_is_right, still_whole}
 use Rattle.unify_merge.specs.Ledger.{Ledger, Reading, after_files, cleared}
 use Rattle.unify_merge.specs.FirstReading.{IsInventoryFault, ReadsOnly, StopsCounting, readings_from}
 use Rattle.unify_merge.specs.HostFiles.{HasFiles, StopsWriting}
@@ -38,6 +37,7 @@ use Rattle.unify_merge.specs.SecondReading.{IsChangeFault, StopsPlanning, plan_f
 use Rattle.unify_merge.specs.Merge.{HasMade, HasMerged, HasSolved, HasWritten, StopsMerge, first_files, keeps_begun, keeps_in, merged_files, report_file}
 use Rattle.unify_merge.specs.declared.fault.MergeFault.{MergeFault}
 use Rattle.unify_merge.specs.declared.fault.MergeFault.TheVariants.{Failed, TooLarge, Refused}
+use Rattle.unify_merge.proofs.OwnFiles.{same_mappings}
 use Rattle.unify_merge.proofs.Planned.{files_more}
 use Rattle.unify_merge.proofs.Stops.{if_told}
 

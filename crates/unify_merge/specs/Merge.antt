@@ -15,14 +15,14 @@ use Rattle.unify.specs.declared.outcome.Outcome.{Outcome}
 use Rattle.unify.specs.declared.rules.SiteRules.{SiteRules}
 use Rattle.unify.specs.declared.site_files.NamedText.{NamedText}
 use Rattle.unify.specs.Count.{site_of}
-use Rattle.unify.specs.Headline.{Headline}
-use Rattle.unify.specs.HostTexts.{AreJoinedInFull, EachKeepsOwnFiles, host_files}
-use Rattle.unify.specs.Laws.{IsWhole}
+use Rattle.unify.specs.Whole.{IsWhole}
 use Rattle.unify.specs.Loading.{loaded_from}
 use Rattle.unify.specs.Merging.{IsMerged, mappings_in}
 use Rattle.unify.specs.Outcomes.{IsOutcome}
 use Rattle.unify.specs.Passes.{BegunSite, site_begun}
 use Rattle.unify.specs.SecondPass.{IsFresh, SolvedValue, ended_in}
+use Rattle.unify_laws.specs.Headline.{Headline}
+use Rattle.unify_laws.specs.HostTexts.{AreJoinedInFull, EachKeepsOwnFiles, host_files}
 use Rattle.unify_merge.specs.Ledger.{BrokeOff, Ledger, after_files, cleared}
 use Rattle.unify_merge.specs.FirstReading.{IsInventoryFault, IsTooLarge, ReadsOnly, readings_from}
 use Rattle.unify_merge.specs.HostFiles.{host_names}

@@ -14,8 +14,8 @@ use Rattle.unify.specs.Loading.{loaded_from}
 use Rattle.unify.specs.Passes.{is_read}
 use Rattle.unify.specs.SecondPass.{HaveSameCounts, IsFresh, SolvedValue, WereFirst, ended_in}
 use Rattle.unify.specs.SecondPass.{first_in, second_files, second_lines, whole_plan}
-use Rattle.unify.specs.TwoPasses.{AreReadAgain, AreWholePlans}
 use Rattle.unify.specs.declared.site_files.NamedText.{NamedText}
+use Rattle.unify_laws.specs.TwoPasses.{AreReadAgain, AreWholePlans}
 use Rattle.unify_merge.specs.Ledger.{HasBegun, Ledger, Reading, after_files}
 use Rattle.unify_merge.specs.FirstReading.{HasRead, IsReading, IsTooLarge, readings_from}
 use Rattle.unify_merge.specs.declared.fault.MergeFault.{MergeFault}

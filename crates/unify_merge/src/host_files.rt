@@ -3,8 +3,8 @@
 ghost use Rattle.std.specs.Prelude.{◌≡◌, ◌<◌, ◌++◌, ◌∷◌, [], length, true, Some, slice_get};
 ghost use Rattle.std.specs.Prelude.{OnOk, IfErr, OnErr};
 ghost use Rattle.hosts_join.specs.declared.host.Host.{Host};
-ghost use Rattle.unify.specs.HostTexts.{group_file, host_files, passwd_file};
 ghost use Rattle.unify.specs.Merging.{mappings_in};
+ghost use Rattle.unify_laws.specs.HostTexts.{group_file, host_files, passwd_file};
 ghost use Rattle.unify_merge.specs.Ledger.{BrokeOff, after_files};
 ghost use Rattle.unify_merge.specs.HostFiles.{HasFiles, StopsWriting};
 

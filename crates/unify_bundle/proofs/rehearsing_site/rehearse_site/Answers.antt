@@ -1,6 +1,6 @@
 use Rattle.unify.specs.Reading.{site_read}
+use Rattle.unify_laws.proofs.WholeSites.{read_sites_are_whole}
 use Rattle.unify_bundle.specs.SiteRuns.{IsSiteRun}
-use Rattle.unify.proofs.ReadSites.{read_sites_are_whole}
 use Rattle.unify_bundle.proofs.RunSites.{inventories_there, yielded}
 use Rattle.unify_bundle.proofs.rehearsing_site.rehearse_site.Goals as goal
 

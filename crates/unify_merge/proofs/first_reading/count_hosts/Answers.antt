@@ -3,8 +3,8 @@ use Rattle.std.specs.List.{slice_get}
 use Rattle.std.proofs.lemmas.Result.{err_from_is_err_and}
 use Rattle.hosts_join.specs.declared.host.Host.{Host}
 use Rattle.unify.specs.Passes.{InventoriesValue, behind, ended_in, read_in}
-use Rattle.unify.proofs.Agreeing.{item_at}
 use Rattle.unify.proofs.Passing.{none_read}
+use Rattle.unify_laws.proofs.Agreeing.{item_at}
 use Rattle.unify_merge.proofs.Readings.{counting_stopped, first_same, read_more, reads_on}
 use Rattle.unify_merge.proofs.first_reading.count_hosts.Goals as goal
 

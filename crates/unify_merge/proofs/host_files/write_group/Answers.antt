@@ -1,6 +1,6 @@
 use Rattle.std.proofs.Common.{◌∷◌, [], refl}
-use Rattle.unify.specs.HostTexts.{group_file}
 use Rattle.unify.specs.Merging.{mappings_in}
+use Rattle.unify_laws.specs.HostTexts.{group_file}
 use Rattle.unify_merge.specs.Ledger.{BrokeOff}
 use Rattle.unify_merge.proofs.Begun.{on_err}
 use Rattle.unify_merge.proofs.BreakingOff.{broken_none}

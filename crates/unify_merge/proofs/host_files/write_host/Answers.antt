@@ -2,9 +2,9 @@ use Rattle.std.proofs.Common.{◌≡◌, ◌∷◌, [], Some, ap, ◌∙◌}
 use Rattle.std.specs.List.{slice_get}
 use Rattle.hosts_join.specs.declared.host.Host.{Host}
 use Rattle.unify.specs.Merging.{mappings_in}
-use Rattle.unify.proofs.Agreeing.{item_at}
+use Rattle.unify_laws.specs.HostTexts.{group_file, passwd_file}
+use Rattle.unify_laws.proofs.Agreeing.{item_at}
 use Rattle.unify_merge.specs.Ledger.{BrokeOff, Ledger, after_files}
-use Rattle.unify.specs.HostTexts.{group_file, passwd_file}
 use Rattle.unify_merge.proofs.Begun.{on_err, on_err_goes}
 use Rattle.unify_merge.proofs.BreakingOff.{broken_behind, broken_front, wrote}
 use Rattle.unify_merge.proofs.HostFiles.{files_behind, on_ok_goes}

@@ -1,15 +1,15 @@
 use Rattle.std.proofs.Common.{◌≡◌, ◌+◌, ◌++◌, ◌∷◌, [], suc, take, drop, Some, refl, sym, ap, subst, ◌∙◌, arith}
 use Rattle.std.specs.List.{slice_get}
 use Rattle.std.proofs.lemmas.List.{take_all}
-use Rattle.std.proofs.lemmas.Option.{slice_get-get_or}
 use Rattle.std.proofs.lemmas.Result.{err_from_is_err_and}
+use Rattle.std.proofs.lemmas.Option.{slice_get-get_or}
 use Rattle.hosts_join.specs.declared.texts.HostText.{HostText}
-use Rattle.unify.specs.HostTexts.{group_file, host_files, passwd_file}
 use Rattle.unify.specs.Merging.{mappings_in}
-use Rattle.unify.proofs.Agreeing.{item_at}
-use Rattle.unify.proofs.OwnFiles.{host_files_more, no_hosts}
+use Rattle.unify_laws.specs.HostTexts.{group_file, host_files, passwd_file}
+use Rattle.unify_laws.proofs.Agreeing.{item_at}
 use Rattle.unify_merge.specs.Ledger.{Ledger}
 use Rattle.unify_merge.specs.HostFiles.{HasFiles}
+use Rattle.unify_merge.proofs.OwnFiles.{host_files_more, no_hosts}
 use Rattle.unify_merge.proofs.BreakingOff.{broken_as, broken_behind, broken_front}
 use Rattle.unify_merge.proofs.HostFiles.{host_files_from, more_written, none_written}
 use Rattle.unify_merge.proofs.host_files.write_hosts.Goals as goal

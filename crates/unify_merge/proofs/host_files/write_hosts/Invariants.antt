@@ -1,6 +1,6 @@
 use Rattle.std.proofs.Common.{◌≡◌, take, true}
-use Rattle.unify.specs.HostTexts.{host_files}
 use Rattle.unify.specs.Merging.{mappings_in}
+use Rattle.unify_laws.specs.HostTexts.{host_files}
 use Rattle.unify_merge.specs.HostFiles.{HasFiles}
 use Rattle.unify_merge.proofs.host_files.write_hosts.Given as goal
 

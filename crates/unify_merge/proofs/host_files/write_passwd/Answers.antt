@@ -1,8 +1,8 @@
 use Rattle.std.proofs.Common.{◌≡◌, ◌∷◌, [], Some, refl}
 use Rattle.std.specs.List.{slice_get}
 use Rattle.hosts_join.specs.declared.host.Host.{Host}
-use Rattle.unify.specs.HostTexts.{passwd_file}
 use Rattle.unify.specs.Merging.{mappings_in}
+use Rattle.unify_laws.specs.HostTexts.{passwd_file}
 use Rattle.unify_merge.specs.Ledger.{BrokeOff}
 use Rattle.unify_merge.proofs.Begun.{on_err}
 use Rattle.unify_merge.proofs.BreakingOff.{broken_none}

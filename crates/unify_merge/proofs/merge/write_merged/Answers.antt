@@ -2,8 +2,8 @@ use Rattle.std.proofs.Common.{◌≡◌, ◌++◌, ◌∷◌, [], length, sym, a
 use Rattle.std.proofs.lemmas.Result.{err_from_is_err_and}
 use Rattle.unify.specs.Merging.{mappings_in}
 use Rattle.unify.specs.SecondPass.{SolvedValue}
+use Rattle.unify_laws.specs.HostTexts.{host_files}
 use Rattle.unify_merge.specs.Ledger.{BrokeOff, Ledger, after_files, cleared}
-use Rattle.unify.specs.HostTexts.{host_files}
 use Rattle.unify_merge.specs.HostFiles.{HasFiles}
 use Rattle.unify_merge.specs.Merge.{first_files, report_file}
 use Rattle.unify_merge.specs.FirstReading.{readings_from}

@@ -1,9 +1,9 @@
 use Rattle.std.proofs.Common.{◌≡◌, Some, refl, sym, ap, ◌∙◌, arith}
 use Rattle.std.specs.List.{slice_get}
-use Rattle.std.proofs.lemmas.Option.{slice_get-get_or}
 use Rattle.std.proofs.lemmas.Result.{err_from_is_err_and}
+use Rattle.std.proofs.lemmas.Option.{slice_get-get_or}
 use Rattle.hosts_join.specs.declared.texts.HostText.{HostText}
-use Rattle.unify.proofs.Agreeing.{item_at}
+use Rattle.unify_laws.proofs.Agreeing.{item_at}
 use Rattle.unify_merge.proofs.AllPlanned.{all_planned, host_at, planning_stopped, read_len, same_again, turn_of}
 use Rattle.unify_merge.proofs.Planned.{none_planned, one_planned}
 use Rattle.unify_merge.proofs.second_reading.plan_hosts.Goals as goal

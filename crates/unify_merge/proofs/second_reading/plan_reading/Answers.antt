@@ -1,11 +1,11 @@
 use Rattle.std.proofs.Common.{◌≡◌, ◌+◌, ◌++◌, ◌∷◌, [], ℕ, List, Some, refl, sym, ap, subst, ◌∙◌, arith, length-append}
 use Rattle.std.specs.Prelude.{OnOk}
 use Rattle.std.proofs.lemmas.Result.{err_from_is_err_and}
+use Rattle.std.proofs.lemmas.Option.{same_Some}
 use Rattle.mtree_inv.specs.declared.entry.Entry.{Entry}
 use Rattle.unify.specs.SecondPass.{IsNext, SolvedValue, WereFirst, ended_in, whole_plan}
-use Rattle.unify.proofs.Agreeing.{item_at}
-use Rattle.unify.proofs.SiteRuns.{some_same}
 use Rattle.unify.specs.declared.site_files.NamedText.{NamedText}
+use Rattle.unify_laws.proofs.Agreeing.{item_at}
 use Rattle.unify_merge.specs.Ledger.{Ledger, Reading, with_bytes}
 use Rattle.unify_merge.specs.SecondReading.{IsReadAgain, StopsEnd, StopsPiece}
 use Rattle.unify_merge.proofs.AllPlanned.{same_site}
@@ -102,7 +102,7 @@ returns-clause-planned g c =
     (planned host were) (turn.here, turn.fresh.unmet) turn.first in
     let one : NamedText = record { name = inv.name; text = [] } in
     let other : NamedText = record { name = name; text = [] } in
-    let names : inv.name ≡ name = ap (λ (f : NamedText). f.name) (some_same one other (sym inv.was ∙ file)) in
+    let names : inv.name ≡ name = ap (λ (f : NamedText). f.name) (same_Some one other (sym inv.was ∙ file)) in
     record {
       text = inv.text;
       files = p.2;

@@ -1,6 +1,6 @@
 use Rattle.std.proofs.Common.{subst}
+use Rattle.unify_laws.specs.Texts.{mtrees}
 use Rattle.unify_bundle.specs.TextFiles.{ReadsTexts, TextFilesValue, ledger_of, open_file}
-use Rattle.unify.specs.Texts.{mtrees}
 use Rattle.unify_bundle.proofs.InMemory.{reads_texts}
 use Rattle.unify_bundle.proofs.text_files.TextFiles.answer.Goals as goal
 

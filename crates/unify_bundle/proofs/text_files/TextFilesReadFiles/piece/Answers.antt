@@ -1,8 +1,8 @@
 use Rattle.std.proofs.Common.{◌≡◌, ◌++◌, [], length, rules, sym, ap, subst, ◌∙◌, arith}
 use Rattle.std.proofs.lemmas.List.{take-append-drop}
+use Rattle.unify_laws.specs.Texts.{mtrees}
 use Rattle.unify_merge.specs.Ledger.{with_piece}
 use Rattle.unify_bundle.specs.TextFiles.{Holds, open_file}
-use Rattle.unify.specs.Texts.{mtrees}
 use Rattle.unify_bundle.proofs.InMemory.{held_piece, none}
 use Rattle.unify_bundle.proofs.text_files.TextFilesReadFiles.piece.Goals as goal
 

@@ -1,5 +1,0 @@
-use Rattle.unify.proofs.Costs as costs
-use Rattle.unify.proofs.laws.costs_agree.Goals as goal
-
-pub returns : goal.returns
-returns c = costs.costs_agree

@@ -1,5 +1,0 @@
-use Rattle.unify.proofs.EmptyPins as pins
-use Rattle.unify.proofs.laws.empty_pins_are_none.Goals as goal
-
-pub returns : goal.returns
-returns c = pins.empty_pins_are_none

@@ -1,5 +1,0 @@
-use Rattle.unify.proofs.Agreeing as agreeing
-use Rattle.unify.proofs.laws.no_map_rewrites_fewer.Goals as goal
-
-pub returns : goal.returns
-returns c = agreeing.no_map_rewrites_fewer

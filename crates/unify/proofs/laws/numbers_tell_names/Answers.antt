@@ -1,5 +1,0 @@
-use Rattle.unify.proofs.Believed as believed
-use Rattle.unify.proofs.laws.numbers_tell_names.Goals as goal
-
-pub returns : goal.returns
-returns c = believed.numbers_tell_names

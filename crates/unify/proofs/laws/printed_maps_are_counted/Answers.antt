@@ -1,5 +1,0 @@
-use Rattle.unify.proofs.Counted as counted
-use Rattle.unify.proofs.laws.printed_maps_are_counted.Goals as goal
-
-pub returns : goal.returns
-returns c = counted.printed_maps_are_counted

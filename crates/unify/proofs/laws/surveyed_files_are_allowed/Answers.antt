@@ -1,5 +1,0 @@
-use Rattle.unify.proofs.SurveyedFiles as survey
-use Rattle.unify.proofs.laws.surveyed_files_are_allowed.Goals as goal
-
-pub returns : goal.returns
-returns c = survey.surveyed_files_are_allowed

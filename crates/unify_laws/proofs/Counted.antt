@@ -1,0 +1,123 @@
+-- A count of the map that a merge prints.
+use Rattle.std.proofs.Common.{◌≡◌, ◌+◌, ℕ, Bool, true, false, cond, ◌||◌, List, [], ◌∷◌, map, get_or, Option, Some, None, Ok, refl, sym, ap, ◌∙◌}
+use Rattle.std.specs.List.{All, find, list_all, list_any}
+use Rattle.std.specs.Option.{is_some, option_map}
+use Rattle.std.specs.Str.{bytes_eq}
+use Rattle.std.proofs.lemmas.List.{map-append}
+use Rattle.std.proofs.lemmas.List.Elements.{All-head, All-tail}
+use Rattle.std.proofs.lemmas.List.Folds.{list_any-append, list_any_at}
+use Rattle.accounts.specs.Rows.{Passwd, Group}
+use Rattle.hosts_join.specs.Accounts.{Account, Accounts, Pair, Row, first_appearances, grouped, host_rows, rows_from, spots_of}
+use Rattle.hosts_join.specs.Checks.{hosts_checked}
+use Rattle.hosts_join.specs.Pairs.{number_of}
+use Rattle.hosts_join.specs.Rules.{is_name}
+use Rattle.hosts_join.specs.declared.host.Host.{Host}
+use Rattle.hosts_join.proofs.Grouping.{any-first_appearances, bytes_refl}
+use Rattle.logindefs.specs.declared.ranges.IdRange.{IdRange}
+use Rattle.unify.specs.Count.{count_of, has_user, has_group, names_checked}
+use Rattle.unify.specs.Others.{reserving}
+use Rattle.unify.specs.Told.{in_site}
+use Rattle.unify.proofs.ReadSites.{are-pinned}
+use Rattle.unify.proofs.Whole.{together}
+use Rattle.unify_laws.specs.Agreeing.{PrintedMapsAreCounted}
+use Rattle.unify_laws.proofs.Costs.{costs_agree}
+use Rattle.unify_laws.proofs.Keeping.{map_says_mappings}
+use Rattle.unify_laws.proofs.WholeSites.{read_sites_are_whole, steps}
+
+-- ---- lists
+
+pub found_or : {X : Type 0} (b : Bool) (x : X) (o : Option X) → is_some (cond b (Some x) o) ≡ (b || is_some o)
+found_or true x o = refl
+found_or false x o = refl
+
+-- one is found exactly where one passes
+found_any : {X : Type 0} (p : X → Bool) (xs : List X) → is_some (find p xs) ≡ list_any p xs
+found_any p [] = refl
+found_any p (x ∷ xs) = found_or (p x) x (find p xs) ∙ ap (λ b. p x || b) (found_any p xs)
+
+pub any_map : {X Y : Type 0} (p : Y → Bool) (f : X → Y) (xs : List X) → list_any p (map f xs) ≡ list_any (λ x. p (f x)) xs
+any_map p f [] = refl
+any_map p f (x ∷ xs) = ap (λ b. p (f x) || b) (any_map p f xs)
+
+all_pass : {X : Type 0} (p : X → Bool) (xs : List X) → All (λ x. p x ≡ true) xs → list_all p xs ≡ true
+all_pass p [] all = refl
+all_pass p (x ∷ xs) all = rw (All-head (λ y. p y ≡ true) x xs all) (all_pass p xs (All-tail (λ y. p y ≡ true) x xs all))
+
+pub mapped_some : {X Y : Type 0} (f : X → Y) (o : Option X) → is_some (option_map f o) ≡ is_some o
+mapped_some f None = refl
+mapped_some f (Some x) = refl
+
+-- ---- the names of accounts are those of the rows on hosts
+
+module _ {R : Type 0} (name : R → List ℕ) (number : R → ℕ) (table : Host → List R) (regular system : Host → IdRange) where
+  abbrev listed : Host → List (List ℕ × ℕ)
+  listed h = map (λ x. (name x, number x)) (table h)
+
+  abbrev names : List Row → List (List ℕ)
+  names rows = map (λ (r : Row). r.name) rows
+
+  named_here : (place : ℕ) (low high : IdRange) (rows : List R) (n : List ℕ) → list_any (bytes_eq n) (names (host_rows place low high (map (λ x. (name x, number x)) rows))) ≡ list_any (λ x. bytes_eq n (name x)) rows
+  named_here place low high [] n = refl
+  named_here place low high (x ∷ rows) n = ap (λ b. bytes_eq n (name x) || b) (named_here place low high rows n)
+
+  named_on : (place : ℕ) (hosts : List Host) (n : List ℕ) → list_any (bytes_eq n) (names (rows_from regular system listed place hosts)) ≡ list_any (λ h. is_some (find (λ x. bytes_eq n (name x)) (table h))) hosts
+  named_on place [] n = refl
+  named_on place (h ∷ hs) n =
+      let here = host_rows place (regular h) (system h) (listed h) in
+      let later = rows_from regular system listed (place + 1) hs in
+      let at_h : list_any (bytes_eq n) (names here) ≡ is_some (find (λ x. bytes_eq n (name x)) (table h)) = named_here place (regular h) (system h) (table h) n ∙ sym (found_any (λ x. bytes_eq n (name x)) (table h)) in
+      ap (list_any (bytes_eq n)) (map-append (λ (r : Row). r.name) here later) ∙ list_any-append (bytes_eq n) (names here) (names later)
+      ∙ ap (λ b. b || list_any (bytes_eq n) (names later)) at_h ∙ ap (λ b. is_some (find (λ x. bytes_eq n (name x)) (table h)) || b) (named_on (place + 1) hs n)
+
+  pub named_somewhere : (hosts : List Host) (n : List ℕ) → is_name (grouped (rows_from regular system listed 0 hosts)) n ≡ list_any (λ h. is_some (find (λ x. bytes_eq n (name x)) (table h))) hosts
+  unfolding grouped
+  named_somewhere hosts n =
+      let rows = rows_from regular system listed 0 hosts in
+      let with_spots : List ℕ → Account = λ m. record { name = m; spots = spots_of rows m } in
+      any_map (λ (a : Account). bytes_eq n a.name) with_spots (first_appearances (names rows)) ∙ any-first_appearances n (names rows) ∙ named_on 0 hosts n
+
+-- ---- pairs that say the names of accounts, which are those of the hosts' tables
+
+module _ {R : Type 0} (name : R → List ℕ) (table : Host → List R) (pairs : List Pair) (hosts : List Host)
+    (had : (n : List ℕ) → is_some (number_of pairs n) ≡ list_any (λ (h : Host). is_some (find (λ x. bytes_eq n (name x)) (table h))) hosts) where
+  abbrev has : List ℕ → Host → Bool
+  has n h = is_some (find (λ x. bytes_eq n (name x)) (table h))
+
+  each_mapped : list_all (λ (h : Host). list_all (λ x. is_some (number_of pairs (name x))) (table h)) hosts ≡ true
+  each_mapped =
+      all_pass (λ (h : Host). list_all (λ x. is_some (number_of pairs (name x))) (table h)) hosts
+      (λ k d at. let rows = table (get_or hosts k d) in
+      all_pass (λ x. is_some (number_of pairs (name x))) rows
+      (λ j e within. let n = name (get_or rows j e) in
+      had n ∙ list_any_at (has n) hosts k d at (found_any (λ x. bytes_eq n (name x)) rows ∙ list_any_at (λ x. bytes_eq n (name x)) rows j e within (bytes_refl n))))
+
+  each_had : list_all (λ (p : Pair). list_any (has p.name) hosts) pairs ≡ true
+  each_had =
+      all_pass (λ (p : Pair). list_any (has p.name) hosts) pairs
+      (λ k d at. let n = (get_or pairs k d).name in
+      let same = λ (p : Pair). bytes_eq n p.name in
+      sym (had n) ∙ mapped_some (λ (p : Pair). p.number) (find same pairs) ∙ found_any same pairs ∙ list_any_at same pairs k d at (bytes_refl n))
+
+pub printed_maps_are_counted : PrintedMapsAreCounted
+unfolding count_of
+printed_maps_are_counted texts rules site outcome read o =
+    let s = steps texts rules site read in
+    let whole = read_sites_are_whole texts rules site read in
+    let back = map_says_mappings site outcome whole o in
+    let hosts = s.others.hosts in
+    let pinned = are-pinned s.others rules.pins site.joined s.joined_is in
+    let joined = together hosts (reserving s.others pinned.pins) site.joined pinned.joined_is in
+    let listed : in_site (hosts_checked texts) ≡ Ok s.listed = ap in_site s.listed_are in
+    let users : (n : List ℕ) → is_some (number_of back.pairs.users n) ≡ list_any (has_user n) hosts = λ n.
+    back.users.names n ∙ ap (λ (a : Accounts). is_name a.names n) joined.users
+    ∙ named_somewhere (λ (r : Passwd). r.name) (λ (r : Passwd). r.uid) (λ (h : Host). h.users) (λ (h : Host). h.ranges.uid) (λ (h : Host). h.ranges.sys_uid) hosts n in
+    let groups : (n : List ℕ) → is_some (number_of back.pairs.groups n) ≡ list_any (has_group n) hosts = λ n.
+    back.groups.names n ∙ ap (λ (a : Accounts). is_name a.names n) joined.groups
+    ∙ named_somewhere (λ (r : Group). r.name) (λ (r : Group). r.gid) (λ (h : Host). h.groups) (λ (h : Host). h.ranges.gid) (λ (h : Host). h.ranges.sys_gid) hosts n in
+    let checked : names_checked back.pairs hosts ≡ Ok tt = rw (
+      each_mapped (λ (r : Passwd). r.name) (λ (h : Host). h.users) back.pairs.users hosts users,
+      each_had (λ (r : Passwd). r.name) (λ (h : Host). h.users) back.pairs.users hosts users,
+      each_mapped (λ (r : Group). r.name) (λ (h : Host). h.groups) back.pairs.groups hosts groups,
+      each_had (λ (r : Group). r.name) (λ (h : Host). h.groups) back.pairs.groups hosts groups,
+    ) refl in
+    rw (listed, s.others_are, back.read, checked, s.files_are) (ap (λ c. Ok c) (costs_agree site o.mappings back.pairs whole back.users back.groups ∙ sym o.printed.cost))

@@ -1,0 +1,53 @@
+-- What one command prints, and what another answers to it.
+-- Source: this project's own rule.
+use Rattle.std.specs.Prelude.{◌≡◌, ◌≤◌, ℕ, List, length, Some, Ok, slice_get}
+use Rattle.hosts_join.specs.declared.texts.HostText.{HostText}
+use Rattle.ownership.specs.Mappings.{Mappings}
+use Rattle.reown_plan.specs.PlanData.{PlanData}
+use Rattle.reown_plan.specs.Reading.{ReadsAs}
+use Rattle.unify_texts.specs.declared.map_text.MapText.{MapText}
+use Rattle.unify.specs.declared.outcome.Outcome.{Outcome}
+use Rattle.unify.specs.declared.rules.SiteRules.{SiteRules}
+use Rattle.unify.specs.Checking.{IsVerified, verified}
+use Rattle.unify.specs.Cost.{cost_of}
+use Rattle.unify.specs.Count.{count_of}
+use Rattle.unify.specs.Outcomes.{IsOutcome}
+use Rattle.unify.specs.Reading.{WholeSite, site_read}
+use Rattle.unify.specs.Rehearsing.{IsRehearsed}
+use Rattle.unify_laws.specs.Headline.{HaveOneNumberEach, fields}
+
+-- a check of the same texts accepts the certificate that a merge prints, with the cost that the
+-- merge tells
+abbrev pub PrintedCertificatesAreAccepted : Type 0
+PrintedCertificatesAreAccepted =
+    (texts : List HostText) (rules : SiteRules) (site : WholeSite) (outcome : Outcome)
+    → site_read texts rules ≡ Ok site → IsOutcome site outcome
+    → verified texts rules outcome.certificate ≡ Ok (fields outcome.cost)
+
+-- a count of the map that a merge prints answers the cost that the merge tells
+abbrev pub PrintedMapsAreCounted : Type 0
+PrintedMapsAreCounted =
+    (texts : List HostText) (rules : SiteRules) (site : WholeSite) (outcome : Outcome)
+    → site_read texts rules ≡ Ok site → IsOutcome site outcome
+    → count_of texts rules.keep outcome.map ≡ Ok outcome.cost
+
+-- no map of the hosts' names to distinct numbers, in their pools or at their pins, rewrites fewer
+-- fields than a check accepts
+abbrev pub NoMapRewritesFewer : Type 0
+NoMapRewritesFewer =
+    (texts : List HostText) (rules : SiteRules) (text : List ℕ) (cost : ℕ)
+    → (is : IsVerified texts rules text cost) → (other : MapText) (m : Mappings)
+    → HaveOneNumberEach is.site.joined.users m.users other.users
+    → HaveOneNumberEach is.site.joined.groups m.groups other.groups
+    → cost ≤ fields (cost_of other is.site.hosts)
+
+-- a rehearsal of the plan that a merge prints for a host, over the host's inventory, answers how
+-- many records it has
+abbrev pub PrintedPlansAreRehearsed : Type 0
+PrintedPlansAreRehearsed =
+    (texts : List HostText) (rules : SiteRules) (site : WholeSite) (outcome : Outcome)
+    → site_read texts rules ≡ Ok site → IsOutcome site outcome
+    → (h : ℕ) (text : HostText) (plan : List ℕ) → slice_get texts h ≡ Some text
+    → slice_get outcome.plans h ≡ Some plan
+    → (told : PlanData) × ReadsAs plan (Ok told)
+    × IsRehearsed plan text.mtree (Ok (length told.records))

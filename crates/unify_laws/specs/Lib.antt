@@ -1,0 +1,9 @@
+pub mod Laws
+pub mod Installed
+pub mod Headline
+pub mod SiteRuns
+pub mod Believed
+pub mod TwoPasses
+pub mod HostTexts
+pub mod Texts
+pub mod Agreeing
