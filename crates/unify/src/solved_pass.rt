@@ -18,7 +18,8 @@ use unify_texts::Fault;
 /// A site that was merged, whose inventories come a second time in pieces, host by host, while
 /// plans are appended. It keeps the tables of the hosts, what was merged, how many files each of
 /// their rows owned in the first pass and owns so far in this one, and of the present inventory
-/// each path once; no text of an inventory and no plan is kept.
+/// each path once and, in a megabyte, what was found of its owners; no text of an inventory and no
+/// plan is kept.
 #[derive(Drop)]
 pub struct Solved<'a> {
     pub(crate) alloc: Global,
@@ -93,7 +94,8 @@ impl<'a> Solved<'a> {
     /// host have appended is a prefix of a plan without its `end` line, for files that the text has
     /// before its first fault. The first piece appends the header, even if it is empty.
     ///
-    /// One pass over the bytes, and a few look-ups by hash for each file.
+    /// One pass over the bytes, and four look-ups by hash for each file of whose owner nothing is
+    /// kept.
     pub fn piece(&mut self, bytes: &[u8], plan: &mut Vec<u8>) -> Result<(), Fault<'a>>
         requires left { ended_in self.old < length self.old.hosts }
         ensures told { (host : Host) → IsNext self.old host
