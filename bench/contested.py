@@ -8,12 +8,13 @@ order: a name of a site of H hosts has H candidates, and each number is wanted b
 candidates weigh the same), up to 2 or 3 (`few-files`) or up to 20 (`random`); `tight` has a fifth more names than numbers.
 `sparse` is the site of solve.py: two candidates a name, 62 names a number.
 
-Solving is what `unify merge` takes less what `unify count` takes, which reads and counts: so it has the join, the
-merged files, the certificate and the plans in it too. Of scipy it is the call alone. The weights that both find have to
-be equal. All are processor seconds, the least of three runs, since other work on the machine changes these least. The
-growth is the exponent that fits the family's times best. Where scipy would take too long it is left out. It wants a
-Python that has scipy, and `make program` before it. Sites are made below bench/work, which git does not see, and
-removed after.
+Solving is what `unify merge` takes less what `unify count` takes, which reads and counts: so it has the join, the merged
+files, the certificate and the plans in it too, and the second reading of the inventories. What it takes without that is told
+beside it: less once more what the count takes with the inventories and does not take without them. Of scipy it is the call
+alone. The weights that both find have to be equal. All are processor seconds, the least of three runs, since other work on
+the machine changes these least. The growth is the exponent that fits the family's times best. Where scipy would take too
+long it is left out. It wants a Python that has scipy, and `make program` before it. Sites are made below bench/work, which
+git does not see, and removed after.
 """
 import collections
 import math
@@ -64,25 +65,41 @@ def sites(name):
     return [(size[0], lambda size=size: solve.make_rows(*size, 1), size[0] <= MOST_FOR_SCIPY) for size in family]
 
 
+def without_files(folder, words):
+    """The words for the same hosts with empty inventories."""
+    bare = []
+    for word in words:
+        name, directory = word.split("=")
+        to = f"{folder}/bare/{name}"
+        os.makedirs(to)
+        for file in ("passwd", "group", "login.defs"):
+            os.symlink(os.path.abspath(f"{directory}/{file}"), f"{to}/{file}")
+        open(f"{to}/mtree", "w").close()
+        bare.append(f"{name}={to}")
+    return bare
+
+
 def solving(name, names, make, with_scipy):
-    """How many candidates there are, the seconds that solving takes, and those of scipy or none; both find the same weight."""
+    """How many candidates there are, the seconds of solving, also without the second reading, and those of scipy or none."""
     hosts, rows = make()
     folder = os.path.join(HERE, "work", f"contested-{name}-{names}")
     words = write_hosts(folder, hosts, names, rows)
     out = f"{folder}/out"
     os.mkdir(out)
     weights = weights_of(rows)
-    commands = {"merge": [UNIFY, "merge", "--quiet", out, *words], "count": [UNIFY, "count", "--quiet", f"{out}/map", *words]}
+    count = [UNIFY, "count", "--quiet", f"{out}/map"]
+    commands = {"merge": [UNIFY, "merge", "--quiet", out, *words], "count": [*count, *words], "bare": [*count, *without_files(folder, words)]}
     least, _ = least_processor_seconds(commands, rounds=3)
     seconds = least["merge"] - least["count"]
+    unread = seconds - (least["count"] - least["bare"])
     weight = weight_of_map(f"{out}/map", weights)
     shutil.rmtree(folder)
     if not with_scipy:
-        return len(weights), seconds, None
+        return len(weights), seconds, unread, None
     scipys, best = scipy_answer(weights)
     if weight != best:
         sys.exit(f"{name}, {names} names: weights differ, {weight} and {best}")
-    return len(weights), seconds, scipys
+    return len(weights), seconds, unread, scipys
 
 
 def growth(points):
@@ -96,10 +113,10 @@ def main():
     for name in sys.argv[1:] or FAMILIES:
         points = []
         for names, make, with_scipy in sites(name):
-            candidates, ours, scipys = solving(name, names, make, with_scipy)
+            candidates, ours, unread, scipys = solving(name, names, make, with_scipy)
             points.append((candidates, ours))
-            beside = f"scipy {scipys:.2f} s, ratio {ours / scipys:.3f}" if scipys else "scipy not run"
-            print(f"{name}: {names:,} names, {candidates:,} candidates: {ours:.2f} s, {beside}", flush=True)
+            beside = f"scipy {scipys:.2f} s, ratios {ours / scipys:.3f} and {unread / scipys:.3f}" if scipys else "scipy not run"
+            print(f"{name}: {names:,} names, {candidates:,} candidates: {ours:.2f} s, {unread:.2f} s without the second reading, {beside}", flush=True)
         print(f"{name}: growth {growth(points):.2f}", flush=True)
 
 
