@@ -133,8 +133,8 @@ fn report_lines(
 /// from the first. Names are escaped.
 ///
 /// Asked is that the site was joined from these hosts, each lawful, that the counters were made for
-/// it, and that there is one number for each name. Where the counters stand for files, the report is
-/// that of these files.
+/// it, and that there is one number for each name. Where the counters stand for files, the report
+/// is that of these files.
 ///
 /// A few passes over the names, with a few scans of at most 64 counters or rows for each, and what
 /// `differences` takes; memory in the length of the text besides. `AllocError` where a growth was
