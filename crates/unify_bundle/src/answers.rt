@@ -92,7 +92,8 @@ fn reply_to_records(alloc: Global, found: &Result<u32, MergeFault<'_>>) -> Resul
 }
 
 /// What [`merge_files`] finds and writes, with its reply: the two lines of the cost, or the line of
-/// the fault, with the exit status.
+/// the fault, with the exit status. It takes what that call takes, and memory for the lines; where
+/// that is refused, what was found stands without a reply.
 pub fn merge_answer<'a, F: MergeFiles>(
     alloc: Global,
     files: &mut F,
@@ -118,7 +119,7 @@ pub fn merge_answer<'a, F: MergeFiles>(
 }
 
 /// What [`count_files`] finds, with its reply: the two lines of the cost, or the line of the fault,
-/// with the exit status.
+/// with the exit status. It takes what that call takes, and memory for the lines.
 pub fn count_answer<'a, F: ReadFiles>(
     alloc: Global,
     files: &mut F,
@@ -140,7 +141,7 @@ pub fn count_answer<'a, F: ReadFiles>(
 }
 
 /// What [`check_files`] finds, with its reply: the line of an accepted certificate, or that of the
-/// fault, with the exit status.
+/// fault, with the exit status. It takes what that call takes, and memory for the line.
 pub fn check_answer<'a, F: ReadFiles>(
     alloc: Global,
     files: &mut F,
@@ -164,7 +165,8 @@ pub fn check_answer<'a, F: ReadFiles>(
 }
 
 /// What [`rehearse_files`] finds, with its reply: the two lines of a plan that was carried out, or
-/// the line of the fault, with the exit status.
+/// the line of the fault, with the exit status. It takes what that call takes, and memory for the
+/// lines.
 pub fn rehearse_answer<'a, F: ReadFiles>(
     alloc: Global,
     files: &mut F,
