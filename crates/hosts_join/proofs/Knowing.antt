@@ -9,7 +9,7 @@ use Rattle.std.proofs.lemmas.Bool.{cases_Bool, both_ways, or_left, or_right, or_
 use Rattle.std.proofs.lemmas.List.Elements.{All-nil, All-cons, All-head, All-tail, All-append, All-map}
 use Rattle.std.proofs.lemmas.List.{get_or-map, length-map}
 use Rattle.std.proofs.lemmas.List.Folds.{list_any-append}
-use Rattle.std.proofs.lemmas.Option.{slice_get_within, get_or_from_slice_get}
+use Rattle.std.proofs.lemmas.Option.{same_Some, slice_get_within, get_or_from_slice_get}
 use Rattle.idtext.proofs.OkLemmas.{bind_ok, ok_same, unless_ok}
 use Rattle.accounts.specs.Laws.{AreDistinct}
 use Rattle.accounts.specs.Rows.{Passwd}
@@ -67,9 +67,6 @@ place-some p (x ∷ xs) h = elim (cases_Bool (p x)) [
   | inr away ↦ let rest = place-some p xs (rw away at h) in (suc rest.0, rw (away, rest.1) refl)
 ]
 
-some_same : {X : Type 0} (a b : X) → Some a ≡ Some b → a ≡ b
-some_same a b e = cc
-
 -- the name is among those of the rows
 name-there : (h v : ℕ) (n : List ℕ) (rows : List Row) → All (IsNamed h v n) rows → list_any (is_at h v) rows ≡ true → list_any (bytes_eq n) (map (λ r. r.name) rows) ≡ true
 name-there h v n [] named there = there
@@ -106,7 +103,7 @@ table-says v n [] apart is = absurd (cc)
 table-says v n (p ∷ ps) apart is = elim (cases_Bool (v == p.1)) [
   | inl it ↦
       let is' = rw it at is in
-      let named : p.0 ≡ n = some_same p.0 n is' in (
+      let named : p.0 ≡ n = same_Some p.0 n is' in (
         All-cons (λ (q : List ℕ × ℕ). (v == q.1) ≡ true → q.0 ≡ n) p ps (λ e. named) (λ k d l e. absurd (twice v k p d ps apart l e it)),
         or_left (v == p.1) (list_any (λ (q : List ℕ × ℕ). v == q.1) ps) it,
       )
@@ -165,7 +162,7 @@ module _ {H : Type 0} (regular system : H → IdRange) (pairs : H → List (List
   rows-at : (h v start k : ℕ) (hosts : List H) (host : H) → slice_get hosts k ≡ Some host → h ≡ start + k → list_any (is_at h v) (all_from start hosts) ≡ list_any (λ p. v == p.1) (pairs host)
   rows-at h v start k [] host here at = absurd (cc)
   rows-at h v start zero (x ∷ hosts) host here at =
-      let same : x ≡ host = some_same x host here in
+      let same : x ≡ host = same_Some x host here in
       list_any-append (is_at h v) (host_rows start (regular x) (system x) (pairs x)) (all_from (start + 1) hosts)
       ∙ ap (λ b. list_any (is_at h v) (host_rows start (regular x) (system x) (pairs x)) || b) (later-at h v (start + 1) hosts (omega (arith, at)))
       ∙ or-false _
@@ -180,7 +177,7 @@ module _ {H : Type 0} (regular system : H → IdRange) (pairs : H → List (List
   rows-named : (h v start k : ℕ) (n : List ℕ) (hosts : List H) (host : H) → slice_get hosts k ≡ Some host → h ≡ start + k → All (λ p. (v == p.1) ≡ true → p.0 ≡ n) (pairs host) → All (IsNamed h v n) (all_from start hosts)
   rows-named h v start k n [] host here at named = absurd (cc)
   rows-named h v start zero n (x ∷ hosts) host here at named =
-      let same : host ≡ x = some_same host x (sym here) in
+      let same : host ≡ x = same_Some host x (sym here) in
       All-append (IsNamed h v n) (host_rows start (regular x) (system x) (pairs x)) (all_from (start + 1) hosts)
       (host-named h v start n (regular x) (system x) (pairs x) (λ e. subst (λ y. All (λ p. (v == p.1) ≡ true → p.0 ≡ n) (pairs y)) same named))
       (later-named h v (start + 1) n hosts (omega (arith, at)))

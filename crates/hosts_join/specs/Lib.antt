@@ -5,6 +5,7 @@ pub mod Told
 pub mod RangeLists
 pub mod RunsInside
 pub mod Pool
+pub mod HostOwners
 pub mod Owners
 pub mod Order
 pub mod Index

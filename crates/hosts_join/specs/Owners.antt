@@ -3,13 +3,12 @@
 use Rattle.std.specs.Prelude.{ℕ, ◌==◌, ◌&&◌, if◌then◌else◌, Option, Some}
 use Rattle.std.specs.List.{slice_get}
 use Rattle.std.specs.Option.{option_and_then}
-use Rattle.std.specs.HashMap.{get_by}
+use Rattle.hosts_join.specs.HostOwners.{place_in}
 use Rattle.hosts_join.specs.declared.owners.Owners.{Owners}
 
 -- the place of the name that has the number on the host
 abbrev pub owner_in : Owners → ℕ → ℕ → Option ℕ
-owner_in owners h v =
-    option_and_then (λ places. get_by (λ n. v == n) places) (slice_get owners.hosts.items h)
+owner_in owners h v = option_and_then (λ places. place_in places v) (slice_get owners.hosts.items h)
 
 -- where this place has the number on the host, and all else is as before
 abbrev pub with_owner : Owners → ℕ → ℕ → ℕ → (ℕ → ℕ → Option ℕ)

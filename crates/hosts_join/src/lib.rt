@@ -8,6 +8,7 @@ mod clash;
 mod classes;
 mod fault;
 mod host;
+mod host_owners;
 mod index;
 mod joining;
 mod kind;

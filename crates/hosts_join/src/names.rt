@@ -382,6 +382,16 @@ impl<'a> Names<'a> {
         self.index.owners.get(host, number)
     }
 
+    /// The same, for the number of a row of the host's table, at this place of it. No look-up, where
+    /// the names were joined from that table.
+    pub fn owner_of_row(&self, host: u32, number: u32, row: usize) -> Option<u32>
+        ensures owner { result ≡ owner self.now.names host number }
+        ensures tied { IfSome result (λ i. number_on (account self.now i) host ≡ Some number) }
+        ensures within { IfSome result (λ i. i < length self.now.names) }
+    {
+        self.index.owners.get_near(host, number, row)
+    }
+
     /// The indices of all names, by the names in byte order. No cost.
     pub fn in_byte_order(&self) -> &[u32]
         ensures ordered { AreInByteOrder self.now.names result.now }

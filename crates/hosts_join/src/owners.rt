@@ -2,14 +2,14 @@
 ghost use Rattle.std.specs.Prelude.{◌≡◌, ◌<◌, ℕ, None, length, IfOk, OnOk};
 ghost use Rattle.hosts_join.specs.Owners.{owner_in, with_owner};
 
+use crate::host_owners::HostOwners;
 use std::alloc::{AllocError, Global};
-use std::collections::HashMap;
 
-/// The places of names by their numbers on each host. Each host has a table of its own: whoever
-/// looks one host's numbers up after the other then stays in that.
+/// The places of names by their numbers on each host. Each host has tables of its own: whoever
+/// looks one host's numbers up after the other then stays in these.
 #[derive(Drop)]
 pub(crate) struct Owners {
-    hosts: Vec<HashMap<u32, u32>>,
+    hosts: Vec<HostOwners>,
 }
 
 impl Owners {
@@ -18,16 +18,17 @@ impl Owners {
         ensures none { IfOk result (λ owners. (h v : ℕ) → owner_in owners h v ≡ None) }
         ensures hosts { IfOk result (λ owners. length owners.hosts.items ≡ hosts) }
     {
-        let mut tables = Vec::new(alloc);
+        let mut tables = Vec::with_capacity(alloc, hosts)?;
         for _host in 0..hosts {
-            tables.push(HashMap::new(alloc))?;
+            tables.push(HostOwners::new(alloc))?;
         }
         Ok(Owners { hosts: tables })
     }
 
-    /// Gives a number on a host to the name at a place.
+    /// Gives a number on a host, which nobody has there, to the name at a place.
     pub(crate) fn insert(&mut self, host: u32, number: u32, place: u32) -> Result<(), AllocError>
-        requires { host < length self.old.hosts.items }
+        requires among { host < length self.old.hosts.items }
+        requires free { owner_in self.old host number ≡ None }
         ensures given { OnOk result
             ((h v : ℕ) → owner_in self.new h v ≡ with_owner self.old host number place h v) }
         ensures hosts { OnOk result
@@ -41,6 +42,13 @@ impl Owners {
     pub(crate) fn get(&self, host: u32, number: u32) -> Option<u32>
         ensures { result ≡ owner_in self.now host number }
     {
-        self.hosts.get(host as usize)?.get(&number).copied()
+        self.hosts.get(host as usize)?.get(number)
+    }
+
+    /// The same, where the number most likely came as the host's row-th.
+    pub(crate) fn get_near(&self, host: u32, number: u32, row: usize) -> Option<u32>
+        ensures { result ≡ owner_in self.now host number }
+    {
+        self.hosts.get(host as usize)?.get_near(number, row)
     }
 }

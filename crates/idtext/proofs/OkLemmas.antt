@@ -1,6 +1,7 @@
 -- What an Ok says of the steps that it came from.
 use Rattle.std.proofs.Common.{◌≡◌, ℕ, zero, suc, List, [], ◌∷◌, length, Option, Some, None, Result, Ok, Err, refl, sym, ap, ◌∙◌}
 use Rattle.std.specs.List.{slice_get}
+use Rattle.std.proofs.lemmas.Option.{same_Some}
 use Rattle.idtext.specs.First.{◌>>=◌, each, unless}
 
 pub ok_same : {A F : Type 0} (a b : A) → ◌≡◌ {A = Result A F} (Ok a) (Ok b) → a ≡ b
@@ -27,10 +28,7 @@ length-each f (x ∷ xs) ys h =
 
 each-from : {A B F : Type 0} (f : A → Result B F) (x : A) (xs : List A) (z : B) (zs : List B) (k : ℕ) (y : B) → f x ≡ Ok z → slice_get (z ∷ zs) k ≡ Some y
     → ((j : ℕ) → slice_get zs j ≡ Some y → (w : A) × (slice_get xs j ≡ Some w) × (f w ≡ Ok y)) → (w : A) × (slice_get (x ∷ xs) k ≡ Some w) × (f w ≡ Ok y)
-each-from f x xs z zs zero y first here later = (x, refl, first ∙ ap (λ b. Ok b) (some_same z y here))
-  where
-    some_same : {X : Type 0} (a b : X) → Some a ≡ Some b → a ≡ b
-    some_same a b e = cc
+each-from f x xs z zs zero y first here later = (x, refl, first ∙ ap (λ b. Ok b) (same_Some z y here))
 each-from f x xs z zs (suc j) y first here later = later j here
 
 pub each-ok : {A B F : Type 0} (f : A → Result B F) (xs : List A) (ys : List B) → each f xs ≡ Ok ys → (k : ℕ) (y : B) → slice_get ys k ≡ Some y → (x : A) × (slice_get xs k ≡ Some x) × (f x ≡ Ok y)

@@ -3,7 +3,7 @@ use Rattle.std.proofs.Common.{◌≡◌, ℕ, ◌+◌, ◌<◌, ◌≤◌, Bool,
 use Rattle.std.specs.Prelude.{◌&&◌, ◌||◌, filter, flat_map}
 use Rattle.std.specs.List.{list_any, list_all}
 use Rattle.std.proofs.Math.Bool.{or-false, and-false}
-use Rattle.std.proofs.lemmas.List.{append-nil, append_assoc, flat_map_more, take_all, take_more}
+use Rattle.std.proofs.lemmas.List.{append_assoc, flat_map_more, take_all, take_more}
 use Rattle.std.proofs.lemmas.List.Folds.{list_any-append}
 use Rattle.std.proofs.lemmas.Slice.Eq.{bytes_eq-Decides}
 use Rattle.hosts_join.specs.Accounts.{no_row}
@@ -45,14 +45,7 @@ is_among-added names after name new wanted told e is_wanted other =
     by true t is = ap (λ ns. is_among ns other) is ∙ any-push (bytes_eq other) names name
     by false t is = ap (λ ns. is_among ns other) is ∙ had (there (is_among names name) t) (bytes_eq other name) refl
 
-pub is_among-left : (names : List (List ℕ)) (b wanted : Bool) (other : List ℕ) → wanted ≡ false → is_among names other ≡ (is_among names other || (b && wanted))
-is_among-left names b wanted other e =
-    sym (or-false (is_among names other)) ∙ ap (λ x. is_among names other || x) (sym (and-false b) ∙ ap (λ w. b && w) (sym e))
-
 -- ---- rows
-
-pub picked-none : (passes : List ℕ × ℕ → Bool) (names : List (List ℕ)) → names ≡ [] → ArePicked passes [] names
-picked-none passes names none = record { picked = λ name. ap (λ ns. is_among ns name) none }
 
 pub picked-more : (passes : List ℕ × ℕ → Bool) (rows : List (List ℕ × ℕ)) (row : List ℕ × ℕ) (names after : List (List ℕ)) (wanted : Bool) → wanted ≡ passes row
     → ((other : List ℕ) → is_among after other ≡ (is_among names other || (bytes_eq other row.0 && wanted)))
@@ -130,9 +123,6 @@ picked-place passes before listed k names after name wanted lt named passed grow
     (append_assoc before (take k listed) (get_or listed k no_row ∷ []) ∙ ap (λ rows. before ++ rows) (sym (take_more listed k no_row lt)))
     (picked-more passes (before ++ take k listed) (get_or listed k no_row) names after wanted passed
     (λ other. grown other ∙ ap (λ n. is_among names other || (bytes_eq other n && wanted)) named) picked)
-
-pub picked-start : (passes : List ℕ × ℕ → Bool) (before listed : List (List ℕ × ℕ)) (names : List (List ℕ)) → ArePicked passes before names → ArePicked passes (before ++ take 0 listed) names
-picked-start passes before listed names picked = subst (λ (rows : List (List ℕ × ℕ)). ArePicked passes rows names) (sym (append-nil before)) picked
 
 pub picked-end : (passes : List ℕ × ℕ → Bool) (before listed : List (List ℕ × ℕ)) (k : ℕ) (names : List (List ℕ)) → length listed ≤ k → ArePicked passes (before ++ take k listed) names → ArePicked passes (before ++ listed) names
 picked-end passes before listed k names le picked = subst (λ (rows : List (List ℕ × ℕ)). ArePicked passes (before ++ rows) names) (take_all k listed le) picked

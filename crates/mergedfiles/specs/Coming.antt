@@ -23,4 +23,4 @@ IsPlaced users h row = IsOwnedAsTold users.names h row.uid (Some row.name)
 -- so is each row that comes, and what is said of the group of the user before is true
 pub record IsUnderWay (host : Host) (site : Joined) (m : List ℕ) (coming : Coming) : Type 0 where
   pub primary : IsPrimary host site.groups m coming.primary
-  pub placed : All (IsPlaced site.users coming.index) coming.rows.now
+  pub placed : All (IsPlaced site.users coming.index) coming.users.rows.now

@@ -125,18 +125,17 @@ fn note_host<'h, 'a>(
         gid: 0,
         name: group_name(host, 0),
     };
-    for row in host.users.rows() {
+    for (at, row) in host.users.rows().iter().enumerate() {
         primary = next_primary(primary, host, row.gid);
-        if let Some(user) = names.owner(index, row.uid) {
+        if let Some(user) = names.owner_of_row(index, row.uid, at) {
             let group = primary.name;
             note(seen, user, &Said { row, group });
         }
     }
 }
 
-/// What is known of the rows of each user, over all hosts. For each row one look-up by hash among
-/// the numbers of its host, one more for its group where that is not the group of the row before,
-/// and 24 bytes a user.
+/// What is known of the rows of each user, over all hosts. For each row one look-up by hash for its
+/// group, where that is not the group of the row before, and 24 bytes a user.
 pub fn all_seen<'h, 'a>(
     alloc: Global,
     hosts: &'h [Host<'a>],

@@ -25,11 +25,12 @@ fn new_number(name: &[u8], names: &Names<'_>, mapping: &Mapping) -> Option<u32>
     Some(mapping.number(index))
 }
 
-/// The new number of the name of a row that was joined on the host at an index. The name is not
-/// looked up: its number tells its place.
+/// The new number of the name of a row that was joined on the host at an index, and there came
+/// behind so many. The name is not looked up: its number tells its place.
 fn new_number_of_row(
     row: &PasswdRow<'_>,
     index: u32,
+    before: usize,
     names: &Names<'_>,
     mapping: &Mapping,
 ) -> Option<u32>
@@ -37,42 +38,52 @@ fn new_number_of_row(
     requires placed { IsPlaced names.now index row.now }
     ensures { result ≡ spec.new_number names.now mapping.now row.now.name }
 {
-    let place = names.owner(index, row.uid)?;
+    let place = names.owner_of_row(index, row.uid, before)?;
     Some(mapping.number(place))
+}
+
+/// The rows of a host's passwd whose lines have not come, and how many have.
+#[derive(Clone, Copy)]
+struct ComingRows<'h, 'a> {
+    rows: &'h [PasswdRow<'a>],
+    before: usize,
 }
 
 /// The new number of a user, and the rows behind that of the user.
 #[derive(Clone, Copy)]
 struct NextUser<'h, 'a> {
     number: Option<u32>,
-    rows: &'h [PasswdRow<'a>],
+    coming: ComingRows<'h, 'a>,
 }
 
 /// The new number of the user of the next line. Its row is mostly the next one: only where the text
 /// is not that of the rows, or has users who were left out, the name is looked up.
 fn next_user<'h, 'a>(
-    rows: &'h [PasswdRow<'a>],
+    coming: ComingRows<'h, 'a>,
     name: &[u8],
     index: u32,
     names: &Names<'_>,
     mapping: &Mapping,
 ) -> NextUser<'h, 'a>
     requires numbers { length mapping.now ≡ length names.now.names }
-    requires placed { All (IsPlaced names.now index) rows.now }
+    requires placed { All (IsPlaced names.now index) coming.rows.now }
     ensures number { result.number ≡ spec.new_number names.now mapping.now name.now }
-    ensures placed { All (IsPlaced names.now index) result.rows.now }
+    ensures placed { All (IsPlaced names.now index) result.coming.rows.now }
 {
-    if let Some((row, behind)) = rows.split_first() {
+    if let Some((row, behind)) = coming.rows.split_first() {
         if row.name == name {
             return NextUser {
-                number: new_number_of_row(row, index, names, mapping),
-                rows: behind,
+                number: new_number_of_row(row, index, coming.before, names, mapping),
+                coming: ComingRows {
+                    rows: behind,
+                    before: coming.before.saturating_add(1),
+                },
             };
         }
     }
     NextUser {
         number: new_number(name, names, mapping),
-        rows,
+        coming,
     }
 }
 
@@ -120,7 +131,7 @@ fn next_primary<'t>(
 struct Coming<'t, 'h, 'a> {
     index: u32,
     primary: Primary<'t>,
-    rows: &'h [PasswdRow<'a>],
+    users: ComingRows<'h, 'a>,
 }
 
 /// Appends a number in the place of a field, or the field where there is no number; and the colon
@@ -189,12 +200,12 @@ fn next_numbers<'t>(
         ≡ spec.new_primary host.now site.now.groups groups.now fields.now.gid.now }
     ensures coming { IsUnderWay host.now site.now groups.now coming.new }
 {
-    let user = next_user(coming.rows, fields.name, coming.index, site.users(), users);
+    let user = next_user(coming.users, fields.name, coming.index, site.users(), users);
     let primary = next_primary(coming.primary, fields.gid, host, site.groups(), groups);
     *coming = Coming {
         index: coming.index,
         primary,
-        rows: user.rows,
+        users: user.coming,
     };
     NewNumbers {
         uid: user.number,
@@ -244,9 +255,9 @@ fn push_user_line<'t>(
 /// is that the site knows the host by this index, as it does where it was joined from the hosts,
 /// and that the mappings have one number for each user and for each group of the site.
 ///
-/// Source: passwd(5). One pass over the text, with one look-up by hash for each user, among the
-/// numbers of the host where the text is that of its table, and two more where its primary group is
-/// not that of the user before. Memory for the new text alone.
+/// Source: passwd(5). One pass over the text, without a look-up for a user where the text is that of
+/// the host's table, else with one by hash, and with two where its primary group is not that of the
+/// user before. Memory for the new text alone.
 ///
 /// # Errors
 ///
@@ -274,7 +285,10 @@ pub fn host_passwd_text(
             gid: &[],
             number: None,
         },
-        rows: host.users.rows(),
+        users: ComingRows {
+            rows: host.users.rows(),
+            before: 0,
+        },
     };
     while let Some((line, more)) = cut(b'\n', rest) {
         push_user_line(&mut new, line, host, site, users, groups, &mut coming)?;

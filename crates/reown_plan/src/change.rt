@@ -37,33 +37,45 @@ impl Model for OwnerChange {
     ghost invariant = { λ c. c.numbers ≡ printed c.before c.after };
 }
 
-// The new number of the name that has the number on the host.
-fn renumber(names: &Names<'_>, mapping: &Mapping, host: u32, number: u32) -> u32
+/// Where the rows stand in a host's tables that have the numbers of an owner, as far as that is
+/// known. Nothing rests on it but time.
+#[derive(Clone, Copy, Debug, Default)]
+pub struct OwnerRows {
+    /// The place of the user's row in passwd.
+    pub user: usize,
+    /// The place of the group's row in group.
+    pub group: usize,
+}
+
+// The new number of the name that has the number on the host, most likely by this row.
+fn renumber(names: &Names<'_>, mapping: &Mapping, host: u32, number: u32, row: usize) -> u32
     requires { length mapping.now ≡ length names.now.names }
     ensures { result ≡ renumbered names.now mapping.now host number }
 {
-    match names.owner(host, number) {
+    match names.owner_of_row(host, number, row) {
         Some(index) => mapping.number(index),
         None => number,
     }
 }
 
 impl OwnerChange {
-    // What the files of an owner get on the host at an index. Two look-ups by hash.
+    // What the files of an owner get on the host at an index: two look-ups by hash, where its rows
+    // are not known.
     pub(crate) fn new(
         host: u32,
         site: &Site<'_>,
         users: &Mapping,
         groups: &Mapping,
         before: Owner,
+        rows: OwnerRows,
     ) -> OwnerChange
         requires { AreForSite site.now users.now groups.now }
         ensures owner { result.before ≡ before }
         ensures change { IsChange site.now users.now groups.now host result }
     {
         let after = Owner {
-            uid: renumber(site.users(), users, host, before.uid),
-            gid: renumber(site.groups(), groups, host, before.gid),
+            uid: renumber(site.users(), users, host, before.uid, rows.user),
+            gid: renumber(site.groups(), groups, host, before.gid, rows.group),
         };
         let numbers = if before == after {
             None

@@ -12,7 +12,7 @@ mod records;
 mod spell;
 mod write;
 
-pub use change::OwnerChange;
+pub use change::{OwnerChange, OwnerRows};
 pub use laws::{marks_tell_plans, one_reading, one_spelling, plans_keep_names, plans_read_back};
 pub use mark::PlanMark;
 pub use plan::{Owner, Plan, PlanFault, Record};

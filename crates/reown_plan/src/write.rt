@@ -7,7 +7,7 @@ ghost use Rattle.reown_plan.specs.Owners.{owner_of, owner_eq};
 ghost use Rattle.reown_plan.specs.Target.{target, record_to, host_plan, AreForSite};
 ghost use Rattle.reown_plan.specs.Spelling.{line, spelling};
 
-use crate::{Owner, OwnerChange, push_plan_end, push_plan_head};
+use crate::{Owner, OwnerChange, OwnerRows, push_plan_end, push_plan_head};
 use hosts_join::{Host, Site};
 use mtree_inv::{Entry, Inventory};
 use ownership::Mapping;
@@ -20,11 +20,13 @@ use std::alloc::{AllocError, Global};
 /// host with these mappings.
 ///
 /// Refused where memory is; the text is then as before. Where the file has the owner that `last`
-/// keeps, nothing is looked up; else two look-ups by hash, and `last` then keeps this owner. One
-/// pass over the path where a record is appended. No memory but that of the text.
+/// keeps, or rows that have its numbers are told, nothing is looked up; else two look-ups by hash.
+/// `last` then keeps this owner. One pass over the path where a record is appended. No memory but
+/// that of the text.
 pub fn push_plan_entry(
     text: &mut Vec<u8>,
     last: &mut Option<OwnerChange>,
+    rows: OwnerRows,
     host: u32,
     site: &Site<'_>,
     users: &Mapping,
@@ -52,7 +54,7 @@ pub fn push_plan_entry(
     match last {
         Some(change) if change.is_of(owner) => change.push_record(text, path),
         Some(_) | None => {
-            let change = OwnerChange::new(host, site, users, groups, owner);
+            let change = OwnerChange::new(host, site, users, groups, owner, rows);
             let pushed = change.push_record(text, path);
             *last = Some(change);
             pushed
@@ -86,7 +88,16 @@ pub fn plan_text(
     push_plan_head(&mut text, hosts[host as usize].name.bytes())?;
     let mut last = None;
     for entry in inventory.entries() {
-        push_plan_entry(&mut text, &mut last, host, site, users, groups, entry)?;
+        push_plan_entry(
+            &mut text,
+            &mut last,
+            OwnerRows::default(),
+            host,
+            site,
+            users,
+            groups,
+            entry,
+        )?;
     }
     push_plan_end(&mut text)?;
     Ok(text)

@@ -5,7 +5,7 @@ ghost use Rattle.unify.specs.KnownOwners.{NoneIsKnown, no_owner};
 
 use crate::row_files::OwnerPlaces;
 use mtree_inv::Entry;
-use reown_plan::OwnerChange;
+use reown_plan::{OwnerChange, OwnerRows};
 use std::alloc::{AllocError, Global};
 
 // Of how many owners it is kept.
@@ -26,6 +26,14 @@ impl KnownOwner {
         KnownOwner {
             places: None,
             change: None,
+        }
+    }
+
+    /// Where its rows stand, as far as that was found.
+    pub fn rows(&self) -> OwnerRows {
+        match &self.places {
+            Some(places) => places.rows(),
+            None => OwnerRows::default(),
         }
     }
 }

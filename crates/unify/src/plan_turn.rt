@@ -131,9 +131,11 @@ fn plan_file(
     if !count_file(rows, &mut known.places, host, file) {
         return Err(Stop::Changed);
     }
+    let rows = known.rows();
     push_plan_entry(
         plan,
         &mut known.change,
+        rows,
         index,
         site,
         &merged.users,

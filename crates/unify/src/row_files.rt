@@ -11,6 +11,7 @@ ghost use Rattle.unify.specs.RowFiles.{row_files};
 
 use hosts_join::Host;
 use mtree_inv::Entry;
+use reown_plan::OwnerRows;
 use std::alloc::{AllocError, Global};
 use std::marker::Model;
 
@@ -67,6 +68,16 @@ pub struct OwnerPlaces {
     gid: u32,
     user: Option<usize>,
     group: Option<usize>,
+}
+
+impl OwnerPlaces {
+    /// The places of the rows, for a plan.
+    pub fn rows(&self) -> OwnerRows {
+        OwnerRows {
+            user: self.user.unwrap_or(0),
+            group: self.group.unwrap_or(0),
+        }
+    }
 }
 
 // The places of the rows that own a file, if the host allows both of its numbers. Two look-ups by

@@ -3,13 +3,11 @@ use Rattle.std.proofs.Common.{◌≡◌, ℕ, ◌+◌, List, [], ◌∷◌, ◌+
 use Rattle.std.specs.List.{All, slice_get}
 use Rattle.std.proofs.lemmas.List.{take_all}
 use Rattle.std.proofs.lemmas.List.Elements.{All-nil, All-cons, All-head, All-tail, All-append}
+use Rattle.std.proofs.lemmas.Option.{same_Some}
 use Rattle.unify.specs.declared.site_files.NamedText.{NamedText}
 use Rattle.unify_merge.specs.Ledger.{Ledger, Reading, read_on, with_piece}
 use Rattle.unify_merge.specs.FirstReading.{readings_from}
 use Rattle.unify_bundle.specs.TextFiles.{Holds, IsFrontOf, IsOf, ReadsTexts, ledger_of}
-
-some_same : {A : Type 0} (x y : A) → Some x ≡ Some y → x ≡ y
-some_same x y e = (cc)
 
 pub none : (xs : List ℕ) → length xs ≡ 0 → xs ≡ []
 none [] h = refl
@@ -42,7 +40,7 @@ module _ (texts : List (List ℕ)) (left : List ℕ) (files : List NamedText) (w
           let more : IsFrontOf texts rest (record { host = r.host; text = r.text ++ next }) = h.reading r here ∙ ap (λ t. Some t) (ap (λ t. r.text ++ t) parts ∙ sym (append_assoc r.text next rest)) in
           record {
             read = h.read;
-            reading = λ s is. subst (IsFrontOf texts rest) (some_same (record { host = r.host; text = r.text ++ next }) s is) more;
+            reading = λ s is. subst (IsFrontOf texts rest) (same_Some (record { host = r.host; text = r.text ++ next }) s is) more;
             finished = h.finished;
             writing_is = h.writing_is;
           }
@@ -81,7 +79,7 @@ module _ (all : List (List ℕ)) where
   pub read_at : (texts : List (List ℕ)) (start k : ℕ) (text : List ℕ) → All (IsOf all) (readings_from start texts) → slice_get texts k ≡ Some text → slice_get all (start + k) ≡ Some text
   read_at [] start k text are here = absurd (cc)
   read_at (t ∷ texts) start zero text are here =
-      let same : t ≡ text = some_same t text here in
+      let same : t ≡ text = same_Some t text here in
       let index : start + 0 ≡ start = omega arith in
       ap (slice_get all) index ∙ All-head (IsOf all) (record { host = start; text = t }) (readings_from (start + 1) texts) are ∙ ap (λ x. Some x) same
   read_at (t ∷ texts) start (suc k) text are here =
@@ -93,7 +91,7 @@ module _ (all : List (List ℕ)) where
   read_again texts [] start are were few = refl
   read_again [] (u ∷ again) start are were few = absurd (omega (arith, few))
   read_again (t ∷ texts) (u ∷ again) start are were few =
-      let first : u ≡ t = some_same u t (sym (All-head (IsOf all) (record { host = start; text = u }) (readings_from (start + 1) again) were) ∙ All-head (IsOf all) (record { host = start; text = t }) (readings_from (start + 1) texts) are) in
+      let first : u ≡ t = same_Some u t (sym (All-head (IsOf all) (record { host = start; text = u }) (readings_from (start + 1) again) were) ∙ All-head (IsOf all) (record { host = start; text = t }) (readings_from (start + 1) texts) are) in
       let rest = read_again texts again (start + 1) (All-tail (IsOf all) (record { host = start; text = t }) (readings_from (start + 1) texts) are) (All-tail (IsOf all) (record { host = start; text = u }) (readings_from (start + 1) again) were) (omega (arith, few)) in
       λ j. first j ∷ rest j
 
@@ -104,7 +102,7 @@ module _ (all : List (List ℕ)) where
   pub so_far_again : (texts : List (List ℕ)) (index : ℕ) (whole text rest : List ℕ) → All (IsOf all) (readings_from 0 texts) → slice_get texts index ≡ Some whole → IsFrontOf all rest (record { host = index; text = text }) → whole ≡ text ++ rest
   so_far_again texts index whole text rest are here front =
       let at : slice_get all index ≡ Some whole = ap (slice_get all) (omega_zero index) ∙ read_at texts 0 index whole are here in
-      some_same whole (text ++ rest) (sym at ∙ front)
+      same_Some whole (text ++ rest) (sym at ∙ front)
     where
       omega_zero : (k : ℕ) → k ≡ 0 + k
       omega_zero k = omega arith

@@ -5,10 +5,10 @@ use Rattle.mergedfiles.specs.Differences.{group_name}
 use Rattle.mergedfiles.proofs.SameRows.{Keeps, row_on}
 use Rattle.mergedfiles.proofs.alike.note_host.Given as goal
 
-abbrev pub invariant-loop-row : goal.invariant-loop-row
-invariant-loop-row l = record {
+abbrev pub invariant-loop-at : goal.invariant-loop-at
+invariant-loop-at l = record {
   len : length l.seen.items ≡ length l.initial.seen.items;
-  covered : All (λ row. IsCovered l.names.names l.seen.items l.index (row_on l.host row)) (take l.row-index l.row-items);
+  covered : All (λ row. IsCovered l.names.names l.seen.items l.index (row_on l.host row)) (take l.at l.row-items);
   primary : l.primary.name.now ≡ group_name l.host l.primary.gid;
   kept : Keeps l.initial.seen.items l.seen.items;
 }

@@ -43,11 +43,11 @@ loop-row-preserved g c =
     let old = c.args.self.now in
     let now = c.loop-row.self in
     let number = c.number-number.result in
-    elim c.match-owner.branch [
+    elim c.match-owner_of_row.branch [
       | in-Some w ↦
-          rw w.self-is (rows-owned names index pairs files place w.in-Some.name number (get_or files place 0) c.owner.result old now w.add_files.new.self
-          c.number-number.ensures refl c.owner.ensures.owner w.in-Some.is c.loop-row.invariant w.add_files.ensures)
+          rw w.self-is (rows-owned names index pairs files place w.in-Some.name number (get_or files place 0) c.owner_of_row.result old now w.add_files.new.self
+          c.number-number.ensures refl c.owner_of_row.ensures.owner w.in-Some.is c.loop-row.invariant w.add_files.ensures)
       | in_default w ↦
-          rw w.self-is (rows-unowned names index pairs files place number c.owner.result old now
-          c.number-number.ensures c.owner.ensures.owner w.in_default.is c.loop-row.invariant)
+          rw w.self-is (rows-unowned names index pairs files place number c.owner_of_row.result old now
+          c.number-number.ensures c.owner_of_row.ensures.owner w.in_default.is c.loop-row.invariant)
     ]
