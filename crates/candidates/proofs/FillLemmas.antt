@@ -3,17 +3,12 @@ use Rattle.std.proofs.Common.{◌≡◌, ◌≢◌, ℕ, zero, suc, ◌+◌, ◌
 use Rattle.std.specs.Prelude.{nat_lt}
 use Rattle.std.specs.Option.{is_none}
 use Rattle.std.specs.Cmp.Lexicographic.{slice_cmp}
-use Rattle.std.specs.Ordering.{nat_cmp, ordering_then, is_lt}
-use Rattle.std.specs.Cmp.{IsTotalOrder}
-use Rattle.std.specs.List.Sorted.{IsSortedBy}
-use Rattle.std.proofs.lemmas.List.Sorted.{sorted_far, ranks_by}
-use Rattle.std.proofs.lemmas.Cmp.{then_total, on_total, nat_cmp_total, nat_list_cmp_total}
-use Rattle.std.specs.declared.cmp.Ordering.{Ordering}
+use Rattle.std.specs.Ordering.{nat_cmp}
 use Rattle.std.specs.declared.cmp.Ordering.TheVariants.{Less}
-use Rattle.std.proofs.lemmas.Bool.{cases_Bool, cases_lt, cases_eq, eqb-true, eq-eqb, ne_eqb, lt-ltb, le-ltb, ltb-true, and_parts, false≢true, true≢false, both_ways}
-use Rattle.std.proofs.lemmas.List.{get_or-set_same, get_or-set_other, length-set, get_or_append_left, get_or_push, take_all, get_or-map, length_push, length-map}
+use Rattle.std.proofs.lemmas.Bool.{cases_Bool, cases_lt, cases_eq, eqb-true, eq-eqb, ne_eqb, lt-ltb, le-ltb, ltb-true, and_parts, false≢true, both_ways}
+use Rattle.std.proofs.lemmas.List.{get_or-set_same, get_or-set_other, length-set, get_or_append_left, get_or_push, take_all, get_or-map, length_push}
 use Rattle.std.proofs.lemmas.List.Elements.{All-get_or}
-use Rattle.std.proofs.lemmas.List.Sums.{sum_by-cons, sum_by_more_le, count_by_more_yes, count_by_more_no, sum_by_push}
+use Rattle.std.proofs.lemmas.List.Sums.{sum_by-cons, sum_by_more_le, count_by_more_yes, count_by_more_no}
 use Rattle.std.specs.Borrow.{Bor}
 use Rattle.logindefs.specs.declared.ranges.IdRange.{IdRange}
 use Rattle.hosts_join.specs.Accounts.{Accounts}
@@ -256,46 +251,9 @@ push-each xs x k f len each e i h = elim (cases_lt i k) [
   | inr more ↦ let same : i ≡ k = omega arith in get_or_push xs x None i (omega (arith, len)) ∙ e ∙ ap f (sym same)
 ]
 
--- one index more
-pub once-none : (i k m : ℕ) (o : Option ℕ) → m ≡ cond (nat_lt i k && is_none o) 1 0 → (i ≡ k → o ≡ None) → m + cond (k == i) 1 0 ≡ cond (nat_lt i (k + 1) && is_none o) 1 0
-once-none i k m o e none = elim (cases_eq i k) [
-  | inl s ↦ let e' : m ≡ 0 = e ∙ (rw (le-ltb i k (omega arith)) refl) in rw (eq-eqb k i (sym s), lt-ltb i (k + 1) (omega arith), none s) (omega arith)
-  | inr ne ↦ elim (cases_lt i k) [
-    | inl less ↦ let e' : m ≡ cond (is_none o) 1 0 = e ∙ (rw (lt-ltb i k less) refl) in rw (ne_eqb k i (λ q. ne (sym q)), lt-ltb i (k + 1) (omega arith)) (omega arith)
-    | inr more ↦ let e' : m ≡ 0 = e ∙ (rw (le-ltb i k more) refl) in rw (ne_eqb k i (λ q. ne (sym q)), le-ltb i (k + 1) (omega arith)) (omega arith)
-  ]
-]
-
-pub once-some : (i k m : ℕ) (o : Option ℕ) → m ≡ cond (nat_lt i k && is_none o) 1 0 → (i ≡ k → is_none o ≡ false) → m ≡ cond (nat_lt i (k + 1) && is_none o) 1 0
-once-some i k m o e some = elim (cases_eq i k) [
-  | inl s ↦ e ∙ (rw (le-ltb i k (omega arith), lt-ltb i (k + 1) (omega arith), some s) refl)
-  | inr ne ↦ elim (cases_lt i k) [
-    | inl less ↦ e ∙ (rw (lt-ltb i k less, lt-ltb i (k + 1) (omega arith)) refl)
-    | inr more ↦ e ∙ (rw (le-ltb i k more, le-ltb i (k + 1) (omega arith)) refl)
-  ]
-]
-
 abbrev pub entries : List (Bor (List ℕ) × ℕ) → List (List ℕ × ℕ)
 entries ws = map (λ (w : Bor (List ℕ) × ℕ). (w.0.now, w.1)) ws
 
 pub entries-push : (ws : List (Bor (List ℕ) × ℕ)) (w : Bor (List ℕ) × ℕ) → entries (ws ++ w ∷ []) ≡ entries ws ++ (w.0.now, w.1) ∷ []
 entries-push [] w = refl
 entries-push (x ∷ ws) w = ap (λ (t : List (List ℕ × ℕ)). (x.0.now, x.1) ∷ t) (entries-push ws w)
-
-pub times-push : (i : ℕ) (ws : List (List ℕ × ℕ)) (w : List ℕ × ℕ) → times i (ws ++ w ∷ []) ≡ times i ws + cond (w.1 == i) 1 0
-times-push i ws w = sum_by_push (λ (w : List ℕ × ℕ). cond (w.1 == i) 1 0) ws w
-
-abbrev waiting_cmp : Bor (List ℕ) × ℕ → Bor (List ℕ) × ℕ → Ordering
-waiting_cmp x y = ordering_then (slice_cmp nat_cmp x.0.now y.0.now) (nat_cmp x.1 y.1)
-
--- sorted names do not descend
-pub not-less : (ws : List (Bor (List ℕ) × ℕ)) → IsSortedBy (λ x y. is_lt (waiting_cmp x y)) ws → (j k : ℕ) → j < k → k < length (entries ws) → slice_cmp nat_cmp (get_or (entries ws) k no_waiting).0 (get_or (entries ws) j no_waiting).0 ≢ Less
-not-less ws up j k l h e =
-    let d : Bor (List ℕ) × ℕ = (record { ref_ptr = (0, 0); now = [] }, 0) in
-    let hk : k < length ws = omega (arith, length-map {B = List ℕ × ℕ} ws (λ w. (w.0.now, w.1))) in
-    let order : IsTotalOrder waiting_cmp = then_total (on_total (λ (p : Bor (List ℕ) × ℕ). p.0.now) nat_list_cmp_total) (on_total (λ (p : Bor (List ℕ) × ℕ). p.1) nat_cmp_total) in
-    let far = sorted_far (λ x y. is_lt (waiting_cmp x y)) (ranks_by order (λ (x : Bor (List ℕ) × ℕ). x)) ws up j k d (omega arith) hk in
-    let at_k = ap (λ (w : List ℕ × ℕ). w.0) (get_or-map (λ (w : Bor (List ℕ) × ℕ). (w.0.now, w.1)) ws k d no_waiting hk) in
-    let at_j = ap (λ (w : List ℕ × ℕ). w.0) (get_or-map (λ (w : Bor (List ℕ) × ℕ). (w.0.now, w.1)) ws j d no_waiting (omega arith)) in
-    let e' : slice_cmp nat_cmp (get_or ws k d).0.now (get_or ws j d).0.now ≡ Less = ap (λ (x : List ℕ). slice_cmp nat_cmp x (get_or ws j d).0.now) (sym at_k) ∙ ap (slice_cmp nat_cmp (get_or (entries ws) k no_waiting).0) (sym at_j) ∙ e in
-    let far' = rw e' at far in true≢false far'

@@ -51,13 +51,12 @@ pub fn waiting<'a>(
         (λ ws. AreWaiting names.now numbers.now (map (λ w. (w.0.now, w.1)) ws.items)) }
 {
     let mut waiting: Vec<Waiting<'a>> = Vec::new(alloc);
-    for index in 0..names.len() {
-        match numbers[index as usize] {
+    for index in names.in_byte_order() {
+        match numbers[*index as usize] {
             Some(_) => {}
-            None => waiting.push((names.name(index), index))?,
+            None => waiting.push((names.name(*index), *index))?,
         }
     }
-    waiting.sort_unstable();
     Ok(waiting)
 }
 

@@ -161,8 +161,8 @@ impl<'n, 'a> Rows<'n, 'a> {
     /// name, in byte order, has the smallest number of its pool that no name had before. Asked is
     /// one item for each name, in which a number is a candidate of the name, and no number twice.
     ///
-    /// Near linear in the names, but for one sort of those that wait: each class has a cursor that
-    /// walks its pool once, by a binary search and a look-up by hash for each number. It takes some
+    /// Near linear in the names: each class has a cursor that walks its pool once, by a binary
+    /// search and a look-up by hash for each number. It takes some
     /// 60 to 100 bytes a name while it runs, and leaves the mapping. `AllocError` where memory is
     /// refused.
     pub fn fill_fresh(&self, alloc: Global, given: &[Option<u32>]) -> Result<Mapping, AllocError>
