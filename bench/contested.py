@@ -6,7 +6,8 @@
 A family is a kind of site, at four sizes. On a contested one all hosts have all names, each host with numbers of its own
 order: a name of a site of H hosts has H candidates, and each number is wanted by H names. A row owns no file (`equal`: all
 candidates weigh the same), up to 2 or 3 (`few-files`) or up to 20 (`random`); `tight` has a fifth more names than numbers.
-`sparse` is the site of solve.py: two candidates a name, 62 names a number.
+`sparse` is the site of solve.py: two candidates a name, 62 names a number. The largest site of `random-64` has 41,600,000 files:
+its family alone takes some ten minutes, and 1.4 GB of disk.
 
 Solving is what `unify merge` takes less what `unify count` takes, which reads and counts: so it has the join, the merged
 files, the certificate and the plans in it too, and the second reading of the inventories. What it takes without that is told
@@ -37,7 +38,7 @@ FAMILIES = {
     "tight-8": Contested(8, 2, 1.2, SIZES),
     "equal-64": Contested(64, 0, 1, SIZES),
     "few-files-64": Contested(64, 3, 1, SIZES),
-    "random-64": Contested(64, 20, 1, [1000, 2000, 4000, 8000]),
+    "random-64": Contested(64, 20, 1, SIZES),
     # names, rows and numbers of solve.py
     "sparse": [(100_000, 160_000, 8_000), (250_000, 500_000, 8_000), (800_000, 1_600_000, 25_500), (2_600_000, 4_190_000, 65_500)],
 }
