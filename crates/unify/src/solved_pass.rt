@@ -94,8 +94,7 @@ impl<'a> Solved<'a> {
     /// host have appended is a prefix of a plan without its `end` line, for files that the text has
     /// before its first fault. The first piece appends the header, even if it is empty.
     ///
-    /// One pass over the bytes, and four look-ups by hash for each file of whose owner nothing is
-    /// kept.
+    /// One pass over the bytes, and two look-ups by hash for each file of whose owner nothing is kept.
     pub fn piece(&mut self, bytes: &[u8], plan: &mut Vec<u8>) -> Result<(), Fault<'a>>
         requires left { ended_in self.old < length self.old.hosts }
         ensures told { (host : Host) → IsNext self.old host
@@ -204,9 +203,9 @@ impl<'a> Solved<'a> {
     /// has stays, and so does a gid that is of no group of the host. Asked is that there is a host
     /// with the index.
     ///
-    /// One pass over the text, with one look-up by hash for each user, among the numbers of the host
-    /// alone, and two more where its primary group is not that of the user before. Memory for the
-    /// new text alone.
+    /// One pass over the text, without a look-up for a user where the text is that of the host's
+    /// table, and with two by hash where its primary group is not that of the user before. Memory
+    /// for the new text alone.
     ///
     /// # Errors
     ///

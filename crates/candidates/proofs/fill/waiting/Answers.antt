@@ -19,7 +19,7 @@ loop-index-preserved c =
     let item = get_or order k 0 in
     let more = take_more order k 0 (omega arith) in
     let step : waiting_among a numbers (take k order ++ item ∷ []) ≡ waiting_among a numbers (take (k + 1) order) =
-        ap (waiting_among a numbers) (sym more) in
+    ap (waiting_among a numbers) (sym more) in
     elim c.match-numbers-index.branch [
       | in-Some w ↦ rw w.waiting-is (c.loop-index.invariant ∙ sym (waits-not a numbers (take k order) item (ap is_none w.in-Some.is)) ∙ step)
       | in-None+in_ok-push-in-None w ↦
