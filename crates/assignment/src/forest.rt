@@ -56,7 +56,8 @@ pub struct Forest {
 }
 
 impl Forest {
-    /// Nobody has a number yet, and no tree grows. A name's potential is its heaviest pair's weight.
+    /// Nobody has a number yet, and no tree grows. A name's potential is its heaviest pair's
+    /// weight.
     pub fn new(alloc: Global, graph: &Graph) -> Result<Self, AllocError> {
         let mut forest = Forest {
             names: Vec::with_capacity(alloc, graph.size as usize)?,
@@ -267,8 +268,8 @@ impl Forest {
         Ok(())
     }
 
-    /// Gives a name the number that it has reached, the name that reached it the number that it had,
-    /// and so on to the root.
+    /// Gives a name the number that it has reached, the name that reached it the number that it
+    /// had, and so on to the root.
     fn flip(&mut self, root: u32, mut name: u32, mut place: Option<u32>) {
         for _ in 0..self.names.len() {
             let now = self.name(name);
@@ -312,8 +313,8 @@ impl Forest {
         Ok(())
     }
 
-    /// Goes on from a name to a number that it reaches, if the one is still in a tree, and the other
-    /// still in none.
+    /// Goes on from a name to a number that it reaches, if the one is still in a tree, and the
+    /// other still in none.
     fn follow(&mut self, graph: &Graph, name: u32, place: u32) -> Result<(), AllocError> {
         let Some(root) = self.name(name).root else {
             return Ok(());

@@ -13,8 +13,8 @@ struct Owned {
     place: u32,
 }
 
-/// The places of names by their numbers on a host, by hash, and beside it in the order in which they
-/// came, so that who goes through the rows of the host again finds each without a look-up. A
+/// The places of names by their numbers on a host, by hash, and beside it in the order in which
+/// they came, so that who goes through the rows of the host again finds each without a look-up. A
 /// contract sees the numbers with their places.
 #[derive(Drop)]
 pub(crate) struct HostOwners {

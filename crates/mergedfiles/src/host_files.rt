@@ -255,9 +255,9 @@ fn push_user_line<'t>(
 /// is that the site knows the host by this index, as it does where it was joined from the hosts,
 /// and that the mappings have one number for each user and for each group of the site.
 ///
-/// Source: passwd(5). One pass over the text, without a look-up for a user where the text is that of
-/// the host's table, else with one by hash, and with two where its primary group is not that of the
-/// user before. Memory for the new text alone.
+/// Source: passwd(5). One pass over the text, without a look-up for a user where the text is that
+/// of the host's table, else with one by hash, and with two where its primary group is not that of
+/// the user before. Memory for the new text alone.
 ///
 /// # Errors
 ///

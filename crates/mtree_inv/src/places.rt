@@ -281,8 +281,8 @@ fn settle_at(
     }
 }
 
-/// Leaves all places free. Nothing rests on it but time: a place that tells of no cut of the list is
-/// passed over.
+/// Leaves all places free. Nothing rests on it but time: a place that tells of no cut of the list
+/// is passed over.
 pub(crate) fn free_all(places: &mut [Place]) {
     for place in places {
         *place = FREE;

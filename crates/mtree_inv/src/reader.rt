@@ -65,8 +65,8 @@ impl Reader {
     }
 
     /// Is as a new reader then, for the next text, but keeps memory: so a reader of many texts asks
-    /// for it once, and its table of paths need not grow again for each. What it keeps of a text with
-    /// more than 1,048,576 files it gives back.
+    /// for it once, and its table of paths need not grow again for each. What it keeps of a text
+    /// with more than 1,048,576 files it gives back.
     ///
     /// Constant time for each place that the table has, at most some four for each file of the
     /// longest text that was kept.

@@ -94,7 +94,8 @@ impl<'a> Solved<'a> {
     /// host have appended is a prefix of a plan without its `end` line, for files that the text has
     /// before its first fault. The first piece appends the header, even if it is empty.
     ///
-    /// One pass over the bytes, and two look-ups by hash for each file of whose owner nothing is kept.
+    /// One pass over the bytes, and two look-ups by hash for each file of whose owner nothing is
+    /// kept.
     pub fn piece(&mut self, bytes: &[u8], plan: &mut Vec<u8>) -> Result<(), Fault<'a>>
         requires left { ended_in self.old < length self.old.hosts }
         ensures told { (host : Host) → IsNext self.old host
