@@ -7,7 +7,7 @@ A family is a kind of site, at four sizes. On a contested one all hosts have all
 order: a name of a site of H hosts has H candidates, and each number is wanted by H names. A row owns no file (`equal`: all
 candidates weigh the same), up to 2 or 3 (`few-files`) or up to 20 (`random`); `tight` has a fifth more names than numbers.
 `sparse` is the site of solve.py: two candidates a name, 62 names a number. The largest site of `random-64` has 41,600,000 files:
-its family alone takes some ten minutes, and 1.4 GB of disk.
+with what a merge writes it takes 2.6 GB of disk, and a merge of it takes a minute.
 
 Solving is what `unify merge` takes less what `unify count` takes, which reads and counts: so it has the join, the merged
 files, the certificate and the plans in it too, and the second reading of the inventories. What it takes without that is told

@@ -162,9 +162,8 @@ impl<'n, 'a> Rows<'n, 'a> {
     /// one item for each name, in which a number is a candidate of the name, and no number twice.
     ///
     /// Near linear in the names: each class has a cursor that walks its pool once, by a binary
-    /// search and a look-up by hash for each number. It takes some
-    /// 60 to 100 bytes a name while it runs, and leaves the mapping. `AllocError` where memory is
-    /// refused.
+    /// search and a look-up by hash for each number. It takes some 60 to 100 bytes a name while it
+    /// runs, and leaves the mapping. `AllocError` where memory is refused.
     pub fn fill_fresh(&self, alloc: Global, given: &[Option<u32>]) -> Result<Mapping, AllocError>
         requires { IsPartial self.now given.now }
         ensures admissible { IfOk result (IsAdmissible self.now.accounts) }

@@ -63,7 +63,7 @@ impl HostOwners {
         self.places.get(&number).copied()
     }
 
-    /// The same: without a look-up by hash, where the number came as the row-th.
+    /// The same, without a look-up by hash where it is the number of the row at this place.
     pub(crate) fn get_near(&self, number: u32, row: usize) -> Option<u32>
         ensures { result ≡ place_in self.now number }
     {

@@ -382,8 +382,8 @@ impl<'a> Names<'a> {
         self.index.owners.get(host, number)
     }
 
-    /// The same, for the number of a row of the host's table, at this place of it. No look-up,
-    /// where the names were joined from that table.
+    /// The same, for a number that most likely is that of the host's row at this place, counted
+    /// from 0. No cost where it is, else one look-up by hash.
     pub fn owner_of_row(&self, host: u32, number: u32, row: usize) -> Option<u32>
         ensures owner { result ≡ owner self.now.names host number }
         ensures tied { IfSome result (λ i. number_on (account self.now i) host ≡ Some number) }

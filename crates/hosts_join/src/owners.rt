@@ -45,7 +45,7 @@ impl Owners {
         self.hosts.get(host as usize)?.get(number)
     }
 
-    /// The same, where the number most likely came as the host's row-th.
+    /// The same, for a number that most likely is that of the host's row at this place.
     pub(crate) fn get_near(&self, host: u32, number: u32, row: usize) -> Option<u32>
         ensures { result ≡ owner_in self.now host number }
     {

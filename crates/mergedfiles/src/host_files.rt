@@ -25,8 +25,10 @@ fn new_number(name: &[u8], names: &Names<'_>, mapping: &Mapping) -> Option<u32>
     Some(mapping.number(index))
 }
 
-/// The new number of the name of a row that was joined on the host at an index, and there came
-/// behind so many. The name is not looked up: its number tells its place.
+/// The new number of the name of a row that was joined on the host at an index. The name is not
+/// looked up: its number tells its place.
+///
+/// before: how many rows of the host stand before it
 fn new_number_of_row(
     row: &PasswdRow<'_>,
     index: u32,
