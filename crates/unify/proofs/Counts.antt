@@ -23,16 +23,13 @@ module _ {R : Type 0} (number : R → ℕ) where
   AreApart [] = Unit {0}
   AreApart (r ∷ rows) = All (λ q. (number r == number q) ≡ false) rows × AreApart rows
 
-  numbered : (rows : List R) (k : ℕ) (d : R) (n : ℕ) → k < length rows → get_or (map number rows) k n ≡ number (get_or rows k d)
-  numbered rows k d n within = get_or-map number rows k d n within
-
   pub apart : (rows : List R) → AreDistinct (map number rows) → AreApart rows
   apart [] distinct = tt
   apart (r ∷ rows) distinct = (
     (λ k d within. false_from_ne_true (number r == number (get_or rows k d)) (λ t.
         let within' : suc k < length (map number (r ∷ rows)) = omega (arith, within, length-map rows number) in
         let first : 0 < length (map number (r ∷ rows)) = omega arith in
-        let same : number r ≡ get_or (map number rows) k 0 = eqb-true (number r) (number (get_or rows k d)) t ∙ sym (numbered rows k d 0 within) in
+        let same : number r ≡ get_or (map number rows) k 0 = eqb-true (number r) (number (get_or rows k d)) t ∙ sym (get_or-map number rows k d 0 within) in
         let none : 0 ≡ suc k = distinct 0 (suc k) 0 first within' same in
         absurd (omega (arith, none)))),
     apart rows (λ i j d one two e.

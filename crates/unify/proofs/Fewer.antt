@@ -7,12 +7,12 @@ use Rattle.std.specs.Cmp.Lexicographic.{bytes_decides}
 use Rattle.std.proofs.lemmas.List.{length-map, get_or-map}
 use Rattle.std.proofs.lemmas.Map.Made.{length-le_from_is_member, IsDistinct-from_AllPairs}
 use Rattle.idtext.specs.First.{first_fault}
+use Rattle.idtext.proofs.FirstLemmas.{none_of_both}
 use Rattle.mtree_inv.specs.declared.entry.Entry.{Entry}
 use Rattle.reown_plan.specs.Owners.{owner_of}
 use Rattle.reown_plan.specs.PlanData.{PlanRecord, HaveDistinctPaths}
 use Rattle.reown_runner.proofs.Cellwise.{either}
 use Rattle.unify.specs.Rehearsing.{found_fault, record_fault}
-use Rattle.unify.proofs.Owners.{none_both}
 
 abbrev paths_of : List PlanRecord → List (List ℕ)
 paths_of records = map (λ r. r.path) records
@@ -42,7 +42,7 @@ module _ (files : List Entry) where
   unfolding first_fault
   all_listed [] seen none q h = absurd cc
   all_listed (r ∷ records) seen none q h =
-      let both = none_both (record_fault files seen r) (first_fault (record_fault files) (seen ++ r ∷ []) records) none in
+      let both = none_of_both (record_fault files seen r) (first_fault (record_fault files) (seen ++ r ∷ []) records) none in
       elim (either (bytes_eq q r.path)) [
         | inl same ↦
             let here : list_any (bytes_eq r.path) (file_paths files) ≡ true = sym (is_listed files r.path) ∙ is_found r (find (λ e. bytes_eq r.path e.path) files) both.0 in

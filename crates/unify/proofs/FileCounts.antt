@@ -76,19 +76,10 @@ module _ {R E : Type 0} (number : R → ℕ) (of : E → ℕ) where
 
 -- ---- the place of the row that has a number
 
-none_here : {F : Type 0} (user group : Bool) (e f : F) → user ≡ false → false ≡ is_none (cond user (cond group None (Some e)) (Some f))
-none_here true group e f u = absurd (cc)
-none_here false group e f u = refl
-
 none_there : {F : Type 0} (user group : Bool) (e f : F) → group ≡ false → false ≡ is_none (cond user (cond group None (Some e)) (Some f))
 none_there true true e f g = absurd (cc)
 none_there true false e f g = refl
 none_there false group e f g = refl
-
-both_there : {F : Type 0} (user group : Bool) (e f : F) → user ≡ true → group ≡ true → true ≡ is_none (cond user (cond group None (Some e)) (Some f))
-both_there true true e f u g = refl
-both_there true false e f u g = absurd (cc)
-both_there false group e f u g = absurd (cc)
 
 -- a number with a row, or spared
 pub refused_place : (place : Option ℕ) (none spared : Bool) → is_some place ≡ not none → none ≡ true → spared ≡ false → (is_some place || spared) ≡ false
@@ -148,13 +139,13 @@ module _ (host : Host) (file : Entry) where
   group_allowed place allowed here is = ap (λ b. b || spares_group host file.gid) (group_told place here) ∙ is
 
   pub user_refused : allows_uid host file.uid ≡ false → false ≡ is_none (owner_fault host [] file)
-  user_refused refused = none_here (allows_uid host file.uid) (allows_gid host file.gid) _ _ refused
+  user_refused refused = rw refused refl
 
   pub group_refused : allows_gid host file.gid ≡ false → false ≡ is_none (owner_fault host [] file)
   group_refused refused = none_there (allows_uid host file.uid) (allows_gid host file.gid) _ _ refused
 
   pub both_allowed : allows_uid host file.uid ≡ true → allows_gid host file.gid ≡ true → true ≡ is_none (owner_fault host [] file)
-  both_allowed user group = both_there (allows_uid host file.uid) (allows_gid host file.gid) _ _ user group
+  both_allowed user group = rw (user, group) refl
 
   one_user_more : (place : ℕ) (files : List Entry) → IsPasswdTable host.users → user_place ≡ Some place
       → (row_files host (files ++ file ∷ [])).users ≡ set (row_files host files).users place (get_or (row_files host files).users place 0 + 1)

@@ -1,8 +1,9 @@
 -- What is left of hosts by a keep text.
-use Rattle.std.proofs.Common.{◌≡◌, Bool, true, not, List, [], ◌∷◌, map, get_or, None, Result, Ok, Err, refl, sym, ap, subst, ◌∙◌}
+use Rattle.std.proofs.Common.{◌≡◌, Bool, true, not, List, [], map, get_or, None, Result, Ok, Err, refl, sym, ap, subst, ◌∙◌}
 use Rattle.std.specs.List.{All, Contains, filter}
 use Rattle.std.proofs.lemmas.List.{get_or_default}
-use Rattle.std.proofs.lemmas.List.Elements.{All-contains_itself, All-filter, All-head, All-map, All-tail}
+use Rattle.std.proofs.lemmas.List.Elements.{All-contains_itself, All-filter, All-map, All-weaker}
+use Rattle.std.proofs.lemmas.List.Folds.{map_fixed}
 use Rattle.idtext.specs.First.{◌>>=◌, first_fault, unless}
 use Rattle.idtext.proofs.OkLemmas.{bind_ok, ok_same}
 use Rattle.idtext.proofs.PieceLemmas.{lines-empty}
@@ -114,15 +115,12 @@ none_read : keep_of [] ≡ Ok no_keep
 unfolding keep_of
 none_read = ap (λ ls. unless (first_fault keep_fault [] ls) (kept_on ls)) lines-empty ∙ ap (λ f. unless f (kept_on [])) no_fault
 
-map-same : {X : Type 0} (P : X → Type 0) (f : X → X) → ((x : X) → P x → f x ≡ x) → (xs : List X) → All P xs → map f xs ≡ xs
-map-same P f same [] all = refl
-map-same P f same (x ∷ xs) all = λ i. same x (All-head P x xs all) i ∷ map-same P f same xs (All-tail P x xs all) i
-
 -- all rows are left, and no number is reserved
 pub all-left : (hosts : List Host) (unowned : UnownedNumbers) → All SparesNothing hosts → others_read (keeping_nothing unowned) hosts ≡ Ok (record { hosts = hosts; reserved_users = []; reserved_groups = [] })
 unfolding others_read
 all-left hosts unowned none =
     let nothing = empty_keeps_nothing no_keep hosts none_read in
     let unsparing : (host : Host) → SparesNothing host → record host { spared_users = []; spared_groups = [] } ≡ host = λ host no. λ i. record host { spared_users = sym no.users i; spared_groups = sym no.groups i } in
-    let same : map (without_kept no_keep hosts unowned) hosts ≡ hosts = map-same SparesNothing (without_kept no_keep hosts unowned) (λ host no. nothing.others unowned host ∙ unsparing host no) hosts none in
+    let left_by = without_kept no_keep hosts unowned in
+    let same : map left_by hosts ≡ hosts = map_fixed left_by hosts (All-weaker SparesNothing (λ host. left_by host ≡ host) (λ host no. nothing.others unowned host ∙ unsparing host no) hosts none) in
     rw none_read (λ i. Ok (record { hosts = same i; reserved_users = nothing.uids unowned.users i; reserved_groups = nothing.gids unowned.groups i }))

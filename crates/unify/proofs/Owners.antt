@@ -5,17 +5,18 @@ use Rattle.std.specs.List.{All}
 use Rattle.std.specs.Option.{is_some}
 use Rattle.std.specs.Prelude.{◌||◌}
 use Rattle.std.proofs.lemmas.List.Elements.{All-nil, All-cons}
-use Rattle.idtext.specs.First.{first_fault, or_else, unless}
+use Rattle.idtext.specs.First.{first_fault, unless}
 use Rattle.idtext.specs.declared.faults.TextFault.{TextFault}
+use Rattle.idtext.proofs.FirstLemmas.{none_of_both}
 use Rattle.idtext.proofs.OkLemmas.{bind_ok, ok_same, unless_ok}
 use Rattle.mtree_inv.specs.declared.entry.Entry.{Entry}
 use Rattle.mtree_inv.specs.Inventory.{inventory}
-use Rattle.hosts_join.specs.Accounts.{Account, owner}
 use Rattle.hosts_join.specs.Hosts.{SparesReserved, spares_group, spares_user}
 use Rattle.hosts_join.specs.Kinds.{user_at, group_at}
-use Rattle.hosts_join.specs.Laws.{IsOwnedAsTold, KnowsHost}
+use Rattle.hosts_join.specs.Laws.{KnowsHost}
 use Rattle.hosts_join.specs.Site.{Joined}
 use Rattle.hosts_join.specs.declared.host.Host.{Host}
+pub use Rattle.ownership.proofs.HostFiles.{owner-told}
 use Rattle.unify_texts.specs.declared.bundle_line.FileName.{FileName}
 use Rattle.unify_texts.specs.declared.bundle_line.FileName.TheVariants as file
 use Rattle.unify.specs.declared.host.Loaded.{Loaded}
@@ -27,16 +28,12 @@ pub file_ok : {A : Type 0} (host : List ℕ) (name : FileName) (r : Result A Tex
 file_ok host name (Ok y) x h = ap (λ z. Ok z) (ok_same y x h)
 file_ok host name (Err e) x h = absurd (cc)
 
-pub none_both : {F : Type 0} (o p : Option F) → or_else o p ≡ None → (o ≡ None) × (p ≡ None)
-none_both None p h = (refl, h)
-none_both (Some f) p h = absurd (cc)
-
 -- a judge that asks nothing of the items before finds no fault in any
 pub none_fails : {A F : Type 0} (judge : A → Option F) (before xs : List A) → first_fault (λ seen x. judge x) before xs ≡ None → All (λ x. judge x ≡ None) xs
 unfolding first_fault
 none_fails judge before [] h = All-nil (λ x. judge x ≡ None)
 none_fails judge before (x ∷ xs) h =
-    let both = none_both (judge x) (first_fault (λ seen y. judge y) (before ++ x ∷ []) xs) h in
+    let both = none_of_both (judge x) (first_fault (λ seen y. judge y) (before ++ x ∷ []) xs) h in
     All-cons (λ y. judge y ≡ None) x xs both.0 (none_fails judge (before ++ x ∷ []) xs both.1)
 
 -- the files that were read are those of the inventory, each with its owners
@@ -50,10 +47,6 @@ files_read loaded files h =
       file_ok loaded.host.name file.Mtree (inventory 16777216 loaded.mtree) files (first.1 ∙ ap (λ fs. Ok fs) same),
       subst (λ fs. All (λ f. owner_fault loaded.host [] f ≡ None) fs) same (none_fails (owner_fault loaded.host []) [] first.0 checked.0),
     )
-
-pub owner-told : (names : List Account) (h v : ℕ) (told : Option (List ℕ)) → IsOwnedAsTold names h v told → is_some (owner names h v) ≡ is_some told
-owner-told names h v (Some name) is = ap is_some is.1
-owner-told names h v None is = ap is_some is
 
 pub owners-told : {F : Type 0} (user group : Bool) (e f : F) → cond user (cond group None (Some e)) (Some f) ≡ None → (user ≡ true) × (group ≡ true)
 owners-told true true e f h = (refl, refl)

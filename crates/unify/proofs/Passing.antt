@@ -3,7 +3,7 @@ use Rattle.std.proofs.Common.{◌≡◌, ℕ, ◌+◌, ◌<◌, ◌≤◌, List,
 use Rattle.std.specs.Prelude.{IfErr, IfNone, IfSome}
 use Rattle.std.specs.List.{All, slice_get}
 use Rattle.std.proofs.lemmas.List.{map-append}
-use Rattle.std.proofs.lemmas.Option.{slice_get-get_or}
+use Rattle.std.proofs.lemmas.Option.{same_Some, slice_get-get_or}
 use Rattle.idtext.specs.First.{◌>>=◌, each}
 use Rattle.idtext.proofs.OkLemmas.{bind_ok, ok_same}
 use Rattle.mtree_inv.specs.declared.entry.Entry.{Entry}
@@ -49,11 +49,6 @@ each_push f (a ∷ xs) x ys y h is =
     let first = bind_ok (f a) (λ z. each f xs >>= λ zs. Ok (z ∷ zs)) ys h in
     let rest = bind_ok (each f xs) (λ zs. Ok (first.0 ∷ zs)) ys first.2 in
     rw (first.1, each_push f xs x rest.0 y rest.1 is) (ap (λ zs. Ok (zs ++ y ∷ [])) (ok_same (first.0 ∷ rest.0) ys rest.2))
-
-pub same_host : (hosts : List Host) (k : ℕ) (a b : Host) → slice_get hosts k ≡ Some a → slice_get hosts k ≡ Some b → a ≡ b
-same_host hosts k a b here there =
-    let both : Some a ≡ Some b = sym here ∙ there in
-    (cc)
 
 pub unmet : (P : Fault → Type 0) (o : Option Fault) → IfSome o (λ f. ⊥ × P f) → o ≡ None
 unmet P None h = refl
@@ -120,7 +115,7 @@ module _ {p : Pass} {host : Host} (is : IsTurnOf p host) where
   pub for_next : (P : Host → Type 0) → (TurnsFor host p.turn p.taken.text → P host) → (other : Host) → IsNext (seen p) other → P other
   for_next P has other next =
       let there : slice_get p.hosts (length p.passed) ≡ Some other = ap (slice_get p.hosts) (sym inv.counting.ended_are) ∙ next.0 in
-      subst P (same_host p.hosts (length p.passed) host other here there) (has (inv.turns next.1 host here))
+      subst P (same_Some host other (sym here ∙ there)) (has (inv.turns next.1 host here))
 
   -- ---- a fault
 
@@ -174,7 +169,7 @@ module _ {p : Pass} {host : Host} (is : IsTurnOf p host) where
     pub fed_coming : AreComing fed
     fed_coming = record {
       counting = inv.counting;
-      turns = λ none other there. subst (λ (h : Host). TurnsFor h turn (p.taken.text ++ bytes)) (same_host p.hosts (length p.passed) host other here there) fed_turns;
+      turns = λ none other there. subst (λ (h : Host). TurnsFor h turn (p.taken.text ++ bytes)) (same_Some host other (sym here ∙ there)) fed_turns;
     }
 
     pub fed_seen : seen fed ≡ record (seen p) { text = p.taken.text ++ bytes }

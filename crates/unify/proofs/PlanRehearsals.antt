@@ -9,13 +9,14 @@ use Rattle.std.proofs.lemmas.List.Sums.{length-filter, count_by-le-length}
 use Rattle.idtext.specs.First.{first_fault, or_else}
 use Rattle.mtree_inv.specs.declared.entry.Entry.{Entry}
 use Rattle.mtree_inv.proofs.FewLemmas.{inventory-few}
+use Rattle.mtree_inv.proofs.StandLemmas.{at_none}
 use Rattle.mtree_inv.specs.Inventory.{inventory}
 use Rattle.mtree_inv.specs.Standing.{ReaderValue, GrowAlike}
 use Rattle.reown_plan.specs.PlanData.{PlanData, PlanRecord}
 use Rattle.reown_plan.specs.Places.{paths_in}
 use Rattle.reown_runner.specs.Memory.{owner_in}
-use Rattle.reown_runner.specs.PlanTree.{FilesOfPlan, files_at, found_among}
-use Rattle.reown_runner.proofs.PlanTrees.{same_owner}
+use Rattle.reown_runner.specs.PlanTree.{FilesOfPlan, found_among}
+use Rattle.reown_runner.proofs.PlanTrees.{files_at, same_owner}
 use Rattle.unify_texts.specs.declared.fault.Fault.{Fault}
 use Rattle.unify.specs.PlanRehearsal.{IsRefusedBy}
 use Rattle.unify.specs.Rehearsing.{found_fault, record_fault, rehearsed}
@@ -58,14 +59,10 @@ pub record AreAllNoted (text : List ℕ) (paths : List (List ℕ)) (tree : Files
   pub few : length files ≤ 16777216
   pub noted : tree ≡ found_among files paths
 
-if_none : {X : Type 0} (o : Option X) (P : Type 0) → o ≡ None → IfNone o P → P
-if_none None P is h = h
-if_none (Some x) P is h = absurd cc
-
 pub all_noted : (old new : ReaderValue) (text : List ℕ) (before after : FilesOfPlan) (paths : List (List ℕ)) → old.fault ≡ None → old.most ≡ 16777216 → old.waiting ≡ [] → IfNone old.fault (inventory old.most text ≡ Ok new.files)
     → GrowAlike old.files new.files old.waiting new.waiting → before ≡ found_among old.files paths → ((files : List Entry) (ps : List (List ℕ)) → before ≡ found_among files ps → after ≡ found_among (files ++ new.waiting) ps) → AreAllNoted text paths after
 all_noted old new text before after paths sound takes waited told grown found noting =
-    let read : inventory 16777216 text ≡ Ok new.files = ap (λ n. inventory n text) (sym takes) ∙ if_none old.fault (inventory old.most text ≡ Ok new.files) sound told in
+    let read : inventory 16777216 text ≡ Ok new.files = ap (λ n. inventory n text) (sym takes) ∙ at_none old.fault sound told in
     let waiting : new.waiting ≡ grown.0 = grown.2 ∙ ap (λ ws. ws ++ grown.0) waited in
     record {
       files = new.files;

@@ -1,11 +1,12 @@
 -- What was read is whole.
-use Rattle.std.proofs.Common.{◌≡◌, ℕ, zero, suc, ◌+◌, ◌≤◌, Bool, true, false, not, cond, List, [], ◌∷◌, ◌++◌, length, map, get_or, Option, Some, None, Ok, refl, ap, subst, ◌∙◌, arith, inl, inr, ◌==◌, nat_lt}
+use Rattle.std.proofs.Common.{◌≡◌, ℕ, zero, suc, ◌+◌, ◌≤◌, Bool, true, false, not, cond, List, [], ◌∷◌, ◌++◌, length, map, get_or, Option, Some, None, Ok, refl, ap, subst, arith, inl, inr, ◌==◌, nat_lt}
 use Rattle.std.specs.List.{All, slice_get}
 use Rattle.std.specs.Option.{option_map}
 use Rattle.std.proofs.lemmas.Bool.{cases_Bool, both_ways, and_from, false_from_ne_true, ltb-false}
-use Rattle.std.proofs.lemmas.List.Elements.{All-nil, All-cons, All-head, All-tail, All-append, All-map}
-use Rattle.std.proofs.lemmas.Option.{slice_get-get_or}
+use Rattle.std.proofs.lemmas.List.Elements.{All-nil, All-cons, All-append, All-contains, All-map}
+use Rattle.std.proofs.lemmas.Option.{get_or_from_slice_get, slice_get-get_or, slice_get_within}
 use Rattle.idtext.specs.First.{each, first_fault}
+use Rattle.idtext.proofs.FirstLemmas.{none_of_both}
 use Rattle.idtext.proofs.OkLemmas.{bind_ok, ok_same, unless_ok, length-each, each-ok}
 use Rattle.accounts.specs.Tables.{passwd_table, group_table}
 use Rattle.accounts.proofs.LawLemmas.{passwd-law, group-law}
@@ -36,7 +37,7 @@ use Rattle.unify.specs.Reading.{added_on, added_from}
 use Rattle.unify.specs.Sparing.{AreOwnedOrReserved, SparesNothing}
 use Rattle.unify.specs.Told.{in_file, in_site}
 use Rattle.unify.proofs.Adding.{length-loaded_from}
-use Rattle.unify.proofs.Owners.{allowed, file_ok, files_read, none_both, owned-or-reserved}
+use Rattle.unify.proofs.Owners.{allowed, file_ok, files_read, owned-or-reserved}
 use Rattle.unify.proofs.Whole.{hosts_held, site_ok}
 
 -- ---- a host
@@ -58,79 +59,42 @@ ranges-law : (text : List ℕ) (ranges : HostRanges) → ranges_of text ≡ Ok r
 unfolding ranges_of
 ranges-law text ranges h = let step = bind_ok _ apart ranges h in apart-ok step.0 ranges step.2
 
-pub host-lawful : (text : HostText) (loaded : Loaded) → host_of text ≡ Ok loaded → IsLawfulHost loaded.host
-unfolding host_of
-host-lawful text loaded h =
-    let ranges = bind_ok (in_file text.name file.LoginDefs (ranges_of text.logindefs)) _ loaded h in
-    let users = bind_ok (in_file text.name file.Passwd (passwd_table text.passwd)) _ loaded ranges.2 in
-    let groups = bind_ok (in_file text.name file.Group (group_table text.group)) _ loaded users.2 in
-    let made : Host = sparing_none text.name ranges.0 users.0 groups.0 in
-    let primary = bind_ok (in_site (primary_checked made)) _ loaded groups.2 in
-    let all : Loaded = record { host = made; mtree = text.mtree } in
-    subst (λ (l : Loaded). IsLawfulHost l.host) (ok_same all loaded primary.2)
-    (record {
-      ranges = ranges-law text.logindefs ranges.0 (file_ok text.name file.LoginDefs (ranges_of text.logindefs) ranges.0 ranges.1);
-      users = passwd-law text.passwd users.0 (file_ok text.name file.Passwd (passwd_table text.passwd) users.0 users.1);
-      groups = group-law text.group groups.0 (file_ok text.name file.Group (group_table text.group) groups.0 groups.1);
-    })
+-- what is known of a host that was loaded, by its texts
+record IsOfTexts (text : HostText) (loaded : Loaded) : Type 0 where
+  pub ranges : ranges_of text.logindefs ≡ Ok loaded.host.ranges
+  pub users : passwd_table text.passwd ≡ Ok loaded.host.users
+  pub groups : group_table text.group ≡ Ok loaded.host.groups
+  pub primary : primary_checked loaded.host ≡ Ok tt
+  pub named : text.name ≡ loaded.host.name
+  pub inventory : text.mtree ≡ loaded.mtree
+  pub unsparing : SparesNothing loaded.host
 
--- a host that was loaded was read
-host-read : (text : HostText) (loaded : Loaded) → host_of text ≡ Ok loaded → WasRead loaded.host
+of-texts : (text : HostText) (loaded : Loaded) → host_of text ≡ Ok loaded → IsOfTexts text loaded
 unfolding host_of
-host-read text loaded h =
+of-texts text loaded h =
     let ranges = bind_ok (in_file text.name file.LoginDefs (ranges_of text.logindefs)) _ loaded h in
     let users = bind_ok (in_file text.name file.Passwd (passwd_table text.passwd)) _ loaded ranges.2 in
     let groups = bind_ok (in_file text.name file.Group (group_table text.group)) _ loaded users.2 in
     let made : Host = sparing_none text.name ranges.0 users.0 groups.0 in
     let primary = bind_ok (in_site (primary_checked made)) _ loaded groups.2 in
-    let all : Loaded = record { host = made; mtree = text.mtree } in
-    subst (λ (l : Loaded). WasRead l.host) (ok_same all loaded primary.2)
+    subst (IsOfTexts text) (ok_same (record { host = made; mtree = text.mtree }) loaded primary.2)
     (record {
-      passwd = text.passwd;
+      ranges = file_ok text.name file.LoginDefs (ranges_of text.logindefs) ranges.0 ranges.1;
       users = file_ok text.name file.Passwd (passwd_table text.passwd) users.0 users.1;
-      group = text.group;
       groups = file_ok text.name file.Group (group_table text.group) groups.0 groups.1;
       primary = site_ok (primary_checked made) primary.0 primary.1;
+      named = refl;
+      inventory = refl;
+      unsparing = record { users = refl; groups = refl };
     })
-
--- it spares nothing
-host-unsparing : (text : HostText) (loaded : Loaded) → host_of text ≡ Ok loaded → SparesNothing loaded.host
-unfolding host_of
-host-unsparing text loaded h =
-    let ranges = bind_ok (in_file text.name file.LoginDefs (ranges_of text.logindefs)) _ loaded h in
-    let users = bind_ok (in_file text.name file.Passwd (passwd_table text.passwd)) _ loaded ranges.2 in
-    let groups = bind_ok (in_file text.name file.Group (group_table text.group)) _ loaded users.2 in
-    let made : Host = sparing_none text.name ranges.0 users.0 groups.0 in
-    let primary = bind_ok (in_site (primary_checked made)) _ loaded groups.2 in
-    let all : Loaded = record { host = made; mtree = text.mtree } in
-    subst (λ (l : Loaded). SparesNothing l.host) (ok_same all loaded primary.2) (record { users = refl; groups = refl })
 
 -- its tables are those of its texts
 pub tables-of : (text : HostText) (loaded : Loaded) → host_of text ≡ Ok loaded → (passwd_table text.passwd ≡ Ok loaded.host.users) × (group_table text.group ≡ Ok loaded.host.groups)
-unfolding host_of
-tables-of text loaded h =
-    let ranges = bind_ok (in_file text.name file.LoginDefs (ranges_of text.logindefs)) _ loaded h in
-    let users = bind_ok (in_file text.name file.Passwd (passwd_table text.passwd)) _ loaded ranges.2 in
-    let groups = bind_ok (in_file text.name file.Group (group_table text.group)) _ loaded users.2 in
-    let made : Host = sparing_none text.name ranges.0 users.0 groups.0 in
-    let primary = bind_ok (in_site (primary_checked made)) _ loaded groups.2 in
-    let same = ok_same (record { host = made; mtree = text.mtree }) loaded primary.2 in (
-      file_ok text.name file.Passwd (passwd_table text.passwd) users.0 users.1 ∙ ap (λ (l : Loaded). Ok l.host.users) same,
-      file_ok text.name file.Group (group_table text.group) groups.0 groups.1 ∙ ap (λ (l : Loaded). Ok l.host.groups) same,
-    )
+tables-of text loaded h = let of = of-texts text loaded h in (of.users, of.groups)
 
 -- a host that was loaded has the name and the inventory of its texts
 pub as_loaded : (text : HostText) (loaded : Loaded) → host_of text ≡ Ok loaded → (text.name ≡ loaded.host.name) × (text.mtree ≡ loaded.mtree)
-unfolding host_of
-as_loaded text loaded h =
-    let ranges = bind_ok (in_file text.name file.LoginDefs (ranges_of text.logindefs)) _ loaded h in
-    let users = bind_ok (in_file text.name file.Passwd (passwd_table text.passwd)) _ loaded ranges.2 in
-    let groups = bind_ok (in_file text.name file.Group (group_table text.group)) _ loaded users.2 in
-    let made : Host = sparing_none text.name ranges.0 users.0 groups.0 in
-    let primary = bind_ok (in_site (primary_checked made)) _ loaded groups.2 in
-    let all : Loaded = record { host = made; mtree = text.mtree } in
-    let same : all ≡ loaded = ok_same all loaded primary.2 in
-    (ap (λ (l : Loaded). l.host.name) same, ap (λ (l : Loaded). l.mtree) same)
+as_loaded text loaded h = let of = of-texts text loaded h in (of.named, of.inventory)
 
 passed : {F : Type 0} (b : Bool) (e : F) (rest : Option F) → cond (not b) (Some e) rest ≡ None → b ≡ true
 passed true e rest h = refl
@@ -140,64 +104,58 @@ all-named : (before texts : List HostText) → first_fault name_fault before tex
 unfolding first_fault
 all-named before [] h = All-nil (λ (t : HostText). is_host_name t.name ≡ true)
 all-named before (t ∷ texts) h =
-    let both = none_both (name_fault before t) (first_fault name_fault (before ++ t ∷ []) texts) h in
+    let both = none_of_both (name_fault before t) (first_fault name_fault (before ++ t ∷ []) texts) h in
     All-cons (λ (t : HostText). is_host_name t.name ≡ true) t texts (passed (is_host_name t.name) _ _ both.0) (all-named (before ++ t ∷ []) texts both.1)
 
-pub texts-named : (texts : List HostText) (u : Unit {0}) → hosts_checked texts ≡ Ok u → All (λ t. is_host_name t.name ≡ true) texts
+-- a list of hosts that is in order
+list-checked : (texts : List HostText) (u : Unit {0}) → hosts_checked texts ≡ Ok u → (length texts ≤ 64) × (first_fault name_fault [] texts ≡ None)
 unfolding hosts_checked
-texts-named texts u h = elim (cases_Bool (length texts == 0)) [
+list-checked texts u h = elim (cases_Bool (length texts == 0)) [
   | inl t ↦ let h' = rw t at h in absurd (cc)
   | inr f ↦ elim (cases_Bool (nat_lt 64 (length texts))) [
     | inl t ↦ let h' = rw (f, t) at h in absurd (cc)
-    | inr g ↦ let h' = rw (f, g) at h in all-named [] texts (unless_ok (first_fault name_fault [] texts) tt u h').0
+    | inr g ↦ let h' = rw (f, g) at h in (ltb-false 64 (length texts) g, (unless_ok (first_fault name_fault [] texts) tt u h').0)
   ]
 ]
 
-pub all-at : {X : Type 0} (P : X → Type 0) (xs : List X) (k : ℕ) (x : X) → All P xs → slice_get xs k ≡ Some x → P x
-all-at P [] k x all h = absurd (cc)
-all-at P (y ∷ ys) zero x all h = let same : y ≡ x = (cc) in subst P same (All-head P y ys all)
-all-at P (y ∷ ys) (suc k) x all h = all-at P ys k x (All-tail P y ys all) h
+pub texts-named : (texts : List HostText) (u : Unit {0}) → hosts_checked texts ≡ Ok u → All (λ t. is_host_name t.name ≡ true) texts
+texts-named texts u h = all-named [] texts (list-checked texts u h).1
 
 pub hosts-few : (texts : List HostText) (u : Unit {0}) → hosts_checked texts ≡ Ok u → length texts ≤ 64
-unfolding hosts_checked
-hosts-few texts u h = elim (cases_Bool (length texts == 0)) [
-  | inl t ↦ let h' = rw t at h in absurd (cc)
-  | inr f ↦ elim (cases_Bool (nat_lt 64 (length texts))) [
-    | inl t ↦ let h' = rw (f, t) at h in absurd (cc)
-    | inr g ↦ ltb-false 64 (length texts) g
-  ]
-]
+hosts-few texts u h = (list-checked texts u h).0
+
+pub all-at : {X : Type 0} (P : X → Type 0) (xs : List X) (k : ℕ) (x : X) → All P xs → slice_get xs k ≡ Some x → P x
+all-at P xs k x all h = All-contains P xs x all (k, slice_get_within xs k x h, get_or_from_slice_get xs k x x h)
 
 -- ---- the hosts that were loaded
 
+loaded-all : (P : Host → Type 0) (texts : List HostText) (loaded : List Loaded) → each host_of texts ≡ Ok loaded → ((k : ℕ) (text : HostText) (l : Loaded) → slice_get texts k ≡ Some text → IsOfTexts text l → P l.host) → All P (map (λ l. l.host) loaded)
+loaded-all P texts loaded h says =
+    All-map P (λ (l : Loaded). l.host) loaded
+    (λ k d m.
+    let from = each-ok host_of texts loaded h k (get_or loaded k d) (slice_get-get_or loaded k d m) in
+    says k from.0 (get_or loaded k d) from.1 (of-texts from.0 (get_or loaded k d) from.2))
+
 pub loaded-lawful : (texts : List HostText) (loaded : List Loaded) → each host_of texts ≡ Ok loaded → All IsLawfulHost (map (λ l. l.host) loaded)
 loaded-lawful texts loaded h =
-    All-map IsLawfulHost (λ (l : Loaded). l.host) loaded
-    (λ k d l.
-    let from = each-ok host_of texts loaded h k (get_or loaded k d) (slice_get-get_or loaded k d l) in
-    host-lawful from.0 (get_or loaded k d) from.2)
+    loaded-all IsLawfulHost texts loaded h (λ k text l at of. record {
+      ranges = ranges-law text.logindefs l.host.ranges of.ranges;
+      users = passwd-law text.passwd l.host.users of.users;
+      groups = group-law text.group l.host.groups of.groups;
+    })
 
+-- a host that was loaded was read
 pub loaded-read : (texts : List HostText) (loaded : List Loaded) → each host_of texts ≡ Ok loaded → All WasRead (map (λ l. l.host) loaded)
-loaded-read texts loaded h =
-    All-map WasRead (λ (l : Loaded). l.host) loaded
-    (λ k d l.
-    let from = each-ok host_of texts loaded h k (get_or loaded k d) (slice_get-get_or loaded k d l) in
-    host-read from.0 (get_or loaded k d) from.2)
+loaded-read texts loaded h = loaded-all WasRead texts loaded h (λ k text l at of. record { passwd = text.passwd; users = of.users; group = text.group; groups = of.groups; primary = of.primary })
 
+-- it spares nothing
 pub loaded-unsparing : (texts : List HostText) (loaded : List Loaded) → each host_of texts ≡ Ok loaded → All SparesNothing (map (λ l. l.host) loaded)
-loaded-unsparing texts loaded h =
-    All-map SparesNothing (λ (l : Loaded). l.host) loaded
-    (λ k d l.
-    let from = each-ok host_of texts loaded h k (get_or loaded k d) (slice_get-get_or loaded k d l) in
-    host-unsparing from.0 (get_or loaded k d) from.2)
+loaded-unsparing texts loaded h = loaded-all SparesNothing texts loaded h (λ k text l at of. of.unsparing)
 
 -- the hosts that were loaded have the names that the list gives them
 pub loaded-named : (texts : List HostText) (loaded : List Loaded) → each host_of texts ≡ Ok loaded → All (λ t. is_host_name t.name ≡ true) texts → All (λ h. is_host_name h.name ≡ true) (map (λ l. l.host) loaded)
 loaded-named texts loaded h named =
-    All-map (λ (x : Host). is_host_name x.name ≡ true) (λ (l : Loaded). l.host) loaded
-    (λ k d l.
-    let from = each-ok host_of texts loaded h k (get_or loaded k d) (slice_get-get_or loaded k d l) in
-    subst (λ n. is_host_name n ≡ true) (as_loaded from.0 (get_or loaded k d) from.2).0 (all-at (λ (t : HostText). is_host_name t.name ≡ true) texts k from.0 named from.1))
+    loaded-all (λ (x : Host). is_host_name x.name ≡ true) texts loaded h (λ k text l at of. subst (λ n. is_host_name n ≡ true) of.named (all-at (λ (t : HostText). is_host_name t.name ≡ true) texts k text named at))
 
 -- what is known of a host before its inventory is read
 abbrev pub IsKnownHost : Joined → ℕ → Host → Type 0

@@ -3,7 +3,8 @@ use Rattle.std.proofs.Common.{◌≡◌, ℕ, ◌+◌, ◌<◌, true, List, [], 
 use Rattle.std.specs.Prelude.{IfSome}
 use Rattle.std.specs.List.{slice_get}
 use Rattle.std.specs.Option.{option_map}
-use Rattle.std.proofs.lemmas.Option.{slice_get-get_or, slice_get-map}
+use Rattle.std.proofs.lemmas.List.{drop_at}
+use Rattle.std.proofs.lemmas.Option.{same_Some, slice_get-get_or, slice_get-map}
 use Rattle.idtext.specs.First.{first_fault}
 use Rattle.mtree_inv.specs.declared.entry.Entry.{Entry}
 use Rattle.mtree_inv.specs.Files.{AreFiles}
@@ -32,12 +33,6 @@ use Rattle.unify.specs.SecondPass.{IsNext, IsPlannedSoFar, IsUnfinished, WereFir
 use Rattle.unify.proofs.FilesSoFar.{files_all}
 use Rattle.unify.proofs.Owners.{files_read}
 use Rattle.unify.proofs.PlanTurns.{lines_are, lines_with}
-
--- one list has one thing at an index
-pub same_at : {A : Type 0} (xs : List A) (k : ℕ) (a b : A) → slice_get xs k ≡ Some a → slice_get xs k ≡ Some b → a ≡ b
-same_at xs k a b here there =
-    let both : Some a ≡ Some b = sym here ∙ there in
-    (cc)
 
 -- ---- what is answered
 
@@ -142,10 +137,6 @@ unstopped : (o : Option Stop) (u : Unit {0}) (A P : Type 0) → IfSome o (λ x. 
 unstopped None u A P again = refl
 unstopped (Some x) u A P again = let bad = again.0 in absurd (cc)
 
-dropped : (old more : List ℕ) → drop (length old) (old ++ more) ≡ more
-dropped [] more = refl
-dropped (x ∷ old) more = dropped old more
-
 -- ---- with a host whose turn it is
 
 pub record IsTurnOf (p : Pass) (host : Host) : Type 0 where
@@ -174,7 +165,7 @@ module _ {p : Pass} {host : Host} (turn_is : IsTurnOf p host) where
   pub for_next : (P : Host → Type 0) → (TurnsFor host p.joined p.merged p.ended p.turn p.taken.text p.taken.planned → P host) → (other : Host) → IsNext (seen p) other → P other
   for_next P has other next =
       let there : slice_get p.hosts p.ended ≡ Some other = ap (slice_get p.hosts) (sym inv.ended_are) ∙ next.0 in
-      subst P (same_at p.hosts p.ended host other here there) (has (inv.turns host here (unmet_stop (slice_get p.hosts p.ended) p.turn.stop host here next.1)))
+      subst P (same_Some host other (sym here ∙ there)) (has (inv.turns host here (unmet_stop (slice_get p.hosts p.ended) p.turn.stop host here next.1)))
 
   -- how many files its rows owned in the first pass
   pub first_rows : (rows : RowFiles) (were : List Entry) → rows ≡ get_or p.passed p.ended rows → WereFirst (seen p) host were → rows ≡ row_files host were
@@ -185,7 +176,7 @@ module _ {p : Pass} {host : Host} (turn_is : IsTurnOf p host) where
       let passed : p.passed ≡ map count first.0 = counting.passed_are ∙ ap (map count) (ok_same counting.read first.0 (sym counting.accepted ∙ first.1)) in
       let was : slice_get first.0 p.ended ≡ Some (host, were) = ap (slice_get first.0) (sym inv.ended_are) ∙ first.2 in
       let counted : slice_get p.passed p.ended ≡ Some (row_files host were) = ap (λ rs. slice_get rs p.ended) passed ∙ slice_get-map count first.0 p.ended ∙ ap (option_map count) was in
-      same_at p.passed p.ended rows (row_files host were) at counted
+      same_Some rows (row_files host were) (sym at ∙ counted)
 
   pub stopped_seen : (turn : PlanTurn) (halt : Stop) (f : Fault) → turn.stop ≡ Some halt → f ≡ stop_told host halt → seen (turned turn) ≡ record (seen p) { met = Some f }
   stopped_seen turn halt f met is = ap (λ o. record (seen p) { met = o }) (stop_met (slice_get p.hosts p.ended) turn.stop host halt f here met is)
@@ -214,7 +205,7 @@ module _ {p : Pass} {host : Host} (turn_is : IsTurnOf p host) where
       fed = record p { turn = turn; taken = record p.taken { text = p.taken.text ++ bytes; planned = p.taken.planned ++ drop (length old) new } }
 
       more_is : drop (length old) new ≡ fed_turns.0
-      more_is = ap (drop (length old)) fed_turns.1 ∙ dropped old fed_turns.0
+      more_is = ap (drop (length old)) fed_turns.1 ∙ drop_at old fed_turns.0 (length old) refl
 
       fed_here : TurnsFor host p.joined p.merged p.ended turn (p.taken.text ++ bytes) (p.taken.planned ++ drop (length old) new)
       fed_here = subst (λ more. TurnsFor host p.joined p.merged p.ended turn (p.taken.text ++ bytes) (p.taken.planned ++ more)) (sym more_is) fed_turns.2
@@ -224,7 +215,7 @@ module _ {p : Pass} {host : Host} (turn_is : IsTurnOf p host) where
         behind = inv.behind;
         ended_are = inv.ended_are;
         within = inv.within;
-        turns = λ other there goes. subst (λ (h : Host). TurnsFor h p.joined p.merged p.ended turn (p.taken.text ++ bytes) (p.taken.planned ++ drop (length old) new)) (same_at p.hosts p.ended host other here there) fed_here;
+        turns = λ other there goes. subst (λ (h : Host). TurnsFor h p.joined p.merged p.ended turn (p.taken.text ++ bytes) (p.taken.planned ++ drop (length old) new)) (same_Some host other (sym here ∙ there)) fed_here;
       }
 
       -- what is told of it

@@ -1,14 +1,12 @@
 //! What the texts of a host say.
 
 ghost use Rattle.std.specs.Prelude.{◌≡◌, [], length, Ok, Err, IfOk, IfErr, IfSome, All};
-ghost use Rattle.std.specs.Prelude.{option_map};
 ghost use Rattle.idtext.specs.First.{Gives, each};
 ghost use Rattle.accounts.specs.Laws.{IsPasswdTable, IsGroupTable};
 ghost use Rattle.accounts.specs.Tables.{passwd_table, group_table};
 ghost use Rattle.logindefs.specs.Ranges.{IsHostRanges, ranges_of};
 ghost use Rattle.hosts_join.specs.Checks.{primary_checked};
 ghost use Rattle.hosts_join.specs.Hosts.{IsLawfulHost};
-ghost use Rattle.hosts_join.specs.Kinds.{user_at, group_at};
 ghost use Rattle.unify_texts.specs.declared.fault.Fault.{Fault};
 ghost use Rattle.unify_texts.specs.declared.fault.Fault.TheVariants.{Line};
 ghost use Rattle.unify_texts.specs.Told.{told};
@@ -206,35 +204,19 @@ pub fn load_hosts<'a>(alloc: Global, texts: &'a [HostText]) -> Result<Vec<Loaded
     Ok(hosts)
 }
 
-/// The name of the user with this number, by hash.
-pub fn user_named<'a>(users: &PasswdTable<'a>, uid: u32) -> Option<&'a [u8]>
-    ensures { option_map (λ name. name.now) result ≡ user_at users.now uid }
-{
-    let row = users.by_number(uid)?;
-    Some(row.name)
-}
-
-/// The name of the group with this number, by hash.
-pub fn group_named<'a>(groups: &GroupTable<'a>, gid: u32) -> Option<&'a [u8]>
-    ensures { option_map (λ name. name.now) result ≡ group_at groups.now gid }
-{
-    let row = groups.by_number(gid)?;
-    Some(row.name)
-}
-
 // Whether a file of the host may have the uid: it is a user's, or the host spares it. A look-up by
 // hash, and where no user has it a bisection.
 fn is_uid_allowed(host: &Host<'_>, uid: u32) -> bool
     ensures { result ≡ allows_uid host.now uid }
 {
-    user_named(&host.users, uid).is_some() || host.spared_users.has(uid)
+    host.users.by_number(uid).is_some() || host.spared_users.has(uid)
 }
 
 // Whether a file of the host may have the gid: it is a group's, or the host spares it.
 fn is_gid_allowed(host: &Host<'_>, gid: u32) -> bool
     ensures { result ≡ allows_gid host.now gid }
 {
-    group_named(&host.groups, gid).is_some() || host.spared_groups.has(gid)
+    host.groups.by_number(gid).is_some() || host.spared_groups.has(gid)
 }
 
 /// What is wrong with a file's owners: its uid or its gid is the number of no account of its host,

@@ -2,11 +2,7 @@
 
 ghost use Rattle.std.specs.Prelude.{◌≡◌, IfErr, IfOk, OnErr};
 ghost use Rattle.idtext.specs.First.{Gives};
-ghost use Rattle.kept_accounts.specs.Reserving.{UnownedNumbers};
-ghost use Rattle.unify.specs.Rules.{rules_by};
 ghost use Rattle.unify_merge.specs.FirstReading.{ReadsOnly};
-ghost use Rattle.unify_merge.specs.Ledger.{HasBegun};
-ghost use Rattle.unify_merge.specs.Merge.{keeps_in, names_before_report};
 ghost use Rattle.unify_merge.specs.Rehearse.{HasRehearsed, StopsRehearsal};
 ghost use Rattle.unify_merge.specs.Surveyed.{HasCheckedFiles, HasCountedFiles, HasMergedFiles};
 ghost use Rattle.unify_merge.specs.Surveyed.{LeavesFiles, StopsCheckFiles, StopsCountFiles};
@@ -106,9 +102,6 @@ pub fn merge_answer<'a, F: MergeFiles>(
     ensures stopped { IfErr result.found
         (StopsMergeFiles hosts.now pins.now keep.now (F.ledger files.old) (F.ledger files.new)
         (F.has_failed files.new)) }
-    ensures begun { OnErr result.found ((unowned : UnownedNumbers)
-        × HasBegun (names_before_report (keeps_in hosts.now (rules_by pins.now keep.now unowned))
-        hosts.now) (F.ledger files.old) (F.ledger files.new)) }
     ensures left { OnErr result.found
         (LeavesFiles hosts.now pins.now keep.now (F.ledger files.old) (F.ledger files.new)) }
     ensures told { Gives reply_of cause result.reply (reply_to cost_lines result.found) }

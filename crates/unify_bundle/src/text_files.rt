@@ -163,6 +163,8 @@ impl ReadFiles for TextFiles<'_> {
 
 impl MergeFiles for TextFiles<'_> {
     fn clear(&mut self) -> Result<(), CallFailed> {
+        self.files.clear();
+        self.is_writing = false;
         self.log.note(&Call::Clear);
         Ok(())
     }

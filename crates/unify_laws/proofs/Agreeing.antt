@@ -1,14 +1,12 @@
 -- What one command prints, and what another answers to it.
 use Rattle.std.proofs.Common.{◌≡◌, ◌<◌, ◌≤◌, ℕ, zero, suc, List, [], ◌∷◌, ◌++◌, length, map, Some, None, Ok, refl, sym, ap, subst, ◌∙◌, arith}
 use Rattle.std.specs.List.{slice_get}
+use Rattle.std.specs.Option.{option_map}
 use Rattle.std.proofs.lemmas.Bool.{eq-eqb}
 use Rattle.std.proofs.lemmas.List.Elements.{All-head, All-tail}
-use Rattle.std.proofs.lemmas.Option.{same_Some, slice_get_within}
+use Rattle.std.proofs.lemmas.Option.{same_Some, slice_get-map, slice_get_within}
 use Rattle.idtext.specs.First.{first_fault, or_else, unless}
-use Rattle.idtext.proofs.OkLemmas.{bind_ok, each-ok, length-each, ok_same}
-use Rattle.mtree_inv.specs.Inventory.{inventory}
 use Rattle.mtree_inv.specs.declared.entry.Entry.{Entry}
-use Rattle.hosts_join.specs.declared.host.Host.{Host}
 use Rattle.hosts_join.specs.declared.texts.HostText.{HostText}
 use Rattle.ownership.specs.Costs.{site_cost}
 use Rattle.certcheck.specs.Check.{answer, mappings_of}
@@ -20,17 +18,11 @@ use Rattle.reown_plan.specs.Reading.{ReadsAs}
 use Rattle.reown_runner.specs.Finished.{AreOld}
 use Rattle.reown_runner.specs.Memory.{owner_in}
 use Rattle.unify_texts.specs.declared.bundle_line.FileName.TheVariants as file
-use Rattle.unify.specs.declared.host.Loaded.{Loaded}
-use Rattle.unify.specs.declared.rules.SiteRules.{SiteRules}
 use Rattle.unify.specs.Checking.{verified}
 use Rattle.unify.specs.Cost.{cost_of}
-use Rattle.unify.specs.Count.{site_of}
-use Rattle.unify.specs.Hosts.{files_of}
-use Rattle.unify.specs.Loading.{loaded_from}
-use Rattle.unify.specs.Reading.{WholeSite, files_of_site, site_read}
+use Rattle.unify.specs.Reading.{files_of_site}
 use Rattle.unify.specs.Rehearsing.{found_fault, record_fault}
 use Rattle.unify.specs.Told.{in_file}
-use Rattle.unify.proofs.Adding.{length-loaded_from}
 use Rattle.unify.proofs.Owners.{files_read}
 use Rattle.unify.proofs.ReadSites.{as-many-others}
 use Rattle.unify.proofs.Rehearsed.{carried_out}
@@ -38,7 +30,8 @@ use Rattle.unify_laws.specs.Agreeing.{PrintedCertificatesAreAccepted, NoMapRewri
 use Rattle.unify_laws.specs.Headline.{fields}
 use Rattle.unify_laws.proofs.Believed.{outcomes_are_believed}
 use Rattle.unify_laws.proofs.Costs.{costs_agree}
-use Rattle.unify_laws.proofs.WholeSites.{paired, read_sites_are_whole, steps}
+use Rattle.unify_laws.proofs.OnePiece.{accepted_at}
+use Rattle.unify_laws.proofs.WholeSites.{read_sites_are_whole, steps}
 
 pub printed_certificates_are_accepted : PrintedCertificatesAreAccepted
 unfolding verified
@@ -61,13 +54,6 @@ no_map_rewrites_fewer texts rules text cost is other m users groups =
 
 -- ---- plans
 
--- a site has as many hosts as there were texts
-as_many_hosts : (texts : List HostText) (rules : SiteRules) (site : WholeSite) → site_read texts rules ≡ Ok site → length site.hosts ≡ length texts
-as_many_hosts texts rules site read =
-    let s = steps texts rules site read in
-    let mtrees = map (λ (t : HostText). t.mtree) texts in
-    length-each site_of (loaded_from s.others.hosts mtrees) site.hosts s.files_are ∙ length-loaded_from s.others.hosts mtrees (paired texts rules site s) ∙ as-many-others texts rules.keep s.others s.others_are
-
 -- an index that is within has an item
 pub item_at : {X : Type 0} (xs : List X) (k : ℕ) → k < length xs → (x : X) × (slice_get xs k ≡ Some x)
 item_at [] k within = absurd (omega (arith, within))
@@ -86,27 +72,17 @@ none_faulty files before (r ∷ records) old =
     let here : record_fault files before r ≡ None = ap (found_fault r) (All-head is_old r records old) ∙ old_is_right r in
     ap (λ o. or_else o (first_fault (record_fault files) (before ++ r ∷ []) records)) here ∙ none_faulty files (before ++ r ∷ []) records (All-tail is_old r records old)
 
--- a host at an index stands with the inventory of the text at it
-inventory_at : (hosts : List Host) (texts : List HostText) (h : ℕ) (l : Loaded) (text : HostText) → slice_get (loaded_from hosts (map (λ t. t.mtree) texts)) h ≡ Some l → slice_get texts h ≡ Some text → l.mtree ≡ text.mtree
-inventory_at [] texts h l text here there = absurd (cc)
-inventory_at (host ∷ hosts) [] h l text here there = absurd (cc)
-inventory_at (host ∷ hosts) (t ∷ texts) zero l text here there = sym (ap (λ (x : Loaded). x.mtree) (same_Some (record { host = host; mtree = t.mtree }) l here)) ∙ ap (λ (x : HostText). x.mtree) (same_Some t text there)
-inventory_at (host ∷ hosts) (t ∷ texts) (suc h) l text here there = inventory_at hosts texts h l text here there
-
 pub printed_plans_are_rehearsed : PrintedPlansAreRehearsed
 printed_plans_are_rehearsed texts rules site outcome read o h text plan text_at plan_at =
     let s = steps texts rules site read in
     let mtrees = map (λ (t : HostText). t.mtree) texts in
-    let at = item_at site.hosts h (omega (arith, slice_get_within texts h text text_at, as_many_hosts texts rules site read)) in
-    let host : Host = at.0.0 in
-    let files : List Entry = at.0.1 in
-    let loaded = each-ok site_of (loaded_from s.others.hosts mtrees) site.hosts s.files_are h at.0 at.1 in
-    let same : loaded.0.mtree ≡ text.mtree = inventory_at s.others.hosts texts h loaded.0 text loaded.1 text_at in
-    let read_here = bind_ok (files_of loaded.0) (λ fs. Ok (loaded.0.host, fs)) at.0 loaded.2 in
-    let pair : (loaded.0.host, read_here.0) ≡ at.0 = ok_same (loaded.0.host, read_here.0) at.0 read_here.2 in
-    let listed : inventory 16777216 text.mtree ≡ Ok files =
-    ap (inventory 16777216) (sym same) ∙ (files_read loaded.0 read_here.0 read_here.1).0 ∙ ap (λ (p : Host × List Entry). Ok p.1) pair in
-    let found = (outcomes_are_believed site outcome (read_sites_are_whole texts rules site read) o).a_plan_keeps_names h host files at.1 in
+    let at = item_at s.others.hosts h (omega (arith, slice_get_within texts h text text_at, as-many-others texts rules.keep s.others s.others_are)) in
+    let host = at.0 in
+    let mtree_at = slice_get-map (λ (t : HostText). t.mtree) texts h ∙ ap (option_map (λ (t : HostText). t.mtree)) text_at in
+    let here = accepted_at s.others.hosts mtrees site.hosts h host text.mtree s.files_are at.1 mtree_at in
+    let files = here.0 in
+    let listed = (files_read (record { host = host; mtree = text.mtree }) files here.1).0 in
+    let found = (outcomes_are_believed site outcome (read_sites_are_whole texts rules site read) o).a_plan_keeps_names h host files here.2 in
     let told : PlanData = record { host = host.name; records = found.records } in
     let reads : ReadsAs plan (Ok told) = subst (λ p. ReadsAs p (Ok told)) (same_Some found.plan plan (sym found.printed ∙ plan_at)) found.read in
     let none = none_faulty files [] found.records found.begins in

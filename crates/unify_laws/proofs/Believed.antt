@@ -1,9 +1,9 @@
 -- What a merge may answer is what it is believed for.
-use Rattle.std.proofs.Common.{◌≡◌, ◌⊎◌, ℕ, zero, suc, ◌+◌, ◌≤◌, ◌↔◌, true, false, List, [], ◌∷◌, get_or, map, Option, Some, None, refl, sym, ap, subst, ◌∙◌, arith}
+use Rattle.std.proofs.Common.{◌≡◌, ◌⊎◌, ℕ, zero, suc, ◌+◌, ◌≤◌, ◌↔◌, true, false, List, [], ◌∷◌, map, Option, Some, None, refl, sym, ap, subst, ◌∙◌, arith}
 use Rattle.std.specs.List.{slice_get}
 use Rattle.std.specs.Option.{is_some, option_map}
 use Rattle.std.proofs.lemmas.List.Elements.{All-weaker}
-use Rattle.std.proofs.lemmas.Option.{same_Some, slice_get-map}
+use Rattle.std.proofs.lemmas.Option.{get_or_from_slice_get, same_Some, slice_get-map}
 use Rattle.hosts_join.specs.Accounts.{Accounts, Pair}
 use Rattle.hosts_join.specs.Kinds.{user_at, group_at}
 use Rattle.hosts_join.specs.Pairs.{number_of}
@@ -69,16 +69,11 @@ text_at hosts site m (h ∷ hs) start (suc k) host files here =
     let index : (start + 1) + k ≡ start + suc k = omega arith in
     text_at hosts site m hs (start + 1) k host files here ∙ ap (λ i. Some (plan.spelling (host_plan hosts site m.users m.groups i files))) index
 
-read_at : {X : Type 0} (xs : List X) (k : ℕ) (d x : X) → slice_get xs k ≡ Some x → get_or xs k d ≡ x
-read_at [] k d x here = absurd (cc)
-read_at (y ∷ ys) zero d x here = same_Some y x here
-read_at (y ∷ ys) (suc k) d x here = read_at ys k d x here
-
 -- the name at an index is that of the host there
 pub name_is : (site : WholeSite) (h : ℕ) (host : Host) (files : List Entry) → slice_get site.hosts h ≡ Some (host, files) → name_at (hosts_in site) h ≡ host.name
 name_is site h host files here =
     let there : slice_get (hosts_in site) h ≡ Some host = slice_get-map (λ (x : Host × List Entry). x.0) site.hosts h ∙ ap (option_map (λ (x : Host × List Entry). x.0)) here in
-    read_at (map (λ (x : Host). x.name) (hosts_in site)) h [] host.name (slice_get-map (λ (x : Host). x.name) (hosts_in site) h ∙ ap (option_map (λ (x : Host). x.name)) there)
+    get_or_from_slice_get (map (λ (x : Host). x.name) (hosts_in site)) h host.name [] (slice_get-map (λ (x : Host). x.name) (hosts_in site) h ∙ ap (option_map (λ (x : Host). x.name)) there)
 
 plan_keeps : (site : WholeSite) (outcome : Outcome) → IsWhole site → (o : IsOutcome site outcome) (printed : MapText) → ArePairsOf site.joined o.mappings printed
     → (installed : AreInstalled site outcome o.mappings printed) → (h : ℕ) (host : Host) (files : List Entry) → slice_get site.hosts h ≡ Some (host, files) → PlanKeepsNames printed installed.passwd.rows installed.group.rows outcome.plans h host host files

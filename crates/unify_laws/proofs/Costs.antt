@@ -8,7 +8,7 @@ use Rattle.std.proofs.lemmas.List.Sums.{sum_by-append, sum_by-cons}
 use Rattle.mtree_inv.specs.declared.entry.Entry.{Entry}
 use Rattle.hosts_join.specs.Accounts.{Account, Accounts, Pair, nobody, owner}
 use Rattle.hosts_join.specs.Kinds.{user_at, group_at}
-use Rattle.hosts_join.specs.Laws.{IsOwnedAsTold, KnowsHost}
+use Rattle.hosts_join.specs.Laws.{IsOwnedAsTold}
 use Rattle.hosts_join.specs.Pairs.{number_of}
 use Rattle.hosts_join.specs.Rules.{account}
 use Rattle.hosts_join.specs.declared.host.Host.{Host}
@@ -17,11 +17,11 @@ use Rattle.hosts_join.proofs.Pairing.{place-holds}
 use Rattle.hosts_join.proofs.Refusals.{count_by-of-map}
 use Rattle.ownership.specs.Costs.{changes}
 use Rattle.ownership.specs.Costs as joined
-use Rattle.ownership.specs.Files.{Added, File, by_user, by_group}
+use Rattle.ownership.specs.Files.{Added, File}
 use Rattle.ownership.specs.Mappings.{number_at}
 use Rattle.unify_texts.specs.WrittenMap.{SayMapping}
 use Rattle.unify.specs.Cost.{changed}
-use Rattle.unify.specs.Reading.{WholeSite, added_on, added_from}
+use Rattle.unify.specs.Reading.{added_on, added_from}
 use Rattle.unify_laws.specs.Laws.{CostsAgree}
 
 -- ---- a field of a file
@@ -68,31 +68,21 @@ module _ (f : Host → Entry → ℕ) (g : Added → ℕ) where
       same (suc k) host files there e ∙ ap (λ i. g (added_on i e)) behind) in
       omega (arith, sum_by-cons (λ (here : Host × List Entry). sum_by (f here.0) here.1) h hs, first, rest, sum_by-append g (map (added_on start) h.1) (added_from (start + 1) hs))
 
-users_agree : (site : WholeSite) (m : List ℕ) (pairs : List Pair) → SayMapping site.joined.users m pairs
-    → ((h : ℕ) (host : Host) (files : List Entry) → slice_get site.hosts h ≡ Some (host, files) → KnowsHost site.joined h host)
-    → sum_by (λ here. sum_by (λ file. changed pairs (user_at here.0.users file.uid) file.uid) here.1) site.hosts ≡ joined.cost_of site.joined.users (by_user (added_from 0 site.hosts)) m
-users_agree site m pairs say known =
-    let names = site.joined.users.names in
-    host_sums (λ (host : Host) (file : Entry). changed pairs (user_at host.users file.uid) file.uid) (λ (f : Added). cond {A = ℕ} (changes m (owner names f.host f.uid) f.uid) 1 0) 0 site.hosts
+-- pick: of the uid and the gid of a file, the number of the kind
+kind_agrees : (pick : ℕ → ℕ → ℕ) (told : Host → ℕ → Option (List ℕ)) (a : Accounts) (m : List ℕ) (pairs : List Pair) (hosts : List (Host × List Entry)) → SayMapping a m pairs
+    → ((h : ℕ) (host : Host) (files : List Entry) → slice_get hosts h ≡ Some (host, files) → (v : ℕ) → IsOwnedAsTold a.names h v (told host v))
+    → sum_by (λ here. sum_by (λ file. changed pairs (told here.0 (pick file.uid file.gid)) (pick file.uid file.gid)) here.1) hosts ≡ joined.cost_of a (map (λ f. record { host = f.host; number = pick f.uid f.gid }) (added_from 0 hosts)) m
+kind_agrees pick told a m pairs hosts say known =
+    let changes_at = λ (i v : ℕ). cond {A = ℕ} (changes m (owner a.names i v) v) 1 0 in
+    host_sums (λ (host : Host) (file : Entry). changed pairs (told host (pick file.uid file.gid)) (pick file.uid file.gid)) (λ (f : Added). changes_at f.host (pick f.uid f.gid)) 0 hosts
     (λ k host files here e.
     let from_zero : k ≡ 0 + k = omega arith in
-    field_same site.joined.users m pairs say k e.uid (user_at host.users e.uid) ((known k host files here).users e.uid) ∙ ap (λ (i : ℕ). cond {A = ℕ} (changes m (owner names i e.uid) e.uid) 1 0) from_zero)
-    ∙ sym (count_by-of-map (λ (f : File). changes m (owner names f.host f.number) f.number) (λ (f : Added). record { host = f.host; number = f.uid }) (added_from 0 site.hosts))
-
-groups_agree : (site : WholeSite) (m : List ℕ) (pairs : List Pair) → SayMapping site.joined.groups m pairs
-    → ((h : ℕ) (host : Host) (files : List Entry) → slice_get site.hosts h ≡ Some (host, files) → KnowsHost site.joined h host)
-    → sum_by (λ here. sum_by (λ file. changed pairs (group_at here.0.groups file.gid) file.gid) here.1) site.hosts ≡ joined.cost_of site.joined.groups (by_group (added_from 0 site.hosts)) m
-groups_agree site m pairs say known =
-    let names = site.joined.groups.names in
-    host_sums (λ (host : Host) (file : Entry). changed pairs (group_at host.groups file.gid) file.gid) (λ (f : Added). cond {A = ℕ} (changes m (owner names f.host f.gid) f.gid) 1 0) 0 site.hosts
-    (λ k host files here e.
-    let from_zero : k ≡ 0 + k = omega arith in
-    field_same site.joined.groups m pairs say k e.gid (group_at host.groups e.gid) ((known k host files here).groups e.gid) ∙ ap (λ (i : ℕ). cond {A = ℕ} (changes m (owner names i e.gid) e.gid) 1 0) from_zero)
-    ∙ sym (count_by-of-map (λ (f : File). changes m (owner names f.host f.number) f.number) (λ (f : Added). record { host = f.host; number = f.gid }) (added_from 0 site.hosts))
+    let v = pick e.uid e.gid in
+    field_same a m pairs say k v (told host v) (known k host files here v) ∙ ap (λ i. changes_at i v) from_zero)
+    ∙ sym (count_by-of-map (λ (f : File). changes m (owner a.names f.host f.number) f.number) (λ (f : Added). record { host = f.host; number = pick f.uid f.gid }) (added_from 0 hosts))
 
 pub costs_agree : CostsAgree
 costs_agree site m printed whole users groups =
-    let known = λ (h : ℕ) (host : Host) (files : List Entry) (here : slice_get site.hosts h ≡ Some (host, files)). (whole.each_host h host files here).known in
-    let one = users_agree site m.users printed.users users known in
-    let two = groups_agree site m.groups printed.groups groups known in
+    let one = kind_agrees (λ uid gid. uid) (λ host. user_at host.users) site.joined.users m.users printed.users site.hosts users (λ h host files here. (whole.each_host h host files here).known.users) in
+    let two = kind_agrees (λ uid gid. gid) (λ host. group_at host.groups) site.joined.groups m.groups printed.groups site.hosts groups (λ h host files here. (whole.each_host h host files here).known.groups) in
     λ i. record { users = one i; groups = two i }

@@ -1,11 +1,12 @@
 -- A count of the map that a merge prints.
-use Rattle.std.proofs.Common.{◌≡◌, ◌+◌, ℕ, Bool, true, false, cond, ◌||◌, List, [], ◌∷◌, map, get_or, Option, Some, None, Ok, refl, sym, ap, ◌∙◌}
-use Rattle.std.specs.List.{All, find, list_all, list_any}
+use Rattle.std.proofs.Common.{◌≡◌, ◌+◌, ℕ, Bool, true, ◌||◌, List, [], ◌∷◌, map, get_or, Option, Some, None, Ok, refl, sym, ap, ◌∙◌}
+use Rattle.std.specs.List.{find, list_all, list_any}
 use Rattle.std.specs.Option.{is_some, option_map}
 use Rattle.std.specs.Str.{bytes_eq}
 use Rattle.std.proofs.lemmas.List.{map-append}
-use Rattle.std.proofs.lemmas.List.Elements.{All-head, All-tail}
 use Rattle.std.proofs.lemmas.List.Folds.{list_any-append, list_any_at}
+use Rattle.std.proofs.lemmas.List.Sums.{list_all-from_AllPass}
+use Rattle.accounts.proofs.ListLemmas.{list_any-map}
 use Rattle.accounts.specs.Rows.{Passwd, Group}
 use Rattle.hosts_join.specs.Accounts.{Account, Accounts, Pair, Row, first_appearances, grouped, host_rows, rows_from, spots_of}
 use Rattle.hosts_join.specs.Checks.{hosts_checked}
@@ -13,6 +14,7 @@ use Rattle.hosts_join.specs.Pairs.{number_of}
 use Rattle.hosts_join.specs.Rules.{is_name}
 use Rattle.hosts_join.specs.declared.host.Host.{Host}
 use Rattle.hosts_join.proofs.Grouping.{any-first_appearances, bytes_refl}
+use Rattle.certcheck.proofs.Missing.{any_is_find}
 use Rattle.logindefs.specs.declared.ranges.IdRange.{IdRange}
 use Rattle.unify.specs.Count.{count_of, has_user, has_group, names_checked}
 use Rattle.unify.specs.Others.{reserving}
@@ -23,25 +25,6 @@ use Rattle.unify_laws.specs.Agreeing.{PrintedMapsAreCounted}
 use Rattle.unify_laws.proofs.Costs.{costs_agree}
 use Rattle.unify_laws.proofs.Keeping.{map_says_mappings}
 use Rattle.unify_laws.proofs.WholeSites.{read_sites_are_whole, steps}
-
--- ---- lists
-
-pub found_or : {X : Type 0} (b : Bool) (x : X) (o : Option X) → is_some (cond b (Some x) o) ≡ (b || is_some o)
-found_or true x o = refl
-found_or false x o = refl
-
--- one is found exactly where one passes
-found_any : {X : Type 0} (p : X → Bool) (xs : List X) → is_some (find p xs) ≡ list_any p xs
-found_any p [] = refl
-found_any p (x ∷ xs) = found_or (p x) x (find p xs) ∙ ap (λ b. p x || b) (found_any p xs)
-
-pub any_map : {X Y : Type 0} (p : Y → Bool) (f : X → Y) (xs : List X) → list_any p (map f xs) ≡ list_any (λ x. p (f x)) xs
-any_map p f [] = refl
-any_map p f (x ∷ xs) = ap (λ b. p (f x) || b) (any_map p f xs)
-
-all_pass : {X : Type 0} (p : X → Bool) (xs : List X) → All (λ x. p x ≡ true) xs → list_all p xs ≡ true
-all_pass p [] all = refl
-all_pass p (x ∷ xs) all = rw (All-head (λ y. p y ≡ true) x xs all) (all_pass p xs (All-tail (λ y. p y ≡ true) x xs all))
 
 pub mapped_some : {X Y : Type 0} (f : X → Y) (o : Option X) → is_some (option_map f o) ≡ is_some o
 mapped_some f None = refl
@@ -65,7 +48,7 @@ module _ {R : Type 0} (name : R → List ℕ) (number : R → ℕ) (table : Host
   named_on place (h ∷ hs) n =
       let here = host_rows place (regular h) (system h) (listed h) in
       let later = rows_from regular system listed (place + 1) hs in
-      let at_h : list_any (bytes_eq n) (names here) ≡ is_some (find (λ x. bytes_eq n (name x)) (table h)) = named_here place (regular h) (system h) (table h) n ∙ sym (found_any (λ x. bytes_eq n (name x)) (table h)) in
+      let at_h : list_any (bytes_eq n) (names here) ≡ is_some (find (λ x. bytes_eq n (name x)) (table h)) = named_here place (regular h) (system h) (table h) n ∙ any_is_find (λ x. bytes_eq n (name x)) (table h) in
       ap (list_any (bytes_eq n)) (map-append (λ (r : Row). r.name) here later) ∙ list_any-append (bytes_eq n) (names here) (names later)
       ∙ ap (λ b. b || list_any (bytes_eq n) (names later)) at_h ∙ ap (λ b. is_some (find (λ x. bytes_eq n (name x)) (table h)) || b) (named_on (place + 1) hs n)
 
@@ -74,7 +57,7 @@ module _ {R : Type 0} (name : R → List ℕ) (number : R → ℕ) (table : Host
   named_somewhere hosts n =
       let rows = rows_from regular system listed 0 hosts in
       let with_spots : List ℕ → Account = λ m. record { name = m; spots = spots_of rows m } in
-      any_map (λ (a : Account). bytes_eq n a.name) with_spots (first_appearances (names rows)) ∙ any-first_appearances n (names rows) ∙ named_on 0 hosts n
+      list_any-map (λ (a : Account). bytes_eq n a.name) with_spots (first_appearances (names rows)) ∙ any-first_appearances n (names rows) ∙ named_on 0 hosts n
 
 -- ---- pairs that say the names of accounts, which are those of the hosts' tables
 
@@ -85,18 +68,18 @@ module _ {R : Type 0} (name : R → List ℕ) (table : Host → List R) (pairs :
 
   each_mapped : list_all (λ (h : Host). list_all (λ x. is_some (number_of pairs (name x))) (table h)) hosts ≡ true
   each_mapped =
-      all_pass (λ (h : Host). list_all (λ x. is_some (number_of pairs (name x))) (table h)) hosts
+      list_all-from_AllPass (λ (h : Host). list_all (λ x. is_some (number_of pairs (name x))) (table h)) hosts
       (λ k d at. let rows = table (get_or hosts k d) in
-      all_pass (λ x. is_some (number_of pairs (name x))) rows
+      list_all-from_AllPass (λ x. is_some (number_of pairs (name x))) rows
       (λ j e within. let n = name (get_or rows j e) in
-      had n ∙ list_any_at (has n) hosts k d at (found_any (λ x. bytes_eq n (name x)) rows ∙ list_any_at (λ x. bytes_eq n (name x)) rows j e within (bytes_refl n))))
+      had n ∙ list_any_at (has n) hosts k d at (sym (any_is_find (λ x. bytes_eq n (name x)) rows) ∙ list_any_at (λ x. bytes_eq n (name x)) rows j e within (bytes_refl n))))
 
   each_had : list_all (λ (p : Pair). list_any (has p.name) hosts) pairs ≡ true
   each_had =
-      all_pass (λ (p : Pair). list_any (has p.name) hosts) pairs
+      list_all-from_AllPass (λ (p : Pair). list_any (has p.name) hosts) pairs
       (λ k d at. let n = (get_or pairs k d).name in
       let same = λ (p : Pair). bytes_eq n p.name in
-      sym (had n) ∙ mapped_some (λ (p : Pair). p.number) (find same pairs) ∙ found_any same pairs ∙ list_any_at same pairs k d at (bytes_refl n))
+      sym (had n) ∙ mapped_some (λ (p : Pair). p.number) (find same pairs) ∙ sym (any_is_find same pairs) ∙ list_any_at same pairs k d at (bytes_refl n))
 
 pub printed_maps_are_counted : PrintedMapsAreCounted
 unfolding count_of

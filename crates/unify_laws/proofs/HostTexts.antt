@@ -1,8 +1,9 @@
 -- A host's own passwd and group with their new numbers keep the names that a finished plan keeps.
-use Rattle.std.proofs.Common.{◌≡◌, ◌||◌, inl, inr, ℕ, Bool, true, false, List, [], map, Option, Some, None, Ok, refl, sym, ap, subst, ◌∙◌}
+use Rattle.std.proofs.Common.{◌≡◌, ◌||◌, inl, inr, ℕ, false, List, [], map, Option, Some, None, Ok, refl, sym, ap, subst, ◌∙◌}
 use Rattle.std.specs.List.{Contains, slice_get}
+use Rattle.std.proofs.lemmas.Bool.{or_parts}
 use Rattle.std.proofs.lemmas.List.Elements.{All-weaker}
-use Rattle.std.proofs.lemmas.Option.{get_or_from_slice_get, slice_get-map, slice_get_within}
+use Rattle.std.proofs.lemmas.Option.{get_or_from_slice_get, same_Some, slice_get-map, slice_get_within}
 use Rattle.idtext.proofs.OkLemmas.{bind_ok, each-ok, ok_same}
 use Rattle.accounts.specs.Rows.{Passwd, Group}
 use Rattle.mtree_inv.specs.declared.entry.Entry.{Entry}
@@ -131,16 +132,9 @@ text_keeps site outcome whole believed h host files text loaded here is told =
 
 -- ---- the texts of a host's tables
 
-same_text : (o : Option HostText) (one other : HostText) → o ≡ Some one → o ≡ Some other → one ≡ other
-same_text o one other h k = cc
-
 -- an index that has an item
 there-at : {X : Type 0} (xs : List X) (k : ℕ) (x : X) → slice_get xs k ≡ Some x → Contains xs x
 there-at xs k x here = (k, slice_get_within xs k x here, get_or_from_slice_get xs k x x here)
-
-neither : (a b : Bool) → (a || b) ≡ false → (a ≡ false) × (b ≡ false)
-neither false b is = (refl, is)
-neither true b is = absurd (cc)
 
 -- what is joined of hosts that were loaded from texts
 module _ (texts : List HostText) (rules : KeepRules) (others : Others) (from : AreLoaded texts rules others) where
@@ -151,7 +145,7 @@ module _ (texts : List HostText) (rules : KeepRules) (others : Others) (from : A
   told_at : (h : ℕ) (l : Loaded) (text : HostText) → slice_get from.loaded h ≡ Some l → slice_get texts h ≡ Some text → host_of text ≡ Ok l
   told_at h l text here there =
       let back = each-ok host_of texts from.loaded from.hosts_are h l here in
-      ap host_of (sym (same_text (slice_get texts h) back.0 text back.1 there)) ∙ back.2
+      ap host_of (sym (same_Some back.0 text (sym back.1 ∙ there))) ∙ back.2
 
   host_at : (h : ℕ) (host : Host) → slice_get full h ≡ Some host → (l : Loaded) × (slice_get from.loaded h ≡ Some l) × (l.host ≡ host)
   host_at h host here = mapped-there (λ (l : Loaded). l.host) (slice_get from.loaded h) host (sym (slice_get-map (λ (l : Loaded). l.host) from.loaded h) ∙ here)
@@ -210,7 +204,7 @@ module _ (texts : List HostText) (rules : KeepRules) (others : Others) (from : A
   pub in_full_where : (pins_text : List ℕ) (joined : Joined) → pinned_site others pins_text ≡ Ok joined → keeps_a_name joined ≡ false → AreJoinedInFull others.hosts texts
   in_full_where pins_text joined joined_is none =
       let reserved = reserved-are others pins_text joined (are-pinned others pins_text joined joined_is) in
-      let both = neither (names_reserve joined.users.reserved) (names_reserve joined.groups.reserved) none in
+      let both = or_parts (names_reserve joined.users.reserved) (names_reserve joined.groups.reserved) none in
       left_in_full (ap names_reserve reserved.0 ∙ both.0) (ap names_reserve reserved.1 ∙ both.1)
 
 -- ---- a site, before its inventories are read

@@ -1,5 +1,5 @@
 -- The merged passwd and group are read back, and say the map's pairs.
-use Rattle.std.proofs.Common.{◌≡◌, ◌⊎◌, ℕ, zero, suc, ◌==◌, true, List, [], ◌∷◌, get_or, Option, Some, None, refl, sym, ap, subst, ◌∙◌, inl, inr}
+use Rattle.std.proofs.Common.{◌≡◌, ◌⊎◌, ℕ, ◌==◌, List, [], ◌∷◌, get_or, Option, Some, None, refl, sym, ap, subst, ◌∙◌, inl, inr}
 use Rattle.std.specs.Prelude.{◌↔◌}
 use Rattle.std.specs.List.{All, find, slice_get}
 use Rattle.std.specs.Option.{is_some, option_map}
@@ -13,13 +13,14 @@ use Rattle.hosts_join.specs.Accounts.{Account, Accounts, Pair, nobody, place_of}
 use Rattle.hosts_join.specs.Kinds.{user_at, group_at}
 use Rattle.hosts_join.specs.Laws.{KnowsHost, KnowsItsHosts}
 use Rattle.hosts_join.specs.Pairs.{number_of}
-use Rattle.hosts_join.specs.Rules.{account, is_name}
+use Rattle.hosts_join.specs.Rules.{account}
 use Rattle.hosts_join.specs.declared.host.Host.{Host}
 use Rattle.hosts_join.proofs.Grouping.{bytes_same}
 use Rattle.hosts_join.proofs.Pairing.{place-holds}
 use Rattle.ownership.specs.Mappings.{IsAdmissible, Mappings, number_at}
 use Rattle.mergedfiles.specs.InPart.{IsMergedPasswdInPart, IsMergedUserInPart, IsNumberedInPart, WasReadInPart}
 use Rattle.mergedfiles.specs.ReadBack.{WasRead, IsNumbered, HasNumber, IsMergedGroup, IsMergedPasswd, IsMergedGroupFile}
+use Rattle.mergedfiles.proofs.Places.{name-place}
 use Rattle.mergedfiles.proofs.ReadUsers.{passwd_in_part_back, passwd_reads_back}
 use Rattle.mergedfiles.proofs.ReadGroups.{group_in_part_back}
 use Rattle.reown_plan.specs.declared.plan.Owner.{Owner}
@@ -56,18 +57,11 @@ hosts-known site whole h host here =
 
 -- ---- pairs and rows
 
-some-place : (n : List ℕ) (names : List Account) → is_name names n ≡ true → (i : ℕ) × (place_of names n ≡ Some i)
-some-place n [] e = absurd (cc)
-some-place n (x ∷ names) e = elim (cases_Bool (bytes_eq n x.name)) [
-  | inl t ↦ (zero, rw t refl)
-  | inr f ↦ let later = some-place n names (rw f at e) in (suc later.0, rw f (ap (option_map suc) later.1))
-]
-
 module _ (a : Accounts) (m : List ℕ) (pairs : List Pair) (say : SayMapping a m pairs) where
   -- a pair is a name with its number
   pub paired : (n : List ℕ) (v : ℕ) → number_of pairs n ≡ Some v → HasNumber a m n v
   paired n v e =
-      let at = some-place n a.names (sym (say.names n) ∙ ap is_some e) in
+      let at = name-place a.names n (sym (say.names n) ∙ ap is_some e) in
       let here = place-holds (λ (x : Account). bytes_eq n x.name) a.names at.0 nobody at.1 in
       let same : number_of pairs n ≡ Some (number_at m at.0) = ap (number_of pairs) (bytes_same n (account a at.0).name here.1) ∙ say.numbers at.0 here.0 in
       (at.0, at.1, same_Some (number_at m at.0) v (sym same ∙ e))

@@ -1,14 +1,16 @@
 -- What of a host is joined, by a keep text: the rows whose names the site has.
-use Rattle.std.proofs.Common.{◌≡◌, ℕ, zero, suc, ◌<◌, ◌||◌, Bool, true, false, cond, not, List, [], ◌∷◌, length, map, get_or, Some, Ok, refl, sym, ap, subst, ◌∙◌, arith}
+use Rattle.std.proofs.Common.{◌≡◌, ℕ, ◌<◌, ◌&&◌, Bool, true, false, cond, not, List, [], ◌∷◌, length, map, get_or, Ok, refl, sym, ap, subst, ◌∙◌, arith}
 use Rattle.std.specs.List.{All, Contains, filter, find, list_any}
 use Rattle.std.specs.Option.{is_some}
 use Rattle.std.specs.Str.{bytes_eq}
-use Rattle.std.proofs.Math.Bool.{or-true}
-use Rattle.std.proofs.lemmas.Bool.{false≢true, le-leb}
+use Rattle.std.proofs.lemmas.Bool.{le-leb}
 use Rattle.std.proofs.lemmas.List.{get_or-map, length-map}
 use Rattle.std.proofs.lemmas.List.Elements.{All-head, All-tail}
-use Rattle.std.proofs.lemmas.List.Folds.{list_any_at}
+use Rattle.std.proofs.lemmas.List.Folds.{list_any_at, list_any_none}
+use Rattle.std.proofs.lemmas.Map.Views.{any-filter_same}
+use Rattle.accounts.proofs.ListLemmas.{list_any-map}
 use Rattle.accounts.specs.Rows.{Passwd, Group}
+use Rattle.certcheck.proofs.Missing.{any_is_find}
 use Rattle.logindefs.specs.Ranges.{in_range}
 use Rattle.hosts_join.specs.Accounts.{Accounts}
 use Rattle.hosts_join.specs.PinPairs.{PinPairs}
@@ -24,11 +26,7 @@ use Rattle.kept_accounts.specs.Reserving.{UnownedNumbers, by_name, only, reserve
 use Rattle.kept_accounts.proofs.ReservedLemmas.{kept_reserved}
 use Rattle.unify.proofs.Whole.{together}
 use Rattle.unify_laws.specs.HostTexts.{AreJoinedRows, IsJoinedPart}
-use Rattle.unify_laws.proofs.Counted.{any_map, found_or, named_somewhere}
-
-any-none : {X : Type 0} (p : X → Bool) → ((x : X) → p x ≡ false) → (xs : List X) → list_any p xs ≡ false
-any-none p none [] = refl
-any-none p none (x ∷ xs) = ap (λ b. b || list_any p xs) (none x) ∙ any-none p none xs
+use Rattle.unify_laws.proofs.Counted.{named_somewhere}
 
 filter-same : {X : Type 0} (p q : X → Bool) (xs : List X) → All (λ x. p x ≡ q x) xs → filter p xs ≡ filter q xs
 filter-same p q [] same = refl
@@ -47,41 +45,26 @@ module _ {Row : Type 0} (name : Row → List ℕ) (number : Row → ℕ) (kept :
   abbrev has : List ℕ → Row → Bool
   has n row = bytes_eq n (name row)
 
-  -- no row that is left has a kept name
-  none-left : (n : List ℕ) → kept n ≡ true → (rows : List Row) → is_some (find (has n) (other_rows name kept rows)) ≡ false
-  none-left n keeps [] = refl
-  none-left n keeps (row ∷ rows) = by (kept (name row)) (has n row) refl refl (none-left n keeps rows)
-    where
-      by : (k b : Bool) → kept (name row) ≡ k → has n row ≡ b → is_some (find (has n) (other_rows name kept rows)) ≡ false → is_some (find (has n) (cond (not k) (row ∷ other_rows name kept rows) (other_rows name kept rows))) ≡ false
-      by true b is same rest = rest
-      by false true is same rest = absurd (false≢true (sym is ∙ ap kept (sym (bytes_same n (name row) same)) ∙ keeps))
-      by false false is same rest = ap (λ b. is_some (cond b (Some row) (find (has n) (other_rows name kept rows)))) same ∙ rest
-
-  -- a row that is not kept is left
-  is-left : (rows : List Row) (k : ℕ) (d : Row) → k < length rows → kept (name (get_or rows k d)) ≡ false → is_some (find (has (name (get_or rows k d))) (other_rows name kept rows)) ≡ true
-  is-left [] k d within free = absurd (omega (arith, within))
-  is-left (row ∷ rows) zero d within free = rw (free, bytes_refl (name row)) refl
-  is-left (row ∷ rows) (suc k) d within free = by (kept (name row)) (is-left rows k d (omega (arith, within)) free)
-    where
-      by : (b : Bool) → is_some (find (has (name (get_or rows k d))) (other_rows name kept rows)) ≡ true → is_some (find (has (name (get_or rows k d))) (cond (not b) (row ∷ other_rows name kept rows) (other_rows name kept rows))) ≡ true
-      by true rest = rest
-      by false rest = found_or (has (name (get_or rows k d)) row) row (find (has (name (get_or rows k d))) (other_rows name kept rows)) ∙ ap (λ b. has (name (get_or rows k d)) row || b) rest ∙ or-true (has (name (get_or rows k d)) row)
+  -- a name is found among the rows that are left where the table has it and it is not kept
+  find-left : (n : List ℕ) (rows : List Row) → is_some (find (has n) (other_rows name kept rows)) ≡ (not (kept n) && list_any (has n) rows)
+  find-left n rows =
+      sym (any_is_find (has n) (other_rows name kept rows))
+      ∙ any-filter_same (has n) (λ row. not (kept (name row))) (not (kept n)) (λ row is. ap (λ m. not (kept m)) (sym (bytes_same n (name row) is))) rows
 
   module _ (a : Accounts) (table : Host → List Row) (hosts : List Host) (full : Host) (there : Contains hosts full)
       (names_are : (n : List ℕ) → is_name a.names n ≡ list_any (λ (h : Host). is_some (find (has n) (other_rows name kept (table h)))) hosts) where
+    abbrev has-left : List ℕ → Host → Bool
+    has-left n h = is_some (find (has n) (other_rows name kept (table h)))
+
     -- the site has the names that are not kept
     of-site : All (λ row. is_name a.names (name row) ≡ not (kept (name row))) (table full)
-    of-site k d within = by (kept (name (get_or (table full) k d))) refl
+    of-site k d within = by (name (get_or (table full) k d)) (list_any_at (has (name (get_or (table full) k d))) (table full) k d within (bytes_refl (name (get_or (table full) k d)))) (kept (name (get_or (table full) k d))) refl
       where
-        by : (b : Bool) → kept (name (get_or (table full) k d)) ≡ b → is_name a.names (name (get_or (table full) k d)) ≡ not (kept (name (get_or (table full) k d)))
-        by true is =
-            names_are (name (get_or (table full) k d))
-            ∙ any-none (λ (h : Host). is_some (find (has (name (get_or (table full) k d))) (other_rows name kept (table h)))) (λ h. none-left (name (get_or (table full) k d)) is (table h)) hosts ∙ sym (ap not is)
-        by false is =
-            names_are (name (get_or (table full) k d))
-            ∙ list_any_at (λ (h : Host). is_some (find (has (name (get_or (table full) k d))) (other_rows name kept (table h)))) hosts there.0 full there.1
-            (ap (λ (h : Host). is_some (find (has (name (get_or (table full) k d))) (other_rows name kept (table h)))) there.2 ∙ is-left (table full) k d within is)
-            ∙ sym (ap not is)
+        by : (n : List ℕ) → list_any (has n) (table full) ≡ true → (b : Bool) → kept n ≡ b → is_name a.names n ≡ not (kept n)
+        by n listed true is =
+            names_are n ∙ list_any_none (has-left n) hosts (λ j e l. find-left n (table (get_or hosts j e)) ∙ ap (λ b. not b && list_any (has n) (table (get_or hosts j e))) is) ∙ sym (ap not is)
+        by n listed false is =
+            names_are n ∙ list_any_at (has-left n) hosts there.0 full there.1 (ap (has-left n) there.2 ∙ find-left n (table full) ∙ (λ j. not (is j) && listed j)) ∙ sym (ap not is)
 
     pub joined-rows : ((row : List ℕ × ℕ) → Contains (map (λ r. (name r, number r)) (table full)) row → kept row.0 ≡ true → is_reserved a.reserved row.1 ≡ true) → AreJoinedRows name number a (table full) (other_rows name kept (table full))
     joined-rows reserved = record {
@@ -111,11 +94,11 @@ kept_part keep hosts unowned pins joined full there is uids gids =
       users = joined-rows (λ (r : Passwd). r.name) (λ (r : Passwd). r.uid) (is_kept_user keep hosts) joined.users (λ (h : Host). h.users) hosts full there
           (λ n. ap (λ (a : Accounts). is_name a.names n) all.users
           ∙ named_somewhere (λ (r : Passwd). r.name) (λ (r : Passwd). r.uid) (λ (h : Host). h.users) (λ (h : Host). h.ranges.uid) (λ (h : Host). h.ranges.sys_uid) others n
-          ∙ any_map (λ (h : Host). is_some (find (λ (r : Passwd). bytes_eq n r.name) h.users)) left hosts)
+          ∙ list_any-map (λ (h : Host). is_some (find (λ (r : Passwd). bytes_eq n r.name) h.users)) left hosts)
           (λ row has kept. subst (λ rs. is_reserved rs row.1 ≡ true) uids (reserved-alone (reserved_users keep hosts unowned.users) full row ((users_alone row there).0 has kept)));
       groups = joined-rows (λ (r : Group). r.name) (λ (r : Group). r.gid) (is_kept_group keep hosts) joined.groups (λ (h : Host). h.groups) hosts full there
           (λ n. ap (λ (a : Accounts). is_name a.names n) all.groups
           ∙ named_somewhere (λ (r : Group). r.name) (λ (r : Group). r.gid) (λ (h : Host). h.groups) (λ (h : Host). h.ranges.gid) (λ (h : Host). h.ranges.sys_gid) others n
-          ∙ any_map (λ (h : Host). is_some (find (λ (r : Group). bytes_eq n r.name) h.groups)) left hosts)
+          ∙ list_any-map (λ (h : Host). is_some (find (λ (r : Group). bytes_eq n r.name) h.groups)) left hosts)
           (λ row has kept. subst (λ rs. is_reserved rs row.1 ≡ true) gids (reserved-alone (reserved_groups keep hosts unowned.groups) full row ((groups_alone row there).1 has kept)));
     }

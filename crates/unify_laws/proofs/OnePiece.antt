@@ -1,10 +1,10 @@
 -- Inventories that are read whole.
-use Rattle.std.proofs.Common.{◌≡◌, ℕ, zero, suc, ◌++◌, List, [], ◌∷◌, length, take, Some, Result, Ok, Err, refl, sym, ap, ◌∙◌, arith}
+use Rattle.std.proofs.Common.{◌≡◌, ℕ, zero, suc, ◌++◌, List, [], ◌∷◌, length, get_or, take, Some, Result, Ok, Err, refl, sym, ap, ◌∙◌, arith}
 use Rattle.std.specs.List.{slice_get}
-use Rattle.std.proofs.lemmas.Option.{same_Some}
+use Rattle.std.proofs.lemmas.Option.{same_Some, slice_get-get_or, slice_get_within}
 use Rattle.idtext.specs.First.{◌>>=◌, each}
 use Rattle.idtext.specs.declared.faults.TextFault.{TextFault}
-use Rattle.idtext.proofs.OkLemmas.{bind_ok, ok_same}
+use Rattle.idtext.proofs.OkLemmas.{bind_ok, each-ok, length-each, ok_same}
 use Rattle.mtree_inv.specs.Inventory.{inventory_of_lines}
 use Rattle.mtree_inv.specs.Logical.{whole_lines}
 use Rattle.mtree_inv.specs.declared.entry.Entry.{Entry}
@@ -55,29 +55,29 @@ refused_at (h ∷ hosts) (t ∷ texts) read (suc k) host text f are here there b
     ap (λ (r : Result (Host × List Entry) Fault). r >>= λ y. each site_of (loaded_from hosts texts) >>= λ ys. Ok (y ∷ ys)) first.1
     ∙ ap (λ (r : Result (List (Host × List Entry)) Fault). r >>= λ ys. Ok (first.0 ∷ ys)) more
 
+-- the host at an index stands with the text at it
+pub loaded_at : (hosts : List Host) (texts : List (List ℕ)) (k : ℕ) (host : Host) (text : List ℕ) → slice_get hosts k ≡ Some host → slice_get texts k ≡ Some text → slice_get (loaded_from hosts texts) k ≡ Some (record { host = host; mtree = text })
+loaded_at [] texts k host text here there = absurd (cc)
+loaded_at (h ∷ hosts) [] k host text here there = absurd (cc)
+loaded_at (h ∷ hosts) (t ∷ texts) zero host text here there = λ j. Some (record { host = same_Some h host here j; mtree = same_Some t text there j })
+loaded_at (h ∷ hosts) (t ∷ texts) (suc k) host text here there = loaded_at hosts texts k host text here there
+
+-- what each host is paired with, index by index
+pub pairs_at : (of : Loaded → Result (List Entry) Fault) (hosts : List Host) (texts : List (List ℕ)) (read : List (Host × List Entry)) (k : ℕ) (host : Host) (text : List ℕ) → each (λ l. of l >>= λ files. Ok (l.host, files)) (loaded_from hosts texts) ≡ Ok read
+    → slice_get hosts k ≡ Some host → slice_get texts k ≡ Some text → (files : List Entry) × (of (record { host = host; mtree = text }) ≡ Ok files) × (slice_get read k ≡ Some (host, files))
+pairs_at of hosts texts read k host text are here there =
+    let l : Loaded = record { host = host; mtree = text } in
+    let pair : Loaded → Result (Host × List Entry) Fault = λ x. of x >>= λ files. Ok (x.host, files) in
+    let at = loaded_at hosts texts k host text here there in
+    let item = slice_get-get_or read k (host, []) (omega (arith, slice_get_within (loaded_from hosts texts) k l at, length-each pair (loaded_from hosts texts) read are)) in
+    let back = each-ok pair (loaded_from hosts texts) read are k (get_or read k (host, [])) item in
+    let files = bind_ok (of l) (λ fs. Ok (host, fs)) (get_or read k (host, [])) (ap pair (same_Some l back.0 (sym at ∙ back.1)) ∙ back.2) in
+    (files.0, files.1, item ∙ ap (λ (x : Host × List Entry). Some x) (sym (ok_same (host, files.0) (get_or read k (host, [])) files.2)))
+
 -- the one at an index was accepted with all others
 pub accepted_at : (hosts : List Host) (texts : List (List ℕ)) (read : List (Host × List Entry)) (k : ℕ) (host : Host) (text : List ℕ) → each site_of (loaded_from hosts texts) ≡ Ok read → slice_get hosts k ≡ Some host → slice_get texts k ≡ Some text
     → (files : List Entry) × (files_of (record { host = host; mtree = text }) ≡ Ok files) × (slice_get read k ≡ Some (host, files))
-unfolding each
-accepted_at [] texts read k host text are here there = absurd (cc)
-accepted_at (h ∷ hosts) [] read k host text are here there = absurd (cc)
-accepted_at (h ∷ hosts) (t ∷ texts) read zero host text are here there =
-    let l : Loaded = record { host = h; mtree = t } in
-    let first = bind_ok (site_of l) (λ y. each site_of (loaded_from hosts texts) >>= λ ys. Ok (y ∷ ys)) read are in
-    let rest = bind_ok (each site_of (loaded_from hosts texts)) (λ ys. Ok (first.0 ∷ ys)) read first.2 in
-    let files = bind_ok (files_of l) (λ fs. Ok (h, fs)) first.0 first.1 in
-    let same_host : h ≡ host = same_Some h host here in
-    let same_text : t ≡ text = same_Some t text there in (
-      files.0,
-      sym (λ j. files_of (record { host = same_host j; mtree = same_text j })) ∙ files.1,
-      ap (λ rs. slice_get rs 0) (sym (ok_same (first.0 ∷ rest.0) read rest.2)) ∙ ap (λ (x : Host × List Entry). Some x) (sym (ok_same (h, files.0) first.0 files.2)) ∙ ap (λ (x : Host). Some (x, files.0)) same_host,
-    )
-accepted_at (h ∷ hosts) (t ∷ texts) read (suc k) host text are here there =
-    let l : Loaded = record { host = h; mtree = t } in
-    let first = bind_ok (site_of l) (λ y. each site_of (loaded_from hosts texts) >>= λ ys. Ok (y ∷ ys)) read are in
-    let rest = bind_ok (each site_of (loaded_from hosts texts)) (λ ys. Ok (first.0 ∷ ys)) read first.2 in
-    let more = accepted_at hosts texts rest.0 k host text rest.1 here there in
-    (more.0, more.1, ap (λ rs. slice_get rs (suc k)) (sym (ok_same (first.0 ∷ rest.0) read rest.2)) ∙ more.2)
+accepted_at = pairs_at files_of
 
 -- ---- lists that grow
 

@@ -1,16 +1,16 @@
 -- What was merged for one reading of a site's inventories is right for a later one of which each row owns as many files.
 use Rattle.std.specs.List.{count_by, find, slice_get}
-use Rattle.std.specs.Option.{is_some}
+use Rattle.std.specs.Option.{is_some, option_map}
 use Rattle.std.specs.Prelude.{◌&&◌, if◌then◌else◌, nat_eq}
 use Rattle.std.proofs.Common.{◌≡◌, ℕ, ◌+◌, ◌*◌, ◌≤◌, suc, Bool, true, List, [], ◌∷◌, length, map, Option, Some, None, Result, Ok, Err, refl, sym, ap, subst, ◌∙◌, arith, ◌==◌, nat_le, cond}
 use Rattle.std.proofs.lemmas.Option.{same_Some, slice_get_within}
 use Rattle.std.proofs.lemmas.List.Sums.{sum_by-append}
-use Rattle.idtext.proofs.OkLemmas.{ok_same}
+use Rattle.accounts.specs.Laws.{AreDistinct}
 use Rattle.accounts.specs.Rows.{Passwd, Group}
 use Rattle.mtree_inv.specs.declared.entry.Entry.{Entry}
 use Rattle.hosts_join.specs.Accounts.{Account, Accounts, lines, owner}
 use Rattle.hosts_join.specs.Count.{count_below}
-use Rattle.hosts_join.specs.Kinds.{user_at, group_at}
+use Rattle.hosts_join.specs.Laws.{IsOwnedAsTold}
 use Rattle.hosts_join.specs.Rules.{account, class_at, is_free_class}
 use Rattle.hosts_join.specs.declared.host.Host.{Host}
 use Rattle.hosts_join.proofs.Refusals.{count_by-of-map}
@@ -36,7 +36,7 @@ use Rattle.unify.specs.Merging.{IsMerged, mappings_in}
 use Rattle.unify.specs.Outcomes.{cost_in, group_files, hosts_in, user_files}
 use Rattle.unify.specs.Reading.{WholeSite, files_of_site, added_on, added_from}
 use Rattle.unify.specs.RowFiles.{RowFiles}
-use Rattle.unify.specs.SecondPass.{HaveSameCounts, or_changed, second_files}
+use Rattle.unify.specs.SecondPass.{HaveSameCounts, or_changed}
 use Rattle.unify.proofs.Counts.{apart, as_many}
 use Rattle.unify.proofs.Owners.{owner-told}
 use Rattle.unify.proofs.Reading.{all-owned, read-host}
@@ -142,12 +142,9 @@ module _ (a : Accounts) (files others : List File) (alike : AreAlike a.names fil
 
 -- ---- the site as it was read last
 
-unchanged : {A : Type 0} (host : Host) (r : Result A Fault) (x : A) → or_changed host r ≡ Ok x → r ≡ Ok x
-unchanged host (Ok y) x h = ap (λ z. Ok z) (ok_same y x h)
-unchanged host (Err e) x h = absurd (cc)
-
-filed : (host : Host) (text : List ℕ) (files : List Entry) → second_files host text ≡ Ok files → files_of (record { host = host; mtree = text }) ≡ Ok files
-filed host text files h = unchanged host (files_of (record { host = host; mtree = text })) files h
+unchanged : (host : Host) (r : Result (List Entry) Fault) (files : List Entry) → or_changed host r ≡ Ok files → r ≡ Ok files
+unchanged host (Ok were) files h = h
+unchanged host (Err e) files h = absurd (cc)
 
 module _ (first : WholeSite) (whole : IsWhole first) (hosts : List (Host × List Entry)) (again : AreReadAgain first hosts) where
   abbrev last : WholeSite
@@ -173,7 +170,7 @@ module _ (first : WholeSite) (whole : IsWhole first) (hosts : List (Host × List
       let now = again.each_host h at.0.0 at.0.1 at.1 in
       let pair : (at.0.0, now.1) ≡ (host, files) = same_Some (at.0.0, now.1) (host, files) (sym now.4 ∙ here) in
       subst (λ (p : Host × List Entry). IsReadHost first.joined h p.0 p.1) pair
-      (read-host first.joined h (record { host = at.0.0; mtree = now.0 }) now.1 (filed at.0.0 now.0 now.1 now.2) (was.named, was.read, was.lawful, was.spares, was.known))
+      (read-host first.joined h (record { host = at.0.0; mtree = now.0 }) now.1 (unchanged at.0.0 (files_of (record { host = at.0.0; mtree = now.0 })) now.1 now.2) (was.named, was.read, was.lawful, was.spares, was.known))
 
   pub still_whole : IsWhole last
   still_whole = record {
@@ -187,48 +184,39 @@ module _ (first : WholeSite) (whole : IsWhole first) (hosts : List (Host × List
 
   -- ---- as many files of each number on each host
 
-  -- a number that is an account's on the host is a row's
-  user_there : (h : ℕ) (host : Host) (files : List Entry) → IsReadHost first.joined h host files → (n : ℕ) → HasOwner first.joined.users.names (record { host = 0 + h; number = n }) → is_some (find (λ (r : Passwd). n == r.uid) host.users) ≡ true
-  user_there h host files is n has =
-      let from_zero : 0 + h ≡ h = omega arith in
-      let here : HasOwner first.joined.users.names (record { host = h; number = n }) = subst (λ i. HasOwner first.joined.users.names (record { host = i; number = n })) from_zero has in
-      sym (mapped_some (λ (r : Passwd). r.name) (find (λ (r : Passwd). n == r.uid) host.users)) ∙ sym (owner-told first.joined.users.names h n (user_at host.users n) (is.known.users n)) ∙ here
+  -- known, differ, counted: what the hosts and their files say of the rows of one kind of accounts
+  -- pick: of the uid and the gid of a file, the number of the kind
+  module _ {R : Type 0} (name : R → List ℕ) (number : R → ℕ) (table : Host → List R) (pick : ℕ → ℕ → ℕ) (a : Accounts)
+      (known : (h : ℕ) (host : Host) (files : List Entry) → IsReadHost first.joined h host files → (v : ℕ) → IsOwnedAsTold a.names h v (option_map name (find (λ r. v == number r) (table host))))
+      (differ : (h : ℕ) (host : Host) (files : List Entry) → IsReadHost first.joined h host files → AreDistinct (map number (table host)))
+      (counted : (host : Host) (were files : List Entry) → HaveSameCounts host were files → map (λ r. count_by (λ e. pick e.uid e.gid == number r) were) (table host) ≡ map (λ r. count_by (λ e. pick e.uid e.gid == number r) files) (table host)) where
+    -- a number that is an account's on the host is a row's
+    row_there : (h : ℕ) (host : Host) (files : List Entry) → IsReadHost first.joined h host files → (n : ℕ) → HasOwner a.names (record { host = 0 + h; number = n }) → is_some (find (λ r. n == number r) (table host)) ≡ true
+    row_there h host files is n has =
+        let from_zero : 0 + h ≡ h = omega arith in
+        let here : HasOwner a.names (record { host = h; number = n }) = subst (λ i. HasOwner a.names (record { host = i; number = n })) from_zero has in
+        let row = find (λ (r : R). n == number r) (table host) in
+        sym (mapped_some name row) ∙ sym (owner-told a.names h n (option_map name row) (known h host files is n)) ∙ here
 
-  users_on : (Q : File → Bool) → ((f : File) → Q f ≡ true → HasOwner first.joined.users.names f) → (h : ℕ) (host : Host) (were files : List Entry) → IsReadHost first.joined h host were → HaveSameCounts host were files
-      → count_by (λ (e : Entry). Q (record { host = 0 + h; number = e.uid })) were ≡ count_by (λ (e : Entry). Q (record { host = 0 + h; number = e.uid })) files
-  users_on Q owned h host were files was same =
-      as_many (λ (r : Passwd). r.uid) (λ v. Q (record { host = 0 + h; number = v })) (λ (e : Entry). e.uid) host.users (apart (λ (r : Passwd). r.uid) host.users was.lawful.users.numbers_differ) were files
-      (λ n passes. user_there h host were was n (owned (record { host = 0 + h; number = n }) passes)) (ap (λ (r : RowFiles). r.users) same)
-
-  group_there : (h : ℕ) (host : Host) (files : List Entry) → IsReadHost first.joined h host files → (n : ℕ) → HasOwner first.joined.groups.names (record { host = 0 + h; number = n }) → is_some (find (λ (r : Group). n == r.gid) host.groups) ≡ true
-  group_there h host files is n has =
-      let from_zero : 0 + h ≡ h = omega arith in
-      let here : HasOwner first.joined.groups.names (record { host = h; number = n }) = subst (λ i. HasOwner first.joined.groups.names (record { host = i; number = n })) from_zero has in
-      sym (mapped_some (λ (r : Group). r.name) (find (λ (r : Group). n == r.gid) host.groups)) ∙ sym (owner-told first.joined.groups.names h n (group_at host.groups n) (is.known.groups n)) ∙ here
-
-  groups_on : (Q : File → Bool) → ((f : File) → Q f ≡ true → HasOwner first.joined.groups.names f) → (h : ℕ) (host : Host) (were files : List Entry) → IsReadHost first.joined h host were → HaveSameCounts host were files
-      → count_by (λ (e : Entry). Q (record { host = 0 + h; number = e.gid })) were ≡ count_by (λ (e : Entry). Q (record { host = 0 + h; number = e.gid })) files
-  groups_on Q owned h host were files was same =
-      as_many (λ (r : Group). r.gid) (λ v. Q (record { host = 0 + h; number = v })) (λ (e : Entry). e.gid) host.groups (apart (λ (r : Group). r.gid) host.groups was.lawful.groups.numbers_differ) were files
-      (λ n passes. group_there h host were was n (owned (record { host = 0 + h; number = n }) passes)) (ap (λ (r : RowFiles). r.groups) same)
+    kind_alike : AreAlike a.names (map (λ f. record { host = f.host; number = pick f.uid f.gid }) (files_of_site first)) (map (λ f. record { host = f.host; number = pick f.uid f.gid }) (files_of_site last))
+    kind_alike Q owned =
+        let G = λ (f : Added). Q (record { host = f.host; number = pick f.uid f.gid }) in
+        count_by-of-map Q _ (files_of_site first)
+        ∙ on_all G 0 first.hosts hosts again.one_each (λ k host were at.
+        let is = whole.each_host k host were at in
+        let now = again.each_host k host were at in
+        let many = as_many number (λ v. Q (record { host = 0 + k; number = v })) (λ (e : Entry). pick e.uid e.gid) (table host) (apart number (table host) (differ k host were is)) were now.1
+        (λ n passes. row_there k host were is n (owned (record { host = 0 + k; number = n }) passes)) (counted host were now.1 now.3) in
+        (now.1, now.4, many))
+        ∙ sym (count_by-of-map Q _ (files_of_site last))
 
   users_alike : AreAlike first.joined.users.names (user_files first) (user_files last)
-  users_alike Q owned =
-      let G = λ (f : Added). Q (record { host = f.host; number = f.uid }) in
-      count_by-of-map Q _ (files_of_site first)
-      ∙ on_all G 0 first.hosts hosts again.one_each (λ k host were at.
-      let now = again.each_host k host were at in
-      (now.1, now.4, users_on Q owned k host were now.1 (whole.each_host k host were at) now.3))
-      ∙ sym (count_by-of-map Q _ (files_of_site last))
+  users_alike = kind_alike (λ (r : Passwd). r.name) (λ (r : Passwd). r.uid) (λ (h : Host). h.users) (λ uid gid. uid) first.joined.users
+      (λ h host files is. is.known.users) (λ h host files is. is.lawful.users.numbers_differ) (λ host were files same. ap (λ (c : RowFiles). c.users) same)
 
   groups_alike : AreAlike first.joined.groups.names (group_files first) (group_files last)
-  groups_alike Q owned =
-      let G = λ (f : Added). Q (record { host = f.host; number = f.gid }) in
-      count_by-of-map Q _ (files_of_site first)
-      ∙ on_all G 0 first.hosts hosts again.one_each (λ k host were at.
-      let now = again.each_host k host were at in
-      (now.1, now.4, groups_on Q owned k host were now.1 (whole.each_host k host were at) now.3))
-      ∙ sym (count_by-of-map Q _ (files_of_site last))
+  groups_alike = kind_alike (λ (r : Group). r.name) (λ (r : Group). r.gid) (λ (h : Host). h.groups) (λ uid gid. gid) first.joined.groups
+      (λ h host files is. is.known.groups) (λ h host files is. is.lawful.groups.numbers_differ) (λ host were files same. ap (λ (c : RowFiles). c.groups) same)
 
   -- ---- what was merged
 

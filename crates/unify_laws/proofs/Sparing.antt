@@ -1,9 +1,9 @@
 -- No name has a reserved number, and so none has one that a host spares.
-use Rattle.std.proofs.Common.{◌≡◌, ℕ, ◌<◌, true, false, List, length, Option, Some, None, refl, sym, ap, subst, ◌∙◌}
+use Rattle.std.proofs.Common.{◌≡◌, ℕ, ◌<◌, true, false, List, length, Some, refl, sym, ap, subst, ◌∙◌}
 use Rattle.std.specs.Option.{is_some}
 use Rattle.std.specs.Str.{bytes_eq}
 use Rattle.std.proofs.lemmas.Option.{same_Some}
-use Rattle.hosts_join.specs.Accounts.{Account, Accounts, Pair, nobody, place_of}
+use Rattle.hosts_join.specs.Accounts.{Account, Accounts, Pair, nobody}
 use Rattle.hosts_join.specs.Laws.{LeavesOut}
 use Rattle.hosts_join.specs.Pairs.{number_of}
 use Rattle.hosts_join.specs.Rules.{account, class_at, is_name, is_reserved}
@@ -11,17 +11,16 @@ use Rattle.hosts_join.specs.declared.Class.{Class}
 use Rattle.hosts_join.specs.declared.Class.TheVariants.{Pinned, Regular, System}
 use Rattle.hosts_join.proofs.Grouping.{bytes_same}
 use Rattle.hosts_join.proofs.Pairing.{place-holds}
-use Rattle.certcheck.proofs.Missing.{any_is_place}
+use Rattle.mergedfiles.proofs.Places.{name-place}
 use Rattle.ownership.specs.Mappings.{IsAdmissible, MayHave, number_at}
 use Rattle.unify_texts.specs.WrittenMap.{SayMapping}
 
 -- a name that stands among accounts is that of one of them
 named_at : (a : Accounts) (n : List ℕ) → is_name a.names n ≡ true → (i : ℕ) × (i < length a.names) × (n ≡ (account a i).name)
-named_at a n h = at (place_of a.names n) refl (ap is_some refl ∙ sym (any_is_place (λ (x : Account). bytes_eq n x.name) a.names) ∙ h)
-  where
-    at : (o : Option ℕ) → place_of a.names n ≡ o → is_some o ≡ true → (i : ℕ) × (i < length a.names) × (n ≡ (account a i).name)
-    at None e there = absurd (cc)
-    at (Some i) e there = let holds = place-holds (λ (x : Account). bytes_eq n x.name) a.names i nobody e in (i, holds.0, bytes_same n (account a i).name holds.1)
+named_at a n h =
+    let at = name-place a.names n h in
+    let holds = place-holds (λ (x : Account). bytes_eq n x.name) a.names at.0 nobody at.1 in
+    (at.0, holds.0, bytes_same n (account a at.0).name holds.1)
 
 -- a name that has a number has it by its index
 pub numbered_at : (a : Accounts) (m : List ℕ) (pairs : List Pair) → SayMapping a m pairs → (n : List ℕ) (v : ℕ) → number_of pairs n ≡ Some v → (i : ℕ) × (i < length a.names) × (n ≡ (account a i).name) × (number_at m i ≡ v)

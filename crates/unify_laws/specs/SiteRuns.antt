@@ -32,8 +32,9 @@ abbrev pub new_world : Keep → WholeSite → Mappings → World Mem
 new_world keep site m =
     record { runners = runners_from site m 0 site.hosts; trees = new_trees keep site }
 
--- on a host that is done every file has the names that it had, whatever a further stop leaves, as
--- any plan sees it users, groups: the rows of the merged passwd and group
+-- On a host that is done every file has the names that it had, whatever a further stop leaves, as
+-- any plan sees it.
+-- users, groups: the rows of the merged passwd and group
 abbrev pub DoneKeepsNames : WholeSite → MapText → List Passwd → List Group → List Bool → List Mem
     → Type 0
 DoneKeepsNames site map users groups done trees =

@@ -1,13 +1,16 @@
 -- The turn of each host, and the plans of all.
-use Rattle.std.proofs.Common.{◌≡◌, ◌<◌, ◌++◌, ◌∷◌, [], ℕ, zero, suc, Bool, List, length, map, Some, sym, ap, subst, ◌∙◌, arith}
+use Rattle.std.proofs.Common.{◌≡◌, ◌<◌, ◌++◌, ◌∷◌, [], ℕ, zero, suc, Bool, List, length, map, Some, Ok, sym, ap, subst, ◌∙◌, arith}
 use Rattle.std.specs.List.{slice_get}
 use Rattle.std.proofs.lemmas.List.{length-map}
 use Rattle.std.proofs.lemmas.Option.{same_Some, slice_get_within}
+use Rattle.idtext.specs.First.{each}
 use Rattle.mtree_inv.specs.declared.entry.Entry.{Entry}
 use Rattle.hosts_join.specs.declared.host.Host.{Host}
 use Rattle.hosts_join.specs.declared.texts.HostText.{HostText}
 use Rattle.unify_texts.specs.Told.{told}
-use Rattle.unify.specs.SecondPass.{IsFresh, IsOfSameSite, SolvedValue, ended_in, first_in, whole_plan}
+use Rattle.unify.specs.Count.{site_of}
+use Rattle.unify.specs.Loading.{loaded_from}
+use Rattle.unify.specs.SecondPass.{HaveSameCounts, IsFresh, IsOfSameSite, SolvedValue, ended_in, first_in, whole_plan}
 use Rattle.unify_laws.proofs.Agreeing.{item_at}
 use Rattle.unify_merge.specs.Ledger.{Ledger}
 use Rattle.unify_merge.specs.FirstReading.{readings_from}
@@ -51,11 +54,17 @@ turn_of s now read index host were site ended was at fresh = record {
 
 -- the reading of one inventory ended early, and so did that of all
 pub planning_stopped : (names : List HostText) (s : SolvedValue) (read : List (Host × List Entry)) (index : ℕ) (host : Host) (were : List Entry) (old mid new : Ledger) (failed : Bool) (fault : MergeFault) → PlannedSoFar names s read index old mid
-    → slice_get read index ≡ Some (host, were) → StopsSecond host were index mid.read new failed fault → StopsPlanning read old new failed fault
-planning_stopped names s read index host were old mid new failed Failed so_far at stops = stops
-planning_stopped names s read index host were old mid new failed TooLarge so_far at stops = stops
-planning_stopped names s read index host were old mid new failed (Refused e) so_far at stops = if_told (told e) _ _ (λ f is. record {
+    → WereRead s read → slice_get read index ≡ Some (host, were) → StopsSecond host were index mid.read new failed fault → StopsPlanning read old new failed fault
+planning_stopped names s read index host were old mid new failed Failed so_far was at stops = stops
+planning_stopped names s read index host were old mid new failed TooLarge so_far was at stops = stops
+planning_stopped names s read index host were old mid new failed (Refused e) so_far was at stops = if_told (told e) _ _ (λ f is. record {
   texts = so_far.site.texts;
+  again = so_far.site.again;
+  accepted = subst (λ (hs : List Host). each site_of (loaded_from hs so_far.site.texts) ≡ Ok so_far.site.again) (sym was.hosts) so_far.site.accepted;
+  same = λ k other others files before after.
+      let it = so_far.site.each_host k other others (omega (arith, slice_get_within so_far.site.again k (other, files) after, so_far.site.again_are)) before in
+      let pair : (other, it.1) ≡ (other, files) = same_Some (other, it.1) (other, files) (sym it.3 ∙ after) in
+      subst (λ (p : Host × List Entry). HaveSameCounts other others p.1) pair it.2.same;
   host = host;
   were = were;
   here = subst (λ k. slice_get read k ≡ Some (host, were)) (sym so_far.site.texts_are) at;

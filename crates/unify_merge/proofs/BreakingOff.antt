@@ -1,5 +1,6 @@
 -- Files whose writing broke off, in their order.
-use Rattle.std.proofs.Common.{◌≡◌, ◌++◌, ◌∷◌, [], ℕ, List, map, Option, refl, sym, ap, ◌∙◌, arith, append_assoc, append-nil}
+use Rattle.std.proofs.Common.{◌≡◌, ◌++◌, ◌∷◌, [], ℕ, List, map, Option, Result, Ok, Err, refl, sym, ap, ◌∙◌, arith, append_assoc, append-nil}
+use Rattle.std.specs.Prelude.{OnErr}
 use Rattle.std.proofs.lemmas.List.{map-append}
 use Rattle.unify.specs.declared.site_files.NamedText.{NamedText}
 use Rattle.unify_merge.specs.Ledger.{BrokeOff, HasBegun, Ledger, Reading, after_files}
@@ -12,6 +13,11 @@ name_of file = file.name
 -- behind another reading
 abbrev pub reading_as : Ledger → Ledger → Ledger
 reading_as new l = record l { read = new.read; reading = new.reading }
+
+-- an error, and what follows from one
+pub on_err : {T E : Type 0} (r : Result T E) (P : Type 0) → P → OnErr r P
+on_err (Ok x) P p = tt
+on_err (Err e) P p = p
 
 -- ---- the parts of a ledger
 

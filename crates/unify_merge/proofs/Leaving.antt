@@ -1,5 +1,5 @@
 -- What a merge leaves that ended early.
-use Rattle.std.proofs.Common.{◌≡◌, ◌≤◌, ◌<◌, ◌+◌, ◌++◌, ◌∷◌, [], ℕ, suc, List, length, drop, Some, Ok, refl, sym, ap, subst, ◌∙◌, arith, inl, inr, append-nil, length-append, length-drop}
+use Rattle.std.proofs.Common.{◌≡◌, ◌≤◌, ◌<◌, ◌+◌, ◌++◌, ◌∷◌, [], ℕ, suc, List, length, drop, Some, Ok, refl, sym, ap, subst, ◌∙◌, arith, inl, inr, append-nil, length-append}
 use Rattle.std.specs.Prelude.{◌⊎◌}
 use Rattle.std.specs.List.{slice_get}
 use Rattle.std.proofs.lemmas.List.{drop_all}
@@ -16,7 +16,6 @@ use Rattle.unify.specs.Count.{site_of}
 use Rattle.unify.specs.Loading.{loaded_from}
 use Rattle.unify.specs.Merging.{mappings_in}
 use Rattle.unify.specs.Outcomes.{IsOutcome}
-use Rattle.unify.specs.Passes.{BegunSite}
 use Rattle.unify.specs.Reading.{WholeSite}
 use Rattle.unify.specs.Rules.{rules_by}
 use Rattle.unify.specs.SecondPass.{SolvedValue, whole_plan}
@@ -24,19 +23,17 @@ use Rattle.unify_laws.specs.Headline.{Headline}
 use Rattle.unify_laws.specs.HostTexts.{host_files}
 use Rattle.unify_laws.proofs.Agreeing.{item_at}
 use Rattle.unify_laws.proofs.SecondReading.{second_reading_is_believed, second_reading_is_right}
-use Rattle.unify_merge.specs.Ledger.{BrokeOff, HasBegun, Ledger, after_files, cleared}
+use Rattle.unify_merge.specs.Ledger.{BrokeOff, Ledger, after_files, cleared}
 use Rattle.unify_merge.specs.FirstReading.{ReadsOnly, readings_from}
 use Rattle.unify_merge.specs.SecondReading.{ArePlanned, PlansBrokeOff, WereRead, plan_files, plan_name, plans_from}
-use Rattle.unify_merge.specs.Merge.{HasSolved, Leaves, MergeBrokeOff, WritingBrokeOff, files_before_report, first_files, keeps_in, names_before_report}
+use Rattle.unify_merge.specs.Merge.{HasSolved, Leaves, MergeBrokeOff, WritingBrokeOff, first_files, merged_files, report_file}
 use Rattle.unify_merge.specs.Surveyed.{LeavesFiles, WereFound}
 use Rattle.unify_merge.proofs.OwnFiles.{same_mappings}
 use Rattle.unify_merge.proofs.AllPlanned.{read_len}
-use Rattle.unify_merge.proofs.Begun.{begun_broken, begun_from, begun_none, names_of_files}
 use Rattle.unify_merge.proofs.BreakingOff.{broken_as, broken_behind, broken_front, broken_plan, files_reading, reading_as, reads_same}
 use Rattle.unify_merge.proofs.Planned.{none_first}
 use Rattle.unify_merge.proofs.Readings.{reads_on}
-use Rattle.unify_merge.proofs.ReadLast.{all_first, drop_from, last_accepted, last_again, last_one_each, last_plans, length-plans_from}
-use Rattle.unify_merge.proofs.WholeMerge.{keeps_as_begun}
+use Rattle.unify_merge.proofs.ReadLast.{all_first, drop_from, last_accepted, last_again, last_one_each, last_plans}
 
 -- ---- the files of plans
 
@@ -61,15 +58,16 @@ plan_files_from (n ∷ names) (p ∷ plans) more name plan here =
 
 -- told: what was merged, as the second pass hands it out
 module _ (names : List HostText) (s : SolvedValue) (read : List (Host × List Entry)) (told : Outcome) (old clear : Ledger) (same : told ≡ s.merged.outcome) (clears : clear ≡ cleared old) where
-  abbrev own : List NamedText
-  own = host_files s.joined (mappings_in s.merged) names s.hosts
+  -- those of each host, and the report
+  abbrev last : List NamedText
+  last = host_files s.joined (mappings_in s.merged) names s.hosts ++ report_file s.merged.outcome ∷ []
 
   -- the first files broke off
   pub first_left : (new : Ledger) → BrokeOff (first_files told) clear new → WritingBrokeOff names s read old new
   unfolding none_first broken_front broken_as
   first_left new b =
       let site = none_first s read in
-      let rest = plan_files names (site.plans ++ plans_from s 0 (drop 0 read)) ++ own in
+      let rest = plan_files names (site.plans ++ plans_from s 0 (drop 0 read)) ++ last in
       let ledger : clear ≡ reading_as new (cleared old) = reads_same (first_files told) clear new b ∙ ap (reading_as new) clears in
       let files : first_files told ++ rest ≡ first_files s.merged.outcome ++ rest = ap (λ (o : Outcome). first_files o ++ rest) same in
       let reads : new.read ≡ old.read = ap (λ (l : Ledger). l.read) b.stands ∙ ap (λ (l : Ledger). l.read) clears in
@@ -117,7 +115,7 @@ module _ (names : List HostText) (s : SolvedValue) (read : List (Host × List En
         let one = broken_plan (plan_name b.name) plan b.middle new b.begun b.next.no_file in
         let two : BrokeOff (file ∷ behind) (reading_as new b.middle) new = broken_front (file ∷ []) behind (reading_as new b.middle) new one.0 in
         let three : BrokeOff (before ++ (file ∷ behind)) (reading_as new first) new = broken_behind before (file ∷ behind) (reading_as new first) (reading_as new b.middle) new (files_reading before first b.middle new b.so_far.files) two in
-        let four = behind_first ((before ++ (file ∷ behind)) ++ own) new (broken_front (before ++ (file ∷ behind)) own (reading_as new first) new three) in
+        let four = behind_first ((before ++ (file ∷ behind)) ++ last) new (broken_front (before ++ (file ∷ behind)) last (reading_as new first) new three) in
         let done = first_files s.merged.outcome in
         let none : length one.0.whole ≡ 0 = ap length one.1 in
         let len : length (done ++ (before ++ one.0.whole)) ≤ length done + index = omega (arith, none, length-append done (before ++ one.0.whole), length-append before one.0.whole, length-plan_files names site.plans, site.plans_are) in
@@ -130,31 +128,31 @@ module _ (names : List HostText) (s : SolvedValue) (read : List (Host × List En
             one_at_most = b.next.reads.one_at_most;
             readings = b.next.reads.readings ∙ ap (λ rs. rs ++ b.next.reads.more) (b.so_far.readings ∙ ap (λ rs. rs ++ readings_from 0 site.texts) first_read);
           };
-          files = broken_as (done ++ ((before ++ (file ∷ behind)) ++ own)) (done ++ (plan_files names (site.plans ++ plans_from s index (drop index read)) ++ own)) (reading_as new (cleared old)) (reading_as new (cleared old)) new (ap (λ fs. done ++ (fs ++ own)) files) refl four;
+          files = broken_as (done ++ ((before ++ (file ∷ behind)) ++ last)) (done ++ (plan_files names (site.plans ++ plans_from s index (drop index read)) ++ last)) (reading_as new (cleared old)) (reading_as new (cleared old)) new (ap (λ fs. done ++ (fs ++ last)) files) refl four;
           in_turn = λ _. len;
         }
 
     -- the plans of all hosts are files, and what came then broke off
-    pub own_left : (planned new : Ledger) → ArePlanned names s read first planned → BrokeOff own planned new → WritingBrokeOff names s read old new
+    pub last_left : (planned new : Ledger) → ArePlanned names s read first planned → BrokeOff last planned new → WritingBrokeOff names s read old new
     unfolding all_first
-    own_left planned new p b =
+    last_left planned new p b =
         let site = all_first s read (length names) p.site was each_name in
         let done = first_files s.merged.outcome in
         let before = plan_files names p.site.plans in
         let none : drop (length names) read ≡ [] = drop_all (length names) read (omega (arith, each_name, read_len s read was)) in
         let plans : p.site.plans ++ plans_from s (length names) (drop (length names) read) ≡ p.site.plans = ap (λ hs. p.site.plans ++ plans_from s (length names) hs) none ∙ append-nil p.site.plans in
-        let ledger : planned ≡ reading_as new planned = reads_same own planned new b in
-        let one : BrokeOff own (reading_as new planned) new = broken_as own own planned (reading_as new planned) new refl ledger b in
-        let two : BrokeOff (before ++ own) (reading_as new first) new = broken_behind before own (reading_as new first) (reading_as new planned) new (files_reading before first planned new p.files) one in
-        let three = behind_first (before ++ own) new two in
+        let ledger : planned ≡ reading_as new planned = reads_same last planned new b in
+        let one : BrokeOff last (reading_as new planned) new = broken_as last last planned (reading_as new planned) new refl ledger b in
+        let two : BrokeOff (before ++ last) (reading_as new first) new = broken_behind before last (reading_as new first) (reading_as new planned) new (files_reading before first planned new p.files) one in
+        let three = behind_first (before ++ last) new two in
         let reads : new.read ≡ old.read ++ readings_from 0 p.site.texts = ap (λ (l : Ledger). l.read) b.stands ∙ p.readings ∙ ap (λ rs. rs ++ readings_from 0 p.site.texts) first_read in
         record {
           index = length names;
           within = omega arith;
           site = site;
           reads = record { more = []; one_at_most = omega arith; readings = reads ∙ sym (append-nil (old.read ++ readings_from 0 p.site.texts)) };
-          files = broken_as (done ++ (before ++ own)) (done ++ (plan_files names (p.site.plans ++ plans_from s (length names) (drop (length names) read)) ++ own)) (reading_as new (cleared old)) (reading_as new (cleared old)) new
-              (ap (λ ps. done ++ (plan_files names ps ++ own)) (sym plans)) refl three;
+          files = broken_as (done ++ (before ++ last)) (done ++ (plan_files names (p.site.plans ++ plans_from s (length names) (drop (length names) read)) ++ last)) (reading_as new (cleared old)) (reading_as new (cleared old)) new
+              (ap (λ ps. done ++ (plan_files names ps ++ last)) (sym plans)) refl three;
           in_turn = λ less. absurd (omega (arith, less));
         }
 
@@ -196,27 +194,14 @@ merge_left texts rules s old mid new h reads w =
       outcome = outcome;
       is_right = subst (λ (x : WholeSite). IsOutcome x outcome) site_is right;
       is_believed = is_believed;
-      files = broken_as (files_before_report texts (record { hosts = s.hosts; joined = s.joined }) (mappings_in s.merged) outcome) (files_before_report texts h.begun is_believed.mappings outcome) (reading_as new (cleared mid)) (reading_as new (cleared old)) new
-          (λ j. files_before_report texts (record { hosts = h.hosts j; joined = h.joined j }) (sym same j) outcome) (λ j. reading_as new (cleared (reads j))) w.files;
+      files = broken_as (merged_files texts (record { hosts = s.hosts; joined = s.joined }) (mappings_in s.merged) outcome) (merged_files texts h.begun is_believed.mappings outcome) (reading_as new (cleared mid)) (reading_as new (cleared old)) new
+          (λ j. merged_files texts (record { hosts = h.hosts j; joined = h.joined j }) (sym same j) outcome) (λ j. reading_as new (cleared (reads j))) w.files;
       in_turn = λ less. subst (λ n. length w.files.whole ≤ length (first_files s.merged.outcome) + n) (sym w.site.texts_are) (w.in_turn (omega (arith, less, w.site.texts_are)));
     }
 
 pub merge_leaves : (texts : List HostText) (rules : SiteRules) (s : SolvedValue) (old mid new : Ledger) (h : HasSolved texts rules old mid s) → ReadsOnly old mid → ReadsOnly mid new ⊎ WritingBrokeOff texts s h.were mid new → Leaves texts rules old new
 merge_leaves texts rules s old mid new h reads (inl same) = inl (reads_on old mid new reads same)
 merge_leaves texts rules s old mid new h reads (inr broken) = inr (merge_left texts rules s old mid new h reads broken)
-
--- and so the first of the files were begun
-pub leaves_begun : (texts : List HostText) (rules : SiteRules) (s : SolvedValue) (old mid new : Ledger) (h : HasSolved texts rules old mid s) → ReadsOnly old mid → ReadsOnly mid new ⊎ WritingBrokeOff texts s h.were mid new → HasBegun (names_before_report (keeps_in texts rules) texts) old new
-leaves_begun texts rules s old mid new h reads (inl same) = begun_none (names_before_report (keeps_in texts rules) texts) old new (ap (λ (l : Ledger). l.begun) (reads_on old mid new reads same))
-leaves_begun texts rules s old mid new h reads (inr w) =
-    let m = mappings_in s.merged in
-    let more = plans_from s w.index (drop w.index h.were) in
-    let outcome : Outcome = record s.merged.outcome { plans = w.site.plans ++ more } in
-    let begun : BegunSite = record { hosts = s.hosts; joined = s.joined } in
-    let each_plan : length (w.site.plans ++ more) ≡ length texts = omega (arith, length-append w.site.plans more, length-plans_from s w.index (drop w.index h.were), length-drop w.index h.were, w.site.plans_are, read_len s h.were h.was_read, h.each_text, w.within) in
-    let names = names_of_files texts begun m outcome each_plan h.each_text ∙ ap (λ k. names_before_report k texts) (keeps_as_begun texts rules old mid s h) in
-    let clear = reading_as new (cleared mid) in
-    begun_from (names_before_report (keeps_in texts rules) texts) old clear new (ap (λ (l : Ledger). l.begun) reads) (begun_broken (files_before_report texts begun m outcome) (names_before_report (keeps_in texts rules) texts) clear new names w.files)
 
 -- behind a survey
 pub files_leave : (hosts : List HostText) (pins keep : List ℕ) (unowned : UnownedNumbers) (old mid new : Ledger) → WereFound hosts keep old mid unowned → Leaves hosts (rules_by pins keep unowned) mid new → LeavesFiles hosts pins keep old new

@@ -1,4 +1,3 @@
-pub mod Begun
 pub mod Stops
 pub mod Readings
 pub mod Changes

@@ -10,7 +10,6 @@ use Rattle.hosts_join.specs.Site.{Joined}
 use Rattle.hosts_join.specs.declared.host.Host.{Host}
 use Rattle.hosts_join.specs.declared.texts.HostText.{HostText}
 use Rattle.ownership.specs.Mappings.{Mappings}
-use Rattle.unify_texts.specs.ReservedLines.{keeps_a_name}
 use Rattle.unify_texts.specs.Told.{told}
 use Rattle.unify_texts.specs.declared.fault.Fault.{Fault}
 use Rattle.unify.specs.declared.counting.Cost.{Cost}
@@ -28,13 +27,14 @@ use Rattle.unify.proofs.BetweenPasses.{over_whole}
 use Rattle.unify.proofs.Whole.{hosts_held}
 use Rattle.unify_laws.specs.Headline.{Headline}
 use Rattle.unify_laws.specs.HostTexts.{AreJoinedInFull, host_files}
+use Rattle.unify_laws.specs.TwoPasses.{AreReadAgain}
 use Rattle.unify_laws.proofs.HostTexts.{begun_sites_are_in_full, empty_texts_keep_no_name, tables_are_of_texts, text_keeps}
 use Rattle.unify_laws.proofs.SecondReading.{second_reading_is_believed, second_reading_is_right, still_whole}
 use Rattle.unify_merge.specs.Ledger.{Ledger, Reading, after_files, cleared}
 use Rattle.unify_merge.specs.FirstReading.{IsInventoryFault, ReadsOnly, StopsCounting, readings_from}
 use Rattle.unify_merge.specs.HostFiles.{HasFiles, StopsWriting}
 use Rattle.unify_merge.specs.SecondReading.{IsChangeFault, StopsPlanning, plan_files}
-use Rattle.unify_merge.specs.Merge.{HasMade, HasMerged, HasSolved, HasWritten, StopsMerge, first_files, keeps_begun, keeps_in, merged_files, report_file}
+use Rattle.unify_merge.specs.Merge.{HasMade, HasMerged, HasSolved, HasWritten, StopsMerge, first_files, merged_files, report_file}
 use Rattle.unify_merge.specs.declared.fault.MergeFault.{MergeFault}
 use Rattle.unify_merge.specs.declared.fault.MergeFault.TheVariants.{Failed, TooLarge, Refused}
 use Rattle.unify_merge.proofs.OwnFiles.{same_mappings}
@@ -47,6 +47,9 @@ planning_same read old other new failed Failed same stops = stops
 planning_same read old other new failed TooLarge same stops = stops
 planning_same read old other new failed (Refused e) same stops = if_told (told e) _ _ (λ f is. record {
   texts = is.texts;
+  again = is.again;
+  accepted = is.accepted;
+  same = is.same;
   host = is.host;
   were = is.were;
   here = is.here;
@@ -127,10 +130,6 @@ has_solved texts rules begun over site s old new first read same accepted is joi
       };
     }
 
--- whether a name is kept is seen before the inventories are read
-pub keeps_as_begun : (texts : List HostText) (rules : SiteRules) (old new : Ledger) (s : SolvedValue) → HasSolved texts rules old new s → s.merged.outcome.keeps_names ≡ keeps_in texts rules
-keeps_as_begun texts rules old new s h = h.merged.printed.printed.keeps ∙ ap keeps_a_name h.joined ∙ sym (ap keeps_begun h.begun_is)
-
 -- what was merged is right and believed, and stands in its files
 record IsMergedFor (texts : List HostText) (begun : BegunSite) (are : List (Host × List Entry)) (outcome : Outcome) (old new : Ledger) : Type 0 where
   whole : IsWhole (record { hosts = are; joined = begun.joined })
@@ -175,6 +174,7 @@ has_merged texts rules s old mid new cost h reads w =
       second = w.site.texts;
       are = w.site.again;
       second_read = record { one_each = one_each; accepted = accepted };
+      same = subst (λ (j : Joined). AreReadAgain (record { hosts = h.were; joined = j }) w.site.again) h.joined w.site.same;
       readings = w.readings ∙ ap (λ rs. rs ++ readings_from 0 w.site.texts) h.readings;
       outcome = outcome;
       is_right = merged.right;
@@ -193,5 +193,6 @@ pub has_made : (texts : List HostText) (rules : SiteRules) (s : SolvedValue) (ol
 unfolding has_merged
 has_made texts rules s old mid new made h reads w is = record {
   merged = has_merged texts rules s old mid new made.cost h reads w;
+  no_plans = ap (λ (o : Outcome). o.plans) is ∙ h.merged.printed.no_plans;
   outcome_is = ap (λ (o : Outcome). record o { plans = w.site.plans }) (sym is);
 }

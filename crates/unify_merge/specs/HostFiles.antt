@@ -1,19 +1,11 @@
 -- Each host's own passwd and group with their new numbers are written.
 -- Source: this project's own rule.
-use Rattle.std.specs.Prelude.{◌≡◌, ℕ, Bool, true, List, [], ◌∷◌, ◌++◌, codes, flat_map}
-use Rattle.hosts_join.specs.declared.texts.HostText.{HostText}
+use Rattle.std.specs.Prelude.{◌≡◌, Bool, true, List}
 use Rattle.unify_texts.specs.declared.fault.Fault.TheVariants.{Memory}
 use Rattle.unify.specs.declared.site_files.NamedText.{NamedText}
 use Rattle.unify_merge.specs.Ledger.{Ledger, after_files}
 use Rattle.unify_merge.specs.declared.fault.MergeFault.{MergeFault}
 use Rattle.unify_merge.specs.declared.fault.MergeFault.TheVariants.{Failed, TooLarge, Refused}
-
--- the names of a host's two files, and those of hosts, in the order of `host_files`
-abbrev pub own_names : HostText → List (List ℕ)
-own_names text = (codes "passwd." ++ text.name) ∷ (codes "group." ++ text.name) ∷ []
-
-abbrev pub host_names : List HostText → List (List ℕ)
-host_names texts = flat_map own_names texts
 
 -- these files were written, one after the other, and nothing else was done
 abbrev pub HasFiles : List NamedText → Ledger → Ledger → Type 0

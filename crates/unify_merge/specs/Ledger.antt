@@ -13,10 +13,10 @@ pub record Ledger : Type 0 where
   -- the readings that came to their ends, in order, and the one that goes on
   pub read : List Reading
   pub reading : Option Reading
-  -- whether what an earlier merge left was cleared away
+  -- whether what stood there before was cleared away, as far as that went
   pub is_clear : Bool
-  -- the names of the files that were begun, in order; the files that were finished, in order; and
-  -- the one that is written, as far as it was
+  -- since then: the names of the files that were begun, in order; the files that were finished, in
+  -- order; and the one that is written, as far as it was
   pub begun : List (List ℕ)
   pub finished : List NamedText
   pub writing : Option NamedText
@@ -55,8 +55,9 @@ with_piece bytes l = read_on bytes l.reading l
 
 -- ---- writing
 
+-- what was written before is gone, too
 abbrev pub cleared : Ledger → Ledger
-cleared l = record l { is_clear = true }
+cleared l = record l { is_clear = true; begun = []; finished = []; writing = None }
 
 -- behind the first bytes of a file that was begun
 abbrev pub writing_so_far : List ℕ → List ℕ → Ledger → Ledger

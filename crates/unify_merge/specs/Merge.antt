@@ -23,12 +23,11 @@ use Rattle.unify.specs.Passes.{BegunSite, site_begun}
 use Rattle.unify.specs.SecondPass.{IsFresh, SolvedValue, ended_in}
 use Rattle.unify_laws.specs.Headline.{Headline}
 use Rattle.unify_laws.specs.HostTexts.{AreJoinedInFull, EachKeepsOwnFiles, host_files}
+use Rattle.unify_laws.specs.TwoPasses.{AreReadAgain}
 use Rattle.unify_merge.specs.Ledger.{BrokeOff, Ledger, after_files, cleared}
 use Rattle.unify_merge.specs.FirstReading.{IsInventoryFault, IsTooLarge, ReadsOnly, readings_from}
-use Rattle.unify_merge.specs.HostFiles.{host_names}
 use Rattle.unify_merge.specs.SecondReading.{ArePlannedFirst, IsPlannedAgain, IsSiteChange}
-use Rattle.unify_merge.specs.SecondReading.{HasReadOneAtMost, WereRead, plan_files, plan_name}
-use Rattle.unify_merge.specs.SecondReading.{plans_from}
+use Rattle.unify_merge.specs.SecondReading.{HasReadOneAtMost, WereRead, plan_files, plans_from}
 use Rattle.unify_merge.specs.declared.fault.MergeFault.{MergeFault}
 use Rattle.unify_merge.specs.declared.fault.MergeFault.TheVariants.{Failed, TooLarge, Refused}
 
@@ -58,31 +57,6 @@ merged_files texts begun m outcome =
     first_files outcome
     ++ (plan_files texts outcome.plans
     ++ (host_files begun.joined m texts begun.hosts ++ report_file outcome ∷ []))
-
--- all but the report, in this order
-abbrev pub files_before_report : List HostText → BegunSite → Mappings → Outcome → List NamedText
-files_before_report texts begun m outcome =
-    first_files outcome
-    ++ (plan_files texts outcome.plans ++ host_files begun.joined m texts begun.hosts)
-
--- the names of those before the report, in this order, where a name of the hosts is kept or none is
-abbrev pub account_names : Bool → List (List ℕ)
-account_names keeps = if keeps then [] else codes "passwd" ∷ codes "group" ∷ []
-
-abbrev pub first_names : Bool → List (List ℕ)
-first_names keeps = account_names keeps ++ codes "map" ∷ codes "certificate" ∷ []
-
-abbrev pub names_before_report : Bool → List HostText → List (List ℕ)
-names_before_report keeps texts = first_names keeps ++ (map plan_name texts ++ host_names texts)
-
--- whether a name is kept, by the tables and the rules as they are read; none is where they are
--- refused
-abbrev pub keeps_begun : Result BegunSite Fault → Bool
-keeps_begun (Ok begun) = keeps_a_name begun.joined
-keeps_begun (Err f) = false
-
-abbrev pub keeps_in : List HostText → SiteRules → Bool
-keeps_in texts rules = keeps_begun (site_begun texts rules)
 
 -- ---- a merge that succeeds
 
@@ -128,10 +102,11 @@ pub record HasWritten (names : List HostText) (s : SolvedValue) (read : List (Ho
   pub cost_is : cost ≡ s.merged.outcome.cost
 
 -- The tables and the rules were read; the inventory of each host was read twice, and is accepted
--- both times. What was merged is right for the second reading, and has the headline of it; and each
--- host's own passwd and group with their new numbers keep the names of its files as well. Where no
--- name is kept, as with an empty keep text, all rows of each host were joined. What was merged
--- stands in its files, which are all that was written.
+-- both times, and each user and each group of each host owns as many of its files the second time
+-- as the first. What was merged is right for the second reading, and has the headline of it; and
+-- each host's own passwd and group with their new numbers keep the names of its files as well.
+-- Where no name is kept, as with an empty keep text, all rows of each host were joined. What was
+-- merged stands in its files, which are all that stands there.
 pub record HasMerged (texts : List HostText) (rules : SiteRules) (old new : Ledger)
     (cost : Cost) : Type 0 where
   pub begun : BegunSite
@@ -142,6 +117,7 @@ pub record HasMerged (texts : List HostText) (rules : SiteRules) (old new : Ledg
   pub second : List (List ℕ)
   pub are : List (Host × List Entry)
   pub second_read : AreInventories begun.hosts second are
+  pub same : AreReadAgain (record { hosts = were; joined = begun.joined }) are
   pub readings : new.read ≡ (old.read ++ readings_from 0 first) ++ readings_from 0 second
   pub outcome : Outcome
   pub is_right : IsOutcome (record { hosts = are; joined = begun.joined }) outcome
@@ -155,10 +131,11 @@ pub record HasMerged (texts : List HostText) (rules : SiteRules) (old new : Ledg
       (cleared old)) { read = new.read; reading = new.reading; writing = new.writing }
   pub cost_is : cost ≡ outcome.cost
 
--- what was merged so, but for its plans, which are among the files
+-- what was merged so, but without its plans, which are among the files
 pub record HasMade (texts : List HostText) (rules : SiteRules) (old new : Ledger) (made : Outcome)
     : Type 0 where
   pub merged : HasMerged texts rules old new made.cost
+  pub no_plans : made.plans ≡ []
   pub outcome_is : merged.outcome ≡ record made { plans = merged.outcome.plans }
 
 -- ---- a merge that is refused
@@ -173,11 +150,11 @@ pub record IsSecondFault (texts : List HostText) (rules : SiteRules) (old new : 
   pub first_read : AreInventories begun.hosts first were
   pub change : IsSiteChange were (record old { read = old.read ++ readings_from 0 first }) new f
 
--- The first fault of what was read: of the tables or the rules, or of an inventory, and then
--- nothing was written; or a change of an inventory between its readings.
+-- The first fault of what was read: of the tables or the rules, before an inventory is read, or of
+-- an inventory, and then nothing was written; or a change of an inventory between its readings.
 abbrev pub IsMergeFault : List HostText → SiteRules → Ledger → Ledger → Fault → Type 0
 IsMergeFault texts rules old new f =
-    ((site_begun texts rules ≡ Err f) × ReadsOnly old new)
+    ((site_begun texts rules ≡ Err f) × (new ≡ old))
     ⊎ (((begun : BegunSite) × (site_begun texts rules ≡ Ok begun)
     × IsInventoryFault begun.hosts old new f × ReadsOnly old new)
     ⊎ IsSecondFault texts rules old new f)
@@ -203,7 +180,7 @@ pub record WritingBrokeOff (names : List HostText) (s : SolvedValue)
   pub site : ArePlannedFirst s read index
   pub reads : HasReadOneAtMost (old.read ++ readings_from 0 site.texts) new
   pub files : BrokeOff
-      (files_before_report names (record { hosts = s.hosts; joined = s.joined })
+      (merged_files names (record { hosts = s.hosts; joined = s.joined })
       (mappings_in s.merged)
       (record s.merged.outcome { plans = site.plans ++ plans_from s index (drop index read) }))
       (record (cleared old) { read = new.read; reading = new.reading }) new
@@ -212,10 +189,10 @@ pub record WritingBrokeOff (names : List HostText) (s : SolvedValue)
 
 -- The tables and the rules were read, and the inventory of each host, all of which are accepted;
 -- the inventories of the first hosts were read again, and are accepted again. Behind a clearing
--- away the files of an outcome were being written that is right, with the headline, for the
--- inventories as they were read last, and that broke off before the report: which of them are whole
--- is known, with their bytes. No plan is whole of a host whose inventory was not read again, and no
--- host's own file before all were.
+-- away, which may have stopped midway, the files of an outcome were being written that is right,
+-- with the headline, for the inventories as they were read last, and that broke off: which of them
+-- are whole is known, with their bytes, the report last of all. No plan is whole of a host whose
+-- inventory was not read again, and no host's own file before all were.
 pub record MergeBrokeOff (texts : List HostText) (rules : SiteRules) (old new : Ledger) : Type 0
   where
     pub begun : BegunSite
@@ -230,7 +207,7 @@ pub record MergeBrokeOff (texts : List HostText) (rules : SiteRules) (old new : 
     pub outcome : Outcome
     pub is_right : IsOutcome (record { hosts = last; joined = begun.joined }) outcome
     pub is_believed : Headline (record { hosts = last; joined = begun.joined }) outcome
-    pub files : BrokeOff (files_before_report texts begun is_believed.mappings outcome)
+    pub files : BrokeOff (merged_files texts begun is_believed.mappings outcome)
         (record (cleared old) { read = new.read; reading = new.reading }) new
     pub in_turn : length again < length texts
         → length files.whole ≤ length (first_files outcome) + length again

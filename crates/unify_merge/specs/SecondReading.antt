@@ -218,10 +218,16 @@ plans_from s index [] = []
 plans_from s index (host ∷ hosts) =
     whole_plan host.0 s.joined s.merged index host.1 ∷ plans_from s (index + 1) hosts
 
--- the inventories of the first hosts were read again, and that of the next is not what it was
+-- the inventories of the first hosts were read again, each user and each group of which owns as many
+-- files as before, and that of the next is not what it was
 pub record IsSiteChange (read : List (Host × List Entry)) (old new : Ledger) (f : Fault) : Type 0
   where
     pub texts : List (List ℕ)
+    pub again : List (Host × List Entry)
+    pub accepted : each site_of (loaded_from (map (λ h. h.0) read) texts) ≡ Ok again
+    pub same : (k : ℕ) (host : Host) (were files : List Entry)
+        → slice_get read k ≡ Some (host, were) → slice_get again k ≡ Some (host, files)
+        → HaveSameCounts host were files
     pub host : Host
     pub were : List Entry
     pub here : slice_get read (length texts) ≡ Some (host, were)

@@ -32,15 +32,17 @@ pub trait ReadFiles {
 
 /// The inventories that a merge reads, and the files that it writes.
 pub trait MergeFiles: ReadFiles {
-    ghost use Rattle.std.specs.Prelude.{◌≡◌, true, [], ◌∷◌, OnOk, OnErr};
+    ghost use Rattle.std.specs.Prelude.{◌≡◌, ◌⊎◌, true, [], ◌∷◌, OnOk, OnErr};
     ghost use Rattle.unify_merge.specs.Ledger.{cleared, with_begun, with_bytes, with_finished};
     ghost use Rattle.unify_merge.specs.Ledger.{after_files};
 
-    /// Clears away what an earlier merge left: its report first, what it wrote for each host, also
-    /// for hosts that are no more, and its passwd and group.
+    /// Clears away what a merge left: its report first, what it wrote for each host, also for hosts
+    /// that are no more, and its passwd and group. Where it fails, nothing was cleared away, or some
+    /// of it or all of it was.
     fn clear(&mut self) -> Result<(), CallFailed>
         ensures clear { OnOk result (Self.ledger self.new ≡ cleared (Self.ledger self.old)) }
-        ensures none { OnErr result (Self.ledger self.new ≡ Self.ledger self.old) }
+        ensures failing { OnErr result ((Self.ledger self.new ≡ Self.ledger self.old)
+            ⊎ (Self.ledger self.new ≡ cleared (Self.ledger self.old))) }
         ensures failed { OnErr result (Self.has_failed self.new ≡ true) };
 
     /// Begins a file. What has its name stays until it is finished.
@@ -66,12 +68,16 @@ pub trait MergeFiles: ReadFiles {
         ensures failed { OnErr result (Self.has_failed self.new ≡ true) };
 
     /// Writes the last file whole, when all others are settled where they stand, and settles it.
+    /// Where it fails, the file may stand there all the same, as when it could not be settled.
     fn seal(&mut self, name: &[u8], text: &[u8]) -> Result<(), CallFailed>
         requires clear { (Self.ledger self.old).is_clear ≡ true }
         ensures sealed { OnOk result
             (Self.ledger self.new
             ≡ after_files (record { name = name.now; text = text.now } ∷ [])
             (Self.ledger self.old)) }
-        ensures none { OnErr result (Self.ledger self.new ≡ Self.ledger self.old) }
+        ensures failing { OnErr result ((Self.ledger self.new ≡ Self.ledger self.old)
+            ⊎ (Self.ledger self.new
+            ≡ after_files (record { name = name.now; text = text.now } ∷ [])
+            (Self.ledger self.old))) }
         ensures failed { OnErr result (Self.has_failed self.new ≡ true) };
 }

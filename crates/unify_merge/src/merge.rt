@@ -6,16 +6,13 @@ ghost use Rattle.hosts_join.specs.declared.host.Host.{Host};
 ghost use Rattle.unify_texts.specs.declared.fault.Fault.TheVariants.{Memory};
 ghost use Rattle.unify.specs.Passes.{AreTogether, ended_in};
 ghost use Rattle.unify.specs.SecondPass.{IsFresh, IsSolvedFrom, ended_in as ended_again};
-ghost use Rattle.unify_merge.specs.Ledger.{BrokeOff, HasBegun, after_files};
+ghost use Rattle.unify_merge.specs.Ledger.{BrokeOff, after_files};
 ghost use Rattle.unify_merge.specs.FirstReading.{ReadsOnly};
 ghost use Rattle.unify_merge.specs.HostFiles.{HasFiles};
 ghost use Rattle.unify_merge.specs.SecondReading.{StopsPlanning, WereRead};
 ghost use Rattle.unify_merge.specs.Merge.{HasMade, HasMerged, HasSolved, HasWritten, Leaves};
 ghost use Rattle.unify_merge.specs.Merge.{StopsMerge, WritingBrokeOff, account_files, first_files};
-ghost use Rattle.unify_merge.specs.Merge.{keeps_in, names_before_report};
 ghost use Rattle.unify_merge.specs.Surveyed.{HasMergedFiles, LeavesFiles, StopsMergeFiles};
-ghost use Rattle.unify.specs.Rules.{rules_by};
-ghost use Rattle.kept_accounts.specs.Reserving.{UnownedNumbers};
 ghost use Rattle.unify_merge.specs.declared.fault.MergeFault.TheVariants.{Refused};
 
 use crate::fault::MergeFault;
@@ -134,10 +131,10 @@ fn write_merged<'a, F: MergeFiles>(
 /// each host, each host's own passwd and group with their new numbers, and the report. It stops
 /// early where a call on the files fails, where an inventory has more than 4,294,967,295 bytes, at
 /// the first fault of what is read, where an inventory has changed when it is read the second time
-/// (`Fault::InventoryChanged`), or where a growth is refused (`Fault::Memory`); no file was begun
-/// then but the first of these, and no report. Wherever it ends early, either nothing was written
-/// and nothing cleared away, or every inventory was accepted before that; then the files that are
-/// whole are the first of these, with their bytes, and at most the next was begun.
+/// (`Fault::InventoryChanged`), or where a growth is refused (`Fault::Memory`). Wherever it ends
+/// early, either nothing was written and nothing cleared away, or every inventory was accepted
+/// before that; then the files that are whole are the first of these, with their bytes, and at most
+/// the next was begun.
 ///
 /// Two passes over each inventory, with two look-ups by hash for each file; the rest is near linear
 /// in the names and account rows, but for the solver, which is near linear where few numbers are
@@ -153,9 +150,6 @@ pub fn merge_outcome<'a, F: MergeFiles>(
     ensures stopped { IfErr result
         (StopsMerge hosts.now rules.now (F.ledger files.old) (F.ledger files.new)
         (F.has_failed files.new)) }
-    ensures begun { OnErr result
-        (HasBegun (names_before_report (keeps_in hosts.now rules.now) hosts.now)
-        (F.ledger files.old) (F.ledger files.new)) }
     ensures left { OnErr result
         (Leaves hosts.now rules.now (F.ledger files.old) (F.ledger files.new)) }
 {
@@ -177,9 +171,6 @@ pub fn merge_by<'a, F: MergeFiles>(
     ensures stopped { IfErr result
         (StopsMerge hosts.now rules.now (F.ledger files.old) (F.ledger files.new)
         (F.has_failed files.new)) }
-    ensures begun { OnErr result
-        (HasBegun (names_before_report (keeps_in hosts.now rules.now) hosts.now)
-        (F.ledger files.old) (F.ledger files.new)) }
     ensures left { OnErr result
         (Leaves hosts.now rules.now (F.ledger files.old) (F.ledger files.new)) }
 {
@@ -205,9 +196,6 @@ pub fn merge_files<'a, F: MergeFiles>(
     ensures stopped { IfErr result
         (StopsMergeFiles hosts.now pins.now keep.now (F.ledger files.old) (F.ledger files.new)
         (F.has_failed files.new)) }
-    ensures begun { OnErr result ((unowned : UnownedNumbers)
-        × HasBegun (names_before_report (keeps_in hosts.now (rules_by pins.now keep.now unowned))
-        hosts.now) (F.ledger files.old) (F.ledger files.new)) }
     ensures left { OnErr result
         (LeavesFiles hosts.now pins.now keep.now (F.ledger files.old) (F.ledger files.new)) }
 {

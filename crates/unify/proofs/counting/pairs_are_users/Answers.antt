@@ -1,15 +1,26 @@
-use Rattle.std.proofs.Common.{ap}
-use Rattle.std.specs.Prelude.{option_map}
+use Rattle.std.proofs.Common.{sym, ap, ◌∙◌}
 use Rattle.std.specs.List.{list_any}
+use Rattle.std.proofs.lemmas.Bool.{and_from}
+use Rattle.std.proofs.lemmas.List.Folds.{list_all_at, list_all_more}
+use Rattle.std.proofs.lemmas.Option.{get_or_from_slice_get, slice_get_within}
 use Rattle.hosts_join.specs.Accounts.{Pair}
+use Rattle.hosts_join.specs.Views.{pair_of}
 use Rattle.unify.specs.Count.{has_user}
-use Rattle.unify.proofs.Names.{all_fail, all_more}
 use Rattle.unify.proofs.counting.pairs_are_users.Goals as goal
 
 pub returns-then-not-is_user : goal.returns-then-not-is_user
 returns-then-not-is_user c =
-    all_fail (λ name. list_any (has_user name) c.args.hosts.now) c.args.names.now c.loop-index.index c.at-pair.result.name.now c.is_user.result (ap (option_map (λ (p : Pair). p.name)) c.at-pair.ensures) c.is_user.ensures c.if-not-is_user.true
+    let q = λ (p : Pair). list_any (has_user p.name) c.args.hosts.now in
+    let names = c.args.names.now in
+    let i = c.loop-index.index in
+    let pair : Pair = pair_of c.at-pair.result in
+    sym (list_all_at q names i pair (slice_get_within names i pair c.at-pair.ensures) (ap q (get_or_from_slice_get names i pair pair c.at-pair.ensures) ∙ sym c.is_user.ensures ∙ c.if-not-is_user.true))
 
 pub loop-index-preserved : goal.loop-index-preserved
 loop-index-preserved c =
-    all_more (λ name. list_any (has_user name) c.args.hosts.now) c.args.names.now c.loop-index.index c.at-pair.result.name.now c.is_user.result (ap (option_map (λ (p : Pair). p.name)) c.at-pair.ensures) c.is_user.ensures c.if-not-is_user.false c.loop-index.invariant
+    let q = λ (p : Pair). list_any (has_user p.name) c.args.hosts.now in
+    let names = c.args.names.now in
+    let i = c.loop-index.index in
+    let pair : Pair = pair_of c.at-pair.result in
+    list_all_more q names i pair (slice_get_within names i pair c.at-pair.ensures)
+    ∙ and_from _ _ c.loop-index.invariant (ap q (get_or_from_slice_get names i pair pair c.at-pair.ensures) ∙ sym c.is_user.ensures ∙ c.if-not-is_user.false)

@@ -17,6 +17,6 @@ loop-file-preserved c =
       noted = λ files paths s.
           (let before = inv.noted files paths s in
           let same = ap (λ (t : FilesOfPlan). t.paths) before in
-          let after = c.note.ensures (files ++ inv.done) (subst (λ ps. tree ≡ found_among (files ++ inv.done) ps) (sym same) before) in
+          let after = c.note.ensures.found (files ++ inv.done) (subst (λ ps. tree ≡ found_among (files ++ inv.done) ps) (sym same) before) in
           subst (λ ps. c.note.new.self ≡ found_among ((files ++ inv.done) ++ file ∷ []) ps) same after ∙ ap (λ fs. found_among fs paths) (append_assoc files inv.done (file ∷ [])));
     }

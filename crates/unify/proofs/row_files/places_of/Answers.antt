@@ -22,24 +22,8 @@ returns-then-not-has-2-clause-owned c =
     let spared = sym c.has-then-is_none-2.ensures ∙ c.if-not-has-2.true in
     group_refused host file (group_allowed host file place _ (sym c.place_of_number-group.ensures.place) (refused_place place c.is_none-2.result (spares_group host file.gid) c.is_none-2.ensures c.if-is_none-2.true spared))
 
-pub returns-clause-owned : goal.returns-clause-owned
-returns-clause-owned c =
-    let host = c.args.host.now in
-    let file = c.args.file.now in
-    let user = c.place_of_number-user.result in
-    let group = c.place_of_number-group.result in
-    let user_is : allows_uid host file.uid ≡ true = user_allowed host file user true (sym c.place_of_number-user.ensures.place) (elim c.else-is_none.branch [
-      | else-is_none-via-then-is_none+else-not-has w ↦ spared_place user (spares_user host file.uid) (sym w.has.ensures ∙ w.if-not-has.false)
-      | else-is_none-via-else-is_none w ↦ allowed_place user c.is_none.result (spares_user host file.uid) c.is_none.ensures w.if-is_none.false
-    ]) in
-    let group_is : allows_gid host file.gid ≡ true = group_allowed host file group true (sym c.place_of_number-group.ensures.place) (elim c.else-is_none-2.branch [
-      | else-is_none-2-via-then-is_none-2+else-not-has-2 w ↦ spared_place group (spares_group host file.gid) (sym w.has-then-is_none-2.ensures ∙ w.if-not-has-2.false)
-      | else-is_none-2-via-else-is_none-2 w ↦ allowed_place group c.is_none-2.result (spares_group host file.gid) c.is_none-2.ensures w.if-is_none-2.false
-    ]) in
-    both_allowed host file user_is group_is
-
-pub returns-clause-owns : goal.returns-clause-owns
-returns-clause-owns c =
+pub returns : goal.returns
+returns c =
     let host = c.args.host.now in
     let file = c.args.file.now in
     let user = c.place_of_number-user.result in
@@ -53,21 +37,4 @@ returns-clause-owns c =
       | else-is_none-2-via-else-is_none-2 w ↦ allowed_place group c.is_none-2.result (spares_group host file.gid) c.is_none-2.ensures w.if-is_none-2.false
     ]) in
     let each = own-each host file (record { uid = file.uid; gid = file.gid; user = user; group = group }) refl refl (sym c.place_of_number-user.ensures.place) (sym c.place_of_number-group.ensures.place) c.place_of_number-user.ensures.table c.place_of_number-group.ensures.table user_is group_is in
-    each file refl refl
-
-pub returns-clause-places : goal.returns-clause-places
-returns-clause-places c =
-    let host = c.args.host.now in
-    let file = c.args.file.now in
-    let user = c.place_of_number-user.result in
-    let group = c.place_of_number-group.result in
-    let user_is : allows_uid host file.uid ≡ true = user_allowed host file user true (sym c.place_of_number-user.ensures.place) (elim c.else-is_none.branch [
-      | else-is_none-via-then-is_none+else-not-has w ↦ spared_place user (spares_user host file.uid) (sym w.has.ensures ∙ w.if-not-has.false)
-      | else-is_none-via-else-is_none w ↦ allowed_place user c.is_none.result (spares_user host file.uid) c.is_none.ensures w.if-is_none.false
-    ]) in
-    let group_is : allows_gid host file.gid ≡ true = group_allowed host file group true (sym c.place_of_number-group.ensures.place) (elim c.else-is_none-2.branch [
-      | else-is_none-2-via-then-is_none-2+else-not-has-2 w ↦ spared_place group (spares_group host file.gid) (sym w.has-then-is_none-2.ensures ∙ w.if-not-has-2.false)
-      | else-is_none-2-via-else-is_none-2 w ↦ allowed_place group c.is_none-2.result (spares_group host file.gid) c.is_none-2.ensures w.if-is_none-2.false
-    ]) in
-    let each = own-each host file (record { uid = file.uid; gid = file.gid; user = user; group = group }) refl refl (sym c.place_of_number-user.ensures.place) (sym c.place_of_number-group.ensures.place) c.place_of_number-user.ensures.table c.place_of_number-group.ensures.table user_is group_is in
-    each
+    record { owned = both_allowed host file user_is group_is; owns = each file refl refl; places = each }

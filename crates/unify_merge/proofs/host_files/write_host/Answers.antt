@@ -1,12 +1,12 @@
 use Rattle.std.proofs.Common.{◌≡◌, ◌∷◌, [], Some, ap, ◌∙◌}
+use Rattle.std.proofs.lemmas.Result.{on_err_weaker}
 use Rattle.std.specs.List.{slice_get}
 use Rattle.hosts_join.specs.declared.host.Host.{Host}
 use Rattle.unify.specs.Merging.{mappings_in}
 use Rattle.unify_laws.specs.HostTexts.{group_file, passwd_file}
 use Rattle.unify_laws.proofs.Agreeing.{item_at}
 use Rattle.unify_merge.specs.Ledger.{BrokeOff, Ledger, after_files}
-use Rattle.unify_merge.proofs.Begun.{on_err, on_err_goes}
-use Rattle.unify_merge.proofs.BreakingOff.{broken_behind, broken_front, wrote}
+use Rattle.unify_merge.proofs.BreakingOff.{broken_behind, broken_front, on_err, wrote}
 use Rattle.unify_merge.proofs.HostFiles.{files_behind, on_ok_goes}
 use Rattle.unify_merge.proofs.host_files.write_host.Goals as goal
 
@@ -34,7 +34,7 @@ returns-clause-left g c =
     let mid = g.F.ReadFiles.ledger c.write_passwd.new.files in
     let new = g.F.ReadFiles.ledger c.write_group.new.files in
     let one = group_file v.joined m text in
-    on_err_goes c.write_group.result _ ((here : Host) → slice_get v.hosts c.args.index ≡ Some here → BrokeOff (passwd_file here v.joined m text ∷ one ∷ []) old new)
+    on_err_weaker c.write_group.result
     (λ left here at.
     let own = passwd_file here v.joined m text in
     broken_behind (own ∷ []) (one ∷ []) old mid new (wrote (own ∷ []) old mid (c.in_ok-write_passwd.ensures.written here at)) left)

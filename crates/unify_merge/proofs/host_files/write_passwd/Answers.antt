@@ -4,8 +4,7 @@ use Rattle.hosts_join.specs.declared.host.Host.{Host}
 use Rattle.unify.specs.Merging.{mappings_in}
 use Rattle.unify_laws.specs.HostTexts.{passwd_file}
 use Rattle.unify_merge.specs.Ledger.{BrokeOff}
-use Rattle.unify_merge.proofs.Begun.{on_err}
-use Rattle.unify_merge.proofs.BreakingOff.{broken_none}
+use Rattle.unify_merge.proofs.BreakingOff.{broken_none, on_err}
 use Rattle.unify_merge.proofs.host_files.write_passwd.Goals as goal
 
 pub returns-in_err-text-clause-left : goal.returns-in_err-text-clause-left

@@ -1,8 +1,7 @@
 use Rattle.std.proofs.Common.{◌++◌, ◌∷◌, [], refl}
 use Rattle.unify.specs.declared.site_files.NamedText.{NamedText}
 use Rattle.unify_merge.specs.Ledger.{BrokeOff}
-use Rattle.unify_merge.proofs.Begun.{on_err}
-use Rattle.unify_merge.proofs.BreakingOff.{broken_none}
+use Rattle.unify_merge.proofs.BreakingOff.{broken_none, on_err}
 use Rattle.unify_merge.proofs.host_files.write_text.Goals as goal
 
 pub returns-in_err-name-clause-left : goal.returns-in_err-name-clause-left

@@ -1,10 +1,9 @@
 use Rattle.std.proofs.Common.{ap, ◌∙◌, inl}
 use Rattle.std.proofs.lemmas.Result.{err_from_is_err_and}
 use Rattle.unify.specs.declared.merging.Merged.{Merged}
-use Rattle.unify_merge.specs.Ledger.{HasBegun, Ledger}
-use Rattle.unify_merge.specs.Merge.{Leaves, keeps_in, names_before_report}
-use Rattle.unify_merge.proofs.Begun.{begun_none, on_err}
-use Rattle.unify_merge.proofs.Leaving.{leaves_begun, merge_leaves}
+use Rattle.unify_merge.specs.Merge.{Leaves}
+use Rattle.unify_merge.proofs.BreakingOff.{on_err}
+use Rattle.unify_merge.proofs.Leaving.{merge_leaves}
 use Rattle.unify_merge.proofs.WholeMerge.{has_made, written_stopped}
 use Rattle.unify_merge.proofs.merge.merge_outcome.Goals as goal
 
@@ -24,24 +23,6 @@ returns-in_err-write_merged-clause-stopped g c =
     rw (p.1, p.2)
     (written_stopped c.args.hosts.now c.args.rules.now (g.F.ReadFiles.ledger c.args.files.now) (g.F.ReadFiles.ledger c.solve_hosts.new.files) (g.F.ReadFiles.ledger now) c.in_ok-solved.solved (g.F.ReadFiles.has_failed now) c.in_err-write_merged.field-0.0 h
     (c.in_err-write_merged.ensures.stopped h.were h.was_read))
-
-pub returns-in_err-solved-clause-begun : goal.returns-in_err-solved-clause-begun
-returns-in_err-solved-clause-begun g c =
-    let names = names_before_report (keeps_in c.args.hosts.now c.args.rules.now) c.args.hosts.now in
-    let old = g.F.ReadFiles.ledger c.args.files.now in
-    let new = g.F.ReadFiles.ledger c.solve_hosts.new.files in
-    on_err c.from_residual.result (HasBegun names old new) (begun_none names old new (ap (λ (l : Ledger). l.begun) c.in_err-solved.ensures.reads))
-
-pub returns-in_err-write_merged-clause-begun : goal.returns-in_err-write_merged-clause-begun
-returns-in_err-write_merged-clause-begun g c =
-    let texts = c.args.hosts.now in
-    let rules = c.args.rules.now in
-    let h = c.in_ok-solved.ensures.solved in
-    let old = g.F.ReadFiles.ledger c.args.files.now in
-    let mid = g.F.ReadFiles.ledger c.solve_hosts.new.files in
-    let new = g.F.ReadFiles.ledger c.write_merged.new.files in
-    on_err c.from_residual-in_err-write_merged.result (HasBegun (names_before_report (keeps_in texts rules) texts) old new)
-    (leaves_begun texts rules c.in_ok-solved.solved old mid new h c.in_ok-solved.ensures.reads (c.in_err-write_merged.ensures.left h.were h.was_read))
 
 pub returns-in_err-solved-clause-left : goal.returns-in_err-solved-clause-left
 returns-in_err-solved-clause-left g c =

@@ -1,10 +1,10 @@
 use Rattle.std.proofs.Common.{◌≡◌, ◌∷◌, [], subst, ◌∙◌}
+use Rattle.std.proofs.lemmas.Result.{on_err_weaker}
 use Rattle.std.specs.Prelude.{codes}
 use Rattle.unify.specs.declared.site_files.NamedText.{NamedText}
 use Rattle.unify_merge.specs.Ledger.{BrokeOff, after_files}
 use Rattle.unify_merge.specs.Merge.{account_files, first_files}
-use Rattle.unify_merge.proofs.Begun.{on_err, on_err_goes}
-use Rattle.unify_merge.proofs.BreakingOff.{broken_behind, broken_front, wrote}
+use Rattle.unify_merge.proofs.BreakingOff.{broken_behind, broken_front, on_err, wrote}
 use Rattle.unify_merge.proofs.merge.write_first.Goals as goal
 
 pub returns-in_err-write_accounts-clause-left : goal.returns-in_err-write_accounts-clause-left
@@ -38,7 +38,7 @@ returns-clause-left g c =
     let two = g.F.ReadFiles.ledger c.write_file.new.files in
     let new = g.F.ReadFiles.ledger c.write_file-2.new.files in
     let written : two ≡ after_files (map_file ∷ []) one = c.in_ok-write_file.ensures.written ∙ (λ j. after_files (record { name = codes "map"; text = c.bytes.ensures j } ∷ []) one) in
-    on_err_goes c.write_file-2.result _ (BrokeOff (first_files o) old new)
+    on_err_weaker c.write_file-2.result
     (λ left. broken_behind (account_files o) (map_file ∷ last ∷ []) old one new c.in_ok-write_accounts.ensures.written
     (broken_behind (map_file ∷ []) (last ∷ []) one two new (wrote (map_file ∷ []) one two written) (subst (λ text. BrokeOff (record { name = codes "certificate"; text = text } ∷ []) two new) c.bytes-2.ensures left)))
     c.write_file-2.ensures.left

@@ -1,4 +1,5 @@
-use Rattle.std.proofs.Common.{◌≡◌, ◌++◌, ◌∷◌, [], length, sym, ap, subst, ◌∙◌, inl, inr}
+use Rattle.std.proofs.Common.{◌≡◌, ◌++◌, ◌∷◌, [], length, refl, sym, ap, subst, ◌∙◌, inl, inr}
+use Rattle.std.specs.Prelude.{codes}
 use Rattle.std.proofs.lemmas.Result.{err_from_is_err_and}
 use Rattle.unify.specs.Merging.{mappings_in}
 use Rattle.unify.specs.SecondPass.{SolvedValue}
@@ -7,8 +8,9 @@ use Rattle.unify_merge.specs.Ledger.{BrokeOff, Ledger, after_files, cleared}
 use Rattle.unify_merge.specs.HostFiles.{HasFiles}
 use Rattle.unify_merge.specs.Merge.{first_files, report_file}
 use Rattle.unify_merge.specs.FirstReading.{readings_from}
-use Rattle.unify_merge.proofs.BreakingOff.{broken_all}
-use Rattle.unify_merge.proofs.Leaving.{first_left, own_left, plan_left}
+use Rattle.unify_merge.proofs.BreakingOff.{broken_all, broken_front, broken_none, wrote}
+use Rattle.unify_merge.proofs.HostFiles.{files_behind}
+use Rattle.unify_merge.proofs.Leaving.{first_left, last_left, plan_left}
 use Rattle.unify_merge.proofs.WholeMerge.{merged_all, planning_same, writing_stopped}
 use Rattle.unify_merge.proofs.merge.write_merged.Goals as goal
 
@@ -60,8 +62,14 @@ returns-clause-merged g c = ap (λ (x : SolvedValue). x.merged) c.in_ok-plan_hos
 pub returns-in_err-clear-clause-left : goal.returns-in_err-clear-clause-left
 returns-in_err-clear-clause-left g c =
     let p = err_from_is_err_and c.from_residual.result c.from_residual.ensures.1 in
+    let old = g.F.ReadFiles.ledger c.args.files.now in
     let new = g.F.ReadFiles.ledger c.clear.new.self in
-    rw p.1 (λ read was. inl (λ j. record (c.in_err-clear.ensures.none j) { read = new.read; reading = new.reading }))
+    let v = c.args.solved.now in
+    let done = first_files v.merged.outcome in
+    rw p.1 (λ read was. elim c.in_err-clear.ensures.failing [
+      | inl same ↦ inl (λ j. record (same j) { read = new.read; reading = new.reading })
+      | inr cleared_all ↦ inr (first_left c.args.hosts.now v read v.merged.outcome old new refl cleared_all new (broken_none done new new refl))
+    ])
 
 pub returns-in_err-write_first-clause-left : goal.returns-in_err-write_first-clause-left
 returns-in_err-write_first-clause-left g c =
@@ -90,9 +98,11 @@ returns-in_err-write_hosts-clause-left g c =
     let first = g.F.ReadFiles.ledger c.write_first.new.files in
     let mid = g.F.ReadFiles.ledger c.plan_hosts.new.files in
     let new = g.F.ReadFiles.ledger c.write_hosts.new.files in
-    let left = subst (λ (x : SolvedValue). BrokeOff (host_files x.joined (mappings_in x.merged) texts x.hosts) mid new) c.in_ok-plan_hosts.ensures.site c.in_err-write_hosts.ensures.left in
+    let v = c.args.solved.now in
+    let own = host_files v.joined (mappings_in v.merged) texts v.hosts in
+    let left = broken_front own (report_file v.merged.outcome ∷ []) mid new (subst (λ (x : SolvedValue). BrokeOff (host_files x.joined (mappings_in x.merged) texts x.hosts) mid new) c.in_ok-plan_hosts.ensures.site c.in_err-write_hosts.ensures.left) in
     rw p.1 (λ read was. inr
-    (own_left texts c.args.solved.now read c.outcome.result.now old clear c.outcome.ensures c.in_ok-clear.ensures.clear first c.in_ok-write_first.ensures.written was c.requires.each mid new (c.in_ok-plan_hosts.ensures.planned read was) left))
+    (last_left texts v read c.outcome.result.now old clear c.outcome.ensures c.in_ok-clear.ensures.clear first c.in_ok-write_first.ensures.written was c.requires.each mid new (c.in_ok-plan_hosts.ensures.planned read was) left))
 
 pub returns-in_err-seal-clause-left : goal.returns-in_err-seal-clause-left
 returns-in_err-seal-clause-left g c =
@@ -105,7 +115,14 @@ returns-in_err-seal-clause-left g c =
     let mid = g.F.ReadFiles.ledger c.plan_hosts.new.files in
     let new = g.F.ReadFiles.ledger c.seal.new.self in
     let own = host_files v.joined (mappings_in v.merged) texts v.hosts in
-    let written = subst (λ (x : SolvedValue). HasFiles (host_files x.joined (mappings_in x.merged) texts x.hosts) mid (g.F.ReadFiles.ledger c.write_hosts.new.files)) c.in_ok-plan_hosts.ensures.site c.in_ok-write_hosts.ensures.written in
-    let left = broken_all own mid new (subst (λ (l : Ledger). HasFiles own mid l) (sym c.in_err-seal.ensures.none) written) in
+    let last = report_file v.merged.outcome ∷ [] in
+    let before = g.F.ReadFiles.ledger c.write_hosts.new.files in
+    let solved : c.plan_hosts.new.solved.merged ≡ v.merged = ap (λ (x : SolvedValue). x.merged) c.in_ok-plan_hosts.ensures.site in
+    let report : c.bytes.result.now ≡ v.merged.outcome.report = c.bytes.ensures ∙ ap (λ o. o.report) (c.outcome-2.ensures ∙ ap (λ m. m.outcome) solved) in
+    let written = subst (λ (x : SolvedValue). HasFiles (host_files x.joined (mappings_in x.merged) texts x.hosts) mid before) c.in_ok-plan_hosts.ensures.site c.in_ok-write_hosts.ensures.written in
+    let left : BrokeOff (own ++ last) mid new = elim c.in_err-seal.ensures.failing [
+      | inl same ↦ broken_front own last mid new (broken_all own mid new (subst (λ (l : Ledger). HasFiles own mid l) (sym same) written))
+      | inr there ↦ broken_all (own ++ last) mid new (wrote (own ++ last) mid new (there ∙ (λ j. after_files (record { name = codes "report"; text = report j } ∷ []) before) ∙ ap (after_files last) written ∙ files_behind own last mid))
+    ] in
     rw p.1 (λ read was. inr
-    (own_left texts v read c.outcome.result.now old clear c.outcome.ensures c.in_ok-clear.ensures.clear first c.in_ok-write_first.ensures.written was c.requires.each mid new (c.in_ok-plan_hosts.ensures.planned read was) left))
+    (last_left texts v read c.outcome.result.now old clear c.outcome.ensures c.in_ok-clear.ensures.clear first c.in_ok-write_first.ensures.written was c.requires.each mid new (c.in_ok-plan_hosts.ensures.planned read was) left))

@@ -4,8 +4,7 @@ use Rattle.unify.specs.SecondPass.{ended_in, whole_plan}
 use Rattle.unify.specs.declared.site_files.NamedText.{NamedText}
 use Rattle.unify_merge.specs.Ledger.{Ledger, Reading, finished_on}
 use Rattle.unify_merge.specs.SecondReading.{HasReadOneAtMost, PlanBrokeOff}
-use Rattle.unify_merge.proofs.Begun.{on_err}
-use Rattle.unify_merge.proofs.BreakingOff.{finishes_none, has_read_none}
+use Rattle.unify_merge.proofs.BreakingOff.{finishes_none, has_read_none, on_err}
 use Rattle.unify_merge.proofs.Changes.{second_same}
 use Rattle.unify_merge.proofs.second_reading.plan_host.Goals as goal
 

@@ -27,7 +27,7 @@ returns-in_err-plan_named-clause-stopped g c =
     rw (p.1, p.2) (λ read was.
     let here = item_at read index (omega (arith, c.loop-index-test.true, c.requires.each, read_len solved read was)) in
     planning_stopped c.args.hosts.now solved read index here.0.0 here.0.1 (g.F.ReadFiles.ledger c.args.files.now) (g.F.ReadFiles.ledger c.loop-index.files) (g.F.ReadFiles.ledger now) (g.F.ReadFiles.has_failed now) c.in_err-plan_named.field-0.0
-    (inv.so_far read was) here.1
+    (inv.so_far read was) was here.1
     (c.in_err-plan_named.ensures.stopped here.0.0 here.0.1 (turn_of solved c.loop-index.solved read index here.0.0 here.0.1 inv.site inv.ended was here.1 inv.fresh)))
 
 pub loop-index-preserved : goal.loop-index-preserved

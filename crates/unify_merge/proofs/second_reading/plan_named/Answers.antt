@@ -1,7 +1,6 @@
 use Rattle.std.proofs.Common.{refl}
 use Rattle.unify_merge.specs.SecondReading.{PlanBrokeOff}
-use Rattle.unify_merge.proofs.Begun.{on_err}
-use Rattle.unify_merge.proofs.BreakingOff.{finishes_none, has_read_none}
+use Rattle.unify_merge.proofs.BreakingOff.{finishes_none, has_read_none, on_err}
 use Rattle.unify_merge.proofs.second_reading.plan_named.Goals as goal
 
 pub returns-in_err-name-clause-left : goal.returns-in_err-name-clause-left

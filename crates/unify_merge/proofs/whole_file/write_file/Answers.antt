@@ -1,8 +1,8 @@
 use Rattle.std.proofs.Common.{◌∷◌, [], Some, ap, ◌∙◌}
+use Rattle.std.proofs.lemmas.Result.{on_err_weaker}
 use Rattle.unify.specs.declared.site_files.NamedText.{NamedText}
 use Rattle.unify_merge.specs.Ledger.{BrokeOff, with_bytes}
-use Rattle.unify_merge.proofs.Begun.{on_err, on_err_goes}
-use Rattle.unify_merge.proofs.BreakingOff.{broken_none, broken_open}
+use Rattle.unify_merge.proofs.BreakingOff.{broken_none, broken_open, on_err}
 use Rattle.unify_merge.proofs.whole_file.write_file.Goals as goal
 
 pub returns-in_err-begin-clause-left : goal.returns-in_err-begin-clause-left
@@ -25,6 +25,6 @@ returns-clause-left g c =
     let file : NamedText = record { name = c.args.name.now; text = c.args.text.now } in
     let old = g.F.ReadFiles.ledger c.args.files.now in
     let new = g.F.ReadFiles.ledger c.finish.new.self in
-    on_err_goes c.finish.result _ (BrokeOff (file ∷ []) old new)
+    on_err_weaker c.finish.result
     (λ none. broken_open file.name file.text (Some file) old new (none ∙ c.in_ok-append.ensures.written ∙ ap (with_bytes file.text) c.in_ok-begin.ensures.begun))
     c.finish.ensures.none
