@@ -191,8 +191,9 @@ is_begun records (LostMode plan path owner mode ∷ calls) = is_begun records ca
 is_begun records (PutModes plan done ∷ calls) =
     (done && all_asked records calls) || is_begun records calls
 
--- no file is given an owner before that; and modes are asked for and written down for this plan
--- alone, its files at their new owners, and before any file is given one
+-- no file is given an owner before that; modes are asked for and written down for this plan alone,
+-- its files at their new owners, and before any file is given one; and they are written down, in
+-- place of those of an earlier run, only where what was set back is synced
 abbrev pub begins_first : PlanMark → List PlanRecord → List Called → Bool
 begins_first mark records [] = true
 begins_first mark records (Looked path seen ∷ calls) = begins_first mark records calls
@@ -209,7 +210,8 @@ begins_first mark records (LostMode plan path owner mode ∷ calls) =
     && (list_any (is_given path owner) records
     && (is_unchanged calls && begins_first mark records calls))
 begins_first mark records (PutModes plan done ∷ calls) =
-    mark_eq plan mark && (is_unchanged calls && begins_first mark records calls)
+    mark_eq plan mark
+    && (is_unchanged calls && (is_settled calls && begins_first mark records calls))
 
 -- ---- all of it
 

@@ -40,8 +40,8 @@ pub enum Trouble {
     NotModes,
 }
 
-/// The bits of a file's mode around a change of its owner (inode(7)), set-user-ID and set-group-ID
-/// among them.
+/// The bits of a file's mode around a change of its owner (inode(7)); of a regular file or a
+/// directory set-user-ID and set-group-ID are among them.
 #[derive(Clone, Copy, Debug, PartialEq, Eq)]
 pub struct Modes {
     /// Those that it had before.

@@ -13,7 +13,7 @@ ghost use Rattle.reown_files.specs.ModesNoted.{entry_of};
 
 use crate::Trouble;
 use crate::mark_file::push_plan;
-use crate::walk::{Found, Kind, done, trouble_of};
+use crate::walk::{Found, Kind, SET_ID, done, trouble_of};
 use crate::whole_file::{keep_name, path_with, put_whole, read_whole};
 use idtext::{Character, Lines, first_character, push_escaped};
 use reown_plan::PlanMark;
@@ -31,9 +31,6 @@ const END: &[u8] = b"end\n";
 
 // The most bytes of it that are read.
 const MOST_BYTES: u64 = 1_073_741_824;
-
-/// The bits that a change of the owner clears (inode(7)): set-user-ID and set-group-ID.
-const SET_ID: u32 = 0o6000;
 
 /// Whether a file is a regular one that has such a bit.
 pub fn has_set_id(found: &Found) -> bool {

@@ -93,9 +93,9 @@ fn held_tree(
 
 impl<'p, 'a, D: Disk> RealTree<'p, 'a, D> {
     /// Opens the files of a plan on a disk, as an earlier run of the plan may have left them, or
-    /// none. What such a run did is synced first, so that a stop of the machine leaves it; what
-    /// modes it lost are set back; and those that this one may lose are written down. Three passes
-    /// over the plan.
+    /// none. What modes such a run lost are set back; that and what else it did is synced, so that
+    /// a stop of the machine leaves it; and those that this one may lose are written down. Three
+    /// passes over the plan.
     ///
     /// # Errors
     ///
@@ -127,9 +127,6 @@ impl<'p, 'a, D: Disk> RealTree<'p, 'a, D> {
         match begin(&mut disk, &mark, records, is_marked) {
             Ok(()) => {}
             Err(fault) => return Err(fault),
-        }
-        if let Err(trouble) = disk.settle() {
-            return Err(OpenFault::Disk(trouble));
         }
         let held = match held_tree(alloc, records, &owners, is_marked, mark) {
             Ok(held) => held,

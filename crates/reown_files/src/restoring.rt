@@ -56,8 +56,9 @@ fn set_all_back<D: Disk>(disk: &mut D, plan: &PlanMark, records: &[Record]) -> R
     Ok(())
 }
 
-/// Sets back each mode that an earlier run of the plan had lost, if its mark is not there yet, and
-/// writes down those that this one may lose.
+/// Sets back each mode that an earlier run of the plan had lost, if its mark is not there yet, sees
+/// to it that a stop of the machine leaves this and all else that such a run did, and then writes
+/// down the modes that this one may lose.
 pub fn begin<D: Disk>(
     disk: &mut D,
     plan: &PlanMark,
@@ -75,6 +76,9 @@ pub fn begin<D: Disk>(
     }
     if let Err(fault) = set_all_back(disk, plan, records) {
         return Err(fault);
+    }
+    if let Err(trouble) = disk.settle() {
+        return Err(OpenFault::Disk(trouble));
     }
     match disk.put_modes(plan) {
         Ok(()) => Ok(()),

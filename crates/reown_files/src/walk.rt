@@ -27,6 +27,9 @@ const ELOOP: i32 = 40;
 /// The bits of a mode that are not the kind of its file (inode(7)).
 const MODE_BITS: u32 = 0o7777;
 
+/// The bits that a change of the owner clears (inode(7)): set-user-ID and set-group-ID.
+pub const SET_ID: u32 = 0o6000;
+
 /// What kind of file a name stands for.
 #[derive(Clone, Copy, PartialEq, Eq)]
 pub enum Kind {
@@ -41,7 +44,8 @@ pub enum Kind {
 pub struct Found {
     pub owner: Owner,
     pub kind: Kind,
-    /// The bits of its mode, without its kind.
+    /// The bits of its mode, without its kind: of a link, a socket, a pipe or a device without
+    /// set-user-ID and set-group-ID, which mean nothing there.
     pub mode: u32,
     pub device: u64,
     pub inode: u64,
@@ -58,13 +62,18 @@ impl Found {
         } else {
             Kind::Other
         };
+        let bits = if kind == Kind::Other {
+            MODE_BITS & !SET_ID
+        } else {
+            MODE_BITS
+        };
         Found {
             owner: Owner {
                 uid: metadata.uid(),
                 gid: metadata.gid(),
             },
             kind,
-            mode: metadata.mode() & MODE_BITS,
+            mode: metadata.mode() & bits,
             device: metadata.dev(),
             inode: metadata.ino(),
             links: metadata.nlink(),
@@ -142,6 +151,15 @@ fn open_at(rt: &HostRuntime, path: &str) -> Result<OpenFile, Trouble> {
     }
 }
 
+// The same, where it is to be a directory.
+fn open_inside(rt: &HostRuntime, path: &str) -> Result<OpenFile, Trouble> {
+    match File::open(rt, path) {
+        Ok(file) => Ok(OpenFile { file }),
+        Err(error) if error.raw_os_error() == Some(ENOTDIR) => Err(Trouble::NotDirectory),
+        Err(error) => Err(trouble_of(&error)),
+    }
+}
+
 /// A directory that is open, and what it is.
 #[derive(Drop)]
 pub struct Directory {
@@ -165,7 +183,7 @@ impl Directory {
             return Err(Trouble::Gone);
         }
         let inside = Path::new(path).join(rt.alloc(), ".")?;
-        Directory::of(open_at(rt, inside.as_str())?)
+        Directory::of(open_inside(rt, inside.as_str())?)
     }
 
     /// What it is.

@@ -17,9 +17,12 @@ use Rattle.reown_runner.specs.Tree.{Writes, IsSettled, Syncs, Stops, cells_of, F
 use Rattle.reown_plan.specs.Owners.{owner_of}
 use Rattle.reown_runner.specs.Memory.{Mem, known_mem, cell_of, values_of, keeps_file, keeps_mark, settled_cell, left_cell, owner_in, new_mem, IsReopened}
 use Rattle.reown_runner.specs.Finished.{IsFresh}
-use Rattle.reown_runner.specs.MemoryReads.{first_of_two, last_of_two, now_left}
+use Rattle.reown_runner.specs.MemoryReads.{last_of_two, now_left}
 use Rattle.reown_runner.proofs.Cellwise.{either}
 use Rattle.reown_runner.proofs.Lists.{position_or_len-map, slice_get-map, slice_get-read, slice_get-past, slice_get-set, slice_get-set_other}
+
+first_of_two : {X : Type 0} (a b : X) → Contains (a ∷ b ∷ []) a
+first_of_two a b = (0, omega arith, refl)
 
 pub one_of_two : {X : Type 0} (a b x : X) → Contains (a ∷ b ∷ []) x → (x ≡ a) ⊎ (x ≡ b)
 one_of_two a b x (zero, h, e) = inl (sym e)

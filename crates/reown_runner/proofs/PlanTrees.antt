@@ -1,12 +1,12 @@
 -- The files of a plan's records, as files of an inventory are noted and as they are written.
-use Rattle.std.proofs.Common.{◌≡◌, ◌≢◌, ◌⊎◌, ℕ, ◌<◌, ◌≤◌, Bool, true, false, cond, nat_lt, List, [], ◌∷◌, ◌++◌, Option, None, Some, All, Contains, map, replicate, set, get_or, length, inl, inr, refl, sym, ◌∙◌, ap, subst, arith}
+use Rattle.std.proofs.Common.{◌≡◌, ◌≢◌, ◌⊎◌, ℕ, ◌<◌, ◌≤◌, Bool, true, false, cond, nat_lt, List, [], ◌∷◌, ◌++◌, Option, None, Some, All, Contains, map, filter, replicate, set, get_or, length, inl, inr, refl, sym, ◌∙◌, ap, subst, arith}
 use Rattle.std.specs.List.{position, position_or_len, find}
-use Rattle.std.specs.Option.{option_map, option_and_then, option_or, is_some}
+use Rattle.std.specs.Option.{option_map, option_map_or, option_and_then, option_or, is_some}
 use Rattle.std.specs.Str.{bytes_eq}
 use Rattle.std.specs.Cmp.Lexicographic.{bytes_decides}
 use Rattle.std.proofs.lemmas.Bool.{cases_Bool, cases_lt, false_from_ne_true}
 use Rattle.std.proofs.lemmas.Bool.Decides.{nat_tests}
-use Rattle.std.proofs.lemmas.List.{length-map, get_or-map, length-set, get_or-set_same, get_or-set_other, ext_get_or}
+use Rattle.std.proofs.lemmas.List.{length-map, get_or-map, length-set, get_or-set_same, get_or-set_other, set-get_or, ext_get_or}
 use Rattle.std.proofs.lemmas.List.Elements.{All-head, All-tail}
 use Rattle.std.proofs.lemmas.List.Folds.{find-append}
 use Rattle.std.proofs.lemmas.List.Quantifiers.{position-Some}
@@ -18,7 +18,7 @@ use Rattle.reown_plan.specs.declared.mark.PlanMark.{PlanMark}
 use Rattle.reown_plan.specs.declared.plan.Owner.{Owner}
 use Rattle.reown_runner.specs.Finished.{IsFresh}
 use Rattle.reown_runner.specs.Memory.{owner_in}
-use Rattle.reown_runner.specs.PlanTree.{FilesOfPlan, owner_at, known_files, found_among, files_at}
+use Rattle.reown_runner.specs.PlanTree.{FilesOfPlan, owner_at, known_files, found_among, with_noted}
 use Rattle.reown_runner.specs.Tree.{Writes, ForEachPlan, cells_of, counted}
 use Rattle.reown_runner.proofs.Memories.{one_of_one}
 
@@ -150,6 +150,30 @@ module _ (t : FilesOfPlan) (files : List Entry) (e : Entry) (is : t ≡ found_am
       let asked = ap (λ (x : FilesOfPlan). x.asked) is in
       λ j. record { paths = t.paths; owners = owners j; mark = mark j; asked = asked j }
 
+-- ---- a file noted in any tree
+
+module _ (t : FilesOfPlan) (e : Entry) where
+  abbrev with_at : ℕ → Option Owner → FilesOfPlan
+  with_at i owner = record t { owners = set t.owners i owner }
+
+  abbrev with_first : ℕ → Option Owner → FilesOfPlan
+  with_first i owner = with_at i (option_or owner (Some (owner_of e)))
+
+  abbrev with_place : Option ℕ → FilesOfPlan
+  with_place place = record t { owners = option_map_or (λ i. set t.owners i (option_or (get_or t.owners i None) (Some (owner_of e)))) place t.owners }
+
+  pub with_none : position (bytes_eq e.path) t.paths ≡ None → t ≡ with_noted e t
+  with_none none = sym (ap with_place none)
+
+  module _ (i : ℕ) (at : position (bytes_eq e.path) t.paths ≡ Some i) where
+    pub with_new : get_or t.owners i None ≡ None → with_at i (Some (owner_of e)) ≡ with_noted e t
+    with_new none = sym (ap with_place at ∙ ap (with_first i) none)
+
+    pub with_there : (owner : Owner) → get_or t.owners i None ≡ Some owner → t ≡ with_noted e t
+    with_there owner there =
+        let same : with_at i (get_or t.owners i None) ≡ t = ap (λ owners. record t { owners = owners }) (set-get_or t.owners i None) in
+        sym (ap with_place at ∙ ap (with_first i) there ∙ ap (with_at i) (sym there) ∙ same)
+
 -- ---- a write
 
 module _ (m : FilesOfPlan) (path : List ℕ) (to : Owner) (i : ℕ) (at : position (bytes_eq path) m.paths ≡ Some i) (below : i < length m.owners) where
@@ -183,6 +207,10 @@ module _ (m : FilesOfPlan) (path : List ℕ) (to : Owner) (i : ℕ) (at : positi
       }
 
 -- ---- a tree as an inventory
+
+-- of files those at paths of these
+abbrev pub files_at : List (List ℕ) → List Entry → List Entry
+files_at paths files = filter (λ f. is_some (position (bytes_eq f.path) paths)) files
 
 module _ (paths : List (List ℕ)) where
   abbrev is_planned : Entry → Bool

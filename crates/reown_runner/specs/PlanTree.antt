@@ -1,14 +1,14 @@
 -- The files of a plan's records, as a tree in memory that writes through.
 -- Source: this project's own rule.
-use Rattle.std.specs.Prelude.{ℕ, List, [], ◌∷◌, Option, None, map, filter, is_some, position}
-use Rattle.std.specs.Prelude.{slice_index_or}
-use Rattle.std.specs.Prelude.{Contains, refl}
+use Rattle.std.specs.Prelude.{ℕ, List, [], ◌∷◌, Option, None, Some, map, position}
+use Rattle.std.specs.Prelude.{slice_index_or, slice_set, Contains, refl}
 use Rattle.std.proofs.Common.{arith}
-use Rattle.std.specs.Option.{option_and_then}
+use Rattle.std.specs.Option.{option_and_then, option_map_or, option_or}
 use Rattle.std.specs.Str.{bytes_eq}
 use Rattle.mtree_inv.specs.declared.entry.Entry.{Entry}
 use Rattle.reown_plan.specs.declared.mark.PlanMark.{PlanMark}
 use Rattle.reown_plan.specs.declared.plan.Owner.{Owner}
+use Rattle.reown_plan.specs.Owners.{owner_of}
 use Rattle.reown_runner.specs.Memory.{owner_in}
 use Rattle.reown_plan.specs.Mark.{is_marked_for}
 use Rattle.reown_runner.specs.Tree.{TreeData, IsReadable, cells_of}
@@ -44,9 +44,16 @@ abbrev pub found_among : List Entry → List (List ℕ) → FilesOfPlan
 found_among files paths =
     record { paths = paths; owners = map (owner_in files) paths; mark = None; asked = 0 }
 
--- of files those at paths of these
-abbrev pub files_at : List (List ℕ) → List Entry → List Entry
-files_at paths files = filter (λ f. is_some (position (bytes_eq f.path) paths)) files
+-- the same tree with a file of an inventory noted: where it is a record's, and none was there yet,
+-- it is there now, with the owner that it tells
+abbrev pub with_noted : Entry → FilesOfPlan → FilesOfPlan
+with_noted file t =
+    record t {
+      owners = option_map_or
+          (λ place. slice_set t.owners place
+          (option_or (slice_index_or t.owners place None) (Some (owner_of file))))
+          (position (bytes_eq file.path) t.paths) t.owners;
+    }
 
 pub only_one : {X : Type 0} (a : X) → Contains (a ∷ []) a
 only_one a = (0, omega arith, refl)

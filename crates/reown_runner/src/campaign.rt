@@ -116,14 +116,6 @@ impl<'p, 'a, T> Campaign<'p, 'a, T> {
         Ok(Campaign { runners, trees })
     }
 
-    /// The tree of a host; hosts count from 0. Constant time.
-    pub fn tree(&self, host: usize) -> &T
-        requires { host < length self.now.trees }
-        ensures { slice_get self.now.trees host ≡ Some result.now }
-    {
-        &self.trees[host]
-    }
-
     /// Whether the plan of a host is done; hosts count from 0. Constant time.
     pub fn done(&self, host: usize) -> bool
         requires { host < length self.now.runners }

@@ -4,7 +4,8 @@ ghost use Rattle.std.specs.Prelude.{Some, None, ⊤, slice_set, replicate};
 ghost use Rattle.std.specs.Str.{bytes_eq};
 ghost use Rattle.mtree_inv.specs.declared.entry.Entry.{Entry};
 ghost use Rattle.reown_plan.specs.Places.{paths_in};
-ghost use Rattle.reown_runner.specs.PlanTree.{known_files, found_among, readable_files};
+ghost use Rattle.reown_runner.specs.PlanTree.{known_files, found_among, with_noted};
+ghost use Rattle.reown_runner.specs.PlanTree.{readable_files};
 ghost use Rattle.reown_runner.specs.Tree.{counted};
 
 use crate::{DeviceFault, Tree};
@@ -15,17 +16,17 @@ use std::marker::Model;
 
 /// The files of a plan's records as a tree in memory, for a run that no stop cuts off: what is
 /// written is there, and nothing is ever pending. It never fails. A path is looked up among those
-/// of the records, which the plan lends: in the order of the records that takes one comparison of
-/// paths, else one for each binary digit of their number at most, whatever the paths are. Of memory
-/// a record takes 12 bytes.
+/// of the records, which the plan lends: the one that was found last, or the one behind it in the
+/// order of the records, takes two comparisons of paths, another one for each binary digit of their
+/// number besides at most, whatever the paths are. Of memory a record takes 12 bytes.
 #[derive(Drop)]
 pub struct PlanTree<'p, 'a> {
     plan: &'p Plan<'a>,
     owners: Vec<Option<Owner>>,
     mark: Option<PlanMark>,
     asked: u64,
-    // The place behind the one that was found last: the next path may be the one there.
-    next: usize,
+    // The place that was found last: the next path may be the one there, or the one behind it.
+    last: usize,
 }
 
 impl<'p, 'a> Model for PlanTree<'p, 'a> {
@@ -73,14 +74,15 @@ impl<'p, 'a> PlanTree<'p, 'a> {
             owners,
             mark: None,
             asked: 0,
-            next: 0,
+            last: 0,
         })
     }
 
     /// Notes a file of an inventory: it is there, where it is one of the plan's. Of two with one
     /// path the first counts. One look-up, and no memory.
     pub fn note(&mut self, file: &Entry)
-        ensures { (files : List Entry) → self.old ≡ found_among files self.old.paths
+        ensures noted { self.new ≡ with_noted file.now self.old }
+        ensures found { (files : List Entry) → self.old ≡ found_among files self.old.paths
             → self.new ≡ found_among (files ++ file.now ∷ []) self.old.paths }
     {
         let Some(place) = self.place_of(file.path.bytes()) else {
@@ -100,8 +102,12 @@ impl<'p, 'a> PlanTree<'p, 'a> {
         ensures within { IfSome result (λ place. place < length self.old.owners) }
         ensures same { self.new ≡ self.old }
     {
-        let place = self.plan.place_of(path, self.next)?;
-        self.next = place + 1;
+        let likely = match self.plan.records().get(self.last) {
+            Some(planned) if planned.path == path => self.last,
+            _ => self.last.saturating_add(1),
+        };
+        let place = self.plan.place_of(path, likely)?;
+        self.last = place;
         Some(place)
     }
 

@@ -1,36 +1,56 @@
--- What is not refused has no second way.
-use Rattle.std.proofs.Common.{◌≡◌, ℕ, ◌&&◌, ◌||◌, Bool, true, false, cond, Option, None, Some, List, [], ◌∷◌, refl, sym, ap, ◌∙◌}
-use Rattle.std.specs.Prelude.{Ok}
+-- Where no second way is found, no mount is one.
+use Rattle.std.proofs.Common.{◌≡◌, ℕ, ◌&&◌, ◌||◌, Bool, true, false, cond, Option, None, Some, List, [], ◌∷◌, map, refl, sym, ap, ◌∙◌}
+use Rattle.std.specs.Prelude.{filter}
 use Rattle.std.specs.List.{find, list_any}
-use Rattle.std.specs.Option.{option_map}
+use Rattle.std.specs.Option.{option_map, option_map_or}
 use Rattle.std.specs.Str.{bytes_eq}
-use Rattle.idtext.specs.First.{unless}
-use Rattle.unify_apply.specs.Mounts.{MountText, has_one_journal, is_under, judged, mount_of, mounts_in, one_journal, path_from, twice_at}
+use Rattle.unify_apply.specs.Mounts.{MountText, is_under, is_way, mount_of, mounts_in, path_from, same_below, same_file_system, second_way}
 
--- where nothing is found, nothing passes
-any-none : {X Y : Type 0} (test : X → Bool) (view : X → Y) (xs : List X)
-    → option_map view (find test xs) ≡ None → list_any test xs ≡ false
-any-none test view [] none = refl
-any-none {X} {Y} test view (x ∷ xs) none = by (test x) none (any-none test view xs)
-  where
-    by : (passes : Bool) → option_map view (cond passes (Some x) (find test xs)) ≡ None
-        → (option_map view (find test xs) ≡ None → list_any test xs ≡ false)
-        → (passes || list_any test xs) ≡ false
-    by true some rest = cc
-    by false none' rest = rest none'
+abbrev Seen : Type 0
+Seen = List ℕ × Option ℕ
 
-not_twice : (twice : Option (List ℕ)) (journal known : Bool)
-    → unless twice journal ≡ Ok known → twice ≡ None
-not_twice None journal known ok = refl
-not_twice (Some point) journal known ok = cc
+abbrev point_of : MountText → List ℕ
+point_of mount = mount.point
 
-pub no_second_way : (text path : List ℕ) (known : Bool) (mount : MountText)
-    → one_journal text path ≡ Ok known → mount_of (mounts_in text) (path_from path) ≡ Some mount
-    → list_any (λ other. is_under (path_from path) other.point && bytes_eq other.device mount.device) (mounts_in text) ≡ false
-no_second_way text path known mount ok in' =
+module _ (kept : MountText → Bool) (device : ℕ) (look : List ℕ → Option ℕ) where
+  abbrev found_in : List MountText → Option Seen
+  found_in mounts =
+      find (λ (point : Seen). is_way device point.1)
+      (map (λ point. (point, look point)) (map point_of mounts))
+
+  abbrev path_of : Option Seen → Option (List ℕ)
+  path_of found = option_map (λ (point : Seen). point.0) found
+
+  abbrev has_way : List MountText → Bool
+  has_way mounts = list_any (λ mount. kept mount && is_way device (look mount.point)) mounts
+
+  abbrev AreNone : List MountText → Type 0
+  AreNone mounts = path_of (found_in (filter kept mounts)) ≡ None → has_way mounts ≡ false
+
+  none-found : (mounts : List MountText) → AreNone mounts
+  none-found [] none = refl
+  none-found (mount ∷ mounts) none = by (kept mount) none (none-found mounts)
+    where
+      seen : (way : Bool)
+          → path_of (cond way (Some (mount.point, look mount.point)) (found_in (filter kept mounts))) ≡ None
+          → AreNone mounts → (way || has_way mounts) ≡ false
+      seen true some rest = cc
+      seen false none' rest = rest none'
+
+      by : (keeps : Bool)
+          → path_of (found_in (cond keeps (mount ∷ filter kept mounts) (filter kept mounts))) ≡ None
+          → AreNone mounts → ((keeps && is_way device (look mount.point)) || has_way mounts) ≡ false
+      by true none' rest = seen (is_way device (look mount.point)) none' rest
+      by false none' rest = rest none'
+
+pub no_second_way : (text path : List ℕ) (mount : MountText) (device : ℕ) (look : List ℕ → Option ℕ)
+    → mount_of (mounts_in text) (path_from path) ≡ Some mount
+    → second_way device (map (λ point. (point, look point)) (same_file_system text path)) ≡ None
+    → list_any (λ other. is_under (path_from path) other.point && bytes_eq other.device mount.device && is_way device (look other.point)) (mounts_in text) ≡ false
+no_second_way text path mount device look in' none =
     let mounts = mounts_in text in
     let directory = path_from path in
-    let kept : unless (twice_at mounts directory mount.device) (has_one_journal mount.kind) ≡ Ok known =
-    sym (ap (judged mounts directory) in') ∙ ok in
-    any-none (λ (other : MountText). is_under directory other.point && bytes_eq other.device mount.device) (λ (m : MountText). m.point) mounts
-    (not_twice _ _ known kept)
+    let same : Option MountText → List (List ℕ) =
+    λ found. option_map_or (λ (m : MountText). same_below mounts directory m.device) found [] in
+    none-found (λ (other : MountText). is_under directory other.point && bytes_eq other.device mount.device) device look mounts
+    (sym (ap (λ found. second_way device (map (λ point. (point, look point)) (same found))) in') ∙ none)

@@ -1,6 +1,7 @@
 -- The numbers that a plan changes, and the processes that have them.
 -- Source: proc(5), /proc/PID/status: behind the words `Uid:` and `Gid:` stand the real, the
--- effective, the saved and the file system number of a user and of a group.
+-- effective, the saved and the file system number of a user and of a group, and behind `Groups:`
+-- the numbers of its other groups.
 use Rattle.std.specs.Prelude.{ℕ, ◌==◌, ◌&&◌, ◌||◌, Bool, false, List, [], ◌∷◌, not, codes}
 use Rattle.std.specs.List.{list_any}
 use Rattle.std.specs.Option.{option_map_or}
@@ -38,6 +39,7 @@ module _ (users groups : ℕ → Bool) where
   tells_changed line =
       has_changed (codes "Uid:") users (words line)
       || has_changed (codes "Gid:") groups (words line)
+      || has_changed (codes "Groups:") groups (words line)
 
   -- a process with this status has such a number
   abbrev pub runs_as_changed : List ℕ → Bool

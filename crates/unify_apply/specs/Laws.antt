@@ -4,7 +4,7 @@
 -- three octal digits.
 use Rattle.std.specs.Prelude.{◌≡◌, ℕ, ◌==◌, ◌||◌, ◌&&◌, ◌<◌, ◌≤◌, ◌^◌, Bool, true, false, not}
 use Rattle.std.specs.Prelude.{List, [], ◌∷◌, ◌++◌, map, flat_map, filter_map, length, codes, All}
-use Rattle.std.specs.Prelude.{Option, Some, None, IfSome, Ok, if◌then◌else◌}
+use Rattle.std.specs.Prelude.{Option, Some, None, IfSome, if◌then◌else◌}
 use Rattle.std.specs.List.{join_with_byte, list_all, list_any}
 use Rattle.std.specs.Str.{bytes_eq}
 use Rattle.std.specs.Str.Parse.{digits_value}
@@ -14,7 +14,7 @@ use Rattle.idtext.specs.Words.{is_filled, is_white, words}
 use Rattle.reown_files.specs.declared.counting.OwnerCounts.{OwnerCounts}
 use Rattle.unify_apply.specs.Answers.{counted, counts_text}
 use Rattle.unify_apply.specs.Mounts.{MountText, path_from, path_in, is_in, is_under, mount_of}
-use Rattle.unify_apply.specs.Mounts.{mounts_in, one_journal}
+use Rattle.unify_apply.specs.Mounts.{mounts_in, same_file_system, is_way, second_way}
 
 -- ---- paths
 
@@ -96,12 +96,16 @@ MountIsNearest = (mounts : List MountText) (directory : List ℕ)
 
 -- ---- what is refused
 
--- Where a directory that is in a mount is not refused, no mount below it is of that file system.
+-- look: the device number that is seen at a path, if any
+-- Where no second way is found to the files with a device number below a directory that is in a
+-- mount, each mount below it that is of that file system was looked at, and has another one.
 abbrev pub NoSecondWay : Type 0
-NoSecondWay = (text path : List ℕ) (known : Bool) (mount : MountText)
-    → one_journal text path ≡ Ok known → mount_of (mounts_in text) (path_from path) ≡ Some mount
+NoSecondWay = (text path : List ℕ) (mount : MountText) (device : ℕ) (look : List ℕ → Option ℕ)
+    → mount_of (mounts_in text) (path_from path) ≡ Some mount
+    → second_way device (map (λ point. (point, look point)) (same_file_system text path)) ≡ None
     → list_any (λ other. is_under (path_from path) other.point
-    && bytes_eq other.device mount.device) (mounts_in text) ≡ false
+    && bytes_eq other.device mount.device && is_way device (look other.point)) (mounts_in text)
+    ≡ false
 
 -- ---- what the command prints
 

@@ -4,20 +4,20 @@
 -- mounted at, with escapes, and the first behind the word `-`, before which some words may be left
 -- out, what kind it is of.
 use Rattle.std.specs.Prelude.{ℕ, ◌==◌, ◌||◌, ◌&&◌, Bool, true, false, List, [], ◌∷◌, map}
-use Rattle.std.specs.Prelude.{Option, None, Some, option_map, Result, Ok, codes, length, drop}
+use Rattle.std.specs.Prelude.{Option, None, Some, option_map, codes, length, drop, Vec}
 use Rattle.std.specs.Prelude.{nat_lt, slice_get, if◌then◌else◌, filter, filter_map, find, count_by}
+use Rattle.std.specs.Option.{option_map_or}
 use Rattle.std.specs.Str.{bytes_eq}
+use Rattle.std.specs.declared.alloc.Global.{Global}
 use Rattle.idtext.specs.Escapes.{characters}
-use Rattle.idtext.specs.First.{unless}
 use Rattle.idtext.specs.Pieces.{begins_with, lines}
 use Rattle.idtext.specs.Words.{words}
 use Rattle.idtext.specs.declared.escapes.Character.{Character}
 use Rattle.idtext.specs.declared.escapes.Character.TheVariants.{Plain, Escape, Bad}
 use Rattle.unify_apply.specs.Ends.{without_end}
 use Rattle.unify_apply.specs.declared.mountinfo.Mount.{Mount}
-use Rattle.unify_apply.specs.declared.mountinfo.MountFault.{MountFault}
-use Rattle.unify_apply.specs.declared.mountinfo.MountFault.TheVariants.{Twice, Memory}
 use Rattle.unify_apply.specs.declared.mountinfo.MountWords.{MountWords}
+use Rattle.unify_apply.specs.declared.mountinfo.Point.{Point}
 
 -- a mount: its file system, where it is, and what kind of file system that is
 pub record MountText : Type 0 where
@@ -112,11 +112,14 @@ first_below mounts directory = find (λ mount. is_under directory mount.point) m
 abbrev pub count_below : List MountText → List ℕ → ℕ
 count_below mounts directory = count_by (λ mount. is_under directory mount.point) mounts
 
--- the path of the first that is of this file system
-abbrev pub twice_at : List MountText → List ℕ → List ℕ → Option (List ℕ)
-twice_at mounts directory device =
-    option_map (λ (mount : MountText). mount.point)
-    (find (λ mount. is_under directory mount.point && bytes_eq mount.device device) mounts)
+-- the paths of those that are of this file system
+abbrev pub same_below : List MountText → List ℕ → List ℕ → List (List ℕ)
+same_below mounts directory device =
+    map (λ (mount : MountText). mount.point)
+    (filter (λ mount. is_under directory mount.point && bytes_eq mount.device device) mounts)
+
+abbrev pub path_items : List (Vec ℕ Global) → List (List ℕ)
+path_items paths = map (λ path. path.items) paths
 
 -- ---- what is asked before a plan is carried out
 
@@ -125,19 +128,34 @@ abbrev pub has_one_journal : List ℕ → Bool
 has_one_journal kind =
     bytes_eq kind (codes "ext3") || bytes_eq kind (codes "ext4") || bytes_eq kind (codes "xfs")
 
--- of a directory that is in this mount
-abbrev pub judged : List MountText → List ℕ → Option MountText → Result Bool (List ℕ)
-judged mounts directory None = Ok false
-judged mounts directory (Some mount) =
-    unless (twice_at mounts directory mount.device) (has_one_journal mount.kind)
-
--- Whether the file system of a directory is of a kind with one journal. Refused is one that has a
--- mount of its own file system below it, with the path of the first.
-abbrev pub one_journal : List ℕ → List ℕ → Result Bool (List ℕ)
+-- whether the file system of a directory is of a kind with one journal
+abbrev pub one_journal : List ℕ → List ℕ → Bool
 one_journal text path =
-    judged (mounts_in text) (path_from path) (mount_of (mounts_in text) (path_from path))
+    option_map_or (λ (mount : MountText). has_one_journal mount.kind)
+    (mount_of (mounts_in text) (path_from path)) false
 
--- the path that is told, or None for want of memory
-abbrev pub twice_told : MountFault → Option (List ℕ)
-twice_told (Twice point) = Some point.items
-twice_told Memory = None
+-- the paths of the mounts below a directory that are of its file system
+abbrev pub same_file_system : List ℕ → List ℕ → List (List ℕ)
+same_file_system text path =
+    option_map_or (λ (mount : MountText). same_below (mounts_in text) (path_from path) mount.device)
+    (mount_of (mounts_in text) (path_from path)) []
+
+-- ---- a second way to the files of a directory
+
+-- Source: stat(2). A file system may give its parts device numbers of their own, as btrfs does its
+-- subvolumes. Which files are those of a directory goes by their device number, so a mount of its
+-- file system is a way to them where the file at its path has that number, or cannot be looked at.
+
+-- a path and the device number that was seen there, if any
+abbrev pub point_seen : Point → List ℕ × Option ℕ
+point_seen point = (point.path.items, point.device)
+
+abbrev pub is_way : ℕ → Option ℕ → Bool
+is_way device None = true
+is_way device (Some seen) = seen == device
+
+-- the path of the first of mounts that is such a way
+abbrev pub second_way : ℕ → List (List ℕ × Option ℕ) → Option (List ℕ)
+second_way device points =
+    option_map (λ (point : List ℕ × Option ℕ). point.0)
+    (find (λ (point : List ℕ × Option ℕ). is_way device point.1) points)

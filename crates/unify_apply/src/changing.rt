@@ -99,7 +99,9 @@ impl Changing {
         ensures { result ≡ tells_changed (contains nat_eq self.now.users)
             (contains nat_eq self.now.groups) line.now }
     {
-        has_number(line, b"Uid:", &self.users) || has_number(line, b"Gid:", &self.groups)
+        has_number(line, b"Uid:", &self.users)
+            || has_number(line, b"Gid:", &self.groups)
+            || has_number(line, b"Groups:", &self.groups)
     }
 
     /// Whether a process with this status has one of them.

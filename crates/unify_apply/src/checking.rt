@@ -4,7 +4,7 @@ use crate::answers::counts_text;
 use crate::mounts::count_mounts;
 use crate::progress::{Progress, Telling};
 use crate::staying::warn_of_staying;
-use crate::told::{Place, file_refused, foreign, missing, root_refused};
+use crate::told::{Place, file_refused, foreign, missing, not_as_counted, root_refused};
 use reown_files::{Disk, OpenFault, OwnerCounts, Root, count_owners};
 use reown_plan::{Plan, Record};
 use std::io::{self, Write};
@@ -21,24 +21,26 @@ fn not_counted(rt: &HostRuntime, records: &[Record<'_>], fault: OpenFault) -> Fi
     }
 }
 
-// Tells the first file that is not there, or has neither of its owners.
+// Tells the first file that is not there, or has neither of its owners; or that none is so any
+// more.
 fn tell_first<D: Disk>(
     rt: &HostRuntime,
     disk: &mut D,
+    place: Place<'_>,
     records: &[Record<'_>],
-) -> Result<(), FileFault> {
+) -> FileFault {
     for (i, planned) in records.iter().enumerate() {
         match disk.owner(planned.path) {
-            Ok(None) => return Err(missing(rt, records, i)),
+            Ok(None) => return missing(rt, records, i),
             Ok(Some(owner)) => {
                 if owner != planned.before && owner != planned.after {
-                    return Err(foreign(rt, records, i));
+                    return foreign(rt, records, i);
                 }
             }
-            Err(trouble) => return Err(file_refused(rt, planned.path, trouble)),
+            Err(trouble) => return file_refused(rt, planned.path, trouble),
         }
     }
-    Ok(())
+    not_as_counted(rt, place)
 }
 
 // Prints how many files there are by what is seen of them, and how many mounts.
@@ -88,6 +90,5 @@ pub fn check_below(
     if counts.missing == 0 && counts.foreign == 0 {
         return Ok(0);
     }
-    tell_first(rt, &mut disk, plan.records())?;
-    Ok(1)
+    Err(tell_first(rt, &mut disk, place, plan.records()))
 }

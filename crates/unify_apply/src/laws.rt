@@ -4,8 +4,8 @@
 ghost use Rattle.unify_apply.specs.Laws.{MountIsNearest, NoSecondWay, SystemPathIsReadBack};
 ghost use Rattle.unify_apply.specs.Laws.{MountsAreReadBack, CountsAreReadBack};
 
-/// The mount that is found for a directory is the nearest and the last of those, and what is not
-/// refused has no mount of its own file system below it.
+/// The mount that is found for a directory is the nearest and the last of those, and where no
+/// second way is found, no mount of its own file system below it was seen to be one.
 pub fn one_way_to_files()
     ensures nearest { MountIsNearest }
     ensures one_way { NoSecondWay }

@@ -21,5 +21,6 @@ pub use journal::tells_journal;
 pub use laws::{answers_are_read_back, mounts_are_read_back, one_way_to_files};
 pub use machine::{HostFit, host_fit, is_root};
 pub use mountinfo::{
-    Mount, MountFault, count_below, first_below, read_mounts, see_journal, without_slash,
+    Around, Mount, Point, count_below, first_below, first_way, read_mounts, see_around,
+    without_slash,
 };

@@ -1,15 +1,16 @@
 //! The mounts that this process sees, as the system tells them (proc(5)): where a directory is
 //! among them, and what is below it.
-ghost use Rattle.std.specs.Prelude.{◌≡◌, option_map, option_copied, IfOk};
-ghost use Rattle.idtext.specs.First.{Gives};
+ghost use Rattle.std.specs.Prelude.{◌≡◌, map, option_map, option_copied, IfOk};
 ghost use Rattle.idtext.specs.Words.{words};
 ghost use Rattle.unify_apply.specs.Mounts.{text_of, kind_in, mount_in, mount_told, mounts_in};
 ghost use Rattle.unify_apply.specs.Mounts.{path_byte, path_from, path_in, is_in, is_under};
 ghost use Rattle.unify_apply.specs.Mounts.{mount_text, mount_texts, mount_of as mount_of_texts};
 ghost use Rattle.unify_apply.specs.Mounts.{first_below as first_of_texts_below};
-ghost use Rattle.unify_apply.specs.Mounts.{count_below as count_of_texts_below, twice_at};
+ghost use Rattle.unify_apply.specs.Mounts.{count_below as count_of_texts_below};
+ghost use Rattle.unify_apply.specs.Mounts.{same_below as same_of_texts_below, path_items};
 ghost use Rattle.unify_apply.specs.Mounts.{has_one_journal as is_of_one_journal, one_journal};
-ghost use Rattle.unify_apply.specs.Mounts.{twice_told};
+ghost use Rattle.unify_apply.specs.Mounts.{same_file_system, point_seen};
+ghost use Rattle.unify_apply.specs.Mounts.{is_way as is_second_way, second_way};
 
 use idtext::{Character, Lines, Words, first_character};
 use std::alloc::{AllocError, Global};
@@ -183,17 +184,23 @@ pub fn count_below(mounts: &[Mount<'_>], directory: &[u8]) -> usize
         .count()
 }
 
-// The first mount below a directory that is of its file system.
-fn mount_below<'m>(mounts: &'m [Mount<'_>], directory: &[u8], device: &[u8]) -> Option<&'m [u8]>
-    ensures { option_copied result
-        ≡ twice_at (mount_texts mounts.now) directory.now device.now }
+// The paths of the mounts below a directory that are of the file system with this number.
+fn same_below(
+    alloc: Global,
+    mounts: &[Mount<'_>],
+    directory: &[u8],
+    device: &[u8],
+) -> Result<Vec<Vec<u8>>, AllocError>
+    ensures { IfOk result (λ paths. path_items paths.items
+        ≡ same_of_texts_below (mount_texts mounts.now) directory.now device.now) }
 {
+    let mut paths = Vec::new(alloc);
     for mount in mounts {
         if is_below(&mount.point, directory) && mount.device == device {
-            return Some(&mount.point);
+            paths.push(Vec::from_slice(alloc, &mount.point)?)?;
         }
     }
-    None
+    Ok(paths)
 }
 
 // Whether a file system of this kind has one journal, if any, so that a sync of one file keeps all
@@ -204,38 +211,66 @@ fn has_one_journal(kind: &[u8]) -> bool
     matches!(kind, b"ext3" | b"ext4" | b"xfs")
 }
 
-/// Why no plan is carried out below a directory.
+/// What the mounts tell of a directory.
 #[derive(Drop)]
-pub enum MountFault {
-    /// Its file system is mounted below it once more, at this path.
-    Twice(Vec<u8>),
-    /// Memory was refused.
-    Memory,
+pub struct Around {
+    /// Whether its file system is of a kind with one journal, if any.
+    pub has_one_journal: bool,
+    /// The paths of the mounts below it that are of its file system.
+    pub same: Vec<Vec<u8>>,
 }
 
-impl From<AllocError> for MountFault {
-    ghost use Rattle.unify_apply.specs.declared.mountinfo.MountFault.TheVariants.{Memory};
-
-    ghost from_gives = { λ _ fault. fault ≡ Memory };
-
-    fn from(_refused: AllocError) -> Self {
-        MountFault::Memory
-    }
-}
-
-/// Whether the file system of the directory with this path is of a kind with one journal, if any,
-/// as this text tells. Refused is one that has a mount of its own file system below it. One pass
-/// over the text and two over its mounts.
-pub fn see_journal(alloc: Global, text: &[u8], path: &[u8]) -> Result<bool, MountFault>
-    ensures { Gives (λ known. known) twice_told result (one_journal text.now path.now) }
+/// What a text tells of the directory with this path. One pass over the text and two over its
+/// mounts; `AllocError` where memory is refused.
+pub fn see_around(alloc: Global, text: &[u8], path: &[u8]) -> Result<Around, AllocError>
+    ensures journal { IfOk result
+        (λ around. around.has_one_journal ≡ one_journal text.now path.now) }
+    ensures same { IfOk result
+        (λ around. path_items around.same.items ≡ same_file_system text.now path.now) }
 {
     let mounts = read_mounts(alloc, text)?;
     let directory = without_slash(path);
     let Some(mount) = mount_of(&mounts, directory) else {
-        return Ok(false);
+        return Ok(Around {
+            has_one_journal: false,
+            same: Vec::new(alloc),
+        });
     };
-    match mount_below(&mounts, directory, mount.device) {
-        None => Ok(has_one_journal(mount.kind)),
-        Some(point) => Err(MountFault::Twice(Vec::from_slice(alloc, point)?)),
+    Ok(Around {
+        has_one_journal: has_one_journal(mount.kind),
+        same: same_below(alloc, &mounts, directory, mount.device)?,
+    })
+}
+
+/// A mount as it was looked at.
+#[derive(Drop)]
+pub struct Point {
+    /// The path where it is.
+    pub path: Vec<u8>,
+    /// The device number of the file that is seen there, if it could be looked at.
+    pub device: Option<u64>,
+}
+
+// Whether a mount is a second way to the files with this device number. One that could not be
+// looked at is taken for one.
+fn is_way(seen: Option<u64>, device: u64) -> bool
+    ensures { result ≡ is_second_way device seen }
+{
+    match seen {
+        Some(number) => number == device,
+        None => true,
     }
+}
+
+/// The path of the first of these mounts that is a second way to the files with this device number.
+/// One pass over them.
+pub fn first_way(points: &[Point], device: u64) -> Option<&[u8]>
+    ensures { option_copied result ≡ second_way device (map point_seen points.now) }
+{
+    for point in points {
+        if is_way(point.device, device) {
+            return Some(&point.path);
+        }
+    }
+    None
 }

@@ -1,11 +1,14 @@
-//! Mounts below the directory that a plan is carried out in. One of its own file system is a second
-//! way to its files.
+//! Mounts below the directory that a plan is carried out in. One of its own file system may be a
+//! second way to its files.
+ghost use Rattle.std.specs.Prelude.{◌≡◌, map, IfOk};
+ghost use Rattle.unify_apply.specs.Mounts.{path_items};
 
 use crate::journal::has_journal;
 use crate::mountinfo::{
-    Mount, MountFault, count_below, first_below, read_mounts, see_journal, without_slash,
+    Mount, Point, count_below, first_below, first_way, read_mounts, see_around, without_slash,
 };
 use std::alloc::AllocError;
+use std::os::unix::fs::MetadataExt;
 use std::path::PathBuf;
 use std::{fs, io};
 use unify_io::{FileFault, Part, Said, read_file, tell_of, warn};
@@ -16,9 +19,12 @@ const MOUNTS: &str = "/proc/self/mountinfo";
 // What is said of a directory that has its own file system below it once more.
 const TWICE: &str = "its file system is mounted below it once more, at ";
 
-// Tells that a directory has no path.
-fn no_path(rt: &HostRuntime, root: &str, said: Said<'_>) -> FileFault {
-    tell_of(rt, "root", root.as_bytes(), &[said], 2)
+// Tells why a directory is not looked at, unless it was for want of memory, which is told later.
+fn root_failed(rt: &HostRuntime, root: &str, error: &io::Error) -> FileFault {
+    if error.kind() == io::ErrorKind::OutOfMemory {
+        return FileFault::Memory;
+    }
+    tell_of(rt, "root", root.as_bytes(), &[Said::Failed(*error)], 2)
 }
 
 // Tells that the file system of a directory is mounted below it once more.
@@ -27,19 +33,11 @@ fn mounted_twice(rt: &HostRuntime, root: &str, point: &[u8]) -> FileFault {
     tell_of(rt, "root", root.as_bytes(), &parts, 2)
 }
 
-// What the system said of a path.
-fn said_of(error: &io::Error) -> Said<'static> {
-    match error.raw_os_error() {
-        Some(number) => Said::System(number),
-        None => Said::Text("no path"),
-    }
-}
-
 // The path of a directory from the root of all.
 fn path_of(rt: &HostRuntime, root: &str) -> Result<PathBuf, FileFault> {
     match fs::canonicalize(rt, root) {
         Ok(path) => Ok(path),
-        Err(error) => Err(no_path(rt, root, said_of(&error))),
+        Err(error) => Err(root_failed(rt, root, &error)),
     }
 }
 
@@ -81,15 +79,51 @@ pub fn count_mounts(rt: &HostRuntime, root: &str, quiet: bool) -> Result<usize, 
     Ok(count)
 }
 
-/// Sees that no mount below a directory is of its file system, and tells whether that is known to
-/// have one journal: by its kind, and by what the system tells of it, since an ext4 may have none.
+// The device number of the file at a path, if it can be looked at. At the path of a mount that is
+// the mount which is seen there.
+fn device_at(rt: &HostRuntime, path: &[u8]) -> Option<u64> {
+    let Ok(path) = str::from_utf8(path) else {
+        return None;
+    };
+    match fs::symlink_metadata(rt, path) {
+        Ok(found) => Some(found.dev()),
+        Err(_) => None,
+    }
+}
+
+// The mounts at these paths, each looked at.
+fn looked_at(rt: &HostRuntime, paths: &[Vec<u8>]) -> Result<Vec<Point>, AllocError>
+    ensures { IfOk result (λ points. map (λ point. point.path.items) points.items
+        ≡ path_items paths.now) }
+{
+    let mut points = Vec::new(rt.alloc());
+    for path in paths {
+        points.push(Point {
+            path: Vec::from_slice(rt.alloc(), path)?,
+            device: device_at(rt, path),
+        })?;
+    }
+    Ok(points)
+}
+
+// The device number of a directory.
+fn device_of(rt: &HostRuntime, root: &str) -> Result<u64, FileFault> {
+    match fs::metadata(rt, root) {
+        Ok(found) => Ok(found.dev()),
+        Err(error) => Err(root_failed(rt, root, &error)),
+    }
+}
+
+/// Sees that no mount below a directory is a second way to its files, and tells whether its file
+/// system is known to have one journal: by its kind, and by what the system tells of it, since an
+/// ext4 may have none.
 pub fn see_mounts(rt: &HostRuntime, root: &str) -> Result<bool, FileFault> {
     let path = path_of(rt, root)?;
     let text = read_file(rt, MOUNTS)?;
-    match see_journal(rt.alloc(), text.bytes(), path.as_str().as_bytes()) {
-        Ok(true) => Ok(has_journal(rt, root)?),
-        Ok(false) => Ok(false),
-        Err(MountFault::Twice(point)) => Err(mounted_twice(rt, root, &point)),
-        Err(MountFault::Memory) => Err(FileFault::Memory),
+    let around = see_around(rt.alloc(), text.bytes(), path.as_str().as_bytes())?;
+    let points = looked_at(rt, &around.same)?;
+    if let Some(point) = first_way(&points, device_of(rt, root)?) {
+        return Err(mounted_twice(rt, root, point));
     }
+    Ok(around.has_one_journal && has_journal(rt, root)?)
 }

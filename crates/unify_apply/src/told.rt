@@ -127,6 +127,12 @@ pub fn root_refused(rt: &HostRuntime, place: Place<'_>, trouble: Trouble) -> Fil
     tell_of(rt, "root", place.root.as_bytes(), &[said_of(trouble)], 2)
 }
 
+/// Tells that the files that were counted as not there or foreign are so no more.
+pub fn not_as_counted(rt: &HostRuntime, place: Place<'_>) -> FileFault {
+    let said = Said::Text("files changed while they were counted");
+    tell_of(rt, "root", place.root.as_bytes(), &[said], 1)
+}
+
 // Tells what is wrong with the file of the modes beside a mark.
 fn modes_refused(rt: &HostRuntime, mark: &str, trouble: Trouble) -> FileFault {
     match format!(in rt.alloc(); "{mark}{MODES_BEHIND}") {

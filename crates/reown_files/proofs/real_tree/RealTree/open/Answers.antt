@@ -8,7 +8,6 @@ use Rattle.reown_runner.specs.Halfway.{MayGoOn}
 use Rattle.reown_runner.specs.Memory.{Mem, known_mem}
 use Rattle.reown_runner.specs.Tree.{cells_of}
 use Rattle.reown_files.specs.Calls.{Called}
-use Rattle.reown_files.specs.Lawful.{is_begun, is_lawful}
 use Rattle.reown_files.specs.Replay.{Held, replay, found_of}
 use Rattle.reown_files.proofs.Replays.{found_held}
 use Rattle.reown_files.proofs.real_tree.RealTree.open.Goals as goal
@@ -19,11 +18,11 @@ invariant_of-result g c =
     let records = map record_of c.records-records.result.now in
     let owners = c.deref.result.now in
     let same = c.deref.ensures.value in
-    let chain = ap replay c.settle.ensures ∙ c.begin.ensures.replayed ∙ ap replay c.check_all_links.ensures in (
+    let chain = c.begin.ensures.replayed ∙ ap replay c.check_all_links.ensures in (
       c.in-Ok-held_tree.ensures.paths,
-      ap (is_lawful mark records) c.settle.ensures ∙ c.begin.ensures.lawful,
+      c.begin.ensures.lawful,
       λ e. absurd (let h : false ≡ true = e in cc),
-      ap (is_begun records) c.settle.ensures ∙ c.in-Ok-begin.ensures.begun,
+      c.in-Ok-begin.ensures.begun,
       λ h. record {
         owner = λ path.
             ap (λ (m : Mem). (known_mem m).owner path) c.in-Ok-held_tree.ensures.starts
