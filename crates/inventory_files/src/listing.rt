@@ -2,7 +2,7 @@
 
 use crate::roots::NamedRoot;
 use crate::sink::FileSink;
-use crate::telling::{Trouble, tell_trouble};
+use crate::telling::{Trouble, tell_more_systems, tell_other_system, tell_trouble};
 use crate::walk::{OpenDirectory, kind_of};
 use idtext::LARGEST_ID;
 use std::alloc::AllocError;
@@ -29,6 +29,8 @@ pub struct Listing<'l, S> {
     path: Vec<u8>,
     // Whether a file is missing that was told of.
     is_missing: bool,
+    // How many files were left out since they are on another file system than their root.
+    elsewhere: usize,
 }
 
 impl<'l, S: FileSink> Listing<'l, S> {
@@ -41,6 +43,7 @@ impl<'l, S: FileSink> Listing<'l, S> {
             device: 0,
             path: Vec::new(rt.alloc()),
             is_missing: false,
+            elsewhere: 0,
         }
     }
 
@@ -78,10 +81,10 @@ impl<'l, S: FileSink> Listing<'l, S> {
         self.path.extend_from_slice(name.as_bytes())
     }
 
-    // Opens the directory that the present file is.
+    // Opens the directory that the present file is, if it is not gone meanwhile.
     fn open(&mut self, path: &str, found: &Metadata) -> Result<Option<OpenDirectory>, FileFault> {
         match OpenDirectory::at(self.rt, path, found, self.path.len()) {
-            Ok(directory) => Ok(Some(directory)),
+            Ok(directory) => Ok(directory),
             Err(trouble) => {
                 self.trouble(trouble)?;
                 Ok(None)
@@ -89,9 +92,17 @@ impl<'l, S: FileSink> Listing<'l, S> {
         }
     }
 
+    // Leaves the present file out, which is on another file system than its root.
+    fn leave_out(&mut self) -> Result<(), AllocError> {
+        tell_other_system(self.rt, shown(&self.path), self.elsewhere)?;
+        self.elsewhere = self.elsewhere.saturating_add(1);
+        Ok(())
+    }
+
     // Lists the present file, and opens it if it is a directory.
     fn list(&mut self, path: &str, found: &Metadata) -> Result<Option<OpenDirectory>, FileFault> {
         if self.stays && found.dev() != self.device {
+            self.leave_out()?;
             return Ok(None);
         }
         self.put(found)?;
@@ -119,7 +130,7 @@ impl<'l, S: FileSink> Listing<'l, S> {
         }
     }
 
-    // Lists what came of a directory whose path has so many bytes.
+    // Lists what came of a directory whose path has so many bytes. One that is gone has no names.
     fn list_came(
         &mut self,
         came: io::Result<DirEntry>,
@@ -127,6 +138,7 @@ impl<'l, S: FileSink> Listing<'l, S> {
     ) -> Result<Option<OpenDirectory>, FileFault> {
         match came {
             Ok(entry) => self.list_entry(&entry, path_len),
+            Err(error) if error.kind() == io::ErrorKind::NotFound => Ok(None),
             Err(error) => {
                 self.path.truncate(path_len);
                 let is_name = error.kind() == io::ErrorKind::InvalidFilename;
@@ -187,8 +199,8 @@ impl<'l, S: FileSink> Listing<'l, S> {
 
 /// Puts the files below each root into a sink, as they are found, and the root itself first. What
 /// is on another file system than its root is left out where the walk `stays`, the directory that
-/// it is mounted on too. Says whether nothing else was left out: what is, is told on standard
-/// error.
+/// it is mounted on too. Says whether nothing else was left out. What is left out is told on
+/// standard error: of other file systems the first few files, and how many more there are.
 ///
 /// # Errors
 ///
@@ -203,5 +215,6 @@ pub fn list_files<S: FileSink>(
     for root in roots {
         listing.root(root)?;
     }
+    tell_more_systems(rt, listing.elsewhere)?;
     Ok(!listing.is_missing)
 }

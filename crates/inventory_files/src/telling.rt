@@ -1,7 +1,10 @@
 //! What is told on standard error of files that are not listed, and of roots that are refused.
 
+use idtext::{push_escaped, push_number};
+use std::alloc::AllocError;
 use std::io;
-use unify_io::{FileFault, Said, tell_of};
+use std::io::Write;
+use unify_io::{FileFault, MOST_LINES, Said, tell_of};
 
 /// Why a file, or what is in a directory, is not in an inventory.
 #[derive(Clone, Copy)]
@@ -56,6 +59,45 @@ pub fn tell_trouble(rt: &HostRuntime, path: &[u8], trouble: Trouble) -> Result<(
         FileFault::Told(_) => Ok(()),
         fault => Err(fault),
     }
+}
+
+// Appends the line of a file on another file system than its root.
+fn push_other_system(line: &mut Vec<u8>, path: &[u8]) -> Result<(), AllocError> {
+    line.extend_from_slice(b"unify: other file system ")?;
+    push_escaped(line, path)?;
+    line.push(b'\n')?;
+    Ok(())
+}
+
+// Appends the line of how many more there are.
+fn push_more_systems(line: &mut Vec<u8>, more: usize) -> Result<(), AllocError> {
+    line.extend_from_slice(b"unify: more on other file systems: ")?;
+    push_number(line, more as u128)?;
+    line.push(b'\n')?;
+    Ok(())
+}
+
+/// Tells of a file that is left out since it is on another file system than its root, where so
+/// many were left out before. The first few are told.
+pub fn tell_other_system(rt: &HostRuntime, path: &[u8], before: usize) -> Result<(), AllocError> {
+    if before >= MOST_LINES {
+        return Ok(());
+    }
+    let mut line = Vec::new(rt.alloc());
+    push_other_system(&mut line, path)?;
+    let _ = rt.stderr().write_all(&line);
+    Ok(())
+}
+
+/// Tells how many files on other file systems no line was told of, where so many are left out.
+pub fn tell_more_systems(rt: &HostRuntime, count: usize) -> Result<(), AllocError> {
+    if count <= MOST_LINES {
+        return Ok(());
+    }
+    let mut line = Vec::new(rt.alloc());
+    push_more_systems(&mut line, count - MOST_LINES)?;
+    let _ = rt.stderr().write_all(&line);
+    Ok(())
 }
 
 /// Tells why a root is refused.

@@ -58,24 +58,25 @@ fn names_in(rt: &HostRuntime, file: &File) -> io::Result<ReadDir> {
 }
 
 impl OpenDirectory {
-    /// The directory that was seen at a path.
+    /// The directory that was seen at a path, if it is still there.
     pub fn at(
         rt: &HostRuntime,
         path: &str,
         seen: &Metadata,
         path_len: usize,
-    ) -> Result<OpenDirectory, Trouble> {
+    ) -> Result<Option<OpenDirectory>, Trouble> {
         let file = match opened(rt, path, seen) {
             Ok(Some(file)) => file,
             Ok(None) => return Err(Trouble::Exchanged),
+            Err(error) if error.kind() == io::ErrorKind::NotFound => return Ok(None),
             Err(error) => return Err(Trouble::System(error)),
         };
         match names_in(rt, &file) {
-            Ok(names) => Ok(OpenDirectory {
+            Ok(names) => Ok(Some(OpenDirectory {
                 file,
                 names,
                 path_len,
-            }),
+            })),
             Err(error) => Err(Trouble::System(error)),
         }
     }

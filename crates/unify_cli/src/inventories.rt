@@ -3,7 +3,7 @@
 ghost use Rattle.std.specs.Prelude.{◌≡◌, true, is_some, OnOk, OnErr};
 ghost use Rattle.unify_merge.specs.Noted.{noted};
 
-use unify_io::{FileFault, InventoryFile, host_name, no_host, warn_of_no_files};
+use unify_io::{FileFault, InventoryFile, host_name, no_host, warn_of_inventory};
 use unify_merge::{Call, CallFailed, Log, ReadFiles};
 
 /// Files that know why a command on them ended early.
@@ -63,8 +63,7 @@ impl<'w> Inventories<'w> {
         }
     }
 
-    // Looks at the end of an inventory, and warns where it was read for the first time and has no
-    // file.
+    // Looks at the end of an inventory, and warns of it where it was read for the first time.
     fn look_at_end(&mut self) -> Result<(), FileFault> {
         let (Some(inventory), Some(word)) = (
             &self.inventory,
@@ -74,8 +73,9 @@ impl<'w> Inventories<'w> {
         };
         let lines = inventory.file_lines();
         self.file_lines = self.file_lines.saturating_add(lines);
-        if lines == 0 && !self.is_quiet {
-            warn_of_no_files(self.rt, host_name(*word).as_bytes())?;
+        if !self.is_quiet {
+            let name = host_name(*word).as_bytes();
+            warn_of_inventory(self.rt, name, inventory.has_returns(), lines > 0)?;
         }
         Ok(())
     }

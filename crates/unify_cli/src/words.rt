@@ -193,6 +193,23 @@ fn warn_before(
     warn_of_hosts_tables(rt, hosts)
 }
 
+// Warns of what a merge of hosts has written. The merge is done, also where that cannot be read
+// again, or memory is refused.
+fn warn_behind(
+    rt: &HostRuntime,
+    hosts: &[HostText],
+    directory: &str,
+    pins: &[u8],
+    keep: &[u8],
+    file_lines: u64,
+) {
+    if warn_of_merge(rt, hosts, directory, pins, keep, file_lines).is_err() {
+        let _ = rt.eprintln(
+            "unify: warning: the merge is done, and what it wrote was not looked at for warnings",
+        );
+    }
+}
+
 // Merges hosts by these files, warns of what it gives unless it is to be quiet, and prints what it
 // costs.
 fn merge_by(
@@ -208,7 +225,8 @@ fn merge_by(
     if answer.found.is_err() {
         files.discard();
     } else if !is_quiet {
-        warn_of_merge(rt, hosts, directory, pins.bytes(), files.file_lines())?;
+        let (pins, keep) = (pins.bytes(), keep.bytes());
+        warn_behind(rt, hosts, directory, pins, keep, files.file_lines());
     }
     print_reply(rt, files, &answer, is_quiet)
 }

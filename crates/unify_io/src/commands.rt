@@ -79,7 +79,7 @@ const QUIET: Argument = Argument {
 const PINS: Argument = Argument {
     name: "pins",
     form: Form::Value("FILE"),
-    help: "numbers that names must keep: lines as in a map",
+    help: "numbers that names are to have: lines as in a map",
     ..FLAG
 };
 
@@ -87,7 +87,8 @@ const PINS: Argument = Argument {
 const KEEP: Argument = Argument {
     name: "keep",
     form: Form::Value("FILE"),
-    help: "names and ranges of numbers that stay as they are on each host",
+    help: "names, ranges of numbers, and numbers without an account, \
+        that stay as they are on each host",
     ..FLAG
 };
 
@@ -214,7 +215,10 @@ const APPLY: Subcommand = Subcommand {
     about: "Carries a plan out on the files below a directory, from wherever it was stopped",
     usage: None,
     arguments: &[
-        QUIET,
+        Argument {
+            help: "no warnings, and no progress",
+            ..QUIET
+        },
         Argument {
             name: "progress",
             help: "tells how far it is where standard error is no terminal too",

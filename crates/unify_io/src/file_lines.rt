@@ -1,4 +1,5 @@
-//! Which lines of an inventory are of files, for warnings.
+//! Which lines of an inventory are of files, and whether lines end in a carriage return, for
+//! warnings.
 
 use memchr::memchr_iter;
 
@@ -42,8 +43,10 @@ impl LineStart {
 pub struct FileLines {
     ended: u64,
     start: LineStart,
-    // Whether the last byte of the line was a backslash: then it goes on in the next line.
-    is_joined: bool,
+    // The last byte of the line, if one has come. Behind a backslash it goes on in the next line.
+    last: Option<u8>,
+    // Whether a line has ended in a carriage return.
+    has_returns: bool,
 }
 
 impl FileLines {
@@ -52,7 +55,8 @@ impl FileLines {
         FileLines {
             ended: 0,
             start: LineStart::Blank,
-            is_joined: false,
+            last: None,
+            has_returns: false,
         }
     }
 
@@ -60,6 +64,11 @@ impl FileLines {
     pub fn count(&self) -> u64 {
         let is_file = matches!(self.start, LineStart::File | LineStart::Dot);
         self.ended.saturating_add(u64::from(is_file))
+    }
+
+    /// Whether a line ends in a carriage return.
+    pub fn have_returns(&self) -> bool {
+        self.has_returns || self.last == Some(b'\r')
     }
 
     /// Takes the next bytes.
@@ -73,24 +82,36 @@ impl FileLines {
         self.take_part(bytes.get(start..).unwrap_or(&[]));
     }
 
+    // Takes a byte of a line whose first word is not known as yet. A backslash is a byte of it
+    // where another one comes behind it before the line ends.
+    fn take_byte(&mut self, byte: u8) {
+        if self.last == Some(b'\\') {
+            self.start = LineStart::File;
+        } else if byte != b'\\' {
+            self.start = self.start.with(byte);
+        }
+        self.last = Some(byte);
+    }
+
     // Takes a part of a line.
     fn take_part(&mut self, part: &[u8]) {
         for byte in part {
             if self.start.is_decided() {
                 break;
             }
-            self.start = self.start.with(*byte);
+            self.take_byte(*byte);
         }
         if let Some(last) = part.last() {
-            self.is_joined = *last == b'\\';
+            self.last = Some(*last);
         }
     }
 
     fn end_line(&mut self) {
-        if !self.is_joined {
+        self.has_returns = self.have_returns();
+        if self.last != Some(b'\\') {
             self.ended = self.count();
             self.start = LineStart::Blank;
         }
-        self.is_joined = false;
+        self.last = None;
     }
 }

@@ -78,6 +78,14 @@ impl InventoryFile {
         }
     }
 
+    /// Whether one of these lines ends in a carriage return.
+    pub fn has_returns(&self) -> bool {
+        match &self.lines {
+            Some(lines) => lines.have_returns(),
+            None => false,
+        }
+    }
+
     /// Tells that it has too many bytes.
     pub fn too_large(&self, rt: &HostRuntime) -> FileFault {
         file_failed(rt, self.path.as_str(), &too_large())

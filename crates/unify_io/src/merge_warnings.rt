@@ -2,6 +2,7 @@
 //! two.
 
 use crate::files::{FileFault, holds, read_file_in};
+use crate::keep_warnings::warn_of_keep;
 use crate::pin_warnings::warn_of_pins;
 use crate::warnings::{MOST_LINES, MOST_NAMES, Part, only_memory, warn, warn_of_more};
 use accounts::{GroupRow, GroupTable, PasswdRow, PasswdTable, read_group, read_passwd};
@@ -519,20 +520,23 @@ fn warn_of_merged_users(
     Ok(warn_of_texts(rt, hosts, passwd.bytes(), group.bytes())?)
 }
 
-/// Warns of what a merge of hosts by pins has written into a directory: pins that give no number,
-/// since they are for nobody or for a name that stays as it is; paths that stand in an inventory
-/// more than once, where so many lines of files were read; users with two comments, who may be two
-/// people; groups that get members on a host, who may do there what they could not; users in more
-/// groups than an NFS request carries; and numbers that were another name's, whose files no
-/// inventory may list. It reads the account files that were merged once more.
+/// Warns of what a merge of hosts by pins and a keep text has written into a directory: pins that
+/// give no number, since they are for nobody or for a name that stays as it is; kept names that no
+/// host has; paths that stand in an inventory more than once, where so many lines of files were
+/// read; users with two comments, who may be two people; groups that get members on a host, who may
+/// do there what they could not; users in more groups than an NFS request carries; and numbers that
+/// were another name's, whose files no inventory may list. It reads the account files that were
+/// merged once more.
 pub fn warn_of_merge(
     rt: &HostRuntime,
     hosts: &[HostText],
     directory: &str,
     pins: &[u8],
+    keep: &[u8],
     file_lines: u64,
 ) -> Result<(), FileFault> {
     warn_of_merged_pins(rt, hosts, directory, pins)?;
+    warn_of_keep(rt, hosts, keep)?;
     warn_of_report(rt, hosts, directory, file_lines)?;
     warn_of_merged_users(rt, hosts, directory)
 }

@@ -1,7 +1,7 @@
 //! Warnings of pins that give no number: no host has their name, or it stays as it is.
 
-use crate::warnings::{MOST_LINES, Part, only_memory, warn};
-use accounts::{GroupRow, PasswdRow, read_group, read_passwd};
+use crate::host_names::{HostNames, names_of};
+use crate::warnings::{MOST_LINES, Part, warn};
 use hosts_join::{HostText, PairLine, PairTable, Which, pair_line};
 use idtext::Lines;
 use std::alloc::AllocError;
@@ -11,79 +11,15 @@ use unify_texts::{MapText, read_map};
 /// How many edits a name may be away from the name that is told for it.
 const MOST_EDITS: usize = 2;
 
+/// How many bytes a name may have that is told for another, and that other. To compare two names
+/// takes as many steps as the product of their lengths, which hosts and pins choose.
+const MOST_NAME_BYTES: usize = 64;
+
 /// A pin without its number.
 #[derive(Clone, Copy)]
 struct Pinned<'a> {
     which: Which,
     name: &'a [u8],
-}
-
-/// The names of hosts, each with one of its numbers.
-#[derive(Drop)]
-struct HostNames<'h> {
-    users: PairTable<'h>,
-    groups: PairTable<'h>,
-}
-
-// Adds the names of users.
-fn add_users<'h>(users: &mut PairTable<'h>, rows: &[PasswdRow<'h>]) -> Result<(), AllocError> {
-    for row in rows {
-        users.add(row.name, row.uid)?;
-    }
-    Ok(())
-}
-
-// Adds the names of groups.
-fn add_groups<'h>(groups: &mut PairTable<'h>, rows: &[GroupRow<'h>]) -> Result<(), AllocError> {
-    for row in rows {
-        groups.add(row.name, row.gid)?;
-    }
-    Ok(())
-}
-
-// Adds the names in a host's passwd.
-fn add_passwd<'h>(
-    rt: &HostRuntime,
-    users: &mut PairTable<'h>,
-    passwd: &'h [u8],
-) -> Result<(), AllocError> {
-    match read_passwd(rt.alloc(), passwd) {
-        Ok(table) => add_users(users, table.rows()),
-        Err(fault) => only_memory(&fault),
-    }
-}
-
-// Adds the names in a host's group.
-fn add_group<'h>(
-    rt: &HostRuntime,
-    groups: &mut PairTable<'h>,
-    group: &'h [u8],
-) -> Result<(), AllocError> {
-    match read_group(rt.alloc(), group) {
-        Ok(table) => add_groups(groups, table.rows()),
-        Err(fault) => only_memory(&fault),
-    }
-}
-
-// The names of hosts: those of users in their passwd, those of groups in their group.
-fn names_of<'h>(rt: &HostRuntime, hosts: &'h [HostText]) -> Result<HostNames<'h>, AllocError> {
-    let mut names = HostNames {
-        users: PairTable::new(rt.alloc()),
-        groups: PairTable::new(rt.alloc()),
-    };
-    for host in hosts {
-        add_passwd(rt, &mut names.users, host.passwd.bytes())?;
-        add_group(rt, &mut names.groups, host.group.bytes())?;
-    }
-    Ok(names)
-}
-
-// Whether hosts have the name of a pin.
-fn have_pinned(names: &HostNames<'_>, pinned: Pinned<'_>) -> bool {
-    match pinned.which {
-        Which::User => names.users.number(pinned.name).is_some(),
-        Which::Group => names.groups.number(pinned.name).is_some(),
-    }
 }
 
 // The names of a map that are of the kind of a pin.
@@ -103,7 +39,8 @@ fn name_within<'a>(
 ) -> Result<Option<&'a [u8]>, AllocError> {
     for index in 0..table.len() {
         let other = table.at(index).name;
-        if other.len().abs_diff(name.len()) <= edits
+        if other.len() <= MOST_NAME_BYTES
+            && other.len().abs_diff(name.len()) <= edits
             && generic_levenshtein(rt.alloc(), other, name)? <= edits
         {
             return Ok(Some(other));
@@ -112,12 +49,16 @@ fn name_within<'a>(
     Ok(None)
 }
 
-// The name of a table that is the nearest to a name, and no further away than `MOST_EDITS`.
+// The name of a table that is the nearest to a name, and no further away than `MOST_EDITS`. Long
+// names are not compared.
 fn nearest<'a>(
     rt: &HostRuntime,
     table: &PairTable<'a>,
     name: &[u8],
 ) -> Result<Option<&'a [u8]>, AllocError> {
+    if name.len() > MOST_NAME_BYTES {
+        return Ok(None);
+    }
     for edits in 1..=MOST_EDITS {
         if let Some(other) = name_within(rt, table, name, edits)? {
             return Ok(Some(other));
@@ -195,7 +136,7 @@ fn warn_of_each(
 ) -> Result<(), AllocError> {
     let mut told: usize = 0;
     for pinned in pins {
-        if have_pinned(names, *pinned) {
+        if names.have(pinned.which, pinned.name) {
             warn_of_kept(rt, *pinned)?;
         } else {
             warn_of_absent(rt, map, *pinned, told)?;

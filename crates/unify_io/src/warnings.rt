@@ -99,29 +99,69 @@ fn has_carriage_return(text: &[u8]) -> bool {
     Lines::new(text).any(|line| line.ends_with(b"\r"))
 }
 
+// Whether a line of a text begins with white space and is not skipped.
+fn has_space_in_front(text: &[u8]) -> bool {
+    Lines::new(text).any(|line| {
+        !is_skipped(line) && (line.starts_with(b" ") || line.starts_with(b"\t"))
+    })
+}
+
 // Whether all lines of a text are skipped.
 fn is_all_skipped(text: &[u8]) -> bool {
     Lines::new(text).all(|line| is_skipped(line))
 }
 
-/// Warns of a host without files.
-pub fn warn_of_no_files(rt: &HostRuntime, name: &[u8]) -> Result<(), AllocError> {
-    warn_of_host(rt, name, "has no files")
+/// Warns of a host by its inventory: of its lines, and where none of them is of a file.
+pub fn warn_of_inventory(
+    rt: &HostRuntime,
+    name: &[u8],
+    has_returns: bool,
+    has_files: bool,
+) -> Result<(), AllocError> {
+    if has_returns {
+        warn_of_host(rt, name, "has lines in mtree that end in a carriage return")?;
+    }
+    if !has_files {
+        warn_of_host(rt, name, "has no files")?;
+    }
+    Ok(())
+}
+
+// Warns of the lines of an account file of a host: of such that end in a carriage return, and of
+// such that begin with white space, which is no part of a name where the system reads it.
+fn warn_of_lines(
+    rt: &HostRuntime,
+    name: &[u8],
+    text: &[u8],
+    returns: &str,
+    space: &str,
+) -> Result<(), AllocError> {
+    if has_carriage_return(text) {
+        warn_of_host(rt, name, returns)?;
+    }
+    if has_space_in_front(text) {
+        warn_of_host(rt, name, space)?;
+    }
+    Ok(())
 }
 
 // Warns of what the account files of a host have.
 fn warn_of_tables(rt: &HostRuntime, host: &HostText) -> Result<(), AllocError> {
     let name = host.name.bytes();
-    if has_carriage_return(host.passwd.bytes()) {
-        warn_of_host(
-            rt,
-            name,
-            "has lines in passwd that end in a carriage return",
-        )?;
-    }
-    if has_carriage_return(host.group.bytes()) {
-        warn_of_host(rt, name, "has lines in group that end in a carriage return")?;
-    }
+    warn_of_lines(
+        rt,
+        name,
+        host.passwd.bytes(),
+        "has lines in passwd that end in a carriage return",
+        "has lines in passwd that begin with white space",
+    )?;
+    warn_of_lines(
+        rt,
+        name,
+        host.group.bytes(),
+        "has lines in group that end in a carriage return",
+        "has lines in group that begin with white space",
+    )?;
     if is_all_skipped(host.passwd.bytes()) {
         warn_of_host(rt, name, "has no users")?;
     }
