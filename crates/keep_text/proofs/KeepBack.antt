@@ -100,7 +100,7 @@ line_lawful keep Wrong l good sound = l
 line_lawful keep (Given User said) l good sound = record { users = said_lawful keep.users said l.users good sound; groups = l.groups }
 line_lawful keep (Given Group said) l good sound = record { users = l.users; groups = said_lawful keep.groups said l.groups good sound }
 
-passed : (b : Bool) (f : KeepFault) → (if b then None else Some f) ≡ None → b ≡ true
+pub passed : (b : Bool) (f : KeepFault) → (if b then None else Some f) ≡ None → b ≡ true
 passed true f h = refl
 passed false f h = absurd (cc)
 
@@ -179,13 +179,13 @@ module _ (which : Which) (of : KeepLine → List Said) (gives : (said : Said) �
   pub lies_listed : (lines : List (List ℕ)) (number : ℕ) → ListsNumber which lines number → lies (flat_map on lines) number ≡ true
   lies_listed lines number l = lies_at lines number l.place l.line l.range l.there l.says l.has
 
-other_than_users : (line : KeepLine) → (of_users line ≡ []) ⊎ ((said : Said) × (line ≡ Given User said))
+pub other_than_users : (line : KeepLine) → (of_users line ≡ []) ⊎ ((said : Said) × (line ≡ Given User said))
 other_than_users Skipped = inl refl
 other_than_users Wrong = inl refl
 other_than_users (Given User said) = inr (said, refl)
 other_than_users (Given Group said) = inl refl
 
-other_than_groups : (line : KeepLine) → (of_groups line ≡ []) ⊎ ((said : Said) × (line ≡ Given Group said))
+pub other_than_groups : (line : KeepLine) → (of_groups line ≡ []) ⊎ ((said : Said) × (line ≡ Given Group said))
 other_than_groups Skipped = inl refl
 other_than_groups Wrong = inl refl
 other_than_groups (Given User said) = inl refl

@@ -1,2 +1,4 @@
 pub mod KeepLoop
 pub mod KeepBack
+pub mod Members
+pub mod KeepListed

@@ -1,7 +1,7 @@
 -- Laws of what a keep text says.
 -- Source: this project's own formats.
-use Rattle.std.specs.Prelude.{◌≡◌, ◌≤◌, ◌↔◌, ℕ, true, List, Some, Ok, slice_get}
-use Rattle.std.specs.List.{All}
+use Rattle.std.specs.Prelude.{◌≡◌, ◌≤◌, ◌↔◌, ◌++◌, ℕ, true, List, Some, Ok, codes, slice_get}
+use Rattle.std.specs.List.{All, Contains}
 use Rattle.idtext.specs.Names.{is_lawful_name}
 use Rattle.idtext.specs.Numbers.{greatest_id}
 use Rattle.idtext.specs.Pieces.{lines as lines_of}
@@ -47,3 +47,15 @@ abbrev pub RangesAreListed : Type 0
 RangesAreListed = (text : List ℕ) (keep : KeepText) (number : ℕ) → keep_of text ≡ Ok keep
     → ((lies_in_some keep.users.ranges number ≡ true) ↔ ListsNumber User (lines_of text) number)
     × ((lies_in_some keep.groups.ranges number ≡ true) ↔ ListsNumber Group (lines_of text) number)
+
+-- a name is among the names of a kind exactly where a line of the text lists it for the kind
+abbrev pub NamesAreListed : Type 0
+NamesAreListed = (text : List ℕ) (keep : KeepText) (name : List ℕ) → keep_of text ≡ Ok keep
+    → (Contains keep.users.names name ↔ Contains (lines_of text) (codes "user " ++ name))
+    × (Contains keep.groups.names name ↔ Contains (lines_of text) (codes "group " ++ name))
+
+-- numbers of a kind without an account stay exactly where a line of the text says so of the kind
+abbrev pub UnownedIsSaid : Type 0
+UnownedIsSaid = (text : List ℕ) (keep : KeepText) → keep_of text ≡ Ok keep
+    → ((keep.users.unowned ≡ true) ↔ Contains (lines_of text) (codes "unowned users"))
+    × ((keep.groups.unowned ≡ true) ↔ Contains (lines_of text) (codes "unowned groups"))

@@ -108,8 +108,7 @@ fn take_line<'a>(keep: &mut KeepText<'a>, line: KeepLine<'a>) -> Result<bool, Al
 ///
 /// - `user NAME` and `group NAME`: the name keeps, on each host, the number that it has there. NAME
 ///   is all that stands behind the first space; it is a lawful name, and may hold spaces.
-/// - `users LOW HIGH` and `groups LOW HIGH`: the numbers from LOW to HIGH stay as they are. Both
-///   are
+/// - `users LOW HIGH` and `groups LOW HIGH`: the numbers from LOW to HIGH stay as they are. Both are
 ///   ids, LOW is no greater than HIGH, and one space stands between. Ranges may share numbers.
 /// - `unowned users` and `unowned groups`: numbers that no account of the host has stay as they
 ///   are.
@@ -121,7 +120,7 @@ fn take_line<'a>(keep: &mut KeepText<'a>, line: KeepLine<'a>) -> Result<bool, Al
 /// 18446744073709551615 the number of lines stays. `Memory` where a growth was refused. The empty
 /// text keeps nothing.
 ///
-/// Source: this project's own format. One pass over the text, with one look-up by hash for each
+/// Source: this project's own format. One pass over the text, with two look-ups by hash for each
 /// name, and memory in step with the lines that say something.
 pub fn read_keep<'a>(alloc: Global, text: &'a [u8]) -> Result<KeepText<'a>, KeepFault>
     ensures { Gives (λ keep. keep) keep_told result (keep_of text.now) }

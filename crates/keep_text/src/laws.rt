@@ -1,5 +1,6 @@
 //! What holds of keep texts.
-ghost use Rattle.keep_text.specs.KeepLaws.{RangesAreListed, ReadKeepsAreLawful};
+ghost use Rattle.keep_text.specs.KeepLaws.{NamesAreListed, RangesAreListed};
+ghost use Rattle.keep_text.specs.KeepLaws.{ReadKeepsAreLawful, UnownedIsSaid};
 
 /// What a keep text lists is lawful, for users and for groups: its names are lawful and differ, and
 /// its ranges are of ids, and none is empty.
@@ -11,4 +12,16 @@ pub fn keeps_are_lawful()
 /// of the text lists for them a range that has it.
 pub fn ranges_are_listed()
     ensures { RangesAreListed }
+{}
+
+/// A name is among those that a keep text lists for users exactly where `user`, a space and the
+/// name are a line of the text; and the same of groups and `group`.
+pub fn names_are_listed()
+    ensures { NamesAreListed }
+{}
+
+/// Numbers of users without an account stay exactly where `unowned users` is a line of the text;
+/// and the same of groups and `unowned groups`.
+pub fn unowned_is_said()
+    ensures { UnownedIsSaid }
 {}

@@ -2,3 +2,4 @@ pub mod PickedLemmas
 pub mod OtherLemmas
 pub mod ReservedLemmas
 pub mod SparedLemmas
+pub mod StayLemmas

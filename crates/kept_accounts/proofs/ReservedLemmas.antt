@@ -58,7 +58,7 @@ in-filter {X} test xs x there passes = at xs there.0 there.1 there.2
         by true more = (suc more.0, omega (arith, more.1), more.2)
         by false more = more
 
-in-flat_map : {X Y : Type 0} (f : X → List Y) (xs : List X) (x : X) (y : Y) → Contains xs x → Contains (f x) y → Contains (flat_map f xs) y
+pub in-flat_map : {X Y : Type 0} (f : X → List Y) (xs : List X) (x : X) (y : Y) → Contains xs x → Contains (f x) y → Contains (flat_map f xs) y
 in-flat_map {X} {Y} f xs x y there here = at xs there.0 there.1 there.2
   where
     at : (zs : List X) (k : ℕ) → k < length zs → get_or zs k x ≡ x → Contains (flat_map f zs) y

@@ -1,12 +1,14 @@
 -- What holds of the accounts that are kept.
 -- Source: this project's own rule.
-use Rattle.std.specs.Prelude.{◌≡◌, ◌⊎◌, ℕ, ◌++◌, Bool, true, false, List, [], Option, Some, Ok}
+use Rattle.std.specs.Prelude.{◌≡◌, ◌⊎◌, ◌↔◌, ℕ, ◌++◌, Bool, true, false, List, [], Option, Some}
+use Rattle.std.specs.Prelude.{Ok}
 use Rattle.std.specs.List.{Contains}
 use Rattle.std.specs.List.Sorted.{IsPermutation}
 use Rattle.accounts.specs.Laws.{IsPasswdTable, IsGroupTable}
 use Rattle.accounts.specs.Rows.{Passwd, Group}
 use Rattle.hosts_join.specs.Hosts.{IsLawfulHost, spares_user, spares_group}
 use Rattle.hosts_join.specs.Kinds.{user_rows, group_rows, user_at, group_at}
+use Rattle.hosts_join.specs.RangeLists.{lies_in_some}
 use Rattle.hosts_join.specs.Rules.{is_reserved}
 use Rattle.hosts_join.specs.declared.host.Host.{Host}
 use Rattle.keep_text.specs.KeepTexts.{keep_of}
@@ -56,6 +58,32 @@ abbrev pub NumbersDecide : Type 0
 NumbersDecide = (keep : Kept) (rows others : List (List ℕ × ℕ)) (name : List ℕ)
     → numbers_of rows name ≡ numbers_of others name
     → is_kept keep rows name ≡ is_kept keep others name
+
+-- the name has the number on one of the hosts
+-- rows_on: the names of a host with their numbers
+pub record HasNumber (rows_on : Host → List (List ℕ × ℕ)) (hosts : List Host) (name : List ℕ)
+    (number : ℕ) : Type 0 where
+  pub host : Host
+  pub is_host : Contains hosts host
+  pub is_row : Contains (rows_on host) (name, number)
+
+-- A name that some host has stays where it is listed, and where each number that it has on a host
+-- lies in a listed range.
+pub record Stays (keep : Kept) (rows_on : Host → List (List ℕ × ℕ)) (hosts : List Host)
+    (name : List ℕ) : Type 0 where
+  pub number : ℕ
+  pub had : HasNumber rows_on hosts name number
+  pub as_listed : Contains keep.names name
+      ⊎ ((number : ℕ) → HasNumber rows_on hosts name number
+      → lies_in_some keep.ranges number ≡ true)
+
+-- a name is kept exactly where it stays, by what is listed of its kind
+abbrev pub KeptNamesStay : Type 0
+KeptNamesStay = (keep : KeepText) (hosts : List Host) (name : List ℕ)
+    → ((is_kept_user keep hosts name ≡ true)
+    ↔ Stays keep.users (λ host. user_rows host.users) hosts name)
+    × ((is_kept_group keep hosts name ≡ true)
+    ↔ Stays keep.groups (λ host. group_rows host.groups) hosts name)
 
 -- the number that a kept name has on a host is reserved, by that name there
 abbrev pub KeptNumbersAreReserved : Type 0

@@ -1,7 +1,7 @@
 //! Laws of what is kept, each the contract of a call that does nothing.
 
 ghost use Rattle.kept_accounts.specs.Laws.{EmptyTextKeepsNothing, KeepingDecides, NumbersDecide};
-ghost use Rattle.kept_accounts.specs.Laws.{KeptNumbersAreReserved};
+ghost use Rattle.kept_accounts.specs.Laws.{KeptNamesStay, KeptNumbersAreReserved};
 ghost use Rattle.kept_accounts.specs.Laws.{UsersAreParted, GroupsAreParted, OthersAreLawful};
 ghost use Rattle.kept_accounts.specs.Laws.{OtherUsersAgree, OtherGroupsAgree};
 ghost use Rattle.kept_accounts.specs.Laws.{NamedAreLeftOrSpared, SparedAreReserved};
@@ -22,6 +22,13 @@ pub fn keeping_decides_what_is_left()
 /// Whether a name is kept depends on the numbers that it has and on the text, and on nothing else.
 pub fn numbers_decide_what_is_kept()
     ensures { NumbersDecide }
+{}
+
+/// A user name is kept exactly where some host has it and the text lists it for users, or some host
+/// has it and each number that it has on a host lies in a range that the text lists for users; and
+/// the same of groups.
+pub fn kept_names_stay()
+    ensures { KeptNamesStay }
 {}
 
 /// The number that a kept name has on a host is reserved, by that name there.

@@ -1,3 +1,4 @@
 pub mod Finds
 pub mod Lost
 pub mod Noted
+pub mod Told

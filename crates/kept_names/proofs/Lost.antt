@@ -19,13 +19,13 @@ use Rattle.kept_names.specs.declared.finding.What.TheVariants.{New, Unnamed, Lef
 
 -- ---- lists
 
-head-all : {Y : Type 0} (P : Y → Type 0) (y : Y) (ys : List Y) → All P (y ∷ ys) → P y
+pub head-all : {Y : Type 0} (P : Y → Type 0) (y : Y) (ys : List Y) → All P (y ∷ ys) → P y
 head-all P y ys h = h 0 y (omega arith)
 
-tail-all : {Y : Type 0} (P : Y → Type 0) (y : Y) (ys : List Y) → All P (y ∷ ys) → All P ys
+pub tail-all : {Y : Type 0} (P : Y → Type 0) (y : Y) (ys : List Y) → All P (y ∷ ys) → All P ys
 tail-all P y ys h = λ k d below. h (suc k) d (omega arith)
 
-cons-all : {Y : Type 0} (P : Y → Type 0) (y : Y) (ys : List Y) → P y → All P ys → All P (y ∷ ys)
+pub cons-all : {Y : Type 0} (P : Y → Type 0) (y : Y) (ys : List Y) → P y → All P ys → All P (y ∷ ys)
 cons-all P y ys first rest zero d below = first
 cons-all P y ys first rest (suc k) d below = rest k d (omega arith)
 
@@ -64,7 +64,7 @@ every-all P xs h = λ k d below. h (get_or xs k d)
 
 -- ---- a path among files
 
-cons-contains : {X : Type 0} (y x : X) (ys : List X) → Contains ys x → Contains (y ∷ ys) x
+pub cons-contains : {X : Type 0} (y x : X) (ys : List X) → Contains ys x → Contains (y ∷ ys) x
 cons-contains y x ys c = (suc c.0, omega (arith, c.1), c.2)
 
 pub file-there : (files : List Entry) (path : List ℕ) (x : Entry) → file_at files path ≡ Some x → Contains files x × (x.path ≡ path)

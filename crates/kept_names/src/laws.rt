@@ -1,11 +1,42 @@
-//! What the findings mean.
-ghost use Rattle.kept_names.specs.Laws.{NothingLostIsKept};
+//! What the findings mean. Each call does nothing: its contract is the law.
+ghost use Rattle.kept_names.specs.Laws.{ChangedAreTold, LeftAreTold, MissingAreTold, NewAreTold};
+ghost use Rattle.kept_names.specs.Laws.{NothingLostIsKept, UnnamedAreTold};
 
 /// No file is found missing or changed exactly where each file of the first inventory is in the
 /// second, with a user and a group that the new account files name as the old ones named those
 /// that it had; a number without a name is the same there, and still has no name.
-///
-/// The call does nothing: its contract is the law.
 pub fn names_are_kept()
     ensures { NothingLostIsKept }
+{}
+
+/// `Missing` is found of a file exactly where it is in the first inventory, and the second has no
+/// file at its path.
+pub fn missing_files_are_told()
+    ensures { MissingAreTold }
+{}
+
+/// `Changed` is found of a file exactly where it is in the first inventory and one of its path in
+/// the second, of which the user or the group has not the name that it had; and the numbers that
+/// stand with it are those there, each exactly where that owner has not its name.
+pub fn changed_files_are_told()
+    ensures { ChangedAreTold }
+{}
+
+/// `New` is found of a file exactly where it is in the second inventory, and the first has no file
+/// at its path.
+pub fn new_files_are_told()
+    ensures { NewAreTold }
+{}
+
+/// `Unnamed` is found of a file exactly where it is in the second inventory and its user or its
+/// group has no name by the new account files; and each flag says so of its owner.
+pub fn unnamed_files_are_told()
+    ensures { UnnamedAreTold }
+{}
+
+/// `Left` is found of a file exactly where it is in the second inventory, the first has no file at
+/// its path, and the number of its user or that of its group has a name by the old account files
+/// and not this name by the new ones; and each flag says so of its owner.
+pub fn left_numbers_are_told()
+    ensures { LeftAreTold }
 {}

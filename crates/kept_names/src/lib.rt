@@ -15,5 +15,8 @@ mod paths;
 
 pub use changes::find_changes;
 pub use finding::{Finding, What};
-pub use laws::names_are_kept;
+pub use laws::{
+    changed_files_are_told, left_numbers_are_told, missing_files_are_told, names_are_kept,
+    new_files_are_told, unnamed_files_are_told,
+};
 pub use names::{Accounts, group_name, user_name};

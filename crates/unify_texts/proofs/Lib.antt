@@ -6,4 +6,5 @@ pub mod MapLines
 pub mod ReportLemmas
 pub mod MapBack
 pub mod MapNames
+pub mod MapPins
 pub mod ReservedLemmas

@@ -30,7 +30,7 @@ use Rattle.unify_texts.specs.Words.{which_word}
 -- ---- a line
 
 -- a line without its newline
-abbrev bare : Which → Pair → List ℕ
+abbrev pub bare : Which → Pair → List ℕ
 bare kind p = which_word kind ++ 32 ∷ (p.name ++ 32 ∷ decimal p.number)
 
 -- a name and a number that a line may have
@@ -91,7 +91,7 @@ cut_pair_back kind p is =
     ∙ ap (named kind p.name) (decimal-back p.number is.1)
     ∙ ap (λ b. cond b (Given kind p.name p.number) Wrong) is.0
 
-line_back : (kind : Which) (p : Pair) → IsPair p → pair_line_of (bare kind p) ≡ Given kind p.name p.number
+pub line_back : (kind : Which) (p : Pair) → IsPair p → pair_line_of (bare kind p) ≡ Given kind p.name p.number
 unfolding pair_line_of
 line_back User p is = cut_pair_back User p is
 line_back Group p is = cut_pair_back Group p is
@@ -123,7 +123,7 @@ text_lines kind (p ∷ ps) rest all =
 
 -- ---- a map of such lines
 
-abbrev have : Which → MapText → List Pair
+abbrev pub have : Which → MapText → List Pair
 have User map = map.users
 have Group map = map.groups
 
@@ -140,7 +140,7 @@ abbrev pub FreshAfter : List Pair → List Pair → Type 0
 FreshAfter seen [] = Unit {0}
 FreshAfter seen (p ∷ ps) = (listed p.name seen ≡ false) × FreshAfter (seen ++ p ∷ []) ps
 
-have_more : (kind : Which) (before : List (List ℕ)) (p : Pair) → IsPair p → have kind (numbering_of (before ++ bare kind p ∷ [])) ≡ have kind (numbering_of before) ++ p ∷ []
+pub have_more : (kind : Which) (before : List (List ℕ)) (p : Pair) → IsPair p → have kind (numbering_of (before ++ bare kind p ∷ [])) ≡ have kind (numbering_of before) ++ p ∷ []
 have_more User before p is = flat_map-append (λ l. user_pair (pair_line_of l)) before (bare User p ∷ []) ∙ ap (λ q. flat_map (λ l. user_pair (pair_line_of l)) before ++ (user_pair q ++ [])) (line_back User p is)
 have_more Group before p is = flat_map-append (λ l. group_pair (pair_line_of l)) before (bare Group p ∷ []) ∙ ap (λ q. flat_map (λ l. group_pair (pair_line_of l)) before ++ (group_pair q ++ [])) (line_back Group p is)
 
@@ -176,7 +176,7 @@ taken Group [] all = refl
 taken User (p ∷ ps) all = ap (λ q. user_pair q ++ flat_map (λ l. user_pair (pair_line_of l)) (map (bare User) ps)) (line_back User p all.0) ∙ ap (λ qs. p ∷ qs) (taken User ps all.1)
 taken Group (p ∷ ps) all = ap (λ q. group_pair q ++ flat_map (λ l. group_pair (pair_line_of l)) (map (bare Group) ps)) (line_back Group p all.0) ∙ ap (λ qs. p ∷ qs) (taken Group ps all.1)
 
-no_groups : (ps : List Pair) → AllByRecursion IsPair ps → flat_map (λ l. group_pair (pair_line_of l)) (map (bare User) ps) ≡ []
+pub no_groups : (ps : List Pair) → AllByRecursion IsPair ps → flat_map (λ l. group_pair (pair_line_of l)) (map (bare User) ps) ≡ []
 no_groups [] all = refl
 no_groups (p ∷ ps) all = ap (λ q. group_pair q ++ flat_map (λ l. group_pair (pair_line_of l)) (map (bare User) ps)) (line_back User p all.0) ∙ no_groups ps all.1
 
@@ -184,16 +184,22 @@ no_users : (ps : List Pair) → AllByRecursion IsPair ps → flat_map (λ l. use
 no_users [] all = refl
 no_users (p ∷ ps) all = ap (λ q. user_pair q ++ flat_map (λ l. user_pair (pair_line_of l)) (map (bare Group) ps)) (line_back Group p all.0) ∙ no_users ps all.1
 
+abbrev pub both : List Pair → List Pair → List (List ℕ)
+both us gs = map (bare User) us ++ map (bare Group) gs
+
+pub both_lines : (us gs : List Pair) → AllByRecursion IsPair us → AllByRecursion IsPair gs → lines_of (flat_map (map_line User) us ++ flat_map (map_line Group) gs) ≡ both us gs
+both_lines us gs all_us all_gs =
+    text_lines User us (flat_map (map_line Group) gs) all_us
+    ∙ ap (λ ls. map (bare User) us ++ ls) (ap lines_of (sym (append-nil (flat_map (map_line Group) gs))) ∙ text_lines Group gs [] all_gs ∙ ap (λ ls. map (bare Group) gs ++ ls) lines-empty ∙ append-nil (map (bare Group) gs))
+
+pub both_given : (us gs : List Pair) → AllByRecursion IsPair us → AllByRecursion IsPair gs → numbering_of (both us gs) ≡ record { users = us; groups = gs }
+both_given us gs all_us all_gs =
+    let u : flat_map (λ l. user_pair (pair_line_of l)) (both us gs) ≡ us = flat_map-append (λ l. user_pair (pair_line_of l)) (map (bare User) us) (map (bare Group) gs) ∙ ap (λ qs. flat_map (λ l. user_pair (pair_line_of l)) (map (bare User) us) ++ qs) (no_users gs all_gs) ∙ append-nil (flat_map (λ l. user_pair (pair_line_of l)) (map (bare User) us)) ∙ taken User us all_us in
+    let g : flat_map (λ l. group_pair (pair_line_of l)) (both us gs) ≡ gs = flat_map-append (λ l. group_pair (pair_line_of l)) (map (bare User) us) (map (bare Group) gs) ∙ ap (λ qs. qs ++ flat_map (λ l. group_pair (pair_line_of l)) (map (bare Group) gs)) (no_groups us all_us) ∙ taken Group gs all_gs in
+    λ i. record { users = u i; groups = g i }
+
 module _ (us gs : List Pair) (all_us : AllByRecursion IsPair us) (all_gs : AllByRecursion IsPair gs) (fresh_us : FreshAfter [] us) (fresh_gs : FreshAfter [] gs) where
-  abbrev both : List (List ℕ)
-  both = map (bare User) us ++ map (bare Group) gs
-
-  both_lines : lines_of (flat_map (map_line User) us ++ flat_map (map_line Group) gs) ≡ both
-  both_lines =
-      text_lines User us (flat_map (map_line Group) gs) all_us
-      ∙ ap (λ ls. map (bare User) us ++ ls) (ap lines_of (sym (append-nil (flat_map (map_line Group) gs))) ∙ text_lines Group gs [] all_gs ∙ ap (λ ls. map (bare Group) gs ++ ls) lines-empty ∙ append-nil (map (bare Group) gs))
-
-  all_good : first_fault map_fault [] both ≡ None
+  all_good : first_fault map_fault [] (both us gs) ≡ None
   all_good =
       let fresh : FreshAfter (have Group (numbering_of (map (bare User) us))) gs = rw (no_groups us all_us) fresh_gs in
       pass User [] us (map (bare Group) gs) all_us fresh_us
@@ -201,12 +207,6 @@ module _ (us gs : List Pair) (all_us : AllByRecursion IsPair us) (all_gs : AllBy
       ∙ pass Group (map (bare User) us) gs [] all_gs fresh
       ∙ none_left (map (bare User) us ++ map (bare Group) gs)
 
-  both_given : numbering_of both ≡ record { users = us; groups = gs }
-  both_given =
-      let u : flat_map (λ l. user_pair (pair_line_of l)) both ≡ us = flat_map-append (λ l. user_pair (pair_line_of l)) (map (bare User) us) (map (bare Group) gs) ∙ ap (λ qs. flat_map (λ l. user_pair (pair_line_of l)) (map (bare User) us) ++ qs) (no_users gs all_gs) ∙ append-nil (flat_map (λ l. user_pair (pair_line_of l)) (map (bare User) us)) ∙ taken User us all_us in
-      let g : flat_map (λ l. group_pair (pair_line_of l)) both ≡ gs = flat_map-append (λ l. group_pair (pair_line_of l)) (map (bare User) us) (map (bare Group) gs) ∙ ap (λ qs. qs ++ flat_map (λ l. group_pair (pair_line_of l)) (map (bare Group) gs)) (no_groups us all_us) ∙ taken Group gs all_gs in
-      λ i. record { users = u i; groups = g i }
-
   pub read_back : map_of (flat_map (map_line User) us ++ flat_map (map_line Group) gs) ≡ Ok (record { users = us; groups = gs })
   unfolding map_of
-  read_back = ap (λ ls. unless (first_fault map_fault [] ls) (numbering_of ls)) both_lines ∙ ap (λ f. unless f (numbering_of both)) all_good ∙ ap (λ t. Ok t) both_given
+  read_back = ap (λ ls. unless (first_fault map_fault [] ls) (numbering_of ls)) (both_lines us gs all_us all_gs) ∙ ap (λ f. unless f (numbering_of (both us gs))) all_good ∙ ap (λ t. Ok t) (both_given us gs all_us all_gs)

@@ -43,7 +43,7 @@ module _ (before : List ℕ → List ℕ → Bool) where
   all-put P x [] p all = (p, tt)
   all-put P x (y ∷ ys) p all = elim (cases_Bool (before x y)) [ inl e ↦ rw e (p, all) | inr e ↦ rw e (all.0, all-put P x ys p all.1) ]
 
-  all-ordered : (P : List ℕ → Type 0) (xs : List (List ℕ)) → AllByRecursion P xs → AllByRecursion P (in_order before xs)
+  pub all-ordered : (P : List ℕ → Type 0) (xs : List (List ℕ)) → AllByRecursion P xs → AllByRecursion P (in_order before xs)
   unfolding in_order
   all-ordered P [] all = tt
   all-ordered P (x ∷ xs) all = all-put P x (in_order before xs) all.0 (all-ordered P xs all.1)
@@ -68,7 +68,7 @@ module _ (before : List ℕ → List ℕ → Bool) where
 
 -- ---- the names of joined accounts
 
-abbrev names_of : List Account → List (List ℕ)
+abbrev pub names_of : List Account → List (List ℕ)
 names_of xs = map (λ (x : Account). x.name) xs
 
 other_name : (n : List ℕ) (xs : List Account) → ((j : ℕ) → j < length xs → n ≡ (get_or xs j nobody).name → ⊥) → list_any (bytes_eq n) (names_of xs) ≡ false

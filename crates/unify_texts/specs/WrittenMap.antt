@@ -1,10 +1,13 @@
 -- The map text as it is written, and how it reads back.
 -- Source: this project's own formats.
-use Rattle.std.specs.Prelude.{◌≡◌, ℕ, ◌<◌, ◌++◌, List, [], ◌∷◌, length, map, flat_map, decimal}
-use Rattle.std.specs.Prelude.{Some, Ok, is_some}
+use Rattle.std.specs.Prelude.{◌≡◌, ℕ, ◌<◌, ◌≤◌, ◌++◌, List, [], ◌∷◌, length, map, flat_map}
+use Rattle.std.specs.Prelude.{decimal, Some, Ok, is_some}
+use Rattle.idtext.specs.Pieces.{lines as lines_of}
 use Rattle.hosts_join.specs.Accounts.{Accounts, Pair, place_of}
 use Rattle.hosts_join.specs.Lawful.{AreLawfulAccounts}
 use Rattle.hosts_join.specs.Pairs.{number_of}
+use Rattle.hosts_join.specs.PinPairs.{PinPairs}
+use Rattle.hosts_join.specs.PinsText.{pins_of}
 use Rattle.hosts_join.specs.Rules.{account, is_name}
 use Rattle.hosts_join.specs.Site.{Joined}
 use Rattle.hosts_join.specs.declared.Which.{Which}
@@ -57,3 +60,20 @@ abbrev pub WrittenMapsReadBack : Type 0
 WrittenMapsReadBack =
     (site : Joined) (m : Mappings) → IsMappingOf site.users m.users
     → IsMappingOf site.groups m.groups → ReadsBack site m (map_text site m)
+
+-- each name of mappings with its number, in the order of the map text, and nothing reserved
+abbrev pub mapped_pins : Joined → Mappings → PinPairs
+mapped_pins site m = record {
+  users = numbered site.users m.users;
+  groups = numbered site.groups m.groups;
+  reserved_users = [];
+  reserved_groups = [];
+}
+
+-- the map that is written is a pins text of its names with their numbers, where it has no more
+-- lines than a pins text may have
+abbrev pub WrittenMapsArePins : Type 0
+WrittenMapsArePins =
+    (site : Joined) (m : Mappings) → IsMappingOf site.users m.users
+    → IsMappingOf site.groups m.groups → length (lines_of (map_text site m)) ≤ 1048576
+    → pins_of (map_text site m) ≡ Ok (mapped_pins site m)

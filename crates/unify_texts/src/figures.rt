@@ -102,8 +102,8 @@ fn staying_rows(names: &Names<'_>, mapping: &Mapping) -> u64
 /// made for the names and none is above 2147483648; where they count files, of which so many have
 /// an owner, the figures are those of the files.
 ///
-/// One pass over the names, with two scans of a name's rows and one of its counters, each at most
-/// 64. It takes no memory.
+/// Four passes over the names, with two scans of a name's rows, which are at most 64, and one
+/// bisection of its counters. It takes no memory.
 pub fn figures_under(
     names: &Names<'_>,
     counts: &KindCounts,

@@ -3,7 +3,7 @@
 ghost use Rattle.unify_texts.specs.BundleSpelling.{ReadsWhatIsSpelled, SpelledIsRead};
 ghost use Rattle.unify_texts.specs.BundleSpelling.{FirstBadIsTold};
 ghost use Rattle.unify_texts.specs.ReservedBack.{ReservedLinesReadBack};
-ghost use Rattle.unify_texts.specs.WrittenMap.{WrittenMapsReadBack};
+ghost use Rattle.unify_texts.specs.WrittenMap.{WrittenMapsArePins, WrittenMapsReadBack};
 
 /// A text is read as a bundle exactly where its lines spell one, and as that one. Where they spell
 /// none, the fault tells the first line that spells no bundle together with those before it.
@@ -17,6 +17,13 @@ pub fn bundles_are_spelled()
 /// number, and no other name has one.
 pub fn written_maps_read_back()
     ensures { WrittenMapsReadBack }
+{}
+
+/// The map text that is written for mappings of a site is a pins text too, where it has no more
+/// than 1,048,576 lines: it pins each user and each group to its number, in the order of its lines,
+/// and reserves nothing.
+pub fn written_maps_are_pins()
+    ensures { WrittenMapsArePins }
 {}
 
 /// The lines that a report has of what is reserved are read, word by word, as exactly what they

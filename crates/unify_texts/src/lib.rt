@@ -20,7 +20,9 @@ pub use bundle_line::{Command, FileName};
 pub use fault::Fault;
 pub use fault_text::push_fault;
 pub use figures::{Figures, figures_under};
-pub use laws::{bundles_are_spelled, reserved_lines_read_back, written_maps_read_back};
+pub use laws::{
+    bundles_are_spelled, reserved_lines_read_back, written_maps_are_pins, written_maps_read_back,
+};
 pub use map_text::{MapText, push_map, read_map};
 pub use place_list::PlaceList;
 pub use places::{FileList, NamedFile, Place};

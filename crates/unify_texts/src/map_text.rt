@@ -57,9 +57,9 @@ fn take_line<'a>(map: &mut MapText<'a>, line: PairLine<'a>) -> Result<bool, Allo
 /// first bad line.
 ///
 /// A line is bad where it is neither skipped nor a lawful pair, or where its name stands before it
-/// for the same kind. A number may come twice. Goes over the text once, with a hash look-up a pair;
-/// takes memory in the number of pairs, and the names are slices of the text. `Memory` where a
-/// growth was refused.
+/// for the same kind. A number may come twice. Goes over the text once, with two look-ups by hash
+/// for each pair; takes memory in the number of pairs, and the names are slices of the text.
+/// `Memory` where a growth was refused.
 pub fn read_map<'a>(alloc: Global, text: &'a [u8]) -> Result<MapText<'a>, Fault<'a>>
     ensures { Gives (λ map. map) told result (map_of text.now) }
 {

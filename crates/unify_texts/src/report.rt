@@ -136,9 +136,9 @@ fn report_lines(
 /// it, and that there is one number for each name. Where the counters stand for files, the report
 /// is that of these files.
 ///
-/// A few passes over the names, with a few scans of at most 64 counters or rows for each, and what
-/// `differences` takes; memory in the length of the text besides. `AllocError` where a growth was
-/// refused.
+/// A few passes over the names, with two scans of at most 64 rows and one bisection of the counters
+/// for each, and what `differences` takes; memory in the length of the text besides. `AllocError`
+/// where a growth was refused.
 pub fn report_text(
     alloc: Global,
     hosts: &[Host<'_>],
