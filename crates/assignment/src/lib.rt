@@ -71,10 +71,10 @@ impl From<AllocError> for SolveFault {
 /// average; a search reaches a further name only over a number that this name was given, and no
 /// table of the site's size is cleared or read for it. So the time is near linear where few names
 /// want one number, and mostly where many do; at worst it is all names times all candidates, times
-/// the candidates of one name or a logarithm. Of memory the guess takes 24 bytes a candidate, some
-/// 110 a name, 60 a number, and half a megabyte in which numbers below 65,536 are looked up, beside
-/// what its lists have to spare; then a name takes 24 bytes and a number that was given some 80,
-/// beside one search's names and candidates and the memory of the fill.
+/// the candidates of one name or a logarithm. Of memory the guess takes up to 32 bytes a candidate,
+/// some 110 a name, 60 a number, and half a megabyte in which numbers below 65,536 are looked up,
+/// beside what its lists have to spare; then a name takes 24 bytes and a number that was given some
+/// 80, beside one search's names and candidates and the memory of the fill.
 pub fn solve(alloc: Global, rows: &Rows<'_, '_>) -> Result<Solution, SolveFault>
     ensures admissible { IfOk result (λ s. IsAdmissible rows.now.accounts s.mapping) }
     ensures proves { IfOk result (λ s. Proves rows.now s.mapping s.y.items s.z.items) }

@@ -139,7 +139,7 @@ pool-id a (Pinned u) v p = absurd (false≢true p)
 pool-id a Regular v p = leb-true v 4294967294 (and_parts _ _ (and_parts _ _ p).0).0
 pool-id a System v p = leb-true v 4294967294 (and_parts _ _ (and_parts _ _ p).0).0
 
-module _ (a : Accounts) (start : List (Option ℕ)) (ws : List (List ℕ × ℕ)) (k : ℕ) (numbers : List (Option ℕ)) (regular system : ℕ) (lawful : AreLawfulAccounts a) (st : IsStart a start) (s : IsFillSoFar a start ws k numbers regular system) where
+module _ (a : Accounts) (start : List (Option ℕ)) (ws : List ℕ) (k : ℕ) (numbers : List (Option ℕ)) (regular system : ℕ) (lawful : AreLawfulAccounts a) (st : IsStart a start) (s : IsFillSoFar a start ws k numbers regular system) where
   -- whoever has a number of the pool is of the class
   holder : (c : Class) (j w : ℕ) → j < length a.names → gift numbers j ≡ Some w → in_pool a c w ≡ true → same_class c (class_at a j) ≡ true
   holder c j w h e p = by (class_at a j) refl

@@ -14,25 +14,25 @@ use Rattle.std.proofs.lemmas.List.Sorted.{ranks_by, sorted_far, sum_by-IsPermuta
 use Rattle.hosts_join.specs.Accounts.{Accounts}
 use Rattle.hosts_join.specs.Order.{name_at, AreInByteOrder}
 use Rattle.candidates.specs.Fill.{gift}
-use Rattle.candidates.specs.Settled.{times, no_waiting, AreWaiting}
+use Rattle.candidates.specs.Settled.{times, AreWaiting}
 
 module _ (a : Accounts) (numbers : List (Option ℕ)) where
-  -- those of the names that wait, with their places
-  abbrev pub waiting_among : List ℕ → List (List ℕ × ℕ)
+  -- those of the places whose names wait
+  abbrev pub waiting_among : List ℕ → List ℕ
   waiting_among [] = []
-  waiting_among (i ∷ is) = cond (is_none (gift numbers i)) ((name_at a.names i, i) ∷ waiting_among is) (waiting_among is)
+  waiting_among (i ∷ is) = cond (is_none (gift numbers i)) (i ∷ waiting_among is) (waiting_among is)
 
-  pub waits-more : (is : List ℕ) (i : ℕ) → is_none (gift numbers i) ≡ true → waiting_among (is ++ i ∷ []) ≡ waiting_among is ++ (name_at a.names i, i) ∷ []
+  pub waits-more : (is : List ℕ) (i : ℕ) → is_none (gift numbers i) ≡ true → waiting_among (is ++ i ∷ []) ≡ waiting_among is ++ i ∷ []
   waits-more [] i none = rw none refl
   waits-more (j ∷ is) i none = elim (cases_Bool (is_none (gift numbers j))) [
-    | inl t ↦ rw t (ap (λ (ws : List (List ℕ × ℕ)). (name_at a.names j, j) ∷ ws) (waits-more is i none))
+    | inl t ↦ rw t (ap (λ (ws : List ℕ). j ∷ ws) (waits-more is i none))
     | inr f ↦ rw f (waits-more is i none)
   ]
 
   pub waits-not : (is : List ℕ) (i : ℕ) → is_none (gift numbers i) ≡ false → waiting_among (is ++ i ∷ []) ≡ waiting_among is
   waits-not [] i some = rw some refl
   waits-not (j ∷ is) i some = elim (cases_Bool (is_none (gift numbers j))) [
-    | inl t ↦ rw t (ap (λ (ws : List (List ℕ × ℕ)). (name_at a.names j, j) ∷ ws) (waits-not is i some))
+    | inl t ↦ rw t (ap (λ (ws : List ℕ). j ∷ ws) (waits-not is i some))
     | inr f ↦ rw f (waits-not is i some)
   ]
 
@@ -42,7 +42,7 @@ module _ (a : Accounts) (numbers : List (Option ℕ)) where
       let ws = waiting_among is in
       let rest = times-among i is in
       let counts = sum_by-cons (λ k. cond {A = ℕ} (k == i) 1 0) j is in
-      let more = sum_by-cons (λ (w : List ℕ × ℕ). cond {A = ℕ} (w.1 == i) 1 0) (name_at a.names j, j) ws in
+      let more = sum_by-cons (λ k. cond {A = ℕ} (k == i) 1 0) j ws in
       elim (cases_Bool (j == i)) [
         | inl same ↦ let one : j ≡ i = eqb-true j i same in elim (cases_Bool (is_none (gift numbers i))) [
           | inl t ↦ let u : is_none (gift numbers j) ≡ true = ap (λ k. is_none (gift numbers k)) one ∙ t in
@@ -62,17 +62,10 @@ module _ (a : Accounts) (numbers : List (Option ℕ)) where
             ]
       ]
 
-  named-among : (is : List ℕ) → All (λ w. w.0 ≡ name_at a.names w.1) (waiting_among is)
-  named-among [] = All-nil _
-  named-among (i ∷ is) = elim (cases_Bool (is_none (gift numbers i))) [
-    | inl t ↦ rw t (All-cons (λ (w : List ℕ × ℕ). w.0 ≡ name_at a.names w.1) (name_at a.names i, i) (waiting_among is) refl (named-among is))
-    | inr f ↦ rw f (named-among is)
-  ]
-
-  all-among : (P : List ℕ → Type 0) (is : List ℕ) → All P (map (name_at a.names) is) → All (λ w. P w.0) (waiting_among is)
+  all-among : (P : List ℕ → Type 0) (is : List ℕ) → All P (map (name_at a.names) is) → All (λ w. P (name_at a.names w)) (waiting_among is)
   all-among P [] all = All-nil _
   all-among P (i ∷ is) all = elim (cases_Bool (is_none (gift numbers i))) [
-    | inl t ↦ rw t (All-cons (λ (w : List ℕ × ℕ). P w.0) (name_at a.names i, i) (waiting_among is) (All-head P (name_at a.names i) (map (name_at a.names) is) all) (all-among P is (All-tail P (name_at a.names i) (map (name_at a.names) is) all)))
+    | inl t ↦ rw t (All-cons (λ (w : ℕ). P (name_at a.names w)) i (waiting_among is) (All-head P (name_at a.names i) (map (name_at a.names) is) all) (all-among P is (All-tail P (name_at a.names i) (map (name_at a.names) is) all)))
     | inr f ↦ rw f (all-among P is (All-tail P (name_at a.names i) (map (name_at a.names) is) all))
   ]
 
@@ -87,25 +80,25 @@ rises-head : (x : List ℕ) (xs : List (List ℕ)) → Rises (x ∷ xs) → All 
 rises-head x xs up = All-from_get_or (λ y. slice_cmp nat_cmp y x ≢ Less) xs [] (λ i low. up 0 (suc i) (omega arith) (omega arith))
 
 -- what stands behind the first
-abbrev Later : List ℕ → List (List ℕ × ℕ) → Type 0
-Later name ws = All (λ w. slice_cmp nat_cmp w.0 name ≢ Less) ws
+abbrev Later : Accounts → List ℕ → List ℕ → Type 0
+Later a name ws = All (λ w. slice_cmp nat_cmp (name_at a.names w) name ≢ Less) ws
 
-abbrev RisesWith : List (List ℕ × ℕ) → Type 0
-RisesWith ws = (j k : ℕ) → j < k → k < length ws → slice_cmp nat_cmp (get_or ws k no_waiting).0 (get_or ws j no_waiting).0 ≢ Less
+abbrev RisesWith : Accounts → List ℕ → Type 0
+RisesWith a ws = (j k : ℕ) → j < k → k < length ws → slice_cmp nat_cmp (name_at a.names (get_or ws k 0)) (name_at a.names (get_or ws j 0)) ≢ Less
 
-rises-cons : (name : List ℕ) (i : ℕ) (ws : List (List ℕ × ℕ)) → Later name ws → RisesWith ws → RisesWith ((name, i) ∷ ws)
-rises-cons name i ws later up j zero low high = absurd (omega arith)
-rises-cons name i ws later up zero (suc k) low high = All-get_or (λ (w : List ℕ × ℕ). slice_cmp nat_cmp w.0 name ≢ Less) ws k no_waiting (omega arith) later
-rises-cons name i ws later up (suc j) (suc k) low high = up j k (omega arith) (omega arith)
+rises-cons : (a : Accounts) (i : ℕ) (ws : List ℕ) → Later a (name_at a.names i) ws → RisesWith a ws → RisesWith a (i ∷ ws)
+rises-cons a i ws later up j zero low high = absurd (omega arith)
+rises-cons a i ws later up zero (suc k) low high = All-get_or (λ (w : ℕ). slice_cmp nat_cmp (name_at a.names w) (name_at a.names i) ≢ Less) ws k 0 (omega arith) later
+rises-cons a i ws later up (suc j) (suc k) low high = up j k (omega arith) (omega arith)
 
-rises-among : (a : Accounts) (numbers : List (Option ℕ)) (is : List ℕ) → Rises (map (name_at a.names) is) → RisesWith (waiting_among a numbers is)
+rises-among : (a : Accounts) (numbers : List (Option ℕ)) (is : List ℕ) → Rises (map (name_at a.names) is) → RisesWith a (waiting_among a numbers is)
 rises-among a numbers [] up = λ j k low high. absurd (omega arith)
 rises-among a numbers (i ∷ is) up =
     let name = name_at a.names i in
     let names = map (name_at a.names) is in
     let rest = rises-among a numbers is (rises-tail name names up) in
     elim (cases_Bool (is_none (gift numbers i))) [
-      | inl t ↦ rw t (rises-cons name i (waiting_among a numbers is) (all-among a numbers (λ y. slice_cmp nat_cmp y name ≢ Less) is (rises-head name names up)) rest)
+      | inl t ↦ rw t (rises-cons a i (waiting_among a numbers is) (all-among a numbers (λ y. slice_cmp nat_cmp y name ≢ Less) is (rises-head name names up)) rest)
       | inr f ↦ rw f rest
     ]
 
@@ -137,7 +130,6 @@ once-within (suc n) a i low =
 pub are-waiting : (a : Accounts) (numbers : List (Option ℕ)) (order : List ℕ) → AreInByteOrder a.names order → AreWaiting a numbers (waiting_among a numbers order)
 are-waiting a numbers order is = record {
   once = λ i. times-among a numbers i order ∙ ap (λ n. cond {A = ℕ} (is_none (gift numbers i)) n 0) (all i) ∙ both i (is_none (gift numbers i));
-  named = named-among a numbers order;
   ordered = rises-among a numbers order far;
 }
   where

@@ -1,9 +1,9 @@
 -- The numbers of names while the fill goes on.
 -- Words of the code and not of the subject: only private contracts, views and invariants cite them.
 use Rattle.std.specs.Prelude.{◌≡◌, ◌≢◌, ℕ, ◌+◌, ◌<◌, ◌≤◌, ◌==◌, ◌&&◌, nat_lt, if◌then◌else◌, Bool}
-use Rattle.std.specs.Prelude.{true, false, List, [], length, slice_index_or, slice_set, Option}
+use Rattle.std.specs.Prelude.{true, false, List, length, slice_index_or, slice_set, Option}
 use Rattle.std.specs.Prelude.{Some, None}
-use Rattle.std.specs.List.{list_any, count_by, All}
+use Rattle.std.specs.List.{list_any, count_by}
 use Rattle.std.specs.Option.{is_none}
 use Rattle.std.specs.Cmp.Lexicographic.{slice_cmp}
 use Rattle.std.specs.Ordering.{nat_cmp}
@@ -59,23 +59,18 @@ pub record IsLeft (pool : List IdRange) (numbers : List (Option ℕ)) (from : �
 abbrev pub AreIds : List IdRange → Type 0
 AreIds pool = (v : ℕ) → lies_in_some pool v ≡ true → v ≤ 4294967294
 
--- what stands for an index that is too high
-abbrev pub no_waiting : List ℕ × ℕ
-no_waiting = ([], 0)
-
 -- how often the name at an index stands in the list
-abbrev pub times : ℕ → List (List ℕ × ℕ) → ℕ
-times i waiting = count_by (λ w. w.1 == i) waiting
+abbrev pub times : ℕ → List ℕ → ℕ
+times i waiting = count_by (λ w. w == i) waiting
 
--- The list has each name without a number once, and its names do not descend in byte order.
-pub record AreWaiting (a : Accounts) (numbers : List (Option ℕ)) (waiting : List (List ℕ × ℕ)) :
-    Type 0 where
+-- The list has the index of each name without a number once, and the names do not descend in byte
+-- order.
+pub record AreWaiting (a : Accounts) (numbers : List (Option ℕ)) (waiting : List ℕ) : Type 0 where
   pub once : (i : ℕ) → times i waiting
       ≡ (if nat_lt i (length a.names) && is_none (gift numbers i) then 1 else 0)
-  pub named : All (λ w. w.0 ≡ (account a w.1).name) waiting
   pub ordered : (j k : ℕ) → j < k → k < length waiting
-      → slice_cmp nat_cmp (slice_index_or waiting k no_waiting).0
-      (slice_index_or waiting j no_waiting).0 ≢ Less
+      → slice_cmp nat_cmp (account a (slice_index_or waiting k 0)).name
+      (account a (slice_index_or waiting j 0)).name ≢ Less
 
 -- Before the fill: a number for each pinned name, numbers of their pools for some free ones, and no
 -- number twice.

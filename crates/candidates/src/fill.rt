@@ -1,5 +1,5 @@
 //! The fill: what gives fresh numbers to the names that wait.
-ghost use Rattle.std.specs.Prelude.{◌≡◌, ℕ, ◌<◌, length, OnOk, IfOk, map};
+ghost use Rattle.std.specs.Prelude.{◌≡◌, ℕ, ◌<◌, length, OnOk, IfOk};
 ghost use Rattle.hosts_join.specs.Lawful.{AreLawfulAccounts};
 ghost use Rattle.candidates.specs.Fill.{gift};
 ghost use Rattle.candidates.specs.Settled.{settled, settled_by, AreWaiting, IsStart, IsDone};
@@ -7,9 +7,6 @@ ghost use Rattle.candidates.specs.Settled.{settled, settled_by, AreWaiting, IsSt
 use crate::filling::Filling;
 use hosts_join::{Class, Names};
 use std::alloc::{AllocError, Global};
-
-/// A name that waits for a number.
-pub type Waiting<'a> = (&'a [u8], u32);
 
 /// What a name has before the fill: its pin, or else what it was given.
 fn settled_number(class: Class, given: Option<u32>) -> Option<u32>
@@ -40,41 +37,36 @@ pub fn settle(
     Ok(numbers)
 }
 
-/// The names without a number, in byte order.
-pub fn waiting<'a>(
+/// The indices of the names without a number, by the names in byte order.
+pub fn waiting(
     alloc: Global,
-    names: &Names<'a>,
+    names: &Names<'_>,
     numbers: &[Option<u32>],
-) -> Result<Vec<Waiting<'a>>, AllocError>
+) -> Result<Vec<u32>, AllocError>
     requires { length numbers.now ≡ length names.now.names }
-    ensures { IfOk result
-        (λ ws. AreWaiting names.now numbers.now (map (λ w. (w.0.now, w.1)) ws.items)) }
+    ensures { IfOk result (λ ws. AreWaiting names.now numbers.now ws.items) }
 {
-    let mut waiting: Vec<Waiting<'a>> = Vec::new(alloc);
+    let mut waiting: Vec<u32> = Vec::new(alloc);
     for index in names.in_byte_order() {
         match numbers[*index as usize] {
             Some(_) => {}
-            None => waiting.push((names.name(*index), *index))?,
+            None => waiting.push(*index)?,
         }
     }
     Ok(waiting)
 }
 
 /// Gives each waiting name, in order, the least number of its pool that no name has.
-pub fn fill(
-    names: &Names<'_>,
-    filling: &mut Filling,
-    waiting: &[Waiting<'_>],
-) -> Result<(), AllocError>
+pub fn fill(names: &Names<'_>, filling: &mut Filling, waiting: &[u32]) -> Result<(), AllocError>
     requires lawful { AreLawfulAccounts names.now }
     requires start { IsStart names.now filling.old }
-    requires waiting { AreWaiting names.now filling.old (map (λ w. (w.0.now, w.1)) waiting.now) }
+    requires waiting { AreWaiting names.now filling.old waiting.now }
     ensures { OnOk result (IsDone names.now filling.old filling.new) }
 {
     let mut regular: u32 = 0;
     let mut system: u32 = 0;
     for entry in waiting {
-        let index = entry.1;
+        let index = *entry;
         match names.class(index) {
             Class::System => system = filling.give(names.pool(Class::System), index, system)?,
             Class::Regular => regular = filling.give(names.pool(Class::Regular), index, regular)?,

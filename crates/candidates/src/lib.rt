@@ -4,8 +4,7 @@
 
 ghost use Rattle.std.specs.Prelude.{◌≡◌, ℕ, ◌<◌, ◌≤◌, ◌↔◌, ◌+◌, length, List, IfOk, Some};
 ghost use Rattle.hosts_join.specs.Accounts.{lines};
-ghost use Rattle.hosts_join.specs.RangeLists.{lies_in_some};
-ghost use Rattle.hosts_join.specs.Rules.{account, class_at, in_pool};
+ghost use Rattle.hosts_join.specs.Rules.{account};
 ghost use Rattle.ownership.specs.Counts.{AreMadeFor, AreWithin, CountFiles};
 ghost use Rattle.ownership.specs.Files.{File};
 ghost use Rattle.ownership.specs.Mappings.{number_at, IsAdmissible};
@@ -19,7 +18,7 @@ mod filling;
 
 use crate::fill::{fill, settle, waiting};
 use crate::filling::Filling;
-use hosts_join::{Names, Pool};
+use hosts_join::Names;
 use ownership::{KindCounts, Mapping};
 use smallvec::SmallVec;
 use std::alloc::{AllocError, Global};
@@ -148,21 +147,12 @@ impl<'n, 'a> Rows<'n, 'a> {
         self.rows[index as usize].as_slice()
     }
 
-    /// The pool of the name at an index; it has no number for a pinned name. No cost.
-    pub fn pool_of(&self, index: u32) -> &Pool
-        requires { index < length self.now.rows }
-        ensures { (v : ℕ) → lies_in_some result.now v
-            ≡ in_pool self.now.accounts (class_at self.now.accounts index) v }
-    {
-        self.names.pool(self.names.class(index))
-    }
-
     /// The mapping in which pinned names have their pins, the given numbers stay, and every other
     /// name, in byte order, has the smallest number of its pool that no name had before. Asked is
     /// one item for each name, in which a number is a candidate of the name, and no number twice.
     ///
     /// Near linear in the names: each class has a cursor that walks its pool once, by a binary
-    /// search and a look-up by hash for each number. It takes some 60 to 100 bytes a name while it
+    /// search and a look-up by hash for each number. It takes some 40 to 60 bytes a name while it
     /// runs, and leaves the mapping. `AllocError` where memory is refused.
     pub fn fill_fresh(&self, alloc: Global, given: &[Option<u32>]) -> Result<Mapping, AllocError>
         requires { IsPartial self.now given.now }

@@ -5,6 +5,7 @@ use Rattle.std.specs.declared.cmp.Ordering.TheVariants.{Less}
 use Rattle.std.specs.Ordering.{nat_cmp}
 use Rattle.std.specs.Cmp.Lexicographic.{slice_cmp}
 use Rattle.std.specs.List.{All}
+use Rattle.idtext.specs.Numbers.{greatest_id}
 use Rattle.idtext.specs.Names.{is_lawful_name}
 use Rattle.ownership.specs.Potentials.{AscendsByNumber, IsZ}
 
@@ -29,7 +30,7 @@ AreAscending rows =
 
 pub record IsRow (r : Row) : Type 0 where
   pub lawful : is_lawful_name r.name ≡ true
-  pub number : r.number ≤ 4294967294
+  pub number : r.number ≤ greatest_id
   pub y : r.y < 2 ^ 64
 
 abbrev pub AreAllZ : List (ℕ × ℕ) → Type 0

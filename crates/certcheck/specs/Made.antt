@@ -2,6 +2,7 @@
 -- Source: this project's own rule.
 use Rattle.std.specs.Prelude.{◌≡◌, ℕ, ◌<◌, ◌≤◌, ◌^◌, List, length, map}
 use Rattle.std.specs.List.{All}
+use Rattle.idtext.specs.Numbers.{greatest_id}
 use Rattle.hosts_join.specs.Accounts.{Accounts}
 use Rattle.hosts_join.specs.Order.{AreInByteOrder}
 use Rattle.hosts_join.specs.Rules.{account, is_name}
@@ -14,7 +15,7 @@ use Rattle.certcheck.specs.Check.{is_listed, mapping_of, potentials_of}
 -- and z that ascend
 pub record IsSolutionFor (a : Accounts) (m y : List ℕ) (z : List (ℕ × ℕ)) : Type 0 where
   pub numbers : length m ≡ length a.names
-  pub ids : All (λ v. v ≤ 4294967294) m
+  pub ids : All (λ v. v ≤ greatest_id) m
   pub ys : length y ≡ length a.names
   pub fits : All (λ n. n < 2 ^ 64) y
   pub z_ascends : AscendsByNumber z

@@ -8,6 +8,7 @@ use Rattle.std.specs.Ordering.{nat_cmp, is_lt}
 use Rattle.std.specs.Cmp.Lexicographic.{slice_cmp}
 use Rattle.std.specs.Str.{bytes_eq}
 use Rattle.std.specs.Str.Parse.{digits_value}
+use Rattle.idtext.specs.Numbers.{greatest_id}
 use Rattle.idtext.specs.First.{first_fault, or_else, unless}
 use Rattle.idtext.specs.Faults.{line_number}
 use Rattle.idtext.specs.Names.{is_lawful_name}
@@ -42,7 +43,7 @@ abbrev pub row_in : List ℕ → Option Row
 row_in text =
     option_and_then
     (λ (p : List ℕ × List ℕ). option_and_then
-    (λ (q : List ℕ × List ℕ). row_of_parts q.0 (spelled_number 4294967294 q.1)
+    (λ (q : List ℕ × List ℕ). row_of_parts q.0 (spelled_number greatest_id q.1)
     (spelled_number 18446744073709551615 p.1)) (cut_at_last_space p.0)) (cut_at_last_space text)
 
 abbrev pub z_of_parts : Option ℕ → Option ℕ → Option (ℕ × ℕ)
@@ -54,7 +55,7 @@ z_of_parts None z = None
 abbrev pub z_in : List ℕ → Option (ℕ × ℕ)
 z_in text =
     option_and_then
-    (λ (p : List ℕ × List ℕ). z_of_parts (spelled_number 4294967294 p.0)
+    (λ (p : List ℕ × List ℕ). z_of_parts (spelled_number greatest_id p.0)
     (spelled_number 18446744073709551615 p.1)) (cut_at_last_space text)
 
 abbrev pub row_item : Which → Option Row → Option Item

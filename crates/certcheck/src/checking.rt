@@ -83,9 +83,11 @@ fn check_kind<'a>(
 /// A yes proves that no admissible pair of mappings costs less, and that among those of least cost
 /// for a kind none changes fewer account rows of it, whoever wrote the certificate.
 ///
-/// A number that a name has on no host weighs nothing for it, so no pool is walked: a binary search
-/// or two for each row of the certificate; a few binary searches, and a scan of the name's hosts,
-/// for each account row of the site; and memory for the numbers of one kind. Sums are exact, in 128
+/// A number that a name has on no host weighs nothing for it, so no pool is walked. Each row of the
+/// certificate takes four look-ups of its name by hash, a binary search in a pool, and an insertion
+/// into a search tree; each name of the site four binary searches for its row, two among its
+/// counters, and a scan of its hosts; and each account row of the site three binary searches and a
+/// scan of the name's hosts. Memory is taken for the numbers of one kind. Sums are exact, in 128
 /// bits.
 ///
 /// # Errors

@@ -1,7 +1,6 @@
 //! Whether the numbers of a certificate are those that names may get.
 ghost use Rattle.std.specs.Prelude.{◌≡◌};
 ghost use Rattle.std.specs.Option.{option_map};
-ghost use Rattle.hosts_join.specs.Rules.{is_free_class};
 ghost use Rattle.certcheck.specs.Views.{rows_of, row_of};
 ghost use Rattle.certcheck.specs.Told.{text_of};
 ghost use Rattle.certcheck.specs.Check as spec;
@@ -10,23 +9,13 @@ use crate::CertRow;
 use crate::lookup::index_of;
 use hosts_join::{Class, Names};
 
-/// Whether a class is not pinned.
-pub fn is_free(class: Class) -> bool
-    ensures { result ≡ is_free_class class }
-{
-    match class {
-        Class::Pinned(_) => false,
-        Class::Regular | Class::System => true,
-    }
-}
-
 fn is_outside(names: &Names<'_>, row: &CertRow<'_>) -> bool
     ensures { result ≡ spec.is_row_outside names.now (row_of row.now) }
 {
     match index_of(names, row.name) {
         Some(index) => {
             let class = names.class(index);
-            is_free(class) && !names.pool(class).has(row.number)
+            class.is_free() && !names.pool(class).has(row.number)
         }
         None => false,
     }

@@ -12,7 +12,6 @@ ghost use Rattle.certcheck.specs.OneKind.{AreBounded, told_cost};
 use crate::CertRow;
 use crate::cover::weight;
 use crate::lookup::find_row;
-use crate::pools::is_free;
 use hosts_join::Names;
 use ownership::KindCounts;
 
@@ -74,7 +73,7 @@ pub fn mapping_weight(names: &Names<'_>, counts: &KindCounts, rows: &[CertRow<'_
 {
     let mut total: u128 = 0;
     for index in 0..names.len() {
-        if is_free(names.class(index)) {
+        if names.class(index).is_free() {
             total += weight(names, counts, index, number_of(rows, names.name(index)));
         }
     }

@@ -7,6 +7,7 @@ use Rattle.std.specs.Prelude.{find, Option, Some, None}
 use Rattle.std.specs.Option.{option_map}
 use Rattle.std.specs.List.{list_any}
 use Rattle.std.specs.Str.{bytes_eq}
+use Rattle.idtext.specs.Numbers.{greatest_id}
 use Rattle.logindefs.specs.declared.ranges.IdRange.{IdRange}
 use Rattle.logindefs.specs.Ranges.{in_range}
 use Rattle.hosts_join.specs.declared.Standing.{Standing}
@@ -131,7 +132,7 @@ AreNumberedApart (r ∷ rows) =
 
 -- the host is one of so many, and an account may have the number
 abbrev pub IsSpotAmong : ℕ → Spot → Type 0
-IsSpotAmong hosts s = (s.host < hosts) × (s.number ≤ 4294967294)
+IsSpotAmong hosts s = (s.host < hosts) × (s.number ≤ greatest_id)
 
 -- a row without a name, which stands for a place that is too high
 abbrev pub no_row : List ℕ × ℕ

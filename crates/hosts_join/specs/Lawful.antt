@@ -2,6 +2,7 @@
 -- Source: this project's own rule.
 use Rattle.std.specs.Prelude.{◌≡◌, ℕ, ◌<◌, ◌≤◌, true, length}
 use Rattle.std.specs.List.{All}
+use Rattle.idtext.specs.Numbers.{greatest_id}
 use Rattle.idtext.specs.Names.{is_lawful_name}
 use Rattle.hosts_join.specs.Accounts.{Accounts, IsOnceEach, IsSpotAmong, all_lines}
 use Rattle.hosts_join.specs.Rules.{account, class_of, in_pool}
@@ -20,7 +21,7 @@ pub record AreLawfulAccounts (a : Accounts) : Type 0 where
   pub once : (i : ℕ) → IsOnceEach (account a i).spots
   pub few_spots : (i : ℕ) → length (account a i).spots ≤ 64
   -- a pin is a number that an account may have, and no two names have one pin
-  pub pin_ids : (i v : ℕ) → class_of a.pins (account a i) ≡ Pinned v → v ≤ 4294967294
+  pub pin_ids : (i v : ℕ) → class_of a.pins (account a i) ≡ Pinned v → v ≤ greatest_id
   pub pins_differ : (i j v : ℕ) → i < length a.names → j < length a.names
       → class_of a.pins (account a i) ≡ Pinned v → class_of a.pins (account a j) ≡ Pinned v → i ≡ j
   -- no number is in both pools (where there is no name there may be no host)

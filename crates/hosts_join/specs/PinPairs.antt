@@ -2,6 +2,7 @@
 -- Source: this project's own rule.
 use Rattle.std.specs.Prelude.{◌≤◌, List, [], map}
 use Rattle.std.specs.List.{All}
+use Rattle.idtext.specs.Numbers.{greatest_id}
 use Rattle.accounts.specs.Laws.{AreDistinct}
 use Rattle.hosts_join.specs.Accounts.{Pair}
 use Rattle.hosts_join.specs.declared.reserving.Reserved.{Reserved}
@@ -22,7 +23,7 @@ no_pins = record { users = []; groups = []; reserved_users = []; reserved_groups
 pub record ArePins (pairs : List Pair) : Type 0 where
   pub names_differ : AreDistinct (map (λ p. p.name) pairs)
   pub numbers_differ : AreDistinct (map (λ p. p.number) pairs)
-  pub ids : All (λ p. p.number ≤ 4294967294) pairs
+  pub ids : All (λ p. p.number ≤ greatest_id) pairs
 
 pub record ArePinPairs (pins : PinPairs) : Type 0 where
   pub user_pins : ArePins pins.users

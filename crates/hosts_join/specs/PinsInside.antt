@@ -1,6 +1,7 @@
 -- What the tables of pins stand for.
 -- Words of the code and not of the subject: only private contracts, views and invariants cite them.
 use Rattle.std.specs.Prelude.{◌≡◌, ◌≤◌, [], map}
+use Rattle.idtext.specs.Numbers.{greatest_id}
 use Rattle.hosts_join.specs.PinPairs.{PinPairs, ArePins, ArePinPairs}
 use Rattle.hosts_join.specs.declared.pair_lines.PairLine.{PairLine}
 use Rattle.hosts_join.specs.declared.pair_lines.PairLine.TheVariants.{Skipped, Wrong, Given}
@@ -38,6 +39,6 @@ drafted d = record {
 
 -- a number on a line may be that of an account
 abbrev pub IsIdLine : PairLine → Type 0
-IsIdLine (Given which name number) = number ≤ 4294967294
+IsIdLine (Given which name number) = number ≤ greatest_id
 IsIdLine Skipped = Unit {0}
 IsIdLine Wrong = Unit {0}

@@ -7,6 +7,7 @@ use Rattle.std.specs.Prelude.{find, Option, Some, None, Result, slice_index_or}
 use Rattle.std.specs.Option.{option_map, option_to_list, option_and_then}
 use Rattle.std.specs.List.{list_any, list_all, flat_map}
 use Rattle.std.specs.Str.{bytes_eq}
+use Rattle.idtext.specs.Numbers.{greatest_id}
 use Rattle.idtext.specs.First.{or_else, unless}
 use Rattle.logindefs.specs.Ranges.{in_range}
 use Rattle.hosts_join.specs.declared.Spot.{Spot}
@@ -114,7 +115,7 @@ is_given_away a v = is_taken (claims a) v || is_reserved a.reserved v
 
 -- the number may have an account
 abbrev pub is_id : ℕ → Bool
-is_id v = nat_le v 4294967294
+is_id v = nat_le v greatest_id
 
 -- The pool of a class: the numbers that lie in its range on every host and are not given away. A
 -- pinned name has the empty pool. (The test `is_id` is for ranges made by hand: those of a

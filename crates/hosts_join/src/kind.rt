@@ -33,9 +33,6 @@ pub trait Kind {
     // What is reserved of the kind.
     ghost reserved_of: { PinPairs → List Reserved };
 
-    // The number of the kind among an owner's two.
-    ghost number_of: { ℕ → ℕ → ℕ };
-
     /// Which kind it is.
     fn which() -> Which
         ensures { result ≡ kind };
@@ -71,10 +68,6 @@ pub trait Kind {
     fn reserved<'p, 'a>(pins: &'p Pins<'a>) -> &'p [Reserved<'a>]
         ensures { result.now ≡ reserved_of pins.now };
 
-    /// The number of the kind among an owner's two.
-    fn pick(uid: u32, gid: u32) -> u32
-        ensures { result ≡ number_of uid gid };
-
     // On one lawful host names are distinct, numbers are distinct, and no number is above
     // 4294967294.
     ghost table: { (h : Host) → IsLawfulHost h
@@ -106,8 +99,6 @@ impl Kind for Users {
     ghost pinned = { λ p. p.users };
 
     ghost reserved_of = { λ p. p.reserved_users };
-
-    ghost number_of = { λ uid gid. uid };
 
     fn which() -> Which {
         Which::User
@@ -143,10 +134,6 @@ impl Kind for Users {
         pins.reserved_users()
     }
 
-    fn pick(uid: u32, _gid: u32) -> u32 {
-        uid
-    }
-
     ghost table = { λ h lawful. user_rows-table h.users lawful.users };
 
     ghost apart = { λ h lawful. lawful.ranges.uids_apart };
@@ -167,8 +154,6 @@ impl Kind for Groups {
     ghost pinned = { λ p. p.groups };
 
     ghost reserved_of = { λ p. p.reserved_groups };
-
-    ghost number_of = { λ uid gid. gid };
 
     fn which() -> Which {
         Which::Group
@@ -202,10 +187,6 @@ impl Kind for Groups {
 
     fn reserved<'p, 'a>(pins: &'p Pins<'a>) -> &'p [Reserved<'a>] {
         pins.reserved_groups()
-    }
-
-    fn pick(_uid: u32, gid: u32) -> u32 {
-        gid
     }
 
     ghost table = { λ h lawful. group_rows-table h.groups lawful.groups };

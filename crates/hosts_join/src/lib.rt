@@ -103,7 +103,17 @@ pub enum Class {
 
 impl Class {
     ghost use Rattle.std.specs.Prelude.{◌≡◌};
-    ghost use Rattle.hosts_join.specs.Rules.{same_class};
+    ghost use Rattle.hosts_join.specs.Rules.{same_class, is_free_class};
+
+    /// Whether a name of the class is free, and so not pinned. One look at the class.
+    pub fn is_free(self) -> bool
+        ensures { result ≡ is_free_class self }
+    {
+        match self {
+            Class::Pinned(_) => false,
+            Class::Regular | Class::System => true,
+        }
+    }
 
     fn is_same(self, other: Class) -> bool
         ensures { result ≡ same_class self other }

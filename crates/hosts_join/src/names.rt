@@ -1,8 +1,7 @@
 //! The names of one kind over all hosts.
 ghost use Rattle.std.specs.Prelude.{◌≡◌, ℕ, List, ◌<◌, ◌≤◌, ◌&&◌, ◌||◌, ◌==◌, not, map, length};
 ghost use Rattle.std.specs.Prelude.{◌^◌, OnOk, IfOk, IfErr, IfSome, Some, None, count_by};
-ghost use Rattle.std.specs.List.{All, list_all, find};
-ghost use Rattle.std.specs.Option.{option_map};
+ghost use Rattle.std.specs.List.{All, list_all};
 ghost use Rattle.idtext.specs.First.{Gives};
 ghost use Rattle.idtext.specs.Names.{is_lawful_name};
 ghost use Rattle.hosts_join.specs.Pool.{run_size};
@@ -364,26 +363,8 @@ impl<'a> Names<'a> {
         self.classes[index as usize]
     }
 
-    /// The number of the name at an index on a host, or none where the host does not have it. A
-    /// scan of its spots.
-    pub fn at(&self, index: u32, host: u32) -> Option<u32>
-        requires { index < length self.now.names }
-        ensures { result ≡ number_on (account self.now index) host }
-    {
-        number_among(self.index.spots(index as usize), host)
-    }
-
-    /// The index of the name that has a number on a host. One look-up by hash.
-    pub fn owner(&self, host: u32, number: u32) -> Option<u32>
-        ensures owner { result ≡ owner self.now.names host number }
-        ensures tied { IfSome result (λ i. number_on (account self.now i) host ≡ Some number) }
-        ensures within { IfSome result (λ i. i < length self.now.names) }
-    {
-        self.index.owners.get(host, number)
-    }
-
-    /// The same, for a number that most likely is that of the host's row at this place, counted
-    /// from 0. No cost where it is, else one look-up by hash.
+    /// The index of the name that has a number on a host, which most likely is that of the host's
+    /// row at this place, counted from 0. No cost where it is, else one look-up by hash.
     pub fn owner_of_row(&self, host: u32, number: u32, row: usize) -> Option<u32>
         ensures owner { result ≡ owner self.now.names host number }
         ensures tied { IfSome result (λ i. number_on (account self.now i) host ≡ Some number) }
@@ -449,16 +430,6 @@ impl<'a> Names<'a> {
         ensures { result ≡ lines (account self.now index) number }
     {
         lines_among(self.index.spots(index as usize), number)
-    }
-}
-
-/// The number on a host among spots.
-fn number_among(spots: &[Spot], host: u32) -> Option<u32>
-    ensures { result ≡ option_map (λ s. s.number) (find (λ s. s.host == host) spots.now) }
-{
-    match spots.iter().find(|spot| spot.host == host) {
-        Some(spot) => Some(spot.number),
-        None => None,
     }
 }
 

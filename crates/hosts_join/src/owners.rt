@@ -38,14 +38,8 @@ impl Owners {
         Ok(())
     }
 
-    /// The place of the name that has a number on a host.
-    pub(crate) fn get(&self, host: u32, number: u32) -> Option<u32>
-        ensures { result ≡ owner_in self.now host number }
-    {
-        self.hosts.get(host as usize)?.get(number)
-    }
-
-    /// The same, for a number that most likely is that of the host's row at this place.
+    /// The place of the name that has a number on a host, which most likely is that of the host's
+    /// row at this place.
     pub(crate) fn get_near(&self, host: u32, number: u32, row: usize) -> Option<u32>
         ensures { result ≡ owner_in self.now host number }
     {

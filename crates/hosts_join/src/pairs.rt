@@ -45,8 +45,8 @@ impl<'a> PairTable<'a> {
     }
 
     /// Adds a name with its number, and answers whether the name is new. A name that is there keeps
-    /// its number. One look-up by hash, and one entry. `AllocError` where a growth was refused; the
-    /// names then stay.
+    /// its number. Two look-ups by hash and one entry for a new name, else one look-up.
+    /// `AllocError` where a growth was refused; the names then stay.
     pub fn add(&mut self, name: &'a [u8], number: u32) -> Result<bool, AllocError>
         ensures err { OnErr result (self.new ≡ self.old) }
         ensures new { IfOk result (λ new. new ≡ not (is_some (number_of self.old name.now))) }

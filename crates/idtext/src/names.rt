@@ -42,8 +42,9 @@ fn is_blank(line: &[u8]) -> bool
     line.iter().all(|byte| is_white(*byte))
 }
 
-/// Whether a line of passwd, group, a map or a pins text says nothing: it is empty or only white
-/// space, or begins with `#`. One pass over the line, up to the first byte that is not white space.
+/// Whether a line of passwd, group, a map, a pins text or a keep text says nothing: it is empty or
+/// only white space, or begins with `#`. One pass over the line, up to the first byte that is not
+/// white space.
 pub fn is_skipped(line: &[u8]) -> bool
     ensures { result ≡ says_nothing line.now }
 {

@@ -135,7 +135,7 @@ fn note_host<'h, 'a>(
 }
 
 /// What is known of the rows of each user, over all hosts. For each row one look-up by hash for its
-/// group, where that is not the group of the row before, and 24 bytes a user.
+/// group, where that is not the group of the row before, and 32 bytes a user.
 pub fn all_seen<'h, 'a>(
     alloc: Global,
     hosts: &'h [Host<'a>],

@@ -200,7 +200,7 @@ fn push_all_groups<'a>(
 ///
 /// Time in step with the account rows, with one look-up by hash for each group row, one for each
 /// user row whose group is not that of the row before, and two more for each row of a user that is
-/// not the same on all hosts. Memory for the list, 24 bytes a user, and the rows of one name at a
+/// not the same on all hosts. Memory for the list, 32 bytes a user, and the rows of one name at a
 /// time. Names and hosts are slices of the input.
 ///
 /// # Errors

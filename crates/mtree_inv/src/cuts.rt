@@ -15,7 +15,7 @@ use std::marker::Model;
 // How many places there are at least.
 const FEWEST_PLACES: usize = 272;
 
-// Whether more than half of the places may be taken.
+// Whether there are hardly any places, or at most two for each cut that the tree does not have.
 fn is_crowded(cuts: usize, places: usize) -> bool
     ensures { result ≡ false → most_probes < places }
 {
@@ -29,8 +29,10 @@ fn places_for(cuts: usize) -> usize
     cuts.saturating_mul(4).saturating_add(FEWEST_PLACES)
 }
 
-// Sees to it that few enough places are taken for one cut more. What the tree has takes no place,
-// so that cuts of one hash make no table grow. Some stand in both, since the table has grown.
+// Sees to it that few enough places are taken for one cut more. What the tree has is not counted,
+// so that cuts of one hash make no table grow. Some of it stands in places too, since the table has
+// grown: at most all cuts that there were then, for each of which it has four places. So up to half
+// of the places may be taken by cuts that are counted, and up to three quarters by all.
 fn make_room(
     rows: &Rows,
     places: &mut Vec<Place>,

@@ -4,34 +4,28 @@
 //! project has a profile of its own:
 //!
 //! - A line that ends in a backslash is joined with the next, before anything else is looked at. A
-//!   joined line has at most
-//!   65,535 bytes. A text that ends while a line waits to be joined is refused (`CutContinuation`).
+//!   joined line has at most 65,535 bytes. A text that ends while a line waits to be joined is
+//!   refused (`CutContinuation`).
 //! - Commands other than `/set` and `/unset` are refused. `/unset` looks at keys alone, with or
-//!   without a value, and
-//!   `/unset all` takes away all defaults.
+//!   without a value, and `/unset all` takes away all defaults.
 //! - Of several keywords with one key on a line the last counts. `uid`, `gid` and `type` matter,
-//!   the others are read over. The
-//! `uid` and the `gid` that count on an entry or a `/set` line must be ids, decimal numbers up to
-//! 4294967294; one that does
-//!   not count is not looked at.
+//!   the others are read over. The `uid` and the `gid` that count on an entry or a `/set` line must
+//!   be ids, decimal numbers up to 4294967294; one that does not count is not looked at.
 //! - An entry with a `/` that belongs to no escape is a path from the starting directory and never
-//!   opens a directory. Another
-//! entry is a name in the directory that was opened last and is still open, and opens one where its
-//! `type`, its own or by
-//!   `/set`, is `dir`. A line `..` closes that directory; its keywords are ignored.
+//!   opens a directory. Another entry is a name in the directory that was opened last and is still
+//!   open, and opens one where its `type`, its own or by `/set`, is `dir`. A line `..` closes that
+//!   directory; its keywords are ignored.
 //! - A path is split at each `/` that belongs to no escape; components that are empty or `.`
-//!   vanish, and `..`, a `/` and a NUL
-//!   byte are in none. Where no component is left the path is `.`. It has at most 65,535 bytes.
+//!   vanish, and `..`, a `/` and a NUL byte are in none. Where no component is left the path is
+//!   `.`. It has at most 65,535 bytes.
 //! - Escapes are those of [`idtext::first_character`], those of vis(3) among them; a word with a
 //!   bad one names no file.
 //! - A path that comes twice with one owner is one file; with two owners it is a fault.
 //! - A comment that begins with `# unify inventory ` begins an inventory that tells its end: a
-//!   comment `# end ` with the number,
-//! decimal, of the entries between the two, behind which no entry stands. Where that is not so
-//! before the next that begins, or
-//! before the text ends, the text is refused (`CutInventory`). A text may have several, one behind
-//! the other. A `# end ` where
-//!   none was begun says nothing.
+//!   comment `# end ` with the number, decimal, of the entries between the two, behind which no
+//!   entry stands. Where that is not so before the next that begins, or before the text ends, the
+//!   text is refused (`CutInventory`). A text may have several, one behind the other. A `# end `
+//!   where none was begun says nothing.
 #![tactic(auto)]
 
 mod begun;

@@ -13,7 +13,9 @@ use std::marker::Model;
 /// directory's path and a number for each open directory, a count of files where the text is to
 /// tell one, and not the text. Of the paths it keeps what many begin with once, and at most 256
 /// bytes more of each, with some 50 for its owner and its place, so its memory is in step with the
-/// text that came, whoever named the files. Only a file that waits to be taken has its whole path.
+/// text that came, whoever named the files. A path that stands in the search tree of which `feed`
+/// tells takes up to some 350 bytes more, as its key has these 256 bytes once more; whoever names
+/// the files may choose many such paths. Only a file that waits to be taken has its whole path.
 #[derive(Drop)]
 pub struct Reader {
     parts: Parts,
@@ -64,12 +66,14 @@ impl Reader {
         }
     }
 
-    /// Is as a new reader then, for the next text, but keeps memory: so a reader of many texts asks
-    /// for it once, and its table of paths need not grow again for each. What it keeps of a text
-    /// with more than 1,048,576 files it gives back.
+    /// Is as a new reader then, for the next text, but keeps memory: that of its table of paths,
+    /// and that of the list of files that wait to be taken. So a reader of many texts asks for it
+    /// once, and neither need grow again for each. It gives back what many paths begin with and
+    /// what stood in search trees, and of a text with more than 1,048,576 files the whole table of
+    /// paths.
     ///
     /// Constant time for each place that the table has, at most some four for each file of the
-    /// longest text that was kept.
+    /// longest text that was kept, for each path in a search tree, and for each file that waits.
     pub fn restart(&mut self, most: u32)
         ensures stands { StandsFor self.new [] }
         ensures most { self.new.most ≡ most }
@@ -90,8 +94,10 @@ impl Reader {
     ///
     /// One pass over the piece and over the whole path of each entry. For each 256 bytes of a path
     /// there is one look-up by hash, which looks at 16 places at most. Only where these are taken,
-    /// as where somebody chose the paths so, it goes on in a search tree, with about one comparison
-    /// for each binary digit of the number of files: of digests, and hardly ever of the bytes.
+    /// as where somebody chose the paths so, it goes on in a search tree, of digests first, so that
+    /// bytes are hardly ever compared. A search tree compares the keys of a node one by one: up to
+    /// four comparisons for each binary digit of how many there are, and one and a half to two on
+    /// the average.
     pub fn feed(&mut self, piece: &[u8]) -> Result<(), ReadError>
         requires { self.old.is_finished ≡ false }
         ensures stands { (text : List ℕ) → StandsFor self.old text

@@ -1,4 +1,5 @@
 -- Sums over indices.
+-- Source: this project's own rule.
 use Rattle.std.specs.Prelude.{ℕ, zero, suc, ◌+◌}
 
 -- f 0 + f 1 + .. + f (n - 1)

@@ -45,8 +45,9 @@ impl HostSurvey {
     /// where the whole logical lines so far have a fault, with the first, and `ReadError::Memory`
     /// where memory was refused. After either the survey is of no use.
     ///
-    /// One pass over the piece, with two look-ups by hash for each file, a bisection for a number
-    /// that no account has, and one look-up more where the host does not spare it either.
+    /// What `mtree_inv::Reader::feed` takes, and for each file two look-ups by hash, a bisection
+    /// for a number that no account has, and one look-up more where the host does not spare it
+    /// either.
     pub fn piece(&mut self, host: &Host<'_>, bytes: &[u8]) -> Result<(), ReadError>
         requires { (most : ℕ) × (text : List ℕ) × StandsFor most host.now self.old text }
         ensures told { (most : ℕ) (text : List ℕ) → StandsFor most host.now self.old text

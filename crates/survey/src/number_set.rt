@@ -7,7 +7,9 @@ use indexmap::IndexSet;
 use std::alloc::{AllocError, Global};
 use std::marker::Model;
 
-/// Numbers, each once, in the order in which they were added.
+/// Numbers, each once, in the order in which they were added. They are found by hash, and the seed
+/// of the hash is fixed: of numbers that were chosen to collide, as whoever writes an inventory can
+/// choose them, each look-up goes through all that are there.
 pub struct NumberSet {
     numbers: IndexSet<u32>,
 }

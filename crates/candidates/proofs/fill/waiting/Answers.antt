@@ -2,7 +2,6 @@ use Rattle.std.proofs.Common.{◌≡◌, ◌+◌, ◌++◌, ◌∷◌, [], ℕ, 
 use Rattle.std.specs.Option.{is_none}
 use Rattle.std.proofs.lemmas.List.{take_all, take_more}
 use Rattle.candidates.specs.Settled.{AreWaiting}
-use Rattle.candidates.proofs.FillLemmas.{entries, entries-push}
 use Rattle.candidates.proofs.WaitingNames.{waiting_among, waits-more, waits-not, are-waiting}
 use Rattle.candidates.proofs.fill.waiting.Goals as goal
 use Rattle.candidates.proofs.fill.waiting.Goals.{in-Some, in-None+in_ok-push-in-None}
@@ -23,9 +22,8 @@ loop-index-preserved c =
     elim c.match-numbers-index.branch [
       | in-Some w ↦ rw w.waiting-is (c.loop-index.invariant ∙ sym (waits-not a numbers (take k order) item (ap is_none w.in-Some.is)) ∙ step)
       | in-None+in_ok-push-in-None w ↦
-          let pushed = ap entries (ap (λ v. v.items) w.waiting-is ∙ w.in_ok-push-in-None.ensures.items) ∙ entries-push c.loop-index.waiting.items (w.name.result, item) in
-          pushed ∙ ap (λ (ws : List (List ℕ × ℕ)). ws ++ (w.name.result.now, item) ∷ []) c.loop-index.invariant
-          ∙ ap (λ (n : List ℕ). waiting_among a numbers (take k order) ++ (n, item) ∷ []) w.name.ensures
+          ap (λ v. v.items) w.waiting-is ∙ w.in_ok-push-in-None.ensures.items
+          ∙ ap (λ (ws : List ℕ). ws ++ item ∷ []) c.loop-index.invariant
           ∙ sym (waits-more a numbers (take k order) item (ap is_none w.in-None.is)) ∙ step
     ]
 
