@@ -8,7 +8,8 @@ set-group-ID bit, hard links, and names with spaces, newlines and letters beyond
 is killed with SIGKILL after random times and started again until it ends; after each kill every file has to be at its old or its
 new owner. Then the same with --reverse, and what has to be refused, a name that is not UTF-8 too. With strace it is also killed
 between the change of an owner, which clears the set-user-ID and set-group-ID bit, and the call that sets the mode back, and these
-bits are counted, and its syncs on an ext4 with a journal and on one without. It is run where standard error is a terminal, too.
+bits are counted, and its syncs on an ext4 with a journal and on one without. It is run where standard error is a terminal, too,
+and, with mkfs.btrfs, where another subvolume of its btrfs is mounted below.
 Ends with status 1 where anything was otherwise.
 """
 import argparse
@@ -99,6 +100,8 @@ def make_tree(root, count):
             os.chmod(root / path, 0o2755)
         if name.startswith("e3"):
             os.chmod(root / path, 0o2775)
+        if name.startswith(("pipe", "socket")):
+            os.chmod(root / path, 0o6755)
     return owners
 
 
@@ -139,7 +142,9 @@ def seen(root, owners):
 
 
 def modes(root, owners):
-    return {path: stat.S_IMODE(os.lstat(root / path).st_mode) for path in owners}
+    """The modes of the planned files, of pipes and sockets without the bits that mean nothing there."""
+    found = {path: os.lstat(root / path).st_mode for path in owners}
+    return {path: stat.S_IMODE(mode) & (0o1777 if stat.S_ISFIFO(mode) or stat.S_ISSOCK(mode) else 0o7777) for path, mode in found.items()}
 
 
 def others(root):
@@ -325,6 +330,10 @@ class Bench:
         say(f"as another user: status {came.returncode}, {came.stderr.strip()}", came.returncode == 2 and "only root" in came.stderr)
         came = self.ran("--check")
         say(f"--check: status {came.returncode}, {came.stdout!r}", came.returncode == 0 and f"before {len(self.owners)}\n" in came.stdout)
+        with subprocess.Popen(["sleep", "60"], extra_groups=[ONE[1]]) as other:
+            came = subprocess.run([self.program, "apply", "--check", str(self.plan), str(self.root)], capture_output=True, text=True)
+            other.kill()
+        say(f"a process of another group: {came.stderr.splitlines()[:1]}", f"the first of them {other.pid} of 1\n" in came.stderr)
 
 
 def count_syncs(program, room, what, options, every):
@@ -350,6 +359,40 @@ def count_syncs(program, room, what, options, every):
         subprocess.run(["umount", root], check=True)
 
 
+def count_ways(program, room):
+    """A run where another subvolume of the same btrfs is mounted below, and what is refused where a folder is so once more."""
+    root, image = room / "tree", room / "image"
+    root.mkdir(parents=True)
+    with open(image, "wb") as made:
+        made.truncate(128 << 20)
+    subprocess.run(["mkfs.btrfs", "-q", image], check=True, capture_output=True)
+    device = subprocess.run(["losetup", "--find", "--show", image], check=True, capture_output=True, text=True).stdout.strip()
+    mounted = []
+
+    def mount(*words):
+        subprocess.run(["mount", *words], check=True)
+        mounted.append(words[-1])
+
+    try:
+        mount(device, root)
+        bench = Bench(program, room, make_tree(root, 200), "bench-host")
+        subprocess.run(["btrfs", "subvolume", "create", root / "other"], check=True, stdout=subprocess.DEVNULL)
+        for name in ("home", "again"):
+            (root / name).mkdir()
+        mount("-o", "subvol=other", device, root / "home")
+        mount("--bind", root / "d0", root / "again")
+        bench.refused("a folder of a btrfs below it once more", (), 2, "mounted below it once more")
+        mount("-t", "tmpfs", "none", root / "again")
+        came = bench.ran()
+        say(f"a subvolume below: status {came.returncode}, {came.stderr.strip()}", came.returncode == 0)
+        bench.at_end("then", "new")
+    finally:
+        os.chdir("/")
+        for path in reversed(mounted):
+            subprocess.run(["umount", path], check=True)
+        subprocess.run(["losetup", "--detach", device], check=True)
+
+
 def main():
     parser = argparse.ArgumentParser(description=__doc__, formatter_class=argparse.RawDescriptionHelpFormatter)
     parser.add_argument("--program", default=str(TOP / "crates/unify_cli/out/unify_cli"))
@@ -370,6 +413,8 @@ def main():
         print(f"{len(owners)} planned files")
         bench.refusals()
         bench.no_text()
+        if shutil.which("mkfs.btrfs"):
+            count_ways(bench.program, room / "ways")
         took = bench.seconds()
         bench.on_terminal()
         if shutil.which("strace"):

@@ -6,8 +6,8 @@ three and four bytes, in the five places of escapes.py, in a folder and as the n
 
 PROGRAM is what `make program` built, if none is named. A path is right if the plan of a merge has it, and os.walk too. Then it
 tells what `unify verify` finds of the inventory and the tree, what is said of names that are not UTF-8, and, as root, of a folder
-that the caller may not read, and what `-x` lists where another file system is mounted; with strace, what is opened; and lists /usr,
-which it times.
+that the caller may not read, and what `-x` lists and tells where another file system is mounted; with strace, what is opened; and
+lists /usr, which it times.
 """
 import os
 import pathlib
@@ -76,7 +76,7 @@ def list_as_other(program, tree):
 
 
 def list_mounted(program, tree):
-    """How many lines a file system that is mounted in the tree has with -x and without."""
+    """How many lines a file system that is mounted in the tree has with -x and without, and what is told."""
     folder = tree / "mounted"
     folder.mkdir()
     subprocess.run(["mount", "-t", "tmpfs", "none", folder], check=True)
@@ -84,7 +84,9 @@ def list_mounted(program, tree):
         (folder / "inside").write_bytes(b"")
         for flags in (["-x"], []):
             came = subprocess.run([program, "inventory", *flags, tree], capture_output=True)
-            print(f"a file system mounted below {' '.join(flags)}: its lines {sum(b'/mounted' in line for line in came.stdout.splitlines())}")
+            lines = sum(b"/mounted" in line for line in came.stdout.splitlines())
+            told = came.stderr.decode().strip().replace(str(tree).lstrip("/"), "TREE")
+            print(f"a file system mounted below {' '.join(flags)}: status {came.returncode}, its lines {lines}, told: {told or 'nothing'}")
     finally:
         subprocess.run(["umount", folder], check=True)
         folder.rmdir()

@@ -29,11 +29,15 @@ TEXTS = {
     "cut-keep": "users 0 999",
     "cut-map": (STORED / "map").read_text().rstrip("\n"),
     "near-pins": "user alcie 1006\nuser bobby 1007\ngroup user 7\ngroup usres 8\n",
+    "wide-pins": f"user {'x' * 65} 1006\nuser {'x' * 63} 1007\n",
     "other-pins": "group wheel 7\n\nuser bob 1005\nuser carol\tx 1006\n",
     # Pins of names of which a keep text keeps two, and of which two are names of the other kind.
     "keep-names": "user bob\ngroup users\n",
     "kept-pins": "user bob 1005\nuser users 1006\nuser alce 1007\ngroup users 7\ngroup bob 8\n",
     "keep-all": "user alice\nuser bob\ngroup users\n",
+    # Keep texts that keep nothing, since no host has their names.
+    "nobody-keep": "# none\nuser carol\tx\ngroup bob\nusers 5 7\n",
+    "many-keep": "".join(f"user carol{number}\n" for number in range(10, 22)),
 }
 NOTHING_COUNTED = "user-fields 0\ngroup-fields 0\n"
 NO_ACCOUNTS = "".join(f"unify: warning: host b has no {what}\n" for what in ("users", "groups"))
@@ -43,6 +47,9 @@ CUT = "unify: warning: file cut-pins has no newline at its end\n"
 CUT_KEEP = CUT.replace("pins", "keep")
 TAKEN = "unify: warning: numbers of users that were another user's on some host: 1\n"
 NOBODY = "unify: warning: pin of {} is for a name that no host has{}\n".format
+KEPT = "unify: warning: keep of {} is for a name that no host has\n".format
+SPACED = "".join(f"unify: warning: host a has lines in {file} that begin with white space\n" for file in ("passwd", "group"))
+MTREE_RETURNS = "unify: warning: host a has lines in mtree that end in a carriage return\n"
 STAYS = "unify: warning: pin of {} is for a name that stays as it is on each host, and gives it no number\n".format
 ALICE = "alice:x:1001:100:{}:/home/alice:/bin/sh\n".format
 MANY = range(10, 22)
@@ -55,6 +62,7 @@ DOUBTED = {
     "more": (ALICE("") + "".join(f"u{number}:x:{number}:100:two:/:/\n" for number in MANY), "users:x:100:\n"),
     "lists": (ALICE(""), "users:x:100:\n" + "".join(f"g{number}:x:{number}:\n" for number in MANY)),
     "listed": (ALICE(""), "users:x:100:\n" + "".join(f"g{number}:x:{number}:alice\n" for number in MANY)),
+    "wide": (ALICE("") + f"{'x' * 64}:x:1003:100::/:/bin/sh\n", "users:x:100:\n"),
     "long": (ALICE(""), "users:x:100:" + ",".join(f"u{number}" for number in MANY) + "\n"),
 }
 GETS = "unify: warning: group {} on host {} has {} and gets {}\n".format
@@ -83,12 +91,20 @@ TREE_LINES = (
 TREE_PATHS = ["tree", "tree/new\\012line", "tree/new\\012line/a\\040b\\134#\\303\\251\\134"]
 TREE_NEW = "".join(f"unify: new {path} user {{0}} {os.getuid()} group mine {os.getgid()}\n" for path in TREE_PATHS).format
 TREE_LEFT = "".join(f"unify: left {path} user me {os.getuid()}\n" for path in TREE_PATHS)
+# Where another file system is mounted on a folder of /dev, as on most machines, what `-x` tells of it there.
+APART = [
+    f"unify: other file system dev/{name}\n"
+    for name in ("pts", "shm")
+    if os.path.isdir(f"/dev/{name}") and os.lstat(f"/dev/{name}").st_dev != os.lstat("/dev").st_dev
+]
 LINKED_LINES = f"./linked type=dir {OWNED}\n./linked/to\\040nothing type=link {OWNED}\n"
 COMMENTS = "unify: warning: user {} has another comment on host {} than on {}\n".format
 # An inventory with three files, of which one stands on three lines; the second of these lines is joined of two.
 AGAIN = "# of alice\n./file uid=1001 gid=100\n/set uid=1001 gid=100\n\n  ./file \\\n  type=file\n. type=dir\nfile\n..\nother\n"
 # The same behind a comment, so long that the program gets the `..` in two pieces, which have 1,024 bytes each.
 PIECED = "#" + "x" * (1021 - AGAIN.index("..\n")) + "\n" + AGAIN
+# A file behind backslashes that join nothing with a comment and with a blank line.
+FOLDED = "\\\n# of alice\n\\\n\n./file uid=1001 gid=100\n"
 # The files of b in inventories that unify writes: whole, two one behind the other, cut behind a line, with a line lost, and cut
 # before another.
 HEAD = "# unify inventory 1 b 2026-01-02T03:04:05Z /\n"
@@ -158,7 +174,7 @@ TABLE = [
     ("check --help", 0, ("--pins", "--keep", "CERTIFICATE", "HOST"), ""),
     ("rehearse --help", 0, ("PLAN", "MTREE"), ""),
     ("inventory --help", 0, ("ROOT", "-x", "--one-file-system"), ""),
-    ("apply --help", 0, ("--check", "--reverse", "--mark", "--host", "--quiet", "--progress", "PLAN", "ROOT"), ""),
+    ("apply --help", 0, ("--check", "--reverse", "--mark", "--host", "--quiet", "no progress", "--progress", "PLAN", "ROOT"), ""),
     (
         "verify --help",
         0,
@@ -216,6 +232,7 @@ TABLE = [
     ("inventory tree", 0, MACHINE("tree") + TREE_LINES + "# end 3\n", ""),
     ("inventory -x linked/. ./tree//", 0, MACHINE("linked/. ./tree//") + LINKED_LINES + TREE_LINES + "# end 5\n", ""),
     ("inventory --one-file-system linked", 0, MACHINE("linked") + LINKED_LINES + "# end 2\n", ""),
+    *(("inventory -x /dev", 0, ("./dev type=dir ", "./dev/null type=char "), (told,)) for told in APART),
     (
         ["inventory", "linked/to nothing", "tree"],
         3,
@@ -317,6 +334,11 @@ TABLE = [
     # Warnings, which change nothing else.
     ("count map a=returns b", 0, COUNTED, RETURNS),
     ("count -q map a=returns b", 0, COUNTED, ""),
+    ("count map a=returns-mtree b", 0, COUNTED, MTREE_RETURNS),
+    ("count -q map a=returns-mtree b", 0, COUNTED, ""),
+    ("merge out a=returns-mtree b", 0, COUNTED, MTREE_RETURNS + TAKEN),
+    ("merge out a=spaced b", 0, COUNTED, SPACED + TAKEN),
+    ("merge -q out a=spaced b", 0, COUNTED, ""),
     ("count cut-map a b", 0, COUNTED, "unify: warning: file cut-map has no newline at its end\n"),
     ("count --keep cut-keep map a b", 0, COUNTED, CUT_KEEP),
     ("count -q --keep cut-keep map a b", 0, COUNTED, ""),
@@ -347,6 +369,12 @@ TABLE = [
         + NOBODY("group usres", "; there is users"),
     ),
     (
+        "merge --pins wide-pins out a=wide b=wide",
+        0,
+        NOTHING_COUNTED,
+        NOBODY("user " + "x" * 65, "") + NOBODY("user " + "x" * 63, "; there is " + "x" * 64),
+    ),
+    (
         "merge --pins kept-pins --keep keep-names out a b",
         0,
         "user-fields 3\ngroup-fields 0\n",
@@ -358,6 +386,16 @@ TABLE = [
     ),
     ("merge -q --pins kept-pins --keep keep-names out a b", 0, "user-fields 3\ngroup-fields 0\n", ""),
     ("merge --pins pins --keep keep-all out a b", 0, NOTHING_COUNTED, STAYS("user bob")),
+    ("merge --keep nobody-keep out a b", 0, COUNTED, KEPT("user carol\\011x") + KEPT("group bob") + TAKEN),
+    ("merge -q --keep nobody-keep out a b", 0, COUNTED, ""),
+    (
+        "merge --keep many-keep out a b",
+        0,
+        COUNTED,
+        "".join(KEPT(f"user carol{number}") for number in MANY[:10])
+        + "unify: warning: more keeps of names that no host has: 2\n"
+        + TAKEN,
+    ),
     (
         "merge out a=web b=db",
         0,
@@ -388,6 +426,7 @@ TABLE = [
     ),
     ("merge out a=again b=again", 0, NOTHING_COUNTED, "unify: warning: lines of inventories whose path stood there before: 4\n"),
     ("merge out a=pieced b=pieced", 0, NOTHING_COUNTED, "unify: warning: lines of inventories whose path stood there before: 4\n"),
+    ("merge out a=folded b=folded", 0, NOTHING_COUNTED, ""),
     ("merge -q out a=again b=again", 0, NOTHING_COUNTED, ""),
     ("check --pins cut-pins good a=returns b", 4, "", CUT + RETURNS + "unify: 32 PinBroken user bob\n"),
     ("check -q --pins cut-pins good a=returns b", 4, "", "unify: 32 PinBroken user bob\n"),
@@ -439,6 +478,7 @@ TABLE = [
     ("rehearse plan none", 3, "", "unify: file none: No such file or directory\n"),
     ("apply none b", 3, "", "unify: file none: No such file or directory\n"),
     ("apply --check plan none", 2, "", "unify: root none: not there, or behind a link\n"),
+    ("apply --check plan plan", 2, "", "unify: root plan: Not a directory\n"),
     # The order in which files are read: all of them but inventories before anything is judged.
     ("count none x y", 3, "", "unify: file none: No such file or directory\n"),
     ("count bad x y", 3, "", "unify: file x/passwd: No such file or directory\n"),
@@ -503,7 +543,7 @@ def lay_out(room):
     """Makes the files of the room."""
     shutil.copytree(STORED, room, dirs_exist_ok=True)
     shutil.copytree(STORED / "a", room, dirs_exist_ok=True)
-    for host in ("odd=name", "odd-defaults", "dangling", "returns", *LACKING):
+    for host in ("odd=name", "odd-defaults", "dangling", "returns", "returns-mtree", "spaced", *LACKING):
         shutil.copytree(STORED / "a", room / host)
     for host, file in LACKING.items():
         (room / host / file).unlink()
@@ -513,6 +553,11 @@ def lay_out(room):
     for file in ("passwd", "group"):
         text = (room / "returns" / file).read_bytes()
         (room / "returns" / file).write_bytes(text + b"# a line that is skipped\r\n")
+    with open(room / "returns-mtree/mtree", "ab") as mtree:
+        mtree.write(b"# a comment\r\n")
+    for file, line in {"passwd": " carol:x:1005:100::/:/bin/sh\n", "group": "\tstaff:x:50:\n"}.items():
+        with open(room / "spaced" / file, "a") as table:
+            table.write(line)
     for host, tables in DOUBTED.items():
         (room / host).mkdir()
         for file, text in zip(("passwd", "group", "mtree"), (*tables, "./file uid=1001 gid=100\n")):
@@ -522,6 +567,8 @@ def lay_out(room):
         (room / host / "mtree").write_text(mtree)
     shutil.copytree(room / "web", room / "again")
     (room / "again/mtree").write_text(AGAIN)
+    shutil.copytree(room / "web", room / "folded")
+    (room / "folded/mtree").write_text(FOLDED)
     shutil.copytree(room / "web", room / "pieced")
     (room / "pieced/mtree").write_text(PIECED)
     (room / TREE[1]).mkdir(parents=True)
