@@ -48,6 +48,11 @@ pub fn second(number: u8) -> u16
 {
     next(number) + 1
 }
+
+/// A law, which does nothing.
+pub fn same()
+    ensures { (number : ℕ) → number + 1 ≡ number + 1 }
+{}
 """
 # A function of a type that is declared elsewhere.
 APART = """ghost use Rattle.std.specs.Prelude.{◌≡◌, ◌+◌};
@@ -82,6 +87,12 @@ file: src/lib.rt
 old: ensures { result ≡ number + 1 }
 new: ensures { result ≡ number }
 """
+# One that a law has to refuse.
+UNLAWFUL = """in: src/lib.rt same
+file: src/lib.rt
+old: number + 1 ≡ number + 1
+new: number + 1 ≡ number + 2
+"""
 
 
 def main():
@@ -95,12 +106,13 @@ def main():
         for name, file, old, new, _ in EDITS:
             (crate / f"wrong-bodies/{name}.edit").write_text(f"file: src/{file}.rt\nold: {old}\nnew: {new}\n")
         (crate / "wrong-bodies/turned.edit").write_text(TURNED)
+        (crate / "wrong-bodies/unlawful.edit").write_text(UNLAWFUL)
         script = pathlib.Path(__file__).resolve().with_name("wrong_bodies.py")
         ran = subprocess.run([script], cwd=top, stdin=subprocess.DEVNULL, capture_output=True, text=True)
     told = ran.stdout.splitlines()
-    wanted = sorted([*(f"small/{name}: {what}" for name, *_, what in EDITS), "small/turned: refused, "])
+    wanted = sorted([*(f"small/{name}: {what}" for name, *_, what in EDITS), "small/turned: refused, ", "small/unlawful: refused, "])
     through = sorted(f"small/{name}" for name, *_, what in EDITS if not what.startswith("refused"))
-    ends = [f"not refused: {' '.join(through)}", "5 refused, 3 let through"]
+    ends = [f"not refused: {' '.join(through)}", "6 refused, 3 let through"]
     is_told = len(told) == len(wanted) + 2 and all(line.startswith(it) for line, it in zip(sorted(told[:-2]), wanted))
     if not is_told or told[-2:] != ends or ran.returncode != 1:
         sys.exit(f"wrong_bodies.py, tried on a small crate, ended with {ran.returncode}:\n{ran.stdout}{ran.stderr}")

@@ -149,7 +149,9 @@ def function_at(path, text, offset, home_of):
     for first in range(at, -1, -1):
         head = FUNCTION.match(lines[first])
         if head and (first == at or len(head[1]) < indent):
-            last = next((it for it in range(first, len(lines)) if lines[it] == head[1] + "}"), -1)
+            # The body of a function that does nothing is one line.
+            ends = head[1] + "}", head[1] + "{}"
+            last = next((it for it in range(first, len(lines)) if lines[it] in ends), -1)
             answers = answers_of(path, lines, first, home_of)
             # What is said of a whole function is told at the first of its attributes.
             while first > 0 and lines[first - 1].startswith(f"{head[1]}#["):
@@ -247,8 +249,9 @@ class Crate:
 
     def function_named(self, path, name):
         text = self.text_of(path)
-        if found := re.search(rf"\bfn {name}\b", text):
-            return function_at(path, text, found.start(), self.home_of)
+        found = re.search(rf"\bfn {name}\b", text)
+        if function := found and function_at(path, text, found.start(), self.home_of):
+            return function
         raise Unreadable(f"{path} has no function {name}")
 
     def round_of(self, edits):
@@ -322,12 +325,16 @@ class Crate:
         return is_proved
 
     def try_edits(self, given, _jobs):
-        """Tries all edits of the crate."""
+        """Tries all edits of the crate. Where the try fails (a full disk, say) none is told as refused, and the other crates go on."""
         if not given[self.name, "proof"]:
             return
-        with tempfile.TemporaryDirectory(prefix="wrong-bodies-") as kept:
-            for edit in self.tried_together(kept):
-                self.tried_alone(edit, kept)
+        unmade = list(self.told)
+        try:
+            with tempfile.TemporaryDirectory(prefix="wrong-bodies-") as kept:
+                for edit in self.tried_together(kept):
+                    self.tried_alone(edit, kept)
+        except Exception as error:
+            self.told = unmade + [(it.name, f"NOT TRIED: {type(error).__name__}: {error}") for it in self.edits]
         print("".join(f"{self.name}/{name}: {what}\n" for name, what in sorted(self.told)), end="", flush=True)
 
 
