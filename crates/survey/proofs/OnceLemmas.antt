@@ -58,9 +58,10 @@ each_once-push [] y = refl
 each_once-push (x ∷ xs) y = ap (λ (t : List ℕ). x ∷ others x t) (each_once-push xs y) ∙ push_step x y (each_once xs)
 
 -- a number that passes
-pub once_more : (test : ℕ → Bool) (old new before : List ℕ) (number : ℕ) → test number ≡ true → new ≡ (if has old number then old else old ++ number ∷ []) → old ≡ each_once (filter test before) → new ≡ each_once (filter test (before ++ number ∷ []))
-once_more test old new before number passes is was =
-    is ∙ ap (λ (ns : List ℕ). if has ns number then ns else ns ++ number ∷ []) was ∙ sym (each_once-push (filter test before) number)
+pub once_more : (test : ℕ → Bool) (before : List ℕ) (number : ℕ) → test number ≡ true
+    → (if has (each_once (filter test before)) number then each_once (filter test before) else each_once (filter test before) ++ number ∷ []) ≡ each_once (filter test (before ++ number ∷ []))
+once_more test before number passes =
+    sym (each_once-push (filter test before) number)
     ∙ ap each_once (ap (λ (b : Bool). filter test before ++ cond b (number ∷ []) []) (sym passes) ∙ sym (filter-append test before (number ∷ [])))
 
 -- ---- which they are

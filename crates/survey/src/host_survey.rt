@@ -46,8 +46,8 @@ impl HostSurvey {
     /// where memory was refused. After either the survey is of no use.
     ///
     /// What `mtree_inv::Reader::feed` takes, and for each file two look-ups by hash, a bisection
-    /// for a number that no account has, and one look-up more where the host does not spare it
-    /// either.
+    /// for a number that no account has, and where the host does not spare it either a look-up in
+    /// a tree of those that were found.
     pub fn piece(&mut self, host: &Host<'_>, bytes: &[u8]) -> Result<(), ReadError>
         requires { (most : ℕ) × (text : List ℕ) × StandsFor most host.now self.old text }
         ensures told { (most : ℕ) (text : List ℕ) → StandsFor most host.now self.old text

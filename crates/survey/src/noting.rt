@@ -5,7 +5,7 @@ ghost use Rattle.mtree_inv.specs.Standing as standing;
 ghost use Rattle.mtree_inv.specs.declared.entry.Entry.{Entry};
 ghost use Rattle.hosts_join.specs.declared.host.Host.{Host};
 ghost use Rattle.kept_accounts.specs.Reserving as reserving;
-ghost use Rattle.survey.specs.Surveying.{AreOf};
+ghost use Rattle.survey.specs.Surveying.{AreOf, HasNumbers};
 ghost use Rattle.survey.specs.Unowned as spec;
 
 use crate::number_set::NumberSet;
@@ -51,8 +51,8 @@ fn is_unowned_gid(host: &Host<'_>, gid: u32) -> bool
 // Adds a number, where it is unowned.
 fn add_if(numbers: &mut NumberSet, number: u32, is_unowned: bool) -> Result<(), AllocError>
     ensures { OnOk result ((test : ℕ → Bool) (others : List ℕ)
-        → is_unowned ≡ test number → numbers.old ≡ spec.each_once (filter test others)
-        → numbers.new ≡ spec.each_once (filter test (others ++ number ∷ []))) }
+        → is_unowned ≡ test number → HasNumbers (spec.each_once (filter test others)) numbers.old
+        → HasNumbers (spec.each_once (filter test (others ++ number ∷ []))) numbers.new) }
 {
     if is_unowned {
         numbers.add(number)?;
@@ -60,8 +60,8 @@ fn add_if(numbers: &mut NumberSet, number: u32, is_unowned: bool) -> Result<(), 
     Ok(())
 }
 
-// Adds those numbers of a file that are unowned. Two look-ups by hash, and one more for each number
-// that is.
+// Adds those numbers of a file that are unowned. Two look-ups by hash, and one in the tree of
+// those that were found for each number that is.
 fn note_file(noted: &mut NotedNumbers, host: &Host<'_>, file: &Entry) -> Result<(), AllocError>
     ensures { OnOk result ((files : List Entry) → AreOf host.now files noted.old
         → AreOf host.now (files ++ file.now ∷ []) noted.new) }
