@@ -24,7 +24,7 @@ pub words-end : (words : List (List ℕ)) → ends_in_backslash (words_text word
 words-end [] = refl
 words-end (w ∷ ws) = ends-either (32 ∷ escaped w) (words_text ws) (ends-either (32 ∷ []) (escaped w) refl (ends-escaped w)) (words-end ws)
 
-no_space : (word : List ℕ) → is_visible word ≡ true → All (λ b. (b == 32) ≡ false) word
+pub no_space : (word : List ℕ) → is_visible word ≡ true → All (λ b. (b == 32) ≡ false) word
 no_space [] h = All-nil (λ (b : ℕ). (b == 32) ≡ false)
 no_space (b ∷ word) h =
     let parts = and_parts (nat_le 33 b) (is_visible word) h in

@@ -3,3 +3,4 @@ pub mod Visible
 pub mod Entries
 pub mod Heads
 pub mod Texts
+pub mod TypeWords

@@ -2,3 +2,4 @@ pub mod Writing
 pub mod Heads
 pub mod Listed
 pub mod ReadBack
+pub mod KindsBack

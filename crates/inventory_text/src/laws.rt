@@ -1,5 +1,6 @@
 //! Laws over what this crate writes, by the definitions by which inventories are read. The
 //! functions do nothing: what they ensure is known wherever one is called.
+ghost use Rattle.inventory_text.specs.KindsBack.{KindsReadBack};
 ghost use Rattle.inventory_text.specs.ReadBack.{CutInventoriesAreRefused, EntriesReadBack};
 ghost use Rattle.inventory_text.specs.ReadBack.{HeadsReadBack, InventoriesReadBack};
 
@@ -13,6 +14,11 @@ pub fn heads_read_back()
 /// whatever lines stand before it.
 pub fn entries_read_back()
     ensures { EntriesReadBack }
+{}
+
+/// The line of a file tells its kind, whatever bytes its path has.
+pub fn kinds_read_back()
+    ensures { KindsReadBack }
 {}
 
 /// The inventory of files, as this crate writes it, is read as exactly these files in this order.

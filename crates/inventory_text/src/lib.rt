@@ -13,5 +13,6 @@ pub use head::push_head;
 pub use kind::FileKind;
 pub use laws::{
     cut_inventories_are_refused, entries_read_back, heads_read_back, inventories_read_back,
+    kinds_read_back,
 };
 pub use writing::{push_end, push_entry};
