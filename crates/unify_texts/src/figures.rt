@@ -1,13 +1,12 @@
 //! What a mapping of one kind keeps and changes.
 
 ghost use Rattle.std.specs.Prelude.{◌≡◌, List, length};
-ghost use Rattle.hosts_join.specs.Rules.{is_free_class};
 ghost use Rattle.ownership.specs.Counts.{AreMadeFor, AreWithin, CountFiles};
 ghost use Rattle.ownership.specs.Files.{File, owned_files};
 ghost use Rattle.unify_texts.specs.Figures.{figures_of, pinned_names as pinned_among};
 ghost use Rattle.unify_texts.specs.Staying.{told_names, told_files, told_rows};
 
-use hosts_join::{Class, Names};
+use hosts_join::Names;
 use ownership::{KindCounts, Mapping};
 
 /// The figures of one kind.
@@ -31,15 +30,6 @@ pub struct Figures {
     pub changed_rows: u64,
 }
 
-fn is_free(class: Class) -> bool
-    ensures { result ≡ is_free_class class }
-{
-    match class {
-        Class::Pinned(_) => false,
-        Class::Regular | Class::System => true,
-    }
-}
-
 // How many names are pinned.
 #[tactic(auto, using(crate::proofs::FigureLemmas::count_more, crate::proofs::FigureLemmas::count_start))]
 fn pinned_names(names: &Names<'_>) -> u32
@@ -47,7 +37,7 @@ fn pinned_names(names: &Names<'_>) -> u32
 {
     let mut pinned: u32 = 0;
     for index in 0..names.len() {
-        if !is_free(names.class(index)) {
+        if !names.class(index).is_free() {
             pinned += 1;
         }
     }
@@ -62,7 +52,7 @@ fn kept_names(names: &Names<'_>, mapping: &Mapping) -> u32
 {
     let mut kept: u32 = 0;
     for index in 0..names.len() {
-        if is_free(names.class(index)) && names.lines(index, mapping.number(index)) > 0 {
+        if names.class(index).is_free() && names.lines(index, mapping.number(index)) > 0 {
             kept += 1;
         }
     }
