@@ -35,6 +35,7 @@ use Rattle.unify.specs.Told.{in_site}
 use Rattle.unify.proofs.LeftHosts.{left}
 use Rattle.unify.proofs.Reading.{loaded-read, tables-of}
 use Rattle.unify.proofs.ReadSites.{AreLoaded, are-loaded, are-pinned, reserved-are}
+use Rattle.unify.proofs.Whole.{site_ok}
 use Rattle.unify_laws.specs.Headline.{Headline, IsNamedAsBefore, IsNewNumber, IsOldOrNamed}
 use Rattle.unify_laws.specs.HostTexts.{AreJoinedInFull, BegunSitesAreInFull, EmptyTextsKeepNoName, HostsKeepOwnFiles, IsJoinedInFull, IsJoinedPart, IsTextOf, KeepsOwnFiles, ReadSitesAreInFull, TablesAreOfTexts, own_passwd, own_group}
 use Rattle.unify_laws.proofs.InFull.{numbered_rows, own_group_in_full, own_passwd_in_full, primary_groups}
@@ -209,13 +210,15 @@ module _ (texts : List HostText) (rules : KeepRules) (others : Others) (from : A
 
 -- ---- a site, before its inventories are read
 
-record BegunSteps (texts : List HostText) (rules : SiteRules) (begun : BegunSite) : Type 0 where
-  others : Others
-  others_are : others_loaded texts rules.keep ≡ Ok others
-  joined_is : pinned_site others rules.pins ≡ Ok begun.joined
-  hosts : others.hosts ≡ begun.hosts
+pub record BegunSteps (texts : List HostText) (rules : SiteRules) (begun : BegunSite) : Type 0 where
+  pub listed : Unit {0}
+  pub listed_are : hosts_checked texts ≡ Ok listed
+  pub others : Others
+  pub others_are : others_loaded texts rules.keep ≡ Ok others
+  pub joined_is : pinned_site others rules.pins ≡ Ok begun.joined
+  pub hosts : others.hosts ≡ begun.hosts
 
-begun_steps : (texts : List HostText) (rules : SiteRules) (begun : BegunSite) → site_begun texts rules ≡ Ok begun → BegunSteps texts rules begun
+pub begun_steps : (texts : List HostText) (rules : SiteRules) (begun : BegunSite) → site_begun texts rules ≡ Ok begun → BegunSteps texts rules begun
 unfolding site_begun
 begun_steps texts rules begun is =
     let listed = bind_ok (in_site (hosts_checked texts)) _ begun is in
@@ -224,6 +227,8 @@ begun_steps texts rules begun is =
     let made : BegunSite = record { hosts = others.0.hosts; joined = joining.0 } in
     subst (BegunSteps texts rules) (ok_same made begun joining.2)
     (record {
+      listed = listed.0;
+      listed_are = site_ok (hosts_checked texts) listed.0 listed.1;
       others = others.0;
       others_are = others.1;
       joined_is = joining.1;

@@ -20,3 +20,5 @@ pub mod KeptPart
 pub mod NoneKept
 pub mod SurveyedFiles
 pub mod HostTexts
+pub mod RowBytes
+pub mod Tellable

@@ -7,3 +7,4 @@ pub mod TwoPasses
 pub mod HostTexts
 pub mod Texts
 pub mod Agreeing
+pub mod Reserved

@@ -11,6 +11,7 @@ ghost use Rattle.unify_laws.specs.TwoPasses.{SecondReadingIsRight};
 ghost use Rattle.unify_laws.specs.HostTexts.{BegunSitesAreInFull, EmptyTextsKeepNoName};
 ghost use Rattle.unify_laws.specs.HostTexts.{HostsKeepOwnFiles, ReadSitesAreInFull};
 ghost use Rattle.unify_laws.specs.HostTexts.{TablesAreOfTexts};
+ghost use Rattle.unify_laws.specs.Reserved.{ReservedNumbersAreTellable};
 ghost use Rattle.unify_laws.specs.Agreeing.{PrintedCertificatesAreAccepted, PrintedMapsAreCounted};
 ghost use Rattle.unify_laws.specs.Agreeing.{NoMapRewritesFewer, PrintedPlansAreRehearsed};
 
@@ -123,6 +124,14 @@ pub fn hosts_keep_own_files()
 /// file of a host is refused for one, by the rules that have these.
 pub fn surveyed_files_are_allowed()
     ensures { SurveyedFilesAreAllowed }
+{}
+
+/// What is reserved of a site that is accepted is such that the lines of the report tell it: what
+/// `unify_texts::reserved_lines_read_back` asks holds of each merge. Where the keep text says so,
+/// the numbers without an account are those that a survey finds, in whichever inventories. Asked is
+/// that the texts of passwd and group are of bytes, as all are that come from a file.
+pub fn reserved_numbers_are_tellable()
+    ensures { ReservedNumbersAreTellable }
 {}
 
 /// The cost of a map by its pairs and each host's own tables, which `count` answers, is that of its
