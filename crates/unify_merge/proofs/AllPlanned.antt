@@ -7,7 +7,6 @@ use Rattle.idtext.specs.First.{each}
 use Rattle.mtree_inv.specs.declared.entry.Entry.{Entry}
 use Rattle.hosts_join.specs.declared.host.Host.{Host}
 use Rattle.hosts_join.specs.declared.texts.HostText.{HostText}
-use Rattle.unify_texts.specs.Told.{told}
 use Rattle.unify.specs.Count.{site_of}
 use Rattle.unify.specs.Loading.{loaded_from}
 use Rattle.unify.specs.SecondPass.{HaveSameCounts, IsFresh, IsOfSameSite, SolvedValue, ended_in, first_in, whole_plan}
@@ -16,8 +15,7 @@ use Rattle.unify_merge.specs.Ledger.{Ledger}
 use Rattle.unify_merge.specs.FirstReading.{readings_from}
 use Rattle.unify_merge.specs.SecondReading.{ArePlanned, IsChangeFault, IsTurnOf, PlannedSoFar, StopsPlanning, StopsSecond, WereRead}
 use Rattle.unify_merge.specs.declared.fault.MergeFault.{MergeFault}
-use Rattle.unify_merge.specs.declared.fault.MergeFault.TheVariants.{Failed, TooLarge, Refused}
-use Rattle.unify_merge.proofs.Stops.{if_told}
+use Rattle.unify_merge.proofs.Stops.{stops_map}
 
 mapped_at : {A B : Type 0} (f : A → B) (xs : List A) (k : ℕ) (x : A) → slice_get xs k ≡ Some x → slice_get (map f xs) k ≡ Some (f x)
 mapped_at f [] k x at = absurd (cc)
@@ -55,9 +53,7 @@ turn_of s now read index host were site ended was at fresh = record {
 -- the reading of one inventory ended early, and so did that of all
 pub planning_stopped : (names : List HostText) (s : SolvedValue) (read : List (Host × List Entry)) (index : ℕ) (host : Host) (were : List Entry) (old mid new : Ledger) (failed : Bool) (fault : MergeFault) → PlannedSoFar names s read index old mid
     → WereRead s read → slice_get read index ≡ Some (host, were) → StopsSecond host were index mid.read new failed fault → StopsPlanning read old new failed fault
-planning_stopped names s read index host were old mid new failed Failed so_far was at stops = stops
-planning_stopped names s read index host were old mid new failed TooLarge so_far was at stops = stops
-planning_stopped names s read index host were old mid new failed (Refused e) so_far was at stops = if_told (told e) _ _ (λ f is. record {
+planning_stopped names s read index host were old mid new failed fault so_far was at stops = stops_map _ _ new failed fault (λ f is. record {
   texts = so_far.site.texts;
   again = so_far.site.again;
   accepted = subst (λ (hs : List Host). each site_of (loaded_from hs so_far.site.texts) ≡ Ok so_far.site.again) (sym was.hosts) so_far.site.accepted;

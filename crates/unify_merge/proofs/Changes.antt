@@ -1,5 +1,5 @@
 -- Why a second reading of an inventory ended early.
-use Rattle.std.proofs.Common.{◌≡◌, ◌+◌, ℕ, Bool, List, length, Result, Ok, Err, ap, subst, inl, inr}
+use Rattle.std.proofs.Common.{◌≡◌, ℕ, Bool, List, Result, Ok, Err, ap, subst, inl, inr}
 use Rattle.std.specs.Prelude.{IfSome}
 use Rattle.mtree_inv.specs.declared.entry.Entry.{Entry}
 use Rattle.hosts_join.specs.declared.host.Host.{Host}
@@ -14,7 +14,7 @@ use Rattle.unify_merge.specs.FirstReading.{HasRead, IsReading}
 use Rattle.unify_merge.specs.SecondReading.{StopsEnd, StopsPiece, StopsSecond}
 use Rattle.unify_merge.specs.declared.fault.MergeFault.{MergeFault}
 use Rattle.unify_merge.specs.declared.fault.MergeFault.TheVariants.{Failed, TooLarge, Refused}
-use Rattle.unify_merge.proofs.Stops.{if_told, is_too_large}
+use Rattle.unify_merge.proofs.Stops.{if_told}
 
 -- any fault is told as a change
 is_change : (host : Host) (r : Result (List Entry) Fault) (f : Fault) → is_read (or_changed host r) ≡ Err f → f ≡ InventoryChanged host.name
@@ -26,14 +26,7 @@ is_change host (Err e) f h =
 pub piece_stopped : (host : Host) (text : List ℕ) (failed : Bool) (e : Fault) → IfSome (told e) (λ f. is_read (second_lines host text) ≡ Err f) → StopsPiece host text failed (Refused e)
 piece_stopped host text failed e fault = if_told (told e) _ _ (λ f is. (is_change host (owned_lines host text) f is, f, is)) fault
 
--- a piece did not come
-pub second_ended : (host : Host) (were : List Entry) (index left : ℕ) (text bytes : List ℕ) (before : List Reading) (old new : Ledger) (failed : Bool) (fault : MergeFault) → left + length text ≡ 4294967295
-    → EndsEarly (record { host = index; text = text }) bytes left old new failed fault → StopsSecond host were index before new failed fault
-second_ended host were index left text bytes before old new failed Failed may early = early.0
-second_ended host were index left text bytes before old new failed TooLarge may early = is_too_large index left text bytes new may (ap (λ (l : Ledger). l.reading) early.0) early.1
-second_ended host were index left text bytes before old new failed (Refused e) may early = absurd early
-
--- and no reading came to its end
+-- where a piece did not come, no reading came to its end
 pub early_read : (r : Reading) (bytes : List ℕ) (left : ℕ) (old new : Ledger) (failed : Bool) (fault : MergeFault) → EndsEarly r bytes left old new failed fault → new.read ≡ old.read
 early_read r bytes left old new failed Failed early = ap (λ (l : Ledger). l.read) early.1
 early_read r bytes left old new failed TooLarge early = ap (λ (l : Ledger). l.read) early.0

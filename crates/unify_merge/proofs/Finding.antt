@@ -5,7 +5,6 @@ use Rattle.mtree_inv.specs.declared.entry.Entry.{Entry}
 use Rattle.hosts_join.specs.declared.host.Host.{Host}
 use Rattle.hosts_join.specs.declared.texts.HostText.{HostText}
 use Rattle.kept_accounts.specs.Reserving.{UnownedNumbers, no_numbers}
-use Rattle.unify_texts.specs.Told.{told}
 use Rattle.unify.specs.Others.{keep_read}
 use Rattle.unify.specs.Survey.{surveyed_hosts, unowned_over}
 use Rattle.unify_merge.specs.FirstReading.{ReadsOnly}
@@ -13,8 +12,7 @@ use Rattle.unify_merge.specs.Ledger.{Ledger}
 use Rattle.unify_merge.specs.Survey.{HasSurveyed, StopsSurvey}
 use Rattle.unify_merge.specs.Surveyed.{StopsFinding, WereFound}
 use Rattle.unify_merge.specs.declared.fault.MergeFault.{MergeFault}
-use Rattle.unify_merge.specs.declared.fault.MergeFault.TheVariants.{Failed, TooLarge, Refused}
-use Rattle.unify_merge.proofs.Stops.{if_told}
+use Rattle.unify_merge.proofs.Stops.{stops_map}
 
 -- ---- the survey
 
@@ -31,6 +29,4 @@ module _ (hosts : List HostText) (keep : List ℕ) (surveying : List Host) (are 
   }
 
   pub finding_stopped : (failed : Bool) (fault : MergeFault) → StopsSurvey surveying old new failed fault → StopsFinding hosts keep old new failed fault
-  finding_stopped failed Failed stops = stops
-  finding_stopped failed TooLarge stops = stops
-  finding_stopped failed (Refused e) stops = if_told (told e) _ _ (λ f refused. inr (surveying, are, refused)) stops
+  finding_stopped failed fault = stops_map _ _ new failed fault (λ f refused. inr (surveying, are, refused))

@@ -5,14 +5,12 @@ use Rattle.std.specs.List.{slice_get}
 use Rattle.idtext.specs.First.{each}
 use Rattle.mtree_inv.specs.declared.entry.Entry.{Entry}
 use Rattle.hosts_join.specs.declared.host.Host.{Host}
-use Rattle.unify_texts.specs.Told.{told}
 use Rattle.unify.specs.Count.{site_of}
 use Rattle.unify.specs.Loading.{loaded_from}
 use Rattle.unify_merge.specs.Ledger.{Ledger, Reading}
 use Rattle.unify_merge.specs.FirstReading.{IsFirstFault, ReadsOnly, StopsCounting, StopsFirst, readings_from}
 use Rattle.unify_merge.specs.declared.fault.MergeFault.{MergeFault}
-use Rattle.unify_merge.specs.declared.fault.MergeFault.TheVariants.{Failed, TooLarge, Refused}
-use Rattle.unify_merge.proofs.Stops.{if_told}
+use Rattle.unify_merge.proofs.Stops.{stops_map}
 
 -- what follows from a success, or from each error
 pub on_ok : {T E : Type 0} (r : Result T E) (P Q : Type 0) → (P → Q) → OnOk r P → OnOk r Q
@@ -46,9 +44,7 @@ first_same host i j before other l failed fault same equal stops =
 -- the reading of one inventory ended early, and so did that of all
 pub counting_stopped : (hosts : List Host) (texts : List (List ℕ)) (read : List (Host × List Entry)) (host : Host) (old mid new : Ledger) (failed : Bool) (fault : MergeFault) → each site_of (loaded_from hosts texts) ≡ Ok read
     → slice_get hosts (length texts) ≡ Some host → mid.read ≡ old.read ++ readings_from 0 texts → StopsFirst host (length texts) mid.read new failed fault → StopsCounting hosts old new failed fault
-counting_stopped hosts texts read host old mid new failed Failed accepted here readings stops = stops
-counting_stopped hosts texts read host old mid new failed TooLarge accepted here readings stops = stops
-counting_stopped hosts texts read host old mid new failed (Refused e) accepted here readings stops = if_told (told e) _ _ (λ f is. record {
+counting_stopped hosts texts read host old mid new failed fault accepted here readings stops = stops_map _ _ new failed fault (λ f is. record {
   texts = texts;
   read = read;
   accepted = accepted;

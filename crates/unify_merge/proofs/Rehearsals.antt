@@ -1,5 +1,5 @@
 -- Why a rehearsal ended early.
-use Rattle.std.proofs.Common.{◌≡◌, ◌+◌, ℕ, Bool, List, length, Ok, IfSome, ap, inl, inr}
+use Rattle.std.proofs.Common.{ℕ, Bool, List, Ok, IfSome, inl, inr}
 use Rattle.reown_plan.specs.PlanData.{PlanData}
 use Rattle.reown_plan.specs.Reading.{ReadsAs}
 use Rattle.unify_texts.specs.Told.{told}
@@ -7,18 +7,10 @@ use Rattle.unify_texts.specs.declared.fault.Fault.{Fault}
 use Rattle.unify.specs.PlanRehearsal.{IsRefusedBy}
 use Rattle.unify_merge.specs.FirstReading.{IsReading}
 use Rattle.unify_merge.specs.Ledger.{Ledger, Reading}
-use Rattle.unify_merge.specs.Pieces.{EndsEarly}
 use Rattle.unify_merge.specs.Rehearse.{StopsCarrying, StopsRehearsal}
 use Rattle.unify_merge.specs.declared.fault.MergeFault.{MergeFault}
-use Rattle.unify_merge.specs.declared.fault.MergeFault.TheVariants.{Failed, TooLarge, Refused}
-use Rattle.unify_merge.proofs.Stops.{if_told, is_too_large}
-
--- a piece did not come
-pub carrying_ended : (plan : PlanData) (left : ℕ) (text bytes : List ℕ) (before : List Reading) (old new : Ledger) (failed : Bool) (fault : MergeFault) → left + length text ≡ 4294967295
-    → EndsEarly (record { host = 0; text = text }) bytes left old new failed fault → StopsCarrying plan before new failed fault
-carrying_ended plan left text bytes before old new failed Failed may early = early.0
-carrying_ended plan left text bytes before old new failed TooLarge may early = is_too_large 0 left text bytes new may (ap (λ (l : Ledger). l.reading) early.0) early.1
-carrying_ended plan left text bytes before old new failed (Refused e) may early = absurd early
+use Rattle.unify_merge.specs.declared.fault.MergeFault.TheVariants.{Refused}
+use Rattle.unify_merge.proofs.Stops.{if_told, stops_map}
 
 -- what came is refused
 pub piece_refused : (plan : PlanData) (text : List ℕ) (before : List Reading) (l : Ledger) (failed : Bool) (e : Fault) → IsReading before 0 text l → IfSome (told e) (IsRefusedBy plan text) → StopsCarrying plan before l failed (Refused e)
@@ -26,6 +18,4 @@ piece_refused plan text before l failed e reading fault = if_told (told e) _ _ (
 
 -- with the text of the plan
 pub rehearsal_stopped : (text : List ℕ) (plan : PlanData) (old new : Ledger) (failed : Bool) (fault : MergeFault) → ReadsAs text (Ok plan) → StopsCarrying plan old.read new failed fault → StopsRehearsal text old new failed fault
-rehearsal_stopped text plan old new failed Failed reads stops = stops
-rehearsal_stopped text plan old new failed TooLarge reads stops = stops
-rehearsal_stopped text plan old new failed (Refused e) reads stops = if_told (told e) _ _ (λ f is. inr (plan, reads, is)) stops
+rehearsal_stopped text plan old new failed fault reads = stops_map _ _ new failed fault (λ f is. inr (plan, reads, is))

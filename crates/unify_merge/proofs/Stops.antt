@@ -8,7 +8,7 @@ use Rattle.unify.specs.Hosts.{files_of}
 use Rattle.unify.specs.Passes.{is_read, lines_of}
 use Rattle.unify_merge.specs.Ledger.{Ledger, Reading}
 use Rattle.unify_merge.specs.Pieces.{EndsEarly}
-use Rattle.unify_merge.specs.FirstReading.{HasRead, IsReading, IsTooLarge, StopsFirst}
+use Rattle.unify_merge.specs.FirstReading.{HasRead, IsReading, IsTooLarge, StopsFirst, StopsFor}
 use Rattle.unify_merge.specs.declared.fault.MergeFault.{MergeFault}
 use Rattle.unify_merge.specs.declared.fault.MergeFault.TheVariants.{Failed, TooLarge, Refused}
 
@@ -18,15 +18,21 @@ if_told None P Q goes p = tt
 if_told (Some f) P Q goes p = goes f p
 
 -- more bytes than there may be
-pub is_too_large : (host left : ℕ) (text bytes : List ℕ) (l : Ledger) → left + length text ≡ 4294967295 → l.reading ≡ Some (record { host = host; text = text ++ bytes }) → left < length bytes → IsTooLarge l
+is_too_large : (host left : ℕ) (text bytes : List ℕ) (l : Ledger) → left + length text ≡ 4294967295 → l.reading ≡ Some (record { host = host; text = text ++ bytes }) → left < length bytes → IsTooLarge l
 is_too_large host left text bytes l may reading over = (host, text ++ bytes, reading, omega (arith, may, over, length-append text bytes))
 
+-- a fault of one kind is one of another
+pub stops_map : (P Q : Fault → Type 0) (l : Ledger) (failed : Bool) (fault : MergeFault) → ((f : Fault) → P f → Q f) → StopsFor P l failed fault → StopsFor Q l failed fault
+stops_map P Q l failed Failed goes stops = stops
+stops_map P Q l failed TooLarge goes stops = stops
+stops_map P Q l failed (Refused e) goes stops = if_told (told e) P Q goes stops
+
 -- a piece did not come
-pub first_ended : (host : Host) (index left : ℕ) (text bytes : List ℕ) (before : List Reading) (old new : Ledger) (failed : Bool) (fault : MergeFault) → left + length text ≡ 4294967295
-    → EndsEarly (record { host = index; text = text }) bytes left old new failed fault → StopsFirst host index before new failed fault
-first_ended host index left text bytes before old new failed Failed may early = early.0
-first_ended host index left text bytes before old new failed TooLarge may early = is_too_large index left text bytes new may (ap (λ (l : Ledger). l.reading) early.0) early.1
-first_ended host index left text bytes before old new failed (Refused e) may early = absurd early
+pub piece_ended : (IsFault : Fault → Type 0) (host left : ℕ) (text bytes : List ℕ) (old new : Ledger) (failed : Bool) (fault : MergeFault) → left + length text ≡ 4294967295
+    → EndsEarly (record { host = host; text = text }) bytes left old new failed fault → StopsFor IsFault new failed fault
+piece_ended IsFault host left text bytes old new failed Failed may early = early.0
+piece_ended IsFault host left text bytes old new failed TooLarge may early = is_too_large host left text bytes new may (ap (λ (l : Ledger). l.reading) early.0) early.1
+piece_ended IsFault host left text bytes old new failed (Refused e) may early = absurd early
 
 -- its lines have a fault
 pub first_lines : (host : Host) (index : ℕ) (text : List ℕ) (before : List Reading) (l : Ledger) (failed : Bool) (e : Fault) → IsReading before index text l → IfSome (told e) (λ f. is_read (lines_of host text) ≡ Err f) → StopsFirst host index before l failed (Refused e)

@@ -16,22 +16,14 @@ use Rattle.unify.specs.Passes.{is_read, lines_of}
 use Rattle.unify.proofs.Passing.{each_push, loaded_push}
 use Rattle.unify_merge.specs.FirstReading.{HasRead, IsReading}
 use Rattle.unify_merge.specs.Ledger.{Ledger, Reading}
-use Rattle.unify_merge.specs.Pieces.{EndsEarly}
 use Rattle.unify_merge.specs.FirstReading.{readings_from}
 use Rattle.unify_merge.specs.Survey.{IsReadFault, StopsReading, StopsSurvey}
 use Rattle.unify.specs.Survey.{inventory_of, listed_of, unowned_over}
 use Rattle.unify_merge.specs.declared.fault.MergeFault.{MergeFault}
-use Rattle.unify_merge.specs.declared.fault.MergeFault.TheVariants.{Failed, TooLarge, Refused}
-use Rattle.unify_merge.proofs.Stops.{if_told, is_too_large}
+use Rattle.unify_merge.specs.declared.fault.MergeFault.TheVariants.{Refused}
+use Rattle.unify_merge.proofs.Stops.{if_told, stops_map}
 
 -- ---- one inventory
-
--- a piece did not come
-pub read_ended : (host : Host) (index left : ℕ) (text bytes : List ℕ) (before : List Reading) (old new : Ledger) (failed : Bool) (fault : MergeFault) → left + length text ≡ 4294967295
-    → EndsEarly (record { host = index; text = text }) bytes left old new failed fault → StopsReading host index before new failed fault
-read_ended host index left text bytes before old new failed Failed may early = early.0
-read_ended host index left text bytes before old new failed TooLarge may early = is_too_large index left text bytes new may (ap (λ (l : Ledger). l.reading) early.0) early.1
-read_ended host index left text bytes before old new failed (Refused e) may early = absurd early
 
 -- its lines have a fault
 pub lines_refused : (host : Host) (index : ℕ) (text : List ℕ) (before : List Reading) (l : Ledger) (failed : Bool) (e : Fault) → IsReading before index text l → IfSome (told e) (λ f. is_read (lines_of host text) ≡ Err f) → StopsReading host index before l failed (Refused e)
@@ -46,11 +38,9 @@ whole_refused host index text before l failed e read fault = if_told (told e) _ 
 -- the reading of one ended early, and so did the survey
 pub survey_stopped : (hosts : List Host) (texts : List (List ℕ)) (listed : List (Host × List Entry)) (host : Host) (index : ℕ) (old mid new : Ledger) (failed : Bool) (fault : MergeFault) → each listed_of (loaded_from hosts texts) ≡ Ok listed
     → length texts ≡ index → index < length hosts → host ≡ get_or hosts index host → mid.read ≡ old.read ++ readings_from 0 texts → StopsReading host index mid.read new failed fault → StopsSurvey hosts old new failed fault
-survey_stopped hosts texts listed host index old mid new failed Failed are at within is readings stops = stops
-survey_stopped hosts texts listed host index old mid new failed TooLarge are at within is readings stops = stops
-survey_stopped hosts texts listed host index old mid new failed (Refused e) are at within is readings stops =
+survey_stopped hosts texts listed host index old mid new failed fault are at within is readings stops =
     let here : slice_get hosts index ≡ Some host = slice_get-get_or hosts index host within ∙ ap (λ (h : Host). Some h) (sym is) in
-    if_told (told e) _ _ (λ f refused. record {
+    stops_map _ _ new failed fault (λ f refused. record {
       texts = texts;
       listed = listed;
       are_listed = are;

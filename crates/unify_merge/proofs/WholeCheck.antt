@@ -20,18 +20,16 @@ use Rattle.unify_merge.specs.Check.{HasChecked, StopsCheck}
 use Rattle.unify_merge.specs.FirstReading.{IsInventoryFault, StopsCounting, WereEachRead, readings_from, with_inventories}
 use Rattle.unify_merge.specs.Ledger.{Ledger}
 use Rattle.unify_merge.specs.declared.fault.MergeFault.{MergeFault}
-use Rattle.unify_merge.specs.declared.fault.MergeFault.TheVariants.{Failed, TooLarge, Refused}
+use Rattle.unify_merge.specs.declared.fault.MergeFault.TheVariants.{Refused}
 use Rattle.unify_merge.proofs.Verified.{answer_of_site, cost_means}
 use Rattle.unify_merge.proofs.Inventories.{read-with}
-use Rattle.unify_merge.proofs.Stops.{if_told}
+use Rattle.unify_merge.proofs.Stops.{if_told, stops_map}
 
 -- the reading of the inventories ended early, and so did the check
 pub check_counted_stopped : (texts : List HostText) (rules : SiteRules) (certificate : List ℕ) (begun : BegunSite) (hosts : List Host) (old new : Ledger) (failed : Bool) (fault : MergeFault) → site_begun texts rules ≡ Ok begun → hosts ≡ begun.hosts
     → StopsCounting hosts old new failed fault → StopsCheck texts rules certificate old new failed fault
-check_counted_stopped texts rules certificate begun hosts old new failed Failed is same stops = stops
-check_counted_stopped texts rules certificate begun hosts old new failed TooLarge is same stops = stops
-check_counted_stopped texts rules certificate begun hosts old new failed (Refused e) is same stops =
-    if_told (told e) _ _ (λ f fault. inr (inl (begun, is, subst (λ (hs : List Host). IsInventoryFault hs old new f) same fault))) stops
+check_counted_stopped texts rules certificate begun hosts old new failed fault is same stops =
+    stops_map _ _ new failed fault (λ f found. inr (inl (begun, is, subst (λ (hs : List Host). IsInventoryFault hs old new f) same found))) stops
 
 -- The inventories of hosts were read as these texts.
 pub record IsReadSite (hosts : List HostText) (rules : SiteRules) (old new : Ledger) (joined : Joined) (texts : List (List ℕ)) (read : List (Host × List Entry)) : Type 0 where

@@ -3,7 +3,6 @@ use Rattle.std.proofs.Common.{◌≡◌, ◌++◌, ℕ, Bool, List, length, Ok, 
 use Rattle.idtext.specs.First.{each}
 use Rattle.hosts_join.specs.declared.host.Host.{Host}
 use Rattle.hosts_join.specs.declared.texts.HostText.{HostText}
-use Rattle.unify_texts.specs.Told.{told}
 use Rattle.unify_texts.specs.declared.map_text.MapText.{MapText}
 use Rattle.unify.specs.declared.rules.KeepRules.{KeepRules}
 use Rattle.unify.specs.declared.counting.Cost.{Cost}
@@ -16,17 +15,14 @@ use Rattle.unify_merge.specs.Count.{HasCounted, StopsCount}
 use Rattle.unify_merge.specs.FirstReading.{IsInventoryFault, StopsCounting, readings_from, with_inventories}
 use Rattle.unify_merge.specs.Ledger.{Ledger}
 use Rattle.unify_merge.specs.declared.fault.MergeFault.{MergeFault}
-use Rattle.unify_merge.specs.declared.fault.MergeFault.TheVariants.{Failed, TooLarge, Refused}
 use Rattle.unify_merge.proofs.Inventories.{cost_begun-with, mtrees-with}
-use Rattle.unify_merge.proofs.Stops.{if_told}
+use Rattle.unify_merge.proofs.Stops.{stops_map}
 
 -- the reading of the inventories ended early, and so did the count
 pub count_stopped : (texts : List HostText) (keep : KeepRules) (map_text : List ℕ) (begun : BegunCost) (hosts : List Host) (old new : Ledger) (failed : Bool) (fault : MergeFault) → cost_begun texts keep map_text ≡ Ok begun → hosts ≡ begun.hosts
     → StopsCounting hosts old new failed fault → StopsCount texts keep map_text old new failed fault
-count_stopped texts keep map_text begun hosts old new failed Failed is same stops = stops
-count_stopped texts keep map_text begun hosts old new failed TooLarge is same stops = stops
-count_stopped texts keep map_text begun hosts old new failed (Refused e) is same stops =
-    if_told (told e) _ _ (λ f fault. inr (begun, is, subst (λ (hs : List Host). IsInventoryFault hs old new f) same fault)) stops
+count_stopped texts keep map_text begun hosts old new failed fault is same stops =
+    stops_map _ _ new failed fault (λ f found. inr (begun, is, subst (λ (hs : List Host). IsInventoryFault hs old new f) same found)) stops
 
 -- the inventories were read, and this is the cost
 pub has_counted : (hosts : List HostText) (keep : KeepRules) (map_text : List ℕ) (begun : BegunCost) (over : InventoriesValue) (names : MapText) (old new : Ledger) (texts : List (List ℕ)) (cost : Cost) → over ≡ behind begun.hosts texts → cost_begun hosts keep map_text ≡ Ok begun → names ≡ begun.names

@@ -10,7 +10,6 @@ use Rattle.hosts_join.specs.Site.{Joined}
 use Rattle.hosts_join.specs.declared.host.Host.{Host}
 use Rattle.hosts_join.specs.declared.texts.HostText.{HostText}
 use Rattle.ownership.specs.Mappings.{Mappings}
-use Rattle.unify_texts.specs.Told.{told}
 use Rattle.unify_texts.specs.declared.fault.Fault.{Fault}
 use Rattle.unify.specs.declared.counting.Cost.{Cost}
 use Rattle.unify.specs.declared.outcome.Outcome.{Outcome}
@@ -39,13 +38,11 @@ use Rattle.unify_merge.specs.declared.fault.MergeFault.{MergeFault}
 use Rattle.unify_merge.specs.declared.fault.MergeFault.TheVariants.{Failed, TooLarge, Refused}
 use Rattle.unify_merge.proofs.OwnFiles.{same_mappings}
 use Rattle.unify_merge.proofs.Planned.{files_more}
-use Rattle.unify_merge.proofs.Stops.{if_told}
+use Rattle.unify_merge.proofs.Stops.{stops_map}
 
 -- the same readings before
 pub planning_same : (read : List (Host × List Entry)) (old other new : Ledger) (failed : Bool) (fault : MergeFault) → other.read ≡ old.read → StopsPlanning read other new failed fault → StopsPlanning read old new failed fault
-planning_same read old other new failed Failed same stops = stops
-planning_same read old other new failed TooLarge same stops = stops
-planning_same read old other new failed (Refused e) same stops = if_told (told e) _ _ (λ f is. record {
+planning_same read old other new failed fault same stops = stops_map _ _ new failed fault (λ f is. record {
   texts = is.texts;
   again = is.again;
   accepted = is.accepted;
@@ -86,17 +83,14 @@ if_ok (Err e) P Q goes p = tt
 -- the first reading ended early, and so did the merge
 pub counted_stopped : (texts : List HostText) (rules : SiteRules) (begun : BegunSite) (hosts : List Host) (old new : Ledger) (failed : Bool) (fault : MergeFault) → site_begun texts rules ≡ Ok begun → hosts ≡ begun.hosts → ReadsOnly old new
     → StopsCounting hosts old new failed fault → StopsMerge texts rules old new failed fault
-counted_stopped texts rules begun hosts old new failed Failed is same reads stops = stops
-counted_stopped texts rules begun hosts old new failed TooLarge is same reads stops = stops
-counted_stopped texts rules begun hosts old new failed (Refused e) is same reads stops = if_told (told e) _ _ (λ f fault. inr (inl (begun, is, subst (λ (hs : List Host). IsInventoryFault hs old new f) same fault, reads))) stops
+counted_stopped texts rules begun hosts old new failed fault is same reads stops =
+    stops_map _ _ new failed fault (λ f found. inr (inl (begun, is, subst (λ (hs : List Host). IsInventoryFault hs old new f) same found, reads))) stops
 
 -- the second did, and so did the merge
 pub written_stopped : (texts : List HostText) (rules : SiteRules) (old mid new : Ledger) (s : SolvedValue) (failed : Bool) (fault : MergeFault) (h : HasSolved texts rules old mid s) → StopsPlanning h.were mid new failed fault → StopsMerge texts rules old new failed fault
-written_stopped texts rules old mid new s failed Failed h stops = stops
-written_stopped texts rules old mid new s failed TooLarge h stops = stops
-written_stopped texts rules old mid new s failed (Refused e) h stops =
-    let from = planning_same h.were (record old { read = old.read ++ readings_from 0 h.first }) mid new failed (Refused e) h.readings stops in
-    if_told (told e) _ _ (λ f is. inr (inr (record { begun = h.begun; begun_is = h.begun_is; first = h.first; were = h.were; first_read = h.first_read; change = is }))) from
+written_stopped texts rules old mid new s failed fault h stops =
+    let from = planning_same h.were (record old { read = old.read ++ readings_from 0 h.first }) mid new failed fault h.readings stops in
+    stops_map _ _ new failed fault (λ f is. inr (inr (record { begun = h.begun; begun_is = h.begun_is; first = h.first; were = h.were; first_read = h.first_read; change = is }))) from
 
 -- the first pass is over, and the second is at its start
 pub has_solved : (texts : List HostText) (rules : SiteRules) (begun : BegunSite) (over : InventoriesValue) (site : Joined) (s : SolvedValue) (old new : Ledger) (first : List (List ℕ)) (read : List (Host × List Entry)) → over ≡ behind begun.hosts first → read_in over ≡ Ok read → site_begun texts rules ≡ Ok begun

@@ -1,17 +1,15 @@
 -- What a check of a certificate does, from the bytes that it reads to its answer.
 -- Source: this project's own rule.
-use Rattle.std.specs.Prelude.{◌≡◌, ℕ, ◌⊎◌, Bool, true, List, Ok, Err, IfSome}
+use Rattle.std.specs.Prelude.{◌≡◌, ℕ, ◌⊎◌, Bool, List, Ok, Err}
 use Rattle.hosts_join.specs.declared.texts.HostText.{HostText}
-use Rattle.unify_texts.specs.Told.{told}
 use Rattle.unify_texts.specs.declared.fault.Fault.{Fault}
 use Rattle.unify.specs.declared.rules.SiteRules.{SiteRules}
 use Rattle.unify.specs.Checking.{IsVerified, verified}
 use Rattle.unify.specs.Passes.{BegunSite, site_begun}
 use Rattle.unify_merge.specs.Ledger.{Ledger}
-use Rattle.unify_merge.specs.FirstReading.{IsInventoryFault, IsTooLarge, WereEachRead}
+use Rattle.unify_merge.specs.FirstReading.{IsInventoryFault, StopsFor, WereEachRead}
 use Rattle.unify_merge.specs.FirstReading.{with_inventories}
 use Rattle.unify_merge.specs.declared.fault.MergeFault.{MergeFault}
-use Rattle.unify_merge.specs.declared.fault.MergeFault.TheVariants.{Failed, TooLarge, Refused}
 
 -- The inventory of each host was read once. With these this is the cost that a check answers, and
 -- it means what a yes does.
@@ -32,11 +30,8 @@ IsCheckFault hosts rules certificate old new f =
     ⊎ ((texts : List (List ℕ)) × WereEachRead hosts texts old new
     × (verified (with_inventories hosts texts) rules certificate ≡ Err f)))
 
--- why a check ended early: a call failed, an inventory is too large, or what was read is refused;
--- or memory was wanting
+-- why a check ended early
 abbrev pub StopsCheck : List HostText → SiteRules → List ℕ → Ledger → Ledger → Bool → MergeFault
     → Type 0
-StopsCheck hosts rules certificate old new failed Failed = failed ≡ true
-StopsCheck hosts rules certificate old new failed TooLarge = IsTooLarge new
-StopsCheck hosts rules certificate old new failed (Refused e) =
-    IfSome (told e) (IsCheckFault hosts rules certificate old new)
+StopsCheck hosts rules certificate old new =
+    StopsFor (IsCheckFault hosts rules certificate old new) new

@@ -1,18 +1,16 @@
 -- What a count of a map does, from the bytes that it reads to its answer.
 -- Source: this project's own rule.
-use Rattle.std.specs.Prelude.{◌≡◌, ℕ, ◌⊎◌, Bool, true, List, Ok, Err, IfSome}
+use Rattle.std.specs.Prelude.{◌≡◌, ℕ, ◌⊎◌, Bool, List, Ok, Err}
 use Rattle.hosts_join.specs.declared.texts.HostText.{HostText}
-use Rattle.unify_texts.specs.Told.{told}
 use Rattle.unify_texts.specs.declared.fault.Fault.{Fault}
 use Rattle.unify.specs.declared.counting.Cost.{Cost}
 use Rattle.unify.specs.declared.rules.KeepRules.{KeepRules}
 use Rattle.unify.specs.Costing.{BegunCost, cost_begun}
 use Rattle.unify.specs.Count.{count_of}
 use Rattle.unify_merge.specs.Ledger.{Ledger}
-use Rattle.unify_merge.specs.FirstReading.{IsInventoryFault, IsTooLarge, WereEachRead}
+use Rattle.unify_merge.specs.FirstReading.{IsInventoryFault, StopsFor, WereEachRead}
 use Rattle.unify_merge.specs.FirstReading.{with_inventories}
 use Rattle.unify_merge.specs.declared.fault.MergeFault.{MergeFault}
-use Rattle.unify_merge.specs.declared.fault.MergeFault.TheVariants.{Failed, TooLarge, Refused}
 
 -- The inventory of each host was read once. With these this is the cost that a count answers.
 pub record HasCounted (hosts : List HostText) (keep : KeepRules) (map_text : List ℕ)
@@ -28,11 +26,7 @@ IsCountFault hosts keep map_text old new f =
     ⊎ ((begun : BegunCost) × (cost_begun hosts keep map_text ≡ Ok begun)
     × IsInventoryFault begun.hosts old new f)
 
--- why a count ended early: a call failed, an inventory is too large, or what was read is refused;
--- or memory was wanting
+-- why a count ended early
 abbrev pub StopsCount : List HostText → KeepRules → List ℕ → Ledger → Ledger → Bool → MergeFault
     → Type 0
-StopsCount hosts keep map_text old new failed Failed = failed ≡ true
-StopsCount hosts keep map_text old new failed TooLarge = IsTooLarge new
-StopsCount hosts keep map_text old new failed (Refused e) =
-    IfSome (told e) (IsCountFault hosts keep map_text old new)
+StopsCount hosts keep map_text old new = StopsFor (IsCountFault hosts keep map_text old new) new

@@ -39,6 +39,13 @@ IsTooLarge l =
     (host : ℕ) × (text : List ℕ) × (l.reading ≡ Some (record { host = host; text = text }))
     × (4294967295 < length text)
 
+-- Why a command ended early: a call failed; the inventory that is read is too large; or what was
+-- read has one of these faults, or memory was wanting.
+abbrev pub StopsFor : (Fault → Type 0) → Ledger → Bool → MergeFault → Type 0
+StopsFor IsFault l failed Failed = failed ≡ true
+StopsFor IsFault l failed TooLarge = IsTooLarge l
+StopsFor IsFault l failed (Refused e) = IfSome (told e) IsFault
+
 -- nothing was written in between
 abbrev pub ReadsOnly : Ledger → Ledger → Type 0
 ReadsOnly old new = new ≡ record old { read = new.read; reading = new.reading }
@@ -54,13 +61,9 @@ IsFirstFault host index before l f = (text : List ℕ)
     ⊎ (HasRead before index text l
     × (is_read (files_of (record { host = host; mtree = text })) ≡ Err f)))
 
--- why it ended early: a call failed, the inventory is too large, or it has a fault; or memory was
--- wanting
+-- why it ended early
 abbrev pub StopsFirst : Host → ℕ → List Reading → Ledger → Bool → MergeFault → Type 0
-StopsFirst host index before l failed Failed = failed ≡ true
-StopsFirst host index before l failed TooLarge = IsTooLarge l
-StopsFirst host index before l failed (Refused e) =
-    IfSome (told e) (IsFirstFault host index before l)
+StopsFirst host index before l = StopsFor (IsFirstFault host index before l) l
 
 -- ---- those of all inventories
 
@@ -76,9 +79,7 @@ pub record IsInventoryFault (hosts : List Host) (old new : Ledger) (f : Fault) :
 
 -- why they ended early
 abbrev pub StopsCounting : List Host → Ledger → Ledger → Bool → MergeFault → Type 0
-StopsCounting hosts old new failed Failed = failed ≡ true
-StopsCounting hosts old new failed TooLarge = IsTooLarge new
-StopsCounting hosts old new failed (Refused e) = IfSome (told e) (IsInventoryFault hosts old new)
+StopsCounting hosts old new = StopsFor (IsInventoryFault hosts old new) new
 
 -- ---- inventories that were read
 

@@ -1,14 +1,13 @@
 -- What a merge does, from the bytes that it reads to the bytes of each file.
 -- Source: this project's own rule.
-use Rattle.std.specs.Prelude.{◌≡◌, ◌<◌, ◌≤◌, ◌+◌, ℕ, ◌⊎◌, Bool, true, false, List, [], ◌∷◌, ◌++◌}
-use Rattle.std.specs.Prelude.{length, map, drop, if◌then◌else◌, codes, Result, Ok, Err, IfSome}
+use Rattle.std.specs.Prelude.{◌≡◌, ◌<◌, ◌≤◌, ◌+◌, ℕ, ◌⊎◌, Bool, false, List, [], ◌∷◌, ◌++◌}
+use Rattle.std.specs.Prelude.{length, map, drop, if◌then◌else◌, codes, Ok, Err}
 use Rattle.idtext.specs.First.{each}
 use Rattle.mtree_inv.specs.declared.entry.Entry.{Entry}
 use Rattle.hosts_join.specs.declared.host.Host.{Host}
 use Rattle.hosts_join.specs.declared.texts.HostText.{HostText}
 use Rattle.ownership.specs.Mappings.{Mappings}
 use Rattle.unify_texts.specs.ReservedLines.{keeps_a_name}
-use Rattle.unify_texts.specs.Told.{told}
 use Rattle.unify_texts.specs.declared.fault.Fault.{Fault}
 use Rattle.unify.specs.declared.counting.Cost.{Cost}
 use Rattle.unify.specs.declared.outcome.Outcome.{Outcome}
@@ -25,11 +24,10 @@ use Rattle.unify_laws.specs.Headline.{Headline}
 use Rattle.unify_laws.specs.HostTexts.{AreJoinedInFull, EachKeepsOwnFiles, host_files}
 use Rattle.unify_laws.specs.TwoPasses.{AreReadAgain}
 use Rattle.unify_merge.specs.Ledger.{BrokeOff, Ledger, after_files, cleared}
-use Rattle.unify_merge.specs.FirstReading.{IsInventoryFault, IsTooLarge, ReadsOnly, readings_from}
+use Rattle.unify_merge.specs.FirstReading.{IsInventoryFault, ReadsOnly, StopsFor, readings_from}
 use Rattle.unify_merge.specs.SecondReading.{ArePlannedFirst, IsPlannedAgain, IsSiteChange}
 use Rattle.unify_merge.specs.SecondReading.{HasReadOneAtMost, WereRead, plan_files, plans_from}
 use Rattle.unify_merge.specs.declared.fault.MergeFault.{MergeFault}
-use Rattle.unify_merge.specs.declared.fault.MergeFault.TheVariants.{Failed, TooLarge, Refused}
 
 -- ---- the files of a merge
 
@@ -159,13 +157,9 @@ IsMergeFault texts rules old new f =
     × IsInventoryFault begun.hosts old new f × ReadsOnly old new)
     ⊎ IsSecondFault texts rules old new f)
 
--- why a merge ended early: a call failed, an inventory is too large, or what was read is refused;
--- or memory was wanting
+-- why a merge ended early
 abbrev pub StopsMerge : List HostText → SiteRules → Ledger → Ledger → Bool → MergeFault → Type 0
-StopsMerge texts rules old new failed Failed = failed ≡ true
-StopsMerge texts rules old new failed TooLarge = IsTooLarge new
-StopsMerge texts rules old new failed (Refused e) =
-    IfSome (told e) (IsMergeFault texts rules old new)
+StopsMerge texts rules old new = StopsFor (IsMergeFault texts rules old new) new
 
 -- ---- what an early end leaves
 

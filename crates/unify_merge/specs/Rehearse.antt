@@ -1,18 +1,16 @@
 -- What a rehearsal of a plan does, from the bytes that it reads to its answer. Of the files it
 -- reads the first inventory.
 -- Source: this project's own rule.
-use Rattle.std.specs.Prelude.{◌≡◌, ℕ, ◌⊎◌, Bool, true, List, Ok, Err, IfSome}
+use Rattle.std.specs.Prelude.{◌≡◌, ℕ, ◌⊎◌, Bool, List, Ok, Err}
 use Rattle.reown_plan.specs.PlanData.{PlanData}
 use Rattle.reown_plan.specs.Reading.{ReadsAs}
-use Rattle.unify_texts.specs.Told.{told}
 use Rattle.unify_texts.specs.declared.fault.Fault.{Fault}
 use Rattle.unify_texts.specs.declared.fault.Fault.TheVariants.{BadPlan}
 use Rattle.unify.specs.PlanRehearsal.{IsRefusedBy}
 use Rattle.unify.specs.Rehearsing.{rehearsed}
-use Rattle.unify_merge.specs.FirstReading.{HasRead, IsReading, IsTooLarge}
+use Rattle.unify_merge.specs.FirstReading.{HasRead, IsReading, StopsFor}
 use Rattle.unify_merge.specs.Ledger.{Ledger, Reading}
 use Rattle.unify_merge.specs.declared.fault.MergeFault.{MergeFault}
-use Rattle.unify_merge.specs.declared.fault.MergeFault.TheVariants.{Failed, TooLarge, Refused}
 
 -- ---- the inventory
 
@@ -27,12 +25,9 @@ IsCarryingFault plan before l f = (text : List ℕ)
     × ((IsReading before 0 text l × IsRefusedBy plan text f)
     ⊎ (HasRead before 0 text l × (rehearsed (Ok plan) text ≡ Err f)))
 
--- why it ended early: a call failed, the inventory is too large, or what was read is refused; or
--- memory was wanting
+-- why it ended early
 abbrev pub StopsCarrying : PlanData → List Reading → Ledger → Bool → MergeFault → Type 0
-StopsCarrying plan before l failed Failed = failed ≡ true
-StopsCarrying plan before l failed TooLarge = IsTooLarge l
-StopsCarrying plan before l failed (Refused e) = IfSome (told e) (IsCarryingFault plan before l)
+StopsCarrying plan before l = StopsFor (IsCarryingFault plan before l) l
 
 -- ---- with the text of the plan
 
@@ -47,6 +42,4 @@ IsRehearsalFault text old new f =
     ⊎ ((plan : PlanData) × ReadsAs text (Ok plan) × IsCarryingFault plan old.read new f)
 
 abbrev pub StopsRehearsal : List ℕ → Ledger → Ledger → Bool → MergeFault → Type 0
-StopsRehearsal text old new failed Failed = failed ≡ true
-StopsRehearsal text old new failed TooLarge = IsTooLarge new
-StopsRehearsal text old new failed (Refused e) = IfSome (told e) (IsRehearsalFault text old new)
+StopsRehearsal text old new = StopsFor (IsRehearsalFault text old new) new

@@ -17,7 +17,7 @@ use Rattle.unify.specs.SecondPass.{first_in, second_files, second_lines, whole_p
 use Rattle.unify.specs.declared.site_files.NamedText.{NamedText}
 use Rattle.unify_laws.specs.TwoPasses.{AreReadAgain, AreWholePlans}
 use Rattle.unify_merge.specs.Ledger.{HasBegun, Ledger, Reading, after_files}
-use Rattle.unify_merge.specs.FirstReading.{HasRead, IsReading, IsTooLarge, readings_from}
+use Rattle.unify_merge.specs.FirstReading.{HasRead, IsReading, StopsFor, readings_from}
 use Rattle.unify_merge.specs.declared.fault.MergeFault.{MergeFault}
 use Rattle.unify_merge.specs.declared.fault.MergeFault.TheVariants.{Failed, TooLarge, Refused}
 
@@ -63,10 +63,7 @@ StopsEnd host were text failed (Refused e) =
 
 -- why it ended early
 abbrev pub StopsSecond : Host → List Entry → ℕ → List Reading → Ledger → Bool → MergeFault → Type 0
-StopsSecond host were index before l failed Failed = failed ≡ true
-StopsSecond host were index before l failed TooLarge = IsTooLarge l
-StopsSecond host were index before l failed (Refused e) =
-    IfSome (told e) (IsChangeFault host were index before l)
+StopsSecond host were index before l = StopsFor (IsChangeFault host were index before l) l
 
 -- only the file that is written has changed
 abbrev pub WritesOnly : Ledger → Ledger → Type 0
@@ -235,6 +232,4 @@ pub record IsSiteChange (read : List (Host × List Entry)) (old new : Ledger) (f
 
 -- why they ended early
 abbrev pub StopsPlanning : List (Host × List Entry) → Ledger → Ledger → Bool → MergeFault → Type 0
-StopsPlanning read old new failed Failed = failed ≡ true
-StopsPlanning read old new failed TooLarge = IsTooLarge new
-StopsPlanning read old new failed (Refused e) = IfSome (told e) (IsSiteChange read old new)
+StopsPlanning read old new = StopsFor (IsSiteChange read old new) new

@@ -1,7 +1,7 @@
 -- The inventories as they are read for the numbers that their files have and no account of their
 -- host has.
 -- Source: this project's own rule.
-use Rattle.std.specs.Prelude.{◌≡◌, ℕ, ◌⊎◌, Bool, true, List, ◌++◌, length, Some, Ok, Err, IfSome}
+use Rattle.std.specs.Prelude.{◌≡◌, ℕ, ◌⊎◌, Bool, List, ◌++◌, length, Some, Ok, Err}
 use Rattle.std.specs.Prelude.{slice_get}
 use Rattle.idtext.specs.First.{each}
 use Rattle.mtree_inv.specs.declared.entry.Entry.{Entry}
@@ -10,15 +10,13 @@ use Rattle.kept_accounts.specs.Reserving.{UnownedNumbers, no_numbers}
 use Rattle.survey.specs.Surveying.{HasNumbersOf}
 use Rattle.survey.specs.Unowned.{unowned_with}
 use Rattle.survey.specs.declared.host_survey.HostSurvey.{HostSurvey}
-use Rattle.unify_texts.specs.Told.{told}
 use Rattle.unify_texts.specs.declared.fault.Fault.{Fault}
 use Rattle.unify.specs.Loading.{loaded_from}
 use Rattle.unify.specs.Passes.{is_read, lines_of}
 use Rattle.unify.specs.Survey.{inventory_of, listed_of, unowned_over}
-use Rattle.unify_merge.specs.FirstReading.{HasRead, IsReading, IsTooLarge, readings_from}
+use Rattle.unify_merge.specs.FirstReading.{HasRead, IsReading, StopsFor, readings_from}
 use Rattle.unify_merge.specs.Ledger.{Ledger, Reading}
 use Rattle.unify_merge.specs.declared.fault.MergeFault.{MergeFault}
-use Rattle.unify_merge.specs.declared.fault.MergeFault.TheVariants.{Failed, TooLarge, Refused}
 
 -- ---- the inventory of one host
 
@@ -41,13 +39,9 @@ IsReadFault host index before l f = (text : List ℕ)
     × ((IsReading before index text l × (is_read (lines_of host text) ≡ Err f))
     ⊎ (HasRead before index text l × (is_read (inventory_of host text) ≡ Err f)))
 
--- why its reading ended early: a call failed, the inventory is too large, or it has a fault; or
--- memory was wanting
+-- why its reading ended early
 abbrev pub StopsReading : Host → ℕ → List Reading → Ledger → Bool → MergeFault → Type 0
-StopsReading host index before l failed Failed = failed ≡ true
-StopsReading host index before l failed TooLarge = IsTooLarge l
-StopsReading host index before l failed (Refused e) =
-    IfSome (told e) (IsReadFault host index before l)
+StopsReading host index before l = StopsFor (IsReadFault host index before l) l
 
 -- ---- those of all hosts
 
@@ -78,6 +72,4 @@ pub record IsSurveyFault (hosts : List Host) (old new : Ledger) (f : Fault) : Ty
 
 -- why a survey ended early
 abbrev pub StopsSurvey : List Host → Ledger → Ledger → Bool → MergeFault → Type 0
-StopsSurvey hosts old new failed Failed = failed ≡ true
-StopsSurvey hosts old new failed TooLarge = IsTooLarge new
-StopsSurvey hosts old new failed (Refused e) = IfSome (told e) (IsSurveyFault hosts old new)
+StopsSurvey hosts old new = StopsFor (IsSurveyFault hosts old new) new

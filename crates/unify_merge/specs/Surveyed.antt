@@ -1,11 +1,10 @@
 -- What a command does that first finds the numbers without an account, where its keep text keeps
 -- them: the inventories are read once for that.
 -- Source: this project's own rule.
-use Rattle.std.specs.Prelude.{◌≡◌, ℕ, ◌⊎◌, Bool, true, List, ◌++◌, length, Ok, Err, IfSome}
+use Rattle.std.specs.Prelude.{◌≡◌, ℕ, ◌⊎◌, Bool, List, ◌++◌, length, Ok, Err}
 use Rattle.hosts_join.specs.declared.host.Host.{Host}
 use Rattle.hosts_join.specs.declared.texts.HostText.{HostText}
 use Rattle.kept_accounts.specs.Reserving.{UnownedNumbers}
-use Rattle.unify_texts.specs.Told.{told}
 use Rattle.unify_texts.specs.declared.fault.Fault.{Fault}
 use Rattle.unify.specs.declared.counting.Cost.{Cost}
 use Rattle.unify.specs.Others.{keep_read}
@@ -13,12 +12,11 @@ use Rattle.unify.specs.Rules.{rules_by}
 use Rattle.unify.specs.Survey.{found_on, surveyed_hosts}
 use Rattle.unify_merge.specs.Check.{HasChecked, StopsCheck}
 use Rattle.unify_merge.specs.Count.{HasCounted, StopsCount}
-use Rattle.unify_merge.specs.FirstReading.{IsTooLarge, ReadsOnly, readings_from}
+use Rattle.unify_merge.specs.FirstReading.{ReadsOnly, StopsFor, readings_from}
 use Rattle.unify_merge.specs.Ledger.{Ledger}
 use Rattle.unify_merge.specs.Merge.{HasMerged, MergeBrokeOff, StopsMerge}
 use Rattle.unify_merge.specs.Survey.{IsSurveyFault}
 use Rattle.unify_merge.specs.declared.fault.MergeFault.{MergeFault}
-use Rattle.unify_merge.specs.declared.fault.MergeFault.TheVariants.{Failed, TooLarge, Refused}
 
 -- ---- the survey
 
@@ -41,13 +39,9 @@ IsFindingFault hosts keep old new f =
     ⊎ ((surveying : List Host) × (surveyed_hosts hosts (keep_read keep) ≡ Ok surveying)
     × IsSurveyFault surveying old new f)
 
--- why it ended early: a call failed, an inventory is too large, or what was read is refused; or
--- memory was wanting
+-- why it ended early
 abbrev pub StopsFinding : List HostText → List ℕ → Ledger → Ledger → Bool → MergeFault → Type 0
-StopsFinding hosts keep old new failed Failed = failed ≡ true
-StopsFinding hosts keep old new failed TooLarge = IsTooLarge new
-StopsFinding hosts keep old new failed (Refused e) =
-    IfSome (told e) (IsFindingFault hosts keep old new)
+StopsFinding hosts keep old new = StopsFor (IsFindingFault hosts keep old new) new
 
 -- ---- behind it
 

@@ -5,7 +5,7 @@ use Rattle.unify_texts.specs.Told.{told}
 use Rattle.unify.specs.Hosts.{files_of}
 use Rattle.unify.specs.Passes.{InventoriesValue, IsNext, ended_in, is_read, lines_of}
 use Rattle.unify_merge.specs.Ledger.{Ledger, Reading}
-use Rattle.unify_merge.proofs.Stops.{first_ended, first_lines, first_whole}
+use Rattle.unify_merge.proofs.Stops.{first_lines, first_whole, piece_ended}
 use Rattle.unify_merge.proofs.first_reading.count_reading.Goals as goal
 
 pub returns-in_err-next_piece-clause-stopped : goal.returns-in_err-next_piece-clause-stopped
@@ -13,7 +13,7 @@ returns-in_err-next_piece-clause-stopped g c =
     let inv = c.loop-inventories.invariant in
     let p = err_from_is_err_and c.from_residual.result c.from_residual.ensures.1 in
     let r : Reading = record { host = ended_in c.args.inventories.now; text = inv.text } in
-    rw (p.1, p.2) (λ host here. first_ended host r.host _ inv.text _ _ _ _ _ _ inv.may (c.in_err-next_piece.ensures.stopped r inv.reading))
+    rw (p.1, p.2) (λ host here. piece_ended _ r.host _ inv.text _ _ _ _ _ inv.may (c.in_err-next_piece.ensures.stopped r inv.reading))
 
 pub returns-in_err-piece-clause-stopped : goal.returns-in_err-piece-clause-stopped
 returns-in_err-piece-clause-stopped g c =

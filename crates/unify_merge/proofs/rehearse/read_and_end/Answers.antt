@@ -2,7 +2,8 @@ use Rattle.std.proofs.Common.{◌++◌, ap, sym, ◌∙◌, arith, length-append
 use Rattle.std.proofs.lemmas.Result.{err_from_is_err_and}
 use Rattle.unify_merge.specs.Ledger.{Ledger, Reading}
 use Rattle.unify_merge.proofs.Readings.{reads_on}
-use Rattle.unify_merge.proofs.Rehearsals.{carrying_ended, piece_refused}
+use Rattle.unify_merge.proofs.Rehearsals.{piece_refused}
+use Rattle.unify_merge.proofs.Stops.{piece_ended}
 use Rattle.unify_merge.proofs.rehearse.read_and_end.Goals as goal
 
 pub piece-requires : goal.piece-requires
@@ -16,7 +17,7 @@ returns-in_err-next_piece-clause-stopped g c =
     let inv = c.loop-rehearsal.invariant in
     let p = err_from_is_err_and c.from_residual-in_err-next_piece.result c.from_residual-in_err-next_piece.ensures.1 in
     let r : Reading = record { host = 0; text = inv.text } in
-    rw (p.1, p.2) (λ plan s. carrying_ended plan _ inv.text _ _ _ _ _ _ inv.may (c.in_err-next_piece.ensures.stopped r inv.reading))
+    rw (p.1, p.2) (λ plan s. piece_ended _ r.host _ inv.text _ _ _ _ _ inv.may (c.in_err-next_piece.ensures.stopped r inv.reading))
 
 pub loop-rehearsal-preserved : goal.loop-rehearsal-preserved
 loop-rehearsal-preserved g c =

@@ -10,8 +10,9 @@ use Rattle.unify_merge.specs.Ledger.{Ledger, Reading, with_bytes}
 use Rattle.unify_merge.specs.SecondReading.{IsReadAgain, StopsEnd, StopsPiece}
 use Rattle.unify_merge.proofs.AllPlanned.{same_site}
 use Rattle.unify_merge.proofs.BreakingOff.{has_read_none, has_read_one}
-use Rattle.unify_merge.proofs.Changes.{early_read, second_ended, second_lines_stop, second_whole_stop}
+use Rattle.unify_merge.proofs.Changes.{early_read, second_lines_stop, second_whole_stop}
 use Rattle.unify_merge.proofs.Readings.{if_err, on_ok}
+use Rattle.unify_merge.proofs.Stops.{piece_ended}
 use Rattle.unify_merge.proofs.Writing.{within_file, written_more}
 use Rattle.unify_merge.proofs.second_reading.plan_reading.Goals as goal
 
@@ -20,10 +21,9 @@ returns-in_err-next_piece-clause-stopped g c =
     let inv = c.loop-files.invariant in
     let p = err_from_is_err_and c.from_residual.result c.from_residual.ensures.1 in
     let r : Reading = record { host = ended_in c.args.solved.now; text = inv.text } in
-    let before = (g.F.ReadFiles.ledger c.args.files.now).read in
     let now = c.next_piece.new.files in
     rw (p.1, p.2) (λ host were turn.
-    second_ended host were r.host c.loop-files.left inv.text c.next_piece.new.bytes.items before (g.F.ReadFiles.ledger c.loop-files.files) (g.F.ReadFiles.ledger now) (g.F.ReadFiles.has_failed now) c.in_err-next_piece.field-0.0 inv.may (c.in_err-next_piece.ensures.stopped r inv.reading))
+    piece_ended _ r.host c.loop-files.left inv.text c.next_piece.new.bytes.items (g.F.ReadFiles.ledger c.loop-files.files) (g.F.ReadFiles.ledger now) (g.F.ReadFiles.has_failed now) c.in_err-next_piece.field-0.0 inv.may (c.in_err-next_piece.ensures.stopped r inv.reading))
 
 pub loop-files-init : goal.loop-files-init
 loop-files-init g c =
