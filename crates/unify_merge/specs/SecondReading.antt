@@ -215,8 +215,8 @@ plans_from s index [] = []
 plans_from s index (host ∷ hosts) =
     whole_plan host.0 s.joined s.merged index host.1 ∷ plans_from s (index + 1) hosts
 
--- the inventories of the first hosts were read again, each user and each group of which owns as many
--- files as before, and that of the next is not what it was
+-- the inventories of the first hosts were read again, each user and each group of which owns as
+-- many files as before, and that of the next is not what it was
 pub record IsSiteChange (read : List (Host × List Entry)) (old new : Ledger) (f : Fault) : Type 0
   where
     pub texts : List (List ℕ)

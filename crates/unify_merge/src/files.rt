@@ -37,8 +37,8 @@ pub trait MergeFiles: ReadFiles {
     ghost use Rattle.unify_merge.specs.Ledger.{after_files};
 
     /// Clears away what a merge left: its report first, what it wrote for each host, also for hosts
-    /// that are no more, and its passwd and group. Where it fails, nothing was cleared away, or some
-    /// of it or all of it was.
+    /// that are no more, and its passwd and group. Where it fails, nothing was cleared away, or
+    /// some of it or all of it was.
     fn clear(&mut self) -> Result<(), CallFailed>
         ensures clear { OnOk result (Self.ledger self.new ≡ cleared (Self.ledger self.old)) }
         ensures failing { OnErr result ((Self.ledger self.new ≡ Self.ledger self.old)

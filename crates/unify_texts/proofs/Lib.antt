@@ -1,7 +1,7 @@
 pub mod MapLoop
 pub mod DraftLemmas
 pub mod SpellingLemmas
-pub mod FigureLemmas
+pub mod Totals
 pub mod MapLines
 pub mod ReportLemmas
 pub mod MapBack

@@ -31,7 +31,7 @@ pub struct Figures {
 }
 
 // How many names are pinned.
-#[tactic(auto, using(crate::proofs::FigureLemmas::count_more, crate::proofs::FigureLemmas::count_start))]
+#[tactic(auto, using(crate::proofs::Totals::count_more, crate::proofs::Totals::count_start))]
 fn pinned_names(names: &Names<'_>) -> u32
     ensures { result ≡ pinned_among names.now }
 {
@@ -45,7 +45,7 @@ fn pinned_names(names: &Names<'_>) -> u32
 }
 
 // How many free names have a number that they have on some host.
-#[tactic(auto, using(crate::proofs::FigureLemmas::count_more, crate::proofs::FigureLemmas::count_start))]
+#[tactic(auto, using(crate::proofs::Totals::count_more, crate::proofs::Totals::count_start))]
 fn kept_names(names: &Names<'_>, mapping: &Mapping) -> u32
     requires { length mapping.now ≡ length names.now.names }
     ensures { result ≡ told_names names.now mapping.now }
@@ -60,7 +60,7 @@ fn kept_names(names: &Names<'_>, mapping: &Mapping) -> u32
 }
 
 // How many files keep their number.
-#[tactic(auto, using(crate::proofs::FigureLemmas::sum_more, crate::proofs::FigureLemmas::sum_start))]
+#[tactic(auto, using(crate::proofs::Totals::sum_more, crate::proofs::Totals::sum_start))]
 fn staying_files(counts: &KindCounts, mapping: &Mapping, names: u32) -> u64
     requires counters { length counts.now ≡ names }
     requires numbers { length mapping.now ≡ names }
@@ -75,7 +75,7 @@ fn staying_files(counts: &KindCounts, mapping: &Mapping, names: u32) -> u64
 }
 
 // How many account rows keep their number.
-#[tactic(auto, using(crate::proofs::FigureLemmas::sum_more, crate::proofs::FigureLemmas::sum_start))]
+#[tactic(auto, using(crate::proofs::Totals::sum_more, crate::proofs::Totals::sum_start))]
 fn staying_rows(names: &Names<'_>, mapping: &Mapping) -> u64
     requires { length mapping.now ≡ length names.now.names }
     ensures { result ≡ told_rows names.now mapping.now }

@@ -6,7 +6,7 @@ use Rattle.ownership.proofs.CostLemmas.{rows_and_lines}
 use Rattle.unify_texts.specs.Figures.{figures_of, pinned_names, kept_names, fresh_names}
 use Rattle.unify_texts.specs.Staying.{told_names, told_files}
 use Rattle.unify_texts.specs.declared.figures.Figures.{Figures}
-use Rattle.unify_texts.proofs.FigureLemmas.{all_names, kept_told, cost_told}
+use Rattle.unify_texts.proofs.Totals.{all_names, kept_told, cost_told}
 use Rattle.unify_texts.proofs.figures.figures_under.Goals as goal
 
 -- the names that are pinned, and those that keep a number, are no more than all

@@ -1,7 +1,7 @@
 use Rattle.std.proofs.Common.{arith}
 use Rattle.std.proofs.lemmas.Grind.{common_steps}
 use Rattle.ownership.specs.Mappings.{number_at}
-use Rattle.unify_texts.proofs.FigureLemmas.{sum_more, lines_within}
+use Rattle.unify_texts.proofs.Totals.{sum_more, lines_within}
 use Rattle.unify_texts.proofs.figures.staying_rows.Goals as goal
 
 pub loop-index-preserved : goal.loop-index-preserved
