@@ -1,5 +1,5 @@
 //! Who has which number on one host.
-ghost use Rattle.std.specs.Prelude.{◌≡◌, ℕ, if◌then◌else◌, ◌==◌, Some, None, IfOk, OnOk};
+ghost use Rattle.std.specs.Prelude.{◌≡◌, ℕ, if◌then◌else◌, ◌==◌, Some, None, OnOk};
 ghost use Rattle.hosts_join.specs.HostOwners.{place_in};
 
 use std::alloc::{AllocError, Global};

@@ -1,7 +1,6 @@
 -- That the line of a file tells its kind.
-use Rattle.std.proofs.Common.{◌≡◌, ℕ, true, ◌==◌, All, List, [], ◌∷◌, ◌++◌, refl, ap, ◌∙◌}
+use Rattle.std.proofs.Common.{◌≡◌, ℕ, true, ◌==◌, List, ◌∷◌, refl, ap, ◌∙◌}
 use Rattle.std.specs.Prelude.{drop, Some}
-use Rattle.std.specs.List.{slice_split}
 use Rattle.std.proofs.lemmas.List.Splits.{slice_split_at}
 use Rattle.idtext.specs.Pieces.{pieces}
 use Rattle.inventory_text.specs.Writing.{gid_word, name_word, spaced, type_word, uid_word}

@@ -1,5 +1,5 @@
 //! The fronts of paths, each kept once.
-ghost use Rattle.std.specs.Prelude.{◌≡◌, ◌<◌, [], length, IfOk};
+ghost use Rattle.std.specs.Prelude.{◌≡◌, ◌<◌, length, IfOk};
 ghost use Rattle.mtree_inv.specs.Fronts.{block_len, AreFronts, GrowTo, IsCutOf, IsFrontAt};
 
 use crate::cuts::{Cuts, no_cuts};

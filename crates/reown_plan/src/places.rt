@@ -1,7 +1,7 @@
 //! Places of records in the order of the bytes of their paths. Whoever names files chooses their
 //! paths, so that no look-up may cost more than a few comparisons, whatever the names are: that is
 //! why no table of hashes is used here.
-ghost use Rattle.std.specs.Prelude.{◌≡◌, ◌<◌, ◌^◌, map, position, IfOk, length};
+ghost use Rattle.std.specs.Prelude.{◌≡◌, ◌<◌, map, position, IfOk};
 ghost use Rattle.std.specs.List.{range_with_len};
 ghost use Rattle.std.specs.Str.{bytes_eq};
 ghost use Rattle.reown_plan.specs.Records.{record_of};

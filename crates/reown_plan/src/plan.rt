@@ -73,7 +73,7 @@ ghost use Rattle.std.specs.Prelude.{IfSome, MatchResult};
 ghost use Rattle.std.specs.Str.{bytes_eq};
 ghost use Rattle.reown_plan.specs.Fronts.{IsFront, BeginsNoRecord, IsFaultOf};
 ghost use Rattle.reown_plan.specs.Mark.{mark_of};
-ghost use Rattle.reown_plan.specs.Places.{paths_in, ArePlaces, AreDistinctPaths};
+ghost use Rattle.reown_plan.specs.Places.{paths_in, ArePlaces};
 ghost use Rattle.reown_plan.specs.PlanData.{PlanData, HaveDistinctPaths};
 ghost use Rattle.reown_plan.specs.Records.{record_of};
 ghost use Rattle.reown_plan.specs.Spelling.{spelling, head, end, IsLawful, IsFaultAt};

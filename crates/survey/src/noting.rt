@@ -4,7 +4,6 @@ ghost use Rattle.std.specs.Prelude.{◌≡◌, ◌++◌, ◌∷◌, ℕ, List, [
 ghost use Rattle.mtree_inv.specs.Standing as standing;
 ghost use Rattle.mtree_inv.specs.declared.entry.Entry.{Entry};
 ghost use Rattle.hosts_join.specs.declared.host.Host.{Host};
-ghost use Rattle.kept_accounts.specs.Reserving as reserving;
 ghost use Rattle.survey.specs.Surveying.{AreOf, HasNumbers};
 ghost use Rattle.survey.specs.Unowned as spec;
 

@@ -7,7 +7,7 @@ pub struct CallFailed;
 /// The inventories that a command reads. A call that fails has done nothing that counts. What a
 /// call costs is for the files to say.
 pub trait ReadFiles {
-    ghost use Rattle.std.specs.Prelude.{◌≡◌, ℕ, Bool, true, [], OnOk, OnErr};
+    ghost use Rattle.std.specs.Prelude.{◌≡◌, Bool, true, [], OnOk, OnErr};
     ghost use Rattle.unify_merge.specs.Ledger.{Ledger, reading_so_far, with_piece};
 
     // What was read and written by the calls that succeeded.

@@ -2,7 +2,6 @@ use Rattle.std.proofs.Common.{◌≡◌, ℕ, ◌<◌, ◌≤◌, ◌⊎◌, len
 use Rattle.hosts_join.specs.declared.Class.{Class}
 use Rattle.hosts_join.specs.declared.Class.TheVariants.{Pinned, Regular, System}
 use Rattle.hosts_join.specs.Rules.{in_pool, same_class, class_at}
-use Rattle.candidates.specs.Fill.{gift}
 use Rattle.candidates.proofs.FillLemmas.{is-next, fill-step, fill-start, fill-end, cursor_of, some-none}
 use Rattle.candidates.proofs.Pigeons.{one-left}
 use Rattle.candidates.proofs.fill.fill.Goals as goal

@@ -2,7 +2,6 @@ use Rattle.std.proofs.Common.{◌≡◌, cond, not, ◌<◌, ◌+◌, List, [], 
 use Rattle.hosts_join.proofs.members.claims.Goals.{then-not-has_name+in_ok-push, else-not-has_name}
 use Rattle.std.proofs.lemmas.List.{map-append, append-nil, append_assoc}
 use Rattle.hosts_join.specs.Accounts as spec
-use Rattle.hosts_join.specs.Accounts.{nobody}
 use Rattle.hosts_join.specs.Index.{accounts_in}
 use Rattle.hosts_join.specs.Rules as rules
 use Rattle.hosts_join.specs.Views.{pair_of, pairs_of}
