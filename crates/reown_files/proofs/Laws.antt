@@ -1,5 +1,5 @@
 -- Records of calls that grow.
-use Rattle.std.proofs.Common.{◌≡◌, ◌<◌, ◌==◌, ℕ, zero, suc, Bool, true, false, ◌&&◌, ◌||◌, List, [], ◌∷◌, ◌++◌, ◌+◌, Option, None, Some, Result, Ok, Err, OnOk, get_or, take, map, length, refl, sym, ◌∙◌, ap, arith}
+use Rattle.std.proofs.Common.{◌≡◌, ◌<◌, ◌==◌, ℕ, zero, suc, Bool, true, false, cond, ◌&&◌, ◌||◌, List, [], ◌∷◌, ◌++◌, ◌+◌, Option, None, Some, Result, Ok, Err, OnOk, get_or, take, map, length, refl, sym, ◌∙◌, ap, arith}
 use Rattle.std.specs.List.{list_any, list_all}
 use Rattle.std.specs.Str.{bytes_eq}
 use Rattle.std.proofs.lemmas.Bool.Decides.{nat_tests}
@@ -7,15 +7,17 @@ use Rattle.std.proofs.lemmas.List.{take_more, get_or-map, length-map}
 use Rattle.std.specs.Cmp.Lexicographic.{bytes_decides}
 use Rattle.reown_plan.specs.declared.mark.PlanMark.{PlanMark}
 use Rattle.reown_plan.specs.declared.plan.Owner.{Owner}
-use Rattle.reown_plan.specs.Mark.{mark_eq}
+use Rattle.reown_plan.specs.Mark.{mark_eq, is_marked_for}
 use Rattle.reown_plan.specs.Owners.{owner_eq}
 use Rattle.reown_plan.specs.declared.plan.Record.{Record}
 use Rattle.reown_plan.specs.PlanData.{PlanRecord}
 use Rattle.reown_plan.specs.Records.{record_of}
 use Rattle.reown_files.specs.declared.answers.Modes.{Modes}
-use Rattle.reown_files.specs.Calls.{Called, Gave, SetMode, Kept, Settled, PutMark, LostMode}
-use Rattle.reown_files.specs.Lawful.{is_planned, is_given, gives_by_plan, modes_stay, was_kept, all_kept, is_settled, is_synced, marks_last, is_unchanged, was_asked, all_asked, is_begun, begins_first, is_lawful}
+use Rattle.reown_files.specs.Calls.{Called, Gave, SetMode, Kept, Settled, PutMark, LostMode, PutModes, CheckedLinks, ReadModes}
+use Rattle.reown_files.specs.Lawful.{is_planned, is_given, gives_by_plan, modes_stay, was_kept, all_kept, is_settled, is_synced, no_mode_failed, marks_last, is_unchanged, was_asked, all_asked, was_checked, all_checked, were_read, is_begun, begins_first, is_lawful}
 use Rattle.reown_files.specs.Real.{Grows, grows_on}
+use Rattle.reown_files.specs.Replay.{replay}
+use Rattle.std.specs.Bool.{beq}
 
 -- ---- tests
 
@@ -40,6 +42,10 @@ nat_same n = grind (arith, nat_tests)
 
 owner_same : (o : Owner) → owner_eq o o ≡ true
 owner_same o = and_true (o.uid == o.uid) (o.gid == o.gid) (nat_same o.uid) (nat_same o.gid)
+
+same_bool : (b : Bool) → beq b b ≡ true
+same_bool true = refl
+same_bool false = refl
 
 bytes_same : (path : List ℕ) → bytes_eq path path ≡ true
 bytes_same path = (bytes_decides path path).1 refl
@@ -110,28 +116,36 @@ module _ (mark : PlanMark) (records : List PlanRecord) (calls : List Called) (pa
       lawful_of mark records (SetMode path owner modes.before done ∷ Gave path before after (Some modes) ∷ calls) more
       (and_true (bytes_eq path path && (modes.before == modes.before)) (modes_stay calls) (and_true (bytes_eq path path) (modes.before == modes.before) (bytes_same path) (nat_same modes.before)) parts.1) parts.2 behind
 
--- the mark, where all files are synced
-pub lawful_mark : (mark : PlanMark) (records : List PlanRecord) (calls : List Called) (plan : PlanMark) (done : Bool) → mark_eq plan mark ≡ true → is_synced records calls ≡ true → is_lawful mark records calls ≡ true → is_lawful mark records (PutMark plan done ∷ calls) ≡ true
-lawful_mark mark records calls plan done own kept h =
+-- the mark, where all files are synced and no mode failed to be set
+pub lawful_mark : (mark : PlanMark) (records : List PlanRecord) (calls : List Called) (plan : PlanMark) (done : Bool) → mark_eq plan mark ≡ true → is_synced records calls ≡ true → no_mode_failed calls ≡ true → is_lawful mark records calls ≡ true → is_lawful mark records (PutMark plan done ∷ calls) ≡ true
+lawful_mark mark records calls plan done own kept set h =
     let parts = lawful_parts mark records calls h in
     lawful_of mark records (PutMark plan done ∷ calls) parts.0 parts.1
-    (and_true (mark_eq plan mark) (is_synced records calls && marks_last mark records calls) own (and_true (is_synced records calls) (marks_last mark records calls) kept parts.2)) parts.3
+    (and_true (mark_eq plan mark) (is_synced records calls && (no_mode_failed calls && marks_last mark records calls)) own
+    (and_true (is_synced records calls) (no_mode_failed calls && marks_last mark records calls) kept
+    (and_true (no_mode_failed calls) (marks_last mark records calls) set parts.2))) parts.3
 
 -- ---- modes that an earlier run had lost
 
 mark_same : (m : PlanMark) → mark_eq m m ≡ true
 mark_same m = rw (bytes_same m.host, nat_same m.length, bytes_same m.digest) refl
 
-module _ (mark : PlanMark) (records : List PlanRecord) (calls : List Called) (unchanged : is_unchanged calls ≡ true) (h : is_lawful mark records calls ≡ true) where
+-- a mark that was met is that of the plan
+pub met_marked : (m : PlanMark) (set : Bool) → is_marked_for m (cond set (Some m) None) ≡ set
+met_marked m true = mark_same m
+met_marked m false = refl
+
+module _ (mark : PlanMark) (records : List PlanRecord) (calls : List Called) (read : were_read mark calls ≡ true) (unchanged : is_unchanged calls ≡ true) (h : is_lawful mark records calls ≡ true) where
   abbrev held : (gives_by_plan records calls ≡ true) × (modes_stay calls ≡ true) × (marks_last mark records calls ≡ true) × (begins_first mark records calls ≡ true)
   held = lawful_parts mark records calls h
 
   module _ (path : List ℕ) (owner : Owner) (given : list_any (is_given path owner) records ≡ true) where
     asks : (mode : Option ℕ) → begins_first mark records (LostMode mark path owner mode ∷ calls) ≡ true
     asks mode =
-        and_true (mark_eq mark mark) (list_any (is_given path owner) records && (is_unchanged calls && begins_first mark records calls)) (mark_same mark)
-        (and_true (list_any (is_given path owner) records) (is_unchanged calls && begins_first mark records calls) given
-        (and_true (is_unchanged calls) (begins_first mark records calls) unchanged held.3))
+        and_true (mark_eq mark mark) (list_any (is_given path owner) records && (were_read mark calls && (is_unchanged calls && begins_first mark records calls))) (mark_same mark)
+        (and_true (list_any (is_given path owner) records) (were_read mark calls && (is_unchanged calls && begins_first mark records calls)) given
+        (and_true (were_read mark calls) (is_unchanged calls && begins_first mark records calls) read
+        (and_true (is_unchanged calls) (begins_first mark records calls) unchanged held.3)))
 
     -- an answer that none was lost
     pub lawful_none : is_lawful mark records (LostMode mark path owner None ∷ calls) ≡ true
@@ -228,6 +242,50 @@ pub synced_behind_mark : (plan : PlanMark) (done : Bool) (calls : List Called) (
 synced_behind_mark plan done calls records h =
     let hs = both (all_kept records calls) (is_settled calls) h in
     and_true (all_kept records (PutMark plan done ∷ calls)) (is_settled calls) (kept_behind_mark plan done calls records hs.0) hs.1
+
+-- nor does any call that leaves each of them so
+pub synced_stays : (old new : List Called) → ((r : PlanRecord) → was_kept old r ≡ true → was_kept new r ≡ true) → is_settled new ≡ is_settled old → (records : List PlanRecord) → is_synced records old ≡ true → is_synced records new ≡ true
+synced_stays old new each settled records h =
+    let hs = both (all_kept records old) (is_settled old) h in
+    and_true (all_kept records new) (is_settled new) (all_also (was_kept old) (was_kept new) each records hs.0) (settled ∙ hs.1)
+
+-- ---- before the first change
+
+-- modes that were read now
+pub read_now : (mark : PlanMark) (set : Bool) (calls : List Called) → set ≡ is_marked_for mark (replay calls).mark → were_read mark (ReadModes mark set true ∷ calls) ≡ true
+read_now mark set calls e =
+    or_first (mark_eq mark mark && beq set (is_marked_for mark (replay calls).mark)) (were_read mark calls)
+    (and_true (mark_eq mark mark) (beq set (is_marked_for mark (replay calls).mark)) (mark_same mark) (ap (beq set) (sym e) ∙ same_bool set))
+
+-- files of which some had their names looked at stay so
+pub checked_on : (old new : List Called) → ((r : PlanRecord) → was_checked old r ≡ true → was_checked new r ≡ true) → (records : List PlanRecord) → all_checked records old ≡ true → all_checked records new ≡ true
+checked_on old new each records h = all_also (was_checked old) (was_checked new) each records h
+
+checked_stays : (path : List ℕ) (done : Bool) (calls : List Called) (r : PlanRecord) → was_checked calls r ≡ true → was_checked (CheckedLinks path done ∷ calls) r ≡ true
+checked_stays path done calls r h = or_true (done && bytes_eq path r.path) (was_checked calls r) h
+
+now_checked : (r : PlanRecord) (calls : List Called) → was_checked (CheckedLinks r.path true ∷ calls) r ≡ true
+now_checked r calls = or_first (bytes_eq r.path r.path) (was_checked calls r) (bytes_same r.path)
+
+-- one turn of a loop that looks at them
+pub checks_on : (rs : List PlanRecord) (i : ℕ) (old new : List Called) (done : Bool) → i < length rs → new ≡ CheckedLinks (get_or rs i nothing).path done ∷ old → done ≡ true → all_checked (take i rs) old ≡ true → all_checked (take (i + 1) rs) new ≡ true
+checks_on rs i old new done below is e h =
+    let r = get_or rs i nothing in
+    let last = CheckedLinks r.path true ∷ old in
+    ap (all_checked (take (i + 1) rs)) (is ∙ ap (λ b. CheckedLinks r.path b ∷ old) e) ∙ ap (λ xs. all_checked xs last) (take_more rs i nothing below)
+    ∙ all_one_more (was_checked last) (take i rs) r (checked_on old last (λ x k. checked_stays r.path true old x k) (take i rs) h) (now_checked r old)
+
+-- the modes that a run may lose are written down
+pub lawful_put_modes : (mark : PlanMark) (records : List PlanRecord) (calls : List Called) (done : Bool) → all_checked records calls ≡ true → were_read mark calls ≡ true → is_unchanged calls ≡ true → is_settled calls ≡ true → is_lawful mark records calls ≡ true
+    → is_lawful mark records (PutModes mark done ∷ calls) ≡ true
+lawful_put_modes mark records calls done checked read unchanged settled h =
+    let parts = lawful_parts mark records calls h in
+    lawful_of mark records (PutModes mark done ∷ calls) parts.0 parts.1 parts.2
+    (and_true (mark_eq mark mark) (all_checked records calls && (were_read mark calls && (is_unchanged calls && (is_settled calls && begins_first mark records calls)))) (mark_same mark)
+    (and_true (all_checked records calls) (were_read mark calls && (is_unchanged calls && (is_settled calls && begins_first mark records calls))) checked
+    (and_true (were_read mark calls) (is_unchanged calls && (is_settled calls && begins_first mark records calls)) read
+    (and_true (is_unchanged calls) (is_settled calls && begins_first mark records calls) unchanged
+    (and_true (is_settled calls) (begins_first mark records calls) settled parts.3)))))
 
 -- ---- calls that were made since
 

@@ -1,9 +1,12 @@
 -- The files of a plan, counted.
 -- Source: this project's own rule.
-use Rattle.std.specs.Prelude.{◌≡◌, ℕ, ◌+◌, Bool, false, not, ◌&&◌, List, ◌++◌, Option}
-use Rattle.std.specs.Prelude.{None, Some, is_none, map, reverse, count_by, if◌then◌else◌}
+use Rattle.std.specs.Prelude.{◌≡◌, ◌<◌, ℕ, ◌+◌, Bool, false, not, ◌&&◌, List, ◌++◌, Option}
+use Rattle.std.specs.Prelude.{None, Some, is_none, length, take, map, reverse, count_by}
+use Rattle.std.specs.Prelude.{if◌then◌else◌}
 use Rattle.reown_plan.specs.Owners.{owner_eq}
 use Rattle.reown_plan.specs.PlanData.{PlanRecord}
+use Rattle.reown_files.specs.declared.answers.OpenFault.{OpenFault}
+use Rattle.reown_files.specs.declared.answers.OpenFault.TheVariants.{File}
 use Rattle.reown_files.specs.declared.answers.Seen.{Seen}
 use Rattle.reown_files.specs.declared.counting.OwnerCounts.{OwnerCounts}
 use Rattle.reown_files.specs.Calls.{Called, Looked}
@@ -69,6 +72,18 @@ files_of counts = counts.before + counts.after + counts.missing + counts.foreign
 -- the call that a look is
 abbrev pub call_of : Look → Called
 call_of (r, seen) = Looked r.path seen
+
+-- the file of each of these records was looked at once, in order, and no other call was made
+abbrev pub AreLookedAt : List PlanRecord → List Called → List Called → Type 0
+AreLookedAt records old new =
+    (looks : List Look) × (map (λ look. look.0) looks ≡ records)
+    × (new ≡ reverse (map call_of looks) ++ old)
+
+-- the file of a record could not be looked at: those before it were, and no other call was made
+abbrev pub StopsCount : List PlanRecord → List Called → List Called → OpenFault → Type 0
+StopsCount records old new (File i trouble) =
+    (i < length records) × AreLookedAt (take i records) old new
+StopsCount records old new _ = ⊥
 
 -- the file of each record was looked at once, in order, and no other call was made; and so the
 -- files are counted

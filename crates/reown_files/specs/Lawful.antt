@@ -2,16 +2,18 @@
 -- Source: this project's own rule; chown(2) for modes, which a change of the owner may clear.
 use Rattle.std.specs.Prelude.{ℕ, ◌==◌, Bool, true, false, ◌&&◌, ◌||◌, List, [], ◌∷◌, Option, None}
 use Rattle.std.specs.Prelude.{Some, is_none, if◌then◌else◌}
+use Rattle.std.specs.Bool.{beq}
 use Rattle.std.specs.List.{list_any, list_all}
 use Rattle.std.specs.Str.{bytes_eq}
 use Rattle.reown_plan.specs.declared.mark.PlanMark.{PlanMark}
 use Rattle.reown_plan.specs.declared.plan.Owner.{Owner}
-use Rattle.reown_plan.specs.Mark.{mark_eq}
+use Rattle.reown_plan.specs.Mark.{mark_eq, is_marked_for}
 use Rattle.reown_plan.specs.Owners.{owner_eq}
 use Rattle.reown_plan.specs.PlanData.{PlanRecord}
 use Rattle.reown_files.specs.declared.answers.Modes.{Modes}
-use Rattle.reown_files.specs.Calls.{Called, Looked, Met, MetMark, Gave, SetMode, Kept, Settled}
-use Rattle.reown_files.specs.Calls.{PutMark, LostMode, PutModes}
+use Rattle.reown_files.specs.Calls.{Called, Gave, SetMode, Kept, Settled, PutMark, LostMode}
+use Rattle.reown_files.specs.Calls.{PutModes, CheckedLinks, MetMark, KeptMark, ReadModes}
+use Rattle.reown_files.specs.Replay.{replay}
 
 -- ---- owners
 
@@ -27,17 +29,9 @@ is_planned records path before after = list_any (is_of path before after) record
 -- no file is given an owner but as a record has it
 abbrev pub gives_by_plan : List PlanRecord → List Called → Bool
 gives_by_plan records [] = true
-gives_by_plan records (Looked path seen ∷ calls) = gives_by_plan records calls
-gives_by_plan records (Met path found ∷ calls) = gives_by_plan records calls
-gives_by_plan records (MetMark plan set ∷ calls) = gives_by_plan records calls
 gives_by_plan records (Gave path before after modes ∷ calls) =
     is_planned records path before after && gives_by_plan records calls
-gives_by_plan records (SetMode path owner mode done ∷ calls) = gives_by_plan records calls
-gives_by_plan records (Kept path owner done ∷ calls) = gives_by_plan records calls
-gives_by_plan records (Settled done ∷ calls) = gives_by_plan records calls
-gives_by_plan records (PutMark plan done ∷ calls) = gives_by_plan records calls
-gives_by_plan records (LostMode plan path owner mode ∷ calls) = gives_by_plan records calls
-gives_by_plan records (PutModes plan done ∷ calls) = gives_by_plan records calls
+gives_by_plan records (_ ∷ calls) = gives_by_plan records calls
 
 -- ---- modes
 
@@ -65,43 +59,37 @@ sets_back path (Some mode) (Some set) = bytes_eq set.path path && (set.mode == m
 -- where this mode was set right behind the calls
 abbrev pub modes_stay_before : Option ModeSet → List Called → Bool
 modes_stay_before set [] = is_none set
-modes_stay_before set (Looked path seen ∷ calls) = is_none set && modes_stay_before None calls
-modes_stay_before set (Met path found ∷ calls) = is_none set && modes_stay_before None calls
-modes_stay_before set (MetMark plan there ∷ calls) = is_none set && modes_stay_before None calls
 modes_stay_before set (Gave path before after modes ∷ calls) =
     leaves_mode path modes set && modes_stay_before None calls
 modes_stay_before set (SetMode path owner mode done ∷ calls) =
     is_none set && modes_stay_before (Some (record { path = path; mode = mode })) calls
-modes_stay_before set (Kept path owner done ∷ calls) = is_none set && modes_stay_before None calls
-modes_stay_before set (Settled done ∷ calls) = is_none set && modes_stay_before None calls
-modes_stay_before set (PutMark plan done ∷ calls) = is_none set && modes_stay_before None calls
 modes_stay_before set (LostMode plan path owner mode ∷ calls) =
     sets_back path mode set && modes_stay_before None calls
-modes_stay_before set (PutModes plan done ∷ calls) = is_none set && modes_stay_before None calls
+modes_stay_before set (_ ∷ calls) = is_none set && modes_stay_before None calls
 
 -- no file is left with another mode than it had, and no mode is set but right behind the change
 -- that cleared it, or behind the answer that an earlier run had lost it
 abbrev pub modes_stay : List Called → Bool
 modes_stay calls = modes_stay_before None calls
 
+-- no mode failed to be set
+abbrev pub no_mode_failed : List Called → Bool
+no_mode_failed [] = true
+no_mode_failed (SetMode path owner mode done ∷ calls) = done && no_mode_failed calls
+no_mode_failed (_ ∷ calls) = no_mode_failed calls
+
 -- ---- the mark
 
 -- the record's file was seen at its new owner and synced, and not changed since
 abbrev pub was_kept : List Called → PlanRecord → Bool
 was_kept [] r = false
-was_kept (Looked path seen ∷ calls) r = was_kept calls r
-was_kept (Met path found ∷ calls) r = was_kept calls r
-was_kept (MetMark plan set ∷ calls) r = was_kept calls r
 was_kept (Gave path before after modes ∷ calls) r =
     if bytes_eq path r.path then false else was_kept calls r
 was_kept (SetMode path owner mode done ∷ calls) r =
     if bytes_eq path r.path then false else was_kept calls r
 was_kept (Kept path owner done ∷ calls) r =
     (done && (bytes_eq path r.path && owner_eq owner r.after)) || was_kept calls r
-was_kept (Settled done ∷ calls) r = was_kept calls r
-was_kept (PutMark plan done ∷ calls) r = was_kept calls r
-was_kept (LostMode plan path owner mode ∷ calls) r = was_kept calls r
-was_kept (PutModes plan done ∷ calls) r = was_kept calls r
+was_kept (_ ∷ calls) r = was_kept calls r
 
 abbrev pub all_kept : List PlanRecord → List Called → Bool
 all_kept records calls = list_all (was_kept calls) records
@@ -109,37 +97,54 @@ all_kept records calls = list_all (was_kept calls) records
 -- a sync of all was made, behind each change and each file that was kept
 abbrev pub is_settled : List Called → Bool
 is_settled [] = false
-is_settled (Looked path seen ∷ calls) = is_settled calls
-is_settled (Met path found ∷ calls) = is_settled calls
-is_settled (MetMark plan set ∷ calls) = is_settled calls
 is_settled (Gave path before after modes ∷ calls) = false
 is_settled (SetMode path owner mode done ∷ calls) = false
 is_settled (Kept path owner done ∷ calls) = false
 is_settled (Settled done ∷ calls) = done || is_settled calls
-is_settled (PutMark plan done ∷ calls) = is_settled calls
-is_settled (LostMode plan path owner mode ∷ calls) = is_settled calls
-is_settled (PutModes plan done ∷ calls) = is_settled calls
+is_settled (_ ∷ calls) = is_settled calls
 
 -- each file was seen at its new owner and has reached its device, and was not changed since
 abbrev pub is_synced : List PlanRecord → List Called → Bool
 is_synced records calls = all_kept records calls && is_settled calls
 
--- no mark is put but this one, and that only where all files are synced
+-- no mark is put but this one, and that only where all files are synced and no mode failed to be
+-- set
 abbrev pub marks_last : PlanMark → List PlanRecord → List Called → Bool
 marks_last mark records [] = true
-marks_last mark records (Looked path seen ∷ calls) = marks_last mark records calls
-marks_last mark records (Met path found ∷ calls) = marks_last mark records calls
-marks_last mark records (MetMark plan set ∷ calls) = marks_last mark records calls
-marks_last mark records (Gave path before after modes ∷ calls) = marks_last mark records calls
-marks_last mark records (SetMode path owner mode done ∷ calls) = marks_last mark records calls
-marks_last mark records (Kept path owner done ∷ calls) = marks_last mark records calls
-marks_last mark records (Settled done ∷ calls) = marks_last mark records calls
 marks_last mark records (PutMark plan done ∷ calls) =
-    mark_eq plan mark && (is_synced records calls && marks_last mark records calls)
-marks_last mark records (LostMode plan path owner mode ∷ calls) = marks_last mark records calls
-marks_last mark records (PutModes plan done ∷ calls) = marks_last mark records calls
+    mark_eq plan mark
+    && (is_synced records calls && (no_mode_failed calls && marks_last mark records calls))
+marks_last mark records (_ ∷ calls) = marks_last mark records calls
 
--- ---- modes that an earlier run had lost
+-- the mark has reached its device: it was met, which syncs it, or it was synced behind the last
+-- time that it was put
+abbrev pub is_mark_kept : List Called → Bool
+is_mark_kept [] = false
+is_mark_kept (MetMark plan set ∷ calls) = set
+is_mark_kept (PutMark plan done ∷ calls) = false
+is_mark_kept (KeptMark done ∷ calls) = done || is_mark_kept calls
+is_mark_kept (_ ∷ calls) = is_mark_kept calls
+
+-- ---- before the first change
+
+-- the names of the record's file were seen to be all in the plan
+abbrev pub was_checked : List Called → PlanRecord → Bool
+was_checked [] r = false
+was_checked (CheckedLinks path done ∷ calls) r =
+    (done && bytes_eq path r.path) || was_checked calls r
+was_checked (_ ∷ calls) r = was_checked calls r
+
+abbrev pub all_checked : List PlanRecord → List Called → Bool
+all_checked records calls = list_all (was_checked calls) records
+
+-- the modes that an earlier run of the plan with this mark wrote down were read, with word of
+-- whether that mark was there
+abbrev pub were_read : PlanMark → List Called → Bool
+were_read mark [] = false
+were_read mark (ReadModes plan set done ∷ calls) =
+    (done && (mark_eq plan mark && beq set (is_marked_for mark (replay calls).mark)))
+    || were_read mark calls
+were_read mark (_ ∷ calls) = were_read mark calls
 
 -- the file is the record's, at its new owner
 abbrev pub is_given : List ℕ → Owner → PlanRecord → Bool
@@ -148,30 +153,14 @@ is_given path owner r = bytes_eq path r.path && owner_eq owner r.after
 -- no file was given an owner as yet
 abbrev pub is_unchanged : List Called → Bool
 is_unchanged [] = true
-is_unchanged (Looked path seen ∷ calls) = is_unchanged calls
-is_unchanged (Met path found ∷ calls) = is_unchanged calls
-is_unchanged (MetMark plan set ∷ calls) = is_unchanged calls
 is_unchanged (Gave path before after modes ∷ calls) = false
-is_unchanged (SetMode path owner mode done ∷ calls) = is_unchanged calls
-is_unchanged (Kept path owner done ∷ calls) = is_unchanged calls
-is_unchanged (Settled done ∷ calls) = is_unchanged calls
-is_unchanged (PutMark plan done ∷ calls) = is_unchanged calls
-is_unchanged (LostMode plan path owner mode ∷ calls) = is_unchanged calls
-is_unchanged (PutModes plan done ∷ calls) = is_unchanged calls
+is_unchanged (_ ∷ calls) = is_unchanged calls
 
 -- the mode was asked for that an earlier run had lost of the record's file
 abbrev pub was_asked : List Called → PlanRecord → Bool
 was_asked [] r = false
-was_asked (Looked path seen ∷ calls) r = was_asked calls r
-was_asked (Met path found ∷ calls) r = was_asked calls r
-was_asked (MetMark plan set ∷ calls) r = was_asked calls r
-was_asked (Gave path before after modes ∷ calls) r = was_asked calls r
-was_asked (SetMode path owner mode done ∷ calls) r = was_asked calls r
-was_asked (Kept path owner done ∷ calls) r = was_asked calls r
-was_asked (Settled done ∷ calls) r = was_asked calls r
-was_asked (PutMark plan done ∷ calls) r = was_asked calls r
 was_asked (LostMode plan path owner mode ∷ calls) r = is_given path owner r || was_asked calls r
-was_asked (PutModes plan done ∷ calls) r = was_asked calls r
+was_asked (_ ∷ calls) r = was_asked calls r
 
 abbrev pub all_asked : List PlanRecord → List Called → Bool
 all_asked records calls = list_all (was_asked calls) records
@@ -179,39 +168,28 @@ all_asked records calls = list_all (was_asked calls) records
 -- the modes that this run may lose were written down, behind such a question for each file
 abbrev pub is_begun : List PlanRecord → List Called → Bool
 is_begun records [] = false
-is_begun records (Looked path seen ∷ calls) = is_begun records calls
-is_begun records (Met path found ∷ calls) = is_begun records calls
-is_begun records (MetMark plan set ∷ calls) = is_begun records calls
-is_begun records (Gave path before after modes ∷ calls) = is_begun records calls
-is_begun records (SetMode path owner mode done ∷ calls) = is_begun records calls
-is_begun records (Kept path owner done ∷ calls) = is_begun records calls
-is_begun records (Settled done ∷ calls) = is_begun records calls
-is_begun records (PutMark plan done ∷ calls) = is_begun records calls
-is_begun records (LostMode plan path owner mode ∷ calls) = is_begun records calls
 is_begun records (PutModes plan done ∷ calls) =
     (done && all_asked records calls) || is_begun records calls
+is_begun records (_ ∷ calls) = is_begun records calls
 
 -- no file is given an owner before that; modes are asked for and written down for this plan alone,
--- its files at their new owners, and before any file is given one; and they are written down, in
--- place of those of an earlier run, only where what was set back is synced
+-- its files at their new owners, behind a reading of those of an earlier run, and before any file
+-- is given one; and they are written down, in place of those that were read, only where the names
+-- of each file were seen to be all in the plan and what was set back is synced
 abbrev pub begins_first : PlanMark → List PlanRecord → List Called → Bool
 begins_first mark records [] = true
-begins_first mark records (Looked path seen ∷ calls) = begins_first mark records calls
-begins_first mark records (Met path found ∷ calls) = begins_first mark records calls
-begins_first mark records (MetMark plan set ∷ calls) = begins_first mark records calls
 begins_first mark records (Gave path before after modes ∷ calls) =
     is_begun records calls && begins_first mark records calls
-begins_first mark records (SetMode path owner mode done ∷ calls) = begins_first mark records calls
-begins_first mark records (Kept path owner done ∷ calls) = begins_first mark records calls
-begins_first mark records (Settled done ∷ calls) = begins_first mark records calls
-begins_first mark records (PutMark plan done ∷ calls) = begins_first mark records calls
 begins_first mark records (LostMode plan path owner mode ∷ calls) =
     mark_eq plan mark
     && (list_any (is_given path owner) records
-    && (is_unchanged calls && begins_first mark records calls))
+    && (were_read mark calls && (is_unchanged calls && begins_first mark records calls)))
 begins_first mark records (PutModes plan done ∷ calls) =
     mark_eq plan mark
-    && (is_unchanged calls && (is_settled calls && begins_first mark records calls))
+    && (all_checked records calls
+    && (were_read mark calls
+    && (is_unchanged calls && (is_settled calls && begins_first mark records calls))))
+begins_first mark records (_ ∷ calls) = begins_first mark records calls
 
 -- ---- all of it
 

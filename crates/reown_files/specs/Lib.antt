@@ -4,6 +4,7 @@ pub mod Lawful
 pub mod Replay
 pub mod Real
 pub mod Counting
+pub mod Opening
 pub mod MarkText
 pub mod Laws
 pub mod ModesNoted

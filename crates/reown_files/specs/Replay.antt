@@ -7,8 +7,7 @@ use Rattle.reown_plan.specs.declared.mark.PlanMark.{PlanMark}
 use Rattle.reown_plan.specs.declared.plan.Owner.{Owner}
 use Rattle.reown_plan.specs.PlanData.{PlanRecord}
 use Rattle.reown_files.specs.declared.answers.Modes.{Modes}
-use Rattle.reown_files.specs.Calls.{Called, Looked, Met, MetMark, Gave, SetMode, Kept, Settled}
-use Rattle.reown_files.specs.Calls.{PutMark, LostMode, PutModes}
+use Rattle.reown_files.specs.Calls.{Called, Met, MetMark, Gave, PutMark}
 
 -- the owner of each file that is there, and the mark
 pub record Held : Type 0 where
@@ -38,16 +37,11 @@ with_put plan false held = held
 -- the mark is the one that was met, or the last that was put
 abbrev pub replay : List Called → Held
 replay [] = record { owner = λ path. None; mark = None }
-replay (Looked path seen ∷ calls) = replay calls
 replay (Met path found ∷ calls) = with_owner path found (replay calls)
 replay (MetMark plan set ∷ calls) = with_mark (if set then Some plan else None) (replay calls)
 replay (Gave path before after modes ∷ calls) = with_change path after modes (replay calls)
-replay (SetMode path owner mode done ∷ calls) = replay calls
-replay (Kept path owner done ∷ calls) = replay calls
-replay (Settled done ∷ calls) = replay calls
 replay (PutMark plan done ∷ calls) = with_put plan done (replay calls)
-replay (LostMode plan path owner mode ∷ calls) = replay calls
-replay (PutModes plan done ∷ calls) = replay calls
+replay (_ ∷ calls) = replay calls
 
 -- the owner with which the file of a record was met
 abbrev pub found_of : List PlanRecord → List Owner → List ℕ → Option Owner

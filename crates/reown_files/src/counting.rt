@@ -1,8 +1,8 @@
 //! The files of a plan, counted by what is seen of them.
-ghost use Rattle.std.specs.Prelude.{◌≡◌, ◌+◌, ◌^◌, ◌<◌, Some, map, IfOk};
+ghost use Rattle.std.specs.Prelude.{◌≡◌, ◌+◌, ◌^◌, ◌<◌, Some, map, IfOk, IfErr};
 ghost use Rattle.reown_plan.specs.Records.{record_of};
 ghost use Rattle.reown_files.specs.Counting.{Look, is_before, is_after, is_foreign, one, with_one};
-ghost use Rattle.reown_files.specs.Counting.{files_of, IsCount};
+ghost use Rattle.reown_files.specs.Counting.{files_of, IsCount, StopsCount};
 
 use crate::{Disk, OpenFault, Seen};
 use reown_plan::Record;
@@ -87,8 +87,10 @@ impl OwnerCounts {
 ///
 /// `File`: the first record whose file could not be looked at.
 pub fn count_owners<D: Disk>(disk: &mut D, records: &[Record]) -> Result<OwnerCounts, OpenFault>
-    ensures { IfOk result (λ counts. IsCount
+    ensures counted { IfOk result (λ counts. IsCount
         (map record_of records.now) (D.calls disk.old) (D.calls disk.new) counts) }
+    ensures refused { IfErr result (λ fault. StopsCount
+        (map record_of records.now) (D.calls disk.old) (D.calls disk.new) fault) }
 {
     let mut counts = OwnerCounts {
         before: 0,

@@ -1,7 +1,8 @@
 //! The calls by which the files of a plan are looked at and changed.
 ghost use Rattle.std.specs.Prelude.{◌≡◌, ◌∷◌, List, None, Some, IfOk, OnErr, is_ok};
 ghost use Rattle.reown_files.specs.Calls.{Called, Looked, Met, MetMark, Gave, SetMode, Kept};
-ghost use Rattle.reown_files.specs.Calls.{Settled, PutMark, LostMode, PutModes};
+ghost use Rattle.reown_files.specs.Calls.{Settled, PutMark, LostMode, PutModes, CheckedLinks};
+ghost use Rattle.reown_files.specs.Calls.{KeptMark, ReadModes, Saw, SawMark};
 
 use crate::{Modes, Seen, Trouble};
 use reown_plan::{Owner, PlanMark};
@@ -33,11 +34,12 @@ pub trait Disk: Drop {
 
     /// Sees that all names of a file were met.
     fn check_links(&mut self, path: &[u8]) -> Result<(), Trouble>
-        ensures { calls self.new ≡ calls self.old };
+        ensures { calls self.new ≡ CheckedLinks path.now (is_ok result) ∷ calls self.old };
 
     /// The owner of a file, if it is there. No link is followed.
     fn owner(&mut self, path: &[u8]) -> Result<Option<Owner>, Trouble>
-        ensures { calls self.new ≡ calls self.old };
+        ensures saw { IfOk result (λ found. calls self.new ≡ Saw path.now found ∷ calls self.old) }
+        ensures failed { OnErr result (calls self.new ≡ calls self.old) };
 
     /// Gives a file that has one owner another, and tells its mode before and after.
     fn give(&mut self, path: &[u8], before: Owner, after: Owner) -> Result<Modes, Trouble>
@@ -62,7 +64,8 @@ pub trait Disk: Drop {
 
     /// Whether the mark of this plan is there.
     fn is_marked(&mut self, plan: &PlanMark) -> Result<bool, Trouble>
-        ensures { calls self.new ≡ calls self.old };
+        ensures saw { IfOk result (λ set. calls self.new ≡ SawMark plan.now set ∷ calls self.old) }
+        ensures failed { OnErr result (calls self.new ≡ calls self.old) };
 
     /// Puts the mark of this plan there, in place of what mark is there.
     fn put_mark(&mut self, plan: &PlanMark) -> Result<(), Trouble>
@@ -71,7 +74,7 @@ pub trait Disk: Drop {
     /// Reads the modes that an earlier run of this plan wrote down, if there is one that did. Where
     /// the mark is there, that run has lost none.
     fn read_modes(&mut self, plan: &PlanMark, mark: bool) -> Result<(), Trouble>
-        ensures { calls self.new ≡ calls self.old };
+        ensures { calls self.new ≡ ReadModes plan.now mark (is_ok result) ∷ calls self.old };
 
     /// The mode that was read of this plan for a file, where the file has this owner and its mode
     /// lacks bits of that one, as a change of its owner clears them; none where it has another
@@ -95,5 +98,5 @@ pub trait Disk: Drop {
     /// Sees to it that a stop of the machine leaves the mark. Where this run has put it, the modes
     /// that it wrote down are forgotten then.
     fn keep_mark(&mut self) -> Result<(), Trouble>
-        ensures { calls self.new ≡ calls self.old };
+        ensures { calls self.new ≡ KeptMark (is_ok result) ∷ calls self.old };
 }

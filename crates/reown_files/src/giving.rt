@@ -1,10 +1,11 @@
 //! The changes of a plan, made on a disk.
-ghost use Rattle.std.specs.Prelude.{◌≡◌, true, List, Some, map, OnOk, if◌then◌else◌};
+ghost use Rattle.std.specs.Prelude.{◌≡◌, ◌&&◌, ◌||◌, not, true, List, Some, map, OnOk, is_ok};
+ghost use Rattle.std.specs.Prelude.{if◌then◌else◌};
 ghost use Rattle.reown_plan.specs.declared.mark.PlanMark.{PlanMark};
 ghost use Rattle.reown_plan.specs.PlanData.{PlanRecord};
 ghost use Rattle.reown_plan.specs.Records.{record_of};
 ghost use Rattle.reown_files.specs.Lawful.{is_of, is_planned, all_kept, is_synced, is_begun};
-ghost use Rattle.reown_files.specs.Lawful.{is_lawful};
+ghost use Rattle.reown_files.specs.Lawful.{is_lawful, no_mode_failed};
 ghost use Rattle.reown_files.specs.Replay.{replay, with_owner};
 ghost use Rattle.reown_files.specs.Real.{Grows};
 
@@ -51,6 +52,8 @@ pub fn give_file<D: Disk>(disk: &mut D, path: &[u8], before: Owner, after: Owner
         ≡ (if result.is_made then with_owner path.now (Some after) (replay (D.calls disk.old))
         else replay (D.calls disk.old)) }
     ensures whole { OnOk result.told (result.is_made ≡ true) }
+    ensures mode { no_mode_failed (D.calls disk.new)
+        ≡ ((not result.is_made || is_ok result.told) && no_mode_failed (D.calls disk.old)) }
     ensures grows { Grows (D.calls disk.old) (D.calls disk.new) }
 {
     let modes = match disk.give(path, before, after) {
@@ -77,6 +80,7 @@ pub fn give_file<D: Disk>(disk: &mut D, path: &[u8], before: Owner, after: Owner
 // all.
 fn keep_all<D: Disk>(disk: &mut D, records: &[Record]) -> Result<(), Stop>
     ensures kept { OnOk result (all_kept (map record_of records.now) (D.calls disk.new) ≡ true) }
+    ensures modes { no_mode_failed (D.calls disk.new) ≡ no_mode_failed (D.calls disk.old) }
     ensures lawful { (mark : PlanMark) (plan : List PlanRecord)
         → is_lawful mark plan (D.calls disk.old) ≡ true
         → is_lawful mark plan (D.calls disk.new) ≡ true }
@@ -102,6 +106,7 @@ fn keep_all<D: Disk>(disk: &mut D, records: &[Record]) -> Result<(), Stop>
 /// Sees that each record's file has its new owner, and that a stop of the machine leaves it so.
 pub fn sync_all<D: Disk>(disk: &mut D, records: &[Record]) -> Result<(), Stop>
     ensures synced { OnOk result (is_synced (map record_of records.now) (D.calls disk.new) ≡ true) }
+    ensures modes { no_mode_failed (D.calls disk.new) ≡ no_mode_failed (D.calls disk.old) }
     ensures lawful { (mark : PlanMark) (plan : List PlanRecord)
         → is_lawful mark plan (D.calls disk.old) ≡ true
         → is_lawful mark plan (D.calls disk.new) ≡ true }

@@ -25,5 +25,5 @@ pub use disk::Disk;
 pub use log::{Call, Log};
 pub use modes_file::MODES_BEHIND;
 pub use read_back::{marks_are_read_back, modes_are_read_back};
-pub use real_tree::RealTree;
+pub use real_tree::{RealTree, Refused};
 pub use root::Root;

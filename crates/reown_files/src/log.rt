@@ -27,6 +27,12 @@ pub enum Call<'a> {
     Met(&'a [u8], Option<Owner>),
     /// The mark of this plan was met, there or not.
     MetMark(&'a PlanMark, bool),
+    /// The file of this path was seen at this owner, or not there.
+    Saw(&'a [u8], Option<Owner>),
+    /// The mark of this plan was seen to be there or not.
+    SawMark(&'a PlanMark, bool),
+    /// The names of the file of this path were to be seen to be all in the plan.
+    CheckedLinks(&'a [u8], bool),
     /// The file of this path was to be given an owner in place of another.
     Gave(&'a [u8], Owner, Owner, Option<Modes>),
     /// The bits of its mode were to be set, where it has this owner.
@@ -37,6 +43,11 @@ pub enum Call<'a> {
     Settled(bool),
     /// The mark of this plan was to be put.
     PutMark(&'a PlanMark, bool),
+    /// That mark was to be synced.
+    KeptMark(bool),
+    /// The modes that an earlier run of this plan wrote down were to be read, where its mark was
+    /// there or not.
+    ReadModes(&'a PlanMark, bool, bool),
     /// The mode was asked for that an earlier run of this plan had lost of a file, which has this
     /// owner now.
     LostMode(&'a PlanMark, &'a [u8], Owner, Option<u32>),

@@ -1,15 +1,16 @@
 //! The files of a plan as they lie on a disk, before anything is changed.
-ghost use Rattle.std.specs.Prelude.{◌≡◌, ◌⊎◌, ◌∷◌, ℕ, true, List, Some, None, map, length, IfOk};
-ghost use Rattle.std.specs.Prelude.{OnOk};
+ghost use Rattle.std.specs.Prelude.{◌≡◌, ◌⊎◌, ℕ, true, List, Some, None, map, length, IfOk};
+ghost use Rattle.std.specs.Prelude.{IfErr, OnOk};
 ghost use Rattle.reown_plan.specs.declared.mark.PlanMark.{PlanMark};
 ghost use Rattle.reown_plan.specs.PlanData.{PlanRecord, HaveDistinctPaths};
 ghost use Rattle.reown_plan.specs.Records.{record_of};
-ghost use Rattle.reown_files.specs.Calls.{Met};
-ghost use Rattle.reown_files.specs.Lawful.{is_unchanged, is_lawful};
+ghost use Rattle.reown_files.specs.Lawful.{all_checked, is_unchanged, is_lawful};
+ghost use Rattle.reown_files.specs.Lawful.{no_mode_failed};
+ghost use Rattle.reown_files.specs.Opening.{IsUnfit, IsTrouble, IsRefusal};
 ghost use Rattle.reown_files.specs.Replay.{replay, found_of};
 ghost use Rattle.reown_runner.specs.Halfway.{AreHalfway};
 
-use crate::{Disk, OpenFault, Trouble};
+use crate::{Disk, OpenFault};
 use reown_plan::{Owner, Record};
 use std::alloc::Global;
 
@@ -24,6 +25,7 @@ fn check_left(
         (λ owner. (owner ≡ planned.now.before) ⊎ (owner ≡ planned.now.after)) }
     ensures finished { IfOk result (λ owner. mark ≡ true → owner ≡ planned.now.after) }
     ensures found { IfOk result (λ owner. found ≡ Some owner) }
+    ensures refused { IfErr result (IsUnfit mark i (record_of planned.now) found) }
 {
     let Some(owner) = found else {
         return Err(OpenFault::Missing(i));
@@ -38,25 +40,6 @@ fn check_left(
         return Err(OpenFault::Unfinished(i));
     }
     Ok(owner)
-}
-
-// The owner of a record's file on the disk.
-fn look_at<D: Disk>(
-    disk: &mut D,
-    i: usize,
-    planned: &Record,
-    mark: bool,
-) -> Result<Owner, OpenFault>
-    ensures either { IfOk result
-        (λ owner. (owner ≡ planned.now.before) ⊎ (owner ≡ planned.now.after)) }
-    ensures finished { IfOk result (λ owner. mark ≡ true → owner ≡ planned.now.after) }
-    ensures met { IfOk result
-        (λ owner. D.calls disk.new ≡ Met planned.now.path.now (Some owner) ∷ D.calls disk.old) }
-{
-    match disk.meet(planned.path, planned.after) {
-        Ok(found) => check_left(i, planned, found, mark),
-        Err(trouble) => Err(OpenFault::File(i, trouble)),
-    }
 }
 
 /// The owners of the records' files on the disk, of which none was met before.
@@ -74,22 +57,33 @@ pub fn look_at_all<D: Disk>(
     ensures met { IfOk result
         (λ owners. (path : List ℕ) → (replay (D.calls disk.new)).owner path
         ≡ found_of (map record_of records.now) owners.items path) }
-    ensures mark { OnOk result
-        ((replay (D.calls disk.new)).mark ≡ (replay (D.calls disk.old)).mark) }
-    ensures unchanged { OnOk result (is_unchanged (D.calls disk.old) ≡ true
-        → is_unchanged (D.calls disk.new) ≡ true) }
-    ensures lawful { OnOk result ((mark : PlanMark) (plan : List PlanRecord)
+    ensures mark { (replay (D.calls disk.new)).mark ≡ (replay (D.calls disk.old)).mark }
+    ensures modes { OnOk result
+        (no_mode_failed (D.calls disk.new) ≡ no_mode_failed (D.calls disk.old)) }
+    ensures unchanged { is_unchanged (D.calls disk.old) ≡ true
+        → is_unchanged (D.calls disk.new) ≡ true }
+    ensures lawful { (mark : PlanMark) (plan : List PlanRecord)
         → is_lawful mark plan (D.calls disk.old) ≡ true
-        → is_lawful mark plan (D.calls disk.new) ≡ true) }
+        → is_lawful mark plan (D.calls disk.new) ≡ true }
+    ensures refused { IfErr result
+        (IsRefusal mark (map record_of records.now) (D.calls disk.new)) }
 {
     let mut owners = match Vec::with_capacity(alloc, records.len()) {
         Ok(owners) => owners,
         Err(_) => return Err(OpenFault::Memory),
     };
     for (i, planned) in records.iter().enumerate() {
-        match look_at(disk, i, planned, mark) {
-            Ok(owner) => owners.push(owner)?,
+        let found = match disk.meet(planned.path, planned.after) {
+            Ok(found) => found,
+            Err(trouble) => return Err(OpenFault::File(i, trouble)),
+        };
+        let owner = match check_left(i, planned, found, mark) {
+            Ok(owner) => owner,
             Err(fault) => return Err(fault),
+        };
+        match owners.push(owner) {
+            Ok(()) => {}
+            Err(_) => return Err(OpenFault::Memory),
         }
     }
     Ok(owners)
@@ -97,7 +91,14 @@ pub fn look_at_all<D: Disk>(
 
 /// Sees that the names of each file are all in the plan.
 pub fn check_all_links<D: Disk>(disk: &mut D, records: &[Record]) -> Result<(), OpenFault>
-    ensures { D.calls disk.new ≡ D.calls disk.old }
+    ensures checked { OnOk result
+        (all_checked (map record_of records.now) (D.calls disk.new) ≡ true) }
+    ensures modes { no_mode_failed (D.calls disk.new) ≡ no_mode_failed (D.calls disk.old) }
+    ensures unchanged { is_unchanged (D.calls disk.new) ≡ is_unchanged (D.calls disk.old) }
+    ensures lawful { (mark : PlanMark) (plan : List PlanRecord)
+        → is_lawful mark plan (D.calls disk.new) ≡ is_lawful mark plan (D.calls disk.old) }
+    ensures replayed { replay (D.calls disk.new) ≡ replay (D.calls disk.old) }
+    ensures refused { IfErr result (IsTrouble (map record_of records.now)) }
 {
     for (i, planned) in records.iter().enumerate() {
         if let Err(trouble) = disk.check_links(planned.path) {

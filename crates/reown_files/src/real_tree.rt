@@ -1,6 +1,7 @@
 //! A tree of real files, held against what the run of its plan must have made of it.
-ghost use Rattle.std.specs.Prelude.{◌≡◌, ◌+◌, ◌^◌, ◌<◌, ◌≤◌, [], true, false, Some, None, IfOk};
-ghost use Rattle.std.specs.Prelude.{OnOk, OnErr, IsSome, is_ok, map, length, if◌then◌else◌};
+ghost use Rattle.std.specs.Prelude.{◌≡◌, ◌+◌, ◌^◌, ◌<◌, ◌≤◌, [], ◌∷◌, true, false, Some, None};
+ghost use Rattle.std.specs.Prelude.{IfOk, IfErr, OnOk, OnErr, IsSome, is_ok, map, length};
+ghost use Rattle.std.specs.Prelude.{if◌then◌else◌};
 
 use crate::giving::{give_file, has_change, sync_all};
 use crate::looking::{check_all_links, look_at_all};
@@ -29,10 +30,17 @@ pub struct RealTree<'p, 'a, D: Disk> {
     stop: Option<Stop>,
 }
 
+/// A disk whose files a tree was not opened on, and why.
+#[derive(Drop)]
+pub struct Refused<D: Disk> {
+    pub fault: OpenFault,
+    pub disk: D,
+}
+
 impl<'p, 'a, D: Disk> Model for RealTree<'p, 'a, D> {
-    ghost use Rattle.std.specs.Prelude.{◌≡◌, map, true};
+    ghost use Rattle.std.specs.Prelude.{◌≡◌, map, true, false};
     ghost use Rattle.reown_plan.specs.Records.{record_of};
-    ghost use Rattle.reown_files.specs.Lawful.{is_lawful, is_begun, is_synced};
+    ghost use Rattle.reown_files.specs.Lawful.{is_lawful, is_begun, is_synced, no_mode_failed};
     ghost use Rattle.reown_files.specs.Real.{RealData, HoldsReplay};
 
     ghost Value = { RealData };
@@ -52,11 +60,17 @@ impl<'p, 'a, D: Disk> Model for RealTree<'p, 'a, D> {
         × (is_lawful r.mark (map record_of r.records.now) (D.calls r.disk) ≡ true)
         × (r.is_kept ≡ true → is_synced (map record_of r.records.now) (D.calls r.disk) ≡ true)
         × (is_begun (map record_of r.records.now) (D.calls r.disk) ≡ true)
-        × HoldsReplay r.faults (D.calls r.disk) r.held };
+        × HoldsReplay r.faults (D.calls r.disk) r.held
+        × (r.is_stopped ≡ false → no_mode_failed (D.calls r.disk) ≡ true) };
 }
 
-ghost use Rattle.reown_files.specs.Lawful.{is_lawful, is_planned};
-ghost use Rattle.reown_files.specs.Real.{RealData, HoldsReplay, known_real, readable_real};
+ghost use Rattle.reown_files.specs.Lawful.{is_begun, is_lawful, is_planned, is_unchanged};
+ghost use Rattle.reown_files.specs.Lawful.{is_mark_kept, no_mode_failed};
+ghost use Rattle.reown_files.specs.Calls.{Saw, SawMark};
+ghost use Rattle.reown_files.specs.Opening.{IsRefusal};
+ghost use Rattle.reown_files.specs.Replay.{replay};
+ghost use Rattle.reown_files.specs.Real.{RealData, IsReplay, HoldsReplay, known_real};
+ghost use Rattle.reown_files.specs.Real.{readable_real};
 ghost use Rattle.reown_files.specs.Real.{Grows, IsLater, later_rests, later_goes_on};
 ghost use Rattle.reown_runner.specs.Memory.{known_mem, marked, settled};
 ghost use Rattle.reown_runner.specs.Halfway.{AreHalfway, MayGoOn, mem_of_records};
@@ -91,6 +105,69 @@ fn held_tree(
     }
 }
 
+// The files of a plan on a disk, as an earlier run of it may have left them, or none, with the
+// modes set back that such a run lost.
+fn begun_tree<D: Disk>(
+    alloc: Global,
+    disk: &mut D,
+    plan: &PlanMark,
+    records: &[Record],
+) -> Result<MemTree, OpenFault>
+    requires distinct { HaveDistinctPaths (map record_of records.now) }
+    requires fresh { D.calls disk.old ≡ [] }
+    ensures paths { IfOk result
+        (λ held. held.paths ≡ map (λ r. r.path) (map record_of records.now)) }
+    ensures safe { IfOk result
+        (λ held. MayGoOn (map record_of records.now) (cells_of plan.now (known_mem held))) }
+    ensures replayed { IfOk result (IsReplay (D.calls disk.new)) }
+    ensures begun { OnOk result (is_begun (map record_of records.now) (D.calls disk.new) ≡ true) }
+    ensures modes { OnOk result (no_mode_failed (D.calls disk.new) ≡ true) }
+    ensures unchanged { is_unchanged (D.calls disk.new) ≡ true }
+    ensures lawful { is_lawful plan.now (map record_of records.now) (D.calls disk.new) ≡ true }
+    ensures refused { IfErr result (IsRefusal
+        (is_marked_for plan.now (replay (D.calls disk.new)).mark)
+        (map record_of records.now) (D.calls disk.new)) }
+{
+    let is_marked = match disk.meet_mark(plan) {
+        Ok(is_marked) => is_marked,
+        Err(trouble) => return Err(OpenFault::Disk(trouble)),
+    };
+    let owners = match look_at_all(alloc, disk, records, is_marked) {
+        Ok(owners) => owners,
+        Err(fault) => return Err(fault),
+    };
+    if let Err(fault) = check_all_links(disk, records) {
+        return Err(fault);
+    }
+    if let Err(fault) = begin(disk, plan, records, is_marked) {
+        return Err(fault);
+    }
+    match held_tree(alloc, records, &owners, is_marked, *plan) {
+        Ok(held) => Ok(held),
+        Err(_) => Err(OpenFault::Memory),
+    }
+}
+
+// The owner that was found is the one that is held.
+fn check_owner(found: Option<Owner>, held: Option<Owner>) -> Result<(), Trouble>
+    ensures { OnOk result (found ≡ held) }
+{
+    if found == held {
+        return Ok(());
+    }
+    Err(found.map_or(Trouble::Gone, |owner| Trouble::Foreign(owner)))
+}
+
+// The same of the mark.
+fn check_mark(set: bool, held: bool) -> Result<(), Trouble>
+    ensures { OnOk result (set ≡ held) }
+{
+    if set == held {
+        return Ok(());
+    }
+    Err(Trouble::NotDone)
+}
+
 impl<'p, 'a, D: Disk> RealTree<'p, 'a, D> {
     /// Opens the files of a plan on a disk, as an earlier run of the plan may have left them, or
     /// none. What modes such a run lost are set back; that and what else it did is synced, so that
@@ -102,47 +179,38 @@ impl<'p, 'a, D: Disk> RealTree<'p, 'a, D> {
     /// The first record, in order, whose file is not there, or has neither its old nor its new
     /// owner, or its old one where the mark is set; then the first whose file has a name that is
     /// not in the plan; modes of an earlier run that cannot be read; a call of the disk that
-    /// failed; or want of memory. Nothing is changed then but modes that were set back.
-    pub fn open(alloc: Global, plan: &'p Plan<'a>, mut disk: D) -> Result<Self, OpenFault>
+    /// failed; or want of memory. Nothing is changed then but modes that were set back, and the
+    /// disk is handed back.
+    pub fn open(alloc: Global, plan: &'p Plan<'a>, mut disk: D) -> Result<Self, Refused<D>>
         requires { D.calls disk ≡ [] }
         ensures mark { IfOk result (λ tree. tree.mark ≡ mark_of plan.now) }
         ensures records { IfOk result (λ tree. tree.records ≡ plan.now.records) }
         ensures safe { IfOk result
             (λ tree. MayGoOn plan.now.records (cells_of (mark_of plan.now) (known_real tree))) }
         ensures none_failed { IfOk result (λ tree. (tree.faults ≡ 0) × (tree.asked ≡ 0)) }
+        ensures unchanged { IfErr result (λ refused. is_unchanged (D.calls refused.disk) ≡ true) }
+        ensures lawful { IfErr result (λ refused.
+            is_lawful (mark_of plan.now) plan.now.records (D.calls refused.disk) ≡ true) }
+        ensures refused { IfErr result (λ refused. IsRefusal
+            (is_marked_for (mark_of plan.now) (replay (D.calls refused.disk)).mark)
+            plan.now.records (D.calls refused.disk) refused.fault) }
     {
         let mark = plan.mark();
-        let is_marked = match disk.meet_mark(&mark) {
-            Ok(is_marked) => is_marked,
-            Err(trouble) => return Err(OpenFault::Disk(trouble)),
-        };
         let records = plan.records();
-        let owners = match look_at_all(alloc, &mut disk, records, is_marked) {
-            Ok(owners) => owners,
-            Err(fault) => return Err(fault),
-        };
-        if let Err(fault) = check_all_links(&mut disk, records) {
-            return Err(fault);
+        match begun_tree(alloc, &mut disk, &mark, records) {
+            Ok(held) => Ok(RealTree {
+                mark,
+                records,
+                held,
+                disk,
+                is_kept: false,
+                is_stopped: false,
+                faults: 0,
+                asked: 0,
+                stop: None,
+            }),
+            Err(fault) => Err(Refused { fault, disk }),
         }
-        match begin(&mut disk, &mark, records, is_marked) {
-            Ok(()) => {}
-            Err(fault) => return Err(fault),
-        }
-        let held = match held_tree(alloc, records, &owners, is_marked, mark) {
-            Ok(held) => held,
-            Err(_) => return Err(OpenFault::Memory),
-        };
-        Ok(RealTree {
-            mark,
-            records,
-            held,
-            disk,
-            is_kept: false,
-            is_stopped: false,
-            faults: 0,
-            asked: 0,
-            stop: None,
-        })
     }
 
     /// Nothing was asked of the disk but what the plan has, and that in its order; and what is held
@@ -253,23 +321,28 @@ impl<'p, 'a, D: Disk> RealTree<'p, 'a, D> {
         }
     }
 
+    fn compare_owner(&mut self, path: &[u8], held: Option<Owner>) -> Result<(), Trouble>
+        ensures saw { OnOk result (self.new.calls ≡ Saw path.now held ∷ self.old.calls) }
+        ensures rest { self.new ≡ record self.old { calls = self.new.calls } }
+        ensures grows { Grows self.old.calls self.new.calls }
+    {
+        let found = match self.disk.owner(path) {
+            Ok(found) => found,
+            Err(trouble) => return Err(trouble),
+        };
+        check_owner(found, held)
+    }
+
     // The disk has this owner, or none, for the file.
     fn sees(&mut self, path: &[u8], held: Option<Owner>) -> bool
-        ensures { self.new ≡ self.old }
+        ensures saw { result ≡ true → self.new.calls ≡ Saw path.now held ∷ self.old.calls }
+        ensures rest { self.new ≡ record self.old { calls = self.new.calls } }
+        ensures grows { Grows self.old.calls self.new.calls }
     {
         if self.is_stopped {
             return false;
         }
-        let told = match self.disk.owner(path) {
-            Ok(found) => {
-                if found == held {
-                    Ok(())
-                } else {
-                    Err(found.map_or(Trouble::Gone, |owner| Trouble::Foreign(owner)))
-                }
-            }
-            Err(trouble) => Err(trouble),
-        };
+        let told = self.compare_owner(path, held);
         let place = self.held.index_of(path);
         self.note(place, told)
     }
@@ -285,8 +358,9 @@ impl<'p, 'a, D: Disk> RealTree<'p, 'a, D> {
     }
 
     // Makes a change that the plan has. What was given is held, also where its mode was not set
-    // back.
+    // back; that is for the next `open` then, and the tree is stopped.
     fn give_planned(&mut self, path: &[u8], before: Owner, after: Owner) -> Result<(), Trouble>
+        requires runs { self.old.is_stopped ≡ false }
         requires planned { is_planned self.old.records path.now before after ≡ true }
         requires there { IsSome ((known_mem self.old.tree).owner path.now) }
         ensures done { OnOk result (ForEachPlan (Writes path.now after)
@@ -296,6 +370,7 @@ impl<'p, 'a, D: Disk> RealTree<'p, 'a, D> {
         ensures rest { self.new ≡ record self.old {
           tree = self.new.tree;
           is_kept = self.new.is_kept;
+          is_stopped = self.new.is_stopped;
           calls = self.new.calls;
         } }
         ensures grows { Grows self.old.calls self.new.calls }
@@ -304,6 +379,7 @@ impl<'p, 'a, D: Disk> RealTree<'p, 'a, D> {
         let change = give_file(&mut self.disk, path, before, after);
         if change.is_made {
             self.held.set_owner(path, after).unwrap();
+            self.is_stopped = change.told.is_err();
         }
         change.told
     }
@@ -318,6 +394,7 @@ impl<'p, 'a, D: Disk> RealTree<'p, 'a, D> {
         ensures rest { self.new ≡ record self.old {
           tree = self.new.tree;
           is_kept = self.new.is_kept;
+          is_stopped = self.new.is_stopped;
           calls = self.new.calls;
         } }
         ensures grows { Grows self.old.calls self.new.calls }
@@ -343,6 +420,7 @@ impl<'p, 'a, D: Disk> RealTree<'p, 'a, D> {
         ensures rest { self.new ≡ record self.old {
           tree = self.new.tree;
           is_kept = self.new.is_kept;
+          is_stopped = self.new.is_stopped;
           calls = self.new.calls;
         } }
         ensures grows { Grows self.old.calls self.new.calls }
@@ -355,6 +433,7 @@ impl<'p, 'a, D: Disk> RealTree<'p, 'a, D> {
     // Each file was seen at its new owner and synced behind the last write; and so the mark, where
     // it is held.
     fn keeps(&mut self, mark: bool) -> bool
+        ensures kept { result ≡ true → mark ≡ true → is_mark_kept self.new.calls ≡ true }
         ensures rest { self.new
             ≡ record self.old { is_kept = self.new.is_kept; calls = self.new.calls } }
         ensures grows { Grows self.old.calls self.new.calls }
@@ -391,22 +470,28 @@ impl<'p, 'a, D: Disk> RealTree<'p, 'a, D> {
         }
     }
 
+    fn compare_mark(&mut self, plan: &PlanMark, held: bool) -> Result<(), Trouble>
+        ensures saw { OnOk result (self.new.calls ≡ SawMark plan.now held ∷ self.old.calls) }
+        ensures rest { self.new ≡ record self.old { calls = self.new.calls } }
+        ensures grows { Grows self.old.calls self.new.calls }
+    {
+        let set = match self.disk.is_marked(plan) {
+            Ok(set) => set,
+            Err(trouble) => return Err(trouble),
+        };
+        check_mark(set, held)
+    }
+
+    // The disk has the mark of the plan, or does not have it.
     fn sees_mark(&mut self, plan: &PlanMark, held: bool) -> bool
-        ensures { self.new ≡ self.old }
+        ensures saw { result ≡ true → self.new.calls ≡ SawMark plan.now held ∷ self.old.calls }
+        ensures rest { self.new ≡ record self.old { calls = self.new.calls } }
+        ensures grows { Grows self.old.calls self.new.calls }
     {
         if self.is_stopped {
             return false;
         }
-        let told = match self.disk.is_marked(plan) {
-            Ok(mark) => {
-                if mark == held {
-                    Ok(())
-                } else {
-                    Err(Trouble::NotDone)
-                }
-            }
-            Err(trouble) => Err(trouble),
-        };
+        let told = self.compare_mark(plan, held);
         self.note(None, told)
     }
 
@@ -458,9 +543,14 @@ impl<'p, 'a, D: Disk> RealTree<'p, 'a, D> {
     }
 
     fn keeps_mark(&mut self, held: bool) -> bool
-        ensures { self.new ≡ self.old }
+        ensures kept { result ≡ true → held ≡ true → is_mark_kept self.new.calls ≡ true }
+        ensures rest { self.new ≡ record self.old { calls = self.new.calls } }
+        ensures grows { Grows self.old.calls self.new.calls }
     {
-        let told = if held { self.disk.keep_mark() } else { Ok(()) };
+        if !held {
+            return true;
+        }
+        let told = self.disk.keep_mark();
         self.note(None, told)
     }
 }
@@ -472,6 +562,8 @@ impl<'p, 'a, D: Disk> Tree for RealTree<'p, 'a, D> {
 
     fn owner(&mut self, path: &[u8]) -> Result<Option<Owner>, DeviceFault>
         ensures answer { IfOk result (λ owner. owner ≡ (known_real self.old).owner path.now) }
+        ensures saw { IfOk result (λ owner. self.old.faults + 1 < 2 ^ 64
+            → self.new.calls ≡ Saw path.now owner ∷ self.old.calls) }
         ensures same { ForEachPlan Same (known_real self.old) (known_real self.new) }
         ensures faults { IsCounted
             (known_real self.old).faults (known_real self.new).faults result }
@@ -479,8 +571,10 @@ impl<'p, 'a, D: Disk> Tree for RealTree<'p, 'a, D> {
         ensures later { IsLater self.old self.new }
     {
         let held = self.held_owner(path);
-        let is_seen = self.sees(path, held);
-        if !is_seen && self.may_fail() {
+        if self.sees(path, held) {
+            return Ok(held);
+        }
+        if self.may_fail() {
             return Err(self.fail());
         }
         Ok(held)
@@ -512,6 +606,8 @@ impl<'p, 'a, D: Disk> Tree for RealTree<'p, 'a, D> {
     fn is_marked(&mut self, plan: &PlanMark) -> Result<bool, DeviceFault>
         ensures answer { IfOk result
             (λ set. set ≡ is_marked_for plan.now (known_real self.old).mark) }
+        ensures saw { IfOk result (λ set. self.old.faults + 1 < 2 ^ 64
+            → self.new.calls ≡ SawMark plan.now set ∷ self.old.calls) }
         ensures same { ForEachPlan Same (known_real self.old) (known_real self.new) }
         ensures faults { IsCounted
             (known_real self.old).faults (known_real self.new).faults result }
@@ -519,8 +615,10 @@ impl<'p, 'a, D: Disk> Tree for RealTree<'p, 'a, D> {
         ensures later { IsLater self.old self.new }
     {
         let held = self.held_mark(plan);
-        let is_seen = self.sees_mark(plan, held);
-        if !is_seen && self.may_fail() {
+        if self.sees_mark(plan, held) {
+            return Ok(held);
+        }
+        if self.may_fail() {
             return Err(self.fail());
         }
         Ok(held)
@@ -551,6 +649,9 @@ impl<'p, 'a, D: Disk> Tree for RealTree<'p, 'a, D> {
 
     fn sync(&mut self) -> Result<(), DeviceFault>
         ensures done { OnOk result (ForEachPlan Syncs (known_real self.old) (known_real self.new)) }
+        ensures kept { OnOk result (self.old.faults + 1 < 2 ^ 64
+            → is_marked_for self.old.mark (known_real self.old).mark ≡ true
+            → is_mark_kept self.new.calls ≡ true) }
         ensures failed { OnErr result
             (ForEachPlan (MayDo Sync) (known_real self.old) (known_real self.new)) }
         ensures faults { IsCounted

@@ -1,10 +1,13 @@
 //! The modes of a plan's files around its run: those that an earlier run lost are set back, and
 //! those that this one may lose are written down.
-ghost use Rattle.std.specs.Prelude.{◌≡◌, ◌∷◌, ◌++◌, [], true, List, map, OnOk};
+ghost use Rattle.std.specs.Prelude.{◌≡◌, ◌∷◌, ◌++◌, [], true, List, map, IfErr, OnOk};
 ghost use Rattle.std.specs.List.{list_any};
+ghost use Rattle.reown_plan.specs.Mark.{is_marked_for};
 ghost use Rattle.reown_plan.specs.PlanData.{PlanRecord};
 ghost use Rattle.reown_plan.specs.Records.{record_of};
 ghost use Rattle.reown_files.specs.Lawful.{is_given, is_unchanged, all_asked, is_begun, is_lawful};
+ghost use Rattle.reown_files.specs.Lawful.{no_mode_failed, all_checked, were_read};
+ghost use Rattle.reown_files.specs.Opening.{IsTrouble};
 ghost use Rattle.reown_files.specs.Replay.{replay};
 
 use crate::{Disk, OpenFault, Trouble};
@@ -15,11 +18,17 @@ fn set_back<D: Disk>(disk: &mut D, plan: &PlanMark, planned: &Record) -> Result<
     ensures asked { OnOk result ((before : List PlanRecord)
         → all_asked before (D.calls disk.old) ≡ true
         → all_asked (before ++ record_of planned.now ∷ []) (D.calls disk.new) ≡ true) }
+    ensures modes { OnOk result
+        (no_mode_failed (D.calls disk.new) ≡ no_mode_failed (D.calls disk.old)) }
+    ensures checked { (records : List PlanRecord) → all_checked records (D.calls disk.old) ≡ true
+        → all_checked records (D.calls disk.new) ≡ true }
+    ensures read { were_read plan.now (D.calls disk.new) ≡ were_read plan.now (D.calls disk.old) }
     ensures unchanged { is_unchanged (D.calls disk.old) ≡ true
         → is_unchanged (D.calls disk.new) ≡ true }
     ensures lawful { (records : List PlanRecord)
         → list_any (is_given (record_of planned.now).path (record_of planned.now).after) records
         ≡ true
+        → were_read plan.now (D.calls disk.old) ≡ true
         → is_unchanged (D.calls disk.old) ≡ true
         → is_lawful plan.now records (D.calls disk.old) ≡ true
         → is_lawful plan.now records (D.calls disk.new) ≡ true }
@@ -41,8 +50,15 @@ fn set_back<D: Disk>(disk: &mut D, plan: &PlanMark, planned: &Record) -> Result<
 // Sets back each mode that an earlier run had lost.
 fn set_all_back<D: Disk>(disk: &mut D, plan: &PlanMark, records: &[Record]) -> Result<(), OpenFault>
     requires unchanged { is_unchanged (D.calls disk.old) ≡ true }
+    requires checked { all_checked (map record_of records.now) (D.calls disk.old) ≡ true }
+    requires read { were_read plan.now (D.calls disk.old) ≡ true }
     requires lawful { is_lawful plan.now (map record_of records.now) (D.calls disk.old) ≡ true }
+    ensures checked { all_checked (map record_of records.now) (D.calls disk.new) ≡ true }
+    ensures read { were_read plan.now (D.calls disk.new) ≡ true }
+    ensures refused { IfErr result (IsTrouble (map record_of records.now)) }
     ensures asked { OnOk result (all_asked (map record_of records.now) (D.calls disk.new) ≡ true) }
+    ensures modes { OnOk result
+        (no_mode_failed (D.calls disk.new) ≡ no_mode_failed (D.calls disk.old)) }
     ensures unchanged { is_unchanged (D.calls disk.new) ≡ true }
     ensures lawful { is_lawful plan.now (map record_of records.now) (D.calls disk.new) ≡ true }
     ensures replayed { replay (D.calls disk.new) ≡ replay (D.calls disk.old) }
@@ -65,9 +81,15 @@ pub fn begin<D: Disk>(
     records: &[Record],
     mark: bool,
 ) -> Result<(), OpenFault>
+    requires marked { mark ≡ is_marked_for plan.now (replay (D.calls disk.old)).mark }
+    requires checked { all_checked (map record_of records.now) (D.calls disk.old) ≡ true }
     requires unchanged { is_unchanged (D.calls disk.old) ≡ true }
     requires lawful { is_lawful plan.now (map record_of records.now) (D.calls disk.old) ≡ true }
     ensures begun { OnOk result (is_begun (map record_of records.now) (D.calls disk.new) ≡ true) }
+    ensures modes { OnOk result
+        (no_mode_failed (D.calls disk.new) ≡ no_mode_failed (D.calls disk.old)) }
+    ensures unchanged { is_unchanged (D.calls disk.new) ≡ true }
+    ensures refused { IfErr result (IsTrouble (map record_of records.now)) }
     ensures lawful { is_lawful plan.now (map record_of records.now) (D.calls disk.new) ≡ true }
     ensures replayed { replay (D.calls disk.new) ≡ replay (D.calls disk.old) }
 {

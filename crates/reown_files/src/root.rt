@@ -279,6 +279,17 @@ impl<'w> Root<'w> {
             Ok(None)
         }
     }
+
+    // Syncs the mark, and forgets the modes that this run wrote down where it has put the mark.
+    fn finish(&mut self) -> Result<(), Trouble>
+        ensures { self.new.log.calls ≡ self.old.log.calls }
+    {
+        self.mark.keep()?;
+        if self.is_put {
+            self.modes.forget()?;
+        }
+        Ok(())
+    }
 }
 
 ghost use Rattle.reown_files.specs.OneFile.{seen_if_there};
@@ -336,11 +347,15 @@ impl<'w> Disk for Root<'w> {
     }
 
     fn check_links(&mut self, path: &[u8]) -> Result<(), Trouble> {
-        self.below.check_links(path)
+        let told = self.below.check_links(path);
+        self.log.note(&Call::CheckedLinks(path, told.is_ok()));
+        told
     }
 
     fn owner(&mut self, path: &[u8]) -> Result<Option<Owner>, Trouble> {
-        if_there(self.below.owner(path))
+        let found = if_there(self.below.owner(path))?;
+        self.log.note(&Call::Saw(path, found));
+        Ok(found)
     }
 
     fn give(&mut self, path: &[u8], before: Owner, after: Owner) -> Result<Modes, Trouble> {
@@ -376,7 +391,9 @@ impl<'w> Disk for Root<'w> {
     }
 
     fn is_marked(&mut self, plan: &PlanMark) -> Result<bool, Trouble> {
-        self.mark.is_there(plan)
+        let is_there = self.mark.is_there(plan)?;
+        self.log.note(&Call::SawMark(plan, is_there));
+        Ok(is_there)
     }
 
     fn put_mark(&mut self, plan: &PlanMark) -> Result<(), Trouble> {
@@ -387,7 +404,9 @@ impl<'w> Disk for Root<'w> {
     }
 
     fn read_modes(&mut self, plan: &PlanMark, mark: bool) -> Result<(), Trouble> {
-        self.modes.read(plan, mark)
+        let told = self.modes.read(plan, mark);
+        self.log.note(&Call::ReadModes(plan, mark, told.is_ok()));
+        told
     }
 
     fn lost_mode(
@@ -408,10 +427,8 @@ impl<'w> Disk for Root<'w> {
     }
 
     fn keep_mark(&mut self) -> Result<(), Trouble> {
-        self.mark.keep()?;
-        if self.is_put {
-            self.modes.forget()?;
-        }
-        Ok(())
+        let told = self.finish();
+        self.log.note(&Call::KeptMark(told.is_ok()));
+        told
     }
 }

@@ -99,7 +99,7 @@ impl<'w> Way<'w> {
     /// part.
     pub fn enter<'b>(&mut self, path: &'b [u8]) -> Result<&'b [u8], Trouble> {
         let (parent, name) = split_name(path);
-        if !is_name(name) && path != b".".as_slice() {
+        if path.starts_with(b"/") || !is_name(name) && path != b".".as_slice() {
             return Err(Trouble::BadPath);
         }
         if !self.is_there || self.path.as_slice() != parent {

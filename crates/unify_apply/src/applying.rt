@@ -51,7 +51,7 @@ fn carry_out<'w>(
     progress.clear(rt);
     let mut tree = match found {
         Ok(tree) => tree,
-        Err(fault) => return Err(not_opened(rt, place, plan.records(), fault)),
+        Err(refused) => return Err(not_opened(rt, place, plan.records(), refused.fault)),
     };
     let done = apply(plan, &mut tree);
     progress.clear(rt);

@@ -42,3 +42,9 @@ count-requires g c =
       set_id = omega (arith, below, many, ap (λ (k : OwnerCounts). k.set_id) c.loop-i.invariant.3, count_by-le-length has_set_id looks);
       linked = omega (arith, below, many, ap (λ (k : OwnerCounts). k.linked) c.loop-i.invariant.3, count_by-le-length has_names looks);
     }
+
+pub returns-in-Err-clause-refused : goal.returns-in-Err-clause-refused
+returns-in-Err-clause-refused g c =
+    let rs = c.args.records.now in
+    let below : c.loop-i.i < length rs = omega arith in
+    (omega (arith, length-map rs record_of), (c.loop-i.invariant.0, c.loop-i.invariant.1, c.in-Err.ensures.failed ∙ c.loop-i.invariant.2))

@@ -15,11 +15,14 @@ loop-i-preserved g c =
     let more = take_more (map record_of rs) i nothing below_map ∙ ap (λ (r : PlanRecord). take i (map record_of rs) ++ r ∷ []) (get_or-map record_of rs i _ nothing below) in
     record {
       asked = ap (λ xs. all_asked xs (g.D.Disk.calls c.set_back.new.disk)) more ∙ c.in-Ok.ensures.asked (take i (map record_of rs)) c.loop-i.invariant.asked;
+      modes = c.in-Ok.ensures.modes ∙ c.loop-i.invariant.modes;
+      checked = c.set_back.ensures.checked (map record_of rs) c.loop-i.invariant.checked;
+      read = c.set_back.ensures.read ∙ c.loop-i.invariant.read;
       unchanged = c.set_back.ensures.unchanged c.loop-i.invariant.unchanged;
-      lawful = c.set_back.ensures.lawful (map record_of rs) (given_at rs i _ below) c.loop-i.invariant.unchanged c.loop-i.invariant.lawful;
+      lawful = c.set_back.ensures.lawful (map record_of rs) (given_at rs i _ below) c.loop-i.invariant.read c.loop-i.invariant.unchanged c.loop-i.invariant.lawful;
       replayed = c.set_back.ensures.replayed ∙ c.loop-i.invariant.replayed;
     }
 
 pub returns-in-Err-clause-lawful : goal.returns-in-Err-clause-lawful
 returns-in-Err-clause-lawful g c =
-    c.set_back.ensures.lawful (map record_of c.args.records.now) (given_at c.args.records.now c.loop-i.i _ c.loop-i-test.true) c.loop-i.invariant.unchanged c.loop-i.invariant.lawful
+    c.set_back.ensures.lawful (map record_of c.args.records.now) (given_at c.args.records.now c.loop-i.i _ c.loop-i-test.true) c.loop-i.invariant.read c.loop-i.invariant.unchanged c.loop-i.invariant.lawful

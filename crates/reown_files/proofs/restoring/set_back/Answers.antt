@@ -12,11 +12,11 @@ returns-in_default-clause-asked g c = λ before h.
     ap (all_asked (before ++ r ∷ [])) c.in-Ok.ensures.told ∙ one_more_asked c.args.plan.now (g.D.Disk.calls c.args.disk.now) before r h c.in-Ok.lost
 
 pub returns-in_default-clause-lawful : goal.returns-in_default-clause-lawful
-returns-in_default-clause-lawful g c = λ records given unchanged h.
+returns-in_default-clause-lawful g c = λ records given read unchanged h.
     let r = record_of c.args.planned.now in
     let old = g.D.Disk.calls c.args.disk.now in
     ap (is_lawful c.args.plan.now records) (c.in-Ok.ensures.told ∙ ap (λ (m : Option ℕ). LostMode c.args.plan.now r.path r.after m ∷ old) c.in_default.is)
-    ∙ lawful_none c.args.plan.now records old unchanged h r.path r.after given
+    ∙ lawful_none c.args.plan.now records old read unchanged h r.path r.after given
 
 pub returns-in-Ok-set_mode-clause-asked : goal.returns-in-Ok-set_mode-clause-asked
 returns-in-Ok-set_mode-clause-asked g c = on_ok_any c.keep.result (λ before h.
@@ -29,7 +29,7 @@ returns-in-Ok-set_mode-clause-asked g c = on_ok_any c.keep.result (λ before h.
     ∙ one_more_found c.args.plan.now (g.D.Disk.calls c.args.disk.now) before r h c.in-Ok.lost mode set kept)
 
 pub returns-in-Ok-set_mode-clause-lawful : goal.returns-in-Ok-set_mode-clause-lawful
-returns-in-Ok-set_mode-clause-lawful g c = λ records given unchanged h.
+returns-in-Ok-set_mode-clause-lawful g c = λ records given read unchanged h.
     let r = record_of c.args.planned.now in
     let old = g.D.Disk.calls c.args.disk.now in
     let mode = c.in-Some.mode in
@@ -37,13 +37,13 @@ returns-in-Ok-set_mode-clause-lawful g c = λ records given unchanged h.
     let kept = is_ok c.keep.result in
     let told = c.in-Ok.ensures.told ∙ ap (λ (m : Option ℕ). LostMode c.args.plan.now r.path r.after m ∷ old) c.in-Some.is in
     let all = c.keep.ensures ∙ ap (λ (cs : List Called). Kept r.path r.after kept ∷ cs) (c.set_mode.ensures ∙ ap (λ (cs : List Called). SetMode r.path r.after mode set ∷ cs) told) in
-    ap (is_lawful c.args.plan.now records) all ∙ lawful_found c.args.plan.now records old unchanged h r.path r.after given mode set
+    ap (is_lawful c.args.plan.now records) all ∙ lawful_found c.args.plan.now records old read unchanged h r.path r.after given mode set
 
 pub returns-in-Err-set_mode-clause-lawful : goal.returns-in-Err-set_mode-clause-lawful
-returns-in-Err-set_mode-clause-lawful g c = λ records given unchanged h.
+returns-in-Err-set_mode-clause-lawful g c = λ records given read unchanged h.
     let r = record_of c.args.planned.now in
     let old = g.D.Disk.calls c.args.disk.now in
     let mode = c.in-Some.mode in
     let set = is_ok c.set_mode.result in
     let told = c.in-Ok.ensures.told ∙ ap (λ (m : Option ℕ). LostMode c.args.plan.now r.path r.after m ∷ old) c.in-Some.is in
-    ap (is_lawful c.args.plan.now records) (c.set_mode.ensures ∙ ap (λ (cs : List Called). SetMode r.path r.after mode set ∷ cs) told) ∙ lawful_found c.args.plan.now records old unchanged h r.path r.after given mode set
+    ap (is_lawful c.args.plan.now records) (c.set_mode.ensures ∙ ap (λ (cs : List Called). SetMode r.path r.after mode set ∷ cs) told) ∙ lawful_found c.args.plan.now records old read unchanged h r.path r.after given mode set

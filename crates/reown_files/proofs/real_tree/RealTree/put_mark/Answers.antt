@@ -4,7 +4,7 @@ use Rattle.reown_files.specs.Calls.{Called}
 use Rattle.reown_files.specs.Real.{RealData, Grows}
 use Rattle.std.specs.Result.{is_ok}
 use Rattle.reown_plan.specs.Records.{record_of}
-use Rattle.reown_files.specs.Lawful.{is_lawful, is_begun, is_synced}
+use Rattle.reown_files.specs.Lawful.{is_lawful, is_begun, is_synced, no_mode_failed}
 use Rattle.reown_runner.specs.Memory.{Mem}
 use Rattle.reown_files.specs.Replay.{replay}
 use Rattle.reown_files.proofs.Laws.{lawful_mark, synced_behind_mark, one_call}
@@ -18,10 +18,11 @@ invariant_of-self g c =
     let own : mark_eq c.args.plan.now c.self.inside.mark ≡ true = ap (λ (r : RealData). mark_eq c.args.plan.now r.mark) c.self.view_is ∙ sym c.is_own.ensures ∙ c.if-not-is_own.false in
     let done = is_ok c.put_mark.result in (
       ap (λ (m : Mem). m.paths) c.set_mark.ensures.marked ∙ c.self.invariant.0,
-      ap (is_lawful c.self.inside.mark records) c.put_mark.ensures ∙ lawful_mark c.self.inside.mark records calls c.args.plan.now done own (c.self.invariant.2 c.if-not-self.false) c.self.invariant.1,
+      ap (is_lawful c.self.inside.mark records) c.put_mark.ensures ∙ lawful_mark c.self.inside.mark records calls c.args.plan.now done own (c.self.invariant.2 c.if-not-self.false) (c.self.invariant.5 c.if-self.false) c.self.invariant.1,
       λ kept. ap (is_synced records) c.put_mark.ensures ∙ synced_behind_mark c.args.plan.now done calls records (c.self.invariant.2 kept),
       ap (is_begun records) c.put_mark.ensures ∙ c.self.invariant.3,
       λ h. marked_replay calls (g.D.Disk.calls c.put_mark.new.self) c.self.inside.held c.set_mark.new.self c.args.plan.now c.in-Ok.ensures c.set_mark.ensures.marked (c.self.invariant.4 h),
+      λ runs. ap no_mode_failed c.put_mark.ensures ∙ c.self.invariant.5 runs,
     )
 
 pub invariant_of-self-in-Err : goal.invariant_of-self-in-Err
@@ -31,10 +32,11 @@ invariant_of-self-in-Err g c =
     let own : mark_eq c.args.plan.now c.self.inside.mark ≡ true = ap (λ (r : RealData). mark_eq c.args.plan.now r.mark) c.self.view_is ∙ sym c.is_own.ensures ∙ c.if-not-is_own.false in
     let done = is_ok c.put_mark.result in (
       c.self.invariant.0,
-      ap (is_lawful c.self.inside.mark records) c.put_mark.ensures ∙ lawful_mark c.self.inside.mark records calls c.args.plan.now done own (c.self.invariant.2 c.if-not-self.false) c.self.invariant.1,
+      ap (is_lawful c.self.inside.mark records) c.put_mark.ensures ∙ lawful_mark c.self.inside.mark records calls c.args.plan.now done own (c.self.invariant.2 c.if-not-self.false) (c.self.invariant.5 c.if-self.false) c.self.invariant.1,
       λ kept. ap (is_synced records) c.put_mark.ensures ∙ synced_behind_mark c.args.plan.now done calls records (c.self.invariant.2 kept),
       ap (is_begun records) c.put_mark.ensures ∙ c.self.invariant.3,
       λ h. same_replay calls (g.D.Disk.calls c.put_mark.new.self) c.self.inside.held (ap replay c.in-Err.ensures) (c.self.invariant.4 h),
+      λ runs. ap no_mode_failed c.put_mark.ensures ∙ c.self.invariant.5 runs,
     )
 
 pub returns-in-Ok-clause-grows : goal.returns-in-Ok-clause-grows

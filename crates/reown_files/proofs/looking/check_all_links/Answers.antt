@@ -1,0 +1,25 @@
+use Rattle.std.proofs.Common.{◌≡◌, ◌∙◌, ◌∷◌, ◌<◌, map, length, sym, ap, subst, arith}
+use Rattle.std.specs.Result.{is_ok}
+use Rattle.std.proofs.lemmas.List.{get_or-map, length-map}
+use Rattle.reown_plan.specs.PlanData.{PlanRecord}
+use Rattle.reown_plan.specs.Records.{record_of}
+use Rattle.reown_files.specs.Calls.{CheckedLinks}
+use Rattle.reown_files.specs.Lawful.{is_unchanged, is_lawful, no_mode_failed}
+use Rattle.reown_files.specs.Replay.{replay}
+use Rattle.reown_files.proofs.Laws.{nothing, checks_on}
+use Rattle.reown_files.proofs.looking.check_all_links.Goals as goal
+
+pub loop-i-preserved : goal.loop-i-preserved
+loop-i-preserved g c =
+    let rs = c.args.records.now in
+    let below : c.loop-i.i < length rs = omega arith in
+    let below_map : c.loop-i.i < length (map record_of rs) = omega (arith, length-map rs record_of) in
+    record {
+      checked = checks_on (map record_of rs) c.loop-i.i (g.D.Disk.calls c.loop-i.disk) (g.D.Disk.calls c.check_links.new.self) (is_ok c.check_links.result) below_map
+          (subst (λ (r : PlanRecord). g.D.Disk.calls c.check_links.new.self ≡ CheckedLinks r.path (is_ok c.check_links.result) ∷ g.D.Disk.calls c.loop-i.disk) (sym (get_or-map record_of rs c.loop-i.i _ nothing below)) c.check_links.ensures)
+          (ap is_ok c.in_default.is) c.loop-i.invariant.checked;
+      modes = ap no_mode_failed c.check_links.ensures ∙ c.loop-i.invariant.modes;
+      unchanged = ap is_unchanged c.check_links.ensures ∙ c.loop-i.invariant.unchanged;
+      lawful = λ mark plan. ap (is_lawful mark plan) c.check_links.ensures ∙ c.loop-i.invariant.lawful mark plan;
+      replayed = ap replay c.check_links.ensures ∙ c.loop-i.invariant.replayed;
+    }

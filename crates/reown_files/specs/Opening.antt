@@ -1,0 +1,43 @@
+-- Why the files of a plan were not begun with.
+-- Source: this project's own rule.
+use Rattle.std.specs.Prelude.{◌≡◌, ◌≢◌, ◌⊎◌, ◌<◌, ◌∷◌, ℕ, Bool, true, List, Option, None, Some}
+use Rattle.std.specs.Prelude.{⊤, length, slice_get}
+use Rattle.reown_plan.specs.declared.plan.Owner.{Owner}
+use Rattle.reown_plan.specs.PlanData.{PlanRecord}
+use Rattle.reown_files.specs.declared.answers.OpenFault.{OpenFault}
+use Rattle.reown_files.specs.declared.answers.OpenFault.TheVariants.{Missing, Foreign, Unfinished}
+use Rattle.reown_files.specs.declared.answers.OpenFault.TheVariants.{File, Disk, Modes, Memory}
+use Rattle.reown_files.specs.Calls.{Called, Met}
+
+-- the file of this record, the one at a place, was met with this owner or not there, and is no file
+-- that a run of the plan can have left
+abbrev pub IsUnfit : Bool → ℕ → PlanRecord → Option Owner → OpenFault → Type 0
+IsUnfit mark i r found (Missing at) = (at ≡ i) × (found ≡ None)
+IsUnfit mark i r found (Foreign at owner) =
+    (at ≡ i) × (found ≡ Some owner) × (owner ≢ r.before) × (owner ≢ r.after)
+IsUnfit mark i r found (Unfinished at) = (at ≡ i) × (found ≡ Some r.before) × (mark ≡ true)
+IsUnfit mark i r found _ = ⊥
+
+-- the call that was made last met such a file, and that is why
+pub record MetUnfit
+    (mark : Bool) (records : List PlanRecord) (calls : List Called) (fault : OpenFault)
+    : Type 0 where
+  pub i : ℕ
+  pub r : PlanRecord
+  pub found : Option Owner
+  pub before : List Called
+  pub here : slice_get records i ≡ Some r
+  pub last : calls ≡ Met r.path found ∷ before
+  pub unfit : IsUnfit mark i r found fault
+
+-- a call of the disk failed, on the file of one of the records or on another; or memory was refused
+abbrev pub IsTrouble : List PlanRecord → OpenFault → Type 0
+IsTrouble records (File i trouble) = i < length records
+IsTrouble records (Disk trouble) = ⊤
+IsTrouble records (Modes trouble) = ⊤
+IsTrouble records Memory = ⊤
+IsTrouble records _ = ⊥
+
+abbrev pub IsRefusal : Bool → List PlanRecord → List Called → OpenFault → Type 0
+IsRefusal mark records calls fault =
+    IsTrouble records fault ⊎ MetUnfit mark records calls fault
