@@ -36,7 +36,7 @@ filter-same p q (x ∷ xs) same =
     λ i. cond (first i) (x ∷ rest i) (rest i)
 
 -- a number is reserved where one reserves it alone
-reserved-alone : (reserved : List Reserved) (host : Host) (row : List ℕ × ℕ) → Contains reserved (by_name host row) → is_reserved reserved row.1 ≡ true
+pub reserved-alone : (reserved : List Reserved) (host : Host) (row : List ℕ × ℕ) → Contains reserved (by_name host row) → is_reserved reserved row.1 ≡ true
 reserved-alone reserved host row there =
     let has : in_range (only row.1) row.1 ≡ true = rw (le-leb row.1 row.1 (omega arith)) refl in
     list_any_at (λ (r : Reserved). in_range r.numbers row.1) reserved there.0 (by_name host row) there.1 (ap (λ (r : Reserved). in_range r.numbers row.1) there.2 ∙ has)

@@ -22,3 +22,4 @@ pub mod SurveyedFiles
 pub mod HostTexts
 pub mod RowBytes
 pub mod Tellable
+pub mod KeptNumbers

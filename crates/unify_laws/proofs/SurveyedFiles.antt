@@ -1,7 +1,7 @@
 -- The numbers that a survey finds are enough: by them a host allows all of its files.
 use Rattle.std.proofs.Common.{◌≡◌, ◌⊎◌, inl, inr, ℕ, zero, suc, ◌<◌, ◌++◌, ◌||◌, Bool, true, false, not, List, [], ◌∷◌, length, map, get_or, Option, Some, None, Ok, refl, sym, ap, subst, ◌∙◌}
 use Rattle.std.specs.Prelude.{is_some, option_map, if◌then◌else◌}
-use Rattle.std.specs.List.{Any, Contains, slice_get}
+use Rattle.std.specs.List.{All, Any, Contains, slice_get}
 use Rattle.std.proofs.Math.Bool.{or-true}
 use Rattle.std.proofs.lemmas.List.{get_or_default}
 use Rattle.std.proofs.lemmas.List.Elements.{Contains-append_left, Contains-append_right}
@@ -13,7 +13,7 @@ use Rattle.logindefs.specs.Ranges.{in_range}
 use Rattle.logindefs.specs.declared.ranges.IdRange.{IdRange}
 use Rattle.mtree_inv.specs.declared.entry.Entry.{Entry}
 use Rattle.hosts_join.specs.Checks.{hosts_checked}
-use Rattle.hosts_join.specs.Hosts.{spares_group, spares_user}
+use Rattle.hosts_join.specs.Hosts.{allows_gid, allows_uid, spares_group, spares_user}
 use Rattle.hosts_join.specs.Kinds.{group_at, group_rows, user_at, user_rows}
 use Rattle.hosts_join.specs.RangeLists.{lies_in_some}
 use Rattle.hosts_join.specs.declared.host.Host.{Host}
@@ -30,9 +30,10 @@ use Rattle.kept_accounts.proofs.SparedLemmas.{named_left_or_spared, unowned_spar
 use Rattle.survey.specs.Unowned.{is_unowned_gid, is_unowned_uid, on_host, unowned_gids, unowned_uids, unowned_with}
 use Rattle.survey.proofs.OnceLemmas.{among-once}
 use Rattle.unify.specs.declared.host.Loaded.{Loaded}
-use Rattle.unify.specs.Hosts.{allows_gid, allows_uid, host_of}
+use Rattle.unify.specs.declared.rules.KeepRules.{KeepRules}
+use Rattle.unify.specs.Hosts.{host_of}
 use Rattle.unify.specs.Loading.{loaded_from}
-use Rattle.unify.specs.Others.{Others, keep_read}
+use Rattle.unify.specs.Others.{Others, keep_read, others_loaded}
 use Rattle.unify.specs.Survey.{found_on, inventory_of, keeps_unowned, listed_of, sparing_hosts, sparing_ranges, surveyed, surveyed_hosts, unowned_over}
 use Rattle.unify.specs.Told.{in_keep, in_site}
 use Rattle.unify.proofs.ReadSites.{are-loaded}
@@ -99,27 +100,25 @@ module _ (keep : KeepText) (hosts : List Host) (unowned : UnownedNumbers) (full 
 
 -- ---- of a site
 
--- the hosts were surveyed, with these files
-record IsSurveyed (texts : List HostText) (keep : KeepText) (unowned : UnownedNumbers) (loaded : List Loaded) : Type 0 where
+-- the hosts were surveyed by these inventories, with these files
+record IsSurveyed (keep : KeepText) (unowned : UnownedNumbers) (loaded : List Loaded) (inventories : List (List ℕ)) : Type 0 where
   listed : List (Host × List Entry)
-  are : each listed_of (loaded_from (map (λ l. sparing_ranges keep l.host) loaded) (mtrees texts)) ≡ Ok listed
+  are : each listed_of (loaded_from (map (λ l. sparing_ranges keep l.host) loaded) inventories) ≡ Ok listed
   numbers : unowned_over no_numbers listed ≡ unowned
 
-survey-of : (texts : List HostText) (keep_text : List ℕ) (keep : KeepText) (unowned : UnownedNumbers) (loaded : List Loaded) → keep_of keep_text ≡ Ok keep → surveyed texts keep_text ≡ Ok unowned → each host_of texts ≡ Ok loaded → keeps_unowned keep ≡ true
-    → IsSurveyed texts keep unowned loaded
-unfolding surveyed
-survey-of texts keep_text keep unowned loaded read found tables keeps =
-    let step = bind_ok (surveyed_hosts texts (keep_read keep_text)) (λ hosts. found_on hosts (mtrees texts)) unowned found in
-    let hosts : sparing_hosts texts keep ≡ Ok step.0 = ap (λ r. surveyed_hosts texts (in_keep r)) (sym read) ∙ step.1 in
-    let all = rw keeps at hosts in
-    let checked = bind_ok (in_site (hosts_checked texts)) _ step.0 all in
-    let loading = bind_ok (each host_of texts) _ step.0 checked.2 in
+survey-of : (texts : List HostText) (keep_text : List ℕ) (keep : KeepText) (unowned : UnownedNumbers) (loaded : List Loaded) (hosts : List Host) (inventories : List (List ℕ)) → keep_of keep_text ≡ Ok keep → surveyed_hosts texts (keep_read keep_text) ≡ Ok hosts
+    → found_on hosts inventories ≡ Ok unowned → each host_of texts ≡ Ok loaded → keeps_unowned keep ≡ true → IsSurveyed keep unowned loaded inventories
+survey-of texts keep_text keep unowned loaded hosts inventories read surveying found tables keeps =
+    let spare : sparing_hosts texts keep ≡ Ok hosts = ap (λ r. surveyed_hosts texts (in_keep r)) (sym read) ∙ surveying in
+    let all = rw keeps at spare in
+    let checked = bind_ok (in_site (hosts_checked texts)) _ hosts all in
+    let loading = bind_ok (each host_of texts) _ hosts checked.2 in
     let same : loading.0 ≡ loaded = ok_same loading.0 loaded (sym loading.1 ∙ tables) in
-    let are : step.0 ≡ map (λ (l : Loaded). sparing_ranges keep l.host) loaded = sym (ok_same _ step.0 loading.2) ∙ ap (map (λ (l : Loaded). sparing_ranges keep l.host)) same in
-    let listing = bind_ok (each listed_of (loaded_from step.0 (mtrees texts))) (λ listed. Ok (unowned_over no_numbers listed)) unowned step.2 in
+    let are : hosts ≡ map (λ (l : Loaded). sparing_ranges keep l.host) loaded = sym (ok_same _ hosts loading.2) ∙ ap (map (λ (l : Loaded). sparing_ranges keep l.host)) same in
+    let listing = bind_ok (each listed_of (loaded_from hosts inventories)) (λ listed. Ok (unowned_over no_numbers listed)) unowned found in
     record {
       listed = listing.0;
-      are = ap (λ hs. each listed_of (loaded_from hs (mtrees texts))) (sym are) ∙ listing.1;
+      are = ap (λ hs. each listed_of (loaded_from hs inventories)) (sym are) ∙ listing.1;
       numbers = ok_same (unowned_over no_numbers listing.0) unowned listing.2;
     }
 
@@ -127,8 +126,11 @@ survey-of texts keep_text keep unowned loaded read found tables keeps =
 any-file : (number : Entry → ℕ) (files : List Entry) (k : ℕ) (d : Entry) → k < length files → Any (λ f. number f ≡ number (get_or files k d)) files
 any-file number files k d within = (k, get_or files k d, within, get_or_default files k (get_or files k d) d within, refl)
 
-pub surveyed_files_are_allowed : SurveyedFilesAreAllowed
-surveyed_files_are_allowed texts rules keep others read found loads h host text files here there inventory =
+-- a host allows all files of its inventory, by the numbers that were found of such inventories
+pub found_files_are_allowed : (texts : List HostText) (rules : KeepRules) (keep : KeepText) (others : Others) (hosts : List Host) (inventories : List (List ℕ)) → keep_of rules.text ≡ Ok keep → surveyed_hosts texts (keep_read rules.text) ≡ Ok hosts
+    → found_on hosts inventories ≡ Ok rules.unowned → others_loaded texts rules ≡ Ok others → (h : ℕ) (host : Host) (inventory : List ℕ) (files : List Entry) → slice_get others.hosts h ≡ Some host → slice_get inventories h ≡ Some inventory
+    → inventory_of host inventory ≡ Ok files → (keep.users.unowned ≡ true → All (λ f. allows_uid host f.uid ≡ true) files) × (keep.groups.unowned ≡ true → All (λ f. allows_gid host f.gid ≡ true) files)
+found_files_are_allowed texts rules keep others hosts inventories read surveying found loads h host inventory files here there lists =
     let unowned = rules.unowned in
     let from = are-loaded texts rules others loads in
     let full : List Host = map (λ l. l.host) from.loaded in
@@ -140,12 +142,11 @@ surveyed_files_are_allowed texts rules keep others read found loads h host text 
     let spares : Host = sparing_ranges keep one in
     let spares_at : slice_get (map (λ (l : Loaded). sparing_ranges keep l.host) from.loaded) h ≡ Some spares =
     slice_get-map (λ (l : Loaded). sparing_ranges keep l.host) from.loaded h ∙ ap (λ (o : Option Loaded). option_map (λ (l : Loaded). sparing_ranges keep l.host) o) loaded_at.1 ∙ ap (λ (x : Host). Some (sparing_ranges keep x)) loaded_at.2 in
-    let mtree_at : slice_get (mtrees texts) h ≡ Some text.mtree = slice_get-map (λ (t : HostText). t.mtree) texts h ∙ ap (λ (o : Option HostText). option_map (λ (t : HostText). t.mtree) o) there in
-    let listed : keeps_unowned keep ≡ true → (survey : IsSurveyed texts keep unowned from.loaded) × (fs : List Entry) × (inventory_of spares text.mtree ≡ Ok fs) × (slice_get survey.listed h ≡ Some (spares, fs)) = λ keeps.
-    let survey = survey-of texts rules.text keep unowned from.loaded read found from.hosts_are keeps in
-    let its_files = pairs_at (λ l. inventory_of l.host l.mtree) (map (λ (l : Loaded). sparing_ranges keep l.host) from.loaded) (mtrees texts) survey.listed h spares text.mtree survey.are spares_at mtree_at in
+    let listed : keeps_unowned keep ≡ true → (survey : IsSurveyed keep unowned from.loaded inventories) × (fs : List Entry) × (inventory_of spares inventory ≡ Ok fs) × (slice_get survey.listed h ≡ Some (spares, fs)) = λ keeps.
+    let survey = survey-of texts rules.text keep unowned from.loaded hosts inventories read surveying found from.hosts_are keeps in
+    let its_files = pairs_at (λ l. inventory_of l.host l.mtree) (map (λ (l : Loaded). sparing_ranges keep l.host) from.loaded) inventories survey.listed h spares inventory survey.are spares_at there in
     (survey, its_files.0, its_files.1, its_files.2) in
-    let its = λ (fs : List Entry) (is : inventory_of spares text.mtree ≡ Ok fs). ok_same fs files (sym is ∙ ap (λ (x : Host). inventory_of x text.mtree) left_at.2 ∙ inventory) in (
+    let its = λ (fs : List Entry) (is : inventory_of spares inventory ≡ Ok fs). ok_same fs files (sym is ∙ ap (λ (x : Host). inventory_of x inventory) left_at.2 ∙ lists) in (
       λ stays k d within.
           let at = listed (ap (λ b. b || keep.groups.unowned) stays) in
           let there_is = subst (λ fs. slice_get at.0.listed h ≡ Some (spares, fs)) (its at.1 at.2) at.3 in
@@ -161,3 +162,10 @@ surveyed_files_are_allowed texts rules keep others read found loads h host text 
           (gid-allowed keep full unowned one stays gid (λ alone. subst (λ (u : UnownedNumbers). Contains u.groups (on one gid)) at.0.numbers
           (is-found (λ found. found.groups) unowned_gids (λ found host files. refl) no_numbers at.0.listed h spares files gid there_is ((among-once (is_unowned_gid spares) (λ (f : Entry). f.gid) files gid).1 (any-file (λ (f : Entry). f.gid) files k d within, alone))))),
     )
+
+pub surveyed_files_are_allowed : SurveyedFilesAreAllowed
+unfolding surveyed
+surveyed_files_are_allowed texts rules keep others read found loads h host text files here there lists =
+    let step = bind_ok (surveyed_hosts texts (keep_read rules.text)) (λ hosts. found_on hosts (mtrees texts)) rules.unowned found in
+    let mtree_at : slice_get (mtrees texts) h ≡ Some text.mtree = slice_get-map (λ (t : HostText). t.mtree) texts h ∙ ap (λ (o : Option HostText). option_map (λ (t : HostText). t.mtree) o) there in
+    found_files_are_allowed texts rules keep others step.0 (mtrees texts) read step.1 step.2 loads h host text.mtree files here mtree_at lists

@@ -5,6 +5,7 @@ use Rattle.std.specs.Prelude.{is_some, slice_get}
 use Rattle.std.specs.List.{All}
 use Rattle.idtext.specs.First.{◌>>=◌, each}
 use Rattle.mtree_inv.specs.declared.entry.Entry.{Entry}
+use Rattle.hosts_join.specs.Hosts.{allows_gid, allows_uid}
 use Rattle.hosts_join.specs.PinPairs.{no_pins}
 use Rattle.hosts_join.specs.PinsText.{pins_of}
 use Rattle.hosts_join.specs.Checks.{hosts_checked}
@@ -27,7 +28,7 @@ use Rattle.unify.specs.declared.rules.KeepRules.{KeepRules}
 use Rattle.unify.specs.declared.rules.SiteRules.{SiteRules}
 use Rattle.unify.specs.Cost.{cost_of}
 use Rattle.unify.specs.Count.{count_of, names_checked, site_of, total_of}
-use Rattle.unify.specs.Hosts.{allows_gid, allows_uid, host_of}
+use Rattle.unify.specs.Hosts.{host_of}
 use Rattle.unify.specs.Loading.{loaded_from}
 use Rattle.unify.specs.Others.{Others, keeping_nothing, others_loaded, reserving}
 use Rattle.unify.specs.Outcomes.{cost_in, hosts_in}

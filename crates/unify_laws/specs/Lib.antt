@@ -8,3 +8,4 @@ pub mod HostTexts
 pub mod Texts
 pub mod Agreeing
 pub mod Reserved
+pub mod KeptNumbers

@@ -11,6 +11,8 @@ ghost use Rattle.unify_laws.specs.TwoPasses.{SecondReadingIsRight};
 ghost use Rattle.unify_laws.specs.HostTexts.{BegunSitesAreInFull, EmptyTextsKeepNoName};
 ghost use Rattle.unify_laws.specs.HostTexts.{HostsKeepOwnFiles, ReadSitesAreInFull};
 ghost use Rattle.unify_laws.specs.HostTexts.{TablesAreOfTexts};
+ghost use Rattle.unify_laws.specs.KeptNumbers.{NoKeptNumberIsGiven, NoSurveyedNumberIsGiven};
+ghost use Rattle.unify_laws.specs.KeptNumbers.{NoUnownedNumberIsGiven};
 ghost use Rattle.unify_laws.specs.Reserved.{ReservedNumbersAreTellable};
 ghost use Rattle.unify_laws.specs.Agreeing.{PrintedCertificatesAreAccepted, PrintedMapsAreCounted};
 ghost use Rattle.unify_laws.specs.Agreeing.{NoMapRewritesFewer, PrintedPlansAreRehearsed};
@@ -126,9 +128,20 @@ pub fn surveyed_files_are_allowed()
     ensures { SurveyedFilesAreAllowed }
 {}
 
+/// A map that gives every name of a site one distinct number, in its pool or at its pin, as that of
+/// a merge does, gives no user a number that lies in a range which the keep text lists for users,
+/// none that a kept name has on a host, and none that a file of an accepted inventory has and no
+/// user of the file's host; where the text says `unowned users`, none that a file of the
+/// inventories that were surveyed has so. The same holds of groups.
+pub fn no_kept_number_is_given()
+    ensures kept { NoKeptNumberIsGiven }
+    ensures accepted { NoUnownedNumberIsGiven }
+    ensures surveyed { NoSurveyedNumberIsGiven }
+{}
+
 /// What is reserved of a site that is accepted is such that the lines of the report tell it: what
 /// `unify_texts::reserved_lines_read_back` asks holds of each merge. Where the keep text says so,
-/// the numbers without an account are those that a survey finds, in whichever inventories. Asked is
+/// the numbers without an account are those that a survey finds, in whichever inventories. Requires
 /// that the texts of passwd and group are of bytes, as all are that come from a file.
 pub fn reserved_numbers_are_tellable()
     ensures { ReservedNumbersAreTellable }
