@@ -17,6 +17,7 @@ use Rattle.reown_runner.specs.Finished.{IsFresh, AreOld}
 use Rattle.reown_runner.specs.Memory.{Mem, known_mem, new_mem}
 use Rattle.reown_runner.specs.RunnerData.{RunnerData, starting}
 use Rattle.reown_runner.specs.Tree.{cells_of}
+use Rattle.unify.specs.Hosts.{most_files}
 use Rattle.unify.specs.Reading.{WholeSite}
 
 -- a tree as its inventory, where a stop keeps what is chosen
@@ -44,7 +45,7 @@ pub record AreReady (plans : List PlanData) (trees : List Mem) : Type 0 where
 -- the inventories are ready for them.
 pub record AreSpelledFor (keep : Keep) (mtrees texts : List (List ℕ)) (files : List (List Entry))
     (plans : List PlanData) : Type 0 where
-  pub read : each (inventory 16777216) mtrees ≡ Ok files
+  pub read : each (inventory most_files) mtrees ≡ Ok files
   pub lawful : All IsLawful plans
   pub spelled : texts ≡ map spelling plans
   pub ready : AreReady plans (map (new_tree_of keep) files)
@@ -63,4 +64,4 @@ pub record AreCarriedOut (plans : List PlanData) (trees : List Mem) (events : Li
 -- the texts of the inventories of hosts, which read as the files of the site
 abbrev pub AreInventoriesOf : List HostText → WholeSite → Type 0
 AreInventoriesOf texts site =
-    each (inventory 16777216) (map (λ t. t.mtree) texts) ≡ Ok (map (λ h. h.1) site.hosts)
+    each (inventory most_files) (map (λ t. t.mtree) texts) ≡ Ok (map (λ h. h.1) site.hosts)

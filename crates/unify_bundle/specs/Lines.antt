@@ -1,12 +1,14 @@
 -- The lines that tell what a command answered.
 -- Source: this project's own formats.
-use Rattle.std.specs.Prelude.{ℕ, List, [], ◌∷◌, ◌++◌, if◌then◌else◌, codes, decimal, flat_map}
+use Rattle.std.specs.Prelude.{ℕ, List, [], ◌∷◌, ◌++◌, codes, decimal, flat_map}
 use Rattle.idtext.specs.Pieces.{lines}
 use Rattle.hosts_join.specs.declared.texts.HostText.{HostText}
 use Rattle.unify.specs.declared.counting.Cost.{Cost}
 use Rattle.unify.specs.declared.outcome.Outcome.{Outcome}
 use Rattle.unify.specs.declared.site_files.NamedText.{NamedText}
 use Rattle.unify.specs.declared.site_files.SiteFiles.{SiteFiles}
+use Rattle.unify_merge.specs.Merge.{account_files}
+use Rattle.unify_merge.specs.SecondReading.{plan_files}
 
 abbrev pub cost_lines : Cost → List ℕ
 cost_lines cost =
@@ -29,29 +31,17 @@ barred line = 124 ∷ line ++ 10 ∷ []
 abbrev pub file_lines : List ℕ → List ℕ → List ℕ
 file_lines name text = codes "file " ++ name ++ 10 ∷ flat_map barred (lines text)
 
--- the plan of each host, in a file plan.NAME
-abbrev pub plan_lines : List HostText → List (List ℕ) → List ℕ
-plan_lines [] plans = []
-plan_lines (host ∷ hosts) [] = []
-plan_lines (host ∷ hosts) (plan ∷ plans) =
-    file_lines (codes "plan." ++ host.name) plan ++ plan_lines hosts plans
-
--- the one passwd and the one group, where no name is kept
-abbrev pub account_lines : Outcome → List ℕ
-account_lines outcome =
-    if outcome.keeps_names then []
-    else file_lines (codes "passwd") outcome.passwd ++ file_lines (codes "group") outcome.group
-
--- what a merge writes: a file for each text, and then for each plan
-abbrev pub merge_lines : List HostText → Outcome → List ℕ
-merge_lines hosts outcome =
-    account_lines outcome ++ file_lines (codes "map") outcome.map
-    ++ file_lines (codes "certificate") outcome.certificate
-    ++ file_lines (codes "report") outcome.report ++ plan_lines hosts outcome.plans
-
 -- files behind one another
 abbrev pub named_lines : List NamedText → List ℕ
 named_lines files = flat_map (λ file. file_lines file.name file.text) files
+
+-- what a merge writes for the whole site, and the plans behind that
+abbrev pub merge_lines : List HostText → Outcome → List ℕ
+merge_lines hosts outcome =
+    named_lines (account_files outcome) ++ file_lines (codes "map") outcome.map
+    ++ file_lines (codes "certificate") outcome.certificate
+    ++ file_lines (codes "report") outcome.report
+    ++ named_lines (plan_files hosts outcome.plans)
 
 -- what a merge writes with each host's own files: these behind all others
 abbrev pub site_lines : List HostText → SiteFiles → List ℕ

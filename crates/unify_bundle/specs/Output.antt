@@ -56,9 +56,9 @@ abbrev pub host_texts : List Place → List HostText
 host_texts places = map host_text places
 
 -- the files before the first host
-abbrev pub head_files : List Place → List NamedFile
-head_files [] = []
-head_files (place ∷ places) = place.files
+abbrev pub files_before_hosts : List Place → List NamedFile
+files_before_hosts [] = []
+files_before_hosts (place ∷ places) = place.files
 
 -- rules by these texts, with the numbers that the files of the hosts have without an account, where
 -- the keep text keeps them
@@ -68,8 +68,8 @@ rules_for hosts pins keep = surveyed hosts keep >>= λ unowned. Ok (rules_by pin
 -- what the site of a bundle goes by
 abbrev pub rules_in : List Place → Result SiteRules Fault
 rules_in places =
-    rules_for (host_texts (drop 1 places)) (text_in (head_files places) file.Pins)
-    (text_in (head_files places) file.Keep)
+    rules_for (host_texts (drop 1 places)) (text_in (files_before_hosts places) file.Pins)
+    (text_in (files_before_hosts places) file.Keep)
 
 abbrev pub counted : List HostText → KeepRules → List ℕ → Result (List ℕ) Fault
 counted hosts keep map = count_of hosts keep map >>= λ cost. Ok (cost_lines cost)
@@ -77,7 +77,7 @@ counted hosts keep map = count_of hosts keep map >>= λ cost. Ok (cost_lines cos
 abbrev pub count_lines : List Place → Result (List ℕ) Fault
 count_lines places =
     rules_in places >>= λ rules.
-    counted (host_texts (drop 1 places)) rules.keep (text_in (head_files places) file.Map)
+    counted (host_texts (drop 1 places)) rules.keep (text_in (files_before_hosts places) file.Map)
 
 abbrev pub checked : List HostText → SiteRules → List ℕ → Result (List ℕ) Fault
 checked hosts rules certificate =
@@ -86,7 +86,7 @@ checked hosts rules certificate =
 abbrev pub check_lines : List Place → Result (List ℕ) Fault
 check_lines places =
     rules_in places >>= λ rules.
-    checked (host_texts (drop 1 places)) rules (text_in (head_files places) file.Certificate)
+    checked (host_texts (drop 1 places)) rules (text_in (files_before_hosts places) file.Certificate)
 
 -- what a command answers by rules, or the fault where there are none
 abbrev pub IsToldBy : (SiteRules → Result (List ℕ) Fault → Type 0) → Result SiteRules Fault
@@ -125,7 +125,7 @@ IsRehearsalTold plan mtree reply =
 
 abbrev pub IsRehearseReply : List Place → Result (List ℕ) Fault → Type 0
 IsRehearseReply places reply =
-    IsRehearsalTold (text_in (head_files places) file.Plan) (text_in (head_files places) file.Mtree)
+    IsRehearsalTold (text_in (files_before_hosts places) file.Plan) (text_in (files_before_hosts places) file.Mtree)
     reply
 
 -- the bytes and the status of an answer

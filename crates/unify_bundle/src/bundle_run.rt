@@ -6,7 +6,7 @@ ghost use Rattle.std.specs.List.{position};
 ghost use Rattle.std.specs.Prelude.{◌==◌};
 ghost use Rattle.unify_texts.specs.BundleLines.{file_index};
 ghost use Rattle.std.specs.Io.KnownBytes.{Appends};
-ghost use Rattle.unify_bundle.specs.Output.{text_in, host_text, host_texts, head_files};
+ghost use Rattle.unify_bundle.specs.Output.{text_in, host_text, host_texts, files_before_hosts};
 ghost use Rattle.unify_bundle.specs.Output.{count_lines, check_lines, IsMergeReply};
 ghost use Rattle.unify_bundle.specs.Output.{IsRehearseReply, answered, Answers};
 ghost use Rattle.unify_bundle.specs.Output.{IsReply, IsOutput, Tells, TakesAtMost};
@@ -74,7 +74,7 @@ fn hosts_of(alloc: Global, places: Vec<Place>) -> Result<Vec<HostText>, AllocErr
 
 // Takes the files before the first host; these are gone then.
 fn take_head(alloc: Global, places: &mut Vec<Place>) -> Vec<NamedFile>
-    ensures files { result.items ≡ head_files places.old.items }
+    ensures files { result.items ≡ files_before_hosts places.old.items }
     ensures rest { places.new.items ≡ drop 1 places.old.items }
 {
     if places.is_empty() {

@@ -2,8 +2,9 @@
 
 ghost use Rattle.std.specs.Prelude.{◌≡◌, ◌++◌, OnOk, IfOk, flat_map, codes};
 ghost use Rattle.idtext.specs.Pieces.{lines};
-ghost use Rattle.unify_bundle.specs.Lines.{account_lines, barred, file_lines, merge_lines};
-ghost use Rattle.unify_bundle.specs.Lines.{named_lines, plan_lines, site_lines};
+ghost use Rattle.unify_merge.specs.Merge.{account_files};
+ghost use Rattle.unify_merge.specs.SecondReading.{plan_files};
+ghost use Rattle.unify_bundle.specs.Lines.{barred, file_lines, merge_lines, named_lines, site_lines};
 ghost use Rattle.unify_bundle.specs.Output.{Answers, IsMergeTold, IsMergeWithHostsTold};
 ghost use Rattle.unify_bundle.specs.Replies.{reply_of};
 
@@ -46,7 +47,7 @@ fn push_file(out: &mut Vec<u8>, name: &[u8], text: &ByteString) -> Result<(), Al
 
 // Appends the one passwd and the one group, unless a name is kept.
 fn push_accounts(out: &mut Vec<u8>, outcome: &Outcome) -> Result<(), AllocError>
-    ensures { OnOk result (out.new.items ≡ out.old.items ++ account_lines outcome.now) }
+    ensures { OnOk result (out.new.items ≡ out.old.items ++ named_lines (account_files outcome.now)) }
 {
     if outcome.keeps_names {
         return Ok(());
@@ -68,7 +69,8 @@ fn push_plan(out: &mut Vec<u8>, host: &HostText, plan: &ByteString) -> Result<()
 
 // Appends the plan of each host.
 fn push_plans(out: &mut Vec<u8>, hosts: &[HostText], plans: &[ByteString]) -> Result<(), AllocError>
-    ensures { OnOk result (out.new.items ≡ out.old.items ++ plan_lines hosts.now plans.now) }
+    ensures { OnOk result
+        (out.new.items ≡ out.old.items ++ named_lines (plan_files hosts.now plans.now)) }
 {
     for (host, plan) in hosts.iter().zip(plans) {
         push_plan(out, host, plan)?;

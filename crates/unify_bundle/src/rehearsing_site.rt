@@ -10,6 +10,7 @@ ghost use Rattle.reown_runner.specs.Campaign.{host_of, is_done};
 ghost use Rattle.unify_texts.specs.Told.{told};
 ghost use Rattle.unify_bundle.specs.Carrying.{AreInventoriesOf, AreReady, AreCarriedOut};
 ghost use Rattle.unify_bundle.specs.Carrying.{AreSpelledFor, new_tree_of};
+ghost use Rattle.unify.specs.Hosts.{most_files};
 ghost use Rattle.unify.specs.Whole.{IsWhole};
 ghost use Rattle.unify.specs.Outcomes.{IsOutcome};
 ghost use Rattle.unify.specs.Reading.{WholeSite, site_read};
@@ -22,11 +23,8 @@ use mtree_inv::{Inventory, read_inventory};
 use reown_plan::{Plan, PlanFault};
 use reown_runner::{Campaign, Event, Keep, MemTree};
 use std::alloc::{AllocError, Global};
-use unify::{Outcome, SiteRules, TextList};
+use unify::{MOST_FILES, Outcome, SiteRules, TextList};
 use unify_texts::Fault;
-
-// The most files that an inventory may have.
-const MOST_FILES: u32 = 16777216;
 
 /// A site that was merged, and whose plans were carried out on trees in memory.
 #[derive(Drop)]
@@ -48,8 +46,8 @@ struct CarriedOut {
 
 // The files of an inventory that was read before. It fails for want of memory alone.
 fn read_again(alloc: Global, mtree: &[u8]) -> Result<Inventory, AllocError>
-    requires { (files : List Entry) × (inventory 16777216 mtree.now ≡ Ok files) }
-    ensures { IfOk result (λ read. inventory 16777216 mtree.now ≡ Ok read) }
+    requires { (files : List Entry) × (inventory most_files mtree.now ≡ Ok files) }
+    ensures { IfOk result (λ read. inventory most_files mtree.now ≡ Ok read) }
 {
     match read_inventory(alloc, mtree, MOST_FILES) {
         Ok(files) => Ok(files),
@@ -69,8 +67,8 @@ fn mtrees_of<'a>(alloc: Global, texts: &'a [HostText]) -> Result<Vec<Name<'a>>, 
 
 // A tree as an inventory that was read before.
 fn new_tree(alloc: Global, mtree: &[u8], keep: Keep) -> Result<MemTree, AllocError>
-    requires { (files : List Entry) × (inventory 16777216 mtree.now ≡ Ok files) }
-    ensures { IfOk result (λ tree. (files : List Entry) × (inventory 16777216 mtree.now ≡ Ok files)
+    requires { (files : List Entry) × (inventory most_files mtree.now ≡ Ok files) }
+    ensures { IfOk result (λ tree. (files : List Entry) × (inventory most_files mtree.now ≡ Ok files)
         × (tree ≡ new_tree_of keep files)) }
 {
     let files = read_again(alloc, mtree)?;
@@ -81,9 +79,9 @@ fn new_tree(alloc: Global, mtree: &[u8], keep: Keep) -> Result<MemTree, AllocErr
 
 // Trees as inventories that were read before, one after the other.
 fn new_trees(alloc: Global, mtrees: &[Name<'_>], keep: Keep) -> Result<Vec<MemTree>, AllocError>
-    requires { (files : List (List Entry)) × (each (inventory 16777216) mtrees.now ≡ Ok files) }
+    requires { (files : List (List Entry)) × (each (inventory most_files) mtrees.now ≡ Ok files) }
     ensures { IfOk result (λ trees. (files : List (List Entry))
-        → each (inventory 16777216) mtrees.now ≡ Ok files
+        → each (inventory most_files) mtrees.now ≡ Ok files
         → trees.items ≡ map (new_tree_of keep) files) }
 {
     let mut trees = Vec::with_capacity(alloc, mtrees.len())?;
@@ -131,7 +129,7 @@ fn done_of(
 {
     let mut done = Vec::with_capacity(alloc, hosts)?;
     for host in 0..hosts {
-        done.push(campaign.done(host))?;
+        done.push(campaign.is_done(host))?;
     }
     Ok(done)
 }
@@ -210,7 +208,7 @@ fn run_of<'a>(
 
 /// Merges a site, and carries its plans out on trees in memory that are as the inventories tell, as
 /// far as the events lead: an advance is one step of a host's plan, and after a stop a tree has
-/// what the choice keeps of what was pending. Asked is that each event is for a host of the site.
+/// what the choice keeps of what was pending. Requires that each event is for a host of the site.
 ///
 /// It refuses with the first fault of `consolidate`, and else for want of memory alone: no event is
 /// refused.

@@ -73,6 +73,7 @@ all_planned names s read index old new so_far was all = record {
   site = record {
     texts = so_far.site.texts;
     one_each = so_far.site.texts_are ∙ all;
+    within = so_far.site.within;
     again = so_far.site.again;
     accepted = so_far.site.accepted;
     same = record {

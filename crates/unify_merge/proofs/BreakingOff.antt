@@ -21,9 +21,9 @@ on_err (Err e) P p = p
 
 -- ---- the parts of a ledger
 
-pub stands_by : (whole next : List NamedText) (old new : Ledger) → new.read ≡ old.read → new.reading ≡ old.reading → new.is_clear ≡ old.is_clear → new.begun ≡ old.begun ++ map name_of (whole ++ next) → new.finished ≡ old.finished ++ whole
+pub stands_by : (whole next : List NamedText) (old new : Ledger) → new.read ≡ old.read → new.reading ≡ old.reading → new.is_clear ≡ old.is_clear → new.begun ≡ old.begun ++ map name_of (whole ++ next) → new.finished ≡ old.finished ++ whole → new.settled ≡ old.settled
     → new ≡ record (after_files whole old) { begun = old.begun ++ map name_of (whole ++ next); writing = new.writing }
-stands_by whole next old new read reading clear begun finished = λ j. record { read = read j; reading = reading j; is_clear = clear j; begun = begun j; finished = finished j; writing = new.writing }
+stands_by whole next old new read reading clear begun finished settled = λ j. record { read = read j; reading = reading j; is_clear = clear j; begun = begun j; finished = finished j; settled = settled j; writing = new.writing }
 
 -- ---- one file
 
@@ -36,7 +36,7 @@ broken_before files old new same = record {
   are = refl;
   one_at_most = omega arith;
   stands = stands_by [] [] old new (ap (λ (l : Ledger). l.read) same) (ap (λ (l : Ledger). l.reading) same) (ap (λ (l : Ledger). l.is_clear) same)
-      (ap (λ (l : Ledger). l.begun) same ∙ sym (append-nil old.begun)) (ap (λ (l : Ledger). l.finished) same ∙ sym (append-nil old.finished));
+      (ap (λ (l : Ledger). l.begun) same ∙ sym (append-nil old.begun)) (ap (λ (l : Ledger). l.finished) same ∙ sym (append-nil old.finished)) (ap (λ (l : Ledger). l.settled) same);
 }
 
 -- nothing was done
@@ -55,7 +55,7 @@ broken_open name text writing old new begun =
       are = refl;
       one_at_most = omega arith;
       stands = stands_by [] (file ∷ []) old new (ap (λ (l : Ledger). l.read) begun) (ap (λ (l : Ledger). l.reading) begun) (ap (λ (l : Ledger). l.is_clear) begun)
-          (ap (λ (l : Ledger). l.begun) begun) (ap (λ (l : Ledger). l.finished) begun ∙ sym (append-nil old.finished));
+          (ap (λ (l : Ledger). l.begun) begun) (ap (λ (l : Ledger). l.finished) begun ∙ sym (append-nil old.finished)) (ap (λ (l : Ledger). l.settled) begun);
     }
 
 -- all were written
@@ -67,7 +67,7 @@ broken_all files old new has = record {
   are = sym (append-nil files);
   one_at_most = omega arith;
   stands = stands_by files [] old new (ap (λ (l : Ledger). l.read) has) (ap (λ (l : Ledger). l.reading) has) (ap (λ (l : Ledger). l.is_clear) has)
-      (ap (λ (l : Ledger). l.begun) has ∙ ap (λ fs. old.begun ++ map name_of fs) (sym (append-nil files))) (ap (λ (l : Ledger). l.finished) has);
+      (ap (λ (l : Ledger). l.begun) has ∙ ap (λ fs. old.begun ++ map name_of fs) (sym (append-nil files))) (ap (λ (l : Ledger). l.finished) has) (ap (λ (l : Ledger). l.settled) has);
 }
 
 -- ---- more files
@@ -97,7 +97,7 @@ broken_behind before files old mid new has b =
       are = ap (λ fs. before ++ fs) b.are ∙ sym (append_assoc before b.whole (b.next ++ b.left));
       one_at_most = b.one_at_most;
       stands = stands_by (before ++ b.whole) b.next old new (ap (λ (l : Ledger). l.read) stands ∙ ap (λ (l : Ledger). l.read) has) (ap (λ (l : Ledger). l.reading) stands ∙ ap (λ (l : Ledger). l.reading) has)
-          (ap (λ (l : Ledger). l.is_clear) stands ∙ ap (λ (l : Ledger). l.is_clear) has) begun (ap (λ (l : Ledger). l.finished) stands ∙ ap (λ (l : Ledger). l.finished ++ b.whole) has ∙ append_assoc old.finished before b.whole);
+          (ap (λ (l : Ledger). l.is_clear) stands ∙ ap (λ (l : Ledger). l.is_clear) has) begun (ap (λ (l : Ledger). l.finished) stands ∙ ap (λ (l : Ledger). l.finished ++ b.whole) has ∙ append_assoc old.finished before b.whole) (ap (λ (l : Ledger). l.settled) stands ∙ ap (λ (l : Ledger). l.settled) has);
     }
 
 -- the same files and the same ledger, told by other words
@@ -137,8 +137,8 @@ has_read_one before r l one = record { more = r ∷ []; one_at_most = omega arit
 -- ---- a plan
 
 -- no file became whole
-pub finishes_none : (old new : Ledger) → new.is_clear ≡ old.is_clear → new.finished ≡ old.finished → FinishesNone old new
-finishes_none old new clear finished = λ j. record { read = new.read; reading = new.reading; is_clear = clear j; begun = new.begun; finished = finished j; writing = new.writing }
+pub finishes_none : (old new : Ledger) → new.is_clear ≡ old.is_clear → new.finished ≡ old.finished → new.settled ≡ old.settled → FinishesNone old new
+finishes_none old new clear finished settled = λ j. record { read = new.read; reading = new.reading; is_clear = clear j; begun = new.begun; finished = finished j; settled = settled j; writing = new.writing }
 
 -- a file of any text broke off, which at most was begun
 pub broken_plan : (name text : List ℕ) (old new : Ledger) → HasBegun (name ∷ []) old new → FinishesNone old new → (b : BrokeOff (record { name = name; text = text } ∷ []) (reading_as new old) new) × (b.whole ≡ [])

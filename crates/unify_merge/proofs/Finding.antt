@@ -23,6 +23,7 @@ module _ (hosts : List HostText) (keep : List ℕ) (surveying : List Host) (are 
     surveying_are = are;
     texts = has.texts;
     one_each = has.one_each;
+    within = has.within;
     found = ap (λ r. r >>= λ (listed : List (Host × List Entry)). Ok (unowned_over no_numbers listed)) has.are_listed ∙ ap (λ u. Ok u) (sym has.numbers);
     readings = has.readings;
     reads = reads;

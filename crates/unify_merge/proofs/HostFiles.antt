@@ -24,14 +24,14 @@ files_behind one two l =
     let name_of : NamedText → List ℕ = λ file. file.name in
     let begun = append_assoc l.begun (map name_of one) (map name_of two) ∙ ap (λ ns. l.begun ++ ns) (sym (map-append name_of one two)) in
     let finished = append_assoc l.finished one two in
-    λ j. record { read = l.read; reading = l.reading; is_clear = l.is_clear; begun = begun j; finished = finished j; writing = None }
+    λ j. record { read = l.read; reading = l.reading; is_clear = l.is_clear; begun = begun j; finished = finished j; settled = l.settled; writing = None }
 
 -- no file as yet
 pub none_written : (l : Ledger) → HasFiles [] l l
 none_written l =
     let begun = sym (append-nil l.begun) in
     let finished = sym (append-nil l.finished) in
-    λ j. record { read = l.read; reading = l.reading; is_clear = l.is_clear; begun = begun j; finished = finished j; writing = l.writing }
+    λ j. record { read = l.read; reading = l.reading; is_clear = l.is_clear; begun = begun j; finished = finished j; settled = l.settled; writing = l.writing }
 
 -- more files behind those that were written
 pub more_written : (one two : List NamedText) (old mid new : Ledger) → HasFiles one old mid → new ≡ after_files two mid → HasFiles (one ++ two) old new
@@ -42,7 +42,8 @@ more_written one two old mid new first then =
     let clear = ap (λ (l : Ledger). l.is_clear) then ∙ ap (λ (l : Ledger). l.is_clear) first in
     let begun = ap (λ (l : Ledger). l.begun) then ∙ ap (λ (l : Ledger). l.begun ++ map name_of two) first ∙ append_assoc old.begun (map name_of one) (map name_of two) ∙ ap (λ ns. old.begun ++ ns) (sym (map-append name_of one two)) in
     let finished = ap (λ (l : Ledger). l.finished) then ∙ ap (λ (l : Ledger). l.finished ++ two) first ∙ append_assoc old.finished one two in
-    λ j. record { read = read j; reading = reading j; is_clear = clear j; begun = begun j; finished = finished j; writing = new.writing }
+    let settled = ap (λ (l : Ledger). l.settled) then ∙ ap (λ (l : Ledger). l.settled) first in
+    λ j. record { read = read j; reading = reading j; is_clear = clear j; begun = begun j; finished = finished j; settled = settled j; writing = new.writing }
 
 -- ---- one host
 

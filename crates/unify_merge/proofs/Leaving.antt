@@ -33,7 +33,7 @@ use Rattle.unify_merge.proofs.AllPlanned.{read_len}
 use Rattle.unify_merge.proofs.BreakingOff.{broken_as, broken_behind, broken_front, broken_plan, files_reading, reading_as, reads_same}
 use Rattle.unify_merge.proofs.Planned.{none_first}
 use Rattle.unify_merge.proofs.Readings.{reads_on}
-use Rattle.unify_merge.proofs.ReadLast.{all_first, drop_from, last_accepted, last_again, last_one_each, last_plans}
+use Rattle.unify_merge.proofs.ReadLast.{all_first, drop_from, last_accepted, last_again, last_one_each, last_plans, last_within}
 
 -- ---- the files of plans
 
@@ -188,6 +188,7 @@ merge_left texts rules s old mid new h reads w =
       last = last;
       last_read = record {
         one_each = last_one_each s h.first h.were index one_each accepted h.was_read w.site within ∙ ap length h.hosts;
+        within = last_within s h.first h.were index one_each accepted h.was_read w.site within h.first_read.within;
         accepted = subst (λ (hs : List Host). each site_of (loaded_from hs texts_last) ≡ Ok last) h.hosts (last_accepted s h.first h.were index one_each accepted h.was_read w.site within);
       };
       reads = record { more = w.reads.more; one_at_most = w.reads.one_at_most; readings = w.reads.readings ∙ ap (λ rs. (rs ++ readings_from 0 w.site.texts) ++ w.reads.more) h.readings };

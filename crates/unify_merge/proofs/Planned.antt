@@ -2,6 +2,7 @@
 use Rattle.std.proofs.Common.{◌≡◌, ◌+◌, ◌<◌, ◌++◌, ◌∷◌, [], ℕ, List, length, map, Ok, Err, Some, Result, refl, sym, ap, subst, ◌∙◌, arith, inl, inr, append_assoc, append-nil, length-append, eq-or-lt_of_le}
 use Rattle.std.specs.Prelude.{◌⊎◌}
 use Rattle.std.specs.List.{slice_get}
+use Rattle.std.proofs.lemmas.List.Elements.{All-nil, All-push}
 use Rattle.std.proofs.lemmas.List.{map-append}
 use Rattle.std.proofs.lemmas.Option.{same_Some}
 use Rattle.idtext.specs.First.{each}
@@ -18,6 +19,7 @@ use Rattle.unify.proofs.Passing.{each_push, loaded_push}
 use Rattle.unify.proofs.Sites.{site_given}
 use Rattle.unify.specs.declared.site_files.NamedText.{NamedText}
 use Rattle.unify_laws.proofs.OnePiece.{at_end, at_front}
+use Rattle.unify_merge.specs.FirstReading.{IsWithinLimit}
 use Rattle.unify_merge.specs.Ledger.{Ledger, Reading, after_files}
 use Rattle.unify_merge.specs.SecondReading.{ArePlannedFirst, HasPlan, IsReadAgain, PlannedSoFar, plan_files, plan_name}
 use Rattle.unify_merge.proofs.Readings.{read_more}
@@ -47,7 +49,8 @@ files_more one two old mid new first then =
     let clear = ap (λ (l : Ledger). l.is_clear) then ∙ ap (λ (l : Ledger). l.is_clear) first in
     let begun = ap (λ (l : Ledger). l.begun) then ∙ ap (λ (l : Ledger). l.begun ++ map name_of two) first ∙ append_assoc old.begun (map name_of one) (map name_of two) ∙ ap (λ ns. old.begun ++ ns) (sym (map-append name_of one two)) in
     let finished = ap (λ (l : Ledger). l.finished) then ∙ ap (λ (l : Ledger). l.finished ++ two) first ∙ append_assoc old.finished one two in
-    λ j. record { read = new.read; reading = new.reading; is_clear = clear j; begun = begun j; finished = finished j; writing = new.writing }
+    let settled = ap (λ (l : Ledger). l.settled) then ∙ ap (λ (l : Ledger). l.settled) first in
+    λ j. record { read = new.read; reading = new.reading; is_clear = clear j; begun = begun j; finished = finished j; settled = settled j; writing = new.writing }
 
 pub none_loaded : (hosts : List Host) → loaded_from hosts [] ≡ []
 none_loaded [] = refl
@@ -58,7 +61,7 @@ pub no_files : (l : Ledger) → l ≡ record (after_files [] l) { read = l.read;
 no_files l =
     let begun = sym (append-nil l.begun) in
     let finished = sym (append-nil l.finished) in
-    λ j. record { read = l.read; reading = l.reading; is_clear = l.is_clear; begun = begun j; finished = finished j; writing = l.writing }
+    λ j. record { read = l.read; reading = l.reading; is_clear = l.is_clear; begun = begun j; finished = finished j; settled = l.settled; writing = l.writing }
 
 -- no host as yet
 unfoldable pub none_first : (s : SolvedValue) (read : List (Host × List Entry)) → ArePlannedFirst s read 0
@@ -68,6 +71,7 @@ none_first s read = record {
   again = [];
   plans = [];
   texts_are = refl;
+  within = All-nil IsWithinLimit;
   again_are = refl;
   plans_are = refl;
   accepted = ap (each site_of) (none_loaded s.hosts);
@@ -105,6 +109,7 @@ one_planned names s now read index name host were old mid new so_far site ended 
         again = so_far.site.again ++ (host, plan.files) ∷ [];
         plans = so_far.site.plans ++ made ∷ [];
         texts_are = omega (arith, so_far.site.texts_are, length-append so_far.site.texts (plan.text ∷ []));
+        within = All-push IsWithinLimit so_far.site.texts plan.text so_far.site.within plan.within;
         again_are = omega (arith, so_far.site.again_are, length-append so_far.site.again ((host, plan.files) ∷ []));
         plans_are = omega (arith, so_far.site.plans_are, length-append so_far.site.plans (made ∷ []));
         accepted = ap (each site_of) (loaded_push s.hosts so_far.site.texts host plan.text (subst (λ k. slice_get s.hosts k ≡ Some host) (sym so_far.site.texts_are) here))

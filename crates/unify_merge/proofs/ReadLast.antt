@@ -2,6 +2,7 @@
 use Rattle.std.proofs.Common.{◌≡◌, ◌≤◌, ◌<◌, ◌+◌, ◌-◌, ◌++◌, ◌∷◌, [], ℕ, zero, suc, List, length, drop, Some, Result, Ok, refl, sym, ap, ◌∙◌, arith, inl, inr, ⊎_elim, length-append, length-drop}
 use Rattle.std.specs.Prelude.{◌⊎◌}
 use Rattle.std.specs.List.{slice_get}
+use Rattle.std.proofs.lemmas.List.Elements.{All-append, All-drop}
 use Rattle.std.proofs.lemmas.Option.{same_Some, slice_get_within}
 use Rattle.idtext.specs.First.{◌>>=◌, each}
 use Rattle.idtext.proofs.OkLemmas.{bind_ok, ok_same}
@@ -14,6 +15,7 @@ use Rattle.unify.specs.RowFiles.{row_files}
 use Rattle.unify_laws.specs.TwoPasses.{AreReadAgain, AreWholePlans}
 use Rattle.unify_laws.proofs.Agreeing.{item_at}
 use Rattle.unify_laws.proofs.OnePiece.{accepted_at}
+use Rattle.unify_merge.specs.FirstReading.{AreWithinLimit, IsWithinLimit}
 use Rattle.unify_merge.specs.SecondReading.{ArePlannedFirst, IsPlannedAgain, WereRead, plans_from}
 use Rattle.unify_merge.proofs.AllPlanned.{host_at, read_len}
 
@@ -106,6 +108,7 @@ all_first s read index again was all = record {
   again = again.again;
   plans = again.plans;
   texts_are = again.one_each ∙ sym all;
+  within = again.within;
   again_are = again.same.one_each ∙ read_len s read was ∙ sym all;
   plans_are = again.whole.one_each ∙ again.same.one_each ∙ read_len s read was ∙ sym all;
   accepted = again.accepted;
@@ -125,6 +128,9 @@ module _ (s : SolvedValue) (first : List (List ℕ)) (read : List (Host × List 
 
   pub last_one_each : length texts_last ≡ length s.hosts
   last_one_each = omega (arith, length-append site.texts (drop (length site.texts) first), length-drop (length site.texts) first, site.texts_are, one_each, within)
+
+  pub last_within : AreWithinLimit first → AreWithinLimit texts_last
+  last_within all = All-append IsWithinLimit site.texts (drop (length site.texts) first) site.within (All-drop IsWithinLimit (length site.texts) first all)
 
   pub last_accepted : each site_of (loaded_from s.hosts texts_last) ≡ Ok last
   last_accepted =

@@ -8,7 +8,7 @@ use Rattle.unify.specs.Hosts.{files_of}
 use Rattle.unify.specs.Passes.{is_read, lines_of}
 use Rattle.unify_merge.specs.Ledger.{Ledger, Reading}
 use Rattle.unify_merge.specs.Pieces.{EndsEarly}
-use Rattle.unify_merge.specs.FirstReading.{HasRead, IsReading, IsTooLarge, StopsFirst, StopsFor}
+use Rattle.unify_merge.specs.FirstReading.{HasRead, IsReading, IsTooLarge, StopsFirst, StopsFor, most_inventory_bytes}
 use Rattle.unify_merge.specs.declared.fault.MergeFault.{MergeFault}
 use Rattle.unify_merge.specs.declared.fault.MergeFault.TheVariants.{Failed, TooLarge, Refused}
 
@@ -18,7 +18,7 @@ if_told None P Q goes p = tt
 if_told (Some f) P Q goes p = goes f p
 
 -- more bytes than there may be
-is_too_large : (host left : ℕ) (text bytes : List ℕ) (l : Ledger) → left + length text ≡ 4294967295 → l.reading ≡ Some (record { host = host; text = text ++ bytes }) → left < length bytes → IsTooLarge l
+is_too_large : (host left : ℕ) (text bytes : List ℕ) (l : Ledger) → left + length text ≡ most_inventory_bytes → l.reading ≡ Some (record { host = host; text = text ++ bytes }) → left < length bytes → IsTooLarge l
 is_too_large host left text bytes l may reading over = (host, text ++ bytes, reading, omega (arith, may, over, length-append text bytes))
 
 -- a fault of one kind is one of another
@@ -28,7 +28,7 @@ stops_map P Q l failed TooLarge goes stops = stops
 stops_map P Q l failed (Refused e) goes stops = if_told (told e) P Q goes stops
 
 -- a piece did not come
-pub piece_ended : (IsFault : Fault → Type 0) (host left : ℕ) (text bytes : List ℕ) (old new : Ledger) (failed : Bool) (fault : MergeFault) → left + length text ≡ 4294967295
+pub piece_ended : (IsFault : Fault → Type 0) (host left : ℕ) (text bytes : List ℕ) (old new : Ledger) (failed : Bool) (fault : MergeFault) → left + length text ≡ most_inventory_bytes
     → EndsEarly (record { host = host; text = text }) bytes left old new failed fault → StopsFor IsFault new failed fault
 piece_ended IsFault host left text bytes old new failed Failed may early = early.0
 piece_ended IsFault host left text bytes old new failed TooLarge may early = is_too_large host left text bytes new may (ap (λ (l : Ledger). l.reading) early.0) early.1

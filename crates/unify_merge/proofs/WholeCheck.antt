@@ -17,7 +17,7 @@ use Rattle.unify.specs.Passes.{BegunSite, site_begun}
 use Rattle.unify.specs.Reading.{WholeSite, site_read}
 use Rattle.unify.specs.Told.{in_certificate}
 use Rattle.unify_merge.specs.Check.{HasChecked, StopsCheck}
-use Rattle.unify_merge.specs.FirstReading.{IsInventoryFault, StopsCounting, WereEachRead, readings_from, with_inventories}
+use Rattle.unify_merge.specs.FirstReading.{AreWithinLimit, IsInventoryFault, StopsCounting, WereEachRead, readings_from, with_inventories}
 use Rattle.unify_merge.specs.Ledger.{Ledger}
 use Rattle.unify_merge.specs.declared.fault.MergeFault.{MergeFault}
 use Rattle.unify_merge.specs.declared.fault.MergeFault.TheVariants.{Refused}
@@ -37,9 +37,9 @@ pub record IsReadSite (hosts : List HostText) (rules : SiteRules) (old new : Led
   pub is : site_read (with_inventories hosts texts) rules ≡ Ok (record { hosts = read; joined = joined })
 
 pub read_site : (hosts : List HostText) (rules : SiteRules) (begun : BegunSite) (joined : Joined) (old new : Ledger) (texts : List (List ℕ)) (read : List (Host × List Entry)) → site_begun hosts rules ≡ Ok begun → joined ≡ begun.joined
-    → length texts ≡ length hosts → each site_of (loaded_from begun.hosts texts) ≡ Ok read → new.read ≡ old.read ++ readings_from 0 texts → IsReadSite hosts rules old new joined texts read
-read_site hosts rules begun joined old new texts read is join one_each accepted readings = record {
-  were_read = record { one_each = one_each; readings = readings };
+    → length texts ≡ length hosts → each site_of (loaded_from begun.hosts texts) ≡ Ok read → new.read ≡ old.read ++ readings_from 0 texts → AreWithinLimit texts → IsReadSite hosts rules old new joined texts read
+read_site hosts rules begun joined old new texts read is join one_each accepted readings within = record {
+  were_read = record { one_each = one_each; within = within; readings = readings };
   is = read-with hosts texts rules begun read one_each is accepted ∙ ap (λ j. Ok (record { hosts = read; joined = j })) (sym join);
 }
 

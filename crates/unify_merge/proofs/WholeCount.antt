@@ -12,7 +12,7 @@ use Rattle.unify.specs.Loading.{loaded_from}
 use Rattle.unify.specs.Passes.{InventoriesValue, behind, read_in}
 use Rattle.unify_laws.proofs.CountPasses.{count_behind}
 use Rattle.unify_merge.specs.Count.{HasCounted, StopsCount}
-use Rattle.unify_merge.specs.FirstReading.{IsInventoryFault, StopsCounting, readings_from, with_inventories}
+use Rattle.unify_merge.specs.FirstReading.{AreWithinLimit, IsInventoryFault, StopsCounting, readings_from, with_inventories}
 use Rattle.unify_merge.specs.Ledger.{Ledger}
 use Rattle.unify_merge.specs.declared.fault.MergeFault.{MergeFault}
 use Rattle.unify_merge.proofs.Inventories.{cost_begun-with, mtrees-with}
@@ -26,12 +26,12 @@ count_stopped texts keep map_text begun hosts old new failed fault is same stops
 
 -- the inventories were read, and this is the cost
 pub has_counted : (hosts : List HostText) (keep : KeepRules) (map_text : List ℕ) (begun : BegunCost) (over : InventoriesValue) (names : MapText) (old new : Ledger) (texts : List (List ℕ)) (cost : Cost) → over ≡ behind begun.hosts texts → cost_begun hosts keep map_text ≡ Ok begun → names ≡ begun.names
-    → length texts ≡ length begun.hosts → length begun.hosts ≡ length hosts → new.read ≡ old.read ++ readings_from 0 texts → total_of names (read_in over) ≡ Ok cost → HasCounted hosts keep map_text old new cost
-has_counted hosts keep map_text begun over names old new texts cost same is named all each_text readings total =
+    → length texts ≡ length begun.hosts → length begun.hosts ≡ length hosts → new.read ≡ old.read ++ readings_from 0 texts → AreWithinLimit texts → total_of names (read_in over) ≡ Ok cost → HasCounted hosts keep map_text old new cost
+has_counted hosts keep map_text begun over names old new texts cost same is named all each_text readings within total =
     let one_each : length texts ≡ length hosts = all ∙ each_text in
     record {
       texts = texts;
-      were_read = record { one_each = one_each; readings = readings };
+      were_read = record { one_each = one_each; within = within; readings = readings };
       answer = count_behind (with_inventories hosts texts) keep map_text begun (cost_begun-with hosts texts keep map_text one_each ∙ is)
           ∙ (λ j. total_of (sym named j) (each site_of (loaded_from begun.hosts (mtrees-with hosts texts one_each j)))) ∙ ap (λ v. total_of names (read_in v)) (sym same) ∙ total;
     }

@@ -29,8 +29,8 @@ use Rattle.unify_laws.specs.HostTexts.{AreJoinedInFull, host_files}
 use Rattle.unify_laws.specs.TwoPasses.{AreReadAgain}
 use Rattle.unify_laws.proofs.HostTexts.{begun_sites_are_in_full, empty_texts_keep_no_name, tables_are_of_texts, text_keeps}
 use Rattle.unify_laws.proofs.SecondReading.{second_reading_is_believed, second_reading_is_right, still_whole}
-use Rattle.unify_merge.specs.Ledger.{Ledger, Reading, after_files, cleared}
-use Rattle.unify_merge.specs.FirstReading.{IsInventoryFault, ReadsOnly, StopsCounting, readings_from}
+use Rattle.unify_merge.specs.Ledger.{Ledger, Reading, after_files, all_settled, cleared, with_sealed}
+use Rattle.unify_merge.specs.FirstReading.{AreWithinLimit, IsInventoryFault, ReadsOnly, StopsCounting, readings_from}
 use Rattle.unify_merge.specs.HostFiles.{HasFiles, StopsWriting}
 use Rattle.unify_merge.specs.SecondReading.{IsChangeFault, StopsPlanning, plan_files}
 use Rattle.unify_merge.specs.Merge.{HasMade, HasMerged, HasSolved, HasWritten, StopsMerge, first_files, merged_files, report_file}
@@ -61,19 +61,20 @@ writing_stopped read old new failed (Refused e) stops = subst (λ (x : Fault). S
 
 -- the first files, the plans, those of each host, and the report
 pub merged_all : (texts : List HostText) (begun : BegunSite) (m : Mappings) (outcome : Outcome) (plans : List (List ℕ)) (old first mid own new : Ledger) → first ≡ after_files (first_files outcome) (cleared old)
-    → mid ≡ record (after_files (plan_files texts plans) first) { read = mid.read; reading = mid.reading; writing = mid.writing } → HasFiles (host_files begun.joined m texts begun.hosts) mid own → new ≡ after_files (report_file outcome ∷ []) own
-    → new ≡ record (after_files (merged_files texts begun m (record outcome { plans = plans })) (cleared old)) { read = new.read; reading = new.reading; writing = new.writing }
+    → mid ≡ record (after_files (plan_files texts plans) first) { read = mid.read; reading = mid.reading; writing = mid.writing } → HasFiles (host_files begun.joined m texts begun.hosts) mid own → new ≡ with_sealed (report_file outcome) own
+    → new ≡ record (all_settled (after_files (merged_files texts begun m (record outcome { plans = plans })) (cleared old))) { read = new.read; reading = new.reading; writing = new.writing }
 merged_all texts begun m outcome plans old first mid own new one two three four =
     let hosts = host_files begun.joined m texts begun.hosts in
     let one_is : first ≡ record (after_files (first_files outcome) (cleared old)) { read = first.read; reading = first.reading; writing = first.writing } =
     one ∙ (λ j. record (after_files (first_files outcome) (cleared old)) { read = (sym one j).read; reading = (sym one j).reading; writing = (sym one j).writing }) in
     let three_is : own ≡ record (after_files hosts mid) { read = own.read; reading = own.reading; writing = own.writing } =
     three ∙ (λ j. record (after_files hosts mid) { read = (sym three j).read; reading = (sym three j).reading; writing = (sym three j).writing }) in
-    let four_is : new ≡ record (after_files (report_file outcome ∷ []) own) { read = new.read; reading = new.reading; writing = new.writing } =
-    four ∙ (λ j. record (after_files (report_file outcome ∷ []) own) { read = (sym four j).read; reading = (sym four j).reading; writing = (sym four j).writing }) in
-    let rest = files_more hosts (report_file outcome ∷ []) mid own new three_is four_is in
-    let behind = files_more (plan_files texts plans) (hosts ++ report_file outcome ∷ []) first mid new two rest in
-    files_more (first_files outcome) (plan_files texts plans ++ (hosts ++ report_file outcome ∷ [])) (cleared old) first new one_is behind
+    let all = merged_files texts begun m (record outcome { plans = plans }) in
+    let end = after_files (report_file outcome ∷ []) own in
+    let rest = files_more hosts (report_file outcome ∷ []) mid own end three_is refl in
+    let behind = files_more (plan_files texts plans) (hosts ++ report_file outcome ∷ []) first mid end two rest in
+    let written : end ≡ record (after_files all (cleared old)) { read = end.read; reading = end.reading; writing = end.writing } = files_more (first_files outcome) (plan_files texts plans ++ (hosts ++ report_file outcome ∷ [])) (cleared old) first end one_is behind in
+    four ∙ ap all_settled written ∙ (λ j. record (all_settled (after_files all (cleared old))) { read = (sym four j).read; reading = (sym four j).reading; writing = (sym four j).writing })
 
 -- what follows from each success
 pub if_ok : {T E : Type 0} (r : Result T E) (P Q : T → Type 0) → ((x : T) → P x → Q x) → IfOk r P → IfOk r Q
@@ -94,8 +95,8 @@ written_stopped texts rules old mid new s failed fault h stops =
 
 -- the first pass is over, and the second is at its start
 pub has_solved : (texts : List HostText) (rules : SiteRules) (begun : BegunSite) (over : InventoriesValue) (site : Joined) (s : SolvedValue) (old new : Ledger) (first : List (List ℕ)) (read : List (Host × List Entry)) → over ≡ behind begun.hosts first → read_in over ≡ Ok read → site_begun texts rules ≡ Ok begun
-    → site ≡ begun.joined → length first ≡ length begun.hosts → length begun.hosts ≡ length texts → AreTogether begun.hosts site → IsSolvedFrom over site s → new.read ≡ old.read ++ readings_from 0 first → HasSolved texts rules old new s
-has_solved texts rules begun over site s old new first read same accepted is joined one_each each_text together from readings =
+    → site ≡ begun.joined → length first ≡ length begun.hosts → length begun.hosts ≡ length texts → AreTogether begun.hosts site → IsSolvedFrom over site s → new.read ≡ old.read ++ readings_from 0 first → AreWithinLimit first → HasSolved texts rules old new s
+has_solved texts rules begun over site s old new first read same accepted is joined one_each each_text together from readings within =
     let c = behind begun.hosts first in
     let was : read_in c ≡ Ok read = subst (λ (v : InventoriesValue). read_in v ≡ Ok read) same accepted in
     let start : s ≡ at_start c site s.merged = from.start ∙ ap (λ (v : InventoriesValue). at_start v site s.merged) same in
@@ -105,7 +106,7 @@ has_solved texts rules begun over site s old new first read same accepted is joi
       begun_is = is;
       first = first;
       were = read;
-      first_read = record { one_each = one_each; accepted = was };
+      first_read = record { one_each = one_each; within = within; accepted = was };
       readings = readings;
       hosts = ap (λ (v : SolvedValue). v.hosts) start;
       joined = sym site_is ∙ joined;
@@ -129,7 +130,7 @@ record IsMergedFor (texts : List HostText) (begun : BegunSite) (are : List (Host
   whole : IsWhole (record { hosts = are; joined = begun.joined })
   right : IsOutcome (record { hosts = are; joined = begun.joined }) outcome
   believed : Headline (record { hosts = are; joined = begun.joined }) outcome
-  files : new ≡ record (after_files (merged_files texts begun believed.mappings outcome) (cleared old)) { read = new.read; reading = new.reading; writing = new.writing }
+  files : new ≡ record (all_settled (after_files (merged_files texts begun believed.mappings outcome) (cleared old))) { read = new.read; reading = new.reading; writing = new.writing }
 
 -- what was merged for the first reading stands in its files, with plans for the second
 merged_for : (texts : List HostText) (rules : SiteRules) (s : SolvedValue) (old mid new : Ledger) (cost : Cost) (h : HasSolved texts rules old mid s) → ReadsOnly old mid → (w : HasWritten texts s h.were mid new cost)
@@ -147,7 +148,7 @@ merged_for texts rules s old mid new cost h reads w =
       whole = still_whole first h.whole w.site.again w.site.same;
       right = second_reading_is_right first s.merged w.site.again w.site.plans h.whole h.merged w.site.same w.site.whole;
       believed = believed;
-      files = w.files ∙ (λ j. record (after_files (merged_files texts read (same j) outcome) (cleared (reads j))) { read = new.read; reading = new.reading; writing = new.writing });
+      files = w.files ∙ (λ j. record (all_settled (after_files (merged_files texts read (same j) outcome) (cleared (reads j)))) { read = new.read; reading = new.reading; writing = new.writing });
     })
 
 pub has_merged : (texts : List HostText) (rules : SiteRules) (s : SolvedValue) (old mid new : Ledger) (cost : Cost) (h : HasSolved texts rules old mid s) → ReadsOnly old mid → HasWritten texts s h.were mid new cost → HasMerged texts rules old new cost
@@ -167,7 +168,7 @@ has_merged texts rules s old mid new cost h reads w =
       first_read = h.first_read;
       second = w.site.texts;
       are = w.site.again;
-      second_read = record { one_each = one_each; accepted = accepted };
+      second_read = record { one_each = one_each; within = w.site.within; accepted = accepted };
       same = subst (λ (j : Joined). AreReadAgain (record { hosts = h.were; joined = j }) w.site.again) h.joined w.site.same;
       readings = w.readings ∙ ap (λ rs. rs ++ readings_from 0 w.site.texts) h.readings;
       outcome = outcome;

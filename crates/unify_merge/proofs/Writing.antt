@@ -8,5 +8,5 @@ pub written_more : (l : Ledger) (name text more : List ℕ) → l.writing ≡ So
 written_more l name text more is = ap (λ o. (written_on more o l).writing) is
 
 -- no file was begun or finished, and nothing was cleared away
-pub within_file : (old new : Ledger) → new.is_clear ≡ old.is_clear → new.begun ≡ old.begun → new.finished ≡ old.finished → IsWithinFile old new
-within_file old new clear begun finished = λ j. record { read = new.read; reading = new.reading; is_clear = clear j; begun = begun j; finished = finished j; writing = new.writing }
+pub within_file : (old new : Ledger) → new.is_clear ≡ old.is_clear → new.begun ≡ old.begun → new.finished ≡ old.finished → new.settled ≡ old.settled → IsWithinFile old new
+within_file old new clear begun finished settled = λ j. record { read = new.read; reading = new.reading; is_clear = clear j; begun = begun j; finished = finished j; settled = settled j; writing = new.writing }

@@ -1,7 +1,8 @@
 -- The inventories as they are read the first time, and counted.
 -- Source: this project's own rule.
-use Rattle.std.specs.Prelude.{◌≡◌, ℕ, ◌+◌, ◌<◌, ◌⊎◌, Bool, true, List, [], ◌∷◌, ◌++◌, length, Some}
-use Rattle.std.specs.Prelude.{Ok, Err, IfSome, slice_get}
+use Rattle.std.specs.Prelude.{◌≡◌, ℕ, ◌+◌, ◌<◌, ◌≤◌, ◌⊎◌, Bool, true, List, [], ◌∷◌, ◌++◌, length}
+use Rattle.std.specs.Prelude.{Some, Ok, Err, IfSome, slice_get}
+use Rattle.std.specs.List.{All}
 use Rattle.idtext.specs.First.{each}
 use Rattle.mtree_inv.specs.declared.entry.Entry.{Entry}
 use Rattle.hosts_join.specs.declared.host.Host.{Host}
@@ -33,11 +34,23 @@ IsReading before host text l =
 abbrev pub HasRead : List Reading → ℕ → List ℕ → Ledger → Type 0
 HasRead before host text l = l.read ≡ before ++ record { host = host; text = text } ∷ []
 
--- the inventory that is read has more bytes than an input file may have
+-- the most bytes that an inventory may have
+abbrev pub most_inventory_bytes : ℕ
+most_inventory_bytes = 4294967295
+
+-- an inventory has no more than these
+abbrev pub IsWithinLimit : List ℕ → Type 0
+IsWithinLimit text = length text ≤ most_inventory_bytes
+
+-- each of these inventories has no more
+abbrev pub AreWithinLimit : List (List ℕ) → Type 0
+AreWithinLimit texts = All IsWithinLimit texts
+
+-- the inventory that is read has more
 abbrev pub IsTooLarge : Ledger → Type 0
 IsTooLarge l =
     (host : ℕ) × (text : List ℕ) × (l.reading ≡ Some (record { host = host; text = text }))
-    × (4294967295 < length text)
+    × (most_inventory_bytes < length text)
 
 -- Why a command ended early: a call failed; the inventory that is read is too large; or what was
 -- read has one of these faults, or memory was wanting.
@@ -94,4 +107,5 @@ with_inventories (host ∷ hosts) (text ∷ texts) =
 pub record WereEachRead (hosts : List HostText) (texts : List (List ℕ)) (old new : Ledger) : Type 0
   where
     pub one_each : length texts ≡ length hosts
+    pub within : AreWithinLimit texts
     pub readings : new.read ≡ old.read ++ readings_from 0 texts

@@ -16,9 +16,11 @@ pub record Ledger : Type 0 where
   -- whether what stood there before was cleared away, as far as that went
   pub is_clear : Bool
   -- since then: the names of the files that were begun, in order; the files that were finished, in
-  -- order; and the one that is written, as far as it was
+  -- order; those of them that are settled where they stand; and the one that is written, as far as
+  -- it was
   pub begun : List (List ℕ)
   pub finished : List NamedText
+  pub settled : List NamedText
   pub writing : Option NamedText
 
 -- nothing was read or written as yet
@@ -30,6 +32,7 @@ nothing =
       is_clear = false;
       begun = [];
       finished = [];
+      settled = [];
       writing = None;
     }
 
@@ -57,7 +60,7 @@ with_piece bytes l = read_on bytes l.reading l
 
 -- what was written before is gone, too
 abbrev pub cleared : Ledger → Ledger
-cleared l = record l { is_clear = true; begun = []; finished = []; writing = None }
+cleared l = record l { is_clear = true; begun = []; finished = []; settled = []; writing = None }
 
 -- behind the first bytes of a file that was begun
 abbrev pub writing_so_far : List ℕ → List ℕ → Ledger → Ledger
@@ -90,6 +93,14 @@ after_files files l =
       finished = l.finished ++ files;
       writing = None;
     }
+
+-- all files that were finished are settled
+abbrev pub all_settled : Ledger → Ledger
+all_settled l = record l { settled = l.finished }
+
+-- behind the last file, with which all are settled
+abbrev pub with_sealed : NamedText → Ledger → Ledger
+with_sealed file l = all_settled (after_files (file ∷ []) l)
 
 -- ---- an early end
 

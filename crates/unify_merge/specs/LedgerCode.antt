@@ -19,22 +19,25 @@ file_code =
 
 abbrev Fields : Type 0
 Fields =
-    (List Reading × Option Reading) × (Bool × (List (List ℕ) × (List NamedText × Option NamedText)))
+    (List Reading × Option Reading)
+    × (Bool × (List (List ℕ) × (List NamedText × (List NamedText × Option NamedText))))
 
 abbrev fields_code : Coded Fields
 fields_code =
     coded× (coded× (coded_list reading_code) (coded_option reading_code)) (coded× coded_bool
-    (coded× (coded_list bytes_code) (coded× (coded_list file_code) (coded_option file_code))))
+    (coded× (coded_list bytes_code)
+    (coded× (coded_list file_code) (coded× (coded_list file_code) (coded_option file_code)))))
 
 abbrev pub ledger_code : Coded Ledger
 ledger_code =
     code_by Fields fields_code
-    (λ l. ((l.read, l.reading), (l.is_clear, (l.begun, (l.finished, l.writing)))))
+    (λ l. ((l.read, l.reading), (l.is_clear, (l.begun, (l.finished, (l.settled, l.writing))))))
     (λ f. record {
       read = f.0.0;
       reading = f.0.1;
       is_clear = f.1.0;
       begun = f.1.1.0;
       finished = f.1.1.1.0;
-      writing = f.1.1.1.1;
+      settled = f.1.1.1.1.0;
+      writing = f.1.1.1.1.1;
     }) (λ _. refl)

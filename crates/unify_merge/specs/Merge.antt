@@ -1,6 +1,7 @@
 -- What a merge does, from the bytes that it reads to the bytes of each file.
 -- Source: this project's own rule.
-use Rattle.std.specs.Prelude.{◌≡◌, ◌<◌, ◌≤◌, ◌+◌, ℕ, ◌⊎◌, Bool, false, List, [], ◌∷◌, ◌++◌}
+use Rattle.std.specs.Prelude.{◌≡◌, ◌<◌, ◌≤◌, ◌+◌, ◌⊎◌, ℕ, Bool, false}
+use Rattle.std.specs.Prelude.{List, [], ◌∷◌, ◌++◌}
 use Rattle.std.specs.Prelude.{length, map, drop, if◌then◌else◌, codes, Ok, Err}
 use Rattle.idtext.specs.First.{each}
 use Rattle.mtree_inv.specs.declared.entry.Entry.{Entry}
@@ -23,8 +24,9 @@ use Rattle.unify.specs.SecondPass.{IsFresh, SolvedValue, ended_in}
 use Rattle.unify_laws.specs.Headline.{Headline}
 use Rattle.unify_laws.specs.HostTexts.{AreJoinedInFull, EachKeepsOwnFiles, host_files}
 use Rattle.unify_laws.specs.TwoPasses.{AreReadAgain}
-use Rattle.unify_merge.specs.Ledger.{BrokeOff, Ledger, after_files, cleared}
-use Rattle.unify_merge.specs.FirstReading.{IsInventoryFault, ReadsOnly, StopsFor, readings_from}
+use Rattle.unify_merge.specs.Ledger.{BrokeOff, Ledger, after_files, all_settled, cleared}
+use Rattle.unify_merge.specs.FirstReading.{AreWithinLimit, IsInventoryFault, ReadsOnly, StopsFor}
+use Rattle.unify_merge.specs.FirstReading.{readings_from}
 use Rattle.unify_merge.specs.SecondReading.{ArePlannedFirst, IsPlannedAgain, IsSiteChange}
 use Rattle.unify_merge.specs.SecondReading.{HasReadOneAtMost, WereRead, plan_files, plans_from}
 use Rattle.unify_merge.specs.declared.fault.MergeFault.{MergeFault}
@@ -62,6 +64,7 @@ merged_files texts begun m outcome =
 pub record AreInventories (hosts : List Host) (texts : List (List ℕ))
     (read : List (Host × List Entry)) : Type 0 where
   pub one_each : length texts ≡ length hosts
+  pub within : AreWithinLimit texts
   pub accepted : each site_of (loaded_from hosts texts) ≡ Ok read
 
 -- the tables and the rules were read, and the inventory of each host once; what was merged is right
@@ -84,15 +87,16 @@ pub record HasSolved (texts : List HostText) (rules : SiteRules) (old new : Ledg
   pub fresh : IsFresh s
 
 -- the inventories were read again, and what was merged stands in its files, with plans for that
--- reading
+-- reading, and all of them are settled
 pub record HasWritten (names : List HostText) (s : SolvedValue) (read : List (Host × List Entry))
     (old new : Ledger) (cost : Cost) : Type 0 where
   pub site : IsPlannedAgain s read
   pub readings : new.read ≡ old.read ++ readings_from 0 site.texts
   pub files : new
-      ≡ record (after_files
+      ≡ record (all_settled
+      (after_files
       (merged_files names (record { hosts = s.hosts; joined = s.joined }) (mappings_in s.merged)
-      (record s.merged.outcome { plans = site.plans })) (cleared old)) {
+      (record s.merged.outcome { plans = site.plans })) (cleared old))) {
         read = new.read;
         reading = new.reading;
         writing = new.writing;
@@ -104,7 +108,7 @@ pub record HasWritten (names : List HostText) (s : SolvedValue) (read : List (Ho
 -- as the first. What was merged is right for the second reading, and has the headline of it; and
 -- each host's own passwd and group with their new numbers keep the names of its files as well.
 -- Where no name is kept, as with an empty keep text, all rows of each host were joined. What was
--- merged stands in its files, which are all that stands there.
+-- merged stands in its files, which are all that stands there, and all of them are settled.
 pub record HasMerged (texts : List HostText) (rules : SiteRules) (old new : Ledger)
     (cost : Cost) : Type 0 where
   pub begun : BegunSite
@@ -125,8 +129,12 @@ pub record HasMerged (texts : List HostText) (rules : SiteRules) (old new : Ledg
   pub in_full : keeps_a_name begun.joined ≡ false → AreJoinedInFull (map (λ h. h.0) are) texts
   pub none_kept : rules.keep.text ≡ [] → keeps_a_name begun.joined ≡ false
   pub files : new
-      ≡ record (after_files (merged_files texts begun is_believed.mappings outcome)
-      (cleared old)) { read = new.read; reading = new.reading; writing = new.writing }
+      ≡ record (all_settled
+      (after_files (merged_files texts begun is_believed.mappings outcome) (cleared old))) {
+        read = new.read;
+        reading = new.reading;
+        writing = new.writing;
+      }
   pub cost_is : cost ≡ outcome.cost
 
 -- what was merged so, but without its plans, which are among the files
@@ -185,8 +193,8 @@ pub record WritingBrokeOff (names : List HostText) (s : SolvedValue)
 -- the inventories of the first hosts were read again, and are accepted again. Behind a clearing
 -- away, which may have stopped midway, the files of an outcome were being written that is right,
 -- with the headline, for the inventories as they were read last, and that broke off: which of them
--- are whole is known, with their bytes, the report last of all. No plan is whole of a host whose
--- inventory was not read again, and no host's own file before all were.
+-- are whole is known, with their bytes, the report last of all; none is told to be settled. No plan
+-- is whole of a host whose inventory was not read again, and no host's own file before all were.
 pub record MergeBrokeOff (texts : List HostText) (rules : SiteRules) (old new : Ledger) : Type 0
   where
     pub begun : BegunSite

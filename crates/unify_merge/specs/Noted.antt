@@ -1,7 +1,7 @@
 -- What a call that succeeded makes of the ledger.
-use Rattle.std.specs.Prelude.{[], ◌∷◌}
+use Rattle.std.specs.Prelude.{[]}
 use Rattle.unify_merge.specs.Ledger.{Ledger, reading_so_far, with_piece, cleared, with_begun}
-use Rattle.unify_merge.specs.Ledger.{with_bytes, with_finished, after_files}
+use Rattle.unify_merge.specs.Ledger.{with_bytes, with_finished, with_sealed}
 use Rattle.unify_merge.specs.declared.log.Call.{Call}
 use Rattle.unify_merge.specs.declared.log.Call.TheVariants as call
 
@@ -12,4 +12,4 @@ noted call.Clear l = cleared l
 noted (call.Begin name) l = with_begun name.now l
 noted (call.Append bytes) l = with_bytes bytes.now l
 noted call.Finish l = with_finished l
-noted (call.Seal name text) l = after_files (record { name = name.now; text = text.now } ∷ []) l
+noted (call.Seal name text) l = with_sealed (record { name = name.now; text = text.now }) l

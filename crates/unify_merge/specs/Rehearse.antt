@@ -8,7 +8,7 @@ use Rattle.unify_texts.specs.declared.fault.Fault.{Fault}
 use Rattle.unify_texts.specs.declared.fault.Fault.TheVariants.{BadPlan}
 use Rattle.unify.specs.PlanRehearsal.{IsRefusedBy}
 use Rattle.unify.specs.Rehearsing.{rehearsed}
-use Rattle.unify_merge.specs.FirstReading.{HasRead, IsReading, StopsFor}
+use Rattle.unify_merge.specs.FirstReading.{HasRead, IsReading, IsWithinLimit, StopsFor}
 use Rattle.unify_merge.specs.Ledger.{Ledger, Reading}
 use Rattle.unify_merge.specs.declared.fault.MergeFault.{MergeFault}
 
@@ -18,6 +18,7 @@ use Rattle.unify_merge.specs.declared.fault.MergeFault.{MergeFault}
 abbrev pub HasCarriedOut : PlanData → List Reading → Ledger → ℕ → Type 0
 HasCarriedOut plan before l n =
     (text : List ℕ) × HasRead before 0 text l × (rehearsed (Ok plan) text ≡ Ok n)
+    × IsWithinLimit text
 
 -- The first fault: what was read so far has it, whatever comes behind that; or all that was read.
 abbrev pub IsCarryingFault : PlanData → List Reading → Ledger → Fault → Type 0

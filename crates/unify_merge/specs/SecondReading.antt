@@ -17,7 +17,8 @@ use Rattle.unify.specs.SecondPass.{first_in, second_files, second_lines, whole_p
 use Rattle.unify.specs.declared.site_files.NamedText.{NamedText}
 use Rattle.unify_laws.specs.TwoPasses.{AreReadAgain, AreWholePlans}
 use Rattle.unify_merge.specs.Ledger.{HasBegun, Ledger, Reading, after_files}
-use Rattle.unify_merge.specs.FirstReading.{HasRead, IsReading, StopsFor, readings_from}
+use Rattle.unify_merge.specs.FirstReading.{AreWithinLimit, HasRead, IsReading, IsWithinLimit}
+use Rattle.unify_merge.specs.FirstReading.{StopsFor, readings_from}
 use Rattle.unify_merge.specs.declared.fault.MergeFault.{MergeFault}
 use Rattle.unify_merge.specs.declared.fault.MergeFault.TheVariants.{Failed, TooLarge, Refused}
 
@@ -84,6 +85,7 @@ pub record IsReadAgain (host : Host) (were : List Entry) (text : List ℕ) (file
 pub record IsPlanned (s : SolvedValue) (host : Host) (were : List Entry) (name : List ℕ)
     (old new : Ledger) : Type 0 where
   pub text : List ℕ
+  pub within : IsWithinLimit text
   pub files : List Entry
   pub again : IsReadAgain host were text files
   pub readings : HasRead old.read (ended_in s) text new
@@ -94,6 +96,7 @@ pub record IsPlanned (s : SolvedValue) (host : Host) (were : List Entry) (name :
 pub record HasPlan (s : SolvedValue) (host : Host) (were : List Entry) (name : List ℕ)
     (old new : Ledger) : Type 0 where
   pub text : List ℕ
+  pub within : IsWithinLimit text
   pub files : List Entry
   pub again : IsReadAgain host were text files
   pub readings : HasRead old.read (ended_in s) text new
@@ -148,6 +151,7 @@ pub record WereRead (s : SolvedValue) (read : List (Host × List Entry)) : Type 
 pub record IsPlannedAgain (s : SolvedValue) (read : List (Host × List Entry)) : Type 0 where
   pub texts : List (List ℕ)
   pub one_each : length texts ≡ length s.hosts
+  pub within : AreWithinLimit texts
   pub again : List (Host × List Entry)
   pub accepted : each site_of (loaded_from s.hosts texts) ≡ Ok again
   pub same : AreReadAgain (record { hosts = read; joined = s.joined }) again
@@ -176,6 +180,7 @@ pub record ArePlannedFirst (s : SolvedValue) (read : List (Host × List Entry)) 
     pub again : List (Host × List Entry)
     pub plans : List (List ℕ)
     pub texts_are : length texts ≡ index
+    pub within : AreWithinLimit texts
     pub again_are : length again ≡ index
     pub plans_are : length plans ≡ index
     pub accepted : each site_of (loaded_from s.hosts texts) ≡ Ok again

@@ -14,7 +14,8 @@ use Rattle.unify_texts.specs.declared.fault.Fault.{Fault}
 use Rattle.unify.specs.Loading.{loaded_from}
 use Rattle.unify.specs.Passes.{is_read, lines_of}
 use Rattle.unify.specs.Survey.{inventory_of, listed_of, unowned_over}
-use Rattle.unify_merge.specs.FirstReading.{HasRead, IsReading, StopsFor, readings_from}
+use Rattle.unify_merge.specs.FirstReading.{AreWithinLimit, HasRead, IsReading, StopsFor}
+use Rattle.unify_merge.specs.FirstReading.{readings_from}
 use Rattle.unify_merge.specs.Ledger.{Ledger, Reading}
 use Rattle.unify_merge.specs.declared.fault.MergeFault.{MergeFault}
 
@@ -51,6 +52,7 @@ pub record HasAdded (hosts : List Host) (old new : Ledger) (before after : Unown
   where
     pub texts : List (List ℕ)
     pub one_each : length texts ≡ length hosts
+    pub within : AreWithinLimit texts
     pub readings : new.read ≡ old.read ++ readings_from 0 texts
     pub listed : List (Host × List Entry)
     pub are_listed : each listed_of (loaded_from hosts texts) ≡ Ok listed

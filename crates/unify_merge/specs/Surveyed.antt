@@ -12,7 +12,7 @@ use Rattle.unify.specs.Rules.{rules_by}
 use Rattle.unify.specs.Survey.{found_on, surveyed_hosts}
 use Rattle.unify_merge.specs.Check.{HasChecked, StopsCheck}
 use Rattle.unify_merge.specs.Count.{HasCounted, StopsCount}
-use Rattle.unify_merge.specs.FirstReading.{ReadsOnly, StopsFor, readings_from}
+use Rattle.unify_merge.specs.FirstReading.{AreWithinLimit, ReadsOnly, StopsFor, readings_from}
 use Rattle.unify_merge.specs.Ledger.{Ledger}
 use Rattle.unify_merge.specs.Merge.{HasMerged, MergeBrokeOff, StopsMerge}
 use Rattle.unify_merge.specs.Survey.{IsSurveyFault}
@@ -28,6 +28,7 @@ pub record WereFound (hosts : List HostText) (keep : List ℕ) (old new : Ledger
   pub surveying_are : surveyed_hosts hosts (keep_read keep) ≡ Ok surveying
   pub texts : List (List ℕ)
   pub one_each : length texts ≡ length surveying
+  pub within : AreWithinLimit texts
   pub found : found_on surveying texts ≡ Ok unowned
   pub readings : new.read ≡ old.read ++ readings_from 0 texts
   pub reads : ReadsOnly old new

@@ -34,7 +34,7 @@ pub trait ReadFiles {
 pub trait MergeFiles: ReadFiles {
     ghost use Rattle.std.specs.Prelude.{◌≡◌, ◌⊎◌, true, [], ◌∷◌, OnOk, OnErr};
     ghost use Rattle.unify_merge.specs.Ledger.{cleared, with_begun, with_bytes, with_finished};
-    ghost use Rattle.unify_merge.specs.Ledger.{after_files};
+    ghost use Rattle.unify_merge.specs.Ledger.{after_files, with_sealed};
 
     /// Clears away what a merge left: its report first, what it wrote for each host, also for hosts
     /// that are no more, and its passwd and group. Where it fails, nothing was cleared away, or
@@ -68,13 +68,13 @@ pub trait MergeFiles: ReadFiles {
         ensures failed { OnErr result (Self.has_failed self.new ≡ true) };
 
     /// Writes the last file whole, when all others are settled where they stand, and settles it.
-    /// Where it fails, the file may stand there all the same, as when it could not be settled.
+    /// Where it fails, the file may stand there all the same, as when it could not be settled; that
+    /// any file is settled is not said then.
     fn seal(&mut self, name: &[u8], text: &[u8]) -> Result<(), CallFailed>
         requires clear { (Self.ledger self.old).is_clear ≡ true }
         ensures sealed { OnOk result
             (Self.ledger self.new
-            ≡ after_files (record { name = name.now; text = text.now } ∷ [])
-            (Self.ledger self.old)) }
+            ≡ with_sealed (record { name = name.now; text = text.now }) (Self.ledger self.old)) }
         ensures failing { OnErr result ((Self.ledger self.new ≡ Self.ledger self.old)
             ⊎ (Self.ledger self.new
             ≡ after_files (record { name = name.now; text = text.now } ∷ [])

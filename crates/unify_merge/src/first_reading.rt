@@ -5,7 +5,8 @@ ghost use Rattle.std.specs.Prelude.{OnOk, IfErr};
 ghost use Rattle.mtree_inv.specs.declared.entry.Entry.{Entry};
 ghost use Rattle.hosts_join.specs.declared.host.Host.{Host};
 ghost use Rattle.unify.specs.Passes.{at_start, behind, ended_in, read_in};
-ghost use Rattle.unify_merge.specs.FirstReading.{HasRead, ReadsOnly, StopsCounting, StopsFirst};
+ghost use Rattle.unify_merge.specs.FirstReading.{AreWithinLimit, HasRead, IsWithinLimit};
+ghost use Rattle.unify_merge.specs.FirstReading.{ReadsOnly, StopsCounting, StopsFirst};
 ghost use Rattle.unify_merge.specs.FirstReading.{readings_from};
 
 use crate::fault::MergeFault;
@@ -26,7 +27,8 @@ fn count_reading<'a, F: ReadFiles>(
         ≡ Some (record { host = ended_in inventories.old; text = [] }) }
     ensures counted { OnOk result ((text : List ℕ)
         × (inventories.new ≡ behind inventories.old.hosts (inventories.old.ended ++ text ∷ []))
-        × HasRead (F.ledger files.old).read (ended_in inventories.old) text (F.ledger files.new)) }
+        × HasRead (F.ledger files.old).read (ended_in inventories.old) text (F.ledger files.new)
+        × IsWithinLimit text) }
     ensures accepted { OnOk result
         ((read : List (Host × List Entry)) × (read_in inventories.new ≡ Ok read)) }
     ensures stopped { IfErr result
@@ -56,7 +58,8 @@ fn count_host<'a, F: ReadFiles>(
     requires fresh { inventories.old ≡ behind inventories.old.hosts inventories.old.ended }
     ensures counted { OnOk result ((text : List ℕ)
         × (inventories.new ≡ behind inventories.old.hosts (inventories.old.ended ++ text ∷ []))
-        × HasRead (F.ledger files.old).read index text (F.ledger files.new)) }
+        × HasRead (F.ledger files.old).read index text (F.ledger files.new)
+        × IsWithinLimit text) }
     ensures accepted { OnOk result
         ((read : List (Host × List Entry)) × (read_in inventories.new ≡ Ok read)) }
     ensures stopped { IfErr result
@@ -79,7 +82,8 @@ pub fn count_hosts<'a, F: ReadFiles>(
     ensures counted { OnOk result ((texts : List (List ℕ))
         × (inventories.new ≡ behind inventories.old.hosts texts)
         × (length texts ≡ length inventories.old.hosts)
-        × ((F.ledger files.new).read ≡ (F.ledger files.old).read ++ readings_from 0 texts)) }
+        × ((F.ledger files.new).read ≡ (F.ledger files.old).read ++ readings_from 0 texts)
+        × AreWithinLimit texts) }
     ensures accepted { OnOk result
         ((read : List (Host × List Entry)) × (read_in inventories.new ≡ Ok read)) }
     ensures stopped { IfErr result

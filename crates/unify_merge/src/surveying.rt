@@ -5,10 +5,11 @@ ghost use Rattle.std.specs.Prelude.{◌≡◌, ◌++◌, ℕ, List, [], Err, IfE
 ghost use Rattle.survey.specs.Surveying.{StandsFor};
 ghost use Rattle.unify_texts.specs.Told.{told};
 ghost use Rattle.unify.specs.Passes.{is_read, lines_of};
-ghost use Rattle.unify_merge.specs.FirstReading.{HasRead, ReadsOnly};
+ghost use Rattle.unify_merge.specs.FirstReading.{HasRead, IsWithinLimit, ReadsOnly};
 ghost use Rattle.unify_merge.specs.Surveyed.{StopsFinding, WereFound};
 ghost use Rattle.unify_merge.specs.Survey.{AddsNumbers, HasAdded, HasSurveyed, IsSurveyOf};
 ghost use Rattle.unify_merge.specs.Survey.{StopsReading, StopsSurvey};
+ghost use Rattle.unify.specs.Hosts.{most_files};
 ghost use Rattle.unify.specs.Survey.{inventory_of};
 
 use crate::fault::MergeFault;
@@ -18,21 +19,18 @@ use hosts_join::{Host, HostText};
 use kept_accounts::UnownedNumbers;
 use std::alloc::Global;
 use survey::HostSurvey;
-use unify::{begin_survey, read_fault};
+use unify::{MOST_FILES, begin_survey, read_fault};
 use unify_texts::Fault;
-
-// The most files that an inventory may have.
-const MOST_FILES: u32 = 16777216;
 
 // Takes the next piece of the inventory of the host.
 fn survey_piece<'a>(survey: &mut HostSurvey, host: &Host<'a>, bytes: &[u8]) -> Result<(), Fault<'a>>
-    requires { (text : List ℕ) × StandsFor 16777216 host.now survey.old text }
+    requires { (text : List ℕ) × StandsFor most_files host.now survey.old text }
     ensures told { IfErr result
-        (λ e. (text : List ℕ) → StandsFor 16777216 host.now survey.old text
+        (λ e. (text : List ℕ) → StandsFor most_files host.now survey.old text
         → IfSome (told e) (λ f. is_read (lines_of host.now (text ++ bytes.now)) ≡ Err f)) }
     ensures stands { OnOk result
-        ((text : List ℕ) → StandsFor 16777216 host.now survey.old text
-        → StandsFor 16777216 host.now survey.new (text ++ bytes.now)) }
+        ((text : List ℕ) → StandsFor most_files host.now survey.old text
+        → StandsFor most_files host.now survey.new (text ++ bytes.now)) }
 {
     match survey.piece(host, bytes) {
         Ok(()) => Ok(()),
@@ -42,12 +40,12 @@ fn survey_piece<'a>(survey: &mut HostSurvey, host: &Host<'a>, bytes: &[u8]) -> R
 
 // Takes the end of the inventory of the host.
 fn survey_end<'a>(survey: &mut HostSurvey, host: &Host<'a>) -> Result<(), Fault<'a>>
-    requires { (text : List ℕ) × StandsFor 16777216 host.now survey.old text }
+    requires { (text : List ℕ) × StandsFor most_files host.now survey.old text }
     ensures told { IfErr result
-        (λ e. (text : List ℕ) → StandsFor 16777216 host.now survey.old text
+        (λ e. (text : List ℕ) → StandsFor most_files host.now survey.old text
         → IfSome (told e) (λ f. is_read (inventory_of host.now text) ≡ Err f)) }
     ensures read { OnOk result
-        ((text : List ℕ) → StandsFor 16777216 host.now survey.old text
+        ((text : List ℕ) → StandsFor most_files host.now survey.old text
         → IsSurveyOf host.now text survey.new) }
 {
     match survey.end(host) {
@@ -64,10 +62,10 @@ fn read_host<'a, F: ReadFiles>(
     host: &Host<'a>,
     bytes: &mut Vec<u8>,
 ) -> Result<(), MergeFault<'a>>
-    requires { StandsFor 16777216 host.now survey.old [] }
+    requires { StandsFor most_files host.now survey.old [] }
     ensures read { OnOk result
         ((text : List ℕ) × HasRead (F.ledger files.old).read index text (F.ledger files.new)
-        × IsSurveyOf host.now text survey.new) }
+        × IsSurveyOf host.now text survey.new × IsWithinLimit text) }
     ensures stopped { IfErr result
         (StopsReading host.now index (F.ledger files.old).read (F.ledger files.new)
         (F.has_failed files.new)) }
@@ -93,7 +91,7 @@ fn survey_host<'a, F: ReadFiles>(
 ) -> Result<(), MergeFault<'a>>
     ensures read { OnOk result
         ((text : List ℕ) × HasRead (F.ledger files.old).read index text (F.ledger files.new)
-        × AddsNumbers host.now text found.old found.new) }
+        × AddsNumbers host.now text found.old found.new × IsWithinLimit text) }
     ensures stopped { IfErr result
         (StopsReading host.now index (F.ledger files.old).read (F.ledger files.new)
         (F.has_failed files.new)) }

@@ -7,7 +7,7 @@ use Rattle.unify_bundle.proofs.rehearsing_site.done_of.Goals as goal
 
 pub loop-host-preserved : goal.loop-host-preserved
 loop-host-preserved c =
-    let told = c.done.ensures in
+    let told = c.is_done.ensures in
     c.in_ok-push.ensures.items ∙ ap (λ b. c.loop-host.done.items ++ b ∷ []) told.2 ∙ done_more c.args.campaign.now.runners c.loop-host.host c.loop-host.done.items c.loop-host.invariant told.0 told.1
 
 pub returns : goal.returns

@@ -43,7 +43,7 @@ returns-in_err-verify-clause-stopped g c =
     let joined = c.in_ok-begun.begun.site in
     let old = g.F.ReadFiles.ledger c.args.files.now in
     let new = g.F.ReadFiles.ledger c.count_hosts.new.files in
-    let site = read_site c.args.hosts.now c.args.rules.now begun.0 joined old new counted.0 accepted.0 begun.1 begun.2.joined (counted.2 ∙ c.in_ok-begun.ensures.hosts) (sym (ap read_in over) ∙ accepted.1) counted.3 in
+    let site = read_site c.args.hosts.now c.args.rules.now begun.0 joined old new counted.0 accepted.0 begun.1 begun.2.joined (counted.2 ∙ c.in_ok-begun.ensures.hosts) (sym (ap read_in over) ∙ accepted.1) counted.3 counted.4 in
     rw (p.1, p.2)
     (check_refused c.args.hosts.now c.args.rules.now c.args.certificate.now old new joined counted.0 accepted.0 site (g.F.ReadFiles.has_failed c.count_hosts.new.files) c.in_err-verify.field-0.0 (c.in_err-verify.ensures accepted.0 accepted.1))
 
@@ -57,5 +57,5 @@ returns-clause-checked g c =
     let joined = c.in_ok-begun.begun.site in
     let old = g.F.ReadFiles.ledger c.args.files.now in
     let new = g.F.ReadFiles.ledger c.count_hosts.new.files in
-    let site = read_site c.args.hosts.now c.args.rules.now begun.0 joined old new counted.0 accepted.0 begun.1 begun.2.joined (counted.2 ∙ c.in_ok-begun.ensures.hosts) (sym (ap read_in over) ∙ accepted.1) counted.3 in
+    let site = read_site c.args.hosts.now c.args.rules.now begun.0 joined old new counted.0 accepted.0 begun.1 begun.2.joined (counted.2 ∙ c.in_ok-begun.ensures.hosts) (sym (ap read_in over) ∙ accepted.1) counted.3 counted.4 in
     has_checked c.args.hosts.now c.args.rules.now c.args.certificate.now old new joined counted.0 accepted.0 site _ (c.in_ok-verify.ensures accepted.0 accepted.1)

@@ -1,10 +1,12 @@
 use Rattle.std.proofs.Common.{◌≡◌, ◌<◌, ◌++◌, ◌∷◌, [], List, Ok, length, Some, refl, sym, ap, subst, ◌∙◌, arith, append-nil, length-append}
 use Rattle.std.specs.List.{slice_get}
+use Rattle.std.proofs.lemmas.List.Elements.{All-nil, All-push}
 use Rattle.std.proofs.lemmas.Result.{err_from_is_err_and}
 use Rattle.hosts_join.specs.declared.host.Host.{Host}
 use Rattle.unify.specs.Passes.{InventoriesValue, behind, ended_in, read_in}
 use Rattle.unify.proofs.Passing.{none_read}
 use Rattle.unify_laws.proofs.Agreeing.{item_at}
+use Rattle.unify_merge.specs.FirstReading.{IsWithinLimit}
 use Rattle.unify_merge.proofs.Readings.{counting_stopped, first_same, read_more, reads_on}
 use Rattle.unify_merge.proofs.first_reading.count_hosts.Goals as goal
 
@@ -13,6 +15,7 @@ loop-index-init g c = record {
   texts = [];
   come = c.requires.start;
   so_far = refl;
+  within = All-nil IsWithinLimit;
   files = [];
   accepted = ap read_in c.requires.start ∙ none_read c.args.inventories.now.hosts;
   read = sym (append-nil (g.F.ReadFiles.ledger c.args.files.now).read);
@@ -58,6 +61,7 @@ loop-index-preserved g c =
       texts = inv.texts ++ it.0 ∷ [];
       come = it.1 ∙ ap (λ (v : InventoriesValue). behind v.hosts (v.ended ++ it.0 ∷ [])) inv.come;
       so_far = omega (arith, inv.so_far, length-append inv.texts (it.0 ∷ []));
+      within = All-push IsWithinLimit inv.texts it.0 inv.within it.3;
       files = accepted.0;
       accepted = accepted.1;
       read = read_more _ _ (g.F.ReadFiles.ledger c.count_host.new.files).read c.loop-index.index inv.texts it.0 (sym inv.so_far) inv.read it.2;

@@ -45,5 +45,5 @@ returns-clause-solved g c =
     let accepted = c.in_ok-count_hosts.ensures.accepted in
     if_ok c.solve.result _ _ (λ s from.
     has_solved c.args.hosts.now c.args.rules.now begun.0 c.count_hosts.new.inventories site s (g.F.ReadFiles.ledger c.args.files.now) (g.F.ReadFiles.ledger c.count_hosts.new.files) counted.0 accepted.0 over accepted.1 begun.1 begun.2.joined
-    (counted.2 ∙ ap length hosts) (ap length (sym hosts) ∙ c.in_ok-begun.ensures.hosts) together from counted.3)
+    (counted.2 ∙ ap length hosts) (ap length (sym hosts) ∙ c.in_ok-begun.ensures.hosts) together from counted.3 counted.4)
     c.solve.ensures.solved

@@ -4,7 +4,7 @@ use Rattle.std.proofs.lemmas.Result.{err_from_is_err_and}
 use Rattle.unify.specs.Merging.{mappings_in}
 use Rattle.unify.specs.SecondPass.{SolvedValue}
 use Rattle.unify_laws.specs.HostTexts.{host_files}
-use Rattle.unify_merge.specs.Ledger.{BrokeOff, Ledger, after_files, cleared}
+use Rattle.unify_merge.specs.Ledger.{BrokeOff, Ledger, after_files, cleared, with_sealed}
 use Rattle.unify_merge.specs.HostFiles.{HasFiles}
 use Rattle.unify_merge.specs.Merge.{first_files, report_file}
 use Rattle.unify_merge.specs.FirstReading.{readings_from}
@@ -47,7 +47,7 @@ returns-clause-written g c = λ read was.
     let solved : c.plan_hosts.new.solved.merged ≡ v.merged = ap (λ (x : SolvedValue). x.merged) site in
     let begun : first ≡ after_files (first_files outcome) (cleared old) = c.in_ok-write_first.ensures.written ∙ (λ j. after_files (first_files (same_first j)) (c.in_ok-clear.ensures.clear j)) in
     let report : c.bytes.result.now ≡ outcome.report = c.bytes.ensures ∙ ap (λ o. o.report) (c.outcome-2.ensures ∙ ap (λ m. m.outcome) solved) in
-    let sealed = c.in_ok-seal.ensures.sealed ∙ (λ j. after_files (record { name = (report_file outcome).name; text = report j } ∷ []) own) in
+    let sealed = c.in_ok-seal.ensures.sealed ∙ (λ j. with_sealed (record { name = (report_file outcome).name; text = report j }) own) in
     let written : HasFiles (host_files v.joined (mappings_in v.merged) texts v.hosts) mid own = subst (λ (x : SolvedValue). HasFiles (host_files x.joined (mappings_in x.merged) texts x.hosts) mid own) site c.in_ok-write_hosts.ensures.written in
     record {
       site = p.site;

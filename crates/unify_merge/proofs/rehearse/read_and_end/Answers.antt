@@ -1,5 +1,6 @@
-use Rattle.std.proofs.Common.{◌++◌, ap, sym, ◌∙◌, arith, length-append}
+use Rattle.std.proofs.Common.{◌≤◌, ◌++◌, ◌∷◌, [], length, ap, sym, ◌∙◌, arith, length-append}
 use Rattle.std.proofs.lemmas.Result.{err_from_is_err_and}
+use Rattle.unify_merge.specs.FirstReading.{most_inventory_bytes}
 use Rattle.unify_merge.specs.Ledger.{Ledger, Reading}
 use Rattle.unify_merge.proofs.Readings.{reads_on}
 use Rattle.unify_merge.proofs.Rehearsals.{piece_refused}
@@ -47,3 +48,11 @@ returns-in_err-piece-clause-stopped g c =
     rw (p.1, p.2) (λ plan s.
     piece_refused plan _ _ (g.F.ReadFiles.ledger now) (g.F.ReadFiles.has_failed now) _ (ap (λ (l : Ledger). l.read) goes.0 ∙ inv.read, ap (λ (l : Ledger). l.reading) goes.0)
     (rw c.deref.ensures.value at c.in_err-piece.ensures.refused plan inv.text (inv.stands plan s)))
+
+pub returns-clause-carried : goal.returns-clause-carried
+returns-clause-carried g c =
+    let inv = c.loop-rehearsal.invariant in
+    let r : Reading = record { host = 0; text = inv.text } in
+    let goes = rw c.if-branch.false at c.in_ok-next_piece.ensures.read r inv.reading in
+    let few : length inv.text ≤ most_inventory_bytes = omega (arith, inv.may) in
+    λ plan s. (inv.text, ap (λ (l : Ledger). l.read) goes ∙ ap (λ rs. rs ++ r ∷ []) inv.read, c.in_ok-records.ensures plan inv.text (inv.stands plan s), few)

@@ -1,7 +1,7 @@
 use Rattle.std.proofs.Common.{◌≡◌, ◌+◌, ℕ, List, [], length, Some}
 use Rattle.reown_plan.specs.PlanData.{PlanData}
 use Rattle.unify.specs.PlanRehearsal.{StandsFor}
-use Rattle.unify_merge.specs.FirstReading.{ReadsOnly}
+use Rattle.unify_merge.specs.FirstReading.{ReadsOnly, most_inventory_bytes}
 use Rattle.unify_merge.proofs.rehearse.read_and_end.Given as goal
 
 -- text: what was read so far
@@ -11,7 +11,7 @@ invariant-loop-rehearsal g l = record {
   reading : (g.F.ReadFiles.ledger l.files).reading ≡ Some (record { host = 0; text = text });
   read : (g.F.ReadFiles.ledger l.files).read ≡ (g.F.ReadFiles.ledger l.fn.files).read;
   only : ReadsOnly (g.F.ReadFiles.ledger l.fn.files) (g.F.ReadFiles.ledger l.files);
-  may : l.left + length text ≡ 4294967295;
+  may : l.left + length text ≡ most_inventory_bytes;
   stands : (plan : PlanData) → StandsFor l.fn.rehearsal plan [] → StandsFor l.rehearsal plan text;
 }
 

@@ -23,13 +23,15 @@ returns-clause-planned g c = λ host were turn.
     let clear = ap (λ (x : Ledger). x.is_clear) done ∙ ap (λ (x : Ledger). x.is_clear) kept ∙ ap (λ (x : Ledger). x.is_clear) opened ∙ ap (λ (x : Ledger). x.is_clear) begun in
     let names = ap (λ (x : Ledger). x.begun) done ∙ ap (λ (x : Ledger). x.begun) kept ∙ ap (λ (x : Ledger). x.begun) opened ∙ ap (λ (x : Ledger). x.begun) begun in
     let finished = ap (λ (x : Ledger). x.finished) done ∙ ap (λ (x : Ledger). x.finished ++ file ∷ []) kept ∙ ap (λ (x : Ledger). x.finished ++ file ∷ []) opened ∙ ap (λ (x : Ledger). x.finished ++ file ∷ []) begun in
+    let settled = ap (λ (x : Ledger). x.settled) done ∙ ap (λ (x : Ledger). x.settled) kept ∙ ap (λ (x : Ledger). x.settled) opened ∙ ap (λ (x : Ledger). x.settled) begun in
     let writing = ap (λ (x : Ledger). x.writing) done in
     record {
       text = p.text;
+      within = p.within;
       files = p.files;
       again = p.again;
       readings = ap (λ (x : Ledger). x.read) done ∙ p.readings ∙ ap (λ (x : Ledger). x.read ++ r ∷ []) opened ∙ ap (λ (x : Ledger). x.read ++ r ∷ []) begun;
-      written = λ j. record { read = new.read; reading = new.reading; is_clear = clear j; begun = names j; finished = finished j; writing = writing j };
+      written = λ j. record { read = new.read; reading = new.reading; is_clear = clear j; begun = names j; finished = finished j; settled = settled j; writing = writing j };
     }
 
 pub returns-in_err-begin-clause-left : goal.returns-in_err-begin-clause-left
@@ -38,7 +40,7 @@ returns-in_err-begin-clause-left g c =
     let new = g.F.ReadFiles.ledger c.begin.new.self in
     let none = c.in_err-begin.ensures.none in
     on_err c.from_residual.result (PlanBrokeOff old new)
-    (record { reads = has_read_none old.read new (ap (λ (l : Ledger). l.read) none); no_file = finishes_none old new (ap (λ (l : Ledger). l.is_clear) none) (ap (λ (l : Ledger). l.finished) none) })
+    (record { reads = has_read_none old.read new (ap (λ (l : Ledger). l.read) none); no_file = finishes_none old new (ap (λ (l : Ledger). l.is_clear) none) (ap (λ (l : Ledger). l.finished) none) (ap (λ (l : Ledger). l.settled) none) })
 
 pub returns-in_err-open-clause-left : goal.returns-in_err-open-clause-left
 returns-in_err-open-clause-left g c =
@@ -46,7 +48,7 @@ returns-in_err-open-clause-left g c =
     let new = g.F.ReadFiles.ledger c.open.new.self in
     let begun = c.in_err-open.ensures.none ∙ c.in_ok-begin.ensures.begun in
     on_err c.from_residual-in_err-open.result (PlanBrokeOff old new)
-    (record { reads = has_read_none old.read new (ap (λ (l : Ledger). l.read) begun); no_file = finishes_none old new (ap (λ (l : Ledger). l.is_clear) begun) (ap (λ (l : Ledger). l.finished) begun) })
+    (record { reads = has_read_none old.read new (ap (λ (l : Ledger). l.read) begun); no_file = finishes_none old new (ap (λ (l : Ledger). l.is_clear) begun) (ap (λ (l : Ledger). l.finished) begun) (ap (λ (l : Ledger). l.settled) begun) })
 
 pub returns-in_err-plan_reading-clause-left : goal.returns-in_err-plan_reading-clause-left
 returns-in_err-plan_reading-clause-left g c =
@@ -58,7 +60,8 @@ returns-in_err-plan_reading-clause-left g c =
     on_err c.from_residual-in_err-plan_reading.result (PlanBrokeOff old new)
     (record {
       reads = subst (λ (rs : List Reading). HasReadOneAtMost rs new) (ap (λ (l : Ledger). l.read) opened ∙ ap (λ (l : Ledger). l.read) begun) c.in_err-plan_reading.ensures.reads;
-      no_file = finishes_none old new (ap (λ (l : Ledger). l.is_clear) kept ∙ ap (λ (l : Ledger). l.is_clear) opened ∙ ap (λ (l : Ledger). l.is_clear) begun) (ap (λ (l : Ledger). l.finished) kept ∙ ap (λ (l : Ledger). l.finished) opened ∙ ap (λ (l : Ledger). l.finished) begun);
+      no_file = finishes_none old new (ap (λ (l : Ledger). l.is_clear) kept ∙ ap (λ (l : Ledger). l.is_clear) opened ∙ ap (λ (l : Ledger). l.is_clear) begun) (ap (λ (l : Ledger). l.finished) kept ∙ ap (λ (l : Ledger). l.finished) opened ∙ ap (λ (l : Ledger). l.finished) begun)
+          (ap (λ (l : Ledger). l.settled) kept ∙ ap (λ (l : Ledger). l.settled) opened ∙ ap (λ (l : Ledger). l.settled) begun);
     })
 
 pub returns-in_err-finish-clause-left : goal.returns-in_err-finish-clause-left
@@ -74,7 +77,8 @@ returns-in_err-finish-clause-left g c =
     (record {
       reads = record { more = reads.more; one_at_most = reads.one_at_most; readings = ap (λ (l : Ledger). l.read) none ∙ reads.readings ∙ ap (λ (l : Ledger). l.read ++ reads.more) opened ∙ ap (λ (l : Ledger). l.read ++ reads.more) begun };
       no_file = finishes_none old new (ap (λ (l : Ledger). l.is_clear) none ∙ ap (λ (l : Ledger). l.is_clear) kept ∙ ap (λ (l : Ledger). l.is_clear) opened ∙ ap (λ (l : Ledger). l.is_clear) begun)
-          (ap (λ (l : Ledger). l.finished) none ∙ ap (λ (l : Ledger). l.finished) kept ∙ ap (λ (l : Ledger). l.finished) opened ∙ ap (λ (l : Ledger). l.finished) begun);
+          (ap (λ (l : Ledger). l.finished) none ∙ ap (λ (l : Ledger). l.finished) kept ∙ ap (λ (l : Ledger). l.finished) opened ∙ ap (λ (l : Ledger). l.finished) begun)
+          (ap (λ (l : Ledger). l.settled) none ∙ ap (λ (l : Ledger). l.settled) kept ∙ ap (λ (l : Ledger). l.settled) opened ∙ ap (λ (l : Ledger). l.settled) begun);
     })
 
 pub returns-in_err-plan_reading-clause-stopped : goal.returns-in_err-plan_reading-clause-stopped

@@ -6,4 +6,4 @@ use Rattle.unify_merge.proofs.second_reading.plan_named.Goals as goal
 pub returns-in_err-name-clause-left : goal.returns-in_err-name-clause-left
 returns-in_err-name-clause-left g c =
     let old = g.F.ReadFiles.ledger c.args.files.now in
-    on_err c.from_residual.result (PlanBrokeOff old old) (record { reads = has_read_none old.read old refl; no_file = finishes_none old old refl refl })
+    on_err c.from_residual.result (PlanBrokeOff old old) (record { reads = has_read_none old.read old refl; no_file = finishes_none old old refl refl refl })

@@ -1,4 +1,4 @@
-use Rattle.std.proofs.Common.{◌≡◌, ◌+◌, ◌++◌, ◌∷◌, [], ℕ, List, Some, refl, sym, ap, subst, ◌∙◌, arith, length-append}
+use Rattle.std.proofs.Common.{◌≡◌, ◌≤◌, ◌+◌, ◌++◌, ◌∷◌, [], ℕ, List, Some, length, refl, sym, ap, subst, ◌∙◌, arith, length-append}
 use Rattle.std.specs.Prelude.{OnOk}
 use Rattle.std.proofs.lemmas.Result.{err_from_is_err_and}
 use Rattle.std.proofs.lemmas.Option.{same_Some}
@@ -6,6 +6,7 @@ use Rattle.mtree_inv.specs.declared.entry.Entry.{Entry}
 use Rattle.unify.specs.SecondPass.{IsNext, SolvedValue, WereFirst, ended_in, whole_plan}
 use Rattle.unify.specs.declared.site_files.NamedText.{NamedText}
 use Rattle.unify_laws.proofs.Agreeing.{item_at}
+use Rattle.unify_merge.specs.FirstReading.{most_inventory_bytes}
 use Rattle.unify_merge.specs.Ledger.{Ledger, Reading, with_bytes}
 use Rattle.unify_merge.specs.SecondReading.{IsReadAgain, StopsEnd, StopsPiece}
 use Rattle.unify_merge.proofs.AllPlanned.{same_site}
@@ -62,7 +63,8 @@ loop-files-preserved g c =
       read = ap (λ (l : Ledger). l.read) writes ∙ ap (λ (l : Ledger). l.read) goes.0 ∙ inv.read;
       only = within_file old new (ap (λ (l : Ledger). l.is_clear) writes ∙ ap (λ (l : Ledger). l.is_clear) goes.0 ∙ ap (λ (l : Ledger). l.is_clear) inv.only)
           (ap (λ (l : Ledger). l.begun) writes ∙ ap (λ (l : Ledger). l.begun) goes.0 ∙ ap (λ (l : Ledger). l.begun) inv.only)
-          (ap (λ (l : Ledger). l.finished) writes ∙ ap (λ (l : Ledger). l.finished) goes.0 ∙ ap (λ (l : Ledger). l.finished) inv.only);
+          (ap (λ (l : Ledger). l.finished) writes ∙ ap (λ (l : Ledger). l.finished) goes.0 ∙ ap (λ (l : Ledger). l.finished) inv.only)
+          (ap (λ (l : Ledger). l.settled) writes ∙ ap (λ (l : Ledger). l.settled) goes.0 ∙ ap (λ (l : Ledger). l.settled) inv.only);
       may = omega (arith, goes.1, inv.may, length-append inv.text bytes);
       name = inv.name;
       was = inv.was;
@@ -97,6 +99,7 @@ returns-clause-planned g c =
     let r : Reading = record { host = ended_in start; text = inv.text } in
     let goes = rw c.if-branch.false at c.in_ok-next_piece.ensures.read r inv.reading in
     let writes = c.end_plan.ensures.writes in
+    let few : length inv.text ≤ most_inventory_bytes = omega (arith, inv.may) in
     on_ok c.end_plan.result _ _ (λ planned host were name turn file.
     let p = subst (λ (v : SolvedValue). IsNext v host → WereFirst v host were → (more : List ℕ) × (end ≡ with_bytes more mid) × (found : List Entry) × IsReadAgain host were v.text found × (v.planned ++ more ≡ whole_plan host v.joined v.merged (ended_in v) found)) inv.come
     (planned host were) (turn.here, turn.fresh.unmet) turn.first in
@@ -105,6 +108,7 @@ returns-clause-planned g c =
     let names : inv.name ≡ name = ap (λ (f : NamedText). f.name) (same_Some one other (sym inv.was ∙ file)) in
     record {
       text = inv.text;
+      within = few;
       files = p.2;
       again = p.3;
       readings = ap (λ (l : Ledger). l.read) writes ∙ ap (λ (l : Ledger). l.read) goes ∙ ap (λ rs. rs ++ r ∷ []) inv.read;

@@ -1,5 +1,6 @@
 use Rattle.std.proofs.Common.{◌≡◌, ◌+◌, ℕ, List, [], length, Some}
 use Rattle.unify.specs.SecondPass.{ended_in}
+use Rattle.unify_merge.specs.FirstReading.{most_inventory_bytes}
 use Rattle.unify_merge.specs.SecondReading.{IsWithinFile}
 use Rattle.unify_merge.proofs.second_reading.plan_reading.Given as goal
 
@@ -11,7 +12,7 @@ invariant-loop-files g l = record {
   reading : (g.F.ReadFiles.ledger l.files).reading ≡ Some (record { host = ended_in l.initial.solved; text = text });
   read : (g.F.ReadFiles.ledger l.files).read ≡ (g.F.ReadFiles.ledger l.initial.files).read;
   only : IsWithinFile (g.F.ReadFiles.ledger l.initial.files) (g.F.ReadFiles.ledger l.files);
-  may : l.left + length text ≡ 4294967295;
+  may : l.left + length text ≡ most_inventory_bytes;
   name : List ℕ;
   was : (g.F.ReadFiles.ledger l.initial.files).writing ≡ Some (record { name = name; text = [] });
   writing : (g.F.ReadFiles.ledger l.files).writing ≡ Some (record { name = name; text = planned });

@@ -1,8 +1,10 @@
 use Rattle.std.proofs.Common.{◌<◌, ◌++◌, ◌∷◌, [], length, refl, sym, ap, arith, append-nil, length-append}
+use Rattle.std.proofs.lemmas.List.Elements.{All-nil, All-push}
 use Rattle.std.proofs.lemmas.Result.{err_from_is_err_and}
 use Rattle.idtext.specs.First.{each}
 use Rattle.unify.proofs.Passing.{loaded_none}
 use Rattle.unify.specs.Survey.{listed_of}
+use Rattle.unify_merge.specs.FirstReading.{IsWithinLimit}
 use Rattle.unify_merge.proofs.Readings.{read_more, reads_on}
 use Rattle.unify_merge.proofs.Surveyed.{listed_more, numbers_more, survey_stopped}
 use Rattle.unify_merge.proofs.surveying.add_hosts.Goals as goal
@@ -12,6 +14,7 @@ unfolding each
 loop-index-init g c = record {
   texts = [];
   one_each = refl;
+  within = All-nil IsWithinLimit;
   read = sym (append-nil (g.F.ReadFiles.ledger c.args.files.now).read);
   listed = [];
   are_listed = ap (each listed_of) (loaded_none c.args.hosts.now);
@@ -37,6 +40,7 @@ loop-index-preserved g c =
     record {
       texts = inv.texts ++ it.0 ∷ [];
       one_each = omega (arith, inv.one_each, length-append inv.texts (it.0 ∷ []));
+      within = All-push IsWithinLimit inv.texts it.0 inv.within it.3;
       read = read_more _ _ (g.F.ReadFiles.ledger c.survey_host.new.files).read c.loop-index.index inv.texts it.0 (sym inv.one_each) inv.read it.1;
       listed = inv.listed ++ (host, it.2.0) ∷ [];
       are_listed = listed_more c.args.hosts.now inv.texts inv.listed host c.loop-index.index it.0 it.2.0 inv.are_listed inv.one_each within c.index-hosts-index.is it.2.1;

@@ -3,7 +3,7 @@ use Rattle.idtext.specs.First.{each}
 use Rattle.mtree_inv.specs.declared.entry.Entry.{Entry}
 use Rattle.hosts_join.specs.declared.host.Host.{Host}
 use Rattle.unify.specs.Loading.{loaded_from}
-use Rattle.unify_merge.specs.FirstReading.{ReadsOnly, readings_from}
+use Rattle.unify_merge.specs.FirstReading.{AreWithinLimit, ReadsOnly, readings_from}
 use Rattle.unify.specs.Survey.{listed_of, unowned_over}
 use Rattle.unify_merge.proofs.surveying.add_hosts.Given as goal
 
@@ -12,6 +12,7 @@ abbrev pub invariant-loop-index : goal.invariant-loop-index
 invariant-loop-index g l = record {
   texts : List (List ℕ);
   one_each : length texts ≡ l.index;
+  within : AreWithinLimit texts;
   read : (g.F.ReadFiles.ledger l.files).read ≡ (g.F.ReadFiles.ledger l.initial.files).read ++ readings_from 0 texts;
   listed : List (Host × List Entry);
   are_listed : each listed_of (loaded_from l.hosts texts) ≡ Ok listed;
