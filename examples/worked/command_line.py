@@ -20,6 +20,7 @@ TEXTS = {
     "wrong": CERTIFICATE.format(8),
     "plan": "unify plan 1 b\n1001 100 1000 100 4 bob1\n1001 100 1000 100 4 bob2\nend\n",
     "own-plan": f"unify plan 1 b\n{OWN} {FAR} 3 map\n{FAR} {OWN} 4 pins\nend\n",
+    "rooted-plan": f"unify plan 1 b\n{OWN} {FAR} 4 /map\nend\n",
     "near-plan": f"unify plan 1 b\n{OWN} {FAR} 3 map\nend\n",
     "more-plan": f"unify plan 1 b\n{OWN} {FAR} 3 two\n{OWN} {FAR} 5 names\n{OWN} {FAR} 6 set-id\nend\n",
     "far-plan": f"unify plan 1 b\n{FAR} 4000000002 4000000002 3 map\nend\n",
@@ -57,6 +58,9 @@ MANY = range(10, 22)
 DOUBTED = {
     "web": (ALICE("A. Adams"), "users:x:100:\nsudo:x:27:alice\n"),
     "db": (ALICE("Alice"), "users:x:100:\nsudo:x:27:bob,carol\n"),
+    "commas": (ALICE("A. Adams,,,"), "users:x:100:\nsudo:x:27:alice\n"),
+    "odd": ("o\\x:x:1001:100:One:/:/\n", "users:x:100:\n"),
+    "odder": ("o\\x:x:1001:100:Two,Room 1:/:/\n", "users:x:100:\n"),
     "crowd": (ALICE(""), "users:x:100:\n" + "".join(f"g{number}:x:{number}:alice\n" for number in range(200, 216))),
     "many": (ALICE("") + "".join(f"u{number}:x:{number}:100:one:/:/\n" for number in MANY), "users:x:100:\n"),
     "more": (ALICE("") + "".join(f"u{number}:x:{number}:100:two:/:/\n" for number in MANY), "users:x:100:\n"),
@@ -98,7 +102,7 @@ APART = [
     if os.path.isdir(f"/dev/{name}") and os.lstat(f"/dev/{name}").st_dev != os.lstat("/dev").st_dev
 ]
 LINKED_LINES = f"./linked type=dir {OWNED}\n./linked/to\\040nothing type=link {OWNED}\n"
-COMMENTS = "unify: warning: user {} has another comment on host {} than on {}\n".format
+FULL_NAMES = "unify: warning: user {} has another full name on host {} than on {}\n".format
 # An inventory with three files, of which one stands on three lines; the second of these lines is joined of two.
 AGAIN = "# of alice\n./file uid=1001 gid=100\n/set uid=1001 gid=100\n\n  ./file \\\n  type=file\n. type=dir\nfile\n..\nother\n"
 # The same behind a comment, so long that the program gets the `..` in two pieces, which have 1,024 bytes each.
@@ -236,26 +240,27 @@ TABLE = [
     (
         ["inventory", "linked/to nothing", "tree"],
         3,
-        MACHINE("linked/to\\040nothing tree") + TREE_LINES + "# end 3\n",
+        MACHINE("linked/to\\040nothing tree") + TREE_LINES,
         "unify: file linked/to\\040nothing: not a directory\n",
     ),
-    ("inventory none tree", 3, MACHINE("none tree") + TREE_LINES + "# end 3\n", "unify: file none: No such file or directory\n"),
-    ("inventory map", 3, MACHINE("map") + "# end 0\n", "unify: file map: not a directory\n"),
+    ("inventory none tree", 3, MACHINE("none tree") + TREE_LINES, "unify: file none: No such file or directory\n"),
+    ("inventory map", 3, MACHINE("map"), "unify: file map: not a directory\n"),
     (
         "inventory odd-name linked",
         3,
         MACHINE("odd-name linked") + f"./odd-name type=dir {OWNED}\n" + LINKED_LINES + "# end 3\n",
         "unify: file odd-name: a name in it is not UTF-8\n",
     ),
-    (["inventory", LONG], 3, MACHINE(LONG) + "# end 0\n", f"unify: file {LONG}: File name too long\n"),
+    (["inventory", LONG], 3, MACHINE(LONG), f"unify: file {LONG}: File name too long\n"),
     (["inventory", LONG + "x"], 2, "", f"unify: root {LONG}x: the roots are too long for a line\n"),
     (["inventory", *ROOTS], 2, "", f"unify: root {ROOTS[-1]}: the roots are too long for a line\n"),
     ("inventory tree linked/../tree", 2, "", "unify: root linked/../tree: a part of it is ..\n"),
     (["inventory", "tree", ""], 2, "", "unify: root -: an empty word\n"),
     ("inventory tree linked ./tree/none", 2, "", "unify: root ./tree/none: it lies in tree\n"),
     ("inventory linked . tree", 2, "", "unify: root linked: it lies in .\n"),
-    ("inventory tree treehouse", 3, MACHINE("tree treehouse") + TREE_LINES + "# end 3\n", "unify: file treehouse: No such file or directory\n"),
+    ("inventory tree treehouse", 3, MACHINE("tree treehouse") + TREE_LINES, "unify: file treehouse: No such file or directory\n"),
     ("apply --check -q own-plan .", 0, SEEN(1, 1, 0, 0, 0, 0), ""),
+    ("apply --check -q rooted-plan .", 1, "", "unify: file /map: a path that no inventory has, or too long\n"),
     ("apply --check -q near-plan .", 0, SEEN(1, 0, 0, 0, 0, 0), ""),
     ("apply --check -q --reverse near-plan .", 0, SEEN(0, 1, 0, 0, 0, 0), ""),
     ("apply --check -q more-plan .", 0, SEEN(3, 0, 0, 0, 1, 2), ""),
@@ -400,16 +405,26 @@ TABLE = [
         "merge out a=web b=db",
         0,
         NOTHING_COUNTED,
-        COMMENTS("alice", "b", "a") + GETS("sudo", "a", "alice", "bob, carol") + GETS("sudo", "b", "bob, carol", "alice"),
+        FULL_NAMES("alice", "b", "a") + GETS("sudo", "a", "alice", "bob, carol") + GETS("sudo", "b", "bob, carol", "alice"),
     ),
     ("merge -q out a=web b=db", 0, NOTHING_COUNTED, ""),
+    ("merge out a=web b=commas", 0, NOTHING_COUNTED, ""),
+    (
+        "merge out a=web b=commas c=db",
+        0,
+        NOTHING_COUNTED,
+        FULL_NAMES("alice", "c", "a")
+        + "".join(GETS("sudo", host, "alice", "bob, carol") for host in "ab")
+        + GETS("sudo", "c", "bob, carol", "alice"),
+    ),
+    ("merge out a=odd b=odder", 0, NOTHING_COUNTED, FULL_NAMES("o\\134x", "b", "a")),
     ("merge out a=crowd b=crowd", 0, NOTHING_COUNTED, "unify: warning: user alice is in 17 groups, and an NFS request carries 16\n"),
     (
         "merge out a=many b=more",
         0,
         NOTHING_COUNTED,
-        "".join(COMMENTS(f"u{number}", "b", "a") for number in MANY[:10])
-        + "unify: warning: more users with two comments: 2\n",
+        "".join(FULL_NAMES(f"u{number}", "b", "a") for number in MANY[:10])
+        + "unify: warning: more users with two full names: 2\n",
     ),
     (
         "merge out a=lists b=listed",
@@ -537,6 +552,8 @@ UNWRITTEN = [
 MERGED = {"passwd", "group", "map", "certificate", "report", *(f"{file}.{host}" for file in ("plan", "passwd", "group") for host in "ab")}
 # What a merge by the keep texts of the room does not write that keep a name of the hosts.
 OF_ALL_HOSTS = {"passwd", "group"}
+# What it writes besides where there is a host c.
+OF_THIRD_HOST = {"plan.c", "passwd.c", "group.c"}
 
 
 def lay_out(room):
@@ -651,7 +668,8 @@ def written_by(words, status):
     """The names of the files that some words write which end with a status."""
     if status != 0 or not isinstance(words, str) or not words.startswith("merge") or "--help" in words:
         return set()
-    return MERGED - OF_ALL_HOSTS if "--keep keep-" in words else MERGED
+    merged = MERGED | OF_THIRD_HOST if " c=" in words else MERGED
+    return merged - OF_ALL_HOSTS if "--keep keep-" in words else merged
 
 
 def command_lines(program):

@@ -13,7 +13,7 @@ mod sink;
 mod telling;
 mod walk;
 
-pub use listing::list_files;
+pub use listing::{Listed, list_files};
 pub use roots::{NamedRoot, named_roots};
 pub use run::run_inventory;
 pub use sink::FileSink;

@@ -4,7 +4,7 @@ use crate::roots::NamedRoot;
 use crate::sink::FileSink;
 use crate::telling::{Trouble, tell_more_systems, tell_other_system, tell_trouble};
 use crate::walk::{OpenDirectory, kind_of};
-use idtext::LARGEST_ID;
+use idtext::GREATEST_ID;
 use std::alloc::AllocError;
 use std::fs::{DirEntry, Metadata};
 use std::os::unix::fs::MetadataExt;
@@ -14,6 +14,17 @@ use unify_io::FileFault;
 // A path as it is written and told: that of the starting directory is a full stop.
 fn shown(path: &[u8]) -> &[u8] {
     if path.is_empty() { b"." } else { path }
+}
+
+/// How much of what is below roots was listed.
+#[derive(Clone, Copy, PartialEq, Eq)]
+pub enum Listed {
+    /// All of it, but what is on other file systems, where that is left out.
+    All,
+    /// Not all of it; what was left out was told.
+    Part,
+    /// Not even each root.
+    NotEachRoot,
 }
 
 /// A walk over the files below roots, which go into a sink.
@@ -27,8 +38,7 @@ pub struct Listing<'l, S> {
     device: u64,
     // The path of the present file, as it is written; empty at the starting directory.
     path: Vec<u8>,
-    // Whether a file is missing that was told of.
-    is_missing: bool,
+    listed: Listed,
     // How many files were left out since they are on another file system than their root.
     elsewhere: usize,
 }
@@ -42,7 +52,7 @@ impl<'l, S: FileSink> Listing<'l, S> {
             stays,
             device: 0,
             path: Vec::new(rt.alloc()),
-            is_missing: false,
+            listed: Listed::All,
             elsewhere: 0,
         }
     }
@@ -54,13 +64,21 @@ impl<'l, S: FileSink> Listing<'l, S> {
                 return Err(FileFault::Memory);
             }
         }
-        self.is_missing = true;
+        if self.listed == Listed::All {
+            self.listed = Listed::Part;
+        }
         tell_trouble(self.rt, shown(&self.path), trouble)
+    }
+
+    // Tells why a root is not listed.
+    fn root_trouble(&mut self, trouble: Trouble) -> Result<(), FileFault> {
+        self.listed = Listed::NotEachRoot;
+        self.trouble(trouble)
     }
 
     // Puts the present file into the sink.
     fn put(&mut self, found: &Metadata) -> Result<(), FileFault> {
-        if found.uid() > LARGEST_ID || found.gid() > LARGEST_ID {
+        if found.uid() > GREATEST_ID || found.gid() > GREATEST_ID {
             return self.trouble(Trouble::NoOwner);
         }
         let kind = kind_of(&found.file_type());
@@ -176,7 +194,7 @@ impl<'l, S: FileSink> Listing<'l, S> {
     // Lists a root that the system told of, and all below it.
     fn list_root(&mut self, word: &str, found: &Metadata) -> Result<(), FileFault> {
         if !found.is_dir() {
-            return self.trouble(Trouble::NotDirectory);
+            return self.root_trouble(Trouble::NotDirectory);
         }
         self.device = found.dev();
         let mut open = Vec::new(self.rt.alloc());
@@ -192,15 +210,15 @@ impl<'l, S: FileSink> Listing<'l, S> {
         self.path.extend_from_slice(root.written.bytes())?;
         match fs::symlink_metadata(self.rt, root.word) {
             Ok(found) => self.list_root(root.word, &found),
-            Err(error) => self.trouble(Trouble::System(error)),
+            Err(error) => self.root_trouble(Trouble::System(error)),
         }
     }
 }
 
 /// Puts the files below each root into a sink, as they are found, and the root itself first. What
 /// is on another file system than its root is left out where the walk `stays`, the directory that
-/// it is mounted on too. Says whether nothing else was left out. What is left out is told on
-/// standard error: of other file systems the first few files, and how many more there are.
+/// it is mounted on too. Says how much was listed. What is left out is told on standard error: of
+/// other file systems the first few files, and how many more there are.
 ///
 /// # Errors
 ///
@@ -210,11 +228,11 @@ pub fn list_files<S: FileSink>(
     roots: &[NamedRoot<'_>],
     stays: bool,
     sink: &mut S,
-) -> Result<bool, FileFault> {
+) -> Result<Listed, FileFault> {
     let mut listing = Listing::new(rt, stays, sink);
     for root in roots {
         listing.root(root)?;
     }
     tell_more_systems(rt, listing.elsewhere)?;
-    Ok(!listing.is_missing)
+    Ok(listing.listed)
 }

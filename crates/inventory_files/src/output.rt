@@ -65,10 +65,14 @@ impl<'r> Output<'r> {
         Ok(true)
     }
 
-    /// Writes the last line, and all that is still to be written.
-    pub fn end(&mut self) -> Result<(), FileFault> {
+    /// Writes the last line.
+    pub fn last_line(&mut self) -> Result<(), FileFault> {
         push_end(&mut self.line, self.count)?;
-        self.put_line()?;
+        self.put_line()
+    }
+
+    /// Writes all that is still to be written.
+    pub fn flush(&mut self) -> Result<(), FileFault> {
         match self.writer.flush() {
             Ok(()) => Ok(()),
             Err(_) => Err(FileFault::Told(write_failed(self.rt))),

@@ -1,7 +1,7 @@
 //! The command.
 
 use crate::clock::time_text;
-use crate::listing::list_files;
+use crate::listing::{Listed, list_files};
 use crate::output::Output;
 use crate::roots::{NamedRoot, named_roots};
 use crate::telling::{RootFault, root_refused};
@@ -38,13 +38,17 @@ fn write_head(
 }
 
 /// Writes the inventory of the files below each ROOT to standard output, and hands out the exit
-/// status: 3 where something was left out, which is told on standard error.
+/// status: 3 where something was left out, which is told on standard error. The last line, without
+/// which the inventory is refused, is written where each ROOT was listed.
 pub fn run_inventory(rt: &HostRuntime, matches: &ArgMatches<'_>) -> Result<u8, FileFault> {
     let roots = named_roots(rt, matches.get_strs("ROOT").unwrap_or(&[]))?;
     let mut output = Output::new(rt)?;
     write_head(rt, &mut output, &roots)?;
     let stays = matches.get_flag("one-file-system");
-    let is_whole = list_files(rt, &roots, stays, &mut output)?;
-    output.end()?;
-    Ok(if is_whole { 0 } else { 3 })
+    let listed = list_files(rt, &roots, stays, &mut output)?;
+    if listed != Listed::NotEachRoot {
+        output.last_line()?;
+    }
+    output.flush()?;
+    Ok(if listed == Listed::All { 0 } else { 3 })
 }

@@ -4,6 +4,7 @@
 #![tactic(auto)]
 
 mod commands;
+mod comment_warnings;
 mod file_lines;
 mod files;
 mod host_names;

@@ -1,86 +1,25 @@
 //! Warnings of what a merge gives: users and groups that are one by their name, and may have been
 //! two.
 
+use crate::comment_warnings::warn_of_comments;
 use crate::files::{FileFault, holds, read_file_in};
 use crate::keep_warnings::warn_of_keep;
 use crate::pin_warnings::warn_of_pins;
 use crate::warnings::{MOST_LINES, MOST_NAMES, Part, only_memory, warn, warn_of_more};
 use accounts::{GroupRow, GroupTable, PasswdRow, PasswdTable, read_group, read_passwd};
 use hosts_join::{HostText, PairTable};
-use idtext::{Lines, cut};
+use idtext::Lines;
 use std::alloc::AllocError;
 use std::str;
 
 /// How many groups of a user an NFS request carries (AUTH_SYS, RFC 5531).
 const MOST_GROUPS: usize = 16;
 
-// What stands behind the first words of a line, if these are they.
-fn behind<'l>(line: &'l [u8], words: &str) -> Option<&'l str> {
-    match str::from_utf8(line) {
-        Ok(text) => text.strip_prefix(words),
-        Err(_) => None,
-    }
-}
-
-// The user of whom a line of a report says that a host has another comment, and that host.
-fn other_comment(line: &[u8]) -> Option<(&str, &str)> {
-    behind(line, "differs user ")?.split_once(" comment ")
-}
-
 // Of how many files the user fields were counted, as a line of a report says.
 fn files_in(line: &[u8]) -> Option<u64> {
-    let (_, files) = behind(line, "user-fields ")?.split_once(" of ")?;
+    let text = str::from_utf8(line).ok()?.strip_prefix("user-fields ")?;
+    let (_, files) = text.split_once(" of ")?;
     files.parse::<u64>().ok()
-}
-
-// Whether passwd has a row of that name.
-fn has_user(passwd: &[u8], name: &[u8]) -> bool {
-    for line in Lines::new(passwd) {
-        if let Some((found, _)) = cut(b':', line) {
-            if found == name {
-                return true;
-            }
-        }
-    }
-    false
-}
-
-// The first host that has a user of this name, as a report shows it. Where a byte of the name is
-// escaped there, it is not told.
-fn first_with<'h>(hosts: &'h [HostText], name: &str) -> Option<&'h HostText> {
-    if name.contains('\\') {
-        return None;
-    }
-    for host in hosts {
-        if has_user(host.passwd.bytes(), name.as_bytes()) {
-            return Some(host);
-        }
-    }
-    None
-}
-
-// Warns of a user who has another comment on a host than on the first that has the user.
-fn warn_of_comment<'a>(
-    rt: &HostRuntime,
-    hosts: &'a [HostText],
-    name: &'a str,
-    host: &'a str,
-) -> Result<(), AllocError> {
-    let first = match first_with(hosts, name) {
-        Some(first) => Part::Name(first.name.bytes()),
-        None => Part::Text("an earlier one"),
-    };
-    warn(
-        rt,
-        &[
-            Part::Text("user"),
-            Part::Text(name),
-            Part::Text("has another comment on host"),
-            Part::Text(host),
-            Part::Text("than on"),
-            first,
-        ],
-    )
 }
 
 // How many files the inventories have, as a report says that has nothing reserved. Where something
@@ -108,28 +47,10 @@ fn warn_of_paths(rt: &HostRuntime, report: &[u8], file_lines: u64) -> Result<(),
     )
 }
 
-// Warns of users who have two comments, as a report tells: they may be two people.
-fn warn_of_comments(rt: &HostRuntime, hosts: &[HostText], report: &[u8]) -> Result<(), AllocError> {
-    let mut last: &[u8] = b"";
-    let mut count: usize = 0;
-    for line in Lines::new(report) {
-        if let Some((name, host)) = other_comment(line) {
-            if name.as_bytes() != last {
-                if count < MOST_LINES {
-                    warn_of_comment(rt, hosts, name, host)?;
-                }
-                count = count.saturating_add(1);
-                last = name.as_bytes();
-            }
-        }
-    }
-    warn_of_more(rt, "users with two comments:", count)
-}
-
 // The members of a group, as a table to look them up in.
 fn members_in<'a>(rt: &HostRuntime, row: &GroupRow<'a>) -> Result<PairTable<'a>, AllocError> {
     let mut members = PairTable::new(rt.alloc());
-    for member in row.members_of() {
+    for member in row.members() {
         members.add(member, row.gid)?;
     }
     Ok(members)
@@ -143,7 +64,7 @@ fn first_members<'a>(
     are_in: bool,
 ) -> Result<Vec<&'a [u8]>, AllocError> {
     let mut first = Vec::new(rt.alloc());
-    for member in group.members_of() {
+    for member in group.members() {
         if table.number(member).is_some() == are_in && first.len() <= MOST_NAMES {
             first.push(member)?;
         }
@@ -153,7 +74,7 @@ fn first_members<'a>(
 
 // Whether all members of a group are in a table.
 fn are_all_in(group: &GroupRow<'_>, table: &PairTable<'_>) -> bool {
-    for member in group.members_of() {
+    for member in group.members() {
         if table.number(member).is_none() {
             return false;
         }
@@ -316,7 +237,7 @@ fn count_for(counts: &mut [usize], line: u64) {
 
 // Counts a group for each of its members whose primary group it is not.
 fn count_members(counts: &mut [usize], users: &PasswdTable<'_>, group: &GroupRow<'_>) {
-    for member in group.members_of() {
+    for member in group.members() {
         if let Some(row) = users.by_name(member) {
             if row.gid != group.gid {
                 count_for(counts, row.line);

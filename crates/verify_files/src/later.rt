@@ -2,7 +2,7 @@
 
 use crate::reading::{inventory_of, read_mtree};
 use idtext::MOST_BYTES;
-use inventory_files::{FileSink, list_files, named_roots};
+use inventory_files::{FileSink, Listed, list_files, named_roots};
 use inventory_text::{FileKind, push_entry};
 use mtree_inv::Inventory;
 use std::fs;
@@ -47,11 +47,11 @@ fn walk(rt: &HostRuntime, word: &str) -> Result<LaterFiles, FileFault> {
     let mut lines = InventoryLines {
         text: Vec::new(rt.alloc()),
     };
-    let is_whole = list_files(rt, &roots, true, &mut lines)?;
+    let listed = list_files(rt, &roots, true, &mut lines)?;
     let inventory = inventory_of(rt, word, &lines.text)?;
     Ok(LaterFiles {
         inventory,
-        is_whole,
+        is_whole: listed == Listed::All,
     })
 }
 
