@@ -11,11 +11,12 @@ use Rattle.idtext.specs.declared.faults.TextFault.{TextFault}
 use Rattle.idtext.specs.First.{or_else, first_fault, unless}
 use Rattle.idtext.specs.Pieces.{lines}
 use Rattle.idtext.proofs.FirstLemmas.{none_of_both}
+use Rattle.idtext.proofs.OkLemmas.{unless_ok}
 use Rattle.accounts.specs.Accepted.{EachPasses, IsAccepted, PasswdIsAccepted, GroupIsAccepted}
 use Rattle.accounts.specs.Laws.{AreDistinct, IsTable}
 use Rattle.accounts.specs.Rows.{passwd_line, group_line}
 use Rattle.accounts.specs.Tables.{row_in, rows_from, shared, shared_fault, fault_in, line_fault, table, passwd_table, group_table}
-use Rattle.accounts.proofs.LawLemmas.{told_ok, passwd-law, group-law}
+use Rattle.accounts.proofs.LawLemmas.{passwd-law, group-law}
 use Rattle.accounts.proofs.ListLemmas.{list_any-map}
 
 -- ---- what stands before a place of a list without repeats
@@ -121,7 +122,7 @@ module _ {Row : Type 0} (line_of : ℕ → List ℕ → Result (Option Row) Text
     where
       there : table line_of name number text ≡ Ok rows → IsAccepted line_of name number text rows
       there e =
-          let told = told_ok (first_fault (line_fault line_of name number) [] (lines text)) (rows_from line_of name number 1 (lines text)) rows e in
+          let told = unless_ok (first_fault (line_fault line_of name number) [] (lines text)) (rows_from line_of name number 1 (lines text)) rows e in
           record {
             rows_are = sym told.1;
             lines_pass = λ i lt. ap (λ n. is_ok (line_of (n + 1) (get_or (lines text) i []))) (sym (zero-add i)) ∙ all_pass [] (lines text) told.0 i lt;

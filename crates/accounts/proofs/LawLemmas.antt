@@ -10,16 +10,18 @@ use Rattle.std.proofs.lemmas.Slice.Eq.{bytes_eq-Decides}
 use Rattle.idtext.specs.declared.faults.TextCode.{TextCode}
 use Rattle.idtext.specs.declared.faults.TextCode.TheVariants.{NameTwice, SharedNumber}
 use Rattle.idtext.specs.declared.faults.TextFault.{TextFault}
-use Rattle.idtext.specs.First.{◌>>=◌, first_fault, unless}
+use Rattle.idtext.specs.First.{first_fault}
 use Rattle.idtext.specs.Numbers.{id_of, numeral}
-use Rattle.idtext.specs.Pieces.{lines, fields_of}
+use Rattle.idtext.specs.Pieces.{lines}
 use Rattle.idtext.proofs.FirstLemmas.{none_of_both}
+use Rattle.idtext.proofs.OkLemmas.{unless_ok}
 use Rattle.accounts.specs.Laws.{AreDistinct, AreIds, IsTable, IsPasswdTable, HaveLawfulGids, IsGroupTable}
 use Rattle.idtext.specs.Names.{is_lawful_name}
 use Rattle.accounts.specs.Lines.{is_kept}
-use Rattle.accounts.specs.Rows.{Passwd, Group, passwd_from, passwd_line, group_from, group_line, named, numbered}
+use Rattle.accounts.specs.Rows.{Passwd, Group, passwd_line, group_line}
 use Rattle.accounts.specs.Tables.{row_in, rows_from, shared, shared_fault, fault_in, line_fault, table, passwd_table, group_table}
 use Rattle.accounts.proofs.ListLemmas.{list_any-map}
+use Rattle.accounts.proofs.RowLemmas.{group-line, user-line}
 use Rattle.accounts.proofs.TableLemmas.{rows_from-push}
 
 -- ---- lists without repeats
@@ -61,10 +63,6 @@ number_refl : (n : ℕ) → nat_eq n n ≡ true
 number_refl n = eq-eqb n n refl
 
 -- ---- tables
-
-pub told_ok : {X : Type 0} (fault : Option TextFault) (made rows : X) → unless fault made ≡ Ok rows → (fault ≡ None) × (made ≡ rows)
-told_ok None made rows e = (refl, cc)
-told_ok (Some fault) made rows e = cc
 
 module _ {Row : Type 0} (line_of : ℕ → List ℕ → Result (Option Row) TextFault) (name : Row → List ℕ) (number : Row → ℕ) (line_lawful : (n : ℕ) (line : List ℕ) (row : Row) → line_of n line ≡ Ok (Some row) → (n ≤ 65536) × (is_lawful_name (name row) ≡ true) × (number row ≤ 4294967294)) where
   few_rows : (n : ℕ) (ls : List (List ℕ)) → length (rows_from line_of name number n ls) ≤ 65537 - n
@@ -142,7 +140,7 @@ module _ {Row : Type 0} (line_of : ℕ → List ℕ → Result (Option Row) Text
 
   pub table-law : (text : List ℕ) (rows : List Row) → table line_of name number text ≡ Ok rows → IsTable (map name rows) (map number rows)
   table-law text rows e =
-      let told = told_ok (first_fault (line_fault line_of name number) [] (lines text)) (rows_from line_of name number 1 (lines text)) rows e in
+      let told = unless_ok (first_fault (line_fault line_of name number) [] (lines text)) (rows_from line_of name number 1 (lines text)) rows e in
       let apart = all_lines [] (lines text) none_at_first told.0 in
       let law : IsTable (map name (rows_from line_of name number 1 (lines text))) (map number (rows_from line_of name number 1 (lines text))) = record {
         names_differ = apart.names;
@@ -155,12 +153,12 @@ module _ {Row : Type 0} (line_of : ℕ → List ℕ → Result (Option Row) Text
 
   pub ids-law : (of : Row → ℕ) → ((n : ℕ) (line : List ℕ) (row : Row) → line_of n line ≡ Ok (Some row) → of row ≤ 4294967294) → (text : List ℕ) (rows : List Row) → table line_of name number text ≡ Ok rows → AreIds (map of rows)
   ids-law of small text rows e =
-      let told = told_ok (first_fault (line_fault line_of name number) [] (lines text)) (rows_from line_of name number 1 (lines text)) rows e in
+      let told = unless_ok (first_fault (line_fault line_of name number) [] (lines text)) (rows_from line_of name number 1 (lines text)) rows e in
       subst (λ (rs : List Row). AreIds (map of rs)) told.1 (ids_from of small 1 (lines text))
 
 -- ---- the rows of lines
 
-id-small : (text : List ℕ) (id : ℕ) → id_of text ≡ Some id → id ≤ 4294967294
+pub id-small : (text : List ℕ) (id : ℕ) → id_of text ≡ Some id → id ≤ 4294967294
 unfolding numeral
 id-small [] id e = absurd (cc)
 id-small (c ∷ cs) id e = by (list_all (λ d. nat_lt (digit_value d) 10) (c ∷ cs)) (nat_le (digits_value 10 (c ∷ cs)) 4294967294) refl e
@@ -180,70 +178,15 @@ kept-few n line kept e = ltb-false 65536 n (not_refused (nat_lt 65536 n) _ _ e)
     not_refused true fault told e = absurd (cc)
     not_refused false fault told e = refl
 
-named-ok : {X : Type 0} (n : ℕ) (name : List ℕ) (rest : Result X TextFault) (x : X) → named n name rest ≡ Ok x → (is_lawful_name name ≡ true) × (rest ≡ Ok x)
-named-ok {X} n name rest x e = by (is_lawful_name name) e
-  where
-    by : (a : Bool) → cond a rest (Err (record { code = Rattle.idtext.specs.declared.faults.TextCode.TheVariants.BadName; line = n })) ≡ Ok x → (a ≡ true) × (rest ≡ Ok x)
-    by true e = (refl, e)
-    by false e = absurd (cc)
-
-numbered-ok : {X : Type 0} (n : ℕ) (id : Option ℕ) (rest : ℕ → Result X TextFault) (x : X) → numbered n id rest ≡ Ok x → (v : ℕ) × (id ≡ Some v) × (rest v ≡ Ok x)
-numbered-ok n None rest x e = absurd (cc)
-numbered-ok n (Some v) rest x e = (v, refl, e)
-
-passwd_from-lawful : (n : ℕ) (fields : List (List ℕ)) (row : Passwd) → passwd_from n fields ≡ Ok row → (is_lawful_name row.name ≡ true) × (row.uid ≤ 4294967294) × (row.gid ≤ 4294967294)
-passwd_from-lawful n [] row e = absurd (cc)
-passwd_from-lawful n (a ∷ []) row e = absurd (cc)
-passwd_from-lawful n (a ∷ b ∷ []) row e = absurd (cc)
-passwd_from-lawful n (a ∷ b ∷ c ∷ []) row e = absurd (cc)
-passwd_from-lawful n (a ∷ b ∷ c ∷ d ∷ []) row e = absurd (cc)
-passwd_from-lawful n (a ∷ b ∷ c ∷ d ∷ f ∷ []) row e = absurd (cc)
-passwd_from-lawful n (a ∷ b ∷ c ∷ d ∷ f ∷ g ∷ []) row e = absurd (cc)
-passwd_from-lawful n (a ∷ b ∷ c ∷ d ∷ f ∷ g ∷ h ∷ i ∷ more) row e = absurd (cc)
-passwd_from-lawful n (name ∷ password ∷ uid ∷ gid ∷ comment ∷ home ∷ shell ∷ []) row e =
-    let lawful = named-ok n name _ row e in
-    let user = numbered-ok n (id_of uid) _ row lawful.1 in
-    let group = numbered-ok n (id_of gid) _ row user.2 in
-    let same_name : name ≡ row.name = cc in
-    let same_user : user.0 ≡ row.uid = cc in
-    let same_group : group.0 ≡ row.gid = cc in
-    (ap is_lawful_name (sym same_name) ∙ lawful.0, omega (arith, same_user, id-small uid user.0 user.1), omega (arith, same_group, id-small gid group.0 group.1))
-
-group_from-lawful : (n : ℕ) (fields : List (List ℕ)) (row : Group) → group_from n fields ≡ Ok row → (is_lawful_name row.name ≡ true) × (row.gid ≤ 4294967294)
-group_from-lawful n [] row e = absurd (cc)
-group_from-lawful n (a ∷ []) row e = absurd (cc)
-group_from-lawful n (a ∷ b ∷ []) row e = absurd (cc)
-group_from-lawful n (a ∷ b ∷ c ∷ []) row e = absurd (cc)
-group_from-lawful n (a ∷ b ∷ c ∷ d ∷ f ∷ more) row e = absurd (cc)
-group_from-lawful n (name ∷ password ∷ gid ∷ members ∷ []) row e =
-    let lawful = named-ok n name _ row e in
-    let group = numbered-ok n (id_of gid) _ row lawful.1 in
-    let same_name : name ≡ row.name = cc in
-    let same_group : group.0 ≡ row.gid = cc in
-    (ap is_lawful_name (sym same_name) ∙ lawful.0, omega (arith, same_group, id-small gid group.0 group.1))
-
-bind-ok : {X Y : Type 0} (first : Result X TextFault) (next : X → Result Y TextFault) (y : Y) → first >>= next ≡ Ok y → (x : X) × (first ≡ Ok x) × (next x ≡ Ok y)
-bind-ok (Ok x) next y e = (x, refl, e)
-bind-ok (Err fault) next y e = absurd (cc)
-
-kept-row : {Row : Type 0} (kept : Bool) (told : Result Row TextFault) (row : Row) → cond kept (told >>= λ r. Ok (Some r)) (Ok None) ≡ Ok (Some row) → told ≡ Ok row
-kept-row true (Ok r) row e = cc
-kept-row true (Err fault) row e = absurd (cc)
-kept-row false told row e = absurd (cc)
-
 pub passwd_line-lawful : (n : ℕ) (line : List ℕ) (row : Passwd) → passwd_line n line ≡ Ok (Some row) → (n ≤ 65536) × (is_lawful_name row.name ≡ true) × (row.uid ≤ 4294967294) × (row.gid ≤ 4294967294)
-unfolding passwd_line
 passwd_line-lawful n line row e =
-    let kept = bind-ok (is_kept n line) _ (Some row) e in
-    let from = passwd_from-lawful n (fields_of line) row (kept-row kept.0 (passwd_from n (fields_of line)) row kept.2) in
-    (kept-few n line kept.0 kept.1, from.0, from.1, from.2)
+    let (kept, told, user) = user-line n line row e in
+    (kept-few n line kept told, user.lawful, id-small user.uid row.uid user.user, id-small user.gid row.gid user.group)
 
-pub group_line-lawful : (n : ℕ) (line : List ℕ) (row : Group) → group_line n line ≡ Ok (Some row) → (n ≤ 65536) × (is_lawful_name row.name ≡ true) × (row.gid ≤ 4294967294)
-unfolding group_line
+group_line-lawful : (n : ℕ) (line : List ℕ) (row : Group) → group_line n line ≡ Ok (Some row) → (n ≤ 65536) × (is_lawful_name row.name ≡ true) × (row.gid ≤ 4294967294)
 group_line-lawful n line row e =
-    let kept = bind-ok (is_kept n line) _ (Some row) e in
-    let from = group_from-lawful n (fields_of line) row (kept-row kept.0 (group_from n (fields_of line)) row kept.2) in
-    (kept-few n line kept.0 kept.1, from.0, from.1)
+    let (kept, told, group) = group-line n line row e in
+    (kept-few n line kept told, group.lawful, id-small group.gid row.gid group.group)
 
 -- ---- the laws
 

@@ -223,7 +223,7 @@ impl<'a> GroupTable<'a> {
 /// - `TooManyLines`: it is line 65,537.
 /// - `LineTooLong`: it has over 65,535 bytes, also where it would be skipped.
 /// - `CompatLine`: it begins with `+` or `-`.
-/// - `BadFields`: it has not exactly four fields between colons.
+/// - `BadFields`: it does not have exactly four fields between colons.
 /// - `BadName`: the name is not lawful.
 /// - `BadNumber`: the gid is not one or more decimal digits of a value of at most 4294967294.
 /// - `NameTwice`: an earlier row has the name.
@@ -248,7 +248,7 @@ impl<'a> GroupRow<'a> {
     /// Source: group(5). A name may stand twice, and need not be in passwd. Takes no memory; going
     /// over all of them is one pass over the list.
     #[tactic(auto, unfolding(crate::specs::Rows::members_of))]
-    pub fn members_of(&self) -> Members<'a>
+    pub fn members(&self) -> Members<'a>
         ensures { result ≡ members_of self.now.members }
     {
         Members {

@@ -249,7 +249,7 @@ impl<'a> PasswdTable<'a> {
 /// - `TooManyLines`: it is line 65,537.
 /// - `LineTooLong`: it has over 65,535 bytes, also where it would be skipped.
 /// - `CompatLine`: it begins with `+` or `-`.
-/// - `BadFields`: it has not exactly seven fields between colons.
+/// - `BadFields`: it does not have exactly seven fields between colons.
 /// - `BadName`: the name is not lawful.
 /// - `BadNumber`: the uid or the gid is not one or more decimal digits of a value of at most
 ///   4294967294.

@@ -98,7 +98,7 @@ fn candidates_of(
 }
 
 impl<'n, 'a> Rows<'n, 'a> {
-    /// The candidates of each name, weighed by the files that were counted. Asked is that the
+    /// The candidates of each name, weighed by the files that were counted. Requires that the
     /// counters were made for these names, and that none is above 2147483648, as those that
     /// `Counts::users` and `Counts::groups` lend.
     ///
@@ -148,7 +148,7 @@ impl<'n, 'a> Rows<'n, 'a> {
     }
 
     /// The mapping in which pinned names have their pins, the given numbers stay, and every other
-    /// name, in byte order, has the smallest number of its pool that no name had before. Asked is
+    /// name, in byte order, has the smallest number of its pool that no name had before. Requires
     /// one item for each name, in which a number is a candidate of the name, and no number twice.
     ///
     /// Near linear in the names: each class has a cursor that walks its pool once, by a binary

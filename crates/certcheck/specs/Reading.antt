@@ -88,14 +88,7 @@ rank End = 5
 abbrev pub ascends : Item → Item → Bool
 ascends (RowItem k r) (RowItem l q) = is_lt (slice_cmp nat_cmp r.name q.name)
 ascends (ZItem k e) (ZItem l f) = nat_lt e.0 f.0
-ascends Head other = false
-ascends End other = false
-ascends (RowItem k r) Head = false
-ascends (RowItem k r) (ZItem l f) = false
-ascends (RowItem k r) End = false
-ascends (ZItem k e) Head = false
-ascends (ZItem k e) (RowItem l q) = false
-ascends (ZItem k e) End = false
+ascends a b = false
 
 -- whether an item may stand behind another, or first
 abbrev pub may_follow : Option Item → Option Item → Bool
@@ -119,11 +112,8 @@ line_fault before line =
     else Some (line_number (length before))
 
 abbrev pub is_end : Option Item → Bool
-is_end None = false
-is_end (Some Head) = false
-is_end (Some (RowItem k r)) = false
-is_end (Some (ZItem k e)) = false
 is_end (Some End) = true
+is_end other = false
 
 -- the last line has no newline
 abbrev pub is_cut : List ℕ → Bool
@@ -138,22 +128,12 @@ end_fault text ls =
 abbrev pub rows_in : Which → Option Item → List Row
 rows_in User (Some (RowItem User r)) = r ∷ []
 rows_in Group (Some (RowItem Group r)) = r ∷ []
-rows_in User (Some (RowItem Group r)) = []
-rows_in Group (Some (RowItem User r)) = []
-rows_in k (Some (ZItem l e)) = []
-rows_in k (Some Head) = []
-rows_in k (Some End) = []
-rows_in k None = []
+rows_in kind item = []
 
 abbrev pub all_z_in : Which → Option Item → List (ℕ × ℕ)
 all_z_in User (Some (ZItem User e)) = e ∷ []
 all_z_in Group (Some (ZItem Group e)) = e ∷ []
-all_z_in User (Some (ZItem Group e)) = []
-all_z_in Group (Some (ZItem User e)) = []
-all_z_in k (Some (RowItem l r)) = []
-all_z_in k (Some Head) = []
-all_z_in k (Some End) = []
-all_z_in k None = []
+all_z_in kind item = []
 
 abbrev pub side_in : Which → List (List ℕ) → Side
 side_in kind ls =

@@ -36,7 +36,7 @@ impl<'a> Side<'a> {
     ghost use Rattle.certcheck.specs.Certificate as spec;
     ghost use Rattle.certcheck.specs.Views.{rows_of};
 
-    /// The side of these rows and these z. Asked is what the type keeps. No cost.
+    /// The side of these rows and these z. Requires the invariant of the type. No cost.
     pub fn new(rows: Vec<CertRow<'a>>, z: Vec<(u32, u64)>) -> Self
         requires { spec.IsSide (record { rows = rows_of rows.items; z = z.items }) }
         ensures { result ≡ record { rows = rows_of rows.entry.items; z = z.items } }

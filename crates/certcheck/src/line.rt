@@ -8,7 +8,7 @@ ghost use Rattle.certcheck.specs.Items.{item_view};
 use crate::CertRow;
 use crate::numeral::spelled_number;
 use hosts_join::Which;
-use idtext::{LARGEST_ID, is_lawful_name, split_at_last_space};
+use idtext::{GREATEST_ID, is_lawful_name, split_at_last_space};
 
 /// A line of a certificate.
 #[derive(Clone, Copy, Debug)]
@@ -30,7 +30,7 @@ pub enum Item<'a> {
 fn id(text: &[u8]) -> Option<u32>
     ensures { result ≡ spec.spelled_number 4294967294 text.now }
 {
-    match spelled_number(u64::from(LARGEST_ID), text) {
+    match spelled_number(u64::from(GREATEST_ID), text) {
         Some(number) => Some(number as u32),
         None => None,
     }

@@ -35,7 +35,7 @@ fn rows_in_order<'a>(
 }
 
 /// The side that has each name with its number and its potential y, by the index of the name,
-/// ascending by name, and these potentials z of numbers. Asked is a number that an account may have
+/// ascending by name, and these potentials z of numbers. Requires a number that an account may have
 /// and a y for each name, and z of at least 1 at ascending numbers that an account may have, as a
 /// solution of `solve` for these names has them. Time and memory in step with the names;
 /// `AllocError` where it is refused.

@@ -1,9 +1,10 @@
 -- What holds of a host that was read, and the numbers that a host spares.
 -- Sources: passwd(5), group(5) and login.defs(5) of the shadow suite; which numbers are spared is
 -- this project's own rule.
-use Rattle.std.specs.Prelude.{◌≡◌, ℕ, Bool, true}
+use Rattle.std.specs.Prelude.{◌≡◌, ◌||◌, ℕ, Bool, true, is_some}
 use Rattle.accounts.specs.Laws.{IsPasswdTable, IsGroupTable}
 use Rattle.logindefs.specs.Ranges.{IsHostRanges}
+use Rattle.hosts_join.specs.Kinds.{group_at, user_at}
 use Rattle.hosts_join.specs.RangeLists.{lies_in_some}
 use Rattle.hosts_join.specs.Rules.{is_reserved}
 use Rattle.hosts_join.specs.Site.{Joined}
@@ -22,6 +23,14 @@ spares_user host uid = lies_in_some host.spared_users uid
 -- a file of the host may have the gid without a group
 abbrev pub spares_group : Host → ℕ → Bool
 spares_group host gid = lies_in_some host.spared_groups gid
+
+-- a file of the host may have the uid: it is a user's by the host's table, or the host spares it
+abbrev pub allows_uid : Host → ℕ → Bool
+allows_uid host uid = is_some (user_at host.users uid) || spares_user host uid
+
+-- and the gid
+abbrev pub allows_gid : Host → ℕ → Bool
+allows_gid host gid = is_some (group_at host.groups gid) || spares_group host gid
 
 -- no name of the site may be given a number that the host spares
 pub record SparesReserved (joined : Joined) (host : Host) : Type 0 where

@@ -139,14 +139,9 @@ pool_size a c = count_below (in_pool a c) (2 ^ 32)
 
 abbrev pub same_class : Class → Class → Bool
 same_class (Pinned v) (Pinned w) = v == w
-same_class (Pinned v) Regular = false
-same_class (Pinned v) System = false
-same_class Regular (Pinned w) = false
 same_class Regular Regular = true
-same_class Regular System = false
-same_class System (Pinned w) = false
-same_class System Regular = false
 same_class System System = true
+same_class c d = false
 
 -- how many names a class has
 abbrev pub names_in : Accounts → Class → ℕ

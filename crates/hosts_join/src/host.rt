@@ -1,4 +1,6 @@
 //! A host.
+ghost use Rattle.std.specs.Prelude.{◌≡◌};
+ghost use Rattle.hosts_join.specs.Hosts as spec;
 
 use crate::Runs;
 use accounts::{GroupTable, PasswdTable};
@@ -22,4 +24,22 @@ pub struct Host<'a> {
     pub spared_users: Runs,
     /// The numbers that a file of the host may have without a group in its table.
     pub spared_groups: Runs,
+}
+
+impl Host<'_> {
+    /// Whether a file of the host may have the uid: it is a user's, or the host spares it. A look-up
+    /// by hash, and where no user has it a bisection.
+    pub fn allows_uid(&self, uid: u32) -> bool
+        ensures { result ≡ spec.allows_uid self.now uid }
+    {
+        self.users.by_number(uid).is_some() || self.spared_users.has(uid)
+    }
+
+    /// Whether a file of the host may have the gid: it is a group's, or the host spares it. The
+    /// same cost.
+    pub fn allows_gid(&self, gid: u32) -> bool
+        ensures { result ≡ spec.allows_gid self.now gid }
+    {
+        self.groups.by_number(gid).is_some() || self.spared_groups.has(gid)
+    }
 }

@@ -11,14 +11,14 @@ ghost use Rattle.hosts_join.specs.Views.{entry_of, pairs_of};
 use crate::classes::class_of;
 use crate::index::Index;
 use crate::{Class, HostEntry, Pair, PairTable, SiteFault, Source, Which};
-use idtext::{LARGEST_ID, Name};
+use idtext::{GREATEST_ID, Name};
 use logindefs::IdRange;
 use std::alloc::{AllocError, Global};
 
 // All numbers that an account may have.
 const ANY_ID: IdRange = IdRange {
     low: 0,
-    high: LARGEST_ID,
+    high: GREATEST_ID,
 };
 
 /// The name of the host that pins, or `None` for the pins text.

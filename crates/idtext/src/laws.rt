@@ -13,7 +13,7 @@ pub fn escapes_are_read_from_the_left()
     ensures back { EscapedIsReadBack }
 {}
 
-/// What `decimal` and `c_number` read is never above [`LARGEST_ID`](crate::LARGEST_ID), and an id
+/// What `decimal` and `c_number` read is never above [`GREATEST_ID`](crate::GREATEST_ID), and an id
 /// that `push_number` wrote is read back by `decimal`.
 pub fn numbers_read_are_ids()
     ensures decimals { DecimalsAreIds }

@@ -23,7 +23,7 @@ pub use faults::{ReadError, TextCode, TextFault};
 pub use laws::{escapes_are_read_from_the_left, numbers_read_are_ids};
 pub use name::{ByteString, Name};
 pub use names::{is_lawful_name, is_skipped};
-pub use numbers::{LARGEST_ID, c_number, decimal, push_number};
+pub use numbers::{GREATEST_ID, c_number, decimal, push_number};
 pub use parts::push_parts;
 pub use pieces::{Lines, Pieces, cut, fields, split_at_last_space};
 pub use words::{MOST_BYTES, Words, first_word};

@@ -40,7 +40,7 @@ InventoriesReadBack = (most : ℕ) (head : Head) (listed : List Listed)
     → length (head_line head) ≤ most_bytes
     → inventory most (inventory_text head listed) ≡ Ok (files_of listed)
 
--- one that is cut behind its first line or behind a file is refused, at the line that lacks
+-- one that is cut behind its first line or behind a file is refused, at the line that is missing
 abbrev pub CutInventoriesAreRefused : Type 0
 CutInventoriesAreRefused = (most : ℕ) (head : Head) (listed : List Listed)
     → AreListed listed → length listed ≤ most → length (head_line head) ≤ most_bytes

@@ -27,7 +27,7 @@ pub fn inventories_read_back()
 {}
 
 /// Cut behind its first line or behind the line of a file, before its end, it is refused, at the
-/// line that lacks.
+/// line that is missing.
 pub fn cut_inventories_are_refused()
     ensures { CutInventoriesAreRefused }
 {}

@@ -1,5 +1,5 @@
-//! Which accounts and numbers of a site stay as they are: what a keep text lists, on the hosts that
-//! share a server.
+//! Which accounts and numbers of a site stay as they are: what a keep text lists, on the hosts of
+//! a site.
 #![tactic(auto)]
 
 mod kept_accounts;

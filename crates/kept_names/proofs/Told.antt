@@ -12,7 +12,7 @@ use Rattle.hosts_join.specs.Kinds.{user_at, group_at}
 use Rattle.mtree_inv.specs.declared.entry.Entry.{Entry}
 use Rattle.mtree_inv.specs.Files.{HaveDistinctFiles}
 use Rattle.mtree_inv.specs.Inventory.{file_at}
-use Rattle.kept_names.specs.Kept.{Found, agree, change_at, change_by, changed_to, findings, groups_agree, is_left, is_new, left_by, left_file, left_of, loss, loss_of, new_file, told_of, unnamed, unnamed_by, unnamed_of, users_agree}
+use Rattle.kept_names.specs.Kept.{Found, agree, change_at, change_by, changed_to, findings, groups_agree, is_left, new_of, left_by, left_file, left_of, loss, loss_of, new_file, told_of, unnamed, unnamed_by, unnamed_of, users_agree}
 use Rattle.kept_names.specs.Laws.{ChangedAreTold, HasNoFileAt, IsChanged, IsFound, IsLeft, LeftAreTold, MissingAreTold, NewAreTold, Says, SomeIsSet, TellsNumber, UnnamedAreTold, is_loss}
 use Rattle.kept_names.specs.declared.names.Accounts.{Accounts}
 use Rattle.kept_names.specs.declared.finding.What.{What}
@@ -68,7 +68,7 @@ module _ (was now : Accounts) (before after : List Entry) (file : Entry) (what :
   abbrev Origin : Type 0
   Origin =
       Gives (loss_of was now after) before file what
-      ⊎ (Gives (is_new before) after file what
+      ⊎ (Gives (new_of before) after file what
       ⊎ (Gives (unnamed_of now) after file what
       ⊎ Gives (left_of was now before) after file what))
 
@@ -93,7 +93,7 @@ module _ (was now : Accounts) (before after : List Entry) (file : Entry) (what :
     where
       second : Contains losses found ⊎ Contains news found → Origin
       second (inl c) = inl (from-list (loss_of was now after) before file what c)
-      second (inr c) = inr (inl (from-list (is_new before) after file what c))
+      second (inr c) = inr (inl (from-list (new_of before) after file what c))
 
       third : Contains (losses ++ news) found ⊎ Contains bare found → Origin
       third (inl c) = second (Contains-append_cases losses news found c)
@@ -110,12 +110,12 @@ module _ (was now : Accounts) (before after : List Entry) (file : Entry) (what :
       (Contains-append_left (losses ++ news) bare found
       (Contains-append_left losses news found (into-list (loss_of was now after) before file what g)))
 
-  pub fresh : Gives (is_new before) after file what → IsFound was now before after file what
+  pub fresh : Gives (new_of before) after file what → IsFound was now before after file what
   unfolding findings
   fresh g =
       Contains-append_left (losses ++ news ++ bare) lefts found
       (Contains-append_left (losses ++ news) bare found
-      (Contains-append_right losses news found (into-list (is_new before) after file what g)))
+      (Contains-append_right losses news found (into-list (new_of before) after file what g)))
 
   pub nameless : Gives (unnamed_of now) after file what → IsFound was now before after file what
   unfolding findings
@@ -226,7 +226,7 @@ module _ (was now : Accounts) (before : List Entry) (file : Entry) where
   abbrev group_left : Bool
   group_left = is_left (group_at was.groups file.gid) (group_at now.groups file.gid)
 
-  new_is : (what : What) → is_new before file ≡ Some what → (what ≡ New) × (file_at before file.path ≡ None)
+  new_is : (what : What) → new_of before file ≡ Some what → (what ≡ New) × (file_at before file.path ≡ None)
   new_is what e = new-kind (file_at before file.path) what e
 
   unnamed_is : (what : What) → unnamed_of now file ≡ Some what → ((no_user || no_group) ≡ true) × (what ≡ Unnamed no_user no_group)

@@ -35,7 +35,7 @@ abbrev pub groups_agree : Accounts → Accounts → Entry → Entry → Bool
 groups_agree was now file there =
     agree (group_at was.groups file.gid) (group_at now.groups there.gid) file.gid there.gid
 
--- the new number of an owner that has not the name that it had
+-- the new number of an owner that no longer has the name that it had
 abbrev pub changed_to : Bool → ℕ → Option ℕ
 changed_to agree new = if agree then None else Some new
 
@@ -54,19 +54,20 @@ abbrev pub change_at : Accounts → Accounts → Entry → Option Entry → Opti
 change_at was now file None = Some Missing
 change_at was now file (Some there) = change was now file there
 
--- what is found of a file of the first inventory: that the second has it not, or with other names
+-- what is found of a file of the first inventory: that the second does not have it, or has it with
+-- other names
 abbrev pub loss_of : Accounts → Accounts → List Entry → Entry → Option What
 loss_of was now after file = change_at was now file (file_at after file.path)
 
 abbrev pub loss : Accounts → Accounts → List Entry → Entry → Option Found
 loss was now after file = told_of file (loss_of was now after file)
 
--- of a file of the second inventory: that the first has it not
-abbrev pub is_new : List Entry → Entry → Option What
-is_new before file = if is_none (file_at before file.path) then Some New else None
+-- of a file of the second inventory: that the first does not have it
+abbrev pub new_of : List Entry → Entry → Option What
+new_of before file = if is_none (file_at before file.path) then Some New else None
 
 abbrev pub new_file : List Entry → Entry → Option Found
-new_file before file = told_of file (is_new before file)
+new_file before file = told_of file (new_of before file)
 
 -- of a file of the second inventory: that a number of its has no name
 abbrev pub unnamed_by : Bool → Bool → Option What
@@ -79,13 +80,13 @@ unnamed_of now file =
 abbrev pub unnamed : Accounts → Entry → Option Found
 unnamed now file = told_of file (unnamed_of now file)
 
--- Whether a number that was a name's is this name's no more.
+-- Whether a number that belonged to a name no longer does.
 abbrev pub is_left : Option (List ℕ) → Option (List ℕ) → Bool
 is_left None now = false
 is_left (Some was) None = true
 is_left (Some was) (Some now) = not (bytes_eq was now)
 
--- of a file of the second inventory that the first has not: that it has such a number
+-- of a file of the second inventory that the first does not have: that it has such a number
 abbrev pub left_by : Bool → Bool → Option Entry → Option What
 left_by user group earlier =
     if user || group then (if is_none earlier then Some (Left user group) else None) else None

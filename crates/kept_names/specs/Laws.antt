@@ -1,6 +1,7 @@
 -- What it means that something is found of a file, and that nothing is found missing or changed.
 -- Source: this project's own rule; chown(2) for what an owner is.
-use Rattle.std.specs.Prelude.{◌≡◌, ◌≢◌, ◌↔◌, ◌⊎◌, ℕ, Bool, true, false, List, Option, Some, None}
+use Rattle.std.specs.Prelude.{◌≡◌, ◌≢◌, ◌↔◌, ◌⊎◌, ℕ, Bool, true, false}
+use Rattle.std.specs.Prelude.{List, Option, Some, None}
 use Rattle.std.specs.Prelude.{All, Contains}
 use Rattle.hosts_join.specs.Kinds.{user_at, group_at}
 use Rattle.mtree_inv.specs.declared.entry.Entry.{Entry}
@@ -61,13 +62,13 @@ Says flag it = (flag ≡ true) ↔ it
 abbrev pub SomeIsSet : Bool → Bool → Type 0
 SomeIsSet user group = (user ≡ true) ⊎ (group ≡ true)
 
--- a number had a name, and has not this name now
+-- a number had a name, and no longer has this name
 pub record IsLeft (was now : Option (List ℕ)) : Type 0 where
   pub name : List ℕ
   pub had : was ≡ Some name
   pub lost : now ≢ Some name
 
--- of an owner the number now is told exactly where it has not the name that it had
+-- of an owner the number now is told exactly where it no longer has the name that it had
 pub record TellsNumber (was now : Option (List ℕ)) (old new : ℕ) (told : Option ℕ) : Type 0 where
   pub none : (told ≡ None) ↔ KeepsName was now old new
   pub right : (number : ℕ) → told ≡ Some number → number ≡ new
@@ -110,7 +111,7 @@ UnnamedAreTold = (was now : Accounts) (before after : List Entry) (file : Entry)
     × Says group (group_at now.groups file.gid ≡ None))
 
 -- A file has a number that is left exactly where it is new, and the number of its user or that of
--- its group had a name and has not this name now.
+-- its group had a name and no longer has this name.
 abbrev pub LeftAreTold : Type 0
 LeftAreTold = (was now : Accounts) (before after : List Entry) (file : Entry)
     (user group : Bool) → IsFound was now before after file (Left user group)

@@ -84,10 +84,10 @@ fn push_left<'f>(
 
 /// What is found of the files of two inventories, of which the first was made under the account
 /// files `was` and the second under `now`: first each file of the first inventory that the second
-/// has not, or that is owned under another name there, then each file that only the second has,
-/// then each file of the second with a number that no new account has, and then each file that
-/// only the second has with a number that was a name's and is this name's no more, each time in
-/// the order of its inventory.
+/// does not have, or that is owned under another name there, then each file that only the second
+/// has, then each file of the second with a number that no new account has, and then each file that
+/// only the second has with a number that belonged to a name and no longer does, each time in the
+/// order of its inventory.
 ///
 /// Each path is put into a search tree once and looked up in the other's at most twice, with one
 /// or two comparisons for each binary digit of the number of files, none of more bytes than the

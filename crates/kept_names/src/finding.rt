@@ -1,7 +1,7 @@
 //! What is found of one file.
 ghost use Rattle.std.specs.Prelude.{◌≡◌, option_copied};
 ghost use Rattle.kept_names.specs.Kept as kept;
-ghost use Rattle.kept_names.specs.Kept.{left_of, loss_of, unnamed_of, is_new};
+ghost use Rattle.kept_names.specs.Kept.{left_of, loss_of, unnamed_of, new_of};
 
 use crate::names::{Accounts, group_name, names_agree, user_name};
 use crate::paths::Paths;
@@ -11,18 +11,18 @@ use std::marker::Model;
 /// What is found of a file.
 #[derive(Clone, Copy, Debug, PartialEq, Eq)]
 pub enum What {
-    /// Of a file of the first inventory: the second has it not.
+    /// Of a file of the first inventory: the second does not have it.
     Missing,
     /// Of a file of the first inventory: in the second its user or its group is another by name.
     /// Of each that is, the number there; where neither name is known, the number is another.
     Changed(Option<u32>, Option<u32>),
-    /// Of a file of the second inventory: the first has it not.
+    /// Of a file of the second inventory: the first does not have it.
     New,
     /// Of a file of the second inventory: whether no user, and whether no group, has its number
     /// by the new account files.
     Unnamed(bool, bool),
-    /// Of a file of the second inventory that the first has not: whether its user's number, and
-    /// whether its group's, was a name's by the old account files and is this name's no more by
+    /// Of a file of the second inventory that the first does not have: whether its user's number,
+    /// and whether its group's, belonged to a name by the old account files and no longer does by
     /// the new ones.
     Left(bool, bool),
 }
@@ -95,7 +95,7 @@ pub(crate) fn loss(
 
 /// Whether a file of the second inventory is new. A look-up of its path in a search tree.
 pub(crate) fn newness(before: &Paths<'_>, file: &Entry) -> Option<What>
-    ensures { result ≡ is_new before.now file.now }
+    ensures { result ≡ new_of before.now file.now }
 {
     match before.file(file.path.bytes()) {
         None => Some(What::New),
@@ -116,7 +116,7 @@ pub(crate) fn lack_of_name(now: &Accounts<'_>, file: &Entry) -> Option<What>
     None
 }
 
-// Whether a number that was a name's is this name's no more.
+// Whether a number that belonged to a name no longer does.
 fn is_left(was: Option<&[u8]>, now: Option<&[u8]>) -> bool
     ensures { result ≡ kept.is_left (option_copied was.entry) (option_copied now.entry) }
 {
@@ -127,8 +127,8 @@ fn is_left(was: Option<&[u8]>, now: Option<&[u8]>) -> bool
     }
 }
 
-/// Whether a file of the second inventory is new and has a number that was a name's and is this
-/// name's no more. Four look-ups of numbers by hash, and one of its path in a search tree.
+/// Whether a file of the second inventory is new and has a number that belonged to a name and no
+/// longer does. Four look-ups of numbers by hash, and one of its path in a search tree.
 pub(crate) fn number_left(
     was: &Accounts<'_>,
     now: &Accounts<'_>,

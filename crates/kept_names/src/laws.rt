@@ -16,8 +16,8 @@ pub fn missing_files_are_told()
 {}
 
 /// `Changed` is found of a file exactly where it is in the first inventory and one of its path in
-/// the second, of which the user or the group has not the name that it had; and the numbers that
-/// stand with it are those there, each exactly where that owner has not its name.
+/// the second, of which the user or the group no longer has the name that it had; and the numbers
+/// that stand with it are those there, each exactly where that owner no longer has its name.
 pub fn changed_files_are_told()
     ensures { ChangedAreTold }
 {}

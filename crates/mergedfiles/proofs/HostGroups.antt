@@ -25,7 +25,7 @@ use Rattle.mergedfiles.proofs.NewFields.{name-field}
 use Rattle.mergedfiles.proofs.ReadLines.{IsPlain, Lacks, fields-plain}
 use Rattle.mergedfiles.proofs.ReadText.{all-says}
 use Rattle.mergedfiles.proofs.ReadGroups.{passes}
-use Rattle.mergedfiles.proofs.RowFields.{is-group}
+use Rattle.accounts.proofs.RowLemmas.{is-group}
 
 pub told : (n : ℕ) (line : List ℕ) → is_ok (row.group_line n line) ≡ true → IsTold group_from n line (row.group_line n line)
 unfolding row.group_line

@@ -29,7 +29,7 @@ use Rattle.mergedfiles.proofs.Places.{name-place}
 use Rattle.mergedfiles.proofs.ReadLines.{IsPlain, Lacks, fields-plain}
 use Rattle.mergedfiles.proofs.ReadText.{all-says}
 use Rattle.mergedfiles.proofs.ReadUsers.{passes}
-use Rattle.mergedfiles.proofs.RowFields.{is-user}
+use Rattle.accounts.proofs.RowLemmas.{is-user}
 
 pub told : (n : ℕ) (line : List ℕ) → is_ok (passwd_line n line) ≡ true → IsTold passwd_from n line (passwd_line n line)
 unfolding passwd_line

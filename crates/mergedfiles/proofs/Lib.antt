@@ -7,7 +7,6 @@ pub mod Places
 pub mod Having
 pub mod ReadLines
 pub mod ReadMembers
-pub mod RowFields
 pub mod ReadRows
 pub mod ReadText
 pub mod ReadOrder

@@ -1,15 +1,16 @@
 -- Lines between newlines, and fields between colons, read back.
 use Rattle.std.proofs.Common.{◌≡◌, ℕ, ◌<◌, ◌≤◌, ◌==◌, ◌||◌, ◌&&◌, not, true, false, List, [], ◌∷◌, ◌++◌, length, decimal, refl, ap, ◌∙◌, append_assoc, arith, inl, inr}
 use Rattle.std.specs.Char.{digit_value}
-use Rattle.std.specs.List.{list_any, list_all, slice_split, onto_first, AllByRecursion}
+use Rattle.std.specs.List.{list_any, list_all, slice_split, AllByRecursion}
 use Rattle.std.specs.Str.Parse.{AllDigits}
 use Rattle.std.proofs.lemmas.Bool.{cases_Bool, ne_eqb, and_parts, not-true, or_parts, or_from, and_right}
 use Rattle.std.proofs.lemmas.Fmt.{decimal_is_IsNumeral}
 use Rattle.std.proofs.lemmas.List.Elements.{All-from_recursion}
 use Rattle.std.proofs.lemmas.List.Splits.{slice_split_at, slice_split_none}
 use Rattle.idtext.specs.Names.{is_lawful_name, is_separator, is_skipped}
-use Rattle.idtext.specs.Pieces.{lines, pieces, fields_of, without_empty_last}
+use Rattle.idtext.specs.Pieces.{lines, pieces, fields_of}
 use Rattle.idtext.specs.Words.{is_white}
+use Rattle.idtext.proofs.EachByte.{each-piece, onto-each, without-last}
 use Rattle.idtext.proofs.PieceLemmas.{lines-cut}
 use Rattle.accounts.specs.Lines.{is_compat}
 use Rattle.mergedfiles.specs.Texts.{field}
@@ -52,22 +53,11 @@ decimal-plain v small = (decimal-lacks 58 v (omega arith) small, decimal-lacks 1
 
 -- ---- pieces
 
-onto-lacks : (b x : ℕ) → (x == b) ≡ false → (parts : List (List ℕ)) → AllByRecursion (Lacks b) parts → AllByRecursion (Lacks b) (onto_first x parts)
-onto-lacks b x e [] all = ((e, tt), tt)
-onto-lacks b x e (part ∷ parts) all = ((e, all.0), all.1)
-
 cut-lacks : (s : ℕ) (text : List ℕ) → AllByRecursion (Lacks s) (slice_split (λ b. b == s) text)
 cut-lacks s [] = (tt, tt)
 cut-lacks s (x ∷ xs) = elim (cases_Bool (x == s)) [
   | inl t ↦ rw t (tt, cut-lacks s xs)
-  | inr f ↦ rw f (onto-lacks s x f (slice_split (λ b. b == s) xs) (cut-lacks s xs))
-]
-
-kept-lacks : (b s : ℕ) (text : List ℕ) → Lacks b text → AllByRecursion (Lacks b) (slice_split (λ c. c == s) text)
-kept-lacks b s [] lacks = (tt, tt)
-kept-lacks b s (x ∷ xs) lacks = elim (cases_Bool (x == s)) [
-  | inl t ↦ rw t (tt, kept-lacks b s xs lacks.1)
-  | inr f ↦ rw f (onto-lacks b x lacks.0 (slice_split (λ c. c == s) xs) (kept-lacks b s xs lacks.1))
+  | inr f ↦ rw f (onto-each (λ b. (b == s) ≡ false) x f (slice_split (λ b. b == s) xs) (cut-lacks s xs))
 ]
 
 -- no piece has the separator, and none has a byte that the text does not have
@@ -76,18 +66,11 @@ unfolding pieces
 pieces-cut s text = cut-lacks s text
 
 pub pieces-lack : (b s : ℕ) (text : List ℕ) → Lacks b text → AllByRecursion (Lacks b) (pieces s text)
-unfolding pieces
-pieces-lack b s text lacks = kept-lacks b s text lacks
-
-last-lacks : (b : ℕ) (parts : List (List ℕ)) → AllByRecursion (Lacks b) parts → AllByRecursion (Lacks b) (without_empty_last parts)
-last-lacks b [] all = tt
-last-lacks b ([] ∷ []) all = tt
-last-lacks b ((x ∷ xs) ∷ []) all = all
-last-lacks b (x ∷ y ∷ more) all = (all.0, last-lacks b (y ∷ more) all.1)
+pieces-lack b s text lacks = each-piece (λ c. (c == b) ≡ false) s text lacks
 
 pub lines-lack : (text : List ℕ) → AllByRecursion (Lacks 10) (lines text)
 unfolding lines
-lines-lack text = last-lacks 10 (pieces 10 text) (pieces-cut 10 text)
+lines-lack text = without-last (Lacks 10) (pieces 10 text) (pieces-cut 10 text)
 
 pub both-hold : {X : Type 0} (P Q : X → Type 0) (xs : List X) → AllByRecursion P xs → AllByRecursion Q xs → AllByRecursion (λ x. P x × Q x) xs
 both-hold P Q [] p q = tt

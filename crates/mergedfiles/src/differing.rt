@@ -195,7 +195,7 @@ fn push_all_groups<'a>(
 /// Each later host on which a field of a name is another than on the first host that has the name:
 /// users before groups, names in byte order; of a user the password, comment, home, shell and
 /// primary group by its name, which is the empty name where the host has no group of the number; of
-/// a group the password; hosts in order. Asked is that the site was joined from these hosts, each
+/// a group the password; hosts in order. Requires that the site was joined from these hosts, each
 /// lawful.
 ///
 /// Time in step with the account rows, with one look-up by hash for each group row, one for each

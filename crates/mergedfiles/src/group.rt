@@ -43,7 +43,7 @@ fn push_members<'a>(users: &mut Vec<&'a [u8]>, group: &GroupOn<'_, 'a>) -> Resul
         ++ rows.members_of (group_seen group.now).row.members) }
 {
     let row = group.row;
-    let mut members = row.members_of();
+    let mut members = row.members();
     while let Some(user) = members.next() {
         users.push(user)?;
     }
@@ -137,8 +137,8 @@ fn push_group(
 
 /// The merged group: a line for each group of the site, ascending by its new number, with the
 /// password of the first host that has it and the users of all hosts, hosts in order, each where it
-/// appears first. Asked is that the site was joined from these hosts, each lawful, and that the
-/// second mapping has one number for each group; the first one is not looked at.
+/// appears first. Requires that the site was joined from these hosts, each lawful, and that the
+/// mapping has one number for each group.
 ///
 /// Time in step with the group rows and their users, with one look-up by hash for each, and one
 /// sort of the groups by number. Memory for the text, 8 bytes a group, and the users of one group
@@ -151,7 +151,6 @@ pub fn group_text(
     alloc: Global,
     hosts: &[Host<'_>],
     site: &Site<'_>,
-    _users: &Mapping,
     groups: &Mapping,
 ) -> Result<Vec<u8>, AllocError>
     requires joined { AreJoined hosts.now site.now }

@@ -355,7 +355,7 @@ fn push_group_line(
 /// its name, in decimal. Every other byte is as it was: the order of the lines, their other fields
 /// with the users as they stand, lines that the reader skips, and the line ends, also a missing
 /// last newline. The gid of a name that is not of the site stays: there is none in a text that was
-/// read as the table of a host of the site. Asked is that the mapping has one number for each
+/// read as the table of a host of the site. Requires that the mapping has one number for each
 /// group of the site.
 ///
 /// Source: group(5). One pass over the text, with one look-up by hash for each group. Memory for

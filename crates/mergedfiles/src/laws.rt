@@ -97,7 +97,7 @@ pub fn host_names_are_kept()
 
 /// A host's own passwd reads back with its new numbers, also where it has more rows than were
 /// joined of the host. A row whose name the site does not have keeps its uid, and a gid that is of
-/// no group that was joined stays; all else is as `host_passwd_reads_back` tells it. Asked is that
+/// no group that was joined stays; all else is as `host_passwd_reads_back` tells it. Requires that
 /// no name of the site has the number of a row that is kept. The new rows name a new number as all
 /// old rows named the number before it, and so they name none that they did not, unless it is a
 /// new number of a name.

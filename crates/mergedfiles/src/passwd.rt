@@ -93,7 +93,7 @@ fn push_user(
 /// The merged passwd: a line for each user of the site, ascending by its new number, with the
 /// fields of the first host that has it; its primary group is the group of that host, with its new
 /// number; where that host has no group of the number (`check_primary` refuses such a host) the
-/// number stays. Asked is that the site was joined from these hosts, each lawful, and that the
+/// number stays. Requires that the site was joined from these hosts, each lawful, and that the
 /// mappings have one number for each user and for each group.
 ///
 /// Time in step with the text, with three look-ups by hash for each user, and one sort of the users

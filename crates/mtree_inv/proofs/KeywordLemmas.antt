@@ -1,13 +1,13 @@
 -- White space in front of keywords, and the value that a keyword gives to a key.
 use Rattle.std.proofs.Common.{◌≡◌, ℕ, zero, suc, Bool, true, false, cond, not, ◌&&◌, ◌+◌, ◌<◌, List, [], ◌∷◌, length, take, drop, get_or, refl, sym, ap, ◌∙◌, true≢false, arith}
-use Rattle.std.proofs.lemmas.Bool.{eqb-true, or_parts, and_parts}
+use Rattle.std.proofs.lemmas.Bool.{eqb-true, or_parts, and_parts, not-true}
 use Rattle.std.specs.Prelude.{Option, Some, None, ◌==◌}
 use Rattle.std.specs.List.{list_any, list_all, position_or_len}
 use Rattle.std.specs.Str.{bytes_eq}
 use Rattle.idtext.specs.Words.{is_white, words}
 use Rattle.idtext.proofs.WordLemmas.{words-skip}
 use Rattle.mtree_inv.specs.Keywords.{is_equals_sign, given_by}
-use Rattle.mtree_inv.specs.Views.{is_end_of_key}
+use Rattle.mtree_inv.specs.Views.{begin_apart, is_end_of_key}
 
 -- a line that begins with white space
 pub words-behind : (white line : List ℕ) → list_all is_white white ≡ true → bytes_eq (take (length white) line) white ≡ true → words (drop (length white) line) ≡ words line
@@ -67,6 +67,12 @@ given_is (k ∷ key) (b ∷ word) none =
         → given_with (cond (not t) (1 + position_or_len is_equals_sign word) 0) (k ∷ key) (b ∷ word) ≡ cond (b == k) (given_at key word) None
     by none same true e = sym (ap (λ (t : Bool). cond t (given_at key word) None) (no_sign b k e none))
     by none same false e = with_more (position_or_len is_equals_sign word) (k ∷ key) b word ∙ at (b == k) same
+
+-- a keyword that begins with another byte than the key
+pub given-apart : (key word : List ℕ) → list_any is_equals_sign key ≡ false → begin_apart key word ≡ true → given_by key word ≡ None
+given-apart [] word none apart = absurd (cc)
+given-apart (k ∷ key) [] none apart = absurd (cc)
+given-apart (k ∷ key) (b ∷ word) none apart = given_is (k ∷ key) (b ∷ word) none ∙ ap (λ (t : Bool). cond t (given_at key word) None) (not-true (b == k) apart)
 
 begun : (key word : List ℕ) → bytes_eq (take (length key) word) key ≡ true → given_at key word ≡ given_at [] (drop (length key) word)
 begun [] word is = refl

@@ -2,7 +2,7 @@
 use Rattle.std.proofs.Common.{◌≡◌, ℕ, zero, suc, ◌<◌, ◌+◌, Bool, true, false, cond, List, [], ◌∷◌, ◌++◌, length, take, drop, get_or, refl, sym, ap, ◌∙◌, append-nil, append_assoc, subst, arith}
 use Rattle.std.proofs.lemmas.Bool.{false≢true, ne_eqb}
 use Rattle.std.specs.Prelude.{Option, Some, None, Result, Ok, Err, MatchResult, fold, if◌then◌else◌, ◌==◌, is_none, is_ok, OnErr}
-use Rattle.idtext.specs.First.{◌>>=◌, Gives, or_else}
+use Rattle.idtext.specs.First.{◌>>=◌, Gives, or_else, unless}
 use Rattle.idtext.specs.declared.faults.TextCode.{TextCode}
 use Rattle.idtext.specs.declared.faults.TextCode.TheVariants.{BadPath, CutInventory}
 use Rattle.idtext.specs.declared.faults.TextFault.{TextFault}
@@ -12,7 +12,7 @@ use Rattle.mtree_inv.specs.declared.open_line.Ends.{Ends}
 use Rattle.mtree_inv.specs.declared.open_line.Ends.TheVariants.{Nothing, Joined, Byte, Backslash}
 use Rattle.mtree_inv.specs.Kinds.{Kind, TooLong, Cut, Ignored, Begins, Counts, Sets, Unsets, Unknown, Up, Names}
 use Rattle.mtree_inv.specs.Inventory.{file_at, clash}
-use Rattle.mtree_inv.specs.Machine.{Kept, effective, owned, or_dot, path_below, is_bad_entry, with_file, with_new_file, unless_fault, entry_kept, with_opened, opens_directory, entry_step, closed, step, with_file_given, is_unended, begun_now}
+use Rattle.mtree_inv.specs.Machine.{Kept, effective, owned, or_dot, path_below, is_bad_entry, with_file, with_new_file, entry_kept, with_opened, opens_directory, entry_step, closed, step, with_file_given, is_unended, begun_now}
 use Rattle.mtree_inv.specs.Reading.{Open, with_plain, with_backslash, with_join, with_bytes, with_run, is_joining, fresh, clipped_kind, Reading, after_step, with_line, with_newline, unless_ended, read_byte, read_bytes, at_end, last_read, finished, end_lacking, with_end_seen}
 use Rattle.idtext.specs.Faults.{fault_told}
 use Rattle.mtree_inv.specs.Parts.{HasNoNewline, at_line, TakenTo, FailedTo}
@@ -49,7 +49,7 @@ entry-grows most kept word keywords = bad (is_bad_entry kept.path word)
     opened now true files g = g
     opened now false files g = g
 
-    added : (now : Defaults) (file : Entry) (c : Option TextCode) → StepGrows kept (unless_fault c (with_new_file kept.files file) >>= λ files. Ok (entry_kept kept word now files))
+    added : (now : Defaults) (file : Entry) (c : Option TextCode) → StepGrows kept (unless c (with_new_file kept.files file) >>= λ files. Ok (entry_kept kept word now files))
     added now file None = opened now (opens_directory word now) (with_new_file kept.files file) (new_file-grows (is_none (file_at kept.files file.path)) kept.files file)
     added now file (Some code) = tt
 

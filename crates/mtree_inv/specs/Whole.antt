@@ -51,6 +51,6 @@ abbrev pub lacks_end : Option (List Kind) → Bool
 lacks_end None = false
 lacks_end (Some since) = not (is_ended since)
 
--- the inventory that was begun last lacks its end; where none was begun, nothing lacks
+-- the inventory that was begun last lacks its end; where none was begun, nothing is missing
 abbrev pub is_cut : List Kind → Bool
 is_cut lines = lacks_end (lines_since lines)

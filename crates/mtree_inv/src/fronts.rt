@@ -59,8 +59,8 @@ fn number_of(
     number_at(last).ok_or(AllocError)
 }
 
-/// Cuts a path. Fronts of it that lack are added, and stay where memory is refused: then no path
-/// may have them.
+/// Cuts a path. Fronts of it that are missing are added, and stay where memory is refused: then no
+/// path may have them.
 pub(crate) fn cut<'a>(
     fronts: &mut Fronts,
     alloc: Global,

@@ -50,7 +50,7 @@ pub fn plans_keep_names()
 {}
 
 /// Marks are compared field by field, and plans of one mark are of one host. That such plans have
-/// one text is the word of SHA-256, and no law.
+/// one text rests on SHA-256, and is no law.
 pub fn marks_tell_plans()
     ensures equal { (a b : PlanMark) → (mark_eq a b ≡ true) ↔ (a ≡ b) }
     ensures hosts { (a b : PlanData) → IsHostName a.host → IsHostName b.host → mark_of a ≡ mark_of b

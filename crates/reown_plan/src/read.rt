@@ -10,7 +10,7 @@ ghost use Rattle.reown_plan.specs.PlanData.{PlanRecord};
 
 use crate::{Owner, Record};
 use hosts_join::is_host_name;
-use idtext::{LARGEST_ID, MOST_BYTES, cut};
+use idtext::{GREATEST_ID, MOST_BYTES, cut};
 use itoa::Buffer;
 
 // The number that these bytes write, without leading zeros.
@@ -46,7 +46,7 @@ fn read_id(text: &[u8]) -> Option<(u32, &[u8])>
         → IsSomeAnd result (λ r. (r.0 ≡ n) × (r.1.now ≡ rest)) }
 {
     let (value, rest) = read_number(text)?;
-    if value > LARGEST_ID {
+    if value > GREATEST_ID {
         return None;
     }
     Some((value, rest))

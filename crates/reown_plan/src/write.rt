@@ -15,7 +15,7 @@ use std::alloc::{AllocError, Global};
 
 /// Appends the record of a file of the host at an index where the mappings give the file another
 /// owner, and nothing for another file; true exactly where a record was appended. A uid or a gid
-/// that no name of the site has there stays as it is. Asked is that the mappings have one number
+/// that no name of the site has there stays as it is. Requires that the mappings have one number
 /// for each name of the site, and that `last` is none, or what a call left there for a file of this
 /// host with these mappings.
 ///
@@ -64,10 +64,10 @@ pub fn push_plan_entry(
 
 /// The text of the plan of the host at an index: a record for each file of its inventory that gets
 /// another owner, in the order of the inventory. It is `push_plan_head`, `push_plan_entry` for each
-/// file, and `push_plan_end`. Asked is that the host is there and that the mappings have one number
+/// file, and `push_plan_end`. Requires that the host is there and that the mappings have one number
 /// for each name of the site.
 ///
-/// `AllocError` where memory is refused. Two look-ups by hash for each file that has not the owner
+/// `AllocError` where memory is refused. Two look-ups by hash for each file whose owner is not that
 /// of the one before it, and memory in step with the text.
 pub fn plan_text(
     alloc: Global,

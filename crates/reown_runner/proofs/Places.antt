@@ -16,7 +16,8 @@ use Rattle.std.proofs.lemmas.Map.Text.{is_eq-slice_cmp}
 use Rattle.std.proofs.lemmas.Slice.Eq.{bytes_eq-Decides}
 use Rattle.reown_runner.proofs.Lists.{position_at, position_nowhere}
 use Rattle.reown_runner.specs.declared.paths.Span.{Span}
-use Rattle.reown_runner.specs.Paths.{IsSpanWithin, path_in, path_at, AreDistinctPaths, ArePlaces}
+use Rattle.reown_plan.specs.Places.{AreDistinctPaths, path_at}
+use Rattle.reown_runner.specs.Paths.{IsSpanWithin, path_in, ArePlaces}
 
 -- ---- one place more
 

@@ -10,11 +10,9 @@ use Rattle.reown_runner.specs.declared.campaign.EventFault.{EventFault}
 use Rattle.reown_runner.specs.declared.campaign.EventFault.TheVariants.{Run, NoSuchHost}
 use Rattle.reown_runner.specs.declared.campaign.DriveFault.{DriveFault}
 use Rattle.reown_runner.specs.declared.runner.RunFault.{RunFault}
-use Rattle.reown_runner.specs.declared.runner.RunFault.TheVariants.{Device, Missing, Unfinished}
-use Rattle.reown_runner.specs.declared.runner.RunFault.TheVariants.{Foreign}
+use Rattle.reown_runner.specs.declared.runner.RunFault.TheVariants.{Device}
 use Rattle.reown_runner.specs.declared.runner.Place.{Place}
-use Rattle.reown_runner.specs.declared.runner.Place.TheVariants.{Start, Record, SyncOwners, Mark}
-use Rattle.reown_runner.specs.declared.runner.Place.TheVariants.{SyncMark, Done}
+use Rattle.reown_runner.specs.declared.runner.Place.TheVariants.{Done}
 use Rattle.reown_runner.specs.Tree.{TreeData, cells_of}
 use Rattle.reown_runner.specs.State.{State, StandsFor}
 use Rattle.reown_runner.specs.Safe.{IsSafeInStep}
@@ -55,9 +53,7 @@ refused_of host events (Err refused) =
 abbrev pub IsToldBy : Option RunFault → ℕ → ℕ → Type 0
 IsToldBy None before after = after ≡ before
 IsToldBy (Some Device) before after = after ≡ before + 1
-IsToldBy (Some (Missing i)) before after = after ≡ before
-IsToldBy (Some (Unfinished i)) before after = after ≡ before
-IsToldBy (Some (Foreign i)) before after = after ≡ before
+IsToldBy (Some fault) before after = after ≡ before
 
 -- one host goes from there to there by its events: its tree by a run of them, with just the writes
 -- and syncs of that run
@@ -88,12 +84,8 @@ EachGoes {T} known old events refused new =
     × IsHostOf new host after × Goes known before (own host events) (refused host) after
 
 abbrev pub is_done : Place → Bool
-is_done Start = false
-is_done (Record i) = false
-is_done SyncOwners = false
-is_done Mark = false
-is_done SyncMark = false
 is_done Done = true
+is_done place = false
 
 -- why an event was refused, for one host
 abbrev pub event_refusal : Event → Result (Unit {0}) EventFault → ℕ → Option RunFault

@@ -1,11 +1,11 @@
 -- Words of private contracts: paths in one buffer, and their places in the order of their bytes.
 -- Source: this project's own rule.
-use Rattle.std.specs.Prelude.{◌≢◌, ◌≤◌, ℕ, List, [], length, slice_range, slice_index_or}
-use Rattle.std.specs.Prelude.{AllPairs, IsPermutation}
+use Rattle.std.specs.Prelude.{◌≤◌, ℕ, List, length, slice_range, IsPermutation}
 use Rattle.std.specs.List.{range_with_len}
 use Rattle.std.specs.List.Sorted.{IsSortedByKey}
 use Rattle.std.specs.Ordering.{nat_cmp}
 use Rattle.std.specs.Cmp.Lexicographic.{slice_cmp}
+use Rattle.reown_plan.specs.Places.{path_at}
 use Rattle.reown_runner.specs.declared.paths.Span.{Span}
 
 -- a path may stand there in a buffer of so many bytes
@@ -16,14 +16,6 @@ pub record IsSpanWithin (len : ℕ) (span : Span) : Type 0 where
 -- the path that stands there
 abbrev pub path_in : List ℕ → Span → List ℕ
 path_in bytes span = slice_range bytes span.start span.end
-
--- no two paths are the same
-abbrev pub AreDistinctPaths : List (List ℕ) → Type 0
-AreDistinctPaths paths = AllPairs (λ a b. a ≢ b) paths
-
--- the path at a place, the empty one where there is none
-abbrev pub path_at : List (List ℕ) → ℕ → List ℕ
-path_at paths place = slice_index_or paths place []
 
 -- the places of all paths, in the byte order of the paths
 pub record ArePlaces (paths : List (List ℕ)) (places : List ℕ) : Type 0 where

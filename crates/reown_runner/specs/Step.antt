@@ -87,12 +87,8 @@ place_after place (Ok next) = next
 place_after place (Err fault) = place
 
 abbrev pub progress_at : Place → Progress
-progress_at Start = Working
-progress_at (Record i) = Working
-progress_at SyncOwners = Working
-progress_at Mark = Working
-progress_at SyncMark = Working
 progress_at Done = Finished
+progress_at place = Working
 
 -- the place that an advance gives with its answer
 abbrev pub moved : Place → Result Progress RunFault → Result Place RunFault
@@ -103,9 +99,7 @@ moved place (Err fault) = Err fault
 abbrev pub IsTold : {X : Type 0} → ℕ → ℕ → Result X RunFault → Type 0
 IsTold before after (Ok x) = after ≡ before
 IsTold before after (Err Device) = (after ≡ before + 1) × (after < 2 ^ 64)
-IsTold before after (Err (Missing i)) = after ≡ before
-IsTold before after (Err (Unfinished i)) = after ≡ before
-IsTold before after (Err (Foreign i)) = after ≡ before
+IsTold before after (Err fault) = after ≡ before
 
 -- nothing was asked for, or the one operation of the turn
 abbrev pub IsAsked : Result Turn RunFault → ℕ → ℕ → Type 0

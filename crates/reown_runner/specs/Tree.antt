@@ -1,6 +1,5 @@
 -- A tree: a cell for each path, and one for the mark, which says of which plan it is. What a read
--- answers, and what a stop may
--- leave: only a sync says that what was written stays.
+-- answers, and what a stop may leave: only a sync says that what was written stays.
 -- Source: the usual model of a device with a write cache; chown(2), fsync(2).
 use Rattle.std.specs.Prelude.{◌≡◌, ◌≢◌, ◌⊎◌, ◌↔◌, ℕ, ◌+◌, ◌<◌, ◌-◌, ◌^◌, Bool, true, List, Option}
 use Rattle.std.specs.Prelude.{None, Some, Result, Ok, Err, map, min, Contains}

@@ -117,7 +117,7 @@ impl<'p, 'a, T> Campaign<'p, 'a, T> {
     }
 
     /// Whether the plan of a host is done; hosts count from 0. Constant time.
-    pub fn done(&self, host: usize) -> bool
+    pub fn is_done(&self, host: usize) -> bool
         requires { host < length self.now.runners }
         ensures { (runner : RunnerData) × (slice_get self.now.runners host ≡ Some runner)
             × (result ≡ is_done runner.place) }

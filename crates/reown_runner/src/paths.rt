@@ -4,7 +4,8 @@ ghost use Rattle.std.specs.List.{range_with_len};
 ghost use Rattle.std.specs.Ordering.{nat_cmp};
 ghost use Rattle.std.specs.Cmp.Lexicographic.{slice_cmp};
 ghost use Rattle.std.specs.Str.{bytes_eq};
-ghost use Rattle.reown_runner.specs.Paths.{path_at, AreDistinctPaths, ArePlaces};
+ghost use Rattle.reown_plan.specs.Places.{path_at, AreDistinctPaths};
+ghost use Rattle.reown_runner.specs.Paths.{ArePlaces};
 
 use std::alloc::{AllocError, Global};
 use std::cmp::Ordering;
@@ -135,7 +136,8 @@ pub(crate) struct PathIndex {
 
 impl Model for PathIndex {
     ghost use Rattle.std.specs.Prelude.{ℕ, List};
-    ghost use Rattle.reown_runner.specs.Paths.{AreDistinctPaths, ArePlaces};
+    ghost use Rattle.reown_plan.specs.Places.{AreDistinctPaths};
+    ghost use Rattle.reown_runner.specs.Paths.{ArePlaces};
 
     ghost Value = { List (List ℕ) };
 

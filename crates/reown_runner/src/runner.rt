@@ -159,8 +159,8 @@ fn has_new(planned: &Record, owner: Option<Owner>) -> bool
     }
 }
 
-// Why the file of a record is refused that has not its new owner, though the plan is marked as
-// done.
+// Why the file of a record is refused that does not have its new owner, though the plan is marked
+// as done.
 fn refused_as(i: usize, planned: &Record, owner: Option<Owner>) -> RunFault
     ensures { result ≡ not_new i (record_of planned.now) owner }
 {

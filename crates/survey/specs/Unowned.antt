@@ -1,10 +1,9 @@
 -- Which numbers the files of a host have that no account of the host has.
 -- Sources: mtree(5) (the keywords `uid` and `gid`), passwd(5) and group(5); which numbers a host
 -- spares is this project's own rule.
-use Rattle.std.specs.Prelude.{ℕ, Bool, ◌==◌, ◌||◌, not, is_some, List, [], ◌∷◌, ◌++◌, map, filter}
+use Rattle.std.specs.Prelude.{ℕ, Bool, ◌==◌, not, List, [], ◌∷◌, ◌++◌, map, filter}
 use Rattle.mtree_inv.specs.declared.entry.Entry.{Entry}
-use Rattle.hosts_join.specs.Hosts.{spares_user, spares_group}
-use Rattle.hosts_join.specs.Kinds.{user_at, group_at}
+use Rattle.hosts_join.specs.Hosts.{allows_gid, allows_uid}
 use Rattle.hosts_join.specs.declared.host.Host.{Host}
 use Rattle.kept_accounts.specs.Reserving.{UnownedNumbers}
 use Rattle.kept_accounts.specs.declared.reserving.UnownedNumber.{UnownedNumber}
@@ -17,11 +16,11 @@ each_once (number ∷ numbers) =
 
 -- the host has no user with the uid, and does not spare it
 abbrev pub is_unowned_uid : Host → ℕ → Bool
-is_unowned_uid host uid = not (is_some (user_at host.users uid) || spares_user host uid)
+is_unowned_uid host uid = not (allows_uid host uid)
 
 -- the host has no group with the gid, and does not spare it
 abbrev pub is_unowned_gid : Host → ℕ → Bool
-is_unowned_gid host gid = not (is_some (group_at host.groups gid) || spares_group host gid)
+is_unowned_gid host gid = not (allows_gid host gid)
 
 -- those of the files, each once, in the order in which files have them first
 abbrev pub unowned_uids : Host → List Entry → List ℕ

@@ -32,21 +32,6 @@ pub fn no_numbers(alloc: Global) -> NotedNumbers
     }
 }
 
-// Whether the host has no user with the uid, and does not spare it. One look-up by hash, and a
-// bisection where no user has it.
-fn is_unowned_uid(host: &Host<'_>, uid: u32) -> bool
-    ensures { result ≡ spec.is_unowned_uid host.now uid }
-{
-    host.users.by_number(uid).is_none() && !host.spared_users.has(uid)
-}
-
-// The same of a gid.
-fn is_unowned_gid(host: &Host<'_>, gid: u32) -> bool
-    ensures { result ≡ spec.is_unowned_gid host.now gid }
-{
-    host.groups.by_number(gid).is_none() && !host.spared_groups.has(gid)
-}
-
 // Adds a number, where it is unowned.
 fn add_if(numbers: &mut NumberSet, number: u32, is_unowned: bool) -> Result<(), AllocError>
     ensures { OnOk result ((test : ℕ → Bool) (others : List ℕ)
@@ -65,8 +50,8 @@ fn note_file(noted: &mut NotedNumbers, host: &Host<'_>, file: &Entry) -> Result<
     ensures { OnOk result ((files : List Entry) → AreOf host.now files noted.old
         → AreOf host.now (files ++ file.now ∷ []) noted.new) }
 {
-    add_if(&mut noted.users, file.uid, is_unowned_uid(host, file.uid))?;
-    add_if(&mut noted.groups, file.gid, is_unowned_gid(host, file.gid))
+    add_if(&mut noted.users, file.uid, !host.allows_uid(file.uid))?;
+    add_if(&mut noted.groups, file.gid, !host.allows_gid(file.gid))
 }
 
 /// Adds the unowned numbers of the files that wait.

@@ -11,11 +11,11 @@ use Rattle.accounts.specs.Laws.{IsGroupTable, IsPasswdTable}
 use Rattle.accounts.specs.Rows.{Group, Passwd}
 use Rattle.accounts.proofs.KnownLemmas.{find-none, find-some}
 use Rattle.accounts.proofs.ListLemmas.{position-map}
-use Rattle.hosts_join.specs.Hosts.{spares_group, spares_user}
+use Rattle.hosts_join.specs.Hosts.{allows_gid, allows_uid, spares_group, spares_user}
 use Rattle.hosts_join.specs.Kinds.{group_at, user_at}
 use Rattle.hosts_join.specs.declared.host.Host.{Host}
 use Rattle.mtree_inv.specs.declared.entry.Entry.{Entry}
-use Rattle.unify.specs.Hosts.{allows_gid, allows_uid, owner_fault}
+use Rattle.unify.specs.Hosts.{owner_fault}
 use Rattle.unify.specs.RowFiles.{row_files}
 use Rattle.unify.proofs.Counts.{AreApart, apart}
 

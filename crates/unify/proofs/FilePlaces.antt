@@ -2,10 +2,11 @@
 use Rattle.std.proofs.Common.{◌≡◌, [], true, nat_eq, position, refl, ap, ◌∙◌}
 use Rattle.accounts.specs.Laws.{IsGroupTable, IsPasswdTable}
 use Rattle.accounts.specs.Rows.{Group, Passwd}
+use Rattle.hosts_join.specs.Hosts.{allows_gid, allows_uid}
 use Rattle.hosts_join.specs.declared.host.Host.{Host}
 use Rattle.mtree_inv.specs.declared.entry.Entry.{Entry}
 use Rattle.unify.specs.declared.row_files.OwnerPlaces.{OwnerPlaces}
-use Rattle.unify.specs.Hosts.{allows_gid, allows_uid, owner_fault}
+use Rattle.unify.specs.Hosts.{owner_fault}
 use Rattle.unify.specs.Places.{ArePlaces}
 use Rattle.unify.proofs.FileCounts.{both_allowed}
 use Rattle.unify.proofs.Turns.{is_owned_none}

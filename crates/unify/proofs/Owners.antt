@@ -11,7 +11,7 @@ use Rattle.idtext.proofs.FirstLemmas.{none_of_both}
 use Rattle.idtext.proofs.OkLemmas.{bind_ok, ok_same, unless_ok}
 use Rattle.mtree_inv.specs.declared.entry.Entry.{Entry}
 use Rattle.mtree_inv.specs.Inventory.{inventory}
-use Rattle.hosts_join.specs.Hosts.{SparesReserved, spares_group, spares_user}
+use Rattle.hosts_join.specs.Hosts.{allows_gid, allows_uid, SparesReserved, spares_group, spares_user}
 use Rattle.hosts_join.specs.Kinds.{user_at, group_at}
 use Rattle.hosts_join.specs.Laws.{KnowsHost}
 use Rattle.hosts_join.specs.Site.{Joined}
@@ -20,7 +20,7 @@ pub use Rattle.ownership.proofs.HostFiles.{owner-told}
 use Rattle.unify_texts.specs.declared.bundle_line.FileName.{FileName}
 use Rattle.unify_texts.specs.declared.bundle_line.FileName.TheVariants as file
 use Rattle.unify.specs.declared.host.Loaded.{Loaded}
-use Rattle.unify.specs.Hosts.{allows_gid, allows_uid, owner_fault, files_of}
+use Rattle.unify.specs.Hosts.{owner_fault, files_of}
 use Rattle.unify.specs.Sparing.{AreAllowed, AreOwnedOrReserved}
 use Rattle.unify.specs.Told.{in_file}
 

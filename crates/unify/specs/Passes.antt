@@ -22,7 +22,7 @@ use Rattle.unify_texts.specs.declared.fault.Fault.TheVariants.{Line, Memory}
 use Rattle.unify.specs.declared.rules.SiteRules.{SiteRules}
 use Rattle.unify.specs.declared.site.JoinedHosts.{JoinedHosts}
 use Rattle.unify.specs.Told.{in_file, in_site}
-use Rattle.unify.specs.Hosts.{files_of}
+use Rattle.unify.specs.Hosts.{files_of, most_files}
 use Rattle.unify.specs.Count.{site_of}
 use Rattle.unify.specs.Loading.{loaded_from}
 use Rattle.unify.specs.Others.{others_loaded, pinned_site}
@@ -70,7 +70,7 @@ is_read (Err f) = Err f
 
 -- the lines of an inventory of which this much has come
 abbrev pub lines_of : Host → List ℕ → Result (List Entry) Fault
-lines_of host text = in_file host.name file.Mtree (inventory_of_lines 16777216 (whole_lines text))
+lines_of host text = in_file host.name file.Mtree (inventory_of_lines most_files (whole_lines text))
 
 -- ---- the fault that ended a reading
 

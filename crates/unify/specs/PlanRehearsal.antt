@@ -6,6 +6,7 @@ use Rattle.reown_plan.specs.PlanData.{PlanData}
 use Rattle.reown_plan.specs.Places.{paths_in}
 use Rattle.reown_runner.specs.PlanTree.{found_among}
 use Rattle.unify_texts.specs.declared.fault.Fault.{Fault}
+use Rattle.unify.specs.Hosts.{most_files}
 use Rattle.unify.specs.Rehearsing.{rehearsed}
 use Rattle.unify.specs.declared.plan_rehearsal.Rehearsal.{Rehearsal}
 
@@ -13,7 +14,7 @@ use Rattle.unify.specs.declared.plan_rehearsal.Rehearsal.{Rehearsal}
 pub record StandsFor (rehearsal : Rehearsal) (plan : PlanData) (text : List ℕ) : Type 0 where
   pub lent : rehearsal.plan.now ≡ plan
   pub reading : reader.StandsFor rehearsal.reader text
-  pub takes : rehearsal.reader.most ≡ 16777216
+  pub takes : rehearsal.reader.most ≡ most_files
   pub going : rehearsal.reader.is_finished ≡ false
   pub sound : rehearsal.reader.fault ≡ None
   pub waiting : rehearsal.reader.waiting ≡ []

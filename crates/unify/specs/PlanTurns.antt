@@ -17,7 +17,7 @@ use Rattle.unify.specs.declared.plan_turn.PlanTurn.{PlanTurn}
 use Rattle.unify.specs.declared.plan_turn.Stop.{Stop}
 use Rattle.unify.specs.declared.plan_turn.Stop.TheVariants as stop
 use Rattle.unify.specs.declared.solved_pass.Solved.TheInside.{Inside}
-use Rattle.unify.specs.Hosts.{owner_fault}
+use Rattle.unify.specs.Hosts.{owner_fault, most_files}
 use Rattle.unify.specs.KnownOwners.{AreKnown, NoneIsKnown}
 use Rattle.unify.specs.Passes.{AreTogether}
 use Rattle.unify.specs.RowFiles.{RowFiles, row_files}
@@ -42,7 +42,7 @@ stop_of read.Memory = stop.Memory
 pub record IsFreshTurn (turn : PlanTurn) : Type 0 where
   pub goes : turn.stop ≡ None
   pub reading : reader.StandsFor turn.reader []
-  pub most : turn.reader.most ≡ 16777216
+  pub most : turn.reader.most ≡ most_files
   pub going : turn.reader.is_finished ≡ false
   pub sound : turn.reader.fault ≡ None
   pub waiting : turn.reader.waiting ≡ []
@@ -56,7 +56,7 @@ pub record TurnsFor (host : Host) (joined : Joined) (merged : Merged) (index : �
     (text planned : List ℕ) : Type 0 where
   pub goes : turn.stop ≡ None
   pub reading : reader.StandsFor turn.reader text
-  pub most : turn.reader.most ≡ 16777216
+  pub most : turn.reader.most ≡ most_files
   pub going : turn.reader.is_finished ≡ false
   pub sound : turn.reader.fault ≡ None
   pub waiting : turn.reader.waiting ≡ []

@@ -14,6 +14,7 @@ use Rattle.reown_runner.specs.Memory.{owner_in}
 use Rattle.unify_texts.specs.declared.bundle_line.FileName.TheVariants as file
 use Rattle.unify_texts.specs.declared.fault.Fault.{Fault}
 use Rattle.unify_texts.specs.declared.fault.Fault.TheVariants.{Missing, Foreign}
+use Rattle.unify.specs.Hosts.{most_files}
 use Rattle.unify.specs.Told.{in_file, in_plan}
 
 -- the file of a record is there, at its old or its new owner
@@ -29,7 +30,7 @@ record_fault files before r = found_fault r (owner_in files r.path)
 abbrev pub rehearsed : Result PlanData ℕ → List ℕ → Result ℕ Fault
 rehearsed read mtree = do
   plan ← in_plan read
-  files ← in_file plan.host file.Mtree (inventory 16777216 mtree)
+  files ← in_file plan.host file.Mtree (inventory most_files mtree)
   unless (first_fault (record_fault files) [] plan.records) (length plan.records)
 
 -- the answer for the plan that a text spells, or for the offset of its fault

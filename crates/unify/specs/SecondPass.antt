@@ -14,7 +14,7 @@ use Rattle.unify_texts.specs.declared.fault.Fault.{Fault}
 use Rattle.unify_texts.specs.declared.fault.Fault.TheVariants.{InventoryChanged}
 use Rattle.unify.specs.declared.merging.Merged.{Merged}
 use Rattle.unify.specs.Count.{site_of}
-use Rattle.unify.specs.Hosts.{owner_fault, files_of}
+use Rattle.unify.specs.Hosts.{owner_fault, files_of, most_files}
 use Rattle.unify.specs.Loading.{loaded_from}
 use Rattle.unify.specs.Merging.{IsMerged}
 use Rattle.unify.specs.Passes.{InventoriesValue, lines_of, read_in}
@@ -58,7 +58,7 @@ abbrev pub IsUnfinished : Host → Joined → Merged → ℕ → List ℕ → Li
 IsUnfinished host joined merged index text planned =
     (planned ≡ [])
     ⊎ ((files : List Entry) × (rest : List Entry)
-    × (reader.files_before_fault 16777216 text ≡ files ++ rest) × AreFiles files
+    × (reader.files_before_fault most_files text ≡ files ++ rest) × AreFiles files
     × (planned ≡ plan_before_end host joined merged index files))
 
 -- the whole plan of a host for these files

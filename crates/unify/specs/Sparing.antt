@@ -3,11 +3,11 @@
 -- Source: this project's own rule.
 use Rattle.std.specs.Prelude.{◌≡◌, ◌||◌, ℕ, true, [], is_some}
 use Rattle.hosts_join.specs.Accounts.{owner}
+use Rattle.hosts_join.specs.Hosts.{allows_gid, allows_uid}
 use Rattle.hosts_join.specs.Laws.{LeavesOut}
 use Rattle.hosts_join.specs.Rules.{is_reserved}
 use Rattle.hosts_join.specs.Site.{Joined}
 use Rattle.hosts_join.specs.declared.host.Host.{Host}
-use Rattle.unify.specs.Hosts.{allows_uid, allows_gid}
 
 -- the host allows a uid and a gid
 pub record AreAllowed (host : Host) (uid gid : ℕ) : Type 0 where

@@ -14,7 +14,7 @@ use Rattle.survey.specs.Unowned.{unowned_with}
 use Rattle.unify_texts.specs.declared.bundle_line.FileName.TheVariants as file
 use Rattle.unify_texts.specs.declared.fault.Fault.{Fault}
 use Rattle.unify.specs.declared.host.Loaded.{Loaded}
-use Rattle.unify.specs.Hosts.{host_of}
+use Rattle.unify.specs.Hosts.{host_of, most_files}
 use Rattle.unify.specs.Loading.{loaded_from}
 use Rattle.unify.specs.Others.{keep_read}
 use Rattle.unify.specs.Told.{in_file, in_site}
@@ -48,7 +48,7 @@ surveyed_hosts texts (Err f) = Ok []
 
 -- the files of a host's inventory, whichever numbers they have
 abbrev pub inventory_of : Host → List ℕ → Result (List Entry) Fault
-inventory_of host text = in_file host.name file.Mtree (inventory 16777216 text)
+inventory_of host text = in_file host.name file.Mtree (inventory most_files text)
 
 -- a host with the files of its inventory
 abbrev pub listed_of : Loaded → Result (Host × List Entry) Fault

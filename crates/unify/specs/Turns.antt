@@ -13,7 +13,7 @@ use Rattle.unify_texts.specs.declared.fault.Fault.TheVariants.{Memory}
 use Rattle.unify.specs.declared.inventories.Inventories.TheInside.{Inside}
 use Rattle.unify.specs.declared.turn.Turn.{Turn}
 use Rattle.unify.specs.Count.{site_of}
-use Rattle.unify.specs.Hosts.{owner_fault, files_of}
+use Rattle.unify.specs.Hosts.{owner_fault, files_of, most_files}
 use Rattle.unify.specs.Loading.{loaded_from}
 use Rattle.unify.specs.Passes.{InventoriesValue, read_told}
 use Rattle.unify.specs.RowFiles.{RowFiles, row_files}
@@ -33,7 +33,7 @@ AreCounted host rows (Some e) files =
 -- of the inventory of the host this text has come, in which there is no reader fault so far
 pub record TurnsFor (host : Host) (turn : Turn) (text : List ℕ) : Type 0 where
   pub reading : reader.StandsFor turn.reader text
-  pub most : turn.reader.most ≡ 16777216
+  pub most : turn.reader.most ≡ most_files
   pub going : turn.reader.is_finished ≡ false
   pub sound : turn.reader.fault ≡ None
   pub waiting : turn.reader.waiting ≡ []
@@ -43,7 +43,7 @@ pub record TurnsFor (host : Host) (turn : Turn) (text : List ℕ) : Type 0 where
 pub record IsAccepted (host : Host) (turn : Turn) (text : List ℕ) : Type 0 where
   pub files : List Entry
   pub are : files_of (record { host = host; mtree = text }) ≡ Ok files
-  pub few : length files ≤ 16777216
+  pub few : length files ≤ most_files
   pub rows : turn.rows ≡ row_files host files
 
 -- ---- the fault that a turn came to

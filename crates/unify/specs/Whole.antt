@@ -11,6 +11,7 @@ use Rattle.hosts_join.specs.Site.{Joined}
 use Rattle.hosts_join.specs.declared.host.Host.{Host}
 use Rattle.mergedfiles.specs.InPart.{WasReadInPart}
 use Rattle.mergedfiles.specs.Together.{AreJoined}
+use Rattle.unify.specs.Hosts.{most_files}
 use Rattle.unify.specs.Outcomes.{hosts_in}
 use Rattle.unify.specs.Sparing.{AreAllowed, AreOwnedOrReserved, LeavesItsReserved}
 use Rattle.unify.specs.Reading.{WholeSite, files_of_site}
@@ -25,7 +26,7 @@ pub record IsReadHost (joined : Joined) (h : ℕ) (host : Host) (files : List En
   pub read : WasReadInPart host
   pub lawful : IsLawfulHost host
   pub files_are : AreFiles files
-  pub few : length files ≤ 16777216
+  pub few : length files ≤ most_files
   pub allowed : All (λ f. AreAllowed host f.uid f.gid) files
   pub spares : SparesReserved joined host
   pub known : KnowsHost joined h host

@@ -11,7 +11,7 @@ ghost use Rattle.unify_texts.specs.declared.fault.Fault.{Fault};
 ghost use Rattle.unify_texts.specs.declared.fault.Fault.TheVariants.{Line};
 ghost use Rattle.unify_texts.specs.Told.{told};
 ghost use Rattle.unify.specs.Told.{in_file, site_told, in_site};
-ghost use Rattle.unify.specs.Hosts.{allows_gid, allows_uid, host_of, owner_fault};
+ghost use Rattle.unify.specs.Hosts.{host_of, owner_fault};
 
 use accounts::{GroupTable, PasswdTable, read_group, read_passwd};
 use hosts_join::{Host, HostText, Runs, SiteFault, check_primary};
@@ -204,21 +204,6 @@ pub fn load_hosts<'a>(alloc: Global, texts: &'a [HostText]) -> Result<Vec<Loaded
     Ok(hosts)
 }
 
-// Whether a file of the host may have the uid: it is a user's, or the host spares it. A look-up by
-// hash, and where no user has it a bisection.
-fn is_uid_allowed(host: &Host<'_>, uid: u32) -> bool
-    ensures { result ≡ allows_uid host.now uid }
-{
-    host.users.by_number(uid).is_some() || host.spared_users.has(uid)
-}
-
-// Whether a file of the host may have the gid: it is a group's, or the host spares it.
-fn is_gid_allowed(host: &Host<'_>, gid: u32) -> bool
-    ensures { result ≡ allows_gid host.now gid }
-{
-    host.groups.by_number(gid).is_some() || host.spared_groups.has(gid)
-}
-
 /// What is wrong with a file's owners: its uid or its gid is the number of no account of its host,
 /// and the host does not spare it, the uid first. Two look-ups by hash, and a bisection for a
 /// number that has no account; `AllocError` where memory for the path is refused.
@@ -229,14 +214,14 @@ pub fn ownership_fault<'a>(
 ) -> Result<Option<Fault<'a>>, AllocError>
     ensures { IfOk result (λ fault. fault ≡ owner_fault host.now [] file.now) }
 {
-    if !is_uid_allowed(host, file.uid) {
+    if !host.allows_uid(file.uid) {
         return Ok(Some(Fault::UnownedUid {
             host: Name::new(host.name.bytes()),
             uid: file.uid,
             path: ByteString::copy_of(alloc, file.path.bytes())?,
         }));
     }
-    if !is_gid_allowed(host, file.gid) {
+    if !host.allows_gid(file.gid) {
         return Ok(Some(Fault::UnownedGid {
             host: Name::new(host.name.bytes()),
             gid: file.gid,

@@ -92,7 +92,7 @@ impl<'a> Inventories<'a> {
         })
     }
 
-    /// Takes the next bytes of the inventory of the present host. Asked is that a host is left.
+    /// Takes the next bytes of the inventory of the present host. Requires that a host is left.
     ///
     /// The answer is exactly the first reader fault of the whole logical lines so far, or want of
     /// memory; a file that the host does not allow is told by `end_host`. A new fault that it
@@ -117,7 +117,7 @@ impl<'a> Inventories<'a> {
         Ok(())
     }
 
-    /// Ends the inventory of the present host. Asked is that a host is left.
+    /// Ends the inventory of the present host. Requires that a host is left.
     ///
     /// The answer is exactly the first fault of the whole inventory, and else its first file that
     /// the host does not allow, uid before gid; or want of memory. What is met then is such a fault

@@ -104,7 +104,7 @@ impl<'a> JoinedSite<'a> {
     ghost use Rattle.unify.specs.Passes.{AreTogether, ended_in, read_in};
     ghost use Rattle.unify.specs.SecondPass.{IsSolvedFrom};
 
-    /// Merges the site whose inventories were ended. Asked is that no host is left, and that the
+    /// Merges the site whose inventories were ended. Requires that no host is left, and that the
     /// accounts are those of the hosts.
     ///
     /// A refusal, which is want of memory, hands the same value back, and `solve` may be called
@@ -143,7 +143,7 @@ impl<'a> JoinedSite<'a> {
 
     /// What a certificate's text says of the site whose inventories were ended: how many owner and
     /// group fields its mappings change, where it proves that no admissible mappings change fewer.
-    /// Asked is that no host is left, and that the accounts are those of the hosts.
+    /// Requires that no host is left, and that the accounts are those of the hosts.
     ///
     /// It refuses with the first fault in this order: the certificate's text, by line; the check,
     /// users before groups. `Fault::Memory` is a growth that was refused. Near linear in the

@@ -160,7 +160,7 @@ impl<'a> MappedSite<'a> {
     ghost use Rattle.unify.specs.Count.{total_of};
     ghost use Rattle.unify.specs.Passes.{ended_in, read_in};
 
-    /// How many owner and group fields of the files the map changes. Asked is that no host is left.
+    /// How many owner and group fields of the files the map changes. Requires that no host is left.
     /// One pass over the account rows, with a look-up by hash for each; it takes no memory.
     pub fn cost(&self) -> Cost
         requires none_left { ended_in self.now.inventories ≡ length self.now.inventories.hosts }

@@ -154,7 +154,7 @@ fn write_accounts(
 {
     let passwd = passwd_text(alloc, hosts, site, &certified.users, &certified.groups)?;
     outcome.passwd = ByteString::from_vec(passwd);
-    let group = group_text(alloc, hosts, site, &certified.users, &certified.groups)?;
+    let group = group_text(alloc, hosts, site, &certified.groups)?;
     outcome.group = ByteString::from_vec(group);
     outcome.keeps_names = keeps_a_name(site);
     Ok(())
@@ -248,7 +248,7 @@ fn texts_of(
     Ok(outcome)
 }
 
-/// What a merge of a site that was counted gives but for its plans. Asked is that the site is
+/// What a merge of a site that was counted gives but for its plans. Requires that the site is
 /// whole. It fails for want of memory alone.
 pub fn merge_counted(
     alloc: Global,

@@ -86,7 +86,7 @@ impl<'a> Solved<'a> {
     }
 
     /// Takes the next bytes of the second inventory of the present host, and appends to the plan of
-    /// the host. Asked is that a host is left.
+    /// the host. Requires that a host is left.
     ///
     /// `Fault::InventoryChanged` is answered exactly where the whole logical lines so far have a
     /// fault, or a file that the host does not allow. After a fault of either call, want of memory
@@ -132,11 +132,11 @@ impl<'a> Solved<'a> {
         Ok(())
     }
 
-    /// Ends the second inventory of the present host, and its plan. Asked is that a host is left.
+    /// Ends the second inventory of the present host, and its plan. Requires that a host is left.
     ///
     /// `Fault::InventoryChanged` is answered exactly where the whole inventory has a fault, or a
-    /// file that the host does not allow, or where a user or a group of the host owns not as many
-    /// of its files as in the first pass. After a fault of either call, want of memory too, it is
+    /// file that the host does not allow, or where a user or a group of the host does not own as
+    /// many of its files as in the first pass. After a fault of either call, want of memory too, it is
     /// always that one, and nothing changes. Behind a fault all that the calls for this host have
     /// appended is a prefix of a plan without its `end` line, for files that the text has before
     /// its first fault.
@@ -201,7 +201,7 @@ impl<'a> Solved<'a> {
     /// A host's own passwd with its new numbers, of the text that its table was read from: in the
     /// line of each user the uid is the new number of its name and the gid that of its primary
     /// group, and every other byte is as it was. Of any other text the uid of a name that no host
-    /// has stays, and so does a gid that is of no group of the host. Asked is that there is a host
+    /// has stays, and so does a gid that is of no group of the host. Requires that there is a host
     /// with the index.
     ///
     /// One pass over the text, without a look-up for a user where the text is that of the host's

@@ -43,7 +43,7 @@ fn side_for<'a>(
 }
 
 /// The mapping of the names that changes the fewest fields of files, and among those the fewest
-/// account rows, with its certificate. Asked is that the counters were made for the names. It fails
+/// account rows, with its certificate. Requires that the counters were made for the names. It fails
 /// for want of memory alone; its cost is that of `solve`.
 pub fn solve_names<'a>(
     alloc: Global,

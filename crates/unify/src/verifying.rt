@@ -63,7 +63,7 @@ fn check_site<'a>(
     }
 }
 
-/// What a certificate's text says of a site whose files were counted. Asked is that the counters
+/// What a certificate's text says of a site whose files were counted. Requires that the counters
 /// are of its files.
 ///
 /// It refuses with the first fault in this order: the certificate's text, by line; the check, users

@@ -88,7 +88,7 @@ fn staying_rows(names: &Names<'_>, mapping: &Mapping) -> u64
 }
 
 /// The figures of a mapping of the names; `files` is how many of the counted files have one of the
-/// names as their owner. Asked is that there is a number for each name, and that the counters were
+/// names as their owner. Requires that there is a number for each name, and that the counters were
 /// made for the names and none is above 2147483648; where they count files, of which so many have
 /// an owner, the figures are those of the files.
 ///

@@ -28,7 +28,7 @@ pub fn written_maps_are_pins()
 
 /// The lines that a report has of what is reserved are read, word by word, as exactly what they
 /// were written for: of which kind, which numbers, and who reserves them, a host and a name byte
-/// for byte. Asked is that the numbers are such as an account may have, that a name, or a host with
+/// for byte. Requires that the numbers are such as an account may have, that a name, or a host with
 /// files without an account, reserves one number, and that no name is empty.
 pub fn reserved_lines_read_back()
     ensures { ReservedLinesReadBack }

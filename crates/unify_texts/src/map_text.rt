@@ -15,7 +15,7 @@ use idtext::Lines;
 use ownership::Mapping;
 use std::alloc::{AllocError, Global};
 
-/// What is set aside for a line of a map text.
+/// How many bytes are set aside for a line of a map text.
 const LINE_BYTES: usize = 16;
 
 /// The pairs of names and numbers of a map text.
@@ -120,7 +120,7 @@ fn map_lines(
 
 /// Appends the map text of mappings of a site's users and groups: a line `user NAME NUMBER` for
 /// each user, in byte order of the names, and then a line `group NAME NUMBER` for each group alike.
-/// Asked is one number for each name. What is appended is read back by [`read_map`] as these
+/// Requires one number for each name. What is appended is read back by [`read_map`] as these
 /// numbers.
 ///
 /// Time and memory in the length of the lines, of which a copy is made first. `AllocError` where a

@@ -132,7 +132,7 @@ fn report_lines(
 /// be given, and who reserves it, where something is; and each field in which a later host differs
 /// from the first. Names are escaped.
 ///
-/// Asked is that the site was joined from these hosts, each lawful, that the counters were made for
+/// Requires that the site was joined from these hosts, each lawful, that the counters were made for
 /// it, and that there is one number for each name. Where the counters stand for files, the report
 /// is that of these files.
 ///

@@ -2,7 +2,7 @@ use Rattle.std.proofs.Common.{◌≡◌, ◌-◌, ℕ, ◌<◌, ◌≤◌, lengt
 use Rattle.std.specs.Cmp.Lexicographic.{slice_cmp}
 use Rattle.std.specs.Ordering.{nat_cmp}
 use Rattle.std.specs.declared.cmp.Ordering.TheVariants.{Less, Greater}
-use Rattle.reown_runner.specs.Paths.{path_at}
+use Rattle.reown_plan.specs.Places.{path_at}
 use Rattle.reown_runner.proofs.paths.place_of.Given as goal
 
 abbrev pub invariant-loop-low : goal.invariant-loop-low

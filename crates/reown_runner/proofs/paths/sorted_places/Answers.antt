@@ -6,7 +6,7 @@ use Rattle.std.specs.Cmp.Lexicographic.{slice_cmp}
 use Rattle.std.proofs.lemmas.Cmp.{nat_list_cmp_total}
 use Rattle.std.proofs.lemmas.Fn.{always_returns_same}
 use Rattle.std.proofs.lemmas.List.Sorted.{ranks_by}
-use Rattle.reown_runner.specs.Paths.{path_at}
+use Rattle.reown_plan.specs.Places.{path_at}
 use Rattle.reown_runner.proofs.paths.sorted_places.Goals as goal
 
 pub returns : goal.returns

@@ -1,6 +1,5 @@
 use Rattle.std.proofs.Common.{◌≡◌, true, refl, sym, ◌∙◌}
-use Rattle.hosts_join.specs.Hosts.{spares_group, spares_user}
-use Rattle.unify.specs.Hosts.{allows_gid, allows_uid}
+use Rattle.hosts_join.specs.Hosts.{allows_gid, allows_uid, spares_group, spares_user}
 use Rattle.unify.proofs.FileCounts.{allowed_place, both_allowed, group_allowed, group_refused, refused_place, spared_place, user_allowed, user_refused}
 use Rattle.unify.proofs.FilePlaces.{own-each}
 use Rattle.unify.proofs.row_files.places_of.Goals as goal

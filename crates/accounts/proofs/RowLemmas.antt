@@ -1,11 +1,14 @@
--- The fields of a row that was read.
+-- The row of a line that was read has the fields of the line.
 use Rattle.std.proofs.Common.{◌≡◌, ℕ, Bool, true, false, cond, List, [], ◌∷◌, refl, subst, Option, Some, None, Result, Ok, Err}
 use Rattle.idtext.specs.declared.faults.TextCode.TheVariants.{BadName}
 use Rattle.idtext.specs.declared.faults.TextFault.{TextFault}
+use Rattle.idtext.specs.First.{◌>>=◌}
 use Rattle.idtext.specs.Names.{is_lawful_name}
 use Rattle.idtext.specs.Numbers.{id_of}
-use Rattle.idtext.proofs.OkLemmas.{ok_same}
-use Rattle.accounts.specs.Rows.{Passwd, Group, passwd_from, group_from, named, numbered}
+use Rattle.idtext.specs.Pieces.{fields_of}
+use Rattle.idtext.proofs.OkLemmas.{bind_ok, ok_same}
+use Rattle.accounts.specs.Lines.{is_kept}
+use Rattle.accounts.specs.Rows.{Passwd, Group, passwd_from, passwd_line, group_from, group_line, named, numbered}
 
 named-ok : {X : Type 0} (n : ℕ) (name : List ℕ) (rest : Result X TextFault) (x : X) → named n name rest ≡ Ok x → (is_lawful_name name ≡ true) × (rest ≡ Ok x)
 named-ok {X} n name rest x e = by (is_lawful_name name) e
@@ -63,3 +66,22 @@ is-group n (name ∷ password ∷ gid ∷ members ∷ []) row e =
     let made : Group = record { line = n; name = name; password = password; gid = group.0; members = members } in
     let is : IsGroup n (name ∷ password ∷ gid ∷ members ∷ []) made = record { gid = gid; are = refl; line = refl; lawful = lawful.0; group = group.1 } in
     subst (λ (r : Group). IsGroup n (name ∷ password ∷ gid ∷ members ∷ []) r) (ok_same made row group.2) is
+
+-- ---- a line
+
+kept-row : {Row : Type 0} (kept : Bool) (told : Result Row TextFault) (row : Row) → cond kept (told >>= λ r. Ok (Some r)) (Ok None) ≡ Ok (Some row) → told ≡ Ok row
+kept-row true (Ok r) row e = cc
+kept-row true (Err fault) row e = absurd (cc)
+kept-row false told row e = absurd (cc)
+
+pub user-line : (n : ℕ) (line : List ℕ) (row : Passwd) → passwd_line n line ≡ Ok (Some row) → (kept : Bool) × (is_kept n line ≡ Ok kept) × IsUser n (fields_of line) row
+unfolding passwd_line
+user-line n line row e =
+    let kept = bind_ok (is_kept n line) _ (Some row) e in
+    (kept.0, kept.1, is-user n (fields_of line) row (kept-row kept.0 (passwd_from n (fields_of line)) row kept.2))
+
+pub group-line : (n : ℕ) (line : List ℕ) (row : Group) → group_line n line ≡ Ok (Some row) → (kept : Bool) × (is_kept n line ≡ Ok kept) × IsGroup n (fields_of line) row
+unfolding group_line
+group-line n line row e =
+    let kept = bind_ok (is_kept n line) _ (Some row) e in
+    (kept.0, kept.1, is-group n (fields_of line) row (kept-row kept.0 (group_from n (fields_of line)) row kept.2))
