@@ -1,14 +1,15 @@
 # unify: one numbering for the accounts of many hosts.
 #   make demo              merges the two hosts of examples/office, and shows what was written: one to two minutes, compiled
 #                          with run-time checks and not proved
-#   make try ARGS='merge OUT HOST..'   your own words in the same way
+#   make try ARGS='merge OUT HOST..'   any other command, in the same way
 #   make program           proves the program and links it, which takes a while; make demo-proved runs the demo with it
 #   make demo-apply        as root: makes trees of two hosts, merges, carries the plans out, verifies and takes them back
 #   make install PREFIX=.. puts the proved program into PREFIX/bin
 #   make quick             for daily work: lays out and proves the crates that changed, and runs the worked examples unproved
 #   make test              the gate: proves every crate, tries the must-fail edits, runs the tests and the program, and
-#                          compares what the program makes of examples/office and of examples/worked, and what it answers
-#                          to other words, with what is committed
+#                          ends with make compare
+#   make compare           compares what the program that was built last makes of examples/office, examples/mixed and
+#                          examples/worked, what it answers to other words and what it leaves in OUT, with what is committed
 #   make wrong-bodies      the other half of the gate: tries all other wrong bodies; CRATE='idtext ..' those of some crates
 #   make refused           refuses one growth of memory after another, to the program, by bundle and with words, and to the
 #                          readers' tests
