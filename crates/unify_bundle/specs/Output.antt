@@ -86,7 +86,8 @@ checked hosts rules certificate =
 abbrev pub check_lines : List Place → Result (List ℕ) Fault
 check_lines places =
     rules_in places >>= λ rules.
-    checked (host_texts (drop 1 places)) rules (text_in (files_before_hosts places) file.Certificate)
+    checked (host_texts (drop 1 places)) rules
+    (text_in (files_before_hosts places) file.Certificate)
 
 -- what a command answers by rules, or the fault where there are none
 abbrev pub IsToldBy : (SiteRules → Result (List ℕ) Fault → Type 0) → Result SiteRules Fault
@@ -125,8 +126,8 @@ IsRehearsalTold plan mtree reply =
 
 abbrev pub IsRehearseReply : List Place → Result (List ℕ) Fault → Type 0
 IsRehearseReply places reply =
-    IsRehearsalTold (text_in (files_before_hosts places) file.Plan) (text_in (files_before_hosts places) file.Mtree)
-    reply
+    IsRehearsalTold (text_in (files_before_hosts places) file.Plan)
+    (text_in (files_before_hosts places) file.Mtree) reply
 
 -- the bytes and the status of an answer
 pub record Answer : Type 0 where

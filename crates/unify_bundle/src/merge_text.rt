@@ -4,7 +4,8 @@ ghost use Rattle.std.specs.Prelude.{◌≡◌, ◌++◌, OnOk, IfOk, flat_map, c
 ghost use Rattle.idtext.specs.Pieces.{lines};
 ghost use Rattle.unify_merge.specs.Merge.{account_files};
 ghost use Rattle.unify_merge.specs.SecondReading.{plan_files};
-ghost use Rattle.unify_bundle.specs.Lines.{barred, file_lines, merge_lines, named_lines, site_lines};
+ghost use Rattle.unify_bundle.specs.Lines.{barred, file_lines, merge_lines, named_lines};
+ghost use Rattle.unify_bundle.specs.Lines.{site_lines};
 ghost use Rattle.unify_bundle.specs.Output.{Answers, IsMergeTold, IsMergeWithHostsTold};
 ghost use Rattle.unify_bundle.specs.Replies.{reply_of};
 
@@ -47,7 +48,8 @@ fn push_file(out: &mut Vec<u8>, name: &[u8], text: &ByteString) -> Result<(), Al
 
 // Appends the one passwd and the one group, unless a name is kept.
 fn push_accounts(out: &mut Vec<u8>, outcome: &Outcome) -> Result<(), AllocError>
-    ensures { OnOk result (out.new.items ≡ out.old.items ++ named_lines (account_files outcome.now)) }
+    ensures { OnOk result
+        (out.new.items ≡ out.old.items ++ named_lines (account_files outcome.now)) }
 {
     if outcome.keeps_names {
         return Ok(());

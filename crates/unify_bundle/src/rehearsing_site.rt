@@ -68,8 +68,8 @@ fn mtrees_of<'a>(alloc: Global, texts: &'a [HostText]) -> Result<Vec<Name<'a>>, 
 // A tree as an inventory that was read before.
 fn new_tree(alloc: Global, mtree: &[u8], keep: Keep) -> Result<MemTree, AllocError>
     requires { (files : List Entry) × (inventory most_files mtree.now ≡ Ok files) }
-    ensures { IfOk result (λ tree. (files : List Entry) × (inventory most_files mtree.now ≡ Ok files)
-        × (tree ≡ new_tree_of keep files)) }
+    ensures { IfOk result (λ tree. (files : List Entry)
+        × (inventory most_files mtree.now ≡ Ok files) × (tree ≡ new_tree_of keep files)) }
 {
     let files = read_again(alloc, mtree)?;
     let mut tree = MemTree::new(alloc, &files)?;
