@@ -6,7 +6,7 @@ use Rattle.std.proofs.lemmas.List.Sums.{sum_by-append, sum_by_push}
 use Rattle.reown_plan.specs.Owners.{owner_eq}
 use Rattle.reown_files.specs.declared.counting.OwnerCounts.{OwnerCounts}
 use Rattle.reown_files.specs.Calls.{Called}
-use Rattle.reown_files.specs.Counting.{Look, is_before, is_after, is_missing, is_foreign, has_set_id, has_names, counts_of, with_one, files_of, call_of}
+use Rattle.reown_files.specs.Counting.{Look, is_before, is_after, is_missing, is_foreign, has_set_id, has_several_names, counts_of, with_one, files_of, call_of}
 
 more : (p : Look → Bool) (looks : List Look) (l : Look) → count_by p (looks ++ l ∷ []) ≡ count_by p looks + cond (p l) 1 0
 more p looks l = sum_by_push (λ x. cond (p x) 1 0) looks l
@@ -40,7 +40,7 @@ one_more_counted looks l old new was is =
       missing = sym (more is_missing looks l) i;
       foreign = sym (more is_foreign looks l) i;
       set_id = sym (more has_set_id looks l) i;
-      linked = sym (more has_names looks l) i;
+      linked = sym (more has_several_names looks l) i;
     })
 
 pub one_more_call : (looks : List Look) (l : Look) (first old new : List Called) → old ≡ reverse (map call_of looks) ++ first → new ≡ call_of l ∷ old → new ≡ reverse (map call_of (looks ++ l ∷ [])) ++ first

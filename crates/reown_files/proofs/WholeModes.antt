@@ -1,5 +1,5 @@
 -- The file of modes as a whole, written and read.
-use Rattle.std.proofs.Common.{◌≡◌, ◌-◌, ℕ, Bool, true, false, cond, List, [], ◌∷◌, ◌++◌, Option, Some, None}
+use Rattle.std.proofs.Common.{◌≡◌, ◌-◌, ◌&&◌, ℕ, Bool, true, false, cond, List, [], ◌∷◌, ◌++◌, Option, Some, None}
 use Rattle.std.proofs.Common.{refl, sym, ◌∙◌, ap, append_assoc, append-nil, arith, length-append, length, drop, take, decimal}
 use Rattle.std.specs.Prelude.{nat_eq}
 use Rattle.std.specs.List.{ends_with}
@@ -13,7 +13,7 @@ use Rattle.reown_plan.specs.PlanData.{PlanData}
 use Rattle.reown_plan.proofs.Marks.{marks_compare}
 use Rattle.reown_files.specs.Laws.{IsMarkable}
 use Rattle.reown_files.specs.MarkText.{Entry, line_said, lines_text, modes_head, modes_end, head_text, modes_text, plan_text}
-use Rattle.reown_files.specs.MarkText.{has_end, before_end, is_whole, behind, lines_in, host_text, hex_text}
+use Rattle.reown_files.specs.MarkText.{has_end, before_end, is_whole, behind, lines_in, has_ended, mark_text, host_text, hex_text}
 use Rattle.reown_files.proofs.Laws.{and_true}
 use Rattle.reown_files.proofs.MarksText.{same_plan, same_test}
 
@@ -107,3 +107,43 @@ modes_of_one_plan plan other entries is is' =
     (same_test (begins p entries o) (mark_eq p o)
     (λ e. compared.1 (same_plan plan other is is' (lines_text entries) (drop (length (head_text o)) (head_text p ++ lines_text entries)) (goes_on p entries o e)))
     (λ e. begins_own p entries o (compared.0 e))) (λ e. compared.0 e)
+
+-- ---- a mark that ends them
+
+ends_plan : (other : PlanMark) → ends_line (plan_text other) ≡ true
+ends_plan other =
+    let before = host_text other.host ++ (32 ∷ (decimal other.length ++ 32 ∷ hex_text other.digest)) in
+    let is : plan_text other ≡ before ++ 10 ∷ [] = simp append_assoc in ap ends_line is ∙ ends_so before
+
+module _ (plan : PlanMark) (lines : List ℕ) where
+  abbrev rest : List ℕ
+  rest = (plan_text plan ++ lines) ++ modes_end
+
+  abbrev goes_on_as : PlanMark → Bool
+  goes_on_as other = bytes_eq (plan_text other) (take (length (plan_text other)) rest)
+
+  ended_so : (other : PlanMark) → has_ended (mark_text other) (modes_text plan lines) ≡ goes_on_as other
+  ended_so other = ap (λ (t : Bool). t && goes_on_as other) (ends_plan other)
+
+  own_goes_on : (other : PlanMark) → plan ≡ other → goes_on_as other ≡ true
+  own_goes_on other e =
+      ap goes_on_as (sym e)
+      ∙ (bytes_decides (plan_text plan) (take (length (plan_text plan)) rest)).1
+      (sym (ap (take (length (plan_text plan))) (append_assoc (plan_text plan) lines modes_end) ∙ front (plan_text plan) (lines ++ modes_end) (length (plan_text plan)) refl))
+
+  parted_so : (other : PlanMark) → goes_on_as other ≡ true → plan_text plan ++ (lines ++ modes_end) ≡ plan_text other ++ drop (length (plan_text other)) rest
+  parted_so other e =
+      sym (append_assoc (plan_text plan) lines modes_end) ∙ sym (take-append-drop (length (plan_text other)) rest)
+      ∙ ap (λ (xs : List ℕ). xs ++ drop (length (plan_text other)) rest) (sym ((bytes_decides (plan_text other) (take (length (plan_text other)) rest)).0 e))
+
+pub ended_by_one_mark : (plan other : PlanData) (entries : List Entry) → IsMarkable plan → IsMarkable other
+    → has_ended (mark_text (mark_of other)) (modes_text (mark_of plan) (lines_text entries)) ≡ mark_eq (mark_of plan) (mark_of other)
+ended_by_one_mark plan other entries is is' =
+    let p = mark_of plan in
+    let o = mark_of other in
+    let lines = lines_text entries in
+    let compared = marks_compare p o in
+    ended_so p lines o
+    ∙ same_test (goes_on_as p lines o) (mark_eq p o)
+    (λ e. compared.1 (same_plan plan other is is' (lines ++ modes_end) (drop (length (plan_text o)) (rest p lines)) (parted_so p lines o e)))
+    (λ e. own_goes_on p lines o (compared.0 e))

@@ -35,9 +35,9 @@ abbrev pub has_set_id : Look → Bool
 has_set_id (r, None) = false
 has_set_id (r, Some seen) = seen.has_set_id
 
-abbrev pub has_names : Look → Bool
-has_names (r, None) = false
-has_names (r, Some seen) = seen.has_names
+abbrev pub has_several_names : Look → Bool
+has_several_names (r, None) = false
+has_several_names (r, Some seen) = seen.has_several_names
 
 abbrev pub counts_of : List Look → OwnerCounts
 counts_of looks =
@@ -47,7 +47,7 @@ counts_of looks =
       missing = count_by is_missing looks;
       foreign = count_by is_foreign looks;
       set_id = count_by has_set_id looks;
-      linked = count_by has_names looks;
+      linked = count_by has_several_names looks;
     }
 
 abbrev pub one : Bool → ℕ
@@ -62,7 +62,7 @@ with_one look counts =
       missing = counts.missing + one (is_missing look);
       foreign = counts.foreign + one (is_foreign look);
       set_id = counts.set_id + one (has_set_id look);
-      linked = counts.linked + one (has_names look);
+      linked = counts.linked + one (has_several_names look);
     }
 
 -- how many files were counted

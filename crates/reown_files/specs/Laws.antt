@@ -7,7 +7,7 @@ use Rattle.reown_plan.specs.Mark.{mark_of, mark_eq}
 use Rattle.reown_plan.specs.PlanData.{PlanData}
 use Rattle.reown_plan.specs.Spelling.{spelling, IsHostName}
 use Rattle.reown_files.specs.MarkText.{mark_text, mark_read, head_text, modes_text}
-use Rattle.reown_files.specs.MarkText.{lines_in, Entry, lines_text, lines_read}
+use Rattle.reown_files.specs.MarkText.{lines_in, has_ended, Entry, lines_text, lines_read}
 
 -- a plan that can be marked as done: its host has a name, and the length of its text 64 bits
 pub record IsMarkable (plan : PlanData) : Type 0 where
@@ -28,6 +28,13 @@ ModesAreOfOnePlan =
     (plan other : PlanData) (entries : List Entry) → IsMarkable plan → IsMarkable other
     → lines_in (head_text (mark_of other)) (modes_text (mark_of plan) (lines_text entries))
     ≡ Some (if mark_eq (mark_of plan) (mark_of other) then Some (lines_text entries) else None)
+
+-- the mark of a plan ends that plan's modes, and those of none with another mark
+abbrev pub MarksEndOnePlan : Type 0
+MarksEndOnePlan =
+    (plan other : PlanData) (entries : List Entry) → IsMarkable plan → IsMarkable other
+    → has_ended (mark_text (mark_of other)) (modes_text (mark_of plan) (lines_text entries))
+    ≡ mark_eq (mark_of plan) (mark_of other)
 
 -- modes that were written down are read back, each with its file and in their order
 abbrev pub ModesAreReadBack : Type 0

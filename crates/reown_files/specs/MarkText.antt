@@ -2,12 +2,14 @@
 -- Source: this project's own formats; for the bits of a mode inode(7).
 use Rattle.std.specs.Prelude.{ℕ, List, [], ◌∷◌, ◌++◌, ◌+◌, ◌-◌, ◌*◌, ◌/◌, ◌%◌, ◌==◌, ◌&&◌, not}
 use Rattle.std.specs.Prelude.{nat_lt, if◌then◌else◌, flat_map, codes, decimal, take, drop}
-use Rattle.std.specs.Prelude.{slice_index, Option, None, Some, option_map}
+use Rattle.std.specs.Prelude.{slice_index, Option, None, Some, Result, Ok, Err, option_map}
 use Rattle.std.specs.Prelude.{Bool, nat_eq, bytes_eq, length}
 use Rattle.std.specs.List.{starts_with, ends_with}
 use Rattle.std.specs.Option.{option_and_then}
 use Rattle.idtext.specs.Escapes.{escaped, unescaped, has_bad_escape, is_octal}
 use Rattle.reown_plan.specs.declared.mark.PlanMark.{PlanMark}
+use Rattle.reown_files.specs.declared.answers.Trouble.{Trouble}
+use Rattle.reown_files.specs.declared.answers.Trouble.TheVariants.{NotModes, OtherPlan}
 
 -- ---- what a plan is known by
 
@@ -106,6 +108,26 @@ behind head text =
 -- the lines of files behind this first line, if a text is whole; none where it begins with another
 abbrev pub lines_in : List ℕ → List ℕ → Option (Option (List ℕ))
 lines_in head text = if is_whole text then Some (behind head (before_end text)) else None
+
+-- a mark is that of the plan of this text of modes: behind their first words it has one line, and
+-- the text begins with that line
+abbrev pub has_ended : List ℕ → List ℕ → Bool
+has_ended mark text =
+    starts_with nat_eq mark mark_head
+    && (starts_with nat_eq text modes_head
+    && (ends_with nat_eq (drop (length mark_head) mark) (10 ∷ [])
+    && starts_with nat_eq (drop (length modes_head) text) (drop (length mark_head) mark)))
+
+-- what the plan with this first line goes by, where the file of the mark has this text: its own
+-- lines of files; none where another plan wrote them that has ended; and nothing where that was
+-- begun and has not ended
+abbrev pub lines_judged : Bool → Option (Option (List ℕ)) → Result (Option (List ℕ)) Trouble
+lines_judged ended None = Err NotModes
+lines_judged ended (Some None) = if ended then Ok None else Err OtherPlan
+lines_judged ended (Some (Some lines)) = Ok (Some lines)
+
+abbrev pub modes_judged : List ℕ → List ℕ → List ℕ → Result (Option (List ℕ)) Trouble
+modes_judged head mark text = lines_judged (has_ended mark text) (lines_in head text)
 
 -- ---- modes that are read: the lines of files
 

@@ -1,13 +1,15 @@
 -- Why the files of a plan were not begun with.
 -- Source: this project's own rule.
 use Rattle.std.specs.Prelude.{◌≡◌, ◌≢◌, ◌⊎◌, ◌<◌, ◌∷◌, ℕ, Bool, true, List, Option, None, Some}
-use Rattle.std.specs.Prelude.{⊤, length, slice_get}
+use Rattle.std.specs.Prelude.{⊤, length, slice_get, take}
 use Rattle.reown_plan.specs.declared.plan.Owner.{Owner}
 use Rattle.reown_plan.specs.PlanData.{PlanRecord}
 use Rattle.reown_files.specs.declared.answers.OpenFault.{OpenFault}
 use Rattle.reown_files.specs.declared.answers.OpenFault.TheVariants.{Missing, Foreign, Unfinished}
 use Rattle.reown_files.specs.declared.answers.OpenFault.TheVariants.{File, Disk, Modes, Memory}
 use Rattle.reown_files.specs.Calls.{Called, Met}
+use Rattle.reown_files.specs.Replay.{replay, found_of}
+use Rattle.reown_runner.specs.Halfway.{AreHalfway}
 
 -- the file of this record, the one at a place, was met with this owner or not there, and is no file
 -- that a run of the plan can have left
@@ -18,7 +20,8 @@ IsUnfit mark i r found (Foreign at owner) =
 IsUnfit mark i r found (Unfinished at) = (at ≡ i) × (found ≡ Some r.before) × (mark ≡ true)
 IsUnfit mark i r found _ = ⊥
 
--- the call that was made last met such a file, and that is why
+-- the call that was made last met such a file, and that is why; the files of the records before it
+-- were met, and a run of the plan can have left them at the owners that they were met with
 pub record MetUnfit
     (mark : Bool) (records : List PlanRecord) (calls : List Called) (fault : OpenFault)
     : Type 0 where
@@ -29,6 +32,9 @@ pub record MetUnfit
   pub here : slice_get records i ≡ Some r
   pub last : calls ≡ Met r.path found ∷ before
   pub unfit : IsUnfit mark i r found fault
+  pub owners : List Owner
+  pub met : (path : List ℕ) → (replay before).owner path ≡ found_of (take i records) owners path
+  pub fit : AreHalfway (take i records) owners mark
 
 -- a call of the disk failed, on the file of one of the records or on another; or memory was refused
 abbrev pub IsTrouble : List PlanRecord → OpenFault → Type 0

@@ -1,6 +1,8 @@
 -- A tree of real files, as its user sees it.
 -- Source: this project's own rule.
-use Rattle.std.specs.Prelude.{◌≡◌, ◌<◌, ◌+◌, ◌^◌, ℕ, Bool, List, [], ◌++◌}
+use Rattle.std.specs.Prelude.{◌≡◌, ◌<◌, ◌+◌, ◌^◌, ℕ, Bool, false, List, [], ◌∷◌, ◌++◌}
+use Rattle.std.specs.Prelude.{Option, None, Some, ⊤, map, position, slice_get}
+use Rattle.std.specs.Str.{bytes_eq}
 use Rattle.std.proofs.Common.{refl, sym, ap, ◌∙◌}
 use Rattle.std.proofs.lemmas.List.{append_assoc}
 use Rattle.reown_plan.specs.declared.mark.PlanMark.{PlanMark}
@@ -8,12 +10,14 @@ use Rattle.reown_plan.specs.PlanData.{PlanRecord}
 use Rattle.reown_runner.specs.Tree.{TreeData, IsReadable, cells_of}
 use Rattle.reown_runner.specs.Memory.{Mem, known_mem}
 use Rattle.reown_runner.specs.MemoryReads.{readable_mem}
-use Rattle.reown_files.specs.Calls.{Called}
+use Rattle.reown_files.specs.Calls.{Called, Kept}
+use Rattle.reown_files.specs.declared.answers.Stop.{Stop}
 use Rattle.reown_files.specs.Replay.{replay}
 
 -- the mark and the records of its plan; what it holds their files to be, with which each read is
 -- compared; whether each file was kept since the last write; whether it was stopped; how often a
--- call has failed, and how many writes and syncs were asked of it; and what was asked of its disk
+-- call has failed, where the last one did, and how many writes and syncs were asked of it; and what
+-- was asked of its disk
 pub record RealData : Type 0 where
   pub mark : PlanMark
   pub records : List PlanRecord
@@ -21,6 +25,7 @@ pub record RealData : Type 0 where
   pub is_kept : Bool
   pub is_stopped : Bool
   pub faults : ℕ
+  pub stop : Option Stop
   pub asked : ℕ
   pub calls : List Called
 
@@ -76,3 +81,53 @@ later_goes_on a b c x y =
       records = y.records ∙ x.records;
       calls = grows_on a.calls b.calls c.calls x.calls y.calls;
     }
+
+-- ---- what a call changes
+
+-- nothing is new but what was asked of the disk, and where a call failed
+abbrev pub AsksMore : RealData → RealData → Type 0
+AsksMore old new = new ≡ record old { stop = new.stop; calls = new.calls }
+
+-- nor but whether each file is kept
+abbrev pub KeepsMore : RealData → RealData → Type 0
+KeepsMore old new =
+    new ≡ record old { is_kept = new.is_kept; stop = new.stop; calls = new.calls }
+
+-- nor but what is held, and whether the tree is stopped
+abbrev pub GivesMore : RealData → RealData → Type 0
+GivesMore old new =
+    new
+    ≡ record old {
+      tree = new.tree;
+      is_kept = new.is_kept;
+      is_stopped = new.is_stopped;
+      stop = new.stop;
+      calls = new.calls;
+    }
+
+-- nothing is new but what is held, what was asked of the disk, and where a call failed
+abbrev pub PutsMore : RealData → RealData → Type 0
+PutsMore old new = new ≡ record old { tree = new.tree; stop = new.stop; calls = new.calls }
+
+-- ---- where a call failed
+
+-- the place of the record with this path, if one has it
+abbrev pub place_of : List PlanRecord → List ℕ → Option ℕ
+place_of records path = position (bytes_eq path) (map (λ r. r.path) records)
+
+-- a call failed, and this is the place that is told
+abbrev pub StopsAt : Option ℕ → Option Stop → Type 0
+StopsAt place None = ⊥
+StopsAt place (Some stop) = stop.place ≡ place
+
+-- the file of the record at this place was to be kept by the last call, which failed
+abbrev pub WasNotKept : List PlanRecord → List Called → Option ℕ → Type 0
+WasNotKept records calls None = ⊤
+WasNotKept records calls (Some i) =
+    (r : PlanRecord) × (slice_get records i ≡ Some r)
+    × ((before : List Called) × (calls ≡ Kept r.path r.after false ∷ before))
+
+-- a sync failed: that of this record's file, or that of all or of the mark, which is told as none's
+abbrev pub StopsSync : List PlanRecord → List Called → Option Stop → Type 0
+StopsSync records calls None = ⊥
+StopsSync records calls (Some stop) = WasNotKept records calls stop.place

@@ -38,6 +38,8 @@ pub enum Trouble {
     NotMark,
     /// The file of the modes is cut, or has no modes of a plan.
     NotModes,
+    /// The file of the modes is that of another plan, which was begun and has not ended.
+    OtherPlan,
 }
 
 /// The bits of a file's mode around a change of its owner (inode(7)); of a regular file or a
@@ -57,7 +59,7 @@ pub struct Seen {
     /// Whether it is a regular file that has the set-user-ID or the set-group-ID bit.
     pub has_set_id: bool,
     /// Whether it has several names. A directory has one.
-    pub has_names: bool,
+    pub has_several_names: bool,
 }
 
 /// Where the last call on a tree failed, and why.
@@ -84,8 +86,8 @@ pub enum OpenFault {
     File(usize, Trouble),
     /// The mark could not be looked at, or the disk not be synced.
     Disk(Trouble),
-    /// The modes that an earlier run wrote down could not be read, or those that this one may lose
-    /// not be written.
+    /// The modes that an earlier run wrote down could not be read, or are of another plan that has
+    /// not ended, or those that this one may lose could not be written.
     Modes(Trouble),
 }
 

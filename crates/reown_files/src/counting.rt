@@ -52,13 +52,13 @@ impl OwnerCounts {
         requires linked { self.old.linked + 1 < 2 ^ 64 }
         ensures { self.new ≡ record self.old {
           set_id = self.old.set_id + one seen.has_set_id;
-          linked = self.old.linked + one seen.has_names;
+          linked = self.old.linked + one seen.has_several_names;
         } }
     {
         if seen.has_set_id {
             self.set_id += 1;
         }
-        if seen.has_names {
+        if seen.has_several_names {
             self.linked += 1;
         }
     }

@@ -72,7 +72,8 @@ pub trait Disk: Drop {
         ensures { calls self.new ≡ PutMark plan.now (is_ok result) ∷ calls self.old };
 
     /// Reads the modes that an earlier run of this plan wrote down, if there is one that did. Where
-    /// the mark is there, that run has lost none.
+    /// the mark is there, that run has lost none. Fails where another plan was begun with this mark
+    /// and has not ended.
     fn read_modes(&mut self, plan: &PlanMark, mark: bool) -> Result<(), Trouble>
         ensures { calls self.new ≡ ReadModes plan.now mark (is_ok result) ∷ calls self.old };
 

@@ -1,13 +1,13 @@
 //! The changes of a plan, made on a disk.
 ghost use Rattle.std.specs.Prelude.{◌≡◌, ◌&&◌, ◌||◌, not, true, List, Some, map, OnOk, is_ok};
-ghost use Rattle.std.specs.Prelude.{if◌then◌else◌};
+ghost use Rattle.std.specs.Prelude.{IfErr, if◌then◌else◌};
 ghost use Rattle.reown_plan.specs.declared.mark.PlanMark.{PlanMark};
 ghost use Rattle.reown_plan.specs.PlanData.{PlanRecord};
 ghost use Rattle.reown_plan.specs.Records.{record_of};
 ghost use Rattle.reown_files.specs.Lawful.{is_of, is_planned, all_kept, is_synced, is_begun};
 ghost use Rattle.reown_files.specs.Lawful.{is_lawful, no_mode_failed};
 ghost use Rattle.reown_files.specs.Replay.{replay, with_owner};
-ghost use Rattle.reown_files.specs.Real.{Grows};
+ghost use Rattle.reown_files.specs.Real.{Grows, WasNotKept};
 
 use crate::{Disk, Stop, Trouble};
 use reown_plan::{Owner, Record};
@@ -79,6 +79,8 @@ pub fn give_file<D: Disk>(disk: &mut D, path: &[u8], before: Owner, after: Owner
 // Sees that each record's file has its new owner, and syncs it, where it is not for the sync of
 // all.
 fn keep_all<D: Disk>(disk: &mut D, records: &[Record]) -> Result<(), Stop>
+    ensures stop { IfErr result
+        (λ stop. WasNotKept (map record_of records.now) (D.calls disk.new) stop.place) }
     ensures kept { OnOk result (all_kept (map record_of records.now) (D.calls disk.new) ≡ true) }
     ensures modes { no_mode_failed (D.calls disk.new) ≡ no_mode_failed (D.calls disk.old) }
     ensures lawful { (mark : PlanMark) (plan : List PlanRecord)
@@ -105,6 +107,8 @@ fn keep_all<D: Disk>(disk: &mut D, records: &[Record]) -> Result<(), Stop>
 
 /// Sees that each record's file has its new owner, and that a stop of the machine leaves it so.
 pub fn sync_all<D: Disk>(disk: &mut D, records: &[Record]) -> Result<(), Stop>
+    ensures stop { IfErr result
+        (λ stop. WasNotKept (map record_of records.now) (D.calls disk.new) stop.place) }
     ensures synced { OnOk result (is_synced (map record_of records.now) (D.calls disk.new) ≡ true) }
     ensures modes { no_mode_failed (D.calls disk.new) ≡ no_mode_failed (D.calls disk.old) }
     ensures lawful { (mark : PlanMark) (plan : List PlanRecord)
@@ -115,10 +119,7 @@ pub fn sync_all<D: Disk>(disk: &mut D, records: &[Record]) -> Result<(), Stop>
     ensures replayed { replay (D.calls disk.new) ≡ replay (D.calls disk.old) }
     ensures grows { Grows (D.calls disk.old) (D.calls disk.new) }
 {
-    match keep_all(disk, records) {
-        Ok(()) => {}
-        Err(stop) => return Err(stop),
-    }
+    keep_all(disk, records)?;
     match disk.settle() {
         Ok(()) => Ok(()),
         Err(trouble) => Err(Stop {

@@ -3,6 +3,7 @@
 
 mod answers;
 mod applying;
+mod comparing;
 mod counting;
 mod disk;
 mod giving;
@@ -10,6 +11,7 @@ mod log;
 mod looking;
 mod mark_file;
 mod modes_file;
+mod opening;
 mod read_back;
 mod real_tree;
 mod restoring;

@@ -5,7 +5,7 @@ ghost use Rattle.reown_plan.specs.declared.mark.PlanMark.{PlanMark};
 ghost use Rattle.reown_plan.specs.PlanData.{PlanRecord, HaveDistinctPaths};
 ghost use Rattle.reown_plan.specs.Records.{record_of};
 ghost use Rattle.reown_files.specs.Lawful.{all_checked, is_unchanged, is_lawful};
-ghost use Rattle.reown_files.specs.Lawful.{no_mode_failed};
+ghost use Rattle.reown_files.specs.Lawful.{no_mode_failed, were_read};
 ghost use Rattle.reown_files.specs.Opening.{IsUnfit, IsTrouble, IsRefusal};
 ghost use Rattle.reown_files.specs.Replay.{replay, found_of};
 ghost use Rattle.reown_runner.specs.Halfway.{AreHalfway};
@@ -65,6 +65,8 @@ pub fn look_at_all<D: Disk>(
     ensures lawful { (mark : PlanMark) (plan : List PlanRecord)
         → is_lawful mark plan (D.calls disk.old) ≡ true
         → is_lawful mark plan (D.calls disk.new) ≡ true }
+    ensures read { (mark : PlanMark) → were_read mark (D.calls disk.old) ≡ true
+        → were_read mark (D.calls disk.new) ≡ true }
     ensures refused { IfErr result
         (IsRefusal mark (map record_of records.now) (D.calls disk.new)) }
 {
@@ -97,6 +99,8 @@ pub fn check_all_links<D: Disk>(disk: &mut D, records: &[Record]) -> Result<(), 
     ensures unchanged { is_unchanged (D.calls disk.new) ≡ is_unchanged (D.calls disk.old) }
     ensures lawful { (mark : PlanMark) (plan : List PlanRecord)
         → is_lawful mark plan (D.calls disk.new) ≡ is_lawful mark plan (D.calls disk.old) }
+    ensures read { (mark : PlanMark)
+        → were_read mark (D.calls disk.new) ≡ were_read mark (D.calls disk.old) }
     ensures replayed { replay (D.calls disk.new) ≡ replay (D.calls disk.old) }
     ensures refused { IfErr result (IsTrouble (map record_of records.now)) }
 {

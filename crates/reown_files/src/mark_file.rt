@@ -4,14 +4,13 @@ ghost use Rattle.reown_files.specs.declared.answers.Trouble.TheVariants.{Memory,
 ghost use Rattle.reown_files.specs.MarkText as spec;
 
 use crate::Trouble;
-use crate::walk::trouble_of;
 use crate::whole_file::{keep_name, put_whole, read_whole};
 use idtext::push_number;
 use reown_plan::PlanMark;
 use std::alloc::{AllocError, Global};
 
-// How it begins.
-const HEAD: &[u8] = b"unify applied 1 ";
+/// How it begins.
+pub const HEAD: &[u8] = b"unify applied 1 ";
 
 // The most bytes of it that are read.
 const MOST_BYTES: u64 = 4096;
@@ -102,19 +101,17 @@ impl<'w> MarkFile<'w> {
         MarkFile { rt, path }
     }
 
+    /// What stands in it, if it is there, whatever plan that is of.
+    pub fn text(&self) -> Result<Option<Vec<u8>>, Trouble> {
+        read_whole(self.rt, self.path.as_str(), MOST_BYTES, Trouble::NotMark)
+    }
+
     /// Whether it is there, and this plan's. A file that is no mark is refused; that of another
     /// plan is none of this one.
     pub fn is_there(&self, plan: &PlanMark) -> Result<bool, Trouble> {
-        match read_whole(self.rt, self.path.as_str(), MOST_BYTES) {
-            Ok(text) => read_mark(self.rt.alloc(), plan, &text),
-            Err(error) => {
-                let trouble = trouble_of(&error);
-                if trouble == Trouble::Gone {
-                    Ok(false)
-                } else {
-                    Err(trouble)
-                }
-            }
+        match self.text()? {
+            Some(text) => read_mark(self.rt.alloc(), plan, &text),
+            None => Ok(false),
         }
     }
 

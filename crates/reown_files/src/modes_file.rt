@@ -1,8 +1,9 @@
 //! The modes that a run of a plan may lose, as a file beside the mark. A change of its owner clears
 //! the set-user-ID and the set-group-ID bit of a file (chown(2)), and the next call sets them back:
-//! this is for a stop between the two.
+//! this is for a stop between the two. It is there, with or without modes, from before the first
+//! change until the mark is synced, so that a plan which was begun is known by it.
 ghost use Rattle.std.specs.Prelude.{◌≡◌, ◌<◌, ◌+◌, ◌++◌, ◌↔◌, Some, IfOk, IfSome, IsTrue, OnOk};
-ghost use Rattle.std.specs.Prelude.{IfErr, None, false, map};
+ghost use Rattle.std.specs.Prelude.{IfErr, None, Ok, Err, false, map};
 ghost use Rattle.std.specs.Option.{option_copied};
 ghost use Rattle.reown_files.specs.declared.answers.Trouble.TheVariants.{NotModes};
 ghost use Rattle.reown_files.specs.OneFile.{HasLost};
@@ -12,8 +13,8 @@ ghost use Rattle.reown_files.specs.MarkText as spec;
 ghost use Rattle.reown_files.specs.ModesNoted.{entry_of};
 
 use crate::Trouble;
-use crate::mark_file::push_plan;
-use crate::walk::{Found, Kind, SET_ID, done, trouble_of};
+use crate::mark_file::{HEAD as MARK_HEAD, MarkFile, push_plan};
+use crate::walk::{Found, Kind, SET_ID, done};
 use crate::whole_file::{keep_name, path_with, put_whole, read_whole};
 use idtext::{Character, Lines, first_character, push_escaped};
 use reown_plan::PlanMark;
@@ -203,6 +204,35 @@ fn lines_of<'t>(text: &'t [u8], head: &[u8]) -> Result<Option<&'t [u8]>, Trouble
     Ok(body.strip_prefix(head))
 }
 
+// Whether the text of a mark is that of the plan which this text of modes is of.
+fn has_ended(mark: &[u8], text: &[u8]) -> bool
+    ensures { result ≡ spec.has_ended mark.now text.now }
+{
+    let Some(plan) = mark.strip_prefix(MARK_HEAD) else {
+        return false;
+    };
+    let Some(rest) = text.strip_prefix(HEAD) else {
+        return false;
+    };
+    plan.ends_with(b"\n") && rest.starts_with(plan)
+}
+
+// The lines of files that the plan with this first line goes by, where the file of the mark has
+// this text. A plan that was begun is carried out to its end before another one is begun: where
+// another one has not ended, its modes are refused, and else they are none of this one's.
+fn judge<'t>(text: &'t [u8], head: &[u8], mark: &[u8]) -> Result<Option<&'t [u8]>, Trouble>
+    ensures lines { IfOk result
+        (λ lines. spec.modes_judged head.now mark.now text.now ≡ Ok (option_copied lines)) }
+    ensures refused { IfErr result
+        (λ trouble. spec.modes_judged head.now mark.now text.now ≡ Err trouble) }
+{
+    let lines = lines_of(text, head)?;
+    if lines.is_none() && !has_ended(mark, text) {
+        return Err(Trouble::OtherPlan);
+    }
+    Ok(lines)
+}
+
 // ---- the file
 
 /// The file of the modes that a run may lose, beside the mark.
@@ -213,6 +243,8 @@ pub struct ModesFile<'w> {
     // The plan that an earlier run of it wrote modes down for, and those.
     plan: Option<PlanMark>,
     noted: BTreeMap<Vec<u8>, u32>,
+    // Whether the mark of this run's plan was there, which has nothing to change then.
+    is_over: bool,
     // The lines of the files that this run may lose modes of.
     lines: Vec<u8>,
     is_put: bool,
@@ -226,6 +258,7 @@ impl<'w> ModesFile<'w> {
             path: path_with(rt, mark, MODES_BEHIND)?,
             plan: None,
             noted: BTreeMap::new(rt.alloc()),
+            is_over: false,
             lines: Vec::new(rt.alloc()),
             is_put: false,
         })
@@ -241,12 +274,18 @@ impl<'w> ModesFile<'w> {
     }
 
     // Reads a text that is there.
-    fn read_text(&mut self, plan: &PlanMark, text: &[u8], mark: bool) -> Result<(), Trouble> {
+    fn read_text(
+        &mut self,
+        plan: &PlanMark,
+        text: &[u8],
+        mark: &MarkFile<'_>,
+    ) -> Result<(), Trouble> {
         let head = head_of(self.rt.alloc(), plan)?;
-        let Some(lines) = lines_of(text, &head)? else {
+        let beside = mark.text()?.unwrap_or(Vec::new(self.rt.alloc()));
+        let Some(lines) = judge(text, &head, &beside)? else {
             return Ok(());
         };
-        if !mark {
+        if !self.is_over {
             let all = read_lines(self.rt.alloc(), lines)?;
             self.noted = tree_of(self.rt.alloc(), all)?;
             self.plan = Some(*plan);
@@ -255,19 +294,18 @@ impl<'w> ModesFile<'w> {
     }
 
     /// Reads what an earlier run of this plan wrote down, if one did; none is lost where its mark
-    /// is there. A file that is cut, or has no modes, is refused; that of another plan is none of
-    /// this one's.
-    pub fn read(&mut self, plan: &PlanMark, mark: bool) -> Result<(), Trouble> {
-        match read_whole(self.rt, self.path.as_str(), MOST_BYTES) {
-            Ok(text) => self.read_text(plan, &text, mark),
-            Err(error) => {
-                let trouble = trouble_of(&error);
-                if trouble == Trouble::Gone {
-                    Ok(())
-                } else {
-                    Err(trouble)
-                }
-            }
+    /// is there. A file that is cut, or has no modes, is refused, and so is that of another plan
+    /// which has not ended; that of one which has is none of this one's.
+    pub fn read(
+        &mut self,
+        plan: &PlanMark,
+        is_marked: bool,
+        mark: &MarkFile<'_>,
+    ) -> Result<(), Trouble> {
+        self.is_over = is_marked;
+        match read_whole(self.rt, self.path.as_str(), MOST_BYTES, Trouble::NotModes)? {
+            Some(text) => self.read_text(plan, &text, mark),
+            None => Ok(()),
         }
     }
 
@@ -287,10 +325,10 @@ impl<'w> ModesFile<'w> {
         }
     }
 
-    /// Puts there what this run of the plan may lose, whole and synced, or nothing where it may
-    /// lose none.
+    /// Puts there what this run of the plan may lose, be it nothing, whole and synced. Where its
+    /// mark was there the file is removed.
     pub fn put(&mut self, plan: &PlanMark) -> Result<(), Trouble> {
-        if self.lines.is_empty() {
+        if self.is_over {
             return self.remove();
         }
         let text = modes_text(self.rt.alloc(), plan, &self.lines)?;

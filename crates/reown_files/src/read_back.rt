@@ -1,6 +1,7 @@
 //! Laws over what this crate writes and reads. Each is the contract of a function that does
 //! nothing.
 ghost use Rattle.reown_files.specs.Laws.{MarksAreReadBack, ModesAreReadBack, ModesAreOfOnePlan};
+ghost use Rattle.reown_files.specs.Laws.{MarksEndOnePlan};
 
 /// The mark that is written for a plan is read as the mark of that plan, and as that of no plan
 /// that differs from it in its host, its length or its digest.
@@ -9,8 +10,10 @@ pub fn marks_are_read_back()
 {}
 
 /// The modes that a run writes down are read back by the next one of the same plan, and by none of
-/// another, each with its file and in their order.
+/// another, each with its file and in their order; and by the mark of that plan, and of no other,
+/// they are known to be of a plan that has ended.
 pub fn modes_are_read_back()
     ensures plan { ModesAreOfOnePlan }
+    ensures ended { MarksEndOnePlan }
     ensures entries { ModesAreReadBack }
 {}

@@ -1,15 +1,14 @@
 //! A tree of real files, held against what the run of its plan must have made of it.
-ghost use Rattle.std.specs.Prelude.{◌≡◌, ◌+◌, ◌^◌, ◌<◌, ◌≤◌, [], ◌∷◌, true, false, Some, None};
-ghost use Rattle.std.specs.Prelude.{IfOk, IfErr, OnOk, OnErr, IsSome, is_ok, map, length};
-ghost use Rattle.std.specs.Prelude.{if◌then◌else◌};
+ghost use Rattle.std.specs.Prelude.{◌≡◌, ◌+◌, ◌^◌, ◌<◌, ◌≤◌, [], ◌∷◌, true, false, None};
+ghost use Rattle.std.specs.Prelude.{IfOk, IfErr, OnOk, OnErr, IsSome, is_ok};
 
+use crate::comparing::{check_mark, check_owner};
 use crate::giving::{give_file, has_change, sync_all};
-use crate::looking::{check_all_links, look_at_all};
-use crate::restoring::begin;
+use crate::opening::begun_tree;
 use crate::{Disk, OpenFault, Stop, Trouble};
 use reown_plan::{Owner, Plan, PlanMark, Record};
 use reown_runner::{DeviceFault, MemTree, Tree};
-use std::alloc::{AllocError, Global};
+use std::alloc::Global;
 use std::marker::Model;
 
 /// The files of a plan on a disk, held against what the run of the plan must have made of them: a
@@ -52,6 +51,7 @@ impl<'p, 'a, D: Disk> Model for RealTree<'p, 'a, D> {
       is_kept = r.is_kept;
       is_stopped = r.is_stopped;
       faults = r.faults;
+      stop = r.stop;
       asked = r.asked;
       calls = D.calls r.disk;
     } };
@@ -64,109 +64,19 @@ impl<'p, 'a, D: Disk> Model for RealTree<'p, 'a, D> {
         × (r.is_stopped ≡ false → no_mode_failed (D.calls r.disk) ≡ true) };
 }
 
-ghost use Rattle.reown_files.specs.Lawful.{is_begun, is_lawful, is_planned, is_unchanged};
-ghost use Rattle.reown_files.specs.Lawful.{is_mark_kept, no_mode_failed};
+ghost use Rattle.reown_files.specs.Lawful.{is_lawful, is_mark_kept, is_planned, is_unchanged};
 ghost use Rattle.reown_files.specs.Calls.{Saw, SawMark};
 ghost use Rattle.reown_files.specs.Opening.{IsRefusal};
 ghost use Rattle.reown_files.specs.Replay.{replay};
-ghost use Rattle.reown_files.specs.Real.{RealData, IsReplay, HoldsReplay, known_real};
-ghost use Rattle.reown_files.specs.Real.{readable_real};
-ghost use Rattle.reown_files.specs.Real.{Grows, IsLater, later_rests, later_goes_on};
+ghost use Rattle.reown_files.specs.Real.{RealData, HoldsReplay, known_real, readable_real};
+ghost use Rattle.reown_files.specs.Real.{Grows, IsLater, later_rests, later_goes_on, place_of};
+ghost use Rattle.reown_files.specs.Real.{StopsAt, StopsSync, AsksMore, KeepsMore, GivesMore};
+ghost use Rattle.reown_files.specs.Real.{PutsMore};
 ghost use Rattle.reown_runner.specs.Memory.{known_mem, marked, settled};
-ghost use Rattle.reown_runner.specs.Halfway.{AreHalfway, MayGoOn, mem_of_records};
-ghost use Rattle.reown_plan.specs.PlanData.{HaveDistinctPaths};
-ghost use Rattle.reown_plan.specs.Records.{record_of};
+ghost use Rattle.reown_runner.specs.Halfway.{MayGoOn};
 ghost use Rattle.reown_plan.specs.Mark.{mark_of, mark_eq, is_marked_for};
 ghost use Rattle.reown_runner.specs.Tree.{cells_of, ForEachPlan, counted, Same, Writes, SetsMark};
 ghost use Rattle.reown_runner.specs.Tree.{Syncs, Stops, MayDo, Write, SetMark, Sync, IsCounted};
-
-// The files of records at these owners, marked for the plan or for none.
-fn held_tree(
-    alloc: Global,
-    records: &[Record],
-    owners: &[Owner],
-    is_marked: bool,
-    mark: PlanMark,
-) -> Result<MemTree, AllocError>
-    requires distinct { HaveDistinctPaths (map record_of records.now) }
-    requires as_many { length owners.now ≡ length records.now }
-    requires halfway { AreHalfway (map record_of records.now) owners.now is_marked }
-    ensures paths { IfOk result
-        (λ held. held.paths ≡ map (λ r. r.path) (map record_of records.now)) }
-    ensures starts { IfOk result (λ held. held ≡ mem_of_records
-        (map record_of records.now) owners.now (if is_marked then Some mark else None)) }
-    ensures safe { IfOk result
-        (λ held. MayGoOn (map record_of records.now) (cells_of mark (known_mem held))) }
-{
-    if is_marked {
-        MemTree::of_records(alloc, records, owners, Some(mark))
-    } else {
-        MemTree::of_records(alloc, records, owners, None)
-    }
-}
-
-// The files of a plan on a disk, as an earlier run of it may have left them, or none, with the
-// modes set back that such a run lost.
-fn begun_tree<D: Disk>(
-    alloc: Global,
-    disk: &mut D,
-    plan: &PlanMark,
-    records: &[Record],
-) -> Result<MemTree, OpenFault>
-    requires distinct { HaveDistinctPaths (map record_of records.now) }
-    requires fresh { D.calls disk.old ≡ [] }
-    ensures paths { IfOk result
-        (λ held. held.paths ≡ map (λ r. r.path) (map record_of records.now)) }
-    ensures safe { IfOk result
-        (λ held. MayGoOn (map record_of records.now) (cells_of plan.now (known_mem held))) }
-    ensures replayed { IfOk result (IsReplay (D.calls disk.new)) }
-    ensures begun { OnOk result (is_begun (map record_of records.now) (D.calls disk.new) ≡ true) }
-    ensures modes { OnOk result (no_mode_failed (D.calls disk.new) ≡ true) }
-    ensures unchanged { is_unchanged (D.calls disk.new) ≡ true }
-    ensures lawful { is_lawful plan.now (map record_of records.now) (D.calls disk.new) ≡ true }
-    ensures refused { IfErr result (IsRefusal
-        (is_marked_for plan.now (replay (D.calls disk.new)).mark)
-        (map record_of records.now) (D.calls disk.new)) }
-{
-    let is_marked = match disk.meet_mark(plan) {
-        Ok(is_marked) => is_marked,
-        Err(trouble) => return Err(OpenFault::Disk(trouble)),
-    };
-    let owners = match look_at_all(alloc, disk, records, is_marked) {
-        Ok(owners) => owners,
-        Err(fault) => return Err(fault),
-    };
-    if let Err(fault) = check_all_links(disk, records) {
-        return Err(fault);
-    }
-    if let Err(fault) = begin(disk, plan, records, is_marked) {
-        return Err(fault);
-    }
-    match held_tree(alloc, records, &owners, is_marked, *plan) {
-        Ok(held) => Ok(held),
-        Err(_) => Err(OpenFault::Memory),
-    }
-}
-
-// The owner that was found is the one that is held.
-fn check_owner(found: Option<Owner>, held: Option<Owner>) -> Result<(), Trouble>
-    ensures { OnOk result (found ≡ held) }
-{
-    if found == held {
-        return Ok(());
-    }
-    Err(found.map_or(Trouble::Gone, |owner| Trouble::Foreign(owner)))
-}
-
-// The same of the mark.
-fn check_mark(set: bool, held: bool) -> Result<(), Trouble>
-    ensures { OnOk result (set ≡ held) }
-{
-    if set == held {
-        return Ok(());
-    }
-    Err(Trouble::NotDone)
-}
 
 impl<'p, 'a, D: Disk> RealTree<'p, 'a, D> {
     /// Opens the files of a plan on a disk, as an earlier run of the plan may have left them, or
@@ -176,18 +86,19 @@ impl<'p, 'a, D: Disk> RealTree<'p, 'a, D> {
     ///
     /// # Errors
     ///
-    /// The first record, in order, whose file is not there, or has neither its old nor its new
-    /// owner, or its old one where the mark is set; then the first whose file has a name that is
-    /// not in the plan; modes of an earlier run that cannot be read; a call of the disk that
-    /// failed; or want of memory. Nothing is changed then but modes that were set back, and the
-    /// disk is handed back.
+    /// Modes of an earlier run that cannot be read, or another plan that has not ended; then the
+    /// first record, in order, whose file is not there, or has neither its old nor its new owner,
+    /// or its old one where the mark is set; then the first whose file has a name that is not in
+    /// the plan; a call of the disk that failed; or want of memory. Nothing is changed then but
+    /// modes that were set back, and the disk is handed back.
     pub fn open(alloc: Global, plan: &'p Plan<'a>, mut disk: D) -> Result<Self, Refused<D>>
         requires { D.calls disk ≡ [] }
         ensures mark { IfOk result (λ tree. tree.mark ≡ mark_of plan.now) }
         ensures records { IfOk result (λ tree. tree.records ≡ plan.now.records) }
         ensures safe { IfOk result
             (λ tree. MayGoOn plan.now.records (cells_of (mark_of plan.now) (known_real tree))) }
-        ensures none_failed { IfOk result (λ tree. (tree.faults ≡ 0) × (tree.asked ≡ 0)) }
+        ensures none_failed { IfOk result
+            (λ tree. (tree.faults ≡ 0) × (tree.stop ≡ None) × (tree.asked ≡ 0)) }
         ensures unchanged { IfErr result (λ refused. is_unchanged (D.calls refused.disk) ≡ true) }
         ensures lawful { IfErr result (λ refused.
             is_lawful (mark_of plan.now) plan.now.records (D.calls refused.disk) ≡ true) }
@@ -223,8 +134,10 @@ impl<'p, 'a, D: Disk> RealTree<'p, 'a, D> {
         let _kept = self.is_kept;
     }
 
-    /// Where the last call failed and why, as far as the disk told. Constant time.
-    pub fn stop(&self) -> Option<Stop> {
+    /// Where a call has failed last, and why, as far as the disk told. Constant time.
+    pub fn stop(&self) -> Option<Stop>
+        ensures { result ≡ self.now.stop }
+    {
         self.stop
     }
 
@@ -309,8 +222,9 @@ impl<'p, 'a, D: Disk> RealTree<'p, 'a, D> {
 // What is asked of the disk. Each answers whether that was done, and found as it must be.
 impl<'p, 'a, D: Disk> RealTree<'p, 'a, D> {
     fn note(&mut self, place: Option<usize>, told: Result<(), Trouble>) -> bool
-        ensures same { self.new ≡ self.old }
+        ensures rest { self.new ≡ record self.old { stop = self.new.stop } }
         ensures told { result ≡ is_ok told }
+        ensures stop { result ≡ false → StopsAt place self.new.stop }
     {
         match told {
             Ok(()) => true,
@@ -326,22 +240,20 @@ impl<'p, 'a, D: Disk> RealTree<'p, 'a, D> {
         ensures rest { self.new ≡ record self.old { calls = self.new.calls } }
         ensures grows { Grows self.old.calls self.new.calls }
     {
-        let found = match self.disk.owner(path) {
-            Ok(found) => found,
-            Err(trouble) => return Err(trouble),
-        };
+        if self.is_stopped {
+            return Err(Trouble::NotDone);
+        }
+        let found = self.disk.owner(path)?;
         check_owner(found, held)
     }
 
     // The disk has this owner, or none, for the file.
     fn sees(&mut self, path: &[u8], held: Option<Owner>) -> bool
         ensures saw { result ≡ true → self.new.calls ≡ Saw path.now held ∷ self.old.calls }
-        ensures rest { self.new ≡ record self.old { calls = self.new.calls } }
+        ensures stop { result ≡ false → StopsAt (place_of self.old.records path.now) self.new.stop }
+        ensures rest { AsksMore self.old self.new }
         ensures grows { Grows self.old.calls self.new.calls }
     {
-        if self.is_stopped {
-            return false;
-        }
         let told = self.compare_owner(path, held);
         let place = self.held.index_of(path);
         self.note(place, told)
@@ -367,12 +279,7 @@ impl<'p, 'a, D: Disk> RealTree<'p, 'a, D> {
             (known_mem self.old.tree) (known_mem self.new.tree)) }
         ensures failed { OnErr result (ForEachPlan (MayDo (Write path.now after))
             (known_mem self.old.tree) (known_mem self.new.tree)) }
-        ensures rest { self.new ≡ record self.old {
-          tree = self.new.tree;
-          is_kept = self.new.is_kept;
-          is_stopped = self.new.is_stopped;
-          calls = self.new.calls;
-        } }
+        ensures rest { GivesMore self.old self.new }
         ensures grows { Grows self.old.calls self.new.calls }
     {
         self.is_kept = false;
@@ -391,12 +298,7 @@ impl<'p, 'a, D: Disk> RealTree<'p, 'a, D> {
             (known_mem self.old.tree) (known_mem self.new.tree)) }
         ensures failed { OnErr result (ForEachPlan (MayDo (Write path.now after))
             (known_mem self.old.tree) (known_mem self.new.tree)) }
-        ensures rest { self.new ≡ record self.old {
-          tree = self.new.tree;
-          is_kept = self.new.is_kept;
-          is_stopped = self.new.is_stopped;
-          calls = self.new.calls;
-        } }
+        ensures rest { GivesMore self.old self.new }
         ensures grows { Grows self.old.calls self.new.calls }
     {
         let Some(before) = before else {
@@ -417,12 +319,8 @@ impl<'p, 'a, D: Disk> RealTree<'p, 'a, D> {
             (known_mem self.old.tree) (known_mem self.new.tree) }
         ensures failed { result ≡ false → ForEachPlan (MayDo (Write path.now after))
             (known_mem self.old.tree) (known_mem self.new.tree) }
-        ensures rest { self.new ≡ record self.old {
-          tree = self.new.tree;
-          is_kept = self.new.is_kept;
-          is_stopped = self.new.is_stopped;
-          calls = self.new.calls;
-        } }
+        ensures stop { result ≡ false → StopsAt (place_of self.old.records path.now) self.new.stop }
+        ensures rest { GivesMore self.old self.new }
         ensures grows { Grows self.old.calls self.new.calls }
     {
         let told = self.give(path, before, after);
@@ -434,27 +332,30 @@ impl<'p, 'a, D: Disk> RealTree<'p, 'a, D> {
     // it is held.
     fn keeps(&mut self, mark: bool) -> bool
         ensures kept { result ≡ true → mark ≡ true → is_mark_kept self.new.calls ≡ true }
-        ensures rest { self.new
-            ≡ record self.old { is_kept = self.new.is_kept; calls = self.new.calls } }
+        ensures stop { result ≡ false
+            → StopsSync self.old.records self.new.calls self.new.stop }
+        ensures rest { KeepsMore self.old self.new }
         ensures grows { Grows self.old.calls self.new.calls }
     {
         self.keeps_files() && self.keeps_mark(mark)
     }
 
     fn keeps_files(&mut self) -> bool
-        ensures rest { self.new
-            ≡ record self.old { is_kept = self.new.is_kept; calls = self.new.calls } }
+        ensures stop { result ≡ false
+            → StopsSync self.old.records self.new.calls self.new.stop }
+        ensures rest { KeepsMore self.old self.new }
         ensures grows { Grows self.old.calls self.new.calls }
     {
         if self.is_stopped {
-            return false;
+            return self.note(None, Err(Trouble::NotDone));
         }
         self.is_kept || self.keeps_each()
     }
 
     fn keeps_each(&mut self) -> bool
-        ensures rest { self.new
-            ≡ record self.old { is_kept = self.new.is_kept; calls = self.new.calls } }
+        ensures stop { result ≡ false
+            → StopsSync self.old.records self.new.calls self.new.stop }
+        ensures rest { KeepsMore self.old self.new }
         ensures grows { Grows self.old.calls self.new.calls }
     {
         self.is_kept = false;
@@ -475,22 +376,20 @@ impl<'p, 'a, D: Disk> RealTree<'p, 'a, D> {
         ensures rest { self.new ≡ record self.old { calls = self.new.calls } }
         ensures grows { Grows self.old.calls self.new.calls }
     {
-        let set = match self.disk.is_marked(plan) {
-            Ok(set) => set,
-            Err(trouble) => return Err(trouble),
-        };
+        if self.is_stopped {
+            return Err(Trouble::NotDone);
+        }
+        let set = self.disk.is_marked(plan)?;
         check_mark(set, held)
     }
 
     // The disk has the mark of the plan, or does not have it.
     fn sees_mark(&mut self, plan: &PlanMark, held: bool) -> bool
         ensures saw { result ≡ true → self.new.calls ≡ SawMark plan.now held ∷ self.old.calls }
-        ensures rest { self.new ≡ record self.old { calls = self.new.calls } }
+        ensures stop { result ≡ false → StopsAt None self.new.stop }
+        ensures rest { AsksMore self.old self.new }
         ensures grows { Grows self.old.calls self.new.calls }
     {
-        if self.is_stopped {
-            return false;
-        }
         let told = self.compare_mark(plan, held);
         self.note(None, told)
     }
@@ -535,7 +434,8 @@ impl<'p, 'a, D: Disk> RealTree<'p, 'a, D> {
             (cells_of plan.now (known_mem self.old.tree))
             (cells_of plan.now (known_mem self.new.tree)) }
         ensures failed { result ≡ false → self.new.tree ≡ self.old.tree }
-        ensures rest { self.new ≡ record self.old { tree = self.new.tree; calls = self.new.calls } }
+        ensures stop { result ≡ false → StopsAt None self.new.stop }
+        ensures rest { PutsMore self.old self.new }
         ensures grows { Grows self.old.calls self.new.calls }
     {
         let told = self.put_mark(plan);
@@ -544,7 +444,8 @@ impl<'p, 'a, D: Disk> RealTree<'p, 'a, D> {
 
     fn keeps_mark(&mut self, held: bool) -> bool
         ensures kept { result ≡ true → held ≡ true → is_mark_kept self.new.calls ≡ true }
-        ensures rest { self.new ≡ record self.old { calls = self.new.calls } }
+        ensures stop { result ≡ false → StopsAt None self.new.stop }
+        ensures rest { AsksMore self.old self.new }
         ensures grows { Grows self.old.calls self.new.calls }
     {
         if !held {
@@ -568,6 +469,8 @@ impl<'p, 'a, D: Disk> Tree for RealTree<'p, 'a, D> {
         ensures faults { IsCounted
             (known_real self.old).faults (known_real self.new).faults result }
         ensures asked { (known_real self.new).asked ≡ (known_real self.old).asked }
+        ensures stop { OnErr result
+            (StopsAt (place_of self.old.records path.now) self.new.stop) }
         ensures later { IsLater self.old self.new }
     {
         let held = self.held_owner(path);
@@ -589,6 +492,8 @@ impl<'p, 'a, D: Disk> Tree for RealTree<'p, 'a, D> {
         ensures faults { IsCounted
             (known_real self.old).faults (known_real self.new).faults result }
         ensures asked { (known_real self.new).asked ≡ counted (known_real self.old).asked }
+        ensures stop { OnErr result
+            (StopsAt (place_of self.old.records path.now) self.new.stop) }
         ensures later { IsLater self.old self.new }
     {
         self.count();
@@ -612,6 +517,7 @@ impl<'p, 'a, D: Disk> Tree for RealTree<'p, 'a, D> {
         ensures faults { IsCounted
             (known_real self.old).faults (known_real self.new).faults result }
         ensures asked { (known_real self.new).asked ≡ (known_real self.old).asked }
+        ensures stop { OnErr result (StopsAt None self.new.stop) }
         ensures later { IsLater self.old self.new }
     {
         let held = self.held_mark(plan);
@@ -634,6 +540,7 @@ impl<'p, 'a, D: Disk> Tree for RealTree<'p, 'a, D> {
         ensures faults { IsCounted
             (known_real self.old).faults (known_real self.new).faults result }
         ensures asked { (known_real self.new).asked ≡ counted (known_real self.old).asked }
+        ensures stop { OnErr result (StopsAt None self.new.stop) }
         ensures later { IsLater self.old self.new }
     {
         self.count();
@@ -657,13 +564,14 @@ impl<'p, 'a, D: Disk> Tree for RealTree<'p, 'a, D> {
         ensures faults { IsCounted
             (known_real self.old).faults (known_real self.new).faults result }
         ensures asked { (known_real self.new).asked ≡ counted (known_real self.old).asked }
+        ensures stop { OnErr result
+            (StopsSync self.old.records self.new.calls self.new.stop) }
         ensures later { IsLater self.old self.new }
     {
         self.count();
         let plan = self.mark;
         let held = self.held_mark(&plan);
-        let is_kept = self.keeps(held);
-        if !is_kept && self.may_fail() {
+        if !self.keeps(held) && self.may_fail() {
             return Err(self.fail());
         }
         self.settle();

@@ -2,7 +2,6 @@
 //! those that this one may lose are written down.
 ghost use Rattle.std.specs.Prelude.{◌≡◌, ◌∷◌, ◌++◌, [], true, List, map, IfErr, OnOk};
 ghost use Rattle.std.specs.List.{list_any};
-ghost use Rattle.reown_plan.specs.Mark.{is_marked_for};
 ghost use Rattle.reown_plan.specs.PlanData.{PlanRecord};
 ghost use Rattle.reown_plan.specs.Records.{record_of};
 ghost use Rattle.reown_files.specs.Lawful.{is_given, is_unchanged, all_asked, is_begun, is_lawful};
@@ -72,16 +71,11 @@ fn set_all_back<D: Disk>(disk: &mut D, plan: &PlanMark, records: &[Record]) -> R
     Ok(())
 }
 
-/// Sets back each mode that an earlier run of the plan had lost, if its mark is not there yet, sees
-/// to it that a stop of the machine leaves this and all else that such a run did, and then writes
-/// down the modes that this one may lose.
-pub fn begin<D: Disk>(
-    disk: &mut D,
-    plan: &PlanMark,
-    records: &[Record],
-    mark: bool,
-) -> Result<(), OpenFault>
-    requires marked { mark ≡ is_marked_for plan.now (replay (D.calls disk.old)).mark }
+/// Sets back each mode that an earlier run of the plan had lost, as it wrote them down, sees to it
+/// that a stop of the machine leaves this and all else that such a run did, and then writes down
+/// the modes that this one may lose.
+pub fn begin<D: Disk>(disk: &mut D, plan: &PlanMark, records: &[Record]) -> Result<(), OpenFault>
+    requires read { were_read plan.now (D.calls disk.old) ≡ true }
     requires checked { all_checked (map record_of records.now) (D.calls disk.old) ≡ true }
     requires unchanged { is_unchanged (D.calls disk.old) ≡ true }
     requires lawful { is_lawful plan.now (map record_of records.now) (D.calls disk.old) ≡ true }
@@ -93,12 +87,7 @@ pub fn begin<D: Disk>(
     ensures lawful { is_lawful plan.now (map record_of records.now) (D.calls disk.new) ≡ true }
     ensures replayed { replay (D.calls disk.new) ≡ replay (D.calls disk.old) }
 {
-    if let Err(trouble) = disk.read_modes(plan, mark) {
-        return Err(OpenFault::Modes(trouble));
-    }
-    if let Err(fault) = set_all_back(disk, plan, records) {
-        return Err(fault);
-    }
+    set_all_back(disk, plan, records)?;
     if let Err(trouble) = disk.settle() {
         return Err(OpenFault::Disk(trouble));
     }

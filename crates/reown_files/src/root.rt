@@ -36,7 +36,7 @@ struct Below<'w> {
 }
 
 // Whether a file may have several names that are given.
-fn has_names(found: &Found) -> bool
+fn has_several_names(found: &Found) -> bool
     ensures { IsTrue result ↔ ((found.now.kind ≢ kinds.Directory) × (1 < found.now.links)) }
 {
     found.kind != Kind::Directory && found.links > 1
@@ -83,7 +83,7 @@ impl<'w> Below<'w> {
 
     // Counts a name of a file that has several.
     fn count_name(&mut self, path: &[u8], found: &Found, after: Owner) -> Result<(), Trouble> {
-        if !has_names(found) {
+        if !has_several_names(found) {
             return Ok(());
         }
         if self.linked.insert(path.to_vec(self.rt.alloc())?).is_err() {
@@ -109,7 +109,7 @@ impl<'w> Below<'w> {
     // A file with several names is given its owner once, with the last of them: until then none of
     // them has it.
     fn waits_for_names(&mut self, found: &Found) -> bool {
-        if !has_names(found) {
+        if !has_several_names(found) {
             return false;
         }
         match self.names.get_mut(&(found.device, found.inode)) {
@@ -299,7 +299,7 @@ fn seen_in(found: &Found) -> Seen {
     Seen {
         owner: found.owner,
         has_set_id: has_set_id(found),
-        has_names: has_names(found),
+        has_several_names: has_several_names(found),
     }
 }
 
@@ -404,7 +404,7 @@ impl<'w> Disk for Root<'w> {
     }
 
     fn read_modes(&mut self, plan: &PlanMark, mark: bool) -> Result<(), Trouble> {
-        let told = self.modes.read(plan, mark);
+        let told = self.modes.read(plan, mark, &self.mark);
         self.log.note(&Call::ReadModes(plan, mark, told.is_ok()));
         told
     }

@@ -1,7 +1,7 @@
 //! Files that are there whole or not at all.
 
 use crate::Trouble;
-use crate::walk::{Directory, done};
+use crate::walk::{Directory, done, trouble_of};
 use std::fs::File;
 use std::io::{Read, Write};
 use std::path::Path;
@@ -10,12 +10,43 @@ use std::{fs, io};
 // What is behind its name while it is written.
 const NEW: &str = ".new";
 
-/// The bytes of a file, or as many of them as this.
-pub fn read_whole(rt: &HostRuntime, path: &str, most: u64) -> io::Result<Vec<u8>> {
+// The bytes of a file that is there, or as many of them as this.
+fn read(rt: &HostRuntime, path: &str, most: u64) -> io::Result<Vec<u8>> {
     let file = File::open(rt, path)?;
     let mut bytes = Vec::new(rt.alloc());
     file.take(most).read_to_end(&mut bytes)?;
     Ok(bytes)
+}
+
+// Whether a path leads to a regular file.
+fn is_regular(rt: &HostRuntime, path: &str) -> io::Result<bool> {
+    Ok(fs::metadata(rt, path)?.is_file())
+}
+
+// What an answer tells of a file that may not be there.
+fn if_found<T: Drop>(answer: io::Result<T>) -> Result<Option<T>, Trouble> {
+    match answer {
+        Ok(found) => Ok(Some(found)),
+        Err(error) => match trouble_of(&error) {
+            Trouble::Gone => Ok(None),
+            trouble => Err(trouble),
+        },
+    }
+}
+
+/// The bytes of a regular file, or as many of them as this, if it is there. What is none, as a pipe
+/// that would make the opening wait, is not opened but refused with this.
+pub fn read_whole(
+    rt: &HostRuntime,
+    path: &str,
+    most: u64,
+    refused: Trouble,
+) -> Result<Option<Vec<u8>>, Trouble> {
+    match if_found(is_regular(rt, path))? {
+        Some(true) => if_found(read(rt, path, most)),
+        Some(false) => Err(refused),
+        None => Ok(None),
+    }
 }
 
 // Writes a new file, synced.

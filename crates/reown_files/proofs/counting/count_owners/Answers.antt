@@ -5,7 +5,7 @@ use Rattle.reown_plan.specs.PlanData.{PlanRecord}
 use Rattle.reown_plan.specs.Records.{record_of}
 use Rattle.reown_files.specs.Calls.{Looked}
 use Rattle.reown_files.specs.declared.counting.OwnerCounts.{OwnerCounts}
-use Rattle.reown_files.specs.Counting.{Look, has_set_id, has_names, files_of, with_one}
+use Rattle.reown_files.specs.Counting.{Look, has_set_id, has_several_names, files_of, with_one}
 use Rattle.reown_files.proofs.Laws.{nothing}
 use Rattle.reown_files.proofs.Countings.{each_once, one_more_counted, one_more_call}
 use Rattle.reown_files.proofs.counting.count_owners.Goals as goal
@@ -40,7 +40,7 @@ count-requires g c =
     record {
       room = omega (arith, below, many, files);
       set_id = omega (arith, below, many, ap (λ (k : OwnerCounts). k.set_id) c.loop-i.invariant.3, count_by-le-length has_set_id looks);
-      linked = omega (arith, below, many, ap (λ (k : OwnerCounts). k.linked) c.loop-i.invariant.3, count_by-le-length has_names looks);
+      linked = omega (arith, below, many, ap (λ (k : OwnerCounts). k.linked) c.loop-i.invariant.3, count_by-le-length has_several_names looks);
     }
 
 pub returns-in-Err-clause-refused : goal.returns-in-Err-clause-refused

@@ -1,7 +1,9 @@
-use Rattle.std.proofs.Common.{◌≡◌, ◌∙◌, [], ◌∷◌, ◌<◌, map, length, refl, sym, ap, subst, arith}
+use Rattle.std.proofs.Common.{◌≡◌, ◌∙◌, [], ◌∷◌, ◌<◌, Bool, get_or, map, length, refl, sym, ap, subst, arith}
 use Rattle.reown_plan.specs.PlanData.{PlanRecord}
 use Rattle.std.specs.Result.{is_ok}
 use Rattle.std.proofs.lemmas.List.{get_or-map, length-map}
+use Rattle.std.specs.Option.{option_map}
+use Rattle.reown_runner.proofs.Lists.{slice_get-map, slice_get-read}
 use Rattle.reown_plan.specs.Records.{record_of}
 use Rattle.reown_files.specs.Calls.{Kept}
 use Rattle.reown_files.specs.Lawful.{is_begun, is_lawful, no_mode_failed}
@@ -42,3 +44,12 @@ returns-in-Err-clause-grows g c = one_more_call (g.D.Disk.calls c.args.disk.now)
 
 pub loop-i-init : goal.loop-i-init
 loop-i-init g c = record { kept = refl; modes = refl; lawful = λ mark plan h. h; begun = λ plan h. h; replayed = refl; grows = ([], refl) }
+
+pub returns-in-Err-clause-stop : goal.returns-in-Err-clause-stop
+returns-in-Err-clause-stop g c =
+    let rs = c.args.records.now in
+    let i = c.loop-i.i in
+    let below : i < length rs = omega arith in
+    let old = g.D.Disk.calls c.loop-i.disk in
+    let r = record_of (get_or rs i _) in
+    (r, slice_get-map record_of rs i ∙ ap (option_map record_of) (slice_get-read rs i _ below), (old, c.keep.ensures ∙ ap (λ (b : Bool). Kept r.path r.after b ∷ old) (ap is_ok c.in-Err.is)))

@@ -1,10 +1,10 @@
 use Rattle.reown_files.proofs.Laws.{one_more_call}
 use Rattle.reown_files.proofs.giving.sync_all.Goals as goal
 
-pub returns-in-Ok-settle-clause-grows : goal.returns-in-Ok-settle-clause-grows
-returns-in-Ok-settle-clause-grows g c =
+pub returns-in-Ok-clause-grows : goal.returns-in-Ok-clause-grows
+returns-in-Ok-clause-grows g c =
     one_more_call (g.D.Disk.calls c.args.disk.now) (g.D.Disk.calls c.keep_all.new.disk) (g.D.Disk.calls c.settle.new.self) _ c.keep_all.ensures.grows c.settle.ensures
 
-pub returns-in-Err-settle-clause-grows : goal.returns-in-Err-settle-clause-grows
-returns-in-Err-settle-clause-grows g c =
+pub returns-in-Err-clause-grows : goal.returns-in-Err-clause-grows
+returns-in-Err-clause-grows g c =
     one_more_call (g.D.Disk.calls c.args.disk.now) (g.D.Disk.calls c.keep_all.new.disk) (g.D.Disk.calls c.settle.new.self) _ c.keep_all.ensures.grows c.settle.ensures

@@ -4,7 +4,7 @@ use Rattle.std.proofs.lemmas.List.{get_or-map, length-map}
 use Rattle.reown_plan.specs.PlanData.{PlanRecord}
 use Rattle.reown_plan.specs.Records.{record_of}
 use Rattle.reown_files.specs.Calls.{CheckedLinks}
-use Rattle.reown_files.specs.Lawful.{is_unchanged, is_lawful, no_mode_failed}
+use Rattle.reown_files.specs.Lawful.{is_unchanged, is_lawful, no_mode_failed, were_read}
 use Rattle.reown_files.specs.Replay.{replay}
 use Rattle.reown_files.proofs.Laws.{nothing, checks_on}
 use Rattle.reown_files.proofs.looking.check_all_links.Goals as goal
@@ -21,5 +21,6 @@ loop-i-preserved g c =
       modes = ap no_mode_failed c.check_links.ensures ∙ c.loop-i.invariant.modes;
       unchanged = ap is_unchanged c.check_links.ensures ∙ c.loop-i.invariant.unchanged;
       lawful = λ mark plan. ap (is_lawful mark plan) c.check_links.ensures ∙ c.loop-i.invariant.lawful mark plan;
+      read = λ mark. ap (were_read mark) c.check_links.ensures ∙ c.loop-i.invariant.read mark;
       replayed = ap replay c.check_links.ensures ∙ c.loop-i.invariant.replayed;
     }

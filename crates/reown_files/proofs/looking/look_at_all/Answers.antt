@@ -1,5 +1,5 @@
 use Rattle.std.proofs.Common.{◌≡◌, ℕ, Option, inr, ◌∙◌, ◌+◌, ◌<◌, List, [], ◌∷◌, Some, get_or, sym, ap, subst, arith, map, take, length}
-use Rattle.std.proofs.lemmas.List.{length-append, get_or-map, length-map}
+use Rattle.std.proofs.lemmas.List.{length-append, get_or-map, get_or-take, length-map, length-take-le}
 use Rattle.reown_plan.specs.PlanData.{PlanRecord}
 use Rattle.reown_plan.specs.Records.{record_of}
 use Rattle.reown_plan.specs.declared.plan.Owner.{Owner}
@@ -7,7 +7,7 @@ use Rattle.reown_runner.specs.Halfway.{IsHalfway}
 use Rattle.reown_files.specs.Calls.{Called, Met}
 use Rattle.std.specs.Option.{option_map}
 use Rattle.reown_runner.proofs.Lists.{slice_get-map, slice_get-read}
-use Rattle.reown_files.specs.Lawful.{is_unchanged, is_lawful, no_mode_failed}
+use Rattle.reown_files.specs.Lawful.{is_unchanged, is_lawful, no_mode_failed, were_read}
 use Rattle.reown_files.specs.Replay.{replay, with_owner, found_of}
 use Rattle.reown_files.proofs.Halves.{AreHalfwayTo, one_more_half}
 use Rattle.reown_files.proofs.Laws.{nothing}
@@ -42,6 +42,7 @@ loop-i-preserved g c =
       modes = ap no_mode_failed met ∙ c.loop-i.invariant.modes;
       unchanged = λ h. ap is_unchanged met ∙ c.loop-i.invariant.unchanged h;
       lawful = λ mark plan h. ap (is_lawful mark plan) met ∙ c.loop-i.invariant.lawful mark plan h;
+      read = λ mark h. ap (were_read mark) met ∙ c.loop-i.invariant.read mark h;
     }
 
 pub returns-in-Err-check_left-clause-refused : goal.returns-in-Err-check_left-clause-refused
@@ -57,4 +58,9 @@ returns-in-Err-check_left-clause-refused g c =
       here = slice_get-map record_of rs i ∙ ap (option_map record_of) (slice_get-read rs i _ below);
       last = c.in-Ok-meet.ensures.met;
       unfit = c.in-Err-check_left.ensures.refused;
+      owners = c.loop-i.owners.items;
+      met = c.loop-i.invariant.met;
+      fit = λ k d o within.
+          let before : k < i = omega (arith, length-take-le i (map record_of rs) (omega (arith, length-map rs record_of))) in
+          subst (λ (r : PlanRecord). IsHalfway r (get_or c.loop-i.owners.items k o) c.args.mark) (sym (get_or-take i (map record_of rs) k d before)) (c.loop-i.invariant.halfway k d o before);
     })

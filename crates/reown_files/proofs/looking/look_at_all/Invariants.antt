@@ -2,7 +2,7 @@ use Rattle.std.proofs.Common.{◌≡◌, true, ℕ, List, length, map, take}
 use Rattle.reown_plan.specs.declared.mark.PlanMark.{PlanMark}
 use Rattle.reown_plan.specs.PlanData.{PlanRecord}
 use Rattle.reown_plan.specs.Records.{record_of}
-use Rattle.reown_files.specs.Lawful.{is_unchanged, is_lawful, no_mode_failed}
+use Rattle.reown_files.specs.Lawful.{is_unchanged, is_lawful, no_mode_failed, were_read}
 use Rattle.reown_files.specs.Replay.{replay, found_of}
 use Rattle.reown_files.proofs.Halves.{AreHalfwayTo}
 use Rattle.reown_files.proofs.looking.look_at_all.Given as goal
@@ -17,4 +17,5 @@ invariant-loop-i g l =
       modes : no_mode_failed (g.D.Disk.calls l.disk) ≡ no_mode_failed (g.D.Disk.calls l.fn.disk);
       unchanged : is_unchanged (g.D.Disk.calls l.fn.disk) ≡ true → is_unchanged (g.D.Disk.calls l.disk) ≡ true;
       lawful : (mark : PlanMark) (plan : List PlanRecord) → is_lawful mark plan (g.D.Disk.calls l.fn.disk) ≡ true → is_lawful mark plan (g.D.Disk.calls l.disk) ≡ true;
+      read : (mark : PlanMark) → were_read mark (g.D.Disk.calls l.fn.disk) ≡ true → were_read mark (g.D.Disk.calls l.disk) ≡ true;
     }

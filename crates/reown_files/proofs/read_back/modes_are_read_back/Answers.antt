@@ -1,9 +1,12 @@
 use Rattle.reown_files.proofs.ModesText.{lines_back}
-use Rattle.reown_files.proofs.WholeModes.{modes_of_one_plan}
+use Rattle.reown_files.proofs.WholeModes.{modes_of_one_plan, ended_by_one_mark}
 use Rattle.reown_files.proofs.read_back.modes_are_read_back.Goals as goal
 
 pub returns-clause-plan : goal.returns-clause-plan
 returns-clause-plan c = modes_of_one_plan
+
+pub returns-clause-ended : goal.returns-clause-ended
+returns-clause-ended c = ended_by_one_mark
 
 pub returns-clause-entries : goal.returns-clause-entries
 returns-clause-entries c = lines_back

@@ -27,5 +27,5 @@ pub returns-clause-grows : goal.returns-clause-grows
 returns-clause-grows g c =
     let calls = λ (r : RealData). r.calls in
     let new = g.D.Disk.calls c.keep_mark-told.new.self in
-    subst (λ (after : List Called). Grows c.args.self.now.calls after) (sym (ap calls c.note.ensures.same))
+    subst (λ (after : List Called). Grows c.args.self.now.calls after) (sym (ap calls c.note.ensures.rest))
     (subst (λ (old : List Called). Grows old new) (ap calls c.self.view_is) (one_call (g.D.Disk.calls c.self.inside.disk) new _ c.keep_mark-told.ensures))

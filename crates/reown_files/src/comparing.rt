@@ -1,0 +1,25 @@
+//! What a disk has, compared with what is held of it.
+ghost use Rattle.std.specs.Prelude.{◌≡◌, OnOk};
+
+use crate::Trouble;
+use reown_plan::Owner;
+
+/// The owner that was found is the one that is held.
+pub fn check_owner(found: Option<Owner>, held: Option<Owner>) -> Result<(), Trouble>
+    ensures { OnOk result (found ≡ held) }
+{
+    if found == held {
+        return Ok(());
+    }
+    Err(found.map_or(Trouble::Gone, |owner| Trouble::Foreign(owner)))
+}
+
+/// The same of the mark.
+pub fn check_mark(set: bool, held: bool) -> Result<(), Trouble>
+    ensures { OnOk result (set ≡ held) }
+{
+    if set == held {
+        return Ok(());
+    }
+    Err(Trouble::NotDone)
+}
