@@ -1,14 +1,15 @@
 -- What is counted is read back.
-use Rattle.std.proofs.Common.{◌≡◌, ℕ, ◌==◌, ◌<◌, ◌^◌, All, Bool, true, false, not, List, [], ◌∷◌, length, decimal, refl, ap, ◌∙◌, arith, subst, inl, inr}
-use Rattle.std.specs.Prelude.{flat_map}
+use Rattle.std.proofs.Common.{◌≡◌, ℕ, ◌==◌, ◌<◌, ◌^◌, All, Bool, true, false, not, List, [], ◌∷◌, Option, Some, None, drop, length, decimal, refl, ap, ◌∙◌, arith, subst, inl, inr}
+use Rattle.std.specs.Prelude.{codes, flat_map}
 use Rattle.std.specs.Char.{digit_value}
-use Rattle.std.specs.List.{filter_map, cons_option, list_all}
+use Rattle.std.specs.List.{filter_map, cons_option, join_with_byte, list_all}
 use Rattle.std.specs.Str.Parse.{AllDigits, IsNumeral}
 use Rattle.std.proofs.lemmas.Bool.{and_from, and_parts, eqb-true, not_from_false, or_cases}
 use Rattle.std.proofs.lemmas.Fmt.{decimal_is_IsNumeral}
 use Rattle.std.proofs.lemmas.List.Elements.{All-head, All-tail}
+use Rattle.idtext.specs.Pieces.{lines}
 use Rattle.idtext.specs.Words.{is_filled, is_white, words}
-use Rattle.unify_apply.specs.Answers.{count_line}
+use Rattle.unify_apply.specs.Answers.{count_line, done_text}
 use Rattle.unify_apply.specs.Laws.{is_inside, is_word, row_of, rows_in}
 use Rattle.unify_apply.proofs.WrittenLines.{line-first, no_lines, words-joined}
 
@@ -70,3 +71,23 @@ rows-back (row ∷ rows) are small =
     ∙ ap (λ ws. cons_option (row_of ws) (rows_in rest)) (words-joined (row_words row) both)
     ∙ ap (λ n. (row.0, n) ∷ rows_in rest) (decimal_is_IsNumeral row.1 fits).1
     ∙ ap (λ others. row ∷ others) (rows-back rows parts.1 (All-tail Fits row rows small))
+
+-- ---- a plan that was carried out
+
+pub done-back : (records : ℕ) → records < 2 ^ 64
+    → (rows_in (done_text records) ≡ (codes "records", records) ∷ []) × (drop 1 (lines (done_text records)) ≡ codes "done" ∷ [])
+done-back records small =
+    let row : List (List ℕ) = row_words (codes "records", records) in
+    let both : list_all is_word row ≡ true = and_from true (list_all is_word (decimal records ∷ [])) refl
+    (and_from (is_word (decimal records)) true (number-word records small) refl) in
+    let last : lines (codes "done\n") ≡ codes "done" ∷ [] = line-first (codes "done" ∷ []) [] refl ∙ ap (λ ls. codes "done" ∷ ls) no_lines in
+    let all : lines (done_text records) ≡ join_with_byte 32 row ∷ codes "done" ∷ [] =
+    line-first row (codes "done\n") both ∙ ap (λ ls. join_with_byte 32 row ∷ ls) last in
+    let first : row_of (words (join_with_byte 32 row)) ≡ Some (codes "records", records) =
+    ap row_of (words-joined row both) ∙ ap (λ n. Some (codes "records", n)) (decimal_is_IsNumeral records small).1 in
+    let second : row_of (words (codes "done")) ≡ None = ap row_of (words-joined (codes "done" ∷ []) refl) in (
+      ap (filter_map (λ line. row_of (words line))) all
+          ∙ ap (λ r. cons_option r (cons_option (row_of (words (codes "done"))) [])) first
+          ∙ ap (λ r. (codes "records", records) ∷ cons_option r []) second,
+      ap (drop 1) all,
+    )

@@ -1,4 +1,5 @@
 pub mod CountsBack
+pub mod HostName
 pub mod MountsBack
 pub mod Nearest
 pub mod NearestLaw

@@ -1,6 +1,6 @@
 -- The mount that a directory is in is the nearest.
 use Rattle.std.proofs.Common.{◌≡◌, ◌<◌, ◌≤◌, ℕ, Bool, true, false, cond, Option, None, Some, List, [], ◌∷◌, ◌++◌, All, length, nat_lt, refl, sym, ap, ◌∙◌, arith, MatchOption, true≢false}
-use Rattle.std.specs.Prelude.{IfSome, filter}
+use Rattle.std.specs.Prelude.{filter}
 use Rattle.std.proofs.lemmas.Bool.{ltb-true, ltb-false}
 use Rattle.std.proofs.lemmas.List.Elements.{All-nil, All-cons, All-append, All-weaker, All-same}
 use Rattle.unify_apply.specs.Laws.{IsNearest}
@@ -88,12 +88,8 @@ module _ (directory : List ℕ) where
       by true e rest = joined x xs e (mount_of xs directory) rest
       by false e rest = passed x xs e (mount_of xs directory) rest
 
-  if_found : (mounts : List MountText) (found : Option MountText) → IsFound mounts found
-      → IfSome found (IsNearest mounts directory)
-  if_found mounts None none = tt
-  if_found mounts (Some m) is = is
-
 pub nearest-is : (mounts : List MountText) (directory : List ℕ)
-    → IfSome (mount_of mounts directory) (IsNearest mounts directory)
-nearest-is mounts directory =
-    if_found directory mounts (mount_of mounts directory) (found-is directory mounts)
+    → MatchOption (mount_of mounts directory)
+    (All (λ (other : MountText). is_in other.point directory ≡ false) mounts)
+    (IsNearest mounts directory)
+nearest-is mounts directory = found-is directory mounts

@@ -1,9 +1,10 @@
 -- Where no second way is found, no mount is one.
-use Rattle.std.proofs.Common.{◌≡◌, ℕ, ◌&&◌, ◌||◌, Bool, true, false, cond, Option, None, Some, List, [], ◌∷◌, map, refl, sym, ap, ◌∙◌}
+use Rattle.std.proofs.Common.{◌≡◌, ℕ, ◌&&◌, ◌||◌, Bool, true, false, cond, Option, None, Some, List, [], ◌∷◌, map, refl, sym, ap, ◌∙◌, MatchOption}
 use Rattle.std.specs.Prelude.{filter}
 use Rattle.std.specs.List.{find, list_any}
 use Rattle.std.specs.Option.{option_map, option_map_or}
 use Rattle.std.specs.Str.{bytes_eq}
+use Rattle.std.proofs.Math.Bool.{and-true}
 use Rattle.unify_apply.specs.Mounts.{MountText, is_under, is_way, mount_of, mounts_in, path_from, same_below, same_file_system, second_way}
 
 abbrev Seen : Type 0
@@ -43,14 +44,38 @@ module _ (kept : MountText → Bool) (device : ℕ) (look : List ℕ → Option 
       by true none' rest = seen (is_way device (look mount.point)) none' rest
       by false none' rest = rest none'
 
-pub no_second_way : (text path : List ℕ) (mount : MountText) (device : ℕ) (look : List ℕ → Option ℕ)
-    → mount_of (mounts_in text) (path_from path) ≡ Some mount
+any-same : (f g : MountText → Bool) → ((m : MountText) → f m ≡ g m) → (ms : List MountText)
+    → list_any f ms ≡ list_any g ms
+any-same f g same [] = refl
+any-same f g same (m ∷ ms) = ap (λ t. t || list_any f ms) (same m) ∙ ap (λ t. g m || t) (any-same f g same ms)
+
+pub no_second_way : (text path : List ℕ) (device : ℕ) (look : List ℕ → Option ℕ)
     → second_way device (map (λ point. (point, look point)) (same_file_system text path)) ≡ None
-    → list_any (λ other. is_under (path_from path) other.point && bytes_eq other.device mount.device && is_way device (look other.point)) (mounts_in text) ≡ false
-no_second_way text path mount device look in' none =
-    let mounts = mounts_in text in
-    let directory = path_from path in
-    let same : Option MountText → List (List ℕ) =
-    λ found. option_map_or (λ (m : MountText). same_below mounts directory m.device) found [] in
-    none-found (λ (other : MountText). is_under directory other.point && bytes_eq other.device mount.device) device look mounts
-    (sym (ap (λ found. second_way device (map (λ point. (point, look point)) (same found))) in') ∙ none)
+    → MatchOption (mount_of (mounts_in text) (path_from path))
+    (list_any (λ other. is_under (path_from path) other.point && is_way device (look other.point)) (mounts_in text) ≡ false)
+    (λ mount. list_any (λ other. is_under (path_from path) other.point && bytes_eq other.device mount.device && is_way device (look other.point)) (mounts_in text) ≡ false)
+no_second_way text path device look none = by (mount_of (mounts_in text) directory) none
+  where
+    directory : List ℕ
+    directory = path_from path
+
+    way : MountText → Bool
+    way other = is_way device (look other.point)
+
+    same : Option MountText → List (List ℕ)
+    same found =
+        option_map_or (λ (m : MountText). same_below (mounts_in text) directory (Some m.device)) found
+        (same_below (mounts_in text) directory None)
+
+    by : (found : Option MountText)
+        → second_way device (map (λ point. (point, look point)) (same found)) ≡ None
+        → MatchOption found
+        (list_any (λ other. is_under directory other.point && way other) (mounts_in text) ≡ false)
+        (λ mount. list_any (λ other. is_under directory other.point && bytes_eq other.device mount.device && way other) (mounts_in text) ≡ false)
+    by None h =
+        any-same (λ other. is_under directory other.point && way other)
+        (λ other. is_under directory other.point && true && way other)
+        (λ other. ap (λ t. t && way other) (sym (and-true (is_under directory other.point)))) (mounts_in text)
+        ∙ none-found (λ other. is_under directory other.point && true) device look (mounts_in text) h
+    by (Some mount) h =
+        none-found (λ (other : MountText). is_under directory other.point && bytes_eq other.device mount.device) device look (mounts_in text) h

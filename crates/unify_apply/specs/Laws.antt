@@ -4,7 +4,7 @@
 -- three octal digits.
 use Rattle.std.specs.Prelude.{◌≡◌, ℕ, ◌==◌, ◌||◌, ◌&&◌, ◌<◌, ◌≤◌, ◌^◌, Bool, true, false, not}
 use Rattle.std.specs.Prelude.{List, [], ◌∷◌, ◌++◌, map, flat_map, filter_map, length, codes, All}
-use Rattle.std.specs.Prelude.{Option, Some, None, IfSome, if◌then◌else◌}
+use Rattle.std.specs.Prelude.{drop, Option, Some, None, MatchOption, if◌then◌else◌}
 use Rattle.std.specs.List.{join_with_byte, list_all, list_any}
 use Rattle.std.specs.Str.{bytes_eq}
 use Rattle.std.specs.Str.Parse.{digits_value}
@@ -12,7 +12,7 @@ use Rattle.idtext.specs.Escapes.{escape}
 use Rattle.idtext.specs.Pieces.{lines}
 use Rattle.idtext.specs.Words.{is_filled, is_white, words}
 use Rattle.reown_files.specs.declared.counting.OwnerCounts.{OwnerCounts}
-use Rattle.unify_apply.specs.Answers.{counted, counts_text}
+use Rattle.unify_apply.specs.Answers.{counted, counts_text, done_text}
 use Rattle.unify_apply.specs.Mounts.{MountText, path_from, path_in, is_in, is_under, mount_of}
 use Rattle.unify_apply.specs.Mounts.{mounts_in, same_file_system, is_way, second_way}
 
@@ -90,22 +90,29 @@ pub record IsNearest (mounts : List MountText) (directory : List ℕ) (mount : M
   pub last : All (λ (other : MountText). is_in other.point directory ≡ true
       → length other.point < length mount.point) after
 
+-- none is found only where the directory is in none
 abbrev pub MountIsNearest : Type 0
 MountIsNearest = (mounts : List MountText) (directory : List ℕ)
-    → IfSome (mount_of mounts directory) (IsNearest mounts directory)
+    → MatchOption (mount_of mounts directory)
+    (All (λ (other : MountText). is_in other.point directory ≡ false) mounts)
+    (IsNearest mounts directory)
 
 -- ---- what is refused
 
 -- look: the device number that is seen at a path, if any
--- Where no second way is found to the files with a device number below a directory that is in a
--- mount, each mount below it that is of that file system was looked at, and has another one.
+-- Where no second way is found to the files with a device number below a directory, each mount
+-- below it that is of the file system of the mount that it is in was looked at, and has another
+-- number; and so has each below it, of whatever file system, where the mount that it is in is not
+-- told.
 abbrev pub NoSecondWay : Type 0
-NoSecondWay = (text path : List ℕ) (mount : MountText) (device : ℕ) (look : List ℕ → Option ℕ)
-    → mount_of (mounts_in text) (path_from path) ≡ Some mount
+NoSecondWay = (text path : List ℕ) (device : ℕ) (look : List ℕ → Option ℕ)
     → second_way device (map (λ point. (point, look point)) (same_file_system text path)) ≡ None
-    → list_any (λ other. is_under (path_from path) other.point
+    → MatchOption (mount_of (mounts_in text) (path_from path))
+    (list_any (λ other. is_under (path_from path) other.point
+    && is_way device (look other.point)) (mounts_in text) ≡ false)
+    (λ mount. list_any (λ other. is_under (path_from path) other.point
     && bytes_eq other.device mount.device && is_way device (look other.point)) (mounts_in text)
-    ≡ false
+    ≡ false)
 
 -- ---- what the command prints
 
@@ -121,3 +128,9 @@ abbrev pub CountsAreReadBack : Type 0
 CountsAreReadBack = (counts : OwnerCounts) (mounts : ℕ)
     → All (λ (row : List ℕ × ℕ). row.1 < 2 ^ 64) (counted counts mounts)
     → rows_in (counts_text counts mounts) ≡ counted counts mounts
+
+-- behind the row of the records stands the line `done`, and no other
+abbrev pub DoneIsReadBack : Type 0
+DoneIsReadBack = (records : ℕ) → records < 2 ^ 64
+    → (rows_in (done_text records) ≡ (codes "records", records) ∷ [])
+    × (drop 1 (lines (done_text records)) ≡ codes "done" ∷ [])

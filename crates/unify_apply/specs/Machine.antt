@@ -1,13 +1,13 @@
 -- The machine that a plan is carried out on, and who does so.
 -- Source: proc(5): /proc/sys/kernel/hostname; /proc/PID/status, whose line `Uid:` has the real and
--- then the effective user. That a machine is the host too that is called as it is before its first
+-- then the effective user. That a machine is a host too if its name begins with the host's and a
 -- dot, and that a word of the command may name a host that is called otherwise, are this project's
 -- own rules.
-use Rattle.std.specs.Prelude.{ℕ, Bool, false, ◌&&◌, ◌||◌, List, [], ◌∷◌, Option, None, Some}
+use Rattle.std.specs.Prelude.{ℕ, Bool, false, ◌&&◌, ◌||◌, List, [], ◌∷◌, ◌++◌, Option, None, Some}
 use Rattle.std.specs.Prelude.{codes, if◌then◌else◌}
 use Rattle.std.specs.List.{list_any}
 use Rattle.std.specs.Str.{bytes_eq}
-use Rattle.idtext.specs.Pieces.{lines, pieces}
+use Rattle.idtext.specs.Pieces.{begins_with, lines}
 use Rattle.idtext.specs.Words.{words}
 use Rattle.unify_apply.specs.Ends.{without_end}
 use Rattle.unify_apply.specs.declared.machine.HostFit.{HostFit}
@@ -19,16 +19,8 @@ use Rattle.unify_apply.specs.declared.machine.HostFit.TheVariants.{Same, Named, 
 abbrev pub name_in : List ℕ → List ℕ
 name_in text = without_end (codes "\n") text
 
-abbrev pub first_of : List (List ℕ) → List ℕ
-first_of [] = []
-first_of (piece ∷ more) = piece
-
--- the name of a machine before its first dot
-abbrev pub short_of : List ℕ → List ℕ
-short_of machine = first_of (pieces 46 machine)
-
 abbrev pub is_called : List ℕ → List ℕ → Bool
-is_called host machine = bytes_eq machine host || bytes_eq (short_of machine) host
+is_called host machine = bytes_eq machine host || begins_with (host ++ codes ".") machine
 
 -- How a machine fits the host of a plan: a machine that is not called so is that host only if it
 -- is named so; and where another host is named, it is none.

@@ -112,11 +112,16 @@ first_below mounts directory = find (λ mount. is_under directory mount.point) m
 abbrev pub count_below : List MountText → List ℕ → ℕ
 count_below mounts directory = count_by (λ mount. is_under directory mount.point) mounts
 
--- the paths of those that are of this file system
-abbrev pub same_below : List MountText → List ℕ → List ℕ → List (List ℕ)
+-- a mount may be of the file system with this number, and of one whose number is not known
+abbrev pub may_be_of : Option (List ℕ) → List ℕ → Bool
+may_be_of None number = true
+may_be_of (Some device) number = bytes_eq number device
+
+-- the paths of those that may be of this file system
+abbrev pub same_below : List MountText → List ℕ → Option (List ℕ) → List (List ℕ)
 same_below mounts directory device =
     map (λ (mount : MountText). mount.point)
-    (filter (λ mount. is_under directory mount.point && bytes_eq mount.device device) mounts)
+    (filter (λ mount. is_under directory mount.point && may_be_of device mount.device) mounts)
 
 abbrev pub path_items : List (Vec ℕ Global) → List (List ℕ)
 path_items paths = map (λ path. path.items) paths
@@ -134,11 +139,14 @@ one_journal text path =
     option_map_or (λ (mount : MountText). has_one_journal mount.kind)
     (mount_of (mounts_in text) (path_from path)) false
 
--- the paths of the mounts below a directory that are of its file system
+-- The paths of the mounts below a directory that are of its file system. A line is there only for
+-- what can be reached from the root of the process, so that the mount of a root that is a directory
+-- of it (chroot(2)) is not told: then these are all mounts below the directory.
 abbrev pub same_file_system : List ℕ → List ℕ → List (List ℕ)
 same_file_system text path =
-    option_map_or (λ (mount : MountText). same_below (mounts_in text) (path_from path) mount.device)
-    (mount_of (mounts_in text) (path_from path)) []
+    option_map_or
+    (λ (mount : MountText). same_below (mounts_in text) (path_from path) (Some mount.device))
+    (mount_of (mounts_in text) (path_from path)) (same_below (mounts_in text) (path_from path) None)
 
 -- ---- a second way to the files of a directory
 

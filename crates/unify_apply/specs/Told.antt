@@ -24,4 +24,5 @@ status_of trouble.LinkedElsewhere = 1
 status_of trouble.LinkedOtherwise = 1
 status_of trouble.NotMark = 1
 status_of trouble.NotModes = 1
+status_of trouble.OtherPlan = 1
 status_of _ = 3

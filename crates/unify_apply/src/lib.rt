@@ -21,6 +21,5 @@ pub use journal::tells_journal;
 pub use laws::{answers_are_read_back, mounts_are_read_back, one_way_to_files};
 pub use machine::{HostFit, host_fit, is_root};
 pub use mountinfo::{
-    Around, Mount, Point, count_below, first_below, first_way, read_mounts, see_around,
-    without_slash,
+    Around, Mount, Point, count_below, first_below, one_way, read_mounts, see_around, without_slash,
 };

@@ -1,9 +1,9 @@
 //! The machine that a plan is carried out on, and who does so.
 ghost use Rattle.std.specs.Prelude.{◌≡◌, option_copied};
-ghost use Rattle.unify_apply.specs.Machine.{name_in, short_of, is_called, fit_of};
+ghost use Rattle.unify_apply.specs.Machine.{name_in, is_called, fit_of};
 ghost use Rattle.unify_apply.specs.Machine.{tells_root, is_of_root};
 
-use idtext::{Lines, Words, cut};
+use idtext::{Lines, Words};
 use std::alloc::AllocError;
 use unify_io::{FileFault, Part, Said, read_file, tell_of, warn};
 
@@ -20,21 +20,15 @@ fn machine_name(text: &[u8]) -> &[u8]
     text.strip_suffix(b"\n").unwrap_or(text)
 }
 
-// The name of a machine without what stands behind its first dot.
-fn short_name(name: &[u8]) -> &[u8]
-    ensures { result.now ≡ short_of name.now }
-{
-    match cut(b'.', name) {
-        Some((short, _)) => short,
-        None => name,
-    }
-}
-
-// Whether a machine of this name is the host of a plan.
+// Whether a machine of this name is the host of a plan, whose name may stand before a dot in it.
+#[tactic(auto, using(crate::proofs::HostName::dotted))]
 fn is_host(machine: &[u8], host: &[u8]) -> bool
     ensures { result ≡ is_called host.now machine.now }
 {
-    machine == host || short_name(machine) == host
+    machine == host
+        || machine
+            .strip_prefix(host)
+            .is_some_and(|rest| rest.starts_with(b"."))
 }
 
 /// How a machine fits the host of a plan.

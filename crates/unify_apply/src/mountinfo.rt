@@ -1,6 +1,7 @@
 //! The mounts that this process sees, as the system tells them (proc(5)): where a directory is
 //! among them, and what is below it.
-ghost use Rattle.std.specs.Prelude.{◌≡◌, map, option_map, option_copied, IfOk};
+ghost use Rattle.std.specs.Prelude.{◌≡◌, None, Some, map, option_map, option_copied};
+ghost use Rattle.std.specs.Prelude.{IfOk, MatchResult};
 ghost use Rattle.idtext.specs.Words.{words};
 ghost use Rattle.unify_apply.specs.Mounts.{text_of, kind_in, mount_in, mount_told, mounts_in};
 ghost use Rattle.unify_apply.specs.Mounts.{path_byte, path_from, path_in, is_in, is_under};
@@ -8,6 +9,7 @@ ghost use Rattle.unify_apply.specs.Mounts.{mount_text, mount_texts, mount_of as 
 ghost use Rattle.unify_apply.specs.Mounts.{first_below as first_of_texts_below};
 ghost use Rattle.unify_apply.specs.Mounts.{count_below as count_of_texts_below};
 ghost use Rattle.unify_apply.specs.Mounts.{same_below as same_of_texts_below, path_items};
+ghost use Rattle.unify_apply.specs.Mounts.{may_be_of as may_be_of_device};
 ghost use Rattle.unify_apply.specs.Mounts.{has_one_journal as is_of_one_journal, one_journal};
 ghost use Rattle.unify_apply.specs.Mounts.{same_file_system, point_seen};
 ghost use Rattle.unify_apply.specs.Mounts.{is_way as is_second_way, second_way};
@@ -184,19 +186,30 @@ pub fn count_below(mounts: &[Mount<'_>], directory: &[u8]) -> usize
         .count()
 }
 
-// The paths of the mounts below a directory that are of the file system with this number.
+// Whether a mount with this number may be of a file system. Any may be, where that one's number is
+// not known.
+fn may_be_of(number: &[u8], device: Option<&[u8]>) -> bool
+    ensures { result ≡ may_be_of_device (option_copied device.entry) number.now }
+{
+    let Some(device) = device else {
+        return true;
+    };
+    number == device
+}
+
+// The paths of the mounts below a directory that may be of the file system with this number.
 fn same_below(
     alloc: Global,
     mounts: &[Mount<'_>],
     directory: &[u8],
-    device: &[u8],
+    device: Option<&[u8]>,
 ) -> Result<Vec<Vec<u8>>, AllocError>
     ensures { IfOk result (λ paths. path_items paths.items
-        ≡ same_of_texts_below (mount_texts mounts.now) directory.now device.now) }
+        ≡ same_of_texts_below (mount_texts mounts.now) directory.now (option_copied device.entry)) }
 {
     let mut paths = Vec::new(alloc);
     for mount in mounts {
-        if is_below(&mount.point, directory) && mount.device == device {
+        if is_below(&mount.point, directory) && may_be_of(mount.device, device) {
             paths.push(Vec::from_slice(alloc, &mount.point)?)?;
         }
     }
@@ -216,7 +229,9 @@ fn has_one_journal(kind: &[u8]) -> bool
 pub struct Around {
     /// Whether its file system is of a kind with one journal, if any.
     pub has_one_journal: bool,
-    /// The paths of the mounts below it that are of its file system.
+    /// The paths of the mounts below it that are of its file system. Where no line tells the mount
+    /// that it is in, as in a root that is a directory of another mount (chroot(2)), any may be of
+    /// it, and these are all below it.
     pub same: Vec<Vec<u8>>,
 }
 
@@ -233,12 +248,12 @@ pub fn see_around(alloc: Global, text: &[u8], path: &[u8]) -> Result<Around, All
     let Some(mount) = mount_of(&mounts, directory) else {
         return Ok(Around {
             has_one_journal: false,
-            same: Vec::new(alloc),
+            same: same_below(alloc, &mounts, directory, None)?,
         });
     };
     Ok(Around {
         has_one_journal: has_one_journal(mount.kind),
-        same: same_below(alloc, &mounts, directory, mount.device)?,
+        same: same_below(alloc, &mounts, directory, Some(mount.device))?,
     })
 }
 
@@ -262,9 +277,8 @@ fn is_way(seen: Option<u64>, device: u64) -> bool
     }
 }
 
-/// The path of the first of these mounts that is a second way to the files with this device number.
-/// One pass over them.
-pub fn first_way(points: &[Point], device: u64) -> Option<&[u8]>
+// The path of the first of these mounts that is a second way to the files with this device number.
+fn first_way(points: &[Point], device: u64) -> Option<&[u8]>
     ensures { option_copied result ≡ second_way device (map point_seen points.now) }
 {
     for point in points {
@@ -273,4 +287,19 @@ pub fn first_way(points: &[Point], device: u64) -> Option<&[u8]>
         }
     }
     None
+}
+
+/// Whether the file system of a directory is of a kind with one journal, if any, where none of
+/// these mounts below it is a second way to the files with this device number; else the path of the
+/// first that is one. One pass over them.
+pub fn one_way<'p>(around: &Around, points: &'p [Point], device: u64) -> Result<bool, &'p [u8]>
+    ensures { MatchResult result
+        (λ journal. (second_way device (map point_seen points.now) ≡ None)
+        × (journal ≡ around.now.has_one_journal))
+        (λ path. second_way device (map point_seen points.now) ≡ Some path.now) }
+{
+    match first_way(points, device) {
+        Some(path) => Err(path),
+        None => Ok(around.has_one_journal),
+    }
 }

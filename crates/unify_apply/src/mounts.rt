@@ -5,7 +5,7 @@ ghost use Rattle.unify_apply.specs.Mounts.{path_items};
 
 use crate::journal::has_journal;
 use crate::mountinfo::{
-    Mount, Point, count_below, first_below, first_way, read_mounts, see_around, without_slash,
+    Mount, Point, count_below, first_below, one_way, read_mounts, see_around, without_slash,
 };
 use std::alloc::AllocError;
 use std::os::unix::fs::MetadataExt;
@@ -122,8 +122,8 @@ pub fn see_mounts(rt: &HostRuntime, root: &str) -> Result<bool, FileFault> {
     let text = read_file(rt, MOUNTS)?;
     let around = see_around(rt.alloc(), text.bytes(), path.as_str().as_bytes())?;
     let points = looked_at(rt, &around.same)?;
-    if let Some(point) = first_way(&points, device_of(rt, root)?) {
-        return Err(mounted_twice(rt, root, point));
+    match one_way(&around, &points, device_of(rt, root)?) {
+        Ok(has_one_journal) => Ok(has_one_journal && has_journal(rt, root)?),
+        Err(point) => Err(mounted_twice(rt, root, point)),
     }
-    Ok(around.has_one_journal && has_journal(rt, root)?)
 }

@@ -20,6 +20,10 @@ pub struct Place<'a> {
     pub mark: &'a str,
 }
 
+// What is said where a plan was begun that is not this one.
+const OTHER_PLAN: &str = "another plan was begun and has not ended; carry that one out to its end \
+    first (the reverse of a plan is another plan)";
+
 // What stands behind the reason of a stop.
 const GOES_ON: &str = "; the same command goes on from there";
 
@@ -91,6 +95,7 @@ fn said_of(trouble: Trouble) -> Said<'static> {
         Trouble::NoProc => "files are reached by /proc, which is not there",
         Trouble::NotMark => "no mark of a plan",
         Trouble::NotModes => "cut, or no modes of a plan",
+        Trouble::OtherPlan => OTHER_PLAN,
     })
 }
 
@@ -106,7 +111,8 @@ fn status(trouble: Trouble) -> u8
         | Trouble::LinkedElsewhere
         | Trouble::LinkedOtherwise
         | Trouble::NotMark
-        | Trouble::NotModes => 1,
+        | Trouble::NotModes
+        | Trouble::OtherPlan => 1,
         _ => 3,
     }
 }
