@@ -1,4 +1,9 @@
+pub mod AddUp
+pub mod AllTold
+pub mod CountsBack
 pub mod Finds
+pub mod InOrder
 pub mod Lost
 pub mod Noted
+pub mod Tallies
 pub mod Told

@@ -29,7 +29,7 @@ pub cons-all : {Y : Type 0} (P : Y → Type 0) (y : Y) (ys : List Y) → P y →
 cons-all P y ys first rest zero d below = first
 cons-all P y ys first rest (suc k) d below = rest k d (omega arith)
 
-front-all : {Y : Type 0} (P : Y → Type 0) (xs ys : List Y) → All P (xs ++ ys) → All P xs
+pub front-all : {Y : Type 0} (P : Y → Type 0) (xs ys : List Y) → All P (xs ++ ys) → All P xs
 front-all P [] ys h = All-nil P
 front-all P (x ∷ xs) ys h = cons-all P x xs (head-all P x (xs ++ ys) h) (front-all P xs ys (tail-all P x (xs ++ ys) h))
 
@@ -145,7 +145,7 @@ module _ (was now : Accounts) (before after : List Entry) (distinct : HaveDistin
             },
           )
 
-  not-lost : (file : Entry) → IsKept was now after file → loss_of was now after file ≡ None
+  pub not-lost : (file : Entry) → IsKept was now after file → loss_of was now after file ≡ None
   not-lost file (there, within, at, keeps) =
       ap (change_at was now file) (there-file after file.path there distinct within at)
       ∙ ap (λ b. change_by b (groups_agree was now file there) there) (keeps-agree (user_at was.users file.uid) (user_at now.users there.uid) file.uid there.uid keeps.user)

@@ -169,7 +169,7 @@ left-kind user group o what e = by (user || group) refl o e
 
 -- ---- no file at a path
 
-no-file : (files : List Entry) (path : List ℕ) → file_at files path ≡ None → HasNoFileAt files path
+pub no-file : (files : List Entry) (path : List ℕ) → file_at files path ≡ None → HasNoFileAt files path
 no-file [] path e = All-nil (λ (f : Entry). f.path ≢ path)
 no-file (f ∷ fs) path e = by (bytes_eq path f.path) refl (λ rest. no-file fs path rest) e
   where
@@ -177,7 +177,7 @@ no-file (f ∷ fs) path e = by (bytes_eq path f.path) refl (λ rest. no-file fs 
     by true same more e = absurd (cc)
     by false other more e = cons-all (λ (g : Entry). g.path ≢ path) f fs (λ alike. true≢false (sym ((bytes_eq-Decides path f.path).1 (sym alike)) ∙ other)) (more e)
 
-file-none : (files : List Entry) (path : List ℕ) → HasNoFileAt files path → file_at files path ≡ None
+pub file-none : (files : List Entry) (path : List ℕ) → HasNoFileAt files path → file_at files path ≡ None
 file-none [] path none = refl
 file-none (f ∷ fs) path none =
     elim (cases_Bool (bytes_eq path f.path)) [
@@ -197,7 +197,7 @@ says-none : (o : Option (List ℕ)) → Says (is_none o) (o ≡ None)
 says-none None = ((λ e. refl), (λ e. refl))
 says-none (Some x) = ((λ e. absurd (cc)), (λ e. absurd (cc)))
 
-says-left : (was now : Option (List ℕ)) → Says (is_left was now) (IsLeft was now)
+pub says-left : (was now : Option (List ℕ)) → Says (is_left was now) (IsLeft was now)
 says-left None now = ((λ e. absurd (cc)), (λ it. let h = it.had in absurd (cc)))
 says-left (Some w) None = ((λ e. record { name = w; had = refl; lost = λ none. absurd (cc) }), (λ it. refl))
 says-left (Some w) (Some n) = (there, back)

@@ -1,6 +1,8 @@
 //! What the findings mean. Each call does nothing: its contract is the law.
 ghost use Rattle.kept_names.specs.Laws.{ChangedAreTold, LeftAreTold, MissingAreTold, NewAreTold};
 ghost use Rattle.kept_names.specs.Laws.{NothingLostIsKept, UnnamedAreTold};
+ghost use Rattle.kept_names.specs.TellingLaws.{AllAreTold, CountsAddUp, CountsAreReadBack};
+ghost use Rattle.kept_names.specs.TellingLaws.{StatusTellsOrder};
 
 /// No file is found missing or changed exactly where each file of the first inventory is in the
 /// second, with a user and a group that the new account files name as the old ones named those
@@ -39,4 +41,27 @@ pub fn unnamed_files_are_told()
 /// and not this name by the new ones; and each flag says so of its owner.
 pub fn left_numbers_are_told()
     ensures { LeftAreTold }
+{}
+
+/// The exit status is 0 exactly where each file of the first inventory is in the second, with the
+/// user and the group names that it had, each file of the second has names by the new account
+/// files, and no file that is new has a number that a name has left.
+pub fn status_tells_order()
+    ensures { StatusTellsOrder }
+{}
+
+/// Where as many lines may be told of each kind as there are findings, each finding has its line,
+/// in their order, and nothing else is told.
+pub fn all_lines_are_told()
+    ensures { AllAreTold }
+{}
+
+/// Each file of the first inventory is counted once: as kept, missing or changed.
+pub fn counts_add_up()
+    ensures { CountsAddUp }
+{}
+
+/// The text of any counts is read back: which words, and how many of each.
+pub fn counts_are_read_back()
+    ensures { CountsAreReadBack }
 {}

@@ -13,7 +13,7 @@ pub struct Accounts<'a> {
 }
 
 /// The name of the user with this number, if there is one. One hash look-up; takes no memory.
-pub fn user_name<'t, 'a>(accounts: &'t Accounts<'a>, uid: u32) -> Option<&'t [u8]>
+pub(crate) fn user_name<'t, 'a>(accounts: &'t Accounts<'a>, uid: u32) -> Option<&'t [u8]>
     ensures { option_copied result ≡ user_at accounts.now.users uid }
 {
     let row = accounts.users.by_number(uid)?;
@@ -21,7 +21,7 @@ pub fn user_name<'t, 'a>(accounts: &'t Accounts<'a>, uid: u32) -> Option<&'t [u8
 }
 
 /// The name of the group with this number, if there is one. One hash look-up; takes no memory.
-pub fn group_name<'t, 'a>(accounts: &'t Accounts<'a>, gid: u32) -> Option<&'t [u8]>
+pub(crate) fn group_name<'t, 'a>(accounts: &'t Accounts<'a>, gid: u32) -> Option<&'t [u8]>
     ensures { option_copied result ≡ group_at accounts.now.groups gid }
 {
     let row = accounts.groups.by_number(gid)?;

@@ -1,7 +1,7 @@
 //! What AFTER names: an inventory, or a directory, which is walked.
 
 use crate::reading::{inventory_of, read_mtree};
-use idtext::MOST_BYTES;
+use idtext::MOST_LINE_BYTES;
 use inventory_files::{FileSink, Listed, list_files, named_roots};
 use inventory_text::{FileKind, push_entry};
 use mtree_inv::Inventory;
@@ -32,7 +32,7 @@ impl FileSink for InventoryLines {
     ) -> Result<bool, FileFault> {
         let before = self.text.len();
         push_entry(&mut self.text, path, uid, gid, kind)?;
-        if self.text.len() - before > MOST_BYTES + 1 {
+        if self.text.len() - before > MOST_LINE_BYTES + 1 {
             self.text.truncate(before);
             return Ok(false);
         }

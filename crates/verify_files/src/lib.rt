@@ -1,17 +1,16 @@
 //! The command `verify`: whether the files of a first inventory have the owners by name that they
 //! had, in a second one or in the tree that is there, once the host's account files have new
-//! numbers. What is found is proved in `kept_names`; here files are read, and lines are told.
+//! numbers. What is found, and what is told of it, is proved in `kept_names`; here files are read,
+//! and the reply is written.
 #![tactic(auto)]
 
 mod later;
-mod lines;
 mod reading;
 mod refused;
 
 use clap::ArgMatches;
-use kept_names::{Accounts, Finding, find_changes};
+use kept_names::{Accounts, VerifyReply, verify_reply};
 use later::later_files;
-use lines::{Tally, answer_text, found_lines};
 use mtree_inv::Inventory;
 use reading::{AccountTexts, read_account_texts, read_accounts, read_mtree};
 use std::io;
@@ -19,22 +18,12 @@ use std::io::Write;
 use unify_io::{FileFault, MOST_LINES, write_failed};
 
 // Tells what was found: files on standard error, and how many on standard output.
-fn tell_found(
-    rt: &HostRuntime,
-    was: &Accounts<'_>,
-    now: &Accounts<'_>,
-    files: usize,
-    found: &[Finding<'_>],
-    most: usize,
-) -> Result<u8, FileFault> {
-    let mut tally = Tally::new(files);
-    let lines = found_lines(rt.alloc(), was, now, found, most, &mut tally)?;
-    let answer = answer_text(rt.alloc(), &tally)?;
-    let _ = rt.stderr().write_all(&lines);
-    if io::writer(rt).write_all(&answer).is_err() {
-        return Ok(write_failed(rt));
+fn tell_found(rt: &HostRuntime, reply: &VerifyReply) -> u8 {
+    let _ = rt.stderr().write_all(&reply.errors);
+    if io::writer(rt).write_all(&reply.output).is_err() {
+        return write_failed(rt);
     }
-    Ok(tally.status())
+    reply.status
 }
 
 // Compares two inventories by the account files that each was made under.
@@ -46,8 +35,8 @@ fn compare(
     after: &Inventory,
     most: usize,
 ) -> Result<u8, FileFault> {
-    let found = find_changes(rt.alloc(), was, now, before, after)?;
-    tell_found(rt, was, now, before.entries().len(), &found, most)
+    let reply = verify_reply(rt.alloc(), was, now, before, after, most)?;
+    Ok(tell_found(rt, &reply))
 }
 
 // Reads the second inventory, or walks the tree that is there in its place, and compares the first

@@ -1,0 +1,67 @@
+-- What the counts, the lines and the exit status of `verify` mean.
+-- Source: this project's own rule and format; chown(2) for what an owner is.
+use Rattle.std.specs.Prelude.{◌≡◌, ◌≢◌, ◌↔◌, ℕ, ◌+◌, ◌<◌, ◌≤◌, ◌^◌, List, length, Option, None}
+use Rattle.std.specs.Prelude.{All, filter_map, flat_map, option_map}
+use Rattle.std.specs.Str.Parse.{digits_value}
+use Rattle.hosts_join.specs.Kinds.{user_at, group_at}
+use Rattle.idtext.specs.Pieces.{lines}
+use Rattle.idtext.specs.Spaces.{cut_at_last_space}
+use Rattle.mtree_inv.specs.declared.entry.Entry.{Entry}
+use Rattle.mtree_inv.specs.Files.{HaveDistinctFiles}
+use Rattle.kept_names.specs.Kept.{Found, findings}
+use Rattle.kept_names.specs.Laws.{HasNoFileAt, IsKept, IsLeft}
+use Rattle.kept_names.specs.Telling.{Counts, counted, counts_of, counts_text, found_text}
+use Rattle.kept_names.specs.Telling.{line_of, status_of}
+use Rattle.kept_names.specs.declared.names.Accounts.{Accounts}
+
+-- ---- the counts
+
+-- of a line what stands before its last space, and the number behind it
+abbrev pub row_of : List ℕ → Option (List ℕ × ℕ)
+row_of line = option_map (λ parts. (parts.0, digits_value 10 parts.1)) (cut_at_last_space line)
+
+abbrev pub rows_in : List ℕ → List (List ℕ × ℕ)
+rows_in text = filter_map row_of (lines text)
+
+-- the counts that are printed are read back, each with its word
+abbrev pub CountsAreReadBack : Type 0
+CountsAreReadBack = (counts : Counts)
+    → All (λ (row : List ℕ × ℕ). row.1 < 2 ^ 64) (counted counts)
+    → rows_in (counts_text counts) ≡ counted counts
+
+-- each file of the first inventory is kept, missing or changed
+abbrev pub CountsAddUp : Type 0
+CountsAddUp = (was now : Accounts) (before after : List Entry)
+    → (let counts = counts_of was now before after in
+    counts.kept + counts.missing + counts.changed) ≡ length before
+
+-- ---- the lines
+
+-- with room for all, each finding has its line, in their order, and nothing else is told
+abbrev pub AllAreTold : Type 0
+AllAreTold = (was now : Accounts) (most : ℕ) (found : List Found) → length found ≤ most
+    → found_text was now most found ≡ flat_map (line_of was now) found
+
+-- ---- the exit status
+
+-- the user and the group of a file have names
+pub record HasNames (now : Accounts) (file : Entry) : Type 0 where
+  pub user : user_at now.users file.uid ≢ None
+  pub group : group_at now.groups file.gid ≢ None
+
+-- neither of a file's numbers is one that a name has left
+pub record HasNoLeftNumber (was now : Accounts) (file : Entry) : Type 0 where
+  pub user : ¬ IsLeft (user_at was.users file.uid) (user_at now.users file.uid)
+  pub group : ¬ IsLeft (group_at was.groups file.gid) (group_at now.groups file.gid)
+
+-- Each file of the first inventory is in the second with its owner, each file of the second has
+-- names by the new account files, and no file that is new has a number that a name has left.
+pub record IsInOrder (was now : Accounts) (before after : List Entry) : Type 0 where
+  pub kept : All (IsKept was now after) before
+  pub named : All (HasNames now) after
+  pub new : All (λ file. HasNoFileAt before file.path → HasNoLeftNumber was now file) after
+
+-- the status is 0 exactly where that is so
+abbrev pub StatusTellsOrder : Type 0
+StatusTellsOrder = (was now : Accounts) (before after : List Entry) → HaveDistinctFiles after
+    → (status_of (findings was now before after) ≡ 0) ↔ IsInOrder was now before after
