@@ -8,7 +8,7 @@ use Rattle.std.proofs.lemmas.List.Splits.{join_with_byte-slice_split}
 use Rattle.idtext.specs.Escapes.{escaped, is_bad}
 use Rattle.idtext.specs.Numbers.{greatest_id}
 use Rattle.idtext.specs.Pieces.{pieces}
-use Rattle.idtext.specs.Words.{most_bytes, words}
+use Rattle.idtext.specs.Words.{most_line_bytes, words}
 use Rattle.idtext.proofs.NumberLemmas.{decimal-back}
 use Rattle.idtext.proofs.PieceLemmas.{pieces-length}
 use Rattle.idtext.specs.declared.faults.TextCode.TheVariants.{BadNumber, BadPath}
@@ -26,6 +26,7 @@ use Rattle.inventory_text.specs.Writing.{entry_line, gid_word, kind_word, name_w
 use Rattle.inventory_text.specs.Listed.{IsName, IsPath}
 use Rattle.inventory_text.specs.ReadBack.{EntriesReadBack}
 use Rattle.inventory_text.proofs.Escaped.{name-characters, name-parts, written-good}
+use Rattle.inventory_text.proofs.Names.{name-good, name-kept}
 use Rattle.inventory_text.proofs.Visible.{decimal-visible, escaped-visible, four-words, is_visible}
 
 -- ---- the words of a line
@@ -50,11 +51,11 @@ line-words path uid gid kind u g =
     four-words 46 (47 ∷ escaped path) 116 (codes "ype=" ++ kind_word kind) 117 (codes "id=" ++ decimal uid) 103 (codes "id=" ++ decimal gid)
     (escaped-visible path) (kind-visible kind) (decimal-visible uid (id-small uid u)) (decimal-visible gid (id-small gid g))
 
-pub line-kind : (number : ℕ) (path : List ℕ) (uid gid : ℕ) (kind : FileKind) → uid ≤ greatest_id → gid ≤ greatest_id → length (entry_line path uid gid kind) ≤ most_bytes
+pub line-kind : (number : ℕ) (path : List ℕ) (uid gid : ℕ) (kind : FileKind) → uid ≤ greatest_id → gid ≤ greatest_id → length (entry_line path uid gid kind) ≤ most_line_bytes
     → kind_of (record { number = number; text = entry_line path uid gid kind; is_cut = false }) ≡ Names (name_word path) (keywords uid gid kind)
 unfolding kind_of
 line-kind number path uid gid kind u g short =
-    ap (λ (long : Bool). cond long TooLong (kind_of_text (entry_line path uid gid kind))) (le-ltb most_bytes (length (entry_line path uid gid kind)) short)
+    ap (λ (long : Bool). cond long TooLong (kind_of_text (entry_line path uid gid kind))) (le-ltb most_line_bytes (length (entry_line path uid gid kind)) short)
     ∙ ap kind_of_words (line-words path uid gid kind u g)
 
 -- ---- its path
@@ -62,13 +63,13 @@ line-kind number path uid gid kind u g short =
 names-kept : (names : List (List ℕ)) → All IsName names → filter is_kept names ≡ names
 names-kept [] all = refl
 names-kept (n ∷ ns) all =
-    ap (λ (k : Bool). cond k (n ∷ filter is_kept ns) (filter is_kept ns)) (All-head IsName n ns all).kept
+    ap (λ (k : Bool). cond k (n ∷ filter is_kept ns) (filter is_kept ns)) (name-kept n (All-head IsName n ns all))
     ∙ ap (λ (rest : List (List ℕ)). n ∷ rest) (names-kept ns (All-tail IsName n ns all))
 
 names-good : (names : List (List ℕ)) → All IsName names → list_any is_bad_component names ≡ false
 names-good [] all = refl
 names-good (n ∷ ns) all =
-    ap (λ (b : Bool). b || list_any is_bad_component ns) (All-head IsName n ns all).good ∙ names-good ns (All-tail IsName n ns all)
+    ap (λ (b : Bool). b || list_any is_bad_component ns) (name-good n (All-head IsName n ns all)) ∙ names-good ns (All-tail IsName n ns all)
 
 joined : (names : List (List ℕ)) → 0 < length names → path_of_components names ≡ join_with_byte 47 names
 joined [] some = absurd (omega arith)
@@ -127,9 +128,9 @@ entry-named before file kind lawful bytes is =
     let words = keywords file.uid file.gid kind in
     let path = word-path before file.path bytes is in
     let owned = owned_file (path_of before word) (number_in_force (codes "uid") before words) (number_in_force (codes "gid") before words) in
-    ap (λ (bad : Bool). cond (bad || nat_lt most_bytes (length (path_of before word))) (Err BadPath) (cond (not (has_lawful_numbers words)) (Err BadNumber) owned)) (word-good file.path bytes is)
-    ∙ ap (λ (p : List ℕ). cond (nat_lt most_bytes (length p)) (Err BadPath) (cond (not (has_lawful_numbers words)) (Err BadNumber) owned)) path
-    ∙ ap (λ (long : Bool). cond long (Err BadPath) (cond (not (has_lawful_numbers words)) (Err BadNumber) owned)) (le-ltb most_bytes (length file.path) lawful.path.short)
+    ap (λ (bad : Bool). cond (bad || nat_lt most_line_bytes (length (path_of before word))) (Err BadPath) (cond (not (has_lawful_numbers words)) (Err BadNumber) owned)) (word-good file.path bytes is)
+    ∙ ap (λ (p : List ℕ). cond (nat_lt most_line_bytes (length p)) (Err BadPath) (cond (not (has_lawful_numbers words)) (Err BadNumber) owned)) path
+    ∙ ap (λ (long : Bool). cond long (Err BadPath) (cond (not (has_lawful_numbers words)) (Err BadNumber) owned)) (le-ltb most_line_bytes (length file.path) lawful.path.short)
     ∙ ap (λ (good : Bool). cond (not good) (Err BadNumber) owned) (numbers-lawful file.uid file.gid kind lawful.uid lawful.gid)
     ∙ ap (λ (p : List ℕ). owned_file p (number_in_force (codes "uid") before words) (number_in_force (codes "gid") before words)) path
     ∙ ap (λ (u : Option ℕ). owned_file file.path u (number_in_force (codes "gid") before words)) (uid-read before file.uid file.gid kind lawful.uid)

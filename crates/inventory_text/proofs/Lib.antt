@@ -1,6 +1,10 @@
+pub mod Names
 pub mod Escaped
 pub mod Visible
 pub mod Entries
 pub mod Heads
 pub mod Texts
 pub mod TypeWords
+pub mod EntryPaths
+pub mod PathsOfNames
+pub mod Cuts

@@ -14,7 +14,7 @@ use Rattle.idtext.specs.Faults.{line_number}
 use Rattle.idtext.specs.First.{first_fault, or_else, unless, ◌>>=◌}
 use Rattle.idtext.specs.Numbers.{greatest_id, id_of}
 use Rattle.idtext.specs.Pieces.{lines, pieces}
-use Rattle.idtext.specs.Words.{most_bytes}
+use Rattle.idtext.specs.Words.{most_line_bytes}
 use Rattle.idtext.proofs.NumberLemmas.{decimal-back}
 use Rattle.idtext.proofs.PieceLemmas.{lines-cut, lines-empty}
 use Rattle.idtext.specs.declared.faults.TextCode.{TextCode}
@@ -40,31 +40,35 @@ use Rattle.inventory_text.proofs.Visible.{decimal-end, decimal-short, decimal-vi
 -- ---- a line by itself
 
 -- a line that is a logical line by itself, of this kind
-record Reads (line : List ℕ) (kind : Kind) : Type 0 where
-  printed : is_printed line ≡ true
-  ends : ends_in_backslash line ≡ false
-  kind_is : (number : ℕ) → kind_of (record { number = number; text = line; is_cut = false }) ≡ kind
+pub record Reads (line : List ℕ) (kind : Kind) : Type 0 where
+  pub printed : is_printed line ≡ true
+  pub ends : ends_in_backslash line ≡ false
+  pub kind_is : (number : ℕ) → kind_of (record { number = number; text = line; is_cut = false }) ≡ kind
 
 -- what it says, whatever stands before it; it begins no inventory
-record Says (line : List ℕ) (kind : Kind) (said : Option Entry) : Type 0 where
-  reads : Reads line kind
-  within : is_beginning kind ≡ false
-  says : (before : List Kind) → said_alone before kind ≡ Ok said
+pub record Says (line : List ℕ) (kind : Kind) (said : Option Entry) : Type 0 where
+  pub reads : Reads line kind
+  pub within : is_beginning kind ≡ false
+  pub says : (before : List Kind) → said_alone before kind ≡ Ok said
 
-short-kind : (line : List ℕ) (kind : Kind) → kind_of_text line ≡ kind → length line ≤ most_bytes → (number : ℕ) → kind_of (record { number = number; text = line; is_cut = false }) ≡ kind
+short-kind : (line : List ℕ) (kind : Kind) → kind_of_text line ≡ kind → length line ≤ most_line_bytes → (number : ℕ) → kind_of (record { number = number; text = line; is_cut = false }) ≡ kind
 unfolding kind_of
-short-kind line kind is short number = ap (λ (long : Bool). cond long TooLong (kind_of_text line)) (le-ltb most_bytes (length line) short) ∙ is
+short-kind line kind is short number = ap (λ (long : Bool). cond long TooLong (kind_of_text line)) (le-ltb most_line_bytes (length line) short) ∙ is
 
-head-reads : (head : Head) → length (head_line head) ≤ most_bytes → Reads (head_line head) Begins
-head-reads head short =
+-- a first line, of whatever kind its length makes it
+pub head-reads-as : (head : Head) (kind : Kind) → ((number : ℕ) → kind_of (record { number = number; text = head_line head; is_cut = false }) ≡ kind) → Reads (head_line head) kind
+head-reads-as head kind is =
     let words : List (List ℕ) = head.host ∷ head.time ∷ head.roots in
     record {
       printed = printed-append (codes "# unify inventory 1") (words_text words) refl (words-printed words);
       ends = ends-either (codes "# unify inventory 1") (words_text words) refl (words-end words);
-      kind_is = short-kind (head_line head) Begins refl short;
+      kind_is = is;
     }
 
-end-says : (count : ℕ) → count < 2 ^ 64 → Says (end_line count) (Counts (decimal count)) None
+head-reads : (head : Head) → length (head_line head) ≤ most_line_bytes → Reads (head_line head) Begins
+head-reads head short = head-reads-as head Begins (short-kind (head_line head) Begins refl short)
+
+pub end-says : (count : ℕ) → count < 2 ^ 64 → Says (end_line count) (Counts (decimal count)) None
 end-says count small = record {
   reads = record {
     printed = printed-append (codes "# end ") (decimal count) refl (visible-printed (decimal count) (decimal-visible count small));
@@ -75,13 +79,13 @@ end-says count small = record {
   says = λ before. refl;
 }
 
-spaced-printed : (word rest : List ℕ) → is_visible word ≡ true → is_printed rest ≡ true → is_printed (spaced word rest) ≡ true
+pub spaced-printed : (word rest : List ℕ) → is_visible word ≡ true → is_printed rest ≡ true → is_printed (spaced word rest) ≡ true
 spaced-printed word rest w r = printed-append word (32 ∷ rest) (visible-printed word w) r
 
-abbrev entry_kind : Listed → Kind
+abbrev pub entry_kind : Listed → Kind
 entry_kind listed = Names (name_word listed.file.path) (keywords listed.file.uid listed.file.gid listed.kind)
 
-entry-says : (listed : Listed) → IsListed listed → Says (line_of listed) (entry_kind listed) (Some listed.file)
+pub entry-says : (listed : Listed) → IsListed listed → Says (line_of listed) (entry_kind listed) (Some listed.file)
 entry-says listed is =
     let path = listed.file.path in
     let uid : listed.file.uid < 2 ^ 64 = omega (arith, is.lawful.uid) in
@@ -104,20 +108,20 @@ entry-says listed is =
 
 -- ---- lines and what they say
 
-record Item : Type 0 where
-  line : List ℕ
-  kind : Kind
-  said : Option Entry
+pub record Item : Type 0 where
+  pub line : List ℕ
+  pub kind : Kind
+  pub said : Option Entry
 
-abbrev AllRead : List Item → Type 0
+abbrev pub AllRead : List Item → Type 0
 AllRead [] = Unit {0}
 AllRead (i ∷ is) = Reads i.line i.kind × AllRead is
 
-abbrev AllSay : List Item → Type 0
+abbrev pub AllSay : List Item → Type 0
 AllSay [] = Unit {0}
 AllSay (i ∷ is) = Says i.line i.kind i.said × AllSay is
 
-all-read : (items : List Item) → AllSay items → AllRead items
+pub all-read : (items : List Item) → AllSay items → AllRead items
 all-read [] all = tt
 all-read (i ∷ is) all = (all.0.reads, all-read is all.1)
 
@@ -129,15 +133,15 @@ abbrev all_said : List Item → List Entry
 all_said [] = []
 all_said (i ∷ is) = with_said i.said (all_said is)
 
-abbrev item_lines : List Item → List (List ℕ)
+abbrev pub item_lines : List Item → List (List ℕ)
 item_lines items = map (λ (i : Item). i.line) items
 
-abbrev text_of : List Item → List ℕ
+abbrev pub text_of : List Item → List ℕ
 text_of items = flat_map (λ (i : Item). ended i.line) items
 
 -- ---- the lines of the text
 
-no_newline : (line : List ℕ) → is_printed line ≡ true → All (λ b. (b == 10) ≡ false) line
+pub no_newline : (line : List ℕ) → is_printed line ≡ true → All (λ b. (b == 10) ≡ false) line
 no_newline [] h = All-nil (λ (b : ℕ). (b == 10) ≡ false)
 no_newline (b ∷ line) h =
     let parts = and_parts (nat_le 32 b) (is_printed line) h in
@@ -147,7 +151,7 @@ no_newline (b ∷ line) h =
     other true e h = absurd (omega (arith, eqb-true b 10 e, leb-true 32 b h))
     other false e h = refl
 
-line-first : (line rest : List ℕ) → is_printed line ≡ true → lines (ended line ++ rest) ≡ line ∷ lines rest
+pub line-first : (line rest : List ℕ) → is_printed line ≡ true → lines (ended line ++ rest) ≡ line ∷ lines rest
 unfolding pieces
 line-first line rest printed =
     ap lines (append_assoc line (10 ∷ []) rest)
@@ -158,7 +162,7 @@ text-lines [] all = lines-empty
 text-lines (i ∷ is) all = line-first i.line (text_of is) all.0.printed ∙ ap (λ (ls : List (List ℕ)). i.line ∷ ls) (text-lines is all.1)
 
 -- the lines with their numbers
-abbrev numbered : ℕ → List (List ℕ) → List LogicalLine
+abbrev pub numbered : ℕ → List (List ℕ) → List LogicalLine
 numbered n [] = []
 numbered n (line ∷ rest) = record { number = n; text = line; is_cut = false } ∷ numbered (next_number n) rest
 
@@ -172,10 +176,10 @@ not_joined n (i ∷ is) all =
 text-logical : (items : List Item) → AllRead items → logical_lines (text_of items) ≡ numbered 1 (item_lines items)
 text-logical items all = ap (joined_from 1) (text-lines items all) ∙ not_joined 1 items all
 
-abbrev item_kinds : List Item → List Kind
+abbrev pub item_kinds : List Item → List Kind
 item_kinds items = map (λ (i : Item). i.kind) items
 
-kinds-numbered : (n : ℕ) (items : List Item) → AllRead items → kinds (numbered n (item_lines items)) ≡ item_kinds items
+pub kinds-numbered : (n : ℕ) (items : List Item) → AllRead items → kinds (numbered n (item_lines items)) ≡ item_kinds items
 kinds-numbered n [] all = refl
 kinds-numbered n (i ∷ is) all =
     ap (λ (k : Kind). k ∷ kinds (numbered (next_number n) (item_lines is))) (all.0.kind_is n)
@@ -192,7 +196,7 @@ no_newline-count line printed = none line (no_newline line printed)
         ∙ ap (λ (t : Bool). cond t 1 0 + count_by (λ b. b == 10) bytes) (All-head (λ (b : ℕ). (b == 10) ≡ false) b bytes all)
         ∙ omega (arith, none bytes (All-tail (λ (b : ℕ). (b == 10) ≡ false) b bytes all))
 
-text-newlines : (items : List Item) → AllRead items → count_by (λ b. b == 10) (text_of items) ≡ length items
+pub text-newlines : (items : List Item) → AllRead items → count_by (λ b. b == 10) (text_of items) ≡ length items
 text-newlines [] all = refl
 text-newlines (i ∷ is) all =
     let one : ℕ → ℕ = λ b. cond (b == 10) 1 0 in
@@ -309,11 +313,11 @@ cut-is head items first all =
 
 -- ---- head, entries and end
 
-abbrev entry_items : List Listed → List Item → List Item
+abbrev pub entry_items : List Listed → List Item → List Item
 entry_items [] rest = rest
 entry_items (l ∷ ls) rest = record { line = line_of l; kind = entry_kind l; said = Some l.file } ∷ entry_items ls rest
 
-entries-say : (listed : List Listed) (rest : List Item) → All IsListed listed → AllSay rest → AllSay (entry_items listed rest)
+pub entries-say : (listed : List Listed) (rest : List Item) → All IsListed listed → AllSay rest → AllSay (entry_items listed rest)
 entries-say [] rest all r = r
 entries-say (l ∷ ls) rest all r = (entry-says l (All-head IsListed l ls all), entries-say ls rest (All-tail IsListed l ls all) r)
 
@@ -321,7 +325,7 @@ entries-said : (listed : List Listed) (rest : List Item) → all_said (entry_ite
 entries-said [] rest = refl
 entries-said (l ∷ ls) rest = ap (λ (fs : List Entry). l.file ∷ fs) (entries-said ls rest)
 
-entries-text : (listed : List Listed) (rest : List Item) → text_of (entry_items listed rest) ≡ entries_text listed ++ text_of rest
+pub entries-text : (listed : List Listed) (rest : List Item) → text_of (entry_items listed rest) ≡ entries_text listed ++ text_of rest
 entries-text [] rest = refl
 entries-text (l ∷ ls) rest =
     ap (λ (t : List ℕ). ended (line_of l) ++ t) (entries-text ls rest)

@@ -3,3 +3,4 @@ pub mod Heads
 pub mod Listed
 pub mod ReadBack
 pub mod KindsBack
+pub mod EntryPaths

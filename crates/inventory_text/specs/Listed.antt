@@ -1,12 +1,11 @@
 -- The files of an inventory that is written, and which of them can be read back.
 -- Source: this project's profile of mtree(5), as mtree_inv defines it.
-use Rattle.std.specs.Prelude.{◌≡◌, ◌⊎◌, ℕ, true, false, ◌<◌, ◌≤◌, List, ◌++◌, All, codes, flat_map}
+use Rattle.std.specs.Prelude.{◌≡◌, ◌≢◌, ◌⊎◌, ℕ, ◌<◌, ◌≤◌, List, ◌++◌, All, codes, flat_map}
 use Rattle.std.specs.Prelude.{length, map}
 use Rattle.idtext.specs.Pieces.{pieces}
-use Rattle.idtext.specs.Words.{most_bytes}
+use Rattle.idtext.specs.Words.{most_line_bytes}
 use Rattle.mtree_inv.specs.declared.entry.Entry.{Entry}
 use Rattle.mtree_inv.specs.Files.{IsLawfulFile, HaveDistinctFiles}
-use Rattle.mtree_inv.specs.Paths.{is_bad_component, is_kept}
 use Rattle.inventory_text.specs.declared.kind.FileKind.{FileKind}
 use Rattle.inventory_text.specs.Writing.{Head, ended, end_line, entry_line, head_line}
 
@@ -35,8 +34,10 @@ cut_text head listed = ended (head_line head) ++ entries_text listed
 
 -- a name of a path: not empty, neither `.` nor `..`, without a slash and a NUL byte
 pub record IsName (name : List ℕ) : Type 0 where
-  pub kept : is_kept name ≡ true
-  pub good : is_bad_component name ≡ false
+  pub filled : 0 < length name
+  pub not_dot : name ≢ codes "."
+  pub not_dot_dot : name ≢ codes ".."
+  pub plain : All (λ b. (b ≢ 47) × (b ≢ 0)) name
 
 -- the starting directory itself, or names with slashes between them
 abbrev pub IsPath : List ℕ → Type 0
@@ -47,7 +48,7 @@ pub record IsListed (listed : Listed) : Type 0 where
   pub lawful : IsLawfulFile listed.file
   pub bytes : All (λ b. b < 256) listed.file.path
   pub path : IsPath listed.file.path
-  pub short : length (line_of listed) ≤ most_bytes
+  pub short : length (line_of listed) ≤ most_line_bytes
 
 -- such files, no two of one path
 pub record AreListed (listed : List Listed) : Type 0 where

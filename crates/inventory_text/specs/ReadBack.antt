@@ -1,10 +1,12 @@
 -- What is written is read back.
 -- Source: this project's own rule, by the definitions of mtree_inv.
 use Rattle.std.specs.Prelude.{◌≡◌, ℕ, ◌+◌, ◌<◌, ◌≤◌, List, length, false, All, Ok, Err, Some}
+use Rattle.std.specs.Prelude.{codes, take}
 use Rattle.idtext.specs.Faults.{line_number}
 use Rattle.idtext.specs.Numbers.{greatest_id}
-use Rattle.idtext.specs.Words.{most_bytes}
+use Rattle.idtext.specs.Words.{most_line_bytes}
 use Rattle.idtext.specs.declared.faults.TextCode.TheVariants.{CutInventory}
+use Rattle.idtext.specs.declared.faults.TextFault.{TextFault}
 use Rattle.mtree_inv.specs.Kinds.{Kind, kind_of}
 use Rattle.mtree_inv.specs.Inventory.{inventory, said_alone}
 use Rattle.inventory_text.specs.Writing.{Head, head_line}
@@ -37,12 +39,20 @@ EntriesReadBack = (before : List Kind) (number : ℕ) (listed : Listed) → IsLi
 abbrev pub InventoriesReadBack : Type 0
 InventoriesReadBack = (most : ℕ) (head : Head) (listed : List Listed)
     → AreListed listed → length listed ≤ most → length listed ≤ greatest_id
-    → length (head_line head) ≤ most_bytes
+    → length (head_line head) ≤ most_line_bytes
     → inventory most (inventory_text head listed) ≡ Ok (files_of listed)
 
 -- one that is cut behind its first line or behind a file is refused, at the line that is missing
 abbrev pub CutInventoriesAreRefused : Type 0
 CutInventoriesAreRefused = (most : ℕ) (head : Head) (listed : List Listed)
-    → AreListed listed → length listed ≤ most → length (head_line head) ≤ most_bytes
+    → AreListed listed → length listed ≤ most → length (head_line head) ≤ most_line_bytes
     → inventory most (cut_text head listed)
     ≡ Err (record { code = CutInventory; line = line_number (length listed + 1) })
+
+-- and it is refused wherever it is cut behind the words that every first line begins with, unless
+-- nothing but its last newline is missing
+abbrev pub CutAnywhereIsRefused : Type 0
+CutAnywhereIsRefused = (most : ℕ) (head : Head) (listed : List Listed) (n : ℕ)
+    → All IsListed listed → length listed ≤ greatest_id
+    → length (codes "# unify inventory ") ≤ n → n + 1 < length (inventory_text head listed)
+    → (fault : TextFault) × (inventory most (take n (inventory_text head listed)) ≡ Err fault)

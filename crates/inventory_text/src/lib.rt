@@ -1,6 +1,7 @@
 //! Inventories of files and their owners as they are written, in this project's profile of
 //! mtree(5), so that a reader gets back exactly the files that were listed: any path that a file
-//! can have, whatever bytes its names are of. One that was cut between two lines is refused.
+//! can have, whatever bytes its names are of. One that was cut behind its first words, by more than
+//! its last newline, is refused. Laws say, too, which paths a reader finds in any inventory.
 #![tactic(auto)]
 
 mod head;
@@ -13,6 +14,6 @@ pub use head::push_head;
 pub use kind::FileKind;
 pub use laws::{
     cut_inventories_are_refused, entries_read_back, heads_read_back, inventories_read_back,
-    kinds_read_back,
+    kinds_read_back, paths_are_of_names, paths_of_entries,
 };
 pub use writing::{push_end, push_entry};
