@@ -27,6 +27,9 @@ TEXTS = {
     "pins": "user bob 1005\n",
     "bad": "no line of any text\n",
     "cut-pins": "user bob 1005",
+    "returns-pins": "user bob 1005\r\n",
+    "returns-keep": "user bob\r\n",
+    "returns-map": (STORED / "map").read_text().replace("\n", "\r\n"),
     "cut-keep": "users 0 999",
     "cut-map": (STORED / "map").read_text().rstrip("\n"),
     "near-pins": "user alcie 1006\nuser bobby 1007\ngroup user 7\ngroup usres 8\n",
@@ -43,13 +46,15 @@ TEXTS = {
 NOTHING_COUNTED = "user-fields 0\ngroup-fields 0\n"
 NO_ACCOUNTS = "".join(f"unify: warning: host b has no {what}\n" for what in ("users", "groups"))
 BARE = NO_ACCOUNTS + "unify: warning: host b has no files\n"
-RETURNS = "".join(f"unify: warning: host a has lines in {file} that end in a carriage return\n" for file in ("passwd", "group"))
+RETURNS = "".join(f"unify: warning: host a has lines in {file} that end in a carriage return\n" for file in ("passwd", "group", "login.defs"))
+ENDED = "unify: warning: file {} has lines that end in a carriage return\n".format
 CUT = "unify: warning: file cut-pins has no newline at its end\n"
 CUT_KEEP = CUT.replace("pins", "keep")
 TAKEN = "unify: warning: numbers of users that were another user's on some host: 1\n"
 NOBODY = "unify: warning: pin of {} is for a name that no host has{}\n".format
 KEPT = "unify: warning: keep of {} is for a name that no host has\n".format
 SPACED = "".join(f"unify: warning: host a has lines in {file} that begin with white space\n" for file in ("passwd", "group"))
+SPACED += "unify: warning: host a has members in group that begin with white space\n"
 MTREE_RETURNS = "unify: warning: host a has lines in mtree that end in a carriage return\n"
 STAYS = "unify: warning: pin of {} is for a name that stays as it is on each host, and gives it no number\n".format
 ALICE = "alice:x:1001:100:{}:/home/alice:/bin/sh\n".format
@@ -347,6 +352,10 @@ TABLE = [
     ("count cut-map a b", 0, COUNTED, "unify: warning: file cut-map has no newline at its end\n"),
     ("count --keep cut-keep map a b", 0, COUNTED, CUT_KEEP),
     ("count -q --keep cut-keep map a b", 0, COUNTED, ""),
+    ("count returns-map a b", 1, "", ENDED("returns-map") + "unify: 40 BadMap line 1\n"),
+    ("count -q returns-map a b", 1, "", "unify: 40 BadMap line 1\n"),
+    ("merge --pins returns-pins out a b", 1, "", ENDED("returns-pins") + "unify: 43 BadPins line 1\n"),
+    ("count --keep returns-keep map a b", 0, COUNTED, ENDED("returns-keep")),
     ("count map a b=bare", 1, "", NO_ACCOUNTS + "unify: 40 BadMap line 0\n"),
     ("count two b=bare", 0, NOTHING_COUNTED, BARE),
     ("count -q two b=bare", 0, NOTHING_COUNTED, ""),
@@ -567,12 +576,12 @@ def lay_out(room):
     (room / "refused/passwd").write_text(TEXTS["bad"])
     (room / "odd-defaults/login.defs").mkdir()
     (room / "dangling/login.defs").symlink_to("nowhere")
-    for file in ("passwd", "group"):
-        text = (room / "returns" / file).read_bytes()
-        (room / "returns" / file).write_bytes(text + b"# a line that is skipped\r\n")
+    for file in ("passwd", "group", "login.defs"):
+        with open(room / "returns" / file, "ab") as text:
+            text.write(b"# a line that is skipped\r\n")
     with open(room / "returns-mtree/mtree", "ab") as mtree:
         mtree.write(b"# a comment\r\n")
-    for file, line in {"passwd": " carol:x:1005:100::/:/bin/sh\n", "group": "\tstaff:x:50:\n"}.items():
+    for file, line in {"passwd": " carol:x:1005:100::/:/bin/sh\n", "group": "\tstaff:x:50:alice, bob\n"}.items():
         with open(room / "spaced" / file, "a") as table:
             table.write(line)
     for host, tables in DOUBTED.items():

@@ -14,8 +14,8 @@ use unify_bundle::{
 };
 use unify_io::{
     FileFault, command_line, file_fault_told, memory_refused, no_host, open_output, print_answer,
-    read_file, read_hosts_tables, read_named, tell_of_keep, warn_of_end, warn_of_hosts_tables,
-    warn_of_merge, write_failed, wrong_words,
+    read_file, read_hosts_tables, read_named, tell_of_keep, warn_of_hosts_tables, warn_of_merge,
+    warn_of_text, write_failed, wrong_words,
 };
 use unify_merge::MergeFault;
 use verify_files::run_verify;
@@ -42,16 +42,16 @@ fn print_reply<T, F: KnowsWhy>(
     Ok(status)
 }
 
-// Warns of texts that may have been cut: of one, and of the keep text.
-fn warn_of_ends(
+// Warns of the lines of a text and of those of the keep text.
+fn warn_of_texts(
     rt: &HostRuntime,
     matches: &ArgMatches<'_>,
     path: &str,
     text: &ByteString,
     keep: &ByteString,
 ) -> Result<(), AllocError> {
-    warn_of_end(rt, path, text)?;
-    warn_of_end(rt, matches.get_str("keep").unwrap_or(""), keep)
+    warn_of_text(rt, path, text)?;
+    warn_of_text(rt, matches.get_str("keep").unwrap_or(""), keep)
 }
 
 // The hosts that words name, but their inventories. Warns of them, of a text and of the keep text,
@@ -65,7 +65,7 @@ fn hosts_named(
 ) -> Result<Vec<HostText>, FileFault> {
     let hosts = read_hosts_tables(rt, matches.get_strs("HOST").unwrap_or(&[]))?;
     if !matches.get_flag("quiet") {
-        warn_of_ends(rt, matches, path, text, keep)?;
+        warn_of_texts(rt, matches, path, text, keep)?;
         warn_of_hosts_tables(rt, &hosts)?;
     }
     Ok(hosts)
@@ -189,7 +189,7 @@ fn warn_before(
     keep: &ByteString,
 ) -> Result<(), AllocError> {
     let path = matches.get_str("pins").unwrap_or("");
-    warn_of_ends(rt, matches, path, pins, keep)?;
+    warn_of_texts(rt, matches, path, pins, keep)?;
     warn_of_hosts_tables(rt, hosts)
 }
 

@@ -26,5 +26,5 @@ pub use report::{
     Said, bundle_memory_refused, file_failed, file_fault_told, memory_refused, no_host,
     print_answer, tell_of, tell_of_keep, write_failed, wrong_words,
 };
-pub use warnings::{MOST_LINES, Part, warn, warn_of_end, warn_of_hosts_tables, warn_of_inventory};
+pub use warnings::{MOST_LINES, Part, warn, warn_of_hosts_tables, warn_of_inventory, warn_of_text};
 pub use writing::{NewFile, begin_output, finish_output};

@@ -1,7 +1,7 @@
 //! Warnings: of what is accepted and is seldom meant so. Each is a line on standard error.
 
 use hosts_join::HostText;
-use idtext::{ByteString, Lines, ReadError, is_skipped, push_escaped, push_number};
+use idtext::{ByteString, Lines, Pieces, ReadError, fields, is_skipped, push_escaped, push_number};
 use std::alloc::AllocError;
 use std::io::Write;
 
@@ -99,11 +99,26 @@ fn has_carriage_return(text: &[u8]) -> bool {
     Lines::new(text).any(|line| line.ends_with(b"\r"))
 }
 
+// Whether bytes begin with white space.
+fn begins_with_space(bytes: &[u8]) -> bool {
+    bytes.starts_with(b" ") || bytes.starts_with(b"\t")
+}
+
 // Whether a line of a text begins with white space and is not skipped.
 fn has_space_in_front(text: &[u8]) -> bool {
-    Lines::new(text).any(|line| {
-        !is_skipped(line) && (line.starts_with(b" ") || line.starts_with(b"\t"))
-    })
+    Lines::new(text).any(|line| !is_skipped(line) && begins_with_space(line))
+}
+
+// Whether a row of a group file has a member that begins with white space.
+fn has_spaced_member(row: &[u8]) -> bool {
+    fields(row).skip(3).any(|members| Pieces::new(b',', members).any(|member| begins_with_space(
+        member,
+    )))
+}
+
+// Whether a group file has such a row.
+fn has_spaced_members(text: &[u8]) -> bool {
+    Lines::new(text).any(|line| !is_skipped(line) && has_spaced_member(line))
 }
 
 // Whether all lines of a text are skipped.
@@ -162,6 +177,16 @@ fn warn_of_tables(rt: &HostRuntime, host: &HostText) -> Result<(), AllocError> {
         "has lines in group that end in a carriage return",
         "has lines in group that begin with white space",
     )?;
+    if has_spaced_members(host.group.bytes()) {
+        warn_of_host(rt, name, "has members in group that begin with white space")?;
+    }
+    if has_carriage_return(host.logindefs.bytes()) {
+        warn_of_host(
+            rt,
+            name,
+            "has lines in login.defs that end in a carriage return",
+        )?;
+    }
     if is_all_skipped(host.passwd.bytes()) {
         warn_of_host(rt, name, "has no users")?;
     }
@@ -179,19 +204,22 @@ pub fn warn_of_hosts_tables(rt: &HostRuntime, hosts: &[HostText]) -> Result<(), 
     Ok(())
 }
 
-/// Warns of a map, a pins text or a keep text that may have been cut.
-pub fn warn_of_end(rt: &HostRuntime, path: &str, text: &ByteString) -> Result<(), AllocError> {
-    if text.bytes().is_empty() || text.bytes().ends_with(b"\n") {
-        return Ok(());
+// Warns of a file.
+fn warn_of_path<'a>(rt: &HostRuntime, path: &'a str, why: &'a str) -> Result<(), AllocError> {
+    let name = Part::Name(path.as_bytes());
+    warn(rt, &[Part::Text("file"), name, Part::Text(why)])
+}
+
+/// Warns of the lines of a map, a pins text or a keep text: of such that end in a carriage return,
+/// and where the last has no newline, so that the text may have been cut.
+pub fn warn_of_text(rt: &HostRuntime, path: &str, text: &ByteString) -> Result<(), AllocError> {
+    if has_carriage_return(text.bytes()) {
+        warn_of_path(rt, path, "has lines that end in a carriage return")?;
     }
-    warn(
-        rt,
-        &[
-            Part::Text("file"),
-            Part::Name(path.as_bytes()),
-            Part::Text("has no newline at its end"),
-        ],
-    )
+    if !text.bytes().is_empty() && !text.bytes().ends_with(b"\n") {
+        warn_of_path(rt, path, "has no newline at its end")?;
+    }
+    Ok(())
 }
 
 /// Want of memory; another fault of a text is told where the text is judged.
