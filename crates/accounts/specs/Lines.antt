@@ -8,7 +8,7 @@ use Rattle.idtext.specs.declared.faults.TextCode.TheVariants.{TooManyLines, Line
 use Rattle.idtext.specs.declared.faults.TextFault.{TextFault}
 use Rattle.idtext.specs.Faults.{refused}
 use Rattle.idtext.specs.Names.{is_skipped}
-use Rattle.idtext.specs.Words.{most_bytes}
+use Rattle.idtext.specs.Words.{most_line_bytes}
 
 -- how many lines an account file may have
 abbrev pub most_lines : ℕ
@@ -22,7 +22,7 @@ is_compat line = slice_index line 0 == 43 || slice_index line 0 == 45
 abbrev pub is_kept : ℕ → List ℕ → Result Bool TextFault
 is_kept number line =
     if nat_lt most_lines number then refused number TooManyLines
-    else if nat_lt most_bytes (length line) then refused number LineTooLong
+    else if nat_lt most_line_bytes (length line) then refused number LineTooLong
     else if is_skipped line then Ok false
     else if is_compat line then refused number CompatLine
     else Ok true

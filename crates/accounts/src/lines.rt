@@ -5,7 +5,7 @@ ghost use Rattle.std.specs.Prelude.{Some};
 ghost use Rattle.idtext.specs.First.{Gives};
 ghost use Rattle.accounts.specs.Lines.{is_kept};
 
-use idtext::{MOST_BYTES, TextCode, TextFault, is_skipped};
+use idtext::{MOST_LINE_BYTES, TextCode, TextFault, is_skipped};
 
 /// How many lines an account file may have, skipped ones among them.
 pub const MOST_LINES: u64 = 65536;
@@ -19,7 +19,7 @@ pub fn keeps(number: u64, line: &[u8]) -> Result<bool, TextFault>
     if number > MOST_LINES {
         return Err(refused(TextCode::TooManyLines));
     }
-    if line.len() > MOST_BYTES {
+    if line.len() > MOST_LINE_BYTES {
         return Err(refused(TextCode::LineTooLong));
     }
     if is_skipped(line) {

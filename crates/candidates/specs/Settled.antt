@@ -10,6 +10,7 @@ use Rattle.std.specs.Ordering.{nat_cmp}
 use Rattle.std.specs.declared.cmp.Ordering.TheVariants.{Less}
 use Rattle.std.specs.HashSet.{contains}
 use Rattle.std.specs.Prelude.{nat_eq}
+use Rattle.idtext.specs.Numbers.{greatest_id}
 use Rattle.hosts_join.specs.Accounts.{Accounts}
 use Rattle.hosts_join.specs.declared.Class.{Class}
 use Rattle.hosts_join.specs.declared.Class.TheVariants.{Pinned, Regular, System}
@@ -57,7 +58,7 @@ pub record IsLeft (pool : List IdRange) (numbers : List (Option ℕ)) (from : �
 
 -- every number of the pool is one that an account may have
 abbrev pub AreIds : List IdRange → Type 0
-AreIds pool = (v : ℕ) → lies_in_some pool v ≡ true → v ≤ 4294967294
+AreIds pool = (v : ℕ) → lies_in_some pool v ≡ true → v ≤ greatest_id
 
 -- how often the name at an index stands in the list
 abbrev pub times : ℕ → List ℕ → ℕ

@@ -27,8 +27,8 @@ pub struct Host<'a> {
 }
 
 impl Host<'_> {
-    /// Whether a file of the host may have the uid: it is a user's, or the host spares it. A look-up
-    /// by hash, and where no user has it a bisection.
+    /// Whether a file of the host may have the uid: it is a user's, or the host spares it. One
+    /// look-up by hash, and a bisection where no user has it.
     pub fn allows_uid(&self, uid: u32) -> bool
         ensures { result ≡ spec.allows_uid self.now uid }
     {

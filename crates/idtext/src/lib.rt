@@ -26,4 +26,4 @@ pub use names::{is_lawful_name, is_skipped};
 pub use numbers::{GREATEST_ID, c_number, decimal, push_number};
 pub use parts::push_parts;
 pub use pieces::{Lines, Pieces, cut, fields, split_at_last_space};
-pub use words::{MOST_BYTES, Words, first_word};
+pub use words::{MOST_LINE_BYTES, Words, first_word};

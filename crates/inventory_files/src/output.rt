@@ -2,7 +2,7 @@
 
 use crate::roots::NamedRoot;
 use crate::sink::FileSink;
-use idtext::MOST_BYTES;
+use idtext::MOST_LINE_BYTES;
 use inventory_text::{FileKind, push_end, push_entry, push_head};
 use std::io;
 use std::io::{BufWriter, Printer, Write};
@@ -57,7 +57,7 @@ impl<'r> Output<'r> {
             words.push(root.word.as_bytes())?;
         }
         push_head(&mut self.line, host, time, &words)?;
-        if self.line.len() > MOST_BYTES + 1 {
+        if self.line.len() > MOST_LINE_BYTES + 1 {
             self.line.clear();
             return Ok(false);
         }
@@ -89,7 +89,7 @@ impl FileSink for Output<'_> {
         kind: FileKind,
     ) -> Result<bool, FileFault> {
         push_entry(&mut self.line, path, uid, gid, kind)?;
-        if self.line.len() > MOST_BYTES + 1 {
+        if self.line.len() > MOST_LINE_BYTES + 1 {
             self.line.clear();
             return Ok(false);
         }

@@ -7,7 +7,7 @@ use Rattle.std.specs.Prelude.{Ok, slice_get, slice_index_or}
 use Rattle.idtext.specs.declared.faults.TextFault.{TextFault}
 use Rattle.idtext.specs.Names.{is_skipped}
 use Rattle.idtext.specs.Pieces.{fields_of, lines}
-use Rattle.idtext.specs.Words.{most_bytes}
+use Rattle.idtext.specs.Words.{most_line_bytes}
 use Rattle.accounts.specs.Laws.{AreDistinct}
 use Rattle.accounts.specs.Lines.{is_compat, most_lines}
 use Rattle.accounts.specs.Rows.{Passwd, Group, passwd_from, group_from, members_of}
@@ -67,7 +67,7 @@ pub record IsRowLine {Row : Type 0} (from : ℕ → List (List ℕ) → Result R
 -- the text has no more lines than an account file may have, and none that is too long
 pub record KeepsLimits (text : List ℕ) : Type 0 where
   pub few_lines : length (lines text) ≤ most_lines
-  pub short_lines : All (λ line. length line ≤ most_bytes) (lines text)
+  pub short_lines : All (λ line. length line ≤ most_line_bytes) (lines text)
 
 -- Each line by itself is read as the row at its place; and where the text keeps the limits of an
 -- account file, its table is exactly these rows.

@@ -44,10 +44,9 @@ impl Inventory {
 }
 
 // What the reader has to hand out.
-fn all_entries(alloc: Global, reader: Reader) -> Result<Vec<Entry>, ReadError>
+fn all_entries(alloc: Global, mut reader: Reader) -> Result<Vec<Entry>, ReadError>
     ensures { MatchResult result (λ entries. entries.items ≡ reader.waiting) (λ e. e ≡ Memory) }
 {
-    let mut reader = reader;
     let mut entries = Vec::new(alloc);
     while let Some(entry) = reader.next_entry() {
         if entries.push(entry).is_err() {

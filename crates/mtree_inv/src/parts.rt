@@ -16,7 +16,7 @@ use crate::entry::Entry;
 use crate::fault::LineFault;
 use crate::open_line::{Ends, OpenLine, ends_in_backslash};
 use crate::walk::Walk;
-use idtext::{MOST_BYTES, ReadError, TextCode, TextFault};
+use idtext::{MOST_LINE_BYTES, ReadError, TextCode, TextFault};
 use memchr::memchr;
 use std::alloc::Global;
 
@@ -72,7 +72,7 @@ fn take_unless_long(
     ensures err { OnErr result (listed walk.new.files.table ≡ listed walk.old.files.table) }
     ensures most { walk.new.files.most ≡ walk.old.files.most }
 {
-    if text.len() > MOST_BYTES {
+    if text.len() > MOST_LINE_BYTES {
         return Err(too_long(number));
     }
     take_text(walk, alloc, number, text)

@@ -2,6 +2,7 @@
 -- Source: the assignment problem; which numbers a name may have is this project's own rule.
 use Rattle.std.specs.Prelude.{◌≡◌, ℕ, ◌<◌, ◌≤◌, true, List, All, length, slice_index_or, Option}
 use Rattle.std.specs.Prelude.{Some, None}
+use Rattle.idtext.specs.Numbers.{greatest_id}
 use Rattle.hosts_join.specs.Accounts.{Accounts}
 use Rattle.hosts_join.specs.Rules.{class_at, in_pool}
 use Rattle.hosts_join.specs.Site.{Joined}
@@ -30,7 +31,7 @@ AreDistinct m = (i j : ℕ) → i < length m → j < length m → number_at m i 
 -- What a mapping is: numbers that an account may have, no two of them the same.
 pub record IsMapping (m : List ℕ) : Type 0 where
   pub distinct : AreDistinct m
-  pub ids : All (λ v. v ≤ 4294967294) m
+  pub ids : All (λ v. v ≤ greatest_id) m
 
 -- An admissible mapping (of the assignment problem): each name has a number, one that it may have,
 -- and no two names share one.

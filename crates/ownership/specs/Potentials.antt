@@ -2,6 +2,7 @@
 -- Source: weak duality of the assignment problem (Kuhn 1955, Munkres 1957).
 use Rattle.std.specs.Prelude.{◌≡◌, ◌≢◌, ℕ, ◌+◌, ◌<◌, ◌≤◌, ◌^◌, true, false, if◌then◌else◌, ◌==◌}
 use Rattle.std.specs.Prelude.{List, [], ◌∷◌, length, slice_index_or, sum, sum_by}
+use Rattle.idtext.specs.Numbers.{greatest_id}
 use Rattle.hosts_join.specs.Accounts.{Accounts}
 use Rattle.hosts_join.specs.Lawful.{AreLawfulAccounts}
 use Rattle.hosts_join.specs.Rules.{class_at, in_pool, is_free_class}
@@ -27,7 +28,7 @@ AscendsByNumber z =
 
 -- a number that an account may have, with a potential that is not 0
 pub record IsZ (e : ℕ × ℕ) : Type 0 where
-  pub number : e.0 ≤ 4294967294
+  pub number : e.0 ≤ greatest_id
   pub positive : 1 ≤ e.1
   pub fits : e.1 < 2 ^ 64
 

@@ -2,6 +2,7 @@
 -- Source: this project's own format. That 4294967295 is no number of an owner is that of chown(2).
 use Rattle.std.specs.Prelude.{◌≡◌, ◌≢◌, ◌≤◌, ℕ, List, [], ◌∷◌, ◌++◌, All, true, length, flat_map}
 use Rattle.std.specs.Prelude.{codes, decimal}
+use Rattle.idtext.specs.Numbers.{greatest_id}
 use Rattle.hosts_join.specs.Checks.{is_host_name}
 use Rattle.mtree_inv.specs.Files.{IsLawfulPath}
 use Rattle.reown_plan.specs.declared.plan.Owner.{Owner}
@@ -34,7 +35,7 @@ IsHostName name = is_host_name name ≡ true
 
 -- the numbers of an account
 abbrev pub IsOwner : Owner → Type 0
-IsOwner owner = (owner.uid ≤ 4294967294) × (owner.gid ≤ 4294967294)
+IsOwner owner = (owner.uid ≤ greatest_id) × (owner.gid ≤ greatest_id)
 
 pub record IsLawfulRecord (c : PlanRecord) : Type 0 where
   pub before : IsOwner c.before

@@ -10,7 +10,7 @@ ghost use Rattle.reown_plan.specs.PlanData.{PlanRecord};
 
 use crate::{Owner, Record};
 use hosts_join::is_host_name;
-use idtext::{GREATEST_ID, MOST_BYTES, cut};
+use idtext::{GREATEST_ID, MOST_LINE_BYTES, cut};
 use itoa::Buffer;
 
 // The number that these bytes write, without leading zeros.
@@ -99,7 +99,7 @@ fn read_path(text: &[u8], size: usize) -> Option<(&[u8], &[u8])>
         → text.now ≡ path ++ 10 ∷ rest
         → IsSomeAnd result (λ r. (r.0.now ≡ path) × (r.1.now ≡ rest)) }
 {
-    if size == 0 || size > MOST_BYTES || size >= text.len() || text[size] != b'\n' {
+    if size == 0 || size > MOST_LINE_BYTES || size >= text.len() || text[size] != b'\n' {
         return None;
     }
     let path = &text[..size];

@@ -116,10 +116,9 @@ fn rules_of<'a>(
 }
 
 // What goes out for `run count`.
-fn run_count(alloc: Global, places: Vec<Place>) -> Result<Reply, AllocError>
+fn run_count(alloc: Global, mut places: Vec<Place>) -> Result<Reply, AllocError>
     ensures { IfOk result (λ reply. reply_of reply ≡ answered (count_lines places.items)) }
 {
-    let mut places = places;
     let mut head = take_head(alloc, &mut places);
     let map = take_text(alloc, &mut head, FileName::Map);
     let texts = take_rules(alloc, &mut head);
@@ -131,10 +130,9 @@ fn run_count(alloc: Global, places: Vec<Place>) -> Result<Reply, AllocError>
 }
 
 // What goes out for `run merge`.
-fn run_merge(alloc: Global, places: Vec<Place>) -> Result<Reply, AllocError>
+fn run_merge(alloc: Global, mut places: Vec<Place>) -> Result<Reply, AllocError>
     ensures { IfOk result (λ reply. Answers (IsMergeReply places.items) (reply_of reply)) }
 {
-    let mut places = places;
     let mut head = take_head(alloc, &mut places);
     let texts = take_rules(alloc, &mut head);
     let hosts = hosts_of(alloc, places)?;
@@ -145,11 +143,10 @@ fn run_merge(alloc: Global, places: Vec<Place>) -> Result<Reply, AllocError>
 }
 
 // What goes out for `run merge hosts`.
-fn run_merge_hosts(alloc: Global, places: Vec<Place>) -> Result<Reply, AllocError>
+fn run_merge_hosts(alloc: Global, mut places: Vec<Place>) -> Result<Reply, AllocError>
     ensures { IfOk result
         (λ reply. Answers (IsMergeWithHostsReply places.items) (reply_of reply)) }
 {
-    let mut places = places;
     let mut head = take_head(alloc, &mut places);
     let texts = take_rules(alloc, &mut head);
     let hosts = hosts_of(alloc, places)?;
@@ -160,10 +157,9 @@ fn run_merge_hosts(alloc: Global, places: Vec<Place>) -> Result<Reply, AllocErro
 }
 
 // What goes out for `run check`.
-fn run_check(alloc: Global, places: Vec<Place>) -> Result<Reply, AllocError>
+fn run_check(alloc: Global, mut places: Vec<Place>) -> Result<Reply, AllocError>
     ensures { IfOk result (λ reply. reply_of reply ≡ answered (check_lines places.items)) }
 {
-    let mut places = places;
     let mut head = take_head(alloc, &mut places);
     let certificate = take_text(alloc, &mut head, FileName::Certificate);
     let texts = take_rules(alloc, &mut head);
@@ -175,10 +171,9 @@ fn run_check(alloc: Global, places: Vec<Place>) -> Result<Reply, AllocError>
 }
 
 // What goes out for `run rehearse`.
-fn run_rehearse(alloc: Global, places: Vec<Place>) -> Result<Reply, AllocError>
+fn run_rehearse(alloc: Global, mut places: Vec<Place>) -> Result<Reply, AllocError>
     ensures { IfOk result (λ reply. Answers (IsRehearseReply places.items) (reply_of reply)) }
 {
-    let mut places = places;
     let mut head = take_head(alloc, &mut places);
     let plan = take_text(alloc, &mut head, FileName::Plan);
     let mtree = take_text(alloc, &mut head, FileName::Mtree);

@@ -7,7 +7,7 @@ use crate::streams::Source;
 use std::alloc::Global;
 
 /// The most bytes that a bundle may have.
-pub const MOST_BYTES: usize = 268435456;
+pub const MOST_INPUT_BYTES: usize = 268435456;
 
 /// Why the input was not read.
 #[derive(Clone, Copy, Debug, PartialEq, Eq)]
@@ -30,15 +30,15 @@ pub fn read_input<R: Source>(alloc: Global, reader: &mut R) -> Result<Vec<u8>, R
 {
     let mut input = Vec::new(alloc);
     let mut buffer = [0u8; 4096];
-    for _turn in 0..MOST_BYTES + 1 {
-        let room = (MOST_BYTES + 1 - input.len()).min(buffer.len());
+    for _turn in 0..MOST_INPUT_BYTES + 1 {
+        let room = (MOST_INPUT_BYTES + 1 - input.len()).min(buffer.len());
         let Ok(count) = reader.read(&mut buffer[..room]) else {
             return Err(ReadFault::Read);
         };
         if count == 0 {
             return Ok(input);
         }
-        if count > MOST_BYTES - input.len() {
+        if count > MOST_INPUT_BYTES - input.len() {
             return Err(ReadFault::Read);
         }
         if input.extend_from_slice(&buffer[..count]).is_err() {

@@ -22,9 +22,9 @@ fn texts_of(alloc: Global, files: Vec<NamedText>) -> Result<TextList, AllocError
 /// files that were written. One move of each file.
 pub fn with_files(
     alloc: Global,
-    outcome: Outcome,
+    mut outcome: Outcome,
     hosts: usize,
-    files: Vec<NamedText>,
+    mut files: Vec<NamedText>,
 ) -> Result<SiteFiles, AllocError>
     requires { (plans : List (List ℕ)) × (own : List NamedText)
         × ArePartedFor outcome.keeps_names hosts files.items plans own }
@@ -32,8 +32,6 @@ pub fn with_files(
         → ArePartedFor outcome.keeps_names hosts files.items plans own
         → (site.outcome ≡ record outcome { plans = plans }) × (site.own.items ≡ own)) }
 {
-    let mut files = files;
-    let mut outcome = outcome;
     let mut behind = files.split_off(if outcome.keeps_names { 2 } else { 4 })?;
     let mut own = behind.split_off(hosts)?;
     let _report = own.pop();

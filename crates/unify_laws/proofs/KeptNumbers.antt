@@ -36,7 +36,7 @@ use Rattle.unify.proofs.ReadSites.{are-loaded, are-pinned, others-together, rese
 use Rattle.unify.proofs.Whole.{hosts_held}
 use Rattle.unify_laws.specs.Headline.{HaveOneNumberEach}
 use Rattle.unify_laws.specs.HostTexts.{IsJoinedPart}
-use Rattle.unify_laws.specs.KeptNumbers.{IsGivenToNone, LeaveKeptNumbers, NoKeptNumberIsGiven, NoSurveyedNumberIsGiven, NoUnownedNumberIsGiven}
+use Rattle.unify_laws.specs.KeptNumbers.{HasNoName, LeaveKeptNumbers, NoKeptNumberIsGiven, NoSurveyedNumberIsGiven, NoUnownedNumberIsGiven}
 use Rattle.unify_laws.proofs.Counted.{mapped_some}
 use Rattle.unify_laws.proofs.HostTexts.{begun_steps, tables_are_of_texts}
 use Rattle.unify_laws.proofs.KeptPart.{reserved-alone}
@@ -59,13 +59,13 @@ listed-reserved kept rows keep hosts unowned number lies =
 
 module _ (a : Accounts) (m : List ℕ) (pairs : List Pair) (one : HaveOneNumberEach a m pairs) (leaves : LeavesOut a (is_reserved a.reserved)) where
   -- a number that is reserved is given to none
-  reserved-to-none : (number : ℕ) → is_reserved a.reserved number ≡ true → IsGivenToNone pairs number
+  reserved-to-none : (number : ℕ) → is_reserved a.reserved number ≡ true → HasNoName pairs number
   reserved-to-none number is name has = unreserved a leaves m pairs one.admissible one.say name number has is
 
   leave-kept : (kept : List ℕ → Bool) (rows : Host → List (List ℕ × ℕ)) (keep : Kept) (hosts : List Host) (unowned : List UnownedNumber) → reserved_by kept rows keep hosts unowned ≡ a.reserved
       → ((host : Host) (row : List ℕ × ℕ) → Contains hosts host → Contains (rows host) row → kept row.0 ≡ true → Contains (reserved_by kept rows keep hosts unowned) (by_name host row)) → LeaveKeptNumbers pairs keep.ranges kept rows hosts
   leave-kept kept rows keep hosts unowned same alone =
-      let here : (number : ℕ) → is_reserved (reserved_by kept rows keep hosts unowned) number ≡ true → IsGivenToNone pairs number = λ number is. reserved-to-none number (ap (λ (rs : List Reserved). is_reserved rs number) (sym same) ∙ is) in
+      let here : (number : ℕ) → is_reserved (reserved_by kept rows keep hosts unowned) number ≡ true → HasNoName pairs number = λ number is. reserved-to-none number (ap (λ (rs : List Reserved). is_reserved rs number) (sym same) ∙ is) in
       record {
         listed = λ number lies. here number (listed-reserved kept rows keep hosts unowned number lies);
         of_kept_names = λ name number is has. here number (reserved-alone (reserved_by kept rows keep hosts unowned) has.host (name, number) (alone has.host (name, number) has.is_host has.is_row is));

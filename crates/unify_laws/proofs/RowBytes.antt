@@ -5,7 +5,6 @@ use Rattle.idtext.specs.Pieces.{fields_of}
 use Rattle.idtext.proofs.EachByte.{each-line, each-piece}
 use Rattle.accounts.specs.Rows.{Passwd, Group}
 use Rattle.accounts.specs.Tables.{group_table, passwd_table}
-use Rattle.accounts.proofs.RowLemmas.{IsGroup, IsUser}
 use Rattle.accounts.proofs.TableRows.{each-group, each-user}
 
 abbrev pub AreBytes : List ℕ → Type 0

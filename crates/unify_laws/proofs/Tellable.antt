@@ -1,6 +1,6 @@
 -- What is reserved of a site can be told.
 use Rattle.std.proofs.Common.{◌≡◌, ℕ, ◌<◌, ◌≤◌, ◌++◌, ◌==◌, Bool, true, List, [], ◌∷◌, length, map, get_or, Result, Ok, Err, not, if◌then◌else◌, inl, inr, refl, ap, subst, ◌∙◌, arith}
-use Rattle.std.specs.List.{All, AllByRecursion, filter, flat_map, list_all, slice_get}
+use Rattle.std.specs.List.{All, AllByRecursion, filter, flat_map, list_all}
 use Rattle.std.proofs.lemmas.Bool.{and_parts, cases_Bool, cond_both}
 use Rattle.std.proofs.lemmas.Bool.Decides.{nat_tests}
 use Rattle.std.proofs.lemmas.List.{get_or-map, length-map}

@@ -27,8 +27,8 @@ use Rattle.unify.specs.Survey.{found_on, inventory_of, surveyed_hosts}
 use Rattle.unify_laws.specs.Headline.{HaveOneNumberEach}
 
 -- by the pairs of a map no name has the number
-abbrev pub IsGivenToNone : List Pair → ℕ → Type 0
-IsGivenToNone pairs number = (name : List ℕ) → number_of pairs name ≡ Some number → ⊥
+abbrev pub HasNoName : List Pair → ℕ → Type 0
+HasNoName pairs number = (name : List ℕ) → number_of pairs name ≡ Some number → ⊥
 
 -- ---- what is listed, and kept names
 
@@ -37,9 +37,9 @@ IsGivenToNone pairs number = (name : List ℕ) → number_of pairs name ≡ Some
 -- rows_on: the names of a host with their numbers
 pub record LeaveKeptNumbers (pairs : List Pair) (ranges : List IdRange) (is_kept : List ℕ → Bool)
     (rows_on : Host → List (List ℕ × ℕ)) (hosts : List Host) : Type 0 where
-  pub listed : (number : ℕ) → lies_in_some ranges number ≡ true → IsGivenToNone pairs number
+  pub listed : (number : ℕ) → lies_in_some ranges number ≡ true → HasNoName pairs number
   pub of_kept_names : (kept : List ℕ) (number : ℕ) → is_kept kept ≡ true
-      → HasNumber rows_on hosts kept number → IsGivenToNone pairs number
+      → HasNumber rows_on hosts kept number → HasNoName pairs number
 
 -- So it is of users and of groups, by the keep text, on the hosts as their texts tell them, with
 -- all their rows.
@@ -71,12 +71,12 @@ NoKeptNumberIsGiven =
 -- full: the host with all its rows
 abbrev pub LeavesItsUid : MapText → Host → Entry → Type 0
 LeavesItsUid given full file =
-    user_at full.users file.uid ≡ None → IsGivenToNone given.users file.uid
+    user_at full.users file.uid ≡ None → HasNoName given.users file.uid
 
 -- nor its gid, that no group of its host has
 abbrev pub LeavesItsGid : MapText → Host → Entry → Type 0
 LeavesItsGid given full file =
-    group_at full.groups file.gid ≡ None → IsGivenToNone given.groups file.gid
+    group_at full.groups file.gid ≡ None → HasNoName given.groups file.gid
 
 -- So it is of each file of inventories that are accepted, as those are which a merge reads.
 abbrev pub NoUnownedNumberIsGiven : Type 0

@@ -11,7 +11,7 @@ ghost use Rattle.unify_merge.specs.FirstReading.{readings_from};
 
 use crate::fault::MergeFault;
 use crate::files::ReadFiles;
-use crate::pieces::{MOST_BYTES, next_piece};
+use crate::pieces::{MOST_INVENTORY_BYTES, next_piece};
 use std::alloc::Global;
 use unify::Inventories;
 
@@ -38,7 +38,7 @@ fn count_reading<'a, F: ReadFiles>(
         (F.has_failed files.new) fault) }
     ensures reads { ReadsOnly (F.ledger files.old) (F.ledger files.new) }
 {
-    let mut left = MOST_BYTES;
+    let mut left = MOST_INVENTORY_BYTES;
     while next_piece(files, bytes, &mut left)? {
         inventories.piece(bytes)?;
     }

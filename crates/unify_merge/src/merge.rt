@@ -130,11 +130,11 @@ fn write_merged<'a, F: MergeFiles>(
 /// this order: passwd and group, unless a name of the hosts is kept; map, certificate, the plan of
 /// each host, each host's own passwd and group with their new numbers, and the report, with which
 /// all of them are settled. It stops early where a call on the files fails, where an inventory has
-/// more than 4,294,967,295 bytes, at the first fault of what is read, where an inventory has changed
-/// when it is read the second time (`Fault::InventoryChanged`), or where a growth is refused
-/// (`Fault::Memory`). Wherever it ends early, either nothing was written and nothing cleared away,
-/// or every inventory was accepted before that; then the files that are whole are the first of
-/// these, with their bytes, and at most the next was begun.
+/// more than 4,294,967,295 bytes, at the first fault of what is read, where an inventory has
+/// changed when it is read the second time (`Fault::InventoryChanged`), or where a growth is
+/// refused (`Fault::Memory`). Wherever it ends early, either nothing was written and nothing
+/// cleared away, or every inventory was accepted before that; then the files that are whole are the
+/// first of these, with their bytes, and at most the next was begun.
 ///
 /// Two passes over each inventory, with two look-ups by hash for each file; the rest is near linear
 /// in the names and account rows, but for the solver, which is near linear where few numbers are

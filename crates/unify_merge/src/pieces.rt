@@ -8,7 +8,7 @@ use crate::fault::MergeFault;
 use crate::files::ReadFiles;
 
 /// The most bytes that an inventory may have.
-pub const MOST_BYTES: u64 = 4294967295;
+pub const MOST_INVENTORY_BYTES: u64 = 4294967295;
 
 /// Hands out the next bytes of the reading, and whether there are any.
 ///

@@ -9,7 +9,7 @@ ghost use Rattle.unify_merge.specs.Rehearse.{HasRehearsed, StopsRehearsal};
 
 use crate::fault::MergeFault;
 use crate::files::ReadFiles;
-use crate::pieces::{MOST_BYTES, next_piece};
+use crate::pieces::{MOST_INVENTORY_BYTES, next_piece};
 use reown_plan::Plan;
 use std::alloc::Global;
 use unify::{Rehearsal, plan_at};
@@ -32,7 +32,7 @@ fn read_and_end<'a, F: ReadFiles>(
     ensures reads { ReadsOnly (F.ledger files.old) (F.ledger files.new) }
 {
     files.open(0)?;
-    let mut left = MOST_BYTES;
+    let mut left = MOST_INVENTORY_BYTES;
     while next_piece(files, bytes, &mut left)? {
         rehearsal.piece(bytes)?;
     }

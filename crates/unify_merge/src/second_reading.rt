@@ -15,7 +15,7 @@ ghost use Rattle.unify_merge.specs.SecondReading.{plan_name};
 
 use crate::fault::MergeFault;
 use crate::files::MergeFiles;
-use crate::pieces::{MOST_BYTES, next_piece};
+use crate::pieces::{MOST_INVENTORY_BYTES, next_piece};
 use hosts_join::HostText;
 use std::alloc::Global;
 use unify::{Solved, host_file_name};
@@ -111,7 +111,7 @@ fn plan_reading<'a, F: MergeFiles>(
     ensures ended { OnOk result (ended_in solved.new ≡ ended_in solved.old + 1) }
     ensures site { OnOk result (IsOfSameSite solved.old solved.new) }
 {
-    let mut left = MOST_BYTES;
+    let mut left = MOST_INVENTORY_BYTES;
     while next_piece(files, &mut buffers.bytes, &mut left)? {
         plan_piece(files, solved, &buffers.bytes, &mut buffers.plan)?;
     }

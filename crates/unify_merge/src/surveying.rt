@@ -14,7 +14,7 @@ ghost use Rattle.unify.specs.Survey.{inventory_of};
 
 use crate::fault::MergeFault;
 use crate::files::ReadFiles;
-use crate::pieces::{MOST_BYTES, next_piece};
+use crate::pieces::{MOST_INVENTORY_BYTES, next_piece};
 use hosts_join::{Host, HostText};
 use kept_accounts::UnownedNumbers;
 use std::alloc::Global;
@@ -72,7 +72,7 @@ fn read_host<'a, F: ReadFiles>(
     ensures reads { ReadsOnly (F.ledger files.old) (F.ledger files.new) }
 {
     files.open(index)?;
-    let mut left = MOST_BYTES;
+    let mut left = MOST_INVENTORY_BYTES;
     while next_piece(files, bytes, &mut left)? {
         survey_piece(survey, host, bytes)?;
     }
