@@ -6,10 +6,11 @@
 Makes a tree in a new folder below DIR: regular files, links, pipes, sockets, directories, files with the set-user-ID and
 set-group-ID bit, hard links, and names with spaces, newlines and letters beyond ASCII. The plan exchanges two owners. The program
 is killed with SIGKILL after random times and started again until it ends; after each kill every file has to be at its old or its
-new owner. Then the same with --reverse, and what has to be refused, a name that is not UTF-8 too. With strace it is also killed
-between the change of an owner, which clears the set-user-ID and set-group-ID bit, and the call that sets the mode back, and these
-bits are counted, and its syncs on an ext4 with a journal and on one without. It is run where standard error is a terminal, too,
-and, with mkfs.btrfs, where another subvolume of its btrfs is mounted below.
+new owner. Then the same with --reverse, and what has to be refused, a name that is not UTF-8 and a pipe as the mark too. With
+strace it is also killed between the change of an owner, which clears the set-user-ID and set-group-ID bit, and the call that sets
+the mode back, and these bits are counted, and its syncs on an ext4 with a journal and on one without; and behind a kill no other
+plan may be begun, nor the reverse. It is run where standard error is a terminal, too, in a root that is a plain directory, and,
+with mkfs.btrfs, where another subvolume of its btrfs is mounted below.
 Ends with status 1 where anything was otherwise.
 """
 import argparse
@@ -31,8 +32,10 @@ TOP = pathlib.Path(__file__).resolve().parent.parent
 ONE, OTHER, THIRD = (41001, 41101), (41002, 41102), (41003, 41103)
 # What is told of a step on a terminal.
 STEP = re.compile(r"\r\x1b\[Kunify: (looked at|changed|synced) (\d+) of (\d+)")
-# The calls by which a mode is set.
-SETS_MODE = "chmod,fchmod,fchmodat"
+# The calls by which a mode is set, and that by which a file is given an owner.
+SETS_MODE, GIVES = "chmod,fchmod,fchmodat", "fchown"
+# What is told where another plan was begun.
+OTHER_PLAN = "another plan was begun and has not ended; carry that one out to its end first"
 faults = []
 
 
@@ -235,10 +238,10 @@ class Bench:
         now = modes(self.root, self.owners)
         return [path for path in self.owners if now[path] != self.modes[path]]
 
-    def stopped(self, number, *flags):
-        """Runs the program, and kills it where it is to set a mode for this time; tells whether it was killed."""
-        inject = f"inject={SETS_MODE}:signal=KILL:when={number}"
-        words = ["strace", "-f", "-o", "/dev/null", "-e", f"trace={SETS_MODE}", "-e", inject, *self.words(*flags)]
+    def stopped(self, number, *flags, calls=SETS_MODE):
+        """Runs the program, and kills it where it is to make such a call for this time; tells whether it was killed."""
+        inject = f"inject={calls}:signal=KILL:when={number}"
+        words = ["strace", "-f", "-o", "/dev/null", "-e", f"trace={calls}", "-e", inject, *self.words(*flags)]
         return subprocess.run(words, capture_output=True, text=True).returncode != 0
 
     def between(self, *flags):
@@ -256,24 +259,46 @@ class Bench:
         self.at_end("then", "old" if "--reverse" in flags else "new")
 
     def foreign_modes(self):
-        """Modes files that are cut, no such file, or another plan's; all files are at their old owners before and behind."""
+        """Modes files that are cut, no such file, no file at all, or another plan's; all files are at their old owners before and
+        behind. The plan is run to its end before its reverse is begun, and a modes file that an ended plan has left is replaced."""
         modes_file = pathlib.Path(f"{self.plan}.done.modes")
         self.stopped(1)
         whole = modes_file.read_bytes()
         for what, text in (("cut", whole[:-4]), ("empty", b""), ("no mode", whole.replace(b"\n4755 ", b"\n4795 ", 1)), ("no such file", b"end\n")):
             modes_file.write_bytes(text)
             self.refused(f"a modes file, {what}", (), 1, f"file {modes_file}: cut, or no modes of a plan")
-        path = self.lost()[0]
         modes_file.write_bytes(whole.replace(b" bench-host ", b" bench-hose "))
-        came = self.ran()
-        say(f"a modes file of another plan: status {came.returncode}, left without a bit: {self.lost() == [path]}", self.lost() == [path])
-        os.chmod(self.root / path, self.modes[path])
-        self.ran("--reverse")
+        self.refused("a modes file of another plan", (), 1, f"file {modes_file}: {OTHER_PLAN}")
+        modes_file.write_bytes(whole)
+        self.refused("the reverse of a plan that was begun", ("--reverse",), 1, f"file {modes_file}: {OTHER_PLAN}")
+        path = self.lost()[0]
+        say(f"left without a bit by all of them: {self.lost() == [path]}", self.lost() == [path])
+        self.ran()
+        self.at_end("then run to its end", "new")
+        modes_file.write_bytes(whole)
+        came = self.ran("--reverse")
+        say(f"a modes file that the ended plan has left: status {came.returncode}, {came.stderr!r}, left: {modes_file.exists()}", came.returncode == 0 and not modes_file.exists())
         self.at_end("then back", "old")
+
+    def no_files(self):
+        """What is no regular file in place of the mark and of the modes: it is refused, and nobody waits for it."""
+        for name, told in (("done", "no mark of a plan"), ("done.modes", "cut, or no modes of a plan")):
+            path = pathlib.Path(f"{self.plan}.{name}")
+            for kind in ("pipe", "socket", "folder", "device"):
+                if kind == "folder":
+                    path.mkdir()
+                elif kind == "device":
+                    os.mknod(path, 0o600 | stat.S_IFCHR, os.makedev(1, 5))
+                else:
+                    os.chdir(path.parent)
+                    make_file(path, kind)
+                    os.chdir("/")
+                self.refused(f"a {kind} as {path.name}", (), 1, f"file {path}: {told}")
+                path.rmdir() if kind == "folder" else path.unlink()
 
     def refused(self, what, flags, status, told):
         before = seen(self.root, self.owners)[0]
-        came = self.ran(*flags)
+        came = subprocess.run(self.words(*flags), capture_output=True, text=True, stdin=subprocess.DEVNULL, timeout=60)
         good = came.returncode == status and told in came.stderr and came.stdout == "" and seen(self.root, self.owners)[0] == before
         say(f"{what}: status {came.returncode}, {came.stderr.strip()}", good)
 
@@ -336,6 +361,37 @@ class Bench:
         say(f"a process of another group: {came.stderr.splitlines()[:1]}", f"the first of them {other.pid} of 1\n" in came.stderr)
 
 
+def no_modes(program, room):
+    """A plan of which no file may lose a mode: while it is begun it has a modes file all the same, and neither its reverse nor the
+    plan of a later merge is carried out, which was made from the owners that the files have now; once it has ended that one is."""
+    root, owners = room / "tree", {}
+    root.mkdir(parents=True)
+    for number in range(20):
+        (root / f"f{number}").write_bytes(b"some bytes\n")
+        os.lchown(root / f"f{number}", *ONE)
+        owners[f"f{number}"] = ONE, OTHER
+    bench = Bench(program, room, owners, "bench-host")
+    modes_file, whole = pathlib.Path(f"{bench.plan}.done.modes"), bench.plan.read_bytes()
+    is_stopped = bench.stopped(9, calls=GIVES)
+    lines = modes_file.read_bytes().splitlines() if modes_file.exists() else []
+    counts = seen(root, owners)[0]
+    good = is_stopped and lines[0].startswith(b"unify modes 1 bench-host ") and lines[1:] == [b"end"] and 0 < counts["new"] < 20
+    say(f"a plan without such files, begun: {dict(counts)}, its modes file {lines}", good)
+    bench.refused("  its reverse", ("--reverse",), 1, f"file {modes_file}: {OTHER_PLAN}")
+    now = {path: (os.lstat(root / path).st_uid, os.lstat(root / path).st_gid) for path in owners}
+    later = plan_text("bench-host", {path: (owner, THIRD) for path, owner in now.items()})
+    bench.plan.write_bytes(later)
+    bench.refused("  a plan of a later merge", (), 1, f"file {modes_file}: {OTHER_PLAN}")
+    bench.plan.write_bytes(whole)
+    came = bench.ran()
+    say(f"  then run to its end: status {came.returncode}, modes file left: {modes_file.exists()}", came.returncode == 0 and not modes_file.exists())
+    bench.at_end("then", "new")
+    bench.plan.write_bytes(plan_text("bench-host", {path: (OTHER, THIRD) for path in owners}))
+    came = bench.ran()
+    counts = seen(root, {path: (OTHER, THIRD) for path in owners})[0]
+    say(f"  then another plan: status {came.returncode}, {dict(counts)}, modes file left: {modes_file.exists()}", came.returncode == 0 and counts["new"] == 20 and not modes_file.exists())
+
+
 def count_syncs(program, room, what, options, every):
     """How often a run syncs on an ext4 of a loop device that is made with these options: every file of the plan, or a few."""
     root, image = room / "tree", room / "image"
@@ -393,6 +449,44 @@ def count_ways(program, room):
         subprocess.run(["losetup", "--detach", device], check=True)
 
 
+class Cell(Bench):
+    """A bench whose program runs in a root that is a plain directory: the system does not tell it the mount of that."""
+
+    def words(self, *flags):
+        return ["chroot", self.room, "/unify", "apply", "--host", self.host, "-q", *flags, "/plan", "/tree"]
+
+
+def in_a_cell(program, room):
+    """What is refused where the mount of the tree is not told, and a run there where another file system is mounted below."""
+    (room / "tree").mkdir(parents=True)
+    shutil.copy(program, room / "unify")
+    cell = Cell(program, room, make_tree(room / "tree", 200), "bench-host")
+    mounted = []
+
+    def mount(*words):
+        words[-1].mkdir(exist_ok=True)
+        subprocess.run(["mount", *words], check=True)
+        mounted.append(words[-1])
+
+    try:
+        for name in ("proc", "sys", "usr", "lib", "lib64"):
+            if os.path.islink(f"/{name}"):
+                os.symlink(os.readlink(f"/{name}"), room / name)
+            elif os.path.isdir(f"/{name}"):
+                mount("--bind", f"/{name}", room / name)
+        mount("--bind", room / "tree/d0", room / "tree/again")
+        cell.refused("a bind mount below, in a cell", (), 2, "mounted below it once more, at /tree/again")
+        subprocess.run(["umount", mounted.pop()], check=True)
+        mount("-t", "tmpfs", "none", room / "tree/again")
+        came = cell.ran()
+        say(f"another file system below, in a cell: status {came.returncode}, {came.stderr.strip()}", came.returncode == 0)
+        cell.at_end("then", "new")
+    finally:
+        os.chdir("/")
+        for path in reversed(mounted):
+            subprocess.run(["umount", "-l", path], check=True)
+
+
 def main():
     parser = argparse.ArgumentParser(description=__doc__, formatter_class=argparse.RawDescriptionHelpFormatter)
     parser.add_argument("--program", default=str(TOP / "crates/unify_cli/out/unify_cli"))
@@ -413,12 +507,15 @@ def main():
         print(f"{len(owners)} planned files")
         bench.refusals()
         bench.no_text()
+        bench.no_files()
+        in_a_cell(bench.program, room / "cell")
         if shutil.which("mkfs.btrfs"):
             count_ways(bench.program, room / "ways")
         took = bench.seconds()
         bench.on_terminal()
         if shutil.which("strace"):
             bench.foreign_modes()
+            no_modes(bench.program, room / "plain")
             bench.between()
             bench.between("--reverse")
             if shutil.which("mkfs.ext4"):
