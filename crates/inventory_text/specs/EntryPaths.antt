@@ -1,7 +1,7 @@
 -- Which path an entry gives its file, in other words than the definitions of mtree_inv.
 -- Source: mtree(5): relative, dot-dot and full entries; this project's profile over it.
-use Rattle.std.specs.Prelude.{◌≡◌, ℕ, ◌≤◌, true, false, List, [], ◌∷◌, ◌++◌, length, All, Contains}
-use Rattle.std.specs.Prelude.{Ok, Some, bytes_eq, codes, if◌then◌else◌}
+use Rattle.std.specs.Prelude.{◌≡◌, ℕ, ◌≤◌, true, false, List, [], ◌∷◌, ◌++◌, length}
+use Rattle.std.specs.Prelude.{All, Contains, Ok, Some, bytes_eq, codes, if◌then◌else◌}
 use Rattle.idtext.specs.Escapes.{has_bad_escape, unescaped}
 use Rattle.idtext.specs.Words.{most_line_bytes}
 use Rattle.idtext.specs.declared.faults.TextCode.TheVariants.{BadPath}

@@ -1,7 +1,7 @@
 -- The files of an inventory that is written, and which of them can be read back.
 -- Source: this project's profile of mtree(5), as mtree_inv defines it.
-use Rattle.std.specs.Prelude.{◌≡◌, ◌≢◌, ◌⊎◌, ℕ, ◌<◌, ◌≤◌, List, ◌++◌, All, codes, flat_map}
-use Rattle.std.specs.Prelude.{length, map}
+use Rattle.std.specs.Prelude.{◌≡◌, ◌≢◌, ◌⊎◌, ℕ, ◌<◌, ◌≤◌, List, ◌++◌, All}
+use Rattle.std.specs.Prelude.{codes, flat_map, length, map}
 use Rattle.idtext.specs.Pieces.{pieces}
 use Rattle.idtext.specs.Words.{most_line_bytes}
 use Rattle.mtree_inv.specs.declared.entry.Entry.{Entry}

@@ -1,7 +1,7 @@
 -- What the counts, the lines and the exit status of `verify` mean.
 -- Source: this project's own rule and format; chown(2) for what an owner is.
-use Rattle.std.specs.Prelude.{◌≡◌, ◌≢◌, ◌↔◌, ℕ, ◌+◌, ◌<◌, ◌≤◌, ◌^◌, List, length, Option, None}
-use Rattle.std.specs.Prelude.{All, filter_map, flat_map, option_map}
+use Rattle.std.specs.Prelude.{◌≡◌, ◌≢◌, ◌↔◌, ℕ, ◌+◌, ◌<◌, ◌≤◌, ◌^◌, List}
+use Rattle.std.specs.Prelude.{length, Option, None, All, filter_map, flat_map, option_map}
 use Rattle.std.specs.Str.Parse.{digits_value}
 use Rattle.hosts_join.specs.Kinds.{user_at, group_at}
 use Rattle.idtext.specs.Pieces.{lines}
