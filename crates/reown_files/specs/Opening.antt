@@ -1,7 +1,7 @@
 -- Why the files of a plan were not begun with.
 -- Source: this project's own rule.
-use Rattle.std.specs.Prelude.{◌≡◌, ◌≢◌, ◌⊎◌, ◌<◌, ◌∷◌, ℕ, Bool, true, List, Option, None, Some}
-use Rattle.std.specs.Prelude.{⊤, length, slice_get, take}
+use Rattle.std.specs.Prelude.{◌≡◌, ◌≢◌, ◌⊎◌, ◌<◌, ◌∷◌, ℕ, Bool, true, List}
+use Rattle.std.specs.Prelude.{Option, None, Some, ⊤, length, slice_get, take}
 use Rattle.reown_plan.specs.declared.plan.Owner.{Owner}
 use Rattle.reown_plan.specs.PlanData.{PlanRecord}
 use Rattle.reown_files.specs.declared.answers.OpenFault.{OpenFault}
