@@ -79,7 +79,7 @@ rises-tail x xs up j k low high = up (suc j) (suc k) (omega arith) (omega arith)
 rises-head : (x : List ℕ) (xs : List (List ℕ)) → Rises (x ∷ xs) → All (λ y. slice_cmp nat_cmp y x ≢ Less) xs
 rises-head x xs up = All-from_get_or (λ y. slice_cmp nat_cmp y x ≢ Less) xs [] (λ i low. up 0 (suc i) (omega arith) (omega arith))
 
--- what stands behind the first
+-- what stands after the first
 abbrev Later : Accounts → List ℕ → List ℕ → Type 0
 Later a name ws = All (λ w. slice_cmp nat_cmp (name_at a.names w) name ≢ Less) ws
 

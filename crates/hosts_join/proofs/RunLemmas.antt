@@ -1,4 +1,4 @@
--- Ranges one behind the other, and the numbers that lie in some of them.
+-- Ranges one after the other, and the numbers that lie in some of them.
 use Rattle.std.proofs.Common.{◌≡◌, ◌⊎◌, inl, inr, ℕ, zero, suc, ◌+◌, ◌-◌, ◌<◌, ◌≤◌, Bool, true, false, List, [], ◌∷◌, ◌++◌, length, get_or, take, refl, sym, ap, ◌∙◌, subst, arith, leb, ltb, Some}
 use Rattle.std.specs.Prelude.{◌&&◌, ◌||◌, max, All}
 use Rattle.std.specs.List.Sorted.{IsPartitionPoint, IsPartitionedBy, IsNonDecreasingBy}
@@ -16,7 +16,7 @@ use Rattle.logindefs.specs.Ranges.{in_range}
 use Rattle.hosts_join.specs.RangeLists.{lies_in_some}
 use Rattle.hosts_join.specs.RunsInside.{IsBefore, AreInOrder}
 
--- ---- a range behind runs that begin no later
+-- ---- a range after runs that begin no later
 
 front : (init : List IdRange) (last : IdRange) → AreInOrder (init ++ last ∷ []) → AreInOrder init
 front init last apart = λ i j d lt within.

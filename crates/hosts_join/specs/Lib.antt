@@ -27,3 +27,4 @@ pub mod Hosts
 pub mod Site
 pub mod Checks
 pub mod Laws
+pub mod HostNames

@@ -20,7 +20,7 @@ abbrev pub cut_pair : Which → Option (List ℕ × List ℕ) → PairLine
 cut_pair which None = Wrong
 cut_pair which (Some parts) = named which parts.0 (id_of parts.1)
 
--- what a line says: `user NAME NUMBER` or `group NAME NUMBER`, with one space behind the first
+-- what a line says: `user NAME NUMBER` or `group NAME NUMBER`, with one space after the first
 -- word; the name may hold spaces
 unfoldable pub pair_line_of : List ℕ → PairLine
 pair_line_of line =

@@ -1,4 +1,4 @@
--- Ranges one behind the other.
+-- Ranges one after the other.
 -- Words of the code and not of the subject: only private contracts, views and invariants cite them.
 use Rattle.std.specs.Prelude.{◌≡◌, ℕ, ◌<◌, ◌≤◌, List}
 use Rattle.std.specs.List.{AllPairs}

@@ -1,4 +1,5 @@
 //! Laws of the join, each the contract of a call that does nothing.
+ghost use Rattle.hosts_join.specs.HostNames.{HostNamesAreOneWord, HostNamesAreTheseBytes};
 ghost use Rattle.hosts_join.specs.Laws.{JoinedSitesAreLawful, JoinedSitesKnowTheirHosts};
 ghost use Rattle.hosts_join.specs.Laws.{JoinedSitesLeaveReserved, JoinedSitesLeaveSpared};
 ghost use Rattle.hosts_join.specs.Laws.{NothingReservedChangesNothing};
@@ -43,4 +44,12 @@ pub fn nothing_reserved_changes_nothing()
 /// The pins that a text gives reserve nothing.
 pub fn read_pins_reserve_nothing()
     ensures { ReadPinsReserveNothing }
+{}
+
+/// A host's name is 1 to 64 ASCII letters, digits, full stops, hyphens and underscores, begun by
+/// neither a full stop nor a hyphen, and any such text is one; so it is one word of a line, and one
+/// part of a path.
+pub fn host_names_are_one_word()
+    ensures exactly { HostNamesAreTheseBytes }
+    ensures word { HostNamesAreOneWord }
 {}

@@ -32,8 +32,8 @@ pub use joining::{Site, join, join_kind};
 pub use kind::{Groups, Kind, Users};
 pub use laws::{
     a_site_has_lawful_accounts, a_site_knows_its_hosts, a_site_leaves_reserved_numbers,
-    a_site_leaves_spared_numbers, nothing_reserved_changes_nothing, pins_are_lawful,
-    read_pins_reserve_nothing,
+    a_site_leaves_spared_numbers, host_names_are_one_word, nothing_reserved_changes_nothing,
+    pins_are_lawful, read_pins_reserve_nothing,
 };
 use logindefs::IdRange;
 pub use names::Names;

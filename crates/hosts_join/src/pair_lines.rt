@@ -22,7 +22,7 @@ pub enum PairLine<'a> {
     },
 }
 
-// The pair that stands behind the first word of a line.
+// The pair that stands after the first word of a line.
 fn pair(which: Which, text: &[u8]) -> PairLine<'_>
     ensures { result ≡ cut_pair which (cut_at_last_space text.now) }
 {

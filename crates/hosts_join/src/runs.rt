@@ -40,7 +40,7 @@ impl Model for Runs {
     ghost invariant = { AreRunsInside };
 }
 
-// Adds a range behind runs that begin no later: it lengthens the last one where it begins in it.
+// Adds a range after runs that begin no later: it lengthens the last one where it begins in it.
 fn add_run(runs: &mut Vec<IdRange>, range: IdRange) -> Result<(), AllocError>
     requires apart { AreInOrder runs.old.items }
     requires behind { All (λ run. run.low ≤ range.low) runs.old.items }

@@ -4,7 +4,7 @@ use Rattle.std.specs.List.{AllByRecursion, onto_first, slice_split}
 use Rattle.std.proofs.lemmas.Bool.{cases_Bool}
 use Rattle.idtext.specs.Pieces.{lines, pieces, without_empty_last}
 
--- what holds of all parts holds of them without an empty one behind them
+-- what holds of all parts holds of them without an empty one after them
 pub without-last : (Holds : List ℕ → Type 0) (parts : List (List ℕ)) → AllByRecursion Holds parts → AllByRecursion Holds (without_empty_last parts)
 without-last Holds [] all = tt
 without-last Holds ([] ∷ []) all = tt

@@ -1,12 +1,13 @@
 -- Laws over the definitions of this crate, in the words of its subject.
 -- Source: chown(2) for the greatest id; mtree(5) and vis(3) for escapes, with this project's own
 -- rules of which are read.
-use Rattle.std.specs.Prelude.{◌≡◌, ℕ, false, ◌<◌, ◌≤◌, List, [], ◌∷◌, length, drop, All, Some}
-use Rattle.std.specs.Prelude.{IfSome, decimal}
+use Rattle.std.specs.Prelude.{◌≡◌, ℕ, ◌+◌, ◌-◌, ◌*◌, false, ◌<◌, ◌≤◌, List, [], ◌∷◌, ◌++◌, length}
+use Rattle.std.specs.Prelude.{drop, All, Some, IfSome, codes, decimal}
+use Rattle.idtext.specs.declared.escapes.Character.TheVariants.{Escape}
 use Rattle.idtext.specs.Escapes.{escaped, front, characters, unescaped, has_bad_escape}
 use Rattle.idtext.specs.Numbers.{c_number_of, greatest_id, id_of}
 
--- a text with escapes is read from the left: the character at its front, then what stands behind
+-- a text with escapes is read from the left: the character at its front, then what stands after
 -- the bytes that this one takes
 abbrev pub FrontIsReadFirst : Type 0
 FrontIsReadFirst =
@@ -22,6 +23,35 @@ abbrev pub EscapedIsReadBack : Type 0
 EscapedIsReadBack =
     (bytes : List ℕ) → All (λ b. b < 256) bytes → (unescaped (escaped bytes) ≡ bytes)
     × (has_bad_escape (escaped bytes) ≡ false)
+
+-- the text is an escape that stands for the byte, whatever stands after it
+abbrev pub StandsFor : List ℕ → ℕ → Type 0
+StandsFor text byte = (rest : List ℕ) → characters (text ++ rest) ≡ Escape byte ∷ characters rest
+
+-- a backslash, and this after it, stand for the byte
+abbrev pub IsNamed : List ℕ → ℕ → Type 0
+IsNamed behind byte = StandsFor (92 ∷ behind) byte
+
+-- each form of vis(3) that is read, and the byte that it stands for: three octal digits, the names
+-- of C, `\^` and `\M^` for control characters, and `\M-` for those that are seen
+pub record AreForms : Type 0 where
+  pub octal : (a b c : ℕ) → a ≤ 3 → b ≤ 7 → c ≤ 7
+      → IsNamed ((48 + a) ∷ (48 + b) ∷ (48 + c) ∷ []) (a * 64 + b * 8 + c)
+  pub backslash : IsNamed (92 ∷ []) 92
+  pub space : IsNamed (codes "s") 32
+  pub tab : IsNamed (codes "t") 9
+  pub newline : IsNamed (codes "n") 10
+  pub vertical_tab : IsNamed (codes "v") 11
+  pub form_feed : IsNamed (codes "f") 12
+  pub carriage_return : IsNamed (codes "r") 13
+  pub bell : IsNamed (codes "a") 7
+  pub backspace : IsNamed (codes "b") 8
+  pub number_sign : IsNamed (codes "#") 35
+  pub control : (c : ℕ) → 64 ≤ c → c ≤ 95 → IsNamed (codes "^" ++ c ∷ []) (c - 64)
+  pub delete : IsNamed (codes "^?") 127
+  pub meta : (c : ℕ) → 33 ≤ c → c ≤ 126 → IsNamed (codes "M-" ++ c ∷ []) (c + 128)
+  pub meta_control : (c : ℕ) → 64 ≤ c → c ≤ 95 → IsNamed (codes "M^" ++ c ∷ []) (c - 64 + 128)
+  pub meta_delete : IsNamed (codes "M^?") 255
 
 -- what a text writes in decimal, or as C does, is a number that an account may have
 abbrev pub DecimalsAreIds : Type 0

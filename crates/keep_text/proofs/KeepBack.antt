@@ -1,12 +1,9 @@
 -- What was read from a keep text.
-use Rattle.std.proofs.Common.{◌≡◌, ◌≤◌, ℕ, zero, suc, Bool, true, false, List, [], ◌∷◌, ◌++◌, Option, Some, None, refl, sym, ap, ◌∙◌, subst, append_assoc, append-nil, arith, drop, inl, inr, bytes_eq}
-use Rattle.std.specs.Prelude.{◌⊎◌, ◌||◌, IfSome, if◌then◌else◌, nat_le, codes}
-use Rattle.std.specs.List.{flat_map, list_any, slice_get}
-use Rattle.std.proofs.Math.Bool.{or-true}
-use Rattle.std.proofs.lemmas.Bool.{cases_Bool, leb-true, not-true}
-use Rattle.std.proofs.lemmas.List.Concat.{flat_map-append}
+use Rattle.std.proofs.Common.{◌≡◌, ◌≤◌, ℕ, Bool, true, false, List, [], ◌∷◌, ◌++◌, Option, Some, None, refl, sym, subst, append_assoc, append-nil, arith, drop, bytes_eq}
+use Rattle.std.specs.Prelude.{IfSome, if◌then◌else◌, nat_le, codes}
+use Rattle.std.specs.List.{list_any}
+use Rattle.std.proofs.lemmas.Bool.{leb-true, not-true}
 use Rattle.std.proofs.lemmas.List.Elements.{All-nil, All-push}
-use Rattle.std.proofs.lemmas.List.Folds.{list_any-append}
 use Rattle.idtext.specs.First.{first_fault}
 use Rattle.idtext.specs.Names.{is_lawful_name, is_skipped}
 use Rattle.idtext.specs.Numbers.{greatest_id, id_of}
@@ -17,7 +14,6 @@ use Rattle.idtext.proofs.NumberLemmas.{numeral-id}
 use Rattle.idtext.proofs.OkLemmas.{unless_ok}
 use Rattle.accounts.proofs.LawLemmas.{distinct-push}
 use Rattle.logindefs.specs.declared.ranges.IdRange.{IdRange}
-use Rattle.logindefs.specs.Ranges.{in_range}
 use Rattle.hosts_join.specs.declared.Which.{Which}
 use Rattle.hosts_join.specs.declared.Which.TheVariants.{User, Group}
 use Rattle.hosts_join.proofs.Grouping.{bytes_refl}
@@ -29,10 +25,9 @@ use Rattle.keep_text.specs.declared.keep_text.Kept.{Kept}
 use Rattle.keep_text.specs.declared.keep_text.KeepText.{KeepText}
 use Rattle.keep_text.specs.declared.keep_text.KeepFault.{KeepFault}
 use Rattle.keep_text.specs.KeepLines.{between, keep_line_of, named, ranged}
-use Rattle.keep_text.specs.KeepTexts.{is_new, keep_fault, keep_of, kept_on, may_stand, of_groups, of_users, range_said}
+use Rattle.keep_text.specs.KeepTexts.{is_new, keep_fault, keep_of, kept_on, may_stand}
 use Rattle.keep_text.specs.KeepTaken.{with_line, with_said}
-use Rattle.hosts_join.specs.RangeLists.{lies_in_some}
-use Rattle.keep_text.specs.KeepLaws.{IsLawfulKeep, IsLawfulKept, ListsNumber, RangesAreListed, ReadKeepsAreLawful}
+use Rattle.keep_text.specs.KeepLaws.{IsLawfulKeep, IsLawfulKept, ReadKeepsAreLawful}
 use Rattle.keep_text.proofs.KeepLoop.{line_more}
 
 -- ---- one line
@@ -127,83 +122,3 @@ unfolding keep_of
 read_keeps_are_lawful text keep is =
     let fine = unless_ok (first_fault keep_fault [] (lines_of text)) (kept_on (lines_of text)) keep is in
     subst IsLawfulKeep fine.1 (lines_lawful (lines_of text) [] nothing_lawful fine.0)
-
--- ---- the ranges of one kind
-
-module _ (which : Which) (of : KeepLine → List Said) (gives : (said : Said) → of (Given which said) ≡ said ∷ []) (others : (line : KeepLine) → (of line ≡ []) ⊎ ((said : Said) × (line ≡ Given which said))) where
-  abbrev on : List ℕ → List Said
-  on line = of (keep_line_of line)
-
-  abbrev lies : List Said → ℕ → Bool
-  lies all number = lies_in_some (flat_map range_said all) number
-
-  one_line : (line : List ℕ) (lines : List (List ℕ)) (number : ℕ) → (lies (flat_map on lines) number ≡ true → ListsNumber which lines number) → lies (flat_map on (line ∷ lines)) number ≡ true → ListsNumber which (line ∷ lines) number
-  one_line line lines number rest h = by (others (keep_line_of line))
-    where
-      with : (all : List Said) → on line ≡ all → lies (all ++ flat_map on lines) number ≡ true
-      with all is = subst (λ (xs : List Said). lies (xs ++ flat_map on lines) number ≡ true) is h
-
-      later : lies (flat_map on lines) number ≡ true → ListsNumber which (line ∷ lines) number
-      later g = let l = rest g in record { place = suc l.place; line = l.line; there = l.there; range = l.range; says = l.says; has = l.has }
-
-      here : (said : Said) → keep_line_of line ≡ Given which said → lies (said ∷ flat_map on lines) number ≡ true → ListsNumber which (line ∷ lines) number
-      here (Name name) is g = later g
-      here Unowned is g = later g
-      here (Range range) is g = elim (cases_Bool (in_range range number)) [
-        | inl t ↦ record { place = 0; line = line; there = refl; range = range; says = is; has = t }
-        | inr f ↦ later (subst (λ (b : Bool). (b || lies (flat_map on lines) number) ≡ true) f g)
-      ]
-
-      by : (on line ≡ []) ⊎ ((said : Said) × (keep_line_of line ≡ Given which said)) → ListsNumber which (line ∷ lines) number
-      by (inl none) = later (with [] none)
-      by (inr said) = here said.0 said.1 (with (said.0 ∷ []) (ap of said.1 ∙ gives said.0))
-
-  pub listed : (lines : List (List ℕ)) (number : ℕ) → lies (flat_map on lines) number ≡ true → ListsNumber which lines number
-  listed [] number h = absurd (cc)
-  listed (line ∷ lines) number h = one_line line lines number (listed lines number) h
-
-  lies_at : (lines : List (List ℕ)) (number place : ℕ) (line : List ℕ) (range : IdRange) → slice_get lines place ≡ Some line → keep_line_of line ≡ Given which (Range range) → in_range range number ≡ true → lies (flat_map on lines) number ≡ true
-  lies_at [] number place line range there says has = absurd (cc)
-  lies_at (l ∷ lines) number zero line range there says has =
-      let same : l ≡ line = (cc) in
-      let said : on l ≡ Range range ∷ [] = ap of (ap keep_line_of same ∙ says) ∙ gives (Range range) in
-      subst (λ (xs : List Said). lies (xs ++ flat_map on lines) number ≡ true) (sym said) (ap (λ (b : Bool). b || lies (flat_map on lines) number) has)
-  lies_at (l ∷ lines) number (suc place) line range there says has =
-      let first = flat_map range_said (on l) in
-      let rest = flat_map range_said (flat_map on lines) in
-      ap (λ (rs : List IdRange). lies_in_some rs number) (flat_map-append range_said (on l) (flat_map on lines))
-      ∙ list_any-append (λ (r : IdRange). in_range r number) first rest
-      ∙ ap (λ (b : Bool). lies_in_some first number || b) (lies_at lines number place line range there says has)
-      ∙ or-true (lies_in_some first number)
-
-  pub lies_listed : (lines : List (List ℕ)) (number : ℕ) → ListsNumber which lines number → lies (flat_map on lines) number ≡ true
-  lies_listed lines number l = lies_at lines number l.place l.line l.range l.there l.says l.has
-
-pub other_than_users : (line : KeepLine) → (of_users line ≡ []) ⊎ ((said : Said) × (line ≡ Given User said))
-other_than_users Skipped = inl refl
-other_than_users Wrong = inl refl
-other_than_users (Given User said) = inr (said, refl)
-other_than_users (Given Group said) = inl refl
-
-pub other_than_groups : (line : KeepLine) → (of_groups line ≡ []) ⊎ ((said : Said) × (line ≡ Given Group said))
-other_than_groups Skipped = inl refl
-other_than_groups Wrong = inl refl
-other_than_groups (Given User said) = inl refl
-other_than_groups (Given Group said) = inr (said, refl)
-
-pub ranges_are_listed : RangesAreListed
-unfolding keep_of
-ranges_are_listed text keep number is =
-    let lines = lines_of text in
-    let read : kept_on lines ≡ keep = (unless_ok (first_fault keep_fault [] lines) (kept_on lines) keep is).1 in
-    let users : lies_in_some keep.users.ranges number ≡ lies_in_some (kept_on lines).users.ranges number = ap (λ (k : KeepText). lies_in_some k.users.ranges number) (sym read) in
-    let groups : lies_in_some keep.groups.ranges number ≡ lies_in_some (kept_on lines).groups.ranges number = ap (λ (k : KeepText). lies_in_some k.groups.ranges number) (sym read) in (
-      (
-        (λ h. listed User of_users (λ said. refl) other_than_users lines number (sym users ∙ h)),
-        (λ l. users ∙ lies_listed User of_users (λ said. refl) other_than_users lines number l),
-      ),
-      (
-        (λ h. listed Group of_groups (λ said. refl) other_than_groups lines number (sym groups ∙ h)),
-        (λ l. groups ∙ lies_listed Group of_groups (λ said. refl) other_than_groups lines number l),
-      ),
-    )

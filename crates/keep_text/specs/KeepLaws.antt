@@ -1,20 +1,13 @@
 -- Laws of what a keep text says.
 -- Source: this project's own formats.
-use Rattle.std.specs.Prelude.{◌≡◌, ◌≤◌, ◌↔◌, ◌++◌, ℕ, true, List, Some, Ok, codes, slice_get}
+use Rattle.std.specs.Prelude.{◌≡◌, ◌≤◌, ◌↔◌, ◌++◌, ◌∷◌, ℕ, true, List, Some, Ok, codes}
 use Rattle.std.specs.List.{All, Contains}
 use Rattle.idtext.specs.Names.{is_lawful_name}
-use Rattle.idtext.specs.Numbers.{greatest_id}
+use Rattle.idtext.specs.Numbers.{greatest_id, id_of}
 use Rattle.idtext.specs.Pieces.{lines as lines_of}
 use Rattle.accounts.specs.Laws.{AreDistinct}
-use Rattle.logindefs.specs.declared.ranges.IdRange.{IdRange}
-use Rattle.logindefs.specs.Ranges.{in_range}
-use Rattle.hosts_join.specs.declared.Which.{Which}
-use Rattle.hosts_join.specs.declared.Which.TheVariants.{User, Group}
-use Rattle.keep_text.specs.declared.keep_line.Said.TheVariants.{Range}
-use Rattle.keep_text.specs.declared.keep_line.KeepLine.TheVariants.{Given}
 use Rattle.keep_text.specs.declared.keep_text.Kept.{Kept}
 use Rattle.keep_text.specs.declared.keep_text.KeepText.{KeepText}
-use Rattle.keep_text.specs.KeepLines.{keep_line_of}
 use Rattle.keep_text.specs.KeepTexts.{keep_of}
 use Rattle.hosts_join.specs.RangeLists.{lies_in_some}
 
@@ -33,20 +26,26 @@ pub record IsLawfulKeep (keep : KeepText) : Type 0 where
 abbrev pub ReadKeepsAreLawful : Type 0
 ReadKeepsAreLawful = (text : List ℕ) (keep : KeepText) → keep_of text ≡ Ok keep → IsLawfulKeep keep
 
--- one of the lines lists, for the kind, a range that has the number
-pub record ListsNumber (which : Which) (lines : List (List ℕ)) (number : ℕ) : Type 0 where
-  pub place : ℕ
-  pub line : List ℕ
-  pub there : slice_get lines place ≡ Some line
-  pub range : IdRange
-  pub says : keep_line_of line ≡ Given which (Range range)
-  pub has : in_range range number ≡ true
+-- One of the lines is the word, an id, a space and an id, and the number is from the first id to
+-- the second.
+pub record ListsNumber (word : List ℕ) (lines : List (List ℕ)) (number : ℕ) : Type 0 where
+  pub low : List ℕ
+  pub high : List ℕ
+  pub there : Contains lines (word ++ low ++ 32 ∷ high)
+  pub from : ℕ
+  pub to : ℕ
+  pub begins : id_of low ≡ Some from
+  pub ends : id_of high ≡ Some to
+  pub has : (from ≤ number) × (number ≤ to)
 
--- a number lies in the ranges of a kind exactly where a line of the text lists one that has it
+-- A number lies in the ranges of a kind exactly where a line of the text lists, after the word of
+-- the kind, a range that has it.
 abbrev pub RangesAreListed : Type 0
 RangesAreListed = (text : List ℕ) (keep : KeepText) (number : ℕ) → keep_of text ≡ Ok keep
-    → ((lies_in_some keep.users.ranges number ≡ true) ↔ ListsNumber User (lines_of text) number)
-    × ((lies_in_some keep.groups.ranges number ≡ true) ↔ ListsNumber Group (lines_of text) number)
+    → ((lies_in_some keep.users.ranges number ≡ true)
+    ↔ ListsNumber (codes "users ") (lines_of text) number)
+    × ((lies_in_some keep.groups.ranges number ≡ true)
+    ↔ ListsNumber (codes "groups ") (lines_of text) number)
 
 -- a name is among the names of a kind exactly where a line of the text lists it for the kind
 abbrev pub NamesAreListed : Type 0

@@ -12,11 +12,11 @@ use Rattle.keep_text.specs.declared.keep_line.Said.TheVariants.{Name, Range, Uno
 use Rattle.keep_text.specs.declared.keep_line.KeepLine.{KeepLine}
 use Rattle.keep_text.specs.declared.keep_line.KeepLine.TheVariants.{Skipped, Wrong, Given}
 
--- behind `user ` or `group `: a lawful name, which may hold spaces
+-- after `user ` or `group `: a lawful name, which may hold spaces
 abbrev pub named : Which → List ℕ → KeepLine
 named which name = if is_lawful_name name then Given which (Name name) else Wrong
 
--- behind `users ` or `groups `: two ids with one space between, the first no greater than the
+-- after `users ` or `groups `: two ids with one space between, the first no greater than the
 -- second
 abbrev pub between : Which → Option ℕ → Option ℕ → KeepLine
 between which None high = Wrong

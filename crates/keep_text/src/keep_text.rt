@@ -107,7 +107,7 @@ fn take_line<'a>(keep: &mut KeepText<'a>, line: KeepLine<'a>) -> Result<bool, Al
 /// Reads a keep text: what stays as it is on each host, for users and for groups. Its lines are
 ///
 /// - `user NAME` and `group NAME`: the name keeps, on each host, the number that it has there. NAME
-///   is all that stands behind the first space; it is a lawful name, and may hold spaces.
+///   is all that stands after the first space; it is a lawful name, and may hold spaces.
 /// - `users LOW HIGH` and `groups LOW HIGH`: the numbers from LOW to HIGH stay as they are. Both
 ///   are ids, LOW is no greater than HIGH, and one space stands between. Ranges may share numbers.
 /// - `unowned users` and `unowned groups`: numbers that no account of the host has stay as they

@@ -8,8 +8,9 @@ pub fn keeps_are_lawful()
     ensures { ReadKeepsAreLawful }
 {}
 
-/// A number lies in a range that a keep text lists for users, or for groups, exactly where a line
-/// of the text lists for them a range that has it.
+/// A number lies in a range that a keep text lists for users exactly where `users`, a space, an id,
+/// a space and an id are a line of the text, and the number is from the first id to the second; and
+/// the same of groups and `groups`.
 pub fn ranges_are_listed()
     ensures { RangesAreListed }
 {}

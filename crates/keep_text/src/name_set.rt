@@ -42,7 +42,7 @@ impl<'a> NameSet<'a> {
         }
     }
 
-    /// Adds a name behind the others, and answers whether it is new; else nothing changes. Two
+    /// Adds a name after the others, and answers whether it is new; else nothing changes. Two
     /// look-ups by hash, and one entry. `AllocError` where a growth was refused; the names then
     /// stay.
     pub fn add(&mut self, name: &'a [u8]) -> Result<bool, AllocError>

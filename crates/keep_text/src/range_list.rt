@@ -44,8 +44,8 @@ impl RangeList {
         self.ranges.iter().any(|range| range.has(number))
     }
 
-    /// Appends a range, in constant time but for growth. `AllocError` where a growth was refused;
-    /// the ranges then stay.
+    /// Appends a range, in constant time except for growth. `AllocError` where a growth was
+    /// refused; the ranges then stay.
     pub fn push(&mut self, range: IdRange) -> Result<(), AllocError>
         ensures err { OnErr result (self.new ≡ self.old) }
         ensures pushed { OnOk result (self.new ≡ self.old ++ range ∷ []) }

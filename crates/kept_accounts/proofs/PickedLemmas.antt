@@ -84,7 +84,7 @@ by_name_alone name moving (row ∷ rows) = by (bytes_eq name row.0) refl (by_nam
         ∙ ap (λ b. not (is_among moving name) || b) later
         ∙ more (not (is_among moving name)) (some_number (numbers_of rows name))
 
--- a row of the name behind others of it
+-- a row of the name after others of it
 one_more : (listed within rest all : Bool) → not rest ≡ (listed || all) → not (not (listed || within) || rest) ≡ (listed || (within && all))
 one_more true within rest all e = e
 one_more false true rest all e = e

@@ -1,6 +1,6 @@
 -- Which names of a site stay as they are.
 -- Source: this project's own rule. Rows are names with their numbers, those of all hosts one
--- behind the other.
+-- after the other.
 use Rattle.std.specs.Prelude.{◌≡◌, ℕ, Bool, false, ◌||◌, List, [], ◌∷◌, map, filter, flat_map}
 use Rattle.std.specs.Prelude.{bytes_eq}
 use Rattle.std.specs.List.{list_all, list_any}

@@ -1,4 +1,4 @@
-use Rattle.keep_text.proofs.KeepBack.{ranges_are_listed}
+use Rattle.keep_text.proofs.KeepListed.{ranges_are_listed}
 use Rattle.keep_text.proofs.laws.ranges_are_listed.Goals as goal
 
 pub returns : goal.returns
