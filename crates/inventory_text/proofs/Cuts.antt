@@ -307,7 +307,7 @@ refused-first most text kind rest code is says = by (logical_lines text) is
           ap (λ (said : Result (Option Entry) TextCode). unless (or_else (option_map (λ c. (let f : TextFault = record { code = c; line = line.number } in f)) (fault_said most (files_in []) said)) (first_fault (numbered_fault most) (line ∷ []) more)) (files_in (kinds (line ∷ more))) >>= λ files. unless (end_fault text) files) (ap (said_alone []) same ∙ says),
         )
 
--- ---- a cut behind the first line
+-- ---- a cut after the first line
 
 abbrev head-item : Head → Kind → Item
 head-item head kind = record { line = head_line head; kind = kind; said = None }

@@ -245,7 +245,7 @@ line-taken most before line rest said more files says distinct few later =
         ap (λ (o : Option Entry). clash_with o (nat_lt (length known) most) file) (not_there known file.path (apart known file more distinct))
         ∙ ap (λ (room : Bool). clash_with None room file) (lt-ltb (length known) most (omega (arith, few, length-append known (file ∷ more))))
 
--- what lines say, taken behind what was said before
+-- what lines say, taken after what was said before
 said-after : (known : List Entry) (said : Option Entry) (more : List Entry) → HaveDistinctFiles (known ++ with_said said more) → after_said known said ++ more ≡ known ++ with_said said more
 said-after known None more distinct = refl
 said-after known (Some file) more distinct =
@@ -276,7 +276,7 @@ empty-known : files_in (kinds []) ≡ []
 unfolding files_in named first_appearances
 empty-known = refl
 
--- a first line, and lines that say something behind it
+-- a first line, and lines that say something after it
 text-taken : (most : ℕ) (head : List ℕ) (items : List Item) → Reads head Begins → AllSay items → HaveDistinctFiles (all_said items) → length (all_said items) ≤ most
     → inventory_of_lines most (logical_lines (text_of (record { line = head; kind = Begins; said = None } ∷ items))) ≡ Ok (all_said items)
 unfolding inventory_of_lines

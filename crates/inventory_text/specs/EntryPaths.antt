@@ -29,7 +29,7 @@ StandsAtTheStart =
     → said_alone before (Names word keywords) ≡ Ok (Some file)
     → file.path ≡ path_in (codes ".") (unescaped word)
 
--- a relative directory entry, and behind it lines that leave open what it left open: a file that a
+-- a relative directory entry, and after it lines that leave open what it left open: a file that a
 -- relative entry names there stands in that directory, whose path is the one that its entry gave it
 abbrev pub StandsInItsDirectory : Type 0
 StandsInItsDirectory =

@@ -10,13 +10,13 @@ use Rattle.inventory_text.specs.Writing.{Head}
 abbrev pub head_front : List ℕ
 head_front = codes "# unify inventory 1 "
 
--- a host, a time, and all that is behind them
+-- a host, a time, and all that is after them
 abbrev pub head_of_words : List (List ℕ) → Option Head
 head_of_words [] = None
 head_of_words (host ∷ []) = None
 head_of_words (host ∷ time ∷ roots) = Some (record { host = host; time = time; roots = roots })
 
--- the words behind the front, with one space between each two, and the escapes in them read
+-- the words after the front, with one space between each two, and the escapes in them read
 abbrev pub head_of : List ℕ → Option Head
 head_of line =
     if begins_with head_front line

@@ -28,7 +28,7 @@ abbrev pub inventory_text : Head → List Listed → List ℕ
 inventory_text head listed =
     ended (head_line head) ++ (entries_text listed ++ ended (end_line (length listed)))
 
--- the same, cut behind these files, without its last line
+-- the same, cut after these files, without its last line
 abbrev pub cut_text : Head → List Listed → List ℕ
 cut_text head listed = ended (head_line head) ++ entries_text listed
 

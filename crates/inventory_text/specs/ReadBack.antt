@@ -42,14 +42,14 @@ InventoriesReadBack = (most : ℕ) (head : Head) (listed : List Listed)
     → length (head_line head) ≤ most_line_bytes
     → inventory most (inventory_text head listed) ≡ Ok (files_of listed)
 
--- one that is cut behind its first line or behind a file is refused, at the line that is missing
+-- one that is cut after its first line or after a file is refused, at the line that is missing
 abbrev pub CutInventoriesAreRefused : Type 0
 CutInventoriesAreRefused = (most : ℕ) (head : Head) (listed : List Listed)
     → AreListed listed → length listed ≤ most → length (head_line head) ≤ most_line_bytes
     → inventory most (cut_text head listed)
     ≡ Err (record { code = CutInventory; line = line_number (length listed + 1) })
 
--- and it is refused wherever it is cut behind the words that every first line begins with, unless
+-- and it is refused wherever it is cut after the words that every first line begins with, unless
 -- nothing but its last newline is missing
 abbrev pub CutAnywhereIsRefused : Type 0
 CutAnywhereIsRefused = (most : ℕ) (head : Head) (listed : List Listed) (n : ℕ)

@@ -17,7 +17,7 @@ kind_word Regular = codes "file"
 kind_word Link = codes "link"
 kind_word Socket = codes "socket"
 
--- a word, a space, and what is behind it
+-- a word, a space, and what is after it
 abbrev pub spaced : List ℕ → List ℕ → List ℕ
 spaced word rest = word ++ 32 ∷ rest
 

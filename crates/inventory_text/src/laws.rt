@@ -31,9 +31,9 @@ pub fn inventories_read_back()
     ensures { InventoriesReadBack }
 {}
 
-/// That inventory is refused wherever it is cut behind the words that every first line begins with,
+/// That inventory is refused wherever it is cut after the words that every first line begins with,
 /// unless nothing but its last newline is missing; and at the line that is missing where it is cut
-/// behind its first line or behind the line of a file.
+/// after its first line or after the line of a file.
 pub fn cut_inventories_are_refused()
     ensures anywhere { CutAnywhereIsRefused }
     ensures between_lines { CutInventoriesAreRefused }

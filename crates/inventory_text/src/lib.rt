@@ -1,6 +1,6 @@
 //! Inventories of files and their owners as they are written, in this project's profile of
 //! mtree(5), so that a reader gets back exactly the files that were listed: any path that a file
-//! can have, whatever bytes its names are of. One that was cut behind its first words, by more than
+//! can have, whatever bytes its names are of. One that was cut after its first words, by more than
 //! its last newline, is refused. Laws say, too, which paths a reader finds in any inventory.
 #![tactic(auto)]
 

@@ -5,7 +5,7 @@ ghost use Rattle.idtext.specs.Escapes.{escaped};
 use idtext::{push_escaped, push_parts};
 use std::alloc::AllocError;
 
-// Appends a front, some bytes escaped and the parts behind them, also where memory runs out on
+// Appends a front, some bytes escaped and the parts after them, also where memory runs out on
 // the way.
 fn push_each(
     out: &mut Vec<u8>,
@@ -23,7 +23,7 @@ fn push_each(
     push_parts(out, parts)
 }
 
-// Appends a front, some bytes escaped and the parts behind them, or nothing where memory runs out.
+// Appends a front, some bytes escaped and the parts after them, or nothing where memory runs out.
 pub(crate) fn push_with_escaped(
     out: &mut Vec<u8>,
     front: &[u8],

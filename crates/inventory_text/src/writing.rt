@@ -1,4 +1,4 @@
-//! The lines of an inventory behind its first one.
+//! The lines of an inventory after its first one.
 ghost use Rattle.std.specs.Prelude.{◌≡◌, ◌++◌, is_ok, if◌then◌else◌};
 ghost use Rattle.inventory_text.specs.Writing.{ended, end_line, entry_line};
 

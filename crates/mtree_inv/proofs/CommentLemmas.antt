@@ -1,11 +1,11 @@
 -- Lines that begin with a number sign, and others.
-use Rattle.std.proofs.Common.{◌≡◌, ℕ, Bool, true, false, cond, ◌&&◌, List, [], ◌∷◌, refl, ap, ◌∙◌, drop}
+use Rattle.std.proofs.Common.{◌≡◌, ℕ, Bool, true, false, cond, ◌&&◌, List, [], ◌∷◌, refl, sym, ap, ◌∙◌, drop}
 use Rattle.std.proofs.lemmas.Bool.{eqb-true, false≢true}
 use Rattle.std.specs.Prelude.{codes, filter}
 use Rattle.std.specs.List.{slice_split, onto_first}
 use Rattle.idtext.specs.Pieces.{begins_with}
 use Rattle.idtext.specs.Words.{is_white, is_filled, words}
-use Rattle.mtree_inv.specs.Kinds.{Ignored, Begins, Counts, first_byte_is, kind_of_text, kind_of_words}
+use Rattle.mtree_inv.specs.Kinds.{Kind, Ignored, Begins, Counts, first_byte_is, kind_of_text, kind_of_words}
 
 -- one that does not
 pub other-kind : (text : List ℕ) → first_byte_is 35 text ≡ false → kind_of_text text ≡ kind_of_words (words text)
@@ -22,6 +22,14 @@ comment-ignored (b ∷ text) is = ap (λ (n : ℕ). kind_of_words (words (n ∷ 
     by : (parts : List (List ℕ)) → kind_of_words (filter is_filled (onto_first 35 parts)) ≡ Ignored
     by [] = refl
     by (part ∷ parts) = refl
+
+-- a line that its words do not show to say nothing is of the kind that they show
+pub kind-by-words : (text : List ℕ) (kind : Kind) → kind_of_words (words text) ≡ kind → (Ignored ≡ kind → ⊥) → kind_of_text text ≡ kind
+kind-by-words text kind is other = by (first_byte_is 35 text) refl
+  where
+    by : (b : Bool) → first_byte_is 35 text ≡ b → kind_of_text text ≡ kind
+    by true e = absurd (other (sym (comment-ignored text e) ∙ is))
+    by false e = other-kind text e ∙ is
 
 pub comment-kind : (text : List ℕ) → first_byte_is 35 text ≡ true → begins_with (codes "# unify inventory ") text ≡ false → begins_with (codes "# end ") text ≡ false → kind_of_text text ≡ Ignored
 comment-kind text is begins ends =

@@ -26,10 +26,10 @@ use Rattle.mtree_inv.specs.Keywords.{has_lawful_numbers, number_in_force, in_for
 use Rattle.mtree_inv.specs.Open.{Mark, Opens, Stays, is_full, mark_of, marks, open_names}
 use Rattle.idtext.specs.Escapes.{has_bad_escape}
 use Rattle.mtree_inv.specs.Paths.{parts, components, is_bad_component, has_bad_component}
-use Rattle.mtree_inv.specs.Inventory.{kinds, files_of, named, first_appearances, fault_of, fault_said, file_said, file_at, said_alone, owned_file, named_file, is_bad_path, path_of, numbered_fault, inventory_of_lines, inventory, accepted, accepted_from, end_fault}
+use Rattle.mtree_inv.specs.Inventory.{kinds, files_of, named, first_appearances, fault_of, fault_said, file_said, file_at, said_alone, owned_file, named_file, is_bad_path, path_of, numbered_fault, inventory_of_lines, inventory, accepted_from, accepted_files, end_fault}
 use Rattle.mtree_inv.specs.Machine.{with_new_file}
 use Rattle.mtree_inv.specs.Whole.{is_cut}
-use Rattle.mtree_inv.specs.Standing.{ReaderValue, StandsAt, files}
+use Rattle.mtree_inv.specs.Standing.{ReaderValue, AreLeftBy, StandsAt, files}
 use Rattle.mtree_inv.proofs.LookingLemmas.{looking_back-snoc}
 use Rattle.mtree_inv.proofs.WholeLemmas.{id_small}
 use Rattle.mtree_inv.proofs.FileLemmas.{after_said, files_of-snoc}
@@ -184,8 +184,8 @@ all_accepted most before (line ∷ rest) e =
 
 -- ---- texts
 
-accepted_files : (most : ℕ) (lines : List LogicalLine) → AreFound most (files_of (kinds (accepted most lines)))
-accepted_files most lines =
+accepted_found : (most : ℕ) (lines : List LogicalLine) → AreFound most (accepted_files most lines)
+accepted_found most lines =
     let sound = accepted_sound most [] lines (none_sound most) in
     (sound.files, sound.few)
 
@@ -194,7 +194,7 @@ lines-files : (most : ℕ) (lines : List LogicalLine) (fs : List Entry) → inve
 unfolding inventory_of_lines
 lines-files most lines fs e =
     let told = told_ok (first_fault (numbered_fault most) [] lines) (files_of (kinds lines)) fs e in
-    subst (AreFound most) (ap (λ (ls : List LogicalLine). files_of (kinds ls)) (all_accepted most [] lines told.0) ∙ told.1) (accepted_files most lines)
+    subst (AreFound most) (ap (λ (ls : List LogicalLine). files_of (kinds ls)) (all_accepted most [] lines told.0) ∙ told.1) (accepted_found most lines)
 
 -- the files of an inventory
 pub inventory-files : InventoriesAreFiles
@@ -218,11 +218,14 @@ front_files most fs more found = (front_lawful found.0, omega (arith, found.1, l
           subst IsLawfulFile (get_or_append_left fs more d k within) (h.lawful k d long);
     }
 
+left_files : (most : ℕ) (fault : ReadError) (fs before : List Entry) → AreLeftBy fault fs before → AreFound most before → AreFound most fs
+left_files most (Fault fault) fs before h found = subst (AreFound most) h found
+left_files most Memory fs before h found = front_files most fs h.0 (subst (AreFound most) h.1 found)
+
 standing_files : (fault : Option ReadError) (finished : Bool) (reader : ReaderValue) (text : List ℕ) → StandsAt fault finished reader text → AreFound reader.most (files reader)
 standing_files None false reader text h = lines-files reader.most _ (files reader) h.1
 standing_files None true reader text h = inventory-files reader.most text (files reader) h
-standing_files (Some (Fault fault)) finished reader text h = subst (AreFound reader.most) h.4 (accepted_files reader.most (logical_lines h.0))
-standing_files (Some Memory) finished reader text h = front_files reader.most (files reader) h.2 (subst (AreFound reader.most) h.4 (accepted_files reader.most (logical_lines h.0)))
+standing_files (Some fault) finished reader text h = left_files reader.most fault (files reader) _ h.4 (accepted_found reader.most (logical_lines h.0))
 
 -- the files of a reader that stands for a text
 pub reader-files : ReadersHaveFiles

@@ -11,10 +11,10 @@ use Rattle.mtree_inv.specs.declared.open_line.Ends.{Ends}
 use Rattle.mtree_inv.specs.declared.open_line.Ends.TheVariants.{Nothing, Joined, Byte, Backslash}
 use Rattle.idtext.specs.Pieces.{pieces}
 use Rattle.mtree_inv.specs.Logical.{LogicalLine, logical_lines, whole_lines}
-use Rattle.mtree_inv.specs.Inventory.{kinds, files_of, named, first_appearances, inventory_of_lines, inventory, end_fault}
+use Rattle.mtree_inv.specs.Inventory.{kinds, files_of, named, first_appearances, accepted_files, inventory_of_lines, inventory, end_fault}
 use Rattle.mtree_inv.specs.Machine.{Kept, step}
 use Rattle.mtree_inv.specs.Reading.{Reading, clipped_kind, read_byte, read_bytes, at_end, unless_ended_at_end, last_read, finished, end_lacking, with_end_seen, start}
-use Rattle.mtree_inv.specs.Standing.{ReaderValue, GrowAlike, files, files_before_fault, IsMidText, StandsAt, StandsFor}
+use Rattle.mtree_inv.specs.Standing.{ReaderValue, AreLeftBy, GrowAlike, files, files_before_fault, IsMidText, StandsAt, StandsFor}
 use Rattle.idtext.specs.Faults.{fault_told}
 use Rattle.mtree_inv.specs.Parts.{FailedTo}
 use Rattle.mtree_inv.proofs.StepLemmas.{Follows}
@@ -32,11 +32,14 @@ unfolding inventory_of_lines
 inventory_of_run most lines k None run = ap (λ (o : Option TextFault). unless o (files_of (kinds lines))) (sym run.fault) ∙ ap Ok (sym (run.follows refl).files)
 inventory_of_run most lines k (Some f) run = ap (λ (o : Option TextFault). unless o (files_of (kinds lines))) (sym run.fault)
 
+run_whole : (most : ℕ) (text : List ℕ) → RunIs most [] (whole_lines text) ((read_bytes most start text).kept, (read_bytes most start text).fault)
+run_whole most text = subst (RunIs most [] (whole_lines text)) (sym (read_whole_lines most text)) (run_is most start.kept [] (whole_lines text) follows_start)
+
 pub whole_inventory : (most : ℕ) (text : List ℕ) → inventory_of_lines most (whole_lines text) ≡ unless (read_bytes most start text).fault (read_bytes most start text).kept.files
-whole_inventory most text =
-    let m = read_bytes most start text in
-    inventory_of_run most (whole_lines text) m.kept m.fault
-    (subst (RunIs most [] (whole_lines text)) (sym (read_whole_lines most text)) (run_is most start.kept [] (whole_lines text) follows_start))
+whole_inventory most text = inventory_of_run most (whole_lines text) (read_bytes most start text).kept (read_bytes most start text).fault (run_whole most text)
+
+whole_files : (most : ℕ) (text : List ℕ) → accepted_files most (whole_lines text) ≡ (read_bytes most start text).kept.files
+whole_files most text = sym (run_whole most text).files
 
 abbrev at_finish : ℕ → List ℕ → Reading
 at_finish most text = finished most (read_bytes most start text)
@@ -121,8 +124,7 @@ stands_by reader text o b e f h =
 
 -- a reader that met a fault stands for each longer text too
 still_failed : (o : ReadError) (finished : Bool) (reader : ReaderValue) (text piece : List ℕ) → StandsAt (Some o) finished reader text → StandsAt (Some o) finished reader (text ++ piece)
-still_failed (Fault f) finished reader text piece h = (h.0, h.1 ++ piece, ap (λ t. t ++ piece) h.2 ∙ append_assoc h.0 h.1 piece, h.3, h.4)
-still_failed Memory finished reader text piece h = (h.0, h.1 ++ piece, h.2, ap (λ t. t ++ piece) h.3 ∙ append_assoc h.0 h.1 piece, h.4)
+still_failed o finished reader text piece h = (h.0, h.1 ++ piece, ap (λ t. t ++ piece) h.2 ∙ append_assoc h.0 h.1 piece, h.3, h.4)
 
 pub stands_still : (reader : ReaderValue) (text piece : List ℕ) (fault : ReadError) → reader.fault ≡ Some fault → StandsFor reader text → StandsFor reader (text ++ piece)
 stands_still reader text piece fault e h =
@@ -165,16 +167,23 @@ failed_inventory most text f e = all_inventory most text ∙ ap (λ (o : Option 
 failed_finish : (most : ℕ) (text : List ℕ) (f : TextFault) → (read_bytes most start text).fault ≡ Some f → at_finish most text ≡ read_bytes most start text
 failed_finish most text f e = finished-failed most (read_bytes most start text) f e
 
+failed_told : (most : ℕ) (fs : List Entry) (text : List ℕ) (fault : ReadError) → FailedTo fs fault (at_finish most text) → IfSome (fault_told fault) (λ f. inventory most text ≡ Err f)
+failed_told most fs text Memory h = tt
+failed_told most fs text (Fault f) h = failed_inventory most text f h.0
+
+-- the files of a call that failed, where those before the fault are the reading's
+left_by : (fs before : List Entry) (fault : ReadError) (target : Reading) → before ≡ target.kept.files → FailedTo fs fault target → AreLeftBy fault fs before
+left_by fs before Memory target e h = (h.0, e ∙ h.1)
+left_by fs before (Fault f) target e h = e ∙ h.1
+
 -- a reader that failed on this text
 failed_at : (new : ReaderValue) (most : ℕ) (text : List ℕ) (fin : Bool) (fault : ReadError) → new.most ≡ most → FailedTo (files new) fault (at_finish most text) → StandsAt (Some fault) fin new text
-failed_at new most text fin Memory same h =
-    (text, [], h.0, sym (append-nil text), ap (λ (n : ℕ). files_before_fault n text) same ∙ files_at_finish most text ∙ h.1)
-failed_at new most text fin (Fault f) same h = (
+failed_at new most text fin fault same h = (
   text,
   [],
   sym (append-nil text),
-  ap (λ (n : ℕ). inventory n text) same ∙ failed_inventory most text f h.0,
-  ap (λ (n : ℕ). files_before_fault n text) same ∙ files_at_finish most text ∙ h.1,
+  subst (λ (n : ℕ). IfSome (fault_told fault) (λ f. inventory n text ≡ Err f)) (sym same) (failed_told most (files new) text fault h),
+  left_by (files new) (files_before_fault new.most text) fault (at_finish most text) (ap (λ (n : ℕ). files_before_fault n text) same ∙ files_at_finish most text) h,
 )
 
 finish_failed : (most : ℕ) (text : List ℕ) (fs : List Entry) (fault : ReadError) → FailedTo fs fault (read_bytes most start text) → FailedTo fs fault (at_finish most text)
@@ -194,6 +203,13 @@ fed_told reader fs text piece (Fault f) h e =
     whole_inventory reader.most (text ++ piece)
     ∙ ap (λ (m : Reading). unless m.fault m.kept.files) (sym (fed_to reader text piece h))
     ∙ ap (λ (o : Option TextFault). unless o (read_bytes reader.most reader.reading piece).kept.files) e.0
+
+-- the files are left of the whole lines, though the text may go on
+pub fed_left : (reader : ReaderValue) (fs : List Entry) (text piece : List ℕ) (fault : ReadError) → StandsAt None false reader text
+    → FailedTo fs fault (read_bytes reader.most reader.reading piece) → AreLeftBy fault fs (accepted_files reader.most (whole_lines (text ++ piece)))
+fed_left reader fs text piece fault h e =
+    left_by fs (accepted_files reader.most (whole_lines (text ++ piece))) fault (read_bytes reader.most reader.reading piece)
+    (whole_files reader.most (text ++ piece) ∙ ap (λ (m : Reading). m.kept.files) (sym (fed_to reader text piece h))) e
 
 pub fed_ended : (reader : ReaderValue) (fs : List Entry) (text piece : List ℕ) (fault : ReadError) → StandsAt None false reader text
     → FailedTo fs fault (read_bytes reader.most reader.reading piece) → IfSome (fault_told fault) (λ f. (more : List ℕ) → inventory reader.most ((text ++ piece) ++ more) ≡ Err f)
@@ -218,8 +234,13 @@ finished_failed reader new text fin fault h same e =
 
 pub finished_told : (reader : ReaderValue) (fs : List Entry) (text : List ℕ) (fault : ReadError) → StandsAt None false reader text
     → FailedTo fs fault (finished reader.most reader.reading) → IfSome (fault_told fault) (λ f. inventory reader.most text ≡ Err f)
-finished_told reader fs text Memory h e = tt
-finished_told reader fs text (Fault f) h e = failed_inventory reader.most text f (ap (λ (m : Reading). m.fault) (ap (finished reader.most) (sym (kept_at reader text h))) ∙ e.0)
+finished_told reader fs text fault h e = failed_told reader.most fs text fault (subst (FailedTo fs fault) (ap (finished reader.most) (kept_at reader text h)) e)
+
+pub finished_left : (reader : ReaderValue) (fs : List Entry) (text : List ℕ) (fault : ReadError) → StandsAt None false reader text
+    → FailedTo fs fault (finished reader.most reader.reading) → AreLeftBy fault fs (files_before_fault reader.most text)
+finished_left reader fs text fault h e =
+    left_by fs (files_before_fault reader.most text) fault (finished reader.most reader.reading)
+    (files_at_finish reader.most text ∙ ap (λ (m : Reading). (finished reader.most m).kept.files) (sym (kept_at reader text h))) e
 
 pub stands_start : (most : ℕ) (reader : ReaderValue) → reader.reading ≡ start → [] ≡ reader.files → StandsAt None false reader []
 unfolding read_bytes inventory_of_lines first_fault files_of named first_appearances pieces

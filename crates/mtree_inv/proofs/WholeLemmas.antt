@@ -57,7 +57,7 @@ files_given-snoc since line = ap length (filter-append gives_file since (line �
 told-snoc : (since : List Kind) (line : Kind) → told (since ++ line ∷ []) ≡ option_flatten (option_or (told_by line) (last_said told_by since))
 told-snoc since line = ap option_flatten (last_said-snoc told_by since line)
 
--- what a reader keeps of the lines behind the last line that begins an inventory
+-- what a reader keeps of the lines after the last line that begins an inventory
 abbrev pub begun_of : List Kind → Begun
 begun_of since = record { files = min (files_given since) 18446744073709551615; is_ended = is_ended since }
 

@@ -1,7 +1,7 @@
 -- Words of private contracts: cuts, and a list in which each stands once.
 use Rattle.std.specs.Prelude.{◌≡◌, ℕ, List, [], ◌∷◌, ◌++◌, Option, Some, None, slice_get}
 
--- a number and bytes: of a path the number of its front, and what stands behind that
+-- a number and bytes: of a path the number of its front, and what stands after that
 abbrev pub Cut : Type 0
 Cut = ℕ × List ℕ
 

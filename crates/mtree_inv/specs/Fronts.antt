@@ -1,4 +1,4 @@
--- Words of private contracts: paths that are cut in two behind a whole number of blocks, and their
+-- Words of private contracts: paths that are cut in two after a whole number of blocks, and their
 -- fronts, each kept once.
 use Rattle.std.specs.Prelude.{◌≡◌, ◌≤◌, ◌<◌, ℕ, suc, ◌%◌, List, [], ◌∷◌, ◌++◌, length}
 use Rattle.std.specs.Prelude.{slice_get, slice_index_or, Some}
@@ -8,7 +8,7 @@ use Rattle.mtree_inv.specs.Cuts.{Cut, AreDistinct}
 abbrev pub block_len : ℕ
 block_len = 256
 
--- ---- the fronts in the order of their numbers, and the paths that are cut behind them
+-- ---- the fronts in the order of their numbers, and the paths that are cut after them
 
 abbrev pub front_at : List (List ℕ) → ℕ → List ℕ
 front_at fronts n = slice_index_or fronts n []
@@ -19,7 +19,7 @@ path_of_cut fronts cut = front_at fronts cut.0 ++ cut.1
 pub record IsCut (fronts : List (List ℕ)) (cut : Cut) : Type 0 where
   -- its front is one of these
   pub kept : cut.0 < length fronts
-  -- no more than a block stands behind the front, and nothing only in the empty path
+  -- no more than a block stands after the front, and nothing only in the empty path
   pub short : length cut.1 ≤ block_len
   pub filled : length cut.1 ≡ 0 → cut.0 ≡ 0
 
@@ -38,7 +38,7 @@ pub record AreFronts (fronts : List (List ℕ)) : Type 0 where
   pub distinct : (m n : ℕ) → m < length fronts → n < length fronts
       → front_at fronts m ≡ front_at fronts n → m ≡ n
 
--- the fronts that came stand behind the others, so that numbers stay what they are
+-- the fronts that came stand after the others, so that numbers stay what they are
 abbrev pub GrowTo : List (List ℕ) → List (List ℕ) → Type 0
 GrowTo fronts new_fronts = (added : List (List ℕ)) × (new_fronts ≡ fronts ++ added)
 
@@ -51,7 +51,7 @@ fronts_behind fronts (cut ∷ cuts) = fronts_behind (fronts ++ path_of_cut front
 unfoldable pub fronts_in : List Cut → List (List ℕ)
 fronts_in cuts = fronts_behind ([] ∷ []) cuts
 
--- the front with this number is one before it and a block behind that
+-- the front with this number is one before it and a block after that
 pub record IsFrontAt (fronts : List (List ℕ)) (cut : Cut) (n : ℕ) : Type 0 where
   pub kept : n < length fronts
   pub before : cut.0 < n

@@ -74,7 +74,7 @@ other_at others cut =
 
 -- ---- both
 
--- the cut at this index is found behind so many places that are taken: at the next, or in the tree
+-- the cut at this index is found after so many places that are taken: at the next, or in the tree
 pub record IsFoundAt (places : List Place) (others : Others) (cut : Cut) (i : ℕ) : Type 0 where
   pub roomy : most_probes < length places
   pub probes : ℕ

@@ -15,7 +15,7 @@ files_in fronts (cut ∷ cuts) [] = []
 files_in fronts (cut ∷ cuts) (owner ∷ owners) =
     file (path_of_cut fronts cut) owner ∷ files_in fronts cuts owners
 
--- the paths are cut behind these fronts
+-- the paths are cut after these fronts
 abbrev pub AreCut : List (List ℕ) → List Cut → Type 0
 AreCut fronts [] = Unit {0}
 AreCut fronts (cut ∷ cuts) = IsCut fronts cut × AreCut fronts cuts

@@ -21,7 +21,7 @@ gives_file _ = false
 abbrev pub files_given : List Kind → ℕ
 files_given lines = length (filter gives_file lines)
 
--- what a line says of the number of files before it: `# end` the number behind it, where that is
+-- what a line says of the number of files before it: `# end` the number after it, where that is
 -- one; an entry, that none is told
 abbrev pub told_by : Kind → Option (Option ℕ)
 told_by (Counts text) = Some (id_of text)
@@ -36,12 +36,12 @@ abbrev pub is_number : Option ℕ → ℕ → Bool
 is_number None n = false
 is_number (Some m) n = m == n
 
--- the lines behind a first one end an inventory: the number of their files is told, and no file
--- stands behind that
+-- the lines after a first one end an inventory: the number of their files is told, and no file
+-- stands after that
 abbrev pub is_ended : List Kind → Bool
 is_ended since = is_number (told since) (files_given since)
 
--- the lines behind the last line that begins an inventory, where one does
+-- the lines after the last line that begins an inventory, where one does
 abbrev pub lines_since : List Kind → Option (List Kind)
 lines_since [] = None
 lines_since (line ∷ rest) =

@@ -8,7 +8,7 @@ use idtext::decimal;
 /// The inventory that was begun last, as far as its lines came.
 #[derive(Clone, Copy, Debug, PartialEq, Eq, Drop)]
 pub(crate) struct Begun {
-    /// How many lines behind its first one gave a file; stays at the greatest number.
+    /// How many lines after its first one gave a file; stays at the greatest number.
     pub(crate) files: u64,
     /// Whether this number was told, and no file was given since.
     pub(crate) is_ended: bool,

@@ -52,7 +52,7 @@ fn make_room(
 }
 
 /// Cuts, each once, in the order in which they came. Each is a number and bytes: of a path, the
-/// number of its front and what stands behind that.
+/// number of its front and what stands after that.
 ///
 /// Whoever names files chooses their paths, and may so bring it about that a table of hashes has
 /// many cuts where it looks for each. So only 16 places are looked at, and what finds none of them

@@ -38,7 +38,7 @@ pub(crate) fn empty_front(alloc: Global) -> Fronts
     }
 }
 
-// The number of the front that this front and the block behind it make.
+// The number of the front that this front and the block after it make.
 fn number_of(
     fronts: &mut Fronts,
     alloc: Global,

@@ -1,4 +1,4 @@
-//! Cuts one behind another, with their bytes in one buffer.
+//! Cuts one after another, with their bytes in one buffer.
 ghost use Rattle.std.specs.Prelude.{◌≡◌, ◌≤◌, [], ◌++◌, ◌∷◌, length, slice_get, Some, MatchOption};
 ghost use Rattle.std.specs.Prelude.{is_ok, if◌then◌else◌};
 

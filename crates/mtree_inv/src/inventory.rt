@@ -62,7 +62,7 @@ fn all_entries(alloc: Global, mut reader: Reader) -> Result<Vec<Entry>, ReadErro
 /// The answer is `ReadError::Fault` exactly where the text has a fault, with the first: by line,
 /// and on one line `LineTooLong`, `CutContinuation`, `CutInventory`, `BadCommand`, `DotDotAbove`,
 /// `BadPath`, `BadNumber`, `NoUid`, `NoGid`, `OwnersDiffer`, `TooManyEntries`, in this order; and
-/// behind all lines `CutInventory`, at the line behind the last newline. The line is counted from
+/// after all lines `CutInventory`, at the line after the last newline. The line is counted from
 /// 1, and of lines that are joined it is the first. `ReadError::Memory` says that memory was
 /// refused.
 ///

@@ -23,7 +23,7 @@ fn white_len(line: &[u8]) -> usize
     line.len()
 }
 
-// Whether a byte stands behind those that are white space, as those of most words do.
+// Whether a byte stands after those that are white space, as those of most words do.
 fn is_above_white(byte: u8) -> bool
     ensures { result ≡ true → is_space byte ≡ false }
 {
@@ -73,7 +73,7 @@ fn without_indent(line: &[u8]) -> &[u8]
     rest
 }
 
-/// The first keyword of a line, and all that stands behind it; None where the line has none. Most
+/// The first keyword of a line, and all that stands after it; None where the line has none. Most
 /// are short: a search that is begun anew for each would take longer, and so would a call.
 #[inline(always)]
 pub(crate) fn first_keyword(line: &[u8]) -> Option<(&[u8], &[u8])>

@@ -22,9 +22,9 @@
 //!   bad one names no file.
 //! - A path that comes twice with one owner is one file; with two owners it is a fault.
 //! - A comment that begins with `# unify inventory ` begins an inventory that tells its end: a
-//!   comment `# end ` with the number, decimal, of the entries between the two, behind which no
+//!   comment `# end ` with the number, decimal, of the entries between the two, after which no
 //!   entry stands. Where that is not so before the next that begins, or before the text ends, the
-//!   text is refused (`CutInventory`). A text may have several, one behind the other. A `# end `
+//!   text is refused (`CutInventory`). A text may have several, one after the other. A `# end `
 //!   where none was begun says nothing.
 #![tactic(auto)]
 
@@ -49,5 +49,7 @@ mod walk;
 
 pub use entry::Entry;
 pub use inventory::{Inventory, read_inventory};
-pub use laws::{default_in_force, files_are_lawful, open_directories};
+pub use laws::{
+    default_in_force, files_are_lawful, inventories_by_example, open_directories, words_of_mtree,
+};
 pub use reader::Reader;

@@ -45,8 +45,9 @@ impl Reader {
     ghost use Rattle.std.specs.Prelude.{IfSome, IfNone, IfErr, MatchOption, MatchResult};
     ghost use Rattle.idtext.specs.First.{Gives};
     ghost use Rattle.mtree_inv.specs.Logical.{whole_lines};
-    ghost use Rattle.mtree_inv.specs.Inventory.{inventory_of_lines, inventory};
-    ghost use Rattle.mtree_inv.specs.Standing.{StandsFor, GrowAlike, files};
+    ghost use Rattle.mtree_inv.specs.Inventory.{accepted_files, inventory_of_lines, inventory};
+    ghost use Rattle.mtree_inv.specs.Standing.{AreLeftBy, StandsFor, GrowAlike, files};
+    ghost use Rattle.mtree_inv.specs.Standing.{files_before_fault};
     ghost use Rattle.idtext.specs.Faults.{fault_told};
 
     /// A reader of a text with at most `most` files, of which nothing has come. Takes no memory
@@ -89,8 +90,10 @@ impl Reader {
 
     /// Takes the next piece of the text, which must not be finished. The answer is
     /// `ReadError::Fault` exactly where the whole logical lines so far have a fault, with the
-    /// first, and `ReadError::Memory` where memory was refused. After a fault, `Memory` too, it is
-    /// always that one and nothing changes; files read before it can still be taken.
+    /// first, and `ReadError::Memory` where memory was refused. After an error the files are those
+    /// of these lines before the first fault, after `Memory` the first of those; none is of the
+    /// line in progress. They can still be taken. Each later call answers that error again and
+    /// changes nothing.
     ///
     /// One pass over the piece and over the whole path of each entry. For each 256 bytes of a path
     /// there is one look-up by hash, which looks at 16 places at most. Only where these are taken,
@@ -112,6 +115,11 @@ impl Reader {
             (λ e. IfSome (fault_told e)
             (λ f. (more : List ℕ) → inventory self.old.most ((text ++ piece.now) ++ more)
             ≡ Err f))) }
+        ensures read { (text : List ℕ) → StandsFor self.old text
+            → IfNone self.old.fault
+            (IfErr result
+            (λ e. AreLeftBy e (files self.new)
+            (accepted_files self.old.most (whole_lines (text ++ piece.now))))) }
         ensures failed { IfSome self.old.fault (λ f. (result ≡ Err f) × (self.new ≡ self.old)) }
         ensures fault { IfNone self.old.fault
             (MatchResult result (λ _. self.new.fault ≡ None) (λ f. self.new.fault ≡ Some f)) }
@@ -134,7 +142,9 @@ impl Reader {
 
     /// Takes the end of the text, which must not be finished. The answer is `ReadError::Fault`
     /// exactly where the whole text has a fault, with the first, and `ReadError::Memory` where
-    /// memory was refused. After a fault it is always that one and nothing changes.
+    /// memory was refused. After an error the files are those of its logical lines before the first
+    /// fault, after `Memory` the first of those. They can still be taken. Each later call answers
+    /// that error again and changes nothing.
     ///
     /// At most one line, the last, is still to be read here.
     pub fn finish(&mut self) -> Result<(), ReadError>
@@ -143,6 +153,10 @@ impl Reader {
         ensures told { (text : List ℕ) → StandsFor self.old text
             → IfNone self.old.fault
             (Gives (λ _. files self.new) fault_told result (inventory self.old.most text)) }
+        ensures read { (text : List ℕ) → StandsFor self.old text
+            → IfNone self.old.fault
+            (IfErr result
+            (λ e. AreLeftBy e (files self.new) (files_before_fault self.old.most text))) }
         ensures failed { IfSome self.old.fault (λ f. (result ≡ Err f) × (self.new ≡ self.old)) }
         ensures fault { IfNone self.old.fault
             (MatchResult result (λ _. (self.new.fault ≡ None) × (self.new.is_finished ≡ true))

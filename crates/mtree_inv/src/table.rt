@@ -67,7 +67,7 @@ pub(crate) fn empty(table: &mut Table, alloc: Global)
     table.owners.clear();
 }
 
-/// The path as a key: the number of its front, and what stands behind that.
+/// The path as a key: the number of its front, and what stands after that.
 pub(crate) fn key_of<'a>(
     table: &mut Table,
     alloc: Global,

@@ -33,7 +33,7 @@ unowned_gids host files = each_once (filter (is_unowned_gid host) (map (λ file.
 abbrev pub on_host : Host → List ℕ → List UnownedNumber
 on_host host numbers = map (λ number. record { host = host.name; number = number }) numbers
 
--- the numbers so far, and behind them those of the files of one host more
+-- the numbers so far, and after them those of the files of one host more
 abbrev pub unowned_with : UnownedNumbers → Host → List Entry → UnownedNumbers
 unowned_with found host files = record {
   users = found.users ++ on_host host (unowned_uids host files);

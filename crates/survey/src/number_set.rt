@@ -34,7 +34,7 @@ impl NumberSet {
         }
     }
 
-    /// Adds a number behind the others, unless it is among them, with the logarithm of how many
+    /// Adds a number after the others, unless it is among them, with the logarithm of how many
     /// there are. `AllocError` where a growth was refused; the set is then of no use.
     pub fn add(&mut self, number: u32) -> Result<(), AllocError>
         ensures { OnOk result ((numbers : List ℕ) → HasNumbers numbers self.old

@@ -10,7 +10,7 @@ use Rattle.mtree_inv.proofs.cuts.Cuts.find_or_push.Goals as goal
 abbrev AreSettled : List Cut → List Place → Others → Type 0
 AreSettled cuts places others = AreFound cuts places others × AreDistinct cuts
 
--- what the places are behind a call on the slice of them
+-- what the places are after a call on the slice of them
 whole : (old new : List Place) (n : ℕ) → length new ≡ n → take n (new ++ drop (length new) old) ≡ new
 whole old new n e = take_at new (drop (length new) old) n e
 

@@ -2,11 +2,11 @@ use Rattle.std.proofs.Common.{◌≡◌, ℕ, List, refl, sym, ap, ◌∙◌, su
 use Rattle.std.specs.Prelude.{None, Some, Ok, Err, IfSome}
 use Rattle.mtree_inv.specs.contracts.reader.Reader.{the_view}
 use Rattle.mtree_inv.specs.Logical.{whole_lines}
-use Rattle.mtree_inv.specs.Inventory.{inventory_of_lines, inventory}
-use Rattle.mtree_inv.specs.Standing.{ReaderValue, StandsFor, files}
+use Rattle.mtree_inv.specs.Inventory.{accepted_files, inventory_of_lines, inventory}
+use Rattle.mtree_inv.specs.Standing.{ReaderValue, AreLeftBy, StandsFor, files}
 use Rattle.idtext.specs.Faults.{fault_told}
 use Rattle.mtree_inv.specs.Parts.{files_of_parts}
-use Rattle.mtree_inv.proofs.StandLemmas.{going_at, stands_by, fed_whole, fed_going, fed_failed, fed_told, fed_ended, none_then, stands_still}
+use Rattle.mtree_inv.proofs.StandLemmas.{going_at, stands_by, fed_whole, fed_going, fed_failed, fed_told, fed_ended, fed_left, none_then, stands_still}
 use Rattle.mtree_inv.proofs.reader.Reader.feed.Goals as goal
 
 pub returns-in-Ok-clause-stands : goal.returns-in-Ok-clause-stands
@@ -53,6 +53,16 @@ returns-in-Err-clause-ended c = λ text h.
     none_then c.args.self.now.fault
     (subst (λ (r : ReaderValue). IfSome (fault_told c.in-Err.fault) (λ f. (more : List ℕ) → inventory r.most ((text ++ c.args.piece.now) ++ more) ≡ Err f)) c.self.view_is
     (fed_ended reader (files_of_parts c.take_piece.new.self) text c.args.piece.now c.in-Err.fault going c.in-Err.ensures.taken))
+
+pub returns-in-Err-clause-read : goal.returns-in-Err-clause-read
+returns-in-Err-clause-read c = λ text h.
+    let reader = the_view c.self.inside in
+    let open_still = ap (λ (r : ReaderValue). r.is_finished) c.self.view_is ∙ c.requires in
+    let going = going_at reader text c.in_default.is open_still (subst (λ (r : ReaderValue). StandsFor r text) (sym c.self.view_is) h) in
+    let left = files_of_parts c.take_piece.new.self in
+    none_then c.args.self.now.fault
+    (subst (λ (r : ReaderValue). AreLeftBy c.in-Err.fault left (accepted_files r.most (whole_lines (text ++ c.args.piece.now)))) c.self.view_is
+    (fed_left reader left text c.args.piece.now c.in-Err.fault going c.in-Err.ensures.taken))
 
 pub returns-in-Some-clause-stands : goal.returns-in-Some-clause-stands
 returns-in-Some-clause-stands c = λ text h.

@@ -2,10 +2,10 @@ use Rattle.std.proofs.Common.{◌≡◌, ℕ, refl, sym, ap, ◌∙◌, subst, t
 use Rattle.std.specs.Prelude.{None, Some, Ok, Err, IfSome}
 use Rattle.mtree_inv.specs.contracts.reader.Reader.{the_view}
 use Rattle.mtree_inv.specs.Inventory.{inventory}
-use Rattle.mtree_inv.specs.Standing.{ReaderValue, StandsFor, files}
+use Rattle.mtree_inv.specs.Standing.{ReaderValue, AreLeftBy, StandsFor, files, files_before_fault}
 use Rattle.idtext.specs.Faults.{fault_told}
 use Rattle.mtree_inv.specs.Parts.{files_of_parts}
-use Rattle.mtree_inv.proofs.StandLemmas.{going_at, stands_by, finished_whole, finished_failed, finished_told, none_then}
+use Rattle.mtree_inv.proofs.StandLemmas.{going_at, stands_by, finished_whole, finished_failed, finished_told, finished_left, none_then}
 use Rattle.mtree_inv.proofs.reader.Reader.finish.Goals as goal
 
 pub returns-in-Ok-clause-stands : goal.returns-in-Ok-clause-stands
@@ -42,3 +42,13 @@ returns-in-Err-clause-told c = λ text h.
     none_then c.args.self.now.fault
     (subst (λ (r : ReaderValue). IfSome (fault_told c.in-Err.fault) (λ f. inventory r.most text ≡ Err f)) c.self.view_is
     (finished_told reader (files_of_parts c.take_end.new.self) text c.in-Err.fault going c.in-Err.ensures.taken))
+
+pub returns-in-Err-clause-read : goal.returns-in-Err-clause-read
+returns-in-Err-clause-read c = λ text h.
+    let reader = the_view c.self.inside in
+    let open_still = ap (λ (r : ReaderValue). r.is_finished) c.self.view_is ∙ c.requires in
+    let going = going_at reader text c.in_default.is open_still (subst (λ (r : ReaderValue). StandsFor r text) (sym c.self.view_is) h) in
+    let left = files_of_parts c.take_end.new.self in
+    none_then c.args.self.now.fault
+    (subst (λ (r : ReaderValue). AreLeftBy c.in-Err.fault left (files_before_fault r.most text)) c.self.view_is
+    (finished_left reader left text c.in-Err.fault going c.in-Err.ensures.taken))
