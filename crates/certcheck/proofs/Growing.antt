@@ -11,7 +11,6 @@ use Rattle.std.proofs.lemmas.List.Elements.{All-weaker, All-push, All-nil}
 use Rattle.std.specs.List.{flat_map}
 use Rattle.std.proofs.lemmas.List.Concat.{flat_map-append}
 use Rattle.idtext.specs.First.{first_fault}
-use Rattle.idtext.specs.Faults.{line_number}
 use Rattle.certcheck.proofs.Least.{none_both}
 use Rattle.hosts_join.specs.declared.Which.{Which}
 use Rattle.hosts_join.specs.declared.Which.TheVariants.{User, Group}
@@ -33,7 +32,7 @@ less_is Less h = refl
 less_is Equal h = absurd (false≢true h)
 less_is Greater h = absurd (false≢true h)
 
--- what it means to stand behind an item
+-- what it means to stand after an item
 pub follows_says : (b i : Item) → may_follow (Some b) (Some i) ≡ true → (rank b < rank i) ⊎ ((rank b ≡ rank i) × (ascends b i ≡ true))
 follows_says b i h =
     ⊎_elim
@@ -303,8 +302,7 @@ line_fine seen l h =
     ⊎_elim
     (λ (e : may_follow (item_before seen) (item_of l) ≡ true). e)
     (λ (e : may_follow (item_before seen) (item_of l) ≡ false).
-    let off : Some (line_number (length seen)) ≡ None = sym (cond-false _ None (Some (line_number (length seen))) e) ∙ h in
-    absurd (cc))
+    absurd (none-some _ (sym h ∙ cond-false _ None (Some _) e)))
     (cases_Bool (may_follow (item_before seen) (item_of l)))
 
 pub no_item : (b : Option Item) → may_follow b None ≡ true → ⊥

@@ -1,11 +1,10 @@
 -- What is read from a text is spelled by it, and what is spelled is read.
-use Rattle.std.proofs.Common.{◌≡◌, ℕ, ◌<◌, min, Bool, true, false, cond, codes, List, [], ◌∷◌, ◌++◌, map, length, Option, Some, None, Result, Ok, refl, sym, ap, ◌∙◌, arith, subst, append_assoc, append-nil}
+use Rattle.std.proofs.Common.{◌≡◌, ℕ, ◌<◌, Bool, true, false, cond, codes, List, [], ◌∷◌, ◌++◌, map, length, Option, Some, None, Result, Ok, refl, sym, ap, ◌∙◌, arith, subst, append_assoc, append-nil}
 use Rattle.std.specs.List.{All, flat_map}
 use Rattle.std.proofs.lemmas.Bool.{cond-true, false≢true}
 use Rattle.std.proofs.lemmas.List.Concat.{flat_map-append}
 use Rattle.std.proofs.lemmas.List.Elements.{All-head, All-tail}
 use Rattle.std.proofs.lemmas.Option.{none-some}
-use Rattle.idtext.specs.Faults.{line_number}
 use Rattle.idtext.specs.First.{first_fault, or_else, unless}
 use Rattle.idtext.specs.Pieces.{lines}
 use Rattle.hosts_join.specs.declared.Which.{Which}
@@ -26,7 +25,7 @@ use Rattle.certcheck.proofs.LineLoop.{side_equal}
 
 -- 1. Lines and what they say
 
-abbrev AreSaid : List (List ℕ) → List Item → Type 0
+abbrev pub AreSaid : List (List ℕ) → List Item → Type 0
 AreSaid [] [] = Unit {0}
 AreSaid [] (i ∷ is) = ⊥
 AreSaid (l ∷ ls) [] = ⊥
@@ -38,13 +37,13 @@ said_given part [] (i ∷ is) h = absurd h
 said_given part (l ∷ ls) [] h = absurd h
 said_given part (l ∷ ls) (i ∷ is) h = ap (λ o. part o ++ flat_map (λ m. part (item_of m)) ls) h.0 ∙ ap (λ xs. part (Some i) ++ xs) (said_given part ls is h.1)
 
-said_lines : (ls : List (List ℕ)) (is : List Item) → AreSaid ls is → ls ≡ map item_line is
+pub said_lines : (ls : List (List ℕ)) (is : List Item) → AreSaid ls is → ls ≡ map item_line is
 said_lines [] [] h = refl
 said_lines [] (i ∷ is) h = absurd h
 said_lines (l ∷ ls) [] h = absurd h
 said_lines (l ∷ ls) (i ∷ is) h = ap (λ m. m ∷ ls) (line_says l i h.0) ∙ ap (λ ms. item_line i ∷ ms) (said_lines ls is h.1)
 
-said_last : (ls : List (List ℕ)) (is : List Item) → AreSaid ls is → item_before ls ≡ last_item is
+pub said_last : (ls : List (List ℕ)) (is : List Item) → AreSaid ls is → item_before ls ≡ last_item is
 said_last [] [] h = refl
 said_last [] (i ∷ is) h = absurd h
 said_last (l ∷ ls) [] h = absurd h
@@ -58,13 +57,13 @@ said_side k ls is h =
     ap (λ rs. record { rows = rs; z = flat_map (λ l. all_z_in k (item_of l)) ls }) (said_given (rows_in k) ls is h)
     ∙ ap (λ zs. record { rows = flat_map (λ i. rows_in k (Some i)) is; z = zs }) (said_given (all_z_in k) ls is h)
 
--- lines without a fault say items that may stand behind one another
-record Says (seen ls : List (List ℕ)) : Type 0 where
+-- lines without a fault say items that may stand after one another
+pub record Says (seen ls : List (List ℕ)) : Type 0 where
   pub items : List Item
   pub said : AreSaid ls items
   pub chain : Chain (item_before seen) items
 
-fine_says : (seen ls : List (List ℕ)) → first_fault line_fault seen ls ≡ None → Says seen ls
+pub fine_says : (seen ls : List (List ℕ)) → first_fault line_fault seen ls ≡ None → Says seen ls
 unfolding first_fault
 fine_says seen [] h = record { items = []; said = tt; chain = tt }
 fine_says seen (l ∷ ls) h =
@@ -90,7 +89,7 @@ says_fine seen (l ∷ ls) [] h chain = absurd h
 says_fine seen (l ∷ ls) (i ∷ is) h chain =
     let good : may_follow (item_before seen) (item_of l) ≡ true = ap (may_follow (item_before seen)) h.0 ∙ chain.0 in
     let P : Option Item → Type 0 = λ b. Chain b is in
-    ap (λ o. or_else o (first_fault line_fault (seen ++ l ∷ []) ls)) (cond-true _ None (Some (line_number (length seen))) good)
+    ap (λ o. or_else o (first_fault line_fault (seen ++ l ∷ []) ls)) (cond-true _ None _ good)
     ∙ says_fine (seen ++ l ∷ []) ls is h.1 (subst P (sym (item_push seen l ∙ h.0)) chain.1)
 
 -- 2. The spelling, line by line
@@ -137,12 +136,12 @@ spelling_parts head u v g h end = simp append_assoc
 pub spelled_lines : (c : Certificate) → spelling c ≡ flat_map item_text (items_of c)
 spelled_lines c = spelling_parts (codes "unify certificate 2\n") (flat_map (row_line (codes "user ")) c.users.rows) (flat_map (z_line (codes "zuser ")) c.users.z) (flat_map (row_line (codes "group ")) c.groups.rows) (flat_map (z_line (codes "zgroup ")) c.groups.z) (codes "end\n") ∙ sym (lines_spelled c)
 
-mapped : (is : List Item) → flat_map ended (map item_line is) ≡ flat_map item_text is
+pub mapped : (is : List Item) → flat_map ended (map item_line is) ≡ flat_map item_text is
 mapped is = flat_map-of ended item_line item_text is (λ i. refl)
 
 -- 3. What is read is spelled
 
-ended_is : (o : Option Item) → is_end o ≡ true → o ≡ Some End
+pub ended_is : (o : Option Item) → is_end o ≡ true → o ≡ Some End
 ended_is None h = absurd (false≢true h)
 ended_is (Some Head) h = absurd (false≢true h)
 ended_is (Some (RowItem k r)) h = absurd (false≢true h)
@@ -151,14 +150,14 @@ ended_is (Some End) h = refl
 
 -- no fault at the end
 end_says : (text : List ℕ) (ls : List (List ℕ)) → end_fault text ls ≡ None → (is_cut text ≡ false) × (is_end (item_before ls) ≡ true)
-end_says text ls h = both (is_cut text) (is_end (item_before ls)) h
+end_says text ls h = both (is_cut text) (is_end (item_before ls)) _ _ h
   where
-    both : (x y : Bool) → cond x (Some (min (length ls) 18446744073709551615)) (cond y None (Some (line_number (length ls)))) ≡ None → (x ≡ false) × (y ≡ true)
-    both true y e = absurd (cc)
-    both false true e = (refl, refl)
-    both false false e = absurd (cc)
+    both : (x y : Bool) (n m : ℕ) → cond x (Some n) (cond y None (Some m)) ≡ None → (x ≡ false) × (y ≡ true)
+    both true y n m e = absurd (cc)
+    both false true n m e = (refl, refl)
+    both false false n m e = absurd (cc)
 
-record IsRead (text : List ℕ) (c : Certificate) : Type 0 where
+pub record IsRead (text : List ℕ) (c : Certificate) : Type 0 where
   pub fine : first_fault line_fault [] (lines text) ≡ None
   pub whole : is_cut text ≡ false
   pub ends : item_before (lines text) ≡ Some End
@@ -168,7 +167,7 @@ unless_says : (o : Option ℕ) (v c : Certificate) → unless o v ≡ Ok c → (
 unless_says None v c h = (let same : v ≡ c = cc in (refl, same))
 unless_says (Some n) v c h = absurd (cc)
 
-read_says : (text : List ℕ) (c : Certificate) → certificate_in text ≡ Ok c → IsRead text c
+pub read_says : (text : List ℕ) (c : Certificate) → certificate_in text ≡ Ok c → IsRead text c
 unfolding certificate_in
 read_says text c h =
     let both = unless_says (or_else (first_fault line_fault [] (lines text)) (end_fault text (lines text))) (record { users = side_in User (lines text); groups = side_in Group (lines text) }) c h in
@@ -192,7 +191,7 @@ reads_what_is_spelled text c h =
 
 -- 4. What is spelled is read
 
-abbrev AreLawful : List Item → Type 0
+abbrev pub AreLawful : List Item → Type 0
 AreLawful [] = Unit {0}
 AreLawful (i ∷ is) = IsLawfulItem i × AreLawful is
 
@@ -221,7 +220,7 @@ lawful_said : (is : List Item) → AreLawful is → AreSaid (map item_line is) i
 lawful_said [] h = tt
 lawful_said (i ∷ is) h = (line_reads i h.0, lawful_said is h.1)
 
-lawful_plain : (is : List Item) → AreLawful is → ArePlain (map item_line is)
+pub lawful_plain : (is : List Item) → AreLawful is → ArePlain (map item_line is)
 lawful_plain [] h = tt
 lawful_plain (i ∷ is) h = (line_plain i h.0, lawful_plain is h.1)
 
@@ -249,7 +248,7 @@ whole_behind front [] h = absurd (let some = h.0 in omega (arith, some))
 whole_behind [] (b ∷ back) h = h
 whole_behind (f ∷ front) (b ∷ back) h = (omega arith, cut_back (f ∷ front) b back ∙ h.1)
 
-spelling_whole : (c : Certificate) → is_cut (spelling c) ≡ false
+pub spelling_whole : (c : Certificate) → is_cut (spelling c) ≡ false
 spelling_whole c = (whole_behind (codes "unify certificate 2\n" ++ side_text (codes "user ") (codes "zuser ") c.users ++ side_text (codes "group ") (codes "zgroup ") c.groups) (codes "end\n") (omega arith, refl)).1
 
 -- what the items of a certificate give
@@ -309,8 +308,8 @@ spelled_is_read c is =
 
 -- 5. None begins another
 
--- behind the end no line may stand
-after_end : (o : Option Item) → may_follow (Some End) o ≡ false
+-- after the end no line may stand
+pub after_end : (o : Option Item) → may_follow (Some End) o ≡ false
 after_end None = refl
 after_end (Some Head) = refl
 after_end (Some (RowItem User r)) = refl

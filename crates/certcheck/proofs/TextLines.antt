@@ -13,11 +13,11 @@ use Rattle.certcheck.specs.Reading.{is_cut}
 abbrev pub ended : List ℕ → List ℕ
 ended line = line ++ 10 ∷ []
 
-neither : (x y : Bool) → (x || y) ≡ false → (x ≡ false) × (y ≡ false)
+pub neither : (x y : Bool) → (x || y) ≡ false → (x ≡ false) × (y ≡ false)
 neither true y e = absurd (cc)
 neither false y e = (refl, e)
 
-all_plain : (line : List ℕ) → list_any (λ b. b == 10) line ≡ false → All (λ b. (b == 10) ≡ false) line
+pub all_plain : (line : List ℕ) → list_any (λ b. b == 10) line ≡ false → All (λ b. (b == 10) ≡ false) line
 all_plain [] h = All-nil (λ (b : ℕ). (b == 10) ≡ false)
 all_plain (b ∷ bs) h =
     let both = neither (b == 10) (list_any (λ d. d == 10) bs) h in
@@ -28,7 +28,7 @@ pub lines_first : (line rest : List ℕ) → list_any (λ b. b == 10) line ≡ f
 unfolding pieces
 lines_first line rest plain = lines-cut (line ++ 10 ∷ rest) line rest (slice_split_at (λ b. b == 10) line 10 rest (all_plain line plain) refl)
 
--- whole lines, one behind another
+-- whole lines, one after another
 abbrev pub ArePlain : List (List ℕ) → Type 0
 ArePlain [] = Unit {0}
 ArePlain (l ∷ ls) = (list_any (λ b. b == 10) l ≡ false) × ArePlain ls
@@ -48,7 +48,7 @@ last_decides b bytes =
     ap (λ x. not x && not (get_or (b ∷ bytes) (suc (length bytes) - 1) 0 == 10)) (ne_eqb (suc (length bytes)) 0 (λ e. absurd (omega (arith, e))))
     ∙ ap (λ k. not (get_or (b ∷ bytes) k 0 == 10)) (omega arith)
 
-cut_tail : (b c : ℕ) (bytes : List ℕ) → is_cut (b ∷ c ∷ bytes) ≡ is_cut (c ∷ bytes)
+pub cut_tail : (b c : ℕ) (bytes : List ℕ) → is_cut (b ∷ c ∷ bytes) ≡ is_cut (c ∷ bytes)
 cut_tail b c bytes = last_decides b (c ∷ bytes) ∙ sym (last_decides c bytes)
 
 pub cut_back : (front : List ℕ) (c : ℕ) (back : List ℕ) → is_cut (front ++ c ∷ back) ≡ is_cut (c ∷ back)
@@ -60,18 +60,18 @@ cut_rest : (rest : List ℕ) → is_cut (10 ∷ rest) ≡ false → is_cut rest 
 cut_rest [] h = refl
 cut_rest (c ∷ bytes) h = sym (cut_tail 10 c bytes) ∙ h
 
-plain_cut : (b : ℕ) (bytes : List ℕ) → list_any (λ d. d == 10) (b ∷ bytes) ≡ false → is_cut (b ∷ bytes) ≡ true
+pub plain_cut : (b : ℕ) (bytes : List ℕ) → list_any (λ d. d == 10) (b ∷ bytes) ≡ false → is_cut (b ∷ bytes) ≡ true
 plain_cut b [] h = last_decides b [] ∙ ap not (neither (b == 10) false h).0
 plain_cut b (c ∷ bytes) h = cut_tail b c bytes ∙ plain_cut c bytes (neither (b == 10) (list_any (λ d. d == 10) (c ∷ bytes)) h).1
 
 -- the first newline of a text
-record HasFirst (text : List ℕ) : Type 0 where
+pub record HasFirst (text : List ℕ) : Type 0 where
   pub line : List ℕ
   pub rest : List ℕ
   pub whole : text ≡ line ++ 10 ∷ rest
   pub plain : list_any (λ b. b == 10) line ≡ false
 
-first_line : (text : List ℕ) → HasFirst text ⊎ (list_any (λ b. b == 10) text ≡ false)
+pub first_line : (text : List ℕ) → HasFirst text ⊎ (list_any (λ b. b == 10) text ≡ false)
 first_line [] = inr refl
 first_line (b ∷ bytes) =
     ⊎_elim

@@ -13,7 +13,7 @@ use Rattle.certcheck.specs.declared.certificate.Certificate.{Certificate}
 use Rattle.certcheck.specs.Reading.{Item, Head, RowItem, ZItem, End, rank, ascends, may_follow, rows_in, all_z_in}
 use Rattle.certcheck.proofs.Growing.{follows_says, follows_above, follows_level}
 
--- each may stand behind the one before it
+-- each may stand after the one before it
 abbrev pub Chain : Option Item → List Item → Type 0
 Chain b [] = Unit {0}
 Chain b (i ∷ is) = (may_follow b (Some i) ≡ true) × Chain (Some i) is
@@ -27,7 +27,7 @@ items_of c = Head ∷ behind_head c
 
 -- 1. Such lines stand in their order: ranks never fall, and only rows and z are repeated
 
--- the least rank behind an item
+-- the least rank after an item
 abbrev next : Item → ℕ
 next Head = 1
 next (RowItem User r) = 1
@@ -56,7 +56,7 @@ abbrev Rises : ℕ → List Item → Type 0
 Rises n [] = Unit {0}
 Rises n (i ∷ is) = (n ≤ rank i) × Rises (next i) is
 
--- an item that stands behind another has its least rank
+-- an item that stands after another has its least rank
 level_next : (b i : Item) → rank b ≡ rank i → ascends b i ≡ true → next b ≤ rank i
 level_next Head i e h = absurd (false≢true h)
 level_next (RowItem User r) i e h = omega (arith, e)
@@ -325,14 +325,14 @@ behind (j ∷ js) h last =
     ∙ ap (λ rs. items_of (record { users = record { rows = flat_map users_in is; z = flat_map user_z_in is }; groups = record { rows = rs; z = flat_map group_z_in (Head ∷ is) } })) (skip groups_in Head is refl)
     ∙ ap (λ zs. items_of (record { users = record { rows = flat_map users_in is; z = flat_map user_z_in is }; groups = record { rows = flat_map groups_in is; z = zs } })) (skip group_z_in Head is refl))
 
--- lines that may stand behind one another, up to the end, are those of a certificate
+-- lines that may stand after one another, up to the end, are those of a certificate
 pub whole_chain : (is : List Item) → Chain None is → last_item is ≡ Some End → is ≡ items_of (given_by is)
 whole_chain [] h last = absurd (none-some End last)
 whole_chain (i ∷ is) h last =
     let P : Item → Type 0 = λ j. Chain (Some j) is → last_item (j ∷ is) ≡ Some End → j ∷ is ≡ items_of (given_by (j ∷ is)) in
     subst P (sym (head_first i (eqb-true (rank i) 0 h.0))) (behind is) h.1 last
 
--- 3. A certificate's lines may stand behind one another
+-- 3. A certificate's lines may stand after one another
 
 abbrev MayBehind : ℕ → List Item → Type 0
 MayBehind n rest = (b : Item) → rank b ≤ n → Chain (Some b) rest

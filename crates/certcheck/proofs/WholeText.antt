@@ -1,4 +1,4 @@
--- What a text is read as, behind its lines.
+-- What a text is read as, after its lines.
 use Rattle.std.proofs.Common.{◌≡◌, ℕ, min, true, false, cond, List, [], length, Option, Some, None, Result, Ok, Err, sym, ap, ◌∙◌, subst}
 use Rattle.std.specs.Prelude.{IfSome}
 use Rattle.std.specs.Result.{IsErr, IsErrAnd}
@@ -22,7 +22,7 @@ pub line_refused : (text : List ℕ) (n : ℕ) → first_fault line_fault [] (li
 unfolding certificate_in
 line_refused text n e = ap (λ o. unless (or_else o (end_fault text (lines text))) (read_sides text)) e
 
--- behind lawful lines it is the end that decides
+-- after lawful lines it is the end that decides
 end_decides : (text : List ℕ) (o : Option ℕ) → first_fault line_fault [] (lines text) ≡ None → end_fault text (lines text) ≡ o → certificate_in text ≡ unless o (read_sides text)
 unfolding certificate_in
 end_decides text o fine e = ap (λ x. unless (or_else x (end_fault text (lines text))) (read_sides text)) fine ∙ ap (λ x. unless x (read_sides text)) e
@@ -38,7 +38,7 @@ unended_refused text n fine whole more same = end_decides text (Some n) fine (co
 
 pub ended_read : (text : List ℕ) (users groups : Side) → first_fault line_fault [] (lines text) ≡ None → is_cut text ≡ false → is_end (item_before (lines text)) ≡ true → users ≡ side_in User (lines text) → groups ≡ side_in Group (lines text) → certificate_in text ≡ Ok (record { users = users; groups = groups })
 ended_read text users groups fine whole ended one two =
-    end_decides text None fine (cond-false _ (Some (min (length (lines text)) 18446744073709551615)) (unended text) whole ∙ cond-true _ None (Some (line_number (length (lines text)))) ended)
+    end_decides text None fine (cond-false _ _ (unended text) whole ∙ cond-true _ None (Some (line_number (length (lines text)))) ended)
     ∙ ap (λ (s : Side). Ok (record { users = s; groups = side_in Group (lines text) })) (sym one)
     ∙ ap (λ (s : Side). Ok (record { users = users; groups = s })) (sym two)
 

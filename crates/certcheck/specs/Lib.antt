@@ -10,3 +10,4 @@ pub mod Reading
 pub mod Items
 pub mod LinesRead
 pub mod Laws
+pub mod Examples

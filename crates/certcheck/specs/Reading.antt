@@ -90,7 +90,7 @@ ascends (RowItem k r) (RowItem l q) = is_lt (slice_cmp nat_cmp r.name q.name)
 ascends (ZItem k e) (ZItem l f) = nat_lt e.0 f.0
 ascends a b = false
 
--- whether an item may stand behind another, or first
+-- whether an item may stand after another, or first
 abbrev pub may_follow : Option Item → Option Item → Bool
 may_follow before None = false
 may_follow None (Some i) = rank i == 0
@@ -119,7 +119,7 @@ is_end other = false
 abbrev pub is_cut : List ℕ → Bool
 is_cut text = not (length text == 0) && not (slice_index text (length text - 1) == 10)
 
--- behind lawful lines: the last without its newline, or one missing
+-- after lawful lines: the last without its newline, or one missing
 abbrev pub end_fault : List ℕ → List (List ℕ) → Option ℕ
 end_fault text ls =
     if is_cut text then Some (min (length ls) 18446744073709551615) else if is_end (item_before ls)

@@ -26,7 +26,7 @@ pub use certificate::{CertRow, Certificate, Side};
 pub use certified::{accepted_is_certified, certified_is_accepted};
 pub use checking::check;
 pub use fault::CheckFault;
-pub use laws::certificates_are_spelled;
+pub use laws::{certificate_by_example, certificates_are_spelled, first_bad_line_is_told};
 pub use lines::read_certificate;
 pub use making::side_of;
 pub use reading::CertificateFault;

@@ -66,7 +66,7 @@ fn is_end(last: Option<Item<'_>>) -> bool
 /// # Errors
 ///
 /// `BadCertificate` with the number of the first line that is wrong, out of place, missing or
-/// without its newline; a missing line has the number behind the last. A certificate has one
+/// without its newline; a missing line has the number after the last. A certificate has one
 /// spelling, so no other text is read, and none begins another. One pass over the text, and memory
 /// in step with its lines; `Memory` where that is refused.
 pub fn read_certificate<'a>(

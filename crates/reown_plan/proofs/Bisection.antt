@@ -42,7 +42,7 @@ greatest Less h = absurd (omega arith)
 greatest Equal h = absurd (omega arith)
 greatest Greater h = refl
 
--- a path that comes before another or behind it is not that one
+-- a path that comes before another or after it is not that one
 other_path : (path target : List ℕ) (o : Ordering) → slice_cmp nat_cmp path target ≡ o → is_eq o ≡ false → bytes_eq target path ≡ false
 other_path path target o is other =
     false_from_ne_true (bytes_eq target path) (λ e.

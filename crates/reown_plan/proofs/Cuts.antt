@@ -1,4 +1,4 @@
--- Numbers and the first space behind them.
+-- Numbers and the first space after them.
 use Rattle.std.proofs.Common.{◌≡◌, ◌<◌, ◌+◌, ◌==◌, ◌^◌, ℕ, Bool, true, false, ◌||◌, ◌&&◌, List, [], ◌∷◌, ◌++◌, drop, length, length-append, refl, sym, ◌∙◌, ap, subst, arith, append_assoc, suc, inl, inr}
 use Rattle.std.specs.Prelude.{decimal}
 use Rattle.idtext.specs.Pieces.{pieces}
@@ -49,7 +49,7 @@ joined : (byte : ℕ) (front : List ℕ) (parts : List (List ℕ)) → 0 < lengt
 joined byte front [] h = absurd (omega arith)
 joined byte front (part ∷ parts) h = refl
 
--- what stands before and behind the first separator
+-- what stands before and after the first separator
 pub cut_some : (byte : ℕ) (text front rest : List ℕ) → pieces byte text ≡ front ∷ pieces byte rest → (text ≡ front ++ byte ∷ rest) × (list_any (λ b. b == byte) front ≡ false)
 unfolding pieces
 cut_some byte text front rest e =

@@ -7,8 +7,11 @@ pub mod Wholes
 pub mod Unique
 pub mod Faults
 pub mod Readings
+pub mod Begins
+pub mod Total
 pub mod Repeats
 pub mod Writing
 pub mod Keeping
 pub mod Lawful
 pub mod Marks
+pub mod Columns

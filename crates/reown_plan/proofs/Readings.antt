@@ -9,7 +9,7 @@ use Rattle.reown_plan.proofs.Cuts.{head_unique, name_no_newline}
 use Rattle.reown_plan.proofs.Wholes.{end_no_line_more}
 use Rattle.reown_plan.proofs.Unique.{line_unique, spelling_unique}
 
--- two fronts of one text: a header and lawful records, and what is behind them
+-- two fronts of one text: a header and lawful records, and what is after them
 pub record Front (text : List ℕ) : Type 0 where
   pub host : List ℕ
   pub records : List PlanRecord

@@ -10,3 +10,4 @@ pub mod OwnerChange
 pub mod Numbers
 pub mod Places
 pub mod Fronts
+pub mod Examples

@@ -8,7 +8,7 @@ use Rattle.reown_plan.specs.declared.mark.PlanMark.{PlanMark}
 use Rattle.reown_plan.specs.PlanData.{PlanData}
 use Rattle.reown_plan.specs.Spelling.{spelling}
 
--- a host's name, with zero bytes behind it, 64 bytes in all
+-- a host's name, with zero bytes after it, 64 bytes in all
 abbrev pub padded : List ℕ → List ℕ
 padded name = name ++ replicate (64 - length name) 0
 

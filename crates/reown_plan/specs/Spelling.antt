@@ -8,7 +8,7 @@ use Rattle.mtree_inv.specs.Files.{IsLawfulPath}
 use Rattle.reown_plan.specs.declared.plan.Owner.{Owner}
 use Rattle.reown_plan.specs.PlanData.{PlanRecord, PlanData, HaveDistinctPaths}
 
--- a number and the space behind it
+-- a number and the space after it
 abbrev pub number : ℕ → List ℕ
 number n = decimal n ++ 32 ∷ []
 
@@ -51,7 +51,7 @@ pub record IsLawful (plan : PlanData) : Type 0 where
 -- where a text is no plan: there begins the first header, record or end that is not lawful
 pub data IsFaultAt (text : List ℕ) : ℕ → Type 0 where
   no_head : ((host rest : List ℕ) → IsHostName host → text ≢ head host ++ rest) → IsFaultAt text 0
-  -- behind a lawful header and lawful records stands no record of another path, and no end
+  -- after a lawful header and lawful records stands no record of another path, and no end
   no_record : (host : List ℕ) (records : List PlanRecord) (rest : List ℕ) → IsHostName host
       → All IsLawfulRecord records → HaveDistinctPaths records
       → text ≡ head host ++ lines records ++ rest
@@ -59,6 +59,6 @@ pub data IsFaultAt (text : List ℕ) : ℕ → Type 0 where
       → rest ≢ line c ++ after)
       → ((after : List ℕ) → rest ≢ end ++ after)
       → IsFaultAt text (length (head host ++ lines records))
-  -- something stands behind the end
+  -- something stands after the end
   trailing : (plan : PlanData) (rest : List ℕ) → IsLawful plan → text ≡ spelling plan ++ rest
       → rest ≢ [] → IsFaultAt text (length (spelling plan))

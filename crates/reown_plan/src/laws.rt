@@ -6,6 +6,7 @@ ghost use Rattle.hosts_join.specs.declared.host.Host.{Host};
 ghost use Rattle.mtree_inv.specs.Files.{AreFiles, HaveDistinctFiles};
 ghost use Rattle.mtree_inv.specs.declared.entry.Entry.{Entry};
 ghost use Rattle.reown_plan.specs.Keeps.{KeepsNames};
+ghost use Rattle.reown_plan.specs.Examples.{NumbersStandInOrder, ExampleOfPlan};
 ghost use Rattle.reown_plan.specs.declared.mark.PlanMark.{PlanMark};
 ghost use Rattle.reown_plan.specs.Mark.{mark_of, mark_eq};
 ghost use Rattle.reown_plan.specs.PlanData.{PlanData};
@@ -21,7 +22,8 @@ pub fn one_spelling()
 
 /// A text is one plan, or has one place of its fault, and never both.
 pub fn one_reading()
-    ensures { (text : List ℕ) (one other : Result PlanData ℕ) → ReadsAs text one
+    ensures some { (text : List ℕ) → (reading : Result PlanData ℕ) × ReadsAs text reading }
+    ensures only { (text : List ℕ) (one other : Result PlanData ℕ) → ReadsAs text one
         → ReadsAs text other → one ≡ other }
 {}
 
@@ -55,4 +57,11 @@ pub fn marks_tell_plans()
     ensures equal { (a b : PlanMark) → (mark_eq a b ≡ true) ↔ (a ≡ b) }
     ensures hosts { (a b : PlanData) → IsHostName a.host → IsHostName b.host → mark_of a ≡ mark_of b
         → a.host ≡ b.host }
+{}
+
+/// What stands where in a plan: between the spaces of a record's line the old uid and gid, the new
+/// uid and gid, and the length of the path; and a whole plan by example, byte by byte.
+pub fn columns_of_plans()
+    ensures numbers { NumbersStandInOrder }
+    ensures example { ExampleOfPlan }
 {}

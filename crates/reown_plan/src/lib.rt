@@ -13,7 +13,10 @@ mod spell;
 mod write;
 
 pub use change::{OwnerChange, OwnerRows};
-pub use laws::{marks_tell_plans, one_reading, one_spelling, plans_keep_names, plans_read_back};
+pub use laws::{
+    columns_of_plans, marks_tell_plans, one_reading, one_spelling, plans_keep_names,
+    plans_read_back,
+};
 pub use mark::PlanMark;
 pub use plan::{Owner, Plan, PlanFault, Record};
 pub use spell::{push_plan_end, push_plan_head, push_record};

@@ -8,7 +8,7 @@ use sha2::{Digest, Sha256};
 /// Which plan a tree is marked for. Marks are equal where all their fields are.
 #[derive(Clone, Copy, Debug, PartialEq, Eq)]
 pub struct PlanMark {
-    /// The name of the plan's host, with zero bytes behind it.
+    /// The name of the plan's host, with zero bytes after it.
     pub host: [u8; 64],
     /// The length of the plan's text in bytes.
     pub length: u64,
@@ -16,7 +16,7 @@ pub struct PlanMark {
     pub digest: [u8; 32],
 }
 
-// A host's name with zero bytes behind it.
+// A host's name with zero bytes after it.
 fn padded(name: &[u8]) -> [u8; 64]
     requires { length name.now ≤ 64 }
     ensures { result ≡ spec.padded name.now }

@@ -10,7 +10,7 @@ use itoa::write_digits;
 use std::alloc::AllocError;
 use std::marker::Model;
 
-// The four numbers of two owners as a record has them, with a space behind each. A number of 32
+// The four numbers of two owners as a record has them, with a space after each. A number of 32
 // bits has ten digits at most.
 #[derive(Drop)]
 pub(crate) struct PrintedNumbers {
@@ -29,7 +29,7 @@ impl Model for PrintedNumbers {
     ghost invariant = { λ n. n.start ≤ 44 };
 }
 
-// Writes a number and the space behind it, so that they end at an index, and tells where they
+// Writes a number and the space after it, so that they end at an index, and tells where they
 // start.
 fn write_number(value: u64, bytes: &mut [u8], end: usize) -> usize
     requires { (length (number value) ≤ end) × (end ≤ length bytes.old) }

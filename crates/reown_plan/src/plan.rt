@@ -97,7 +97,7 @@ impl<T: Drop> From<AllocFailed<T>> for PlanFault {
 // The places of records whose paths differ. Else the fault is at the first that has the path of an
 // earlier one.
 //
-// rest: what is behind the header.
+// rest: what is after the header.
 fn distinct_places(
     alloc: Global,
     text: &[u8],
@@ -121,7 +121,7 @@ fn distinct_places(
     Ok(places)
 }
 
-// Looks whether the end, and nothing else, is behind the records.
+// Looks whether the end, and nothing else, is after the records.
 fn check_end(text: &[u8], behind: &[u8], records: &[Record<'_>]) -> Result<(), PlanFault>
     requires front { (host : List ℕ)
         × IsFront text.now host (map record_of records.now) behind.now }
@@ -144,7 +144,7 @@ fn check_end(text: &[u8], behind: &[u8], records: &[Record<'_>]) -> Result<(), P
 impl<'a> Plan<'a> {
     /// Reads a plan, whose paths are slices of its text. A text that is no plan is `BadPlan` with
     /// the byte at which the first header, record or end that is not lawful begins, or what stands
-    /// behind the end. One pass over the text, and one sort of the records by their paths, in
+    /// after the end. One pass over the text, and one sort of the records by their paths, in
     /// place: a few comparisons of paths for each binary digit of their number, whatever they are,
     /// since whoever names files chooses their paths. Where a path stands twice the text is read
     /// once more up to there.

@@ -27,7 +27,7 @@ fn written(text: &[u8]) -> Option<u32>
     }
 }
 
-// A number and the space behind it, and what follows.
+// A number and the space after it, and what follows.
 fn read_number(text: &[u8]) -> Option<(u32, &[u8])>
     ensures spelled { IfSome result (λ r. text.now ≡ number r.0 ++ r.1.now) }
     ensures complete { (n : ℕ) (rest : List ℕ) → n < 2 ^ 32 → text.now ≡ number n ++ rest

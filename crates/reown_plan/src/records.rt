@@ -9,7 +9,7 @@ use crate::Record;
 use crate::read::read_record;
 use std::alloc::{AllocError, Global};
 
-/// The records at the front of a text, and what is behind them.
+/// The records at the front of a text, and what is after them.
 #[derive(Drop)]
 pub(crate) struct ReadRecords<'a> {
     pub(crate) records: Vec<Record<'a>>,
@@ -35,7 +35,7 @@ pub(crate) fn read_records<'a>(alloc: Global, text: &'a [u8]) -> Result<ReadReco
     })
 }
 
-/// What is behind so many records. One pass over them.
+/// What is after so many records. One pass over them.
 pub(crate) fn behind_records(text: &[u8], count: usize) -> &[u8]
     ensures { (records : List PlanRecord) (rest : List ℕ) → All IsLawfulRecord records
         → length records ≡ count → text.now ≡ lines records ++ rest → result.now ≡ rest }

@@ -28,7 +28,7 @@ pub fn push_record(text: &mut Vec<u8>, planned: &Record<'_>) -> Result<(), Alloc
 }
 
 /// Appends the last line. `AllocError` where memory runs out; the text is then as before. Takes
-/// constant time but for growth.
+/// constant time except for growth.
 pub fn push_plan_end(text: &mut Vec<u8>) -> Result<(), AllocError>
     ensures { text.new.items ≡ (if is_ok result then text.old.items ++ end else text.old.items) }
 {

@@ -12,10 +12,11 @@ use Rattle.mtree_inv.specs.declared.entry.Entry.{Entry}
 use Rattle.reown_plan.specs.declared.mark.PlanMark.{PlanMark}
 use Rattle.reown_plan.specs.declared.plan.Owner.{Owner}
 use Rattle.reown_plan.specs.Mark.{is_marked_for}
+use Rattle.reown_plan.proofs.Marks.{marks_compare}
 use Rattle.reown_runner.specs.declared.memory.FileCell.{FileCell}
-use Rattle.reown_runner.specs.Tree.{Writes, IsSettled, Syncs, Stops, cells_of, ForEachPlan}
+use Rattle.reown_runner.specs.Tree.{Writes, SetsMark, MarksNoOther, IsSettled, Syncs, Stops, cells_of, ForEachPlan}
 use Rattle.reown_plan.specs.Owners.{owner_of}
-use Rattle.reown_runner.specs.Memory.{Mem, known_mem, cell_of, values_of, keeps_file, keeps_mark, settled_cell, left_cell, owner_in, new_mem, IsReopened}
+use Rattle.reown_runner.specs.Memory.{Mem, known_mem, cell_of, values_of, keeps_file, keeps_mark, settled_cell, left_cell, owner_in, new_mem, marked, IsReopened}
 use Rattle.reown_runner.specs.Finished.{IsFresh}
 use Rattle.reown_runner.specs.MemoryReads.{last_of_two, now_left}
 use Rattle.reown_runner.proofs.Cellwise.{either}
@@ -109,6 +110,33 @@ module _ (m n : Mem) (path : List ℕ) (to : Owner) (i : ℕ) (c : FileCell) (pa
         };
       }
 
+-- a mark
+pub marks_no_other : (plan : PlanMark) (m n : Mem) → n ≡ marked plan m → MarksNoOther plan (known_mem m) (known_mem n)
+marks_no_other plan m n is =
+    subst (λ (x : Mem). MarksNoOther plan (known_mem m) (known_mem x)) (sym is) (
+      inr refl,
+      λ x h. elim (one_of_two m.mark_synced (Some plan) x h) [
+        | inl e ↦ inl (subst (Contains (m.mark_synced ∷ m.mark_now ∷ [])) (sym e) (first_of_two m.mark_synced m.mark_now))
+        | inr e ↦ inr e
+      ],
+    )
+
+pub sets_mark : (plan : PlanMark) (m n : Mem) → n ≡ marked plan m → SetsMark (cells_of plan (known_mem m)) (cells_of plan (known_mem n))
+sets_mark plan m n is =
+    let own : is_marked_for plan (Some plan) ≡ true = (marks_compare plan plan).1 refl in
+    subst (λ (x : Mem). SetsMark (cells_of plan (known_mem m)) (cells_of plan (known_mem x))) (sym is)
+    (record {
+      mark = own;
+      mark_left = λ b h. elim (one_of_two (is_marked_for plan m.mark_synced) (is_marked_for plan (Some plan)) b h) [
+        | inl e ↦ inl (subst (Contains (map (is_marked_for plan) (m.mark_synced ∷ m.mark_now ∷ []))) (sym e) (first_of_two (is_marked_for plan m.mark_synced) (is_marked_for plan m.mark_now)))
+        | inr e ↦ inr (e ∙ own)
+      ];
+      owners = record { owner = λ path. refl; owner_left = λ path x. (λ h. h, λ h. h) };
+    })
+
+pub marks_none : (plan : PlanMark) (m n : Mem) → n ≡ m → MarksNoOther plan (known_mem m) (known_mem n)
+marks_none plan m n is = subst (λ (x : Mem). MarksNoOther plan (known_mem m) (known_mem x)) (sym is) (inl refl, λ x h. inl h)
+
 -- a stop
 left_now : (b : Bool) (c : FileCell) → Contains (Some c.synced ∷ Some c.now ∷ []) (Some (left_cell b c).now)
 left_now true c = last_of_two (Some c.synced) (Some c.now)
@@ -150,6 +178,13 @@ module _ (m n : Mem) (reopened : IsReopened m n) where
 
   leaves_path : (path : List ℕ) → Leaves (cell_of m path) (cell_of n path)
   leaves_path path = subst (λ ps. Leaves (cell_of m path) (option_and_then (slice_get n.cells) (position (bytes_eq path) ps))) (sym reopened.paths) (leaves_at (position (bytes_eq path) m.paths))
+
+  left_mark : (b : Bool) → Contains (m.mark_synced ∷ m.mark_now ∷ []) (cond b m.mark_now m.mark_synced)
+  left_mark true = last_of_two m.mark_synced m.mark_now
+  left_mark false = first_of_two m.mark_synced m.mark_now
+
+  pub reopen_mark : Contains (known_mem m).marks_left (known_mem n).mark
+  reopen_mark = subst (Contains (m.mark_synced ∷ m.mark_now ∷ [])) (sym reopened.mark) (left_mark (keeps_mark m.keep m.cells))
 
   kept_mark : (plan : PlanMark) (b : Bool) → Contains (map (is_marked_for plan) (m.mark_synced ∷ m.mark_now ∷ [])) (is_marked_for plan (cond b m.mark_now m.mark_synced))
   kept_mark plan true = last_of_two (is_marked_for plan m.mark_synced) (is_marked_for plan m.mark_now)

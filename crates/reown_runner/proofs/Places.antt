@@ -43,7 +43,7 @@ greatest Greater h = refl
 same_path : (path target : List ℕ) → slice_cmp nat_cmp path target ≡ Equal → path ≡ target
 same_path path target h = (bytes_eq-Decides path target).0 (sym (is_eq-slice_cmp path target) ∙ ap is_eq h)
 
--- a path that comes before another or behind it is not that one
+-- a path that comes before another or after it is not that one
 other_path : (path target : List ℕ) (o : Ordering) → slice_cmp nat_cmp path target ≡ o → is_eq o ≡ false → bytes_eq target path ≡ false
 other_path path target o is other =
     false_from_ne_true (bytes_eq target path) (λ e.
@@ -119,7 +119,7 @@ module _ (bytes more : List ℕ) where
   paths_in-append (s ∷ ss) all =
       λ i. path_in-append s (all 0 s (omega arith)) i ∷ paths_in-append ss (λ k d h. all (suc k) d (omega arith)) i
 
-  -- and the new one stands behind them
+  -- and the new one stands after them
   path_in-new : (s : Span) → s.start ≡ length bytes → s.end ≡ length (bytes ++ more) → path_in (bytes ++ more) s ≡ more
   path_in-new s start end =
       let room : s.end - s.start ≡ length more = omega (arith, length-append bytes more) in
@@ -131,7 +131,7 @@ paths_in-push bytes more new_bytes spans new_spans s all is_bytes is_spans start
     (λ i. map (path_in (is_bytes i)) (is_spans i)) ∙ map-append (path_in (bytes ++ more)) spans (s ∷ [])
     ∙ (λ i. paths_in-append bytes more spans all i ++ path_in-new bytes more s start (end ∙ ap length is_bytes) i ∷ [])
 
--- bytes behind them alone change no path
+-- bytes after them alone change no path
 pub paths_in-kept : (bytes more new_bytes : List ℕ) (spans new_spans : List Span) → All (IsSpanWithin (length bytes)) spans → new_bytes ≡ bytes ++ more → new_spans ≡ spans → map (path_in new_bytes) new_spans ≡ map (path_in bytes) spans
 paths_in-kept bytes more new_bytes spans new_spans all is_bytes is_spans =
     (λ i. map (path_in (is_bytes i)) (is_spans i)) ∙ paths_in-append bytes more spans all

@@ -156,7 +156,7 @@ module _ (inventory : List ℕ → Option Owner) (records : List PlanRecord) (di
             subst (λ c. new.owner c.path ≡ Some c.after) (front i k d less_i ∙ sym same) r
       ]
 
--- behind these records stands the next of them, or the sync
+-- after these records stands the next of them, or the sync
 behind : (records : List PlanRecord) (c : Cells) (i : ℕ) → ReadNew (take i records) c → CellStep records (record_place records i) c
 behind records c i read =
     elim (either (nat_lt i (length records))) [

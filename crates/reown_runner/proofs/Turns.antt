@@ -71,7 +71,7 @@ module _ (i : ℕ) (planned : PlanRecord) (owner : Option Owner) where
 pub no_plan : PlanMark
 no_plan = record { host = []; length = 0; digest = [] }
 
--- what is read behind the records
+-- what is read after the records
 abbrev pub nothing_planned : Planned
 nothing_planned = record { before = record { uid = 0; gid = 0 }; after = record { uid = 0; gid = 0 }; path = record { ref_ptr = (0, 0); now = [] } }
 
@@ -135,7 +135,7 @@ after_keeping a b c (Some SetMark) p q =
     }
 after_keeping a b c (Some Sync) p q = record { owner = λ path. q.owner path ∙ p.owners.owner path; mark = q.mark ∙ p.mark.mark; settled = q.settled }
 
--- what is answered behind a reading is answered as well before it
+-- what is answered after a reading is answered as well before it
 pub advance-behind : (first then : Result Turn RunFault) (old mid new : Cells) (answer : Result Place RunFault) → first ≡ then → Same old mid → IsAdvance then (λ operation. Does operation mid new) answer → IsAdvance first (λ operation. Does operation old new) answer
 advance-behind first then old mid new (Ok next) is kept a = (a.0, is ∙ a.1, a.2, after_keeping old mid new a.0.operation kept a.3)
 advance-behind first then old mid new (Err Device) is kept (inl a) = inl (same kept a)

@@ -53,14 +53,14 @@ is_pending c = not (owner_eq c.synced c.now)
 abbrev pub is_odd_one : List FileCell → Bool
 is_odd_one before = count_by is_pending before % 2 == 0
 
--- whether a stop keeps what is pending in a file's cell, behind these other cells
+-- whether a stop keeps what is pending in a file's cell, after these other cells
 abbrev pub keeps_file : Keep → List FileCell → Bool
 keeps_file All before = true
 keeps_file Lost before = false
 keeps_file Alternate before = is_odd_one before
 keeps_file MarkOnly before = false
 
--- whether it keeps a pending mark, behind all files' cells
+-- whether it keeps a pending mark, after all files' cells
 abbrev pub keeps_mark : Keep → List FileCell → Bool
 keeps_mark All before = true
 keeps_mark Lost before = false

@@ -21,7 +21,7 @@ pub record Turn : Type 0 where
   pub operation : Option Operation
   pub next : Place
 
--- the place of the record i, or behind the records
+-- the place of the record i, or after the records
 abbrev pub record_place : List PlanRecord → ℕ → Place
 record_place records i = if nat_lt i (length records) then Record i else SyncOwners
 

@@ -93,6 +93,14 @@ pub record SetsMark (old new : Cells) : Type 0 where
   pub mark_left : (m : Bool) → new.mark_left m → old.mark_left m ⊎ (m ≡ true)
   pub owners : SameOwners old new
 
+-- No mark comes in but this plan's: what is read is it, or as before, and a stop leaves it, or what
+-- it might have left before.
+abbrev pub MarksNoOther : PlanMark → TreeData → TreeData → Type 0
+MarksNoOther plan old new =
+    ((new.mark ≡ old.mark) ⊎ (new.mark ≡ Some plan))
+    × ((m : Option PlanMark) → Contains new.marks_left m
+    → Contains old.marks_left m ⊎ (m ≡ Some plan))
+
 -- nothing is pending: a stop leaves what is read
 pub record IsSettled (c : Cells) : Type 0 where
   pub owner : (path : List ℕ) (x : Option Owner) → c.owner_left path x → x ≡ c.owner path

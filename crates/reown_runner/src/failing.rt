@@ -49,8 +49,9 @@ ghost use Rattle.reown_runner.specs.Failing.{IsScripted};
 ghost use Rattle.reown_runner.specs.Memory.{known_mem, IsWritten, marked, settled, IsReopened};
 ghost use Rattle.reown_runner.specs.Tree.{cells_of, ForEachPlan, counted, Same, Writes, SetsMark};
 ghost use Rattle.reown_runner.specs.Tree.{Syncs, Stops, MayDo, Write, SetMark, Sync, IsCounted};
+ghost use Rattle.reown_runner.specs.Tree.{MarksNoOther};
 ghost use Rattle.reown_plan.specs.Mark.{is_marked_for};
-ghost use Rattle.std.specs.Prelude.{⊤, OnOk, OnErr, IfOk, IsSome};
+ghost use Rattle.std.specs.Prelude.{⊤, OnOk, OnErr, IfOk, IsSome, Contains};
 
 impl FailTree {
     /// A tree whose calls fail by this script, and pass after its end. Each read, write and sync
@@ -223,6 +224,7 @@ impl Tree for FailTree {
         ensures failed { OnErr result
             (MayDo SetMark (cells_of plan.now (known_failing self.old))
             (cells_of plan.now (known_failing self.new))) }
+        ensures no_other { MarksNoOther plan.now (known_failing self.old) (known_failing self.new) }
         ensures faults { IsCounted (known_failing self.old).faults (known_failing self.new).faults
             result }
         ensures asked { (known_failing self.new).asked ≡ counted (known_failing self.old).asked }
@@ -272,6 +274,7 @@ impl Tree for FailTree {
 
     fn reopen(&mut self)
         ensures left { ForEachPlan Stops (known_failing self.old) (known_failing self.new) }
+        ensures mark { Contains (known_failing self.old).marks_left (known_failing self.new).mark }
         ensures faults { (known_failing self.new).faults ≡ (known_failing self.old).faults }
         ensures asked { (known_failing self.new).asked ≡ (known_failing self.old).asked }
         ensures chosen { IsReopened self.old.tree self.new.tree }

@@ -48,7 +48,7 @@ pub fn stays_safe()
         → IsSafeInStep inventory records end.place (cells_at end.state) }
 {}
 
-/// A front of a run is a run as well, whose end is as safe: so it is behind each event, whatever
+/// A front of a run is a run as well, whose end is as safe: so it is after each event, whatever
 /// comes after it.
 pub fn a_front_is_a_run()
     ensures { (inventory : List ℕ → Option Owner) (records : List PlanRecord)

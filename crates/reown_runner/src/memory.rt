@@ -1,6 +1,7 @@
 //! A tree in memory, which never fails.
 ghost use Rattle.std.specs.Prelude.{◌≡◌, ◌<◌, ℕ, map, take, length, position, slice_get, slice_set};
 ghost use Rattle.std.specs.Prelude.{slice_index_or, Some, IfOk, IfSome, OnOk, OnErr, IsSome, ⊤};
+ghost use Rattle.std.specs.Prelude.{Contains};
 ghost use Rattle.std.specs.Option.{option_map};
 ghost use Rattle.std.specs.Str.{bytes_eq};
 
@@ -68,6 +69,7 @@ ghost use Rattle.reown_runner.specs.Memory.{settled, IsReopened};
 ghost use Rattle.reown_runner.specs.MemoryReads.{readable_mem};
 ghost use Rattle.reown_runner.specs.Tree.{cells_of, ForEachPlan, counted, Same, Writes, SetsMark};
 ghost use Rattle.reown_runner.specs.Tree.{Syncs, Stops, MayDo, Write, SetMark, Sync, IsCounted};
+ghost use Rattle.reown_runner.specs.Tree.{MarksNoOther};
 ghost use Rattle.reown_plan.specs.Mark.{is_marked_for};
 ghost use Rattle.reown_plan.specs.declared.mark.PlanMark.{PlanMark};
 ghost use Rattle.reown_runner.specs.Finished.{IsFresh};
@@ -347,6 +349,7 @@ impl Tree for MemTree {
         ensures failed { OnErr result
             (MayDo SetMark (cells_of plan.now (known_mem self.old))
             (cells_of plan.now (known_mem self.new))) }
+        ensures no_other { MarksNoOther plan.now (known_mem self.old) (known_mem self.new) }
         ensures faults { IsCounted (known_mem self.old).faults (known_mem self.new).faults result }
         ensures asked { (known_mem self.new).asked ≡ counted (known_mem self.old).asked }
         ensures marked { self.new ≡ marked plan.now self.old }
@@ -370,6 +373,7 @@ impl Tree for MemTree {
 
     fn reopen(&mut self)
         ensures left { ForEachPlan Stops (known_mem self.old) (known_mem self.new) }
+        ensures mark { Contains (known_mem self.old).marks_left (known_mem self.new).mark }
         ensures faults { (known_mem self.new).faults ≡ (known_mem self.old).faults }
         ensures asked { (known_mem self.new).asked ≡ (known_mem self.old).asked }
         ensures chosen { IsReopened self.old self.new }

@@ -11,7 +11,7 @@ use std::alloc::{AllocError, Global};
 use std::cmp::Ordering;
 use std::marker::Model;
 
-/// Where a path stands in a buffer: its first byte, and the one behind its last.
+/// Where a path stands in a buffer: its first byte, and the one after its last.
 #[derive(Clone, Copy)]
 struct Span {
     start: usize,
@@ -49,7 +49,7 @@ impl PathList {
         })
     }
 
-    /// Puts a path behind the others.
+    /// Puts a path after the others.
     pub(crate) fn push(&mut self, path: &[u8]) -> Result<(), AllocError>
         ensures ok { OnOk result (self.new ≡ self.old ++ path.now ∷ []) }
         ensures err { OnErr result (self.new ≡ self.old) }

@@ -16,7 +16,7 @@ use std::marker::Model;
 
 /// The files of a plan's records as a tree in memory, for a run that no stop cuts off: what is
 /// written is there, and nothing is ever pending. It never fails. A path is looked up among those
-/// of the records, which the plan lends: the one that was found last, or the one behind it in the
+/// of the records, which the plan lends: the one that was found last, or the one after it in the
 /// order of the records, takes two comparisons of paths, another one for each binary digit of their
 /// number besides at most, whatever the paths are. Of memory a record takes 12 bytes.
 #[derive(Drop)]
@@ -25,7 +25,7 @@ pub struct PlanTree<'p, 'a> {
     owners: Vec<Option<Owner>>,
     mark: Option<PlanMark>,
     asked: u64,
-    // The place that was found last: the next path may be the one there, or the one behind it.
+    // The place that was found last: the next path may be the one there, or the one after it.
     last: usize,
 }
 

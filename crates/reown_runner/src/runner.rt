@@ -105,7 +105,7 @@ impl<'p, 'a> Model for Runner<'p, 'a> {
         × IsPlaceOf (map record_of r.records.now) r.place };
 }
 
-// The place of a record, or the one behind the records.
+// The place of a record, or the one after the records.
 fn place_of(records: &[Record], i: usize) -> Place
     ensures place { result ≡ record_place (map record_of records.now) i }
     ensures fits { IsPlaceOf (map record_of records.now) result }

@@ -1,10 +1,10 @@
 //! A tree of files as a runner sees it: what a read answers, and what a stop may leave.
-ghost use Rattle.std.specs.Prelude.{◌≡◌, IfOk, OnOk, OnErr, IsSome};
+ghost use Rattle.std.specs.Prelude.{◌≡◌, IfOk, OnOk, OnErr, IsSome, Contains};
 ghost use Rattle.reown_plan.specs.Mark.{is_marked_for};
 ghost use Rattle.reown_plan.specs.declared.mark.PlanMark.{PlanMark};
 ghost use Rattle.reown_runner.specs.Tree.{TreeData, Write, SetMark, Sync, Same, Writes, SetsMark};
 ghost use Rattle.reown_runner.specs.Tree.{Syncs, IsReadable, MayDo, Stops, cells_of, ForEachPlan};
-ghost use Rattle.reown_runner.specs.Tree.{counted, IsCounted};
+ghost use Rattle.reown_runner.specs.Tree.{counted, IsCounted, MarksNoOther};
 
 use reown_plan::{Owner, PlanMark};
 
@@ -15,13 +15,13 @@ pub struct DeviceFault;
 /// A tree of files with owners and a mark of the plan that was done last, on a device whose calls
 /// may fail and which a stop may cut off: until a sync, a stop leaves in each cell by itself what
 /// was written or what was there before (chown(2), fsync(2)). A stop inside a call leaves what one
-/// behind it would where the call has failed: its write or sync has happened or not, and no other.
+/// after it would where the call has failed: its write or sync has happened or not, and no other.
 /// What a call costs is for the tree to say.
 pub trait Tree {
     /// What is known of it.
     ghost known: { Self → TreeData };
 
-    /// What each call keeps to besides, between the tree before it and the tree behind it; so a run
+    /// What each call keeps to besides, between the tree before it and the tree after it; so a run
     /// of calls keeps to it too.
     ghost follows: { Self → Self → Type 0 };
 
@@ -52,14 +52,15 @@ pub trait Tree {
         ensures asked { (known self.new).asked ≡ (known self.old).asked }
         ensures follows { follows self.old self.new };
 
-    /// Marks the tree for this plan, whatever it was marked for. Where it fails, that has happened
-    /// or not.
+    /// Marks the tree for this plan, whatever it was marked for, and for no other. Where it fails,
+    /// that has happened or not.
     fn set_mark(&mut self, plan: &PlanMark) -> Result<(), DeviceFault>
         ensures done { OnOk result
             (SetsMark (cells_of plan.now (known self.old)) (cells_of plan.now (known self.new))) }
         ensures failed { OnErr result
             (MayDo SetMark (cells_of plan.now (known self.old))
             (cells_of plan.now (known self.new))) }
+        ensures no_other { MarksNoOther plan.now (known self.old) (known self.new) }
         ensures faults { IsCounted (known self.old).faults (known self.new).faults result }
         ensures asked { (known self.new).asked ≡ counted (known self.old).asked }
         ensures follows { follows self.old self.new };
@@ -75,6 +76,7 @@ pub trait Tree {
     /// A stop: the tree is now what the stop has left, with nothing pending.
     fn reopen(&mut self)
         ensures left { ForEachPlan Stops (known self.old) (known self.new) }
+        ensures mark { Contains (known self.old).marks_left (known self.new).mark }
         ensures faults { (known self.new).faults ≡ (known self.old).faults }
         ensures asked { (known self.new).asked ≡ (known self.old).asked }
         ensures follows { follows self.old self.new };
