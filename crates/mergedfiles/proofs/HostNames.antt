@@ -186,7 +186,7 @@ module _ (a : Accounts) (m : List ℕ) (long : length m ≡ length a.names) (apa
 
     -- ---- the names of numbers
 
-    -- behind a row no other has its number or its name
+    -- after a row no other has its number or its name
     number-behind : (v : ℕ) (row : Row) (rows : List Row) → AllByRecursion (IsApart row) rows → number row ≡ v → name_at name number a (joined name number a rows) v ≡ None
     number-behind v row [] apart is = refl
     number-behind v row (next ∷ rows) apart is =

@@ -59,7 +59,7 @@ module _ (renumbered : List (List ℕ) → List (List ℕ)) where
   unfolding renumbered_text
   text-last text whole = ap (λ ps. join_with_byte 10 (map (renumbered_line renumbered) ps)) whole
 
--- one line more behind what is written
+-- one line more after what is written
 pub written-more : (old now new line more all : List ℕ) → new ≡ (now ++ line) ++ 10 ∷ [] → old ≡ line ++ 10 ∷ more → now ++ old ≡ all → new ++ more ≡ all
 written-more old now new line more all made parts so =
     ap (λ t. t ++ more) made ∙ append_assoc (now ++ line) (10 ∷ []) more ∙ append_assoc now line (10 ∷ more) ∙ ap (λ t. now ++ t) (sym parts) ∙ so

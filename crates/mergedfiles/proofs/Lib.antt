@@ -25,3 +25,5 @@ pub mod HostExample
 pub mod SameRows
 pub mod SameUsers
 pub mod ComingRows
+pub mod ToldDifferences
+pub mod DifferingExample

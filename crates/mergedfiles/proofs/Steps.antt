@@ -53,7 +53,7 @@ once_more seen users i d h told =
       | inr f ↦ rw f (map-append (λ (user : Bor (List ℕ)). user.now) seen (get_or users i d ∷ []))
     ])
 
--- one more text behind a comma
+-- one more text after a comma
 join-push : (xs : List (List ℕ)) (x : List ℕ) → 0 < length xs → join_with_byte 44 (xs ++ x ∷ []) ≡ join_with_byte 44 xs ++ 44 ∷ x
 join-push [] x h = absurd (omega arith)
 join-push (y ∷ []) x h = refl

@@ -27,7 +27,7 @@ field_said said field.Home = said.row.now.home
 field_said said field.Shell = said.row.now.shell
 field_said said field.Group = said.group.now
 
--- the fields of two rows, but for names and numbers, say the same
+-- the fields of two rows, except for names and numbers, say the same
 abbrev pub fields_agree : Passwd → Passwd → Bool
 fields_agree first row =
     bytes_eq row.password first.password && bytes_eq row.comment first.comment

@@ -4,6 +4,8 @@ pub mod Texts
 pub mod HostFiles
 pub mod HostExample
 pub mod Differences
+pub mod ToldDifferences
+pub mod DifferingExample
 pub mod Together
 pub mod ReadBack
 pub mod InPart

@@ -13,7 +13,7 @@ use Rattle.mergedfiles.specs.Order.{by_number}
 use Rattle.mergedfiles.specs.Rows.{UserRow, GroupRow, groups_named, users_named, first_of}
 use Rattle.mergedfiles.specs.Rows.{joined_users}
 
--- a field and the colon behind it
+-- a field and the colon after it
 abbrev pub field : List ℕ → List ℕ
 field text = text ++ 58 ∷ []
 

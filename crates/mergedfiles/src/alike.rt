@@ -32,7 +32,7 @@ pub enum Sameness<'h, 'a> {
     Differing,
 }
 
-/// Whether the fields of two rows, but for names and numbers, say the same.
+/// Whether the fields of two rows, except for names and numbers, say the same.
 fn fields_agree(first: &PasswdRow<'_>, row: &PasswdRow<'_>) -> bool
     ensures { result ≡ spec.fields_agree first.now row.now }
 {

@@ -18,7 +18,7 @@ use indexmap::IndexSet;
 use ownership::Mapping;
 use std::alloc::{AllocError, Global};
 
-/// Appends a field, and the colon behind it.
+/// Appends a field, and the colon after it.
 pub fn push_field(text: &mut Vec<u8>, bytes: &[u8]) -> Result<(), AllocError>
     ensures { OnOk result (text.new.items ≡ text.old.items ++ field bytes.now) }
 {

@@ -51,7 +51,7 @@ struct ComingRows<'h, 'a> {
     before: usize,
 }
 
-/// The new number of a user, and the rows behind that of the user.
+/// The new number of a user, and the rows after that of the user.
 #[derive(Clone, Copy)]
 struct NextUser<'h, 'a> {
     number: Option<u32>,
@@ -137,7 +137,7 @@ struct Coming<'t, 'h, 'a> {
 }
 
 /// Appends a number in the place of a field, or the field where there is no number; and the colon
-/// behind it.
+/// after it.
 fn push_new_field(text: &mut Vec<u8>, number: Option<u32>, field: &[u8]) -> Result<(), AllocError>
     ensures { OnOk result
         (text.new.items ≡ text.old.items ++ texts.field (number_field number field.now)) }
@@ -148,7 +148,7 @@ fn push_new_field(text: &mut Vec<u8>, number: Option<u32>, field: &[u8]) -> Resu
     }
 }
 
-/// The fields of a user up to the gid, and the text behind them: comment, home and shell.
+/// The fields of a user up to the gid, and the text after them: comment, home and shell.
 #[derive(Clone, Copy)]
 struct UserFields<'a> {
     name: &'a [u8],
@@ -185,7 +185,7 @@ struct NewNumbers {
 }
 
 /// The new numbers of the user of the next line. What is known of what comes is then what is known
-/// behind this line.
+/// after this line.
 fn next_numbers<'t>(
     coming: &mut Coming<'t, '_, '_>,
     fields: &UserFields<'t>,
@@ -216,7 +216,7 @@ fn next_numbers<'t>(
 }
 
 /// Appends a line of passwd with its new numbers. What is known of what comes is then what is known
-/// behind this line.
+/// after this line.
 fn push_user_line<'t>(
     text: &mut Vec<u8>,
     line: &'t [u8],
@@ -301,7 +301,7 @@ pub fn host_passwd_text(
     Ok(new)
 }
 
-/// The fields of a group up to the gid, and the text behind them: its users.
+/// The fields of a group up to the gid, and the text after them: its users.
 #[derive(Clone, Copy)]
 struct GroupFields<'a> {
     name: &'a [u8],

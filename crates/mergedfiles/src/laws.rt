@@ -4,6 +4,7 @@ ghost use Rattle.hosts_join.specs.PinPairs.{PinPairs};
 ghost use Rattle.hosts_join.specs.Rules.{account};
 ghost use Rattle.hosts_join.specs.Site.{Joined, joined_site};
 ghost use Rattle.hosts_join.specs.declared.host.Host.{Host};
+ghost use Rattle.mergedfiles.specs.DifferingExample.{ExampleOfDiffering};
 ghost use Rattle.mergedfiles.specs.FullTables.{FullGroupReadsBack, FullNamesAreKept};
 ghost use Rattle.mergedfiles.specs.FullTables.{FullPasswdReadsBack, HostsJoinInFull};
 ghost use Rattle.mergedfiles.specs.HostExample.{ExampleOfGroup, ExampleOfPasswd};
@@ -14,6 +15,7 @@ ghost use Rattle.mergedfiles.specs.InPart.{PasswdInPartReadsBack};
 ghost use Rattle.mergedfiles.specs.ReadBack.{MergedPasswdReadsBack, MergedGroupReadsBack};
 ghost use Rattle.mergedfiles.specs.Rows.{users_named, groups_named};
 ghost use Rattle.mergedfiles.specs.Together.{AreJoined};
+ghost use Rattle.mergedfiles.specs.ToldDifferences.{DifferencesAreTold};
 
 /// The site that hosts are joined to belongs to these hosts.
 pub fn joined_together()
@@ -135,4 +137,17 @@ pub fn full_names_are_kept()
 pub fn host_files_by_example()
     ensures passwd { ExampleOfPasswd }
     ensures group { ExampleOfGroup }
+{}
+
+/// Exactly the differences of the hosts are told. One of a user tells a later host, on which the
+/// field is another than on the first host that has the user; one of a group tells a later host, on
+/// which the password is another than on the first host that has the group.
+pub fn differences_are_told()
+    ensures { DifferencesAreTold }
+{}
+
+/// Differences by example: three hosts, by the texts of their files, on which each field differs
+/// somewhere, and all that is told of them, in order.
+pub fn differences_by_example()
+    ensures { ExampleOfDiffering }
 {}

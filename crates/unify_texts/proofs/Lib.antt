@@ -8,3 +8,7 @@ pub mod MapBack
 pub mod MapNames
 pub mod MapPins
 pub mod ReservedLemmas
+pub mod BundleWords
+pub mod FaultExamples
+pub mod ReportBack
+pub mod ReportExample

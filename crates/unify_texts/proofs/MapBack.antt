@@ -1,5 +1,5 @@
 -- The map that is written reads back.
-use Rattle.std.proofs.Common.{◌≡◌, ℕ, ◌<◌, ◌≤◌, ◌==◌, ◌||◌, not, Bool, true, false, cond, List, [], ◌∷◌, ◌++◌, map, flat_map, decimal, Some, None, Ok, refl, sym, ap, ◌∙◌, append_assoc, append-nil, arith, inl, inr}
+use Rattle.std.proofs.Common.{◌≡◌, ℕ, ◌^◌, ◌<◌, ◌≤◌, ◌==◌, ◌||◌, not, Bool, true, false, cond, List, [], ◌∷◌, ◌++◌, map, flat_map, decimal, Some, None, Ok, refl, sym, ap, ◌∙◌, append_assoc, append-nil, arith, inl, inr}
 use Rattle.std.specs.Prelude.{is_some}
 use Rattle.std.specs.Char.{digit_value}
 use Rattle.std.specs.List.{list_any, AllByRecursion}
@@ -55,8 +55,11 @@ digits-lack : (b : ℕ) → 10 ≤ digit_value b → (ds : List ℕ) → AllDigi
 digits-lack b other [] all = tt
 digits-lack b other (c ∷ cs) all = (ne_eqb c b (λ e. let low : digit_value b < 10 = rw (← e) all.0 in omega (arith, low, other)), digits-lack b other cs all.1)
 
+pub decimal-lacks_64 : (b v : ℕ) → 10 ≤ digit_value b → v < 2 ^ 64 → Lacks b (decimal v)
+decimal-lacks_64 b v other small = digits-lack b other (decimal v) (decimal_is_IsNumeral v small).0.1
+
 pub decimal-lacks : (b v : ℕ) → 10 ≤ digit_value b → v ≤ 4294967294 → Lacks b (decimal v)
-decimal-lacks b v other small = digits-lack b other (decimal v) (decimal_is_IsNumeral v (omega (arith, small))).0.1
+decimal-lacks b v other small = decimal-lacks_64 b v other (omega (arith, small))
 
 name-lacks : (n : List ℕ) → list_any is_separator n ≡ false → Lacks 10 n
 name-lacks [] none = tt

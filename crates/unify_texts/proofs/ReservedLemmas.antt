@@ -28,11 +28,11 @@ use Rattle.unify_texts.proofs.MapBack.{Lacks, decimal-lacks, lacks-append, one_l
 -- ---- words
 
 -- a word of a line: not empty, and without a byte that ends it
-record IsWord (word : List ℕ) : Type 0 where
-  some : 0 < length word
-  no_space : Lacks 32 word
-  no_tab : Lacks 9 word
-  no_end : Lacks 10 word
+pub record IsWord (word : List ℕ) : Type 0 where
+  pub some : 0 < length word
+  pub no_space : Lacks 32 word
+  pub no_tab : Lacks 9 word
+  pub no_end : Lacks 10 word
 
 black : (word : List ℕ) → Lacks 32 word → Lacks 9 word → AllByRecursion (λ b. is_white b ≡ false) word
 black [] no_space no_tab = tt
@@ -42,7 +42,7 @@ filled : (word : List ℕ) → 0 < length word → is_filled word ≡ true
 filled [] some = absurd (omega (arith, some))
 filled (b ∷ bs) some = refl
 
-words_spaced : (word : List ℕ) (others : List (List ℕ)) → IsWord word → AllByRecursion IsWord others → words (word ++ spaced others) ≡ word ∷ others
+pub words_spaced : (word : List ℕ) (others : List (List ℕ)) → IsWord word → AllByRecursion IsWord others → words (word ++ spaced others) ≡ word ∷ others
 unfolding words
 words_spaced word [] is all =
     ap (λ text. filter is_filled (slice_split is_white text)) (append-nil word)
@@ -54,7 +54,7 @@ words_spaced word (next ∷ others) is all =
     ∙ ap (λ t. cond t (word ∷ rest) rest) (filled word is.some)
     ∙ ap (λ ws. word ∷ ws) (words_spaced next others all.0 all.1)
 
-spaced_lacks : (words : List (List ℕ)) → AllByRecursion IsWord words → Lacks 10 (spaced words)
+pub spaced_lacks : (words : List (List ℕ)) → AllByRecursion IsWord words → Lacks 10 (spaced words)
 spaced_lacks [] all = tt
 spaced_lacks (word ∷ words) all = (refl, lacks-append 10 word (spaced words) all.0.no_end (spaced_lacks words all.1))
 
@@ -165,7 +165,7 @@ module _ (kind : Which) where
   bare_lacks : (r : Reserved) → IsTellable r → Lacks 10 (bare kind r)
   bare_lacks r is = lacks-append 10 (codes "reserved") (spaced (which_word kind ∷ reserved_words r.numbers r.by)) literal_reserved.no_end (spaced_lacks (which_word kind ∷ reserved_words r.numbers r.by) (kind_word kind, are_words r.numbers r.by is.low is.by))
 
-  -- the lines of one kind, and what stands behind them
+  -- the lines of one kind, and what stands after them
   lines_back : (rs : List Reserved) (rest : List ℕ) → AllByRecursion IsTellable rs → map reads (lines_of (flat_map (reserved_line kind) rs ++ rest)) ≡ map (λ t. Some t) (map told rs) ++ map reads (lines_of rest)
   lines_back [] rest all = refl
   lines_back (r ∷ rs) rest all =

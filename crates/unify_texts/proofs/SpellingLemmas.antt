@@ -149,7 +149,7 @@ each_both P Q R f (x ∷ xs) g h = (f x g.0 h.0, each_both P Q R f xs g.1 h.1)
 
 -- ---- what is read is spelled so
 
--- lines that stand behind others, with what they say and how they are spelled
+-- lines that stand after others, with what they say and how they are spelled
 record Spelled (command : Command) (back : List BundleLine) (lines : List (List ℕ)) (said : List BundleLine) : Type 0 where
   contents : List (List ℕ)
   file_lines : List (List ℕ)
@@ -404,7 +404,7 @@ spelled_is_read text bundle s = spelled_said _ bundle s
 
 -- ---- the first bad line
 
--- where the lines behind the first have a fault: so many of them have none, and with one more they have it
+-- where the lines after the first have a fault: so many of them have none, and with one more they have it
 record FaultAt (command : Command) (before : List BundleLine) (lines : List (List ℕ)) (fault : Fault) : Type 0 where
   good_lines : ℕ
   good : first_fault (bundle_fault command) before (says (take good_lines lines)) ≡ None

@@ -15,14 +15,14 @@ use Rattle.unify_texts.specs.declared.fault.Fault.TheVariants.{BadBundle}
 use Rattle.unify_texts.specs.BundleLines.{file_word, command_word, same_file}
 use Rattle.unify_texts.specs.Bundles.{is_among, head_files, host_files, bundle_of}
 
--- things spelled one behind another
+-- things spelled one after another
 abbrev pub InTurn : {X : Type 0} → (X → List (List ℕ) → Type 0) → List X → List (List ℕ) → Type 0
 InTurn Spells [] lines = lines ≡ []
 InTurn Spells (x ∷ xs) lines =
     (first : List (List ℕ)) × (rest : List (List ℕ)) × (lines ≡ first ++ rest) × Spells x first
     × InTurn Spells xs rest
 
--- A file: a line with its name, and then its lines, each behind a bar. A newline ends each line of
+-- A file: a line with its name, and then its lines, each after a bar. A newline ends each line of
 -- its text.
 pub record SpellsFile (named : NamedFile) (lines : List (List ℕ)) : Type 0 where
   pub contents : List (List ℕ)

@@ -1,6 +1,7 @@
 pub mod Codes
 pub mod Words
 pub mod Faults
+pub mod FaultExamples
 pub mod Maps
 pub mod WrittenMap
 pub mod Figures
@@ -8,8 +9,11 @@ pub mod Staying
 pub mod ReservedLines
 pub mod ReservedBack
 pub mod Report
+pub mod ReportBack
+pub mod ReportExample
 pub mod Told
 pub mod BundleLines
+pub mod BundleWords
 pub mod Bundles
 pub mod BundleSpelling
 pub mod Drafts

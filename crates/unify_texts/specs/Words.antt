@@ -16,7 +16,7 @@ abbrev pub shown : List ℕ → List ℕ
 shown [] = codes "-"
 shown (b ∷ name) = escaped (b ∷ name)
 
--- words, each behind a space
+-- words, each after a space
 abbrev pub spaced : List (List ℕ) → List ℕ
 spaced words = flat_map (λ word. 32 ∷ word) words
 

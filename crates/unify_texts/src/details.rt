@@ -1,4 +1,4 @@
-//! What a fault line says behind the fault's name.
+//! What a fault line says after the fault's name.
 
 ghost use Rattle.std.specs.Prelude.{◌≡◌, ◌++◌, ◌∷◌, [], OnOk, codes, decimal};
 ghost use Rattle.unify_texts.specs.Words.{which_word, spaced, shown};
@@ -34,7 +34,7 @@ fn class_text(class: PoolClass) -> &'static str
     }
 }
 
-/// Appends what the fault says, each word behind a space.
+/// Appends what the fault says, each word after a space.
 pub fn push_details(out: &mut Vec<u8>, fault: &Fault<'_>) -> Result<(), AllocError>
     ensures { OnOk result (out.new.items ≡ out.old.items ++ spaced (details fault.now)) }
 {

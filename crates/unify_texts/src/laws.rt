@@ -2,6 +2,12 @@
 
 ghost use Rattle.unify_texts.specs.BundleSpelling.{ReadsWhatIsSpelled, SpelledIsRead};
 ghost use Rattle.unify_texts.specs.BundleSpelling.{FirstBadIsTold};
+ghost use Rattle.unify_texts.specs.BundleWords.{WordsAreRead};
+ghost use Rattle.unify_texts.specs.FaultExamples as example;
+ghost use Rattle.unify_texts.specs.FaultExamples.{AreTold, StatusesGoByFaults};
+ghost use Rattle.unify_texts.specs.ReportBack.{ReportsReadBack};
+ghost use Rattle.unify_texts.specs.ReportExample.{ExampleOfDiffering, ExampleOfPlain};
+ghost use Rattle.unify_texts.specs.ReportExample.{ExampleOfUsers};
 ghost use Rattle.unify_texts.specs.ReservedBack.{ReservedLinesReadBack};
 ghost use Rattle.unify_texts.specs.WrittenMap.{WrittenMapsArePins, WrittenMapsReadBack};
 
@@ -11,6 +17,12 @@ pub fn bundles_are_spelled()
     ensures found { ReadsWhatIsSpelled }
     ensures read { SpelledIsRead }
     ensures refused { FirstBadIsTold }
+{}
+
+/// Each word of a bundle, letter by letter: `run` with a command's, `file` with a file's, `host`,
+/// and the bar before a line of a file.
+pub fn bundle_words_are_read()
+    ensures { WordsAreRead }
 {}
 
 /// The map text that is written for mappings of a site is read as a map in which each name has its
@@ -32,4 +44,39 @@ pub fn written_maps_are_pins()
 /// files without an account, reserves one number, and that no name is empty.
 pub fn reserved_lines_read_back()
     ensures { ReservedLinesReadBack }
+{}
+
+/// The figures of a report are read from its words: after `hosts` how many hosts there are; of the
+/// users, and of the groups, how many there are, and after `pinned`, `kept` and `fresh` how many
+/// are so; of the fields and of the lines of each kind how many change, and after `of` how many
+/// there are. Requires that 64 bits hold the numbers of hosts, names, files and account rows.
+pub fn reports_read_back()
+    ensures { ReportsReadBack }
+{}
+
+/// Reports by example, byte by byte: one where nothing is reserved and nothing differs, one where a
+/// range of users is reserved, and one where a number of a group is, and each field differs.
+pub fn reports_by_example()
+    ensures plain { ExampleOfPlain }
+    ensures users { ExampleOfUsers }
+    ensures differing { ExampleOfDiffering }
+{}
+
+/// The line of each fault by example, byte by byte: its number, its name, and its words in their
+/// order.
+pub fn fault_lines_by_example()
+    ensures account_lines { AreTold example.account_lines }
+    ensures inventory_lines { AreTold example.inventory_lines }
+    ensures hosts { AreTold example.host_faults }
+    ensures joining { AreTold example.joining_faults }
+    ensures certificates { AreTold example.certificate_faults }
+    ensures plans { AreTold example.plan_faults }
+    ensures texts { AreTold example.text_faults }
+{}
+
+/// The exit status that goes with the number of a fault is 3 exactly for want of memory and for a
+/// device's fault, 2 exactly for a bundle that is not lawful, 4 exactly where a certificate is
+/// lawful and is rejected, and 1 for any other fault.
+pub fn statuses_go_by_faults()
+    ensures { StatusesGoByFaults }
 {}

@@ -53,7 +53,7 @@ fn push_word(out: &mut Vec<u8>, word: &Word<'_>) -> Result<(), AllocError>
     }
 }
 
-/// Appends the words, each behind a space.
+/// Appends the words, each after a space.
 pub fn push_words(out: &mut Vec<u8>, words: &[Word<'_>]) -> Result<(), AllocError>
     ensures { OnOk result (out.new.items ≡ out.old.items ++ spaced (map word_text words.now)) }
 {
@@ -63,7 +63,7 @@ pub fn push_words(out: &mut Vec<u8>, words: &[Word<'_>]) -> Result<(), AllocErro
     Ok(())
 }
 
-/// Appends a line: its first word, the others, each behind a space, and the newline.
+/// Appends a line: its first word, the others, each after a space, and the newline.
 pub fn push_line(out: &mut Vec<u8>, first: &str, words: &[Word<'_>]) -> Result<(), AllocError>
     ensures { OnOk result
         (out.new.items ≡ out.old.items ++ line first.now (map word_text words.now)) }

@@ -1,0 +1,28 @@
+-- The words of bundles, letter by letter.
+-- Source: this project's own formats.
+use Rattle.std.specs.Prelude.{◌≡◌, ◌++◌, ◌∷◌, ℕ, List, codes}
+use Rattle.unify_texts.specs.declared.bundle_line.Command.TheVariants.{Count, Merge, MergeHosts}
+use Rattle.unify_texts.specs.declared.bundle_line.Command.TheVariants.{Check, Rehearse}
+use Rattle.unify_texts.specs.declared.bundle_line.FileName.TheVariants as file
+use Rattle.unify_texts.specs.declared.bundle_line.BundleLine.TheVariants.{Run, File, Host, Content}
+use Rattle.unify_texts.specs.BundleLines.{bundle_line_of}
+
+-- what each line says: the command, a file by its name, a host by its name, and a line of a file
+-- after a bar
+pub record WordsAreRead : Type 0 where
+  pub count : bundle_line_of (codes "run count") ≡ Run Count
+  pub merge : bundle_line_of (codes "run merge") ≡ Run Merge
+  pub merge_hosts : bundle_line_of (codes "run merge hosts") ≡ Run MergeHosts
+  pub check : bundle_line_of (codes "run check") ≡ Run Check
+  pub rehearse : bundle_line_of (codes "run rehearse") ≡ Run Rehearse
+  pub map : bundle_line_of (codes "file map") ≡ File file.Map
+  pub certificate : bundle_line_of (codes "file certificate") ≡ File file.Certificate
+  pub plan : bundle_line_of (codes "file plan") ≡ File file.Plan
+  pub pins : bundle_line_of (codes "file pins") ≡ File file.Pins
+  pub keep : bundle_line_of (codes "file keep") ≡ File file.Keep
+  pub mtree : bundle_line_of (codes "file mtree") ≡ File file.Mtree
+  pub passwd : bundle_line_of (codes "file passwd") ≡ File file.Passwd
+  pub group : bundle_line_of (codes "file group") ≡ File file.Group
+  pub login_defs : bundle_line_of (codes "file login.defs") ≡ File file.LoginDefs
+  pub host : (name : List ℕ) → bundle_line_of (codes "host " ++ name) ≡ Host name
+  pub content : (line : List ℕ) → bundle_line_of (124 ∷ line) ≡ Content line
