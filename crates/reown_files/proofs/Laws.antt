@@ -110,7 +110,7 @@ module _ (mark : PlanMark) (records : List PlanRecord) (calls : List Called) (pa
       lawful_of mark records (Gave path before after (Some modes) ∷ calls) more
       (and_true (modes.before == modes.after) (modes_stay calls) (ap (λ n. modes.before == n) (sym same) ∙ nat_same modes.before) parts.1) parts.2 behind
 
-  -- one behind which the mode was set back
+  -- one after which the mode was set back
   pub lawful_set_back : (modes : Modes) (owner : Owner) (done : Bool) → is_lawful mark records (SetMode path owner modes.before done ∷ Gave path before after (Some modes) ∷ calls) ≡ true
   lawful_set_back modes owner done =
       lawful_of mark records (SetMode path owner modes.before done ∷ Gave path before after (Some modes) ∷ calls) more

@@ -5,6 +5,7 @@ use Rattle.reown_plan.specs.declared.mark.PlanMark.{PlanMark}
 use Rattle.reown_plan.specs.declared.plan.Owner.{Owner}
 use Rattle.reown_files.specs.declared.answers.Modes.{Modes}
 use Rattle.reown_files.specs.declared.answers.Seen.{Seen}
+use Rattle.reown_files.specs.declared.answers.Trouble.{Trouble}
 
 -- each call with what it was given; what it answered, or whether it was done, comes last
 pub data Called : Type 0 where
@@ -18,6 +19,10 @@ pub data Called : Type 0 where
   Saw : (path : List ℕ) (found : Option Owner) → Called
   -- the mark of a plan was seen to be there or not
   SawMark : (plan : PlanMark) (set : Bool) → Called
+  -- a file could not be looked at or met, for this
+  NotSeen : (path : List ℕ) (trouble : Trouble) → Called
+  -- the mark of a plan could not be, for this
+  MarkNotSeen : (plan : PlanMark) (trouble : Trouble) → Called
   -- the names of a file were to be seen to be all in the plan
   CheckedLinks : (path : List ℕ) (done : Bool) → Called
   -- a file was to be given an owner in place of another, and had these modes before and after

@@ -1,15 +1,18 @@
 -- The files of a plan, counted.
 -- Source: this project's own rule.
-use Rattle.std.specs.Prelude.{◌≡◌, ◌<◌, ℕ, ◌+◌, Bool, false, not, ◌&&◌, List, ◌++◌, Option}
-use Rattle.std.specs.Prelude.{None, Some, is_none, length, take, map, reverse, count_by}
-use Rattle.std.specs.Prelude.{if◌then◌else◌}
+use Rattle.std.specs.Prelude.{◌≡◌, ℕ, ◌+◌, Bool, false, not, ◌&&◌, List, ◌∷◌, ◌++◌, All}
+use Rattle.std.specs.Prelude.{Option, None, Some, is_none, length, slice_get, take, map, reverse}
+use Rattle.std.specs.Prelude.{count_by, if◌then◌else◌}
 use Rattle.reown_plan.specs.Owners.{owner_eq}
 use Rattle.reown_plan.specs.PlanData.{PlanRecord}
 use Rattle.reown_files.specs.declared.answers.OpenFault.{OpenFault}
 use Rattle.reown_files.specs.declared.answers.OpenFault.TheVariants.{File}
 use Rattle.reown_files.specs.declared.answers.Seen.{Seen}
+use Rattle.reown_files.specs.declared.counting.Count.{Count}
 use Rattle.reown_files.specs.declared.counting.OwnerCounts.{OwnerCounts}
-use Rattle.reown_files.specs.Calls.{Called, Looked}
+use Rattle.reown_files.specs.declared.counting.Unfit.{Unfit}
+use Rattle.reown_files.specs.declared.counting.Unfit.TheVariants.{Missing, Foreign}
+use Rattle.reown_files.specs.Calls.{Called, Looked, NotSeen}
 
 -- a record, and what was seen of its file
 abbrev pub Look : Type 0
@@ -69,6 +72,22 @@ with_one look counts =
 abbrev pub files_of : OwnerCounts → ℕ
 files_of counts = counts.before + counts.after + counts.missing + counts.foreign
 
+-- why no run could go on with the file of the record at this place, where none could
+abbrev pub unfit : ℕ → Look → Option Unfit
+unfit i (r, None) = Some (Missing i)
+unfit i (r, Some seen) = if is_foreign (r, Some seen) then Some (Foreign i) else None
+
+-- a run could go on with it
+abbrev pub IsFit : Look → Type 0
+IsFit look = (is_missing look ≡ false) × (is_foreign look ≡ false)
+
+-- the first of the files with which no run could go on, or none
+abbrev pub IsFirstUnfit : List Look → Option Unfit → Type 0
+IsFirstUnfit looks None = All IsFit looks
+IsFirstUnfit looks (Some why) =
+    (before after : List Look) × (look : Look) × (looks ≡ before ++ look ∷ after)
+    × All IsFit before × (unfit (length before) look ≡ Some why)
+
 -- the call that a look is
 abbrev pub call_of : Look → Called
 call_of (r, seen) = Looked r.path seen
@@ -79,15 +98,18 @@ AreLookedAt records old new =
     (looks : List Look) × (map (λ look. look.0) looks ≡ records)
     × (new ≡ reverse (map call_of looks) ++ old)
 
--- the file of a record could not be looked at: those before it were, and no other call was made
+-- the file of a record could not be looked at, for this: those before it were, and no other call
+-- was made
 abbrev pub StopsCount : List PlanRecord → List Called → List Called → OpenFault → Type 0
 StopsCount records old new (File i trouble) =
-    (i < length records) × AreLookedAt (take i records) old new
+    (r : PlanRecord) × (slice_get records i ≡ Some r) × (calls : List Called)
+    × AreLookedAt (take i records) old calls × (new ≡ NotSeen r.path trouble ∷ calls)
 StopsCount records old new _ = ⊥
 
 -- the file of each record was looked at once, in order, and no other call was made; and so the
--- files are counted
-abbrev pub IsCount : List PlanRecord → List Called → List Called → OwnerCounts → Type 0
-IsCount records old new counts =
+-- files are counted, and the first that is unfit is known
+abbrev pub IsCount : List PlanRecord → List Called → List Called → Count → Type 0
+IsCount records old new count =
     (looks : List Look) × (map (λ look. look.0) looks ≡ records)
-    × (new ≡ reverse (map call_of looks) ++ old) × (counts ≡ counts_of looks)
+    × (new ≡ reverse (map call_of looks) ++ old) × (count.owners ≡ counts_of looks)
+    × IsFirstUnfit looks count.first_unfit

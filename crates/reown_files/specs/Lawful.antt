@@ -41,7 +41,7 @@ pub record ModeSet : Type 0 where
   pub mode : ℕ
 
 -- a file that was given an owner has the mode that it had: it kept that, or that was set right
--- behind it
+-- after it
 abbrev pub leaves_mode : List ℕ → Option Modes → Option ModeSet → Bool
 leaves_mode path None None = true
 leaves_mode path None (Some set) = false
@@ -49,14 +49,14 @@ leaves_mode path (Some modes) None = modes.before == modes.after
 leaves_mode path (Some modes) (Some set) = bytes_eq set.path path && (set.mode == modes.before)
 
 -- a file whose mode an earlier run had lost has the mode that was written down: that was set right
--- behind the answer
+-- after the answer
 abbrev pub sets_back : List ℕ → Option ℕ → Option ModeSet → Bool
 sets_back path None None = true
 sets_back path None (Some set) = false
 sets_back path (Some mode) None = false
 sets_back path (Some mode) (Some set) = bytes_eq set.path path && (set.mode == mode)
 
--- where this mode was set right behind the calls
+-- where this mode was set right after the calls
 abbrev pub modes_stay_before : Option ModeSet → List Called → Bool
 modes_stay_before set [] = is_none set
 modes_stay_before set (Gave path before after modes ∷ calls) =
@@ -67,8 +67,8 @@ modes_stay_before set (LostMode plan path owner mode ∷ calls) =
     sets_back path mode set && modes_stay_before None calls
 modes_stay_before set (_ ∷ calls) = is_none set && modes_stay_before None calls
 
--- no file is left with another mode than it had, and no mode is set but right behind the change
--- that cleared it, or behind the answer that an earlier run had lost it
+-- no file is left with another mode than it had, and no mode is set but right after the change
+-- that cleared it, or after the answer that an earlier run had lost it
 abbrev pub modes_stay : List Called → Bool
 modes_stay calls = modes_stay_before None calls
 
@@ -94,7 +94,7 @@ was_kept (_ ∷ calls) r = was_kept calls r
 abbrev pub all_kept : List PlanRecord → List Called → Bool
 all_kept records calls = list_all (was_kept calls) records
 
--- a sync of all was made, behind each change and each file that was kept
+-- a sync of all was made, after each change and each file that was kept
 abbrev pub is_settled : List Called → Bool
 is_settled [] = false
 is_settled (Gave path before after modes ∷ calls) = false
@@ -116,7 +116,7 @@ marks_last mark records (PutMark plan done ∷ calls) =
     && (is_synced records calls && (no_mode_failed calls && marks_last mark records calls))
 marks_last mark records (_ ∷ calls) = marks_last mark records calls
 
--- the mark has reached its device: it was met, which syncs it, or it was synced behind the last
+-- the mark has reached its device: it was met, which syncs it, or it was synced after the last
 -- time that it was put
 abbrev pub is_mark_kept : List Called → Bool
 is_mark_kept [] = false
@@ -165,7 +165,7 @@ was_asked (_ ∷ calls) r = was_asked calls r
 abbrev pub all_asked : List PlanRecord → List Called → Bool
 all_asked records calls = list_all (was_asked calls) records
 
--- the modes that this run may lose were written down, behind such a question for each file
+-- the modes that this run may lose were written down, after such a question for each file
 abbrev pub is_begun : List PlanRecord → List Called → Bool
 is_begun records [] = false
 is_begun records (PutModes plan done ∷ calls) =
@@ -173,7 +173,7 @@ is_begun records (PutModes plan done ∷ calls) =
 is_begun records (_ ∷ calls) = is_begun records calls
 
 -- no file is given an owner before that; modes are asked for and written down for this plan alone,
--- its files at their new owners, behind a reading of those of an earlier run, and before any file
+-- its files at their new owners, after a reading of those of an earlier run, and before any file
 -- is given one; and they are written down, in place of those that were read, only where the names
 -- of each file were seen to be all in the plan and what was set back is synced
 abbrev pub begins_first : PlanMark → List PlanRecord → List Called → Bool

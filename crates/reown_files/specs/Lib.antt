@@ -1,4 +1,5 @@
 pub mod Calls
+pub mod Failed
 pub mod Noted
 pub mod Lawful
 pub mod Replay
@@ -7,5 +8,6 @@ pub mod Counting
 pub mod Opening
 pub mod MarkText
 pub mod Laws
+pub mod Examples
 pub mod ModesNoted
 pub mod OneFile

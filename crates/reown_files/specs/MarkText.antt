@@ -28,7 +28,7 @@ hex_text digest = flat_map hex_byte digest
 abbrev pub name_byte : ℕ → List ℕ
 name_byte byte = if byte == 0 then [] else byte ∷ []
 
--- the name of a host, without the zero bytes behind it
+-- the name of a host, without the zero bytes after it
 abbrev pub host_text : List ℕ → List ℕ
 host_text host = flat_map name_byte host
 
@@ -105,11 +105,11 @@ abbrev pub behind : List ℕ → List ℕ → Option (List ℕ)
 behind head text =
     if bytes_eq (take (length head) text) head then Some (drop (length head) text) else None
 
--- the lines of files behind this first line, if a text is whole; none where it begins with another
+-- the lines of files after this first line, if a text is whole; none where it begins with another
 abbrev pub lines_in : List ℕ → List ℕ → Option (Option (List ℕ))
 lines_in head text = if is_whole text then Some (behind head (before_end text)) else None
 
--- a mark is that of the plan of this text of modes: behind their first words it has one line, and
+-- a mark is that of the plan of this text of modes: after their first words it has one line, and
 -- the text begins with that line
 abbrev pub has_ended : List ℕ → List ℕ → Bool
 has_ended mark text =

@@ -2,7 +2,7 @@
 -- Values that borrow from the input, without the borrow: words of the code and not of the subject.
 use Rattle.reown_files.specs.Calls.{Called, Looked, Met, MetMark, Gave, SetMode, Kept, Settled}
 use Rattle.reown_files.specs.Calls.{PutMark, LostMode, PutModes, Saw, SawMark, CheckedLinks}
-use Rattle.reown_files.specs.Calls.{KeptMark, ReadModes}
+use Rattle.reown_files.specs.Calls.{KeptMark, ReadModes, NotSeen, MarkNotSeen}
 use Rattle.reown_files.specs.declared.log.Call.{Call}
 use Rattle.reown_files.specs.declared.log.Call.TheVariants as call
 
@@ -12,6 +12,8 @@ noted (call.Met path found) = Met path.now found
 noted (call.MetMark plan set) = MetMark plan.now set
 noted (call.Saw path found) = Saw path.now found
 noted (call.SawMark plan set) = SawMark plan.now set
+noted (call.NotSeen path trouble) = NotSeen path.now trouble
+noted (call.MarkNotSeen plan trouble) = MarkNotSeen plan.now trouble
 noted (call.CheckedLinks path done) = CheckedLinks path.now done
 noted (call.Gave path before after modes) = Gave path.now before after modes
 noted (call.SetMode path owner mode done) = SetMode path.now owner mode done

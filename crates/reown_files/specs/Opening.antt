@@ -1,13 +1,14 @@
 -- Why the files of a plan were not begun with.
 -- Source: this project's own rule.
-use Rattle.std.specs.Prelude.{◌≡◌, ◌≢◌, ◌⊎◌, ◌<◌, ◌∷◌, ℕ, Bool, true, List}
-use Rattle.std.specs.Prelude.{Option, None, Some, ⊤, length, slice_get, take}
+use Rattle.std.specs.Prelude.{◌≡◌, ◌≢◌, ◌⊎◌, ◌∷◌, ℕ, Bool, true, List}
+use Rattle.std.specs.Prelude.{Option, None, Some, ⊤, slice_get, take}
 use Rattle.reown_plan.specs.declared.plan.Owner.{Owner}
 use Rattle.reown_plan.specs.PlanData.{PlanRecord}
 use Rattle.reown_files.specs.declared.answers.OpenFault.{OpenFault}
 use Rattle.reown_files.specs.declared.answers.OpenFault.TheVariants.{Missing, Foreign, Unfinished}
 use Rattle.reown_files.specs.declared.answers.OpenFault.TheVariants.{File, Disk, Modes, Memory}
 use Rattle.reown_files.specs.Calls.{Called, Met}
+use Rattle.reown_files.specs.Failed.{Last, FailsOn, FailsOnDisk, FailsOnModes}
 use Rattle.reown_files.specs.Replay.{replay, found_of}
 use Rattle.reown_runner.specs.Halfway.{AreHalfway}
 
@@ -36,14 +37,16 @@ pub record MetUnfit
   pub met : (path : List ℕ) → (replay before).owner path ≡ found_of (take i records) owners path
   pub fit : AreHalfway (take i records) owners mark
 
--- a call of the disk failed, on the file of one of the records or on another; or memory was refused
-abbrev pub IsTrouble : List PlanRecord → OpenFault → Type 0
-IsTrouble records (File i trouble) = i < length records
-IsTrouble records (Disk trouble) = ⊤
-IsTrouble records (Modes trouble) = ⊤
-IsTrouble records Memory = ⊤
-IsTrouble records _ = ⊥
+-- the call that was made last failed: on the file of the record at this place, on the mark or the
+-- disk, or on the modes that are written down; or memory was refused
+abbrev pub IsTrouble : List PlanRecord → List Called → OpenFault → Type 0
+IsTrouble records calls (File i trouble) =
+    (r : PlanRecord) × (slice_get records i ≡ Some r) × Last (FailsOn r.path) calls
+IsTrouble records calls (Disk trouble) = Last FailsOnDisk calls
+IsTrouble records calls (Modes trouble) = Last FailsOnModes calls
+IsTrouble records calls Memory = ⊤
+IsTrouble records calls _ = ⊥
 
 abbrev pub IsRefusal : Bool → List PlanRecord → List Called → OpenFault → Type 0
 IsRefusal mark records calls fault =
-    IsTrouble records fault ⊎ MetUnfit mark records calls fault
+    IsTrouble records calls fault ⊎ MetUnfit mark records calls fault

@@ -1,17 +1,21 @@
 -- A tree of real files, as its user sees it.
 -- Source: this project's own rule.
-use Rattle.std.specs.Prelude.{◌≡◌, ◌<◌, ◌+◌, ◌^◌, ℕ, Bool, false, List, [], ◌∷◌, ◌++◌}
+use Rattle.std.specs.Prelude.{◌≡◌, ◌⊎◌, ◌<◌, ◌+◌, ◌^◌, ℕ, Bool, true, false, List, [], ◌∷◌, ◌++◌}
 use Rattle.std.specs.Prelude.{Option, None, Some, ⊤, map, position, slice_get}
 use Rattle.std.specs.Str.{bytes_eq}
 use Rattle.std.proofs.Common.{refl, sym, ap, ◌∙◌}
 use Rattle.std.proofs.lemmas.List.{append_assoc}
 use Rattle.reown_plan.specs.declared.mark.PlanMark.{PlanMark}
+use Rattle.reown_plan.specs.declared.plan.Owner.{Owner}
+use Rattle.reown_plan.specs.Mark.{mark_eq}
 use Rattle.reown_plan.specs.PlanData.{PlanRecord}
 use Rattle.reown_runner.specs.Tree.{TreeData, IsReadable, cells_of}
 use Rattle.reown_runner.specs.Memory.{Mem, known_mem}
 use Rattle.reown_runner.specs.MemoryReads.{readable_mem}
 use Rattle.reown_files.specs.Calls.{Called, Kept}
 use Rattle.reown_files.specs.declared.answers.Stop.{Stop}
+use Rattle.reown_files.specs.Failed.{Last, AskedLast, FailsToGive, FailsToPut, FailsToSettle}
+use Rattle.reown_files.specs.Lawful.{is_of}
 use Rattle.reown_files.specs.Replay.{replay}
 
 -- the mark and the records of its plan; what it holds their files to be, with which each read is
@@ -120,14 +124,40 @@ abbrev pub StopsAt : Option ℕ → Option Stop → Type 0
 StopsAt place None = ⊥
 StopsAt place (Some stop) = stop.place ≡ place
 
--- the file of the record at this place was to be kept by the last call, which failed
+-- the file of the record at this place was to be kept by the last call, which failed; or that was
+-- the sync of all or of the mark, which is told as none's
 abbrev pub WasNotKept : List PlanRecord → List Called → Option ℕ → Type 0
-WasNotKept records calls None = ⊤
+WasNotKept records calls None = Last FailsToSettle calls
 WasNotKept records calls (Some i) =
     (r : PlanRecord) × (slice_get records i ≡ Some r)
     × ((before : List Called) × (calls ≡ Kept r.path r.after false ∷ before))
 
--- a sync failed: that of this record's file, or that of all or of the mark, which is told as none's
-abbrev pub StopsSync : List PlanRecord → List Called → Option Stop → Type 0
-StopsSync records calls None = ⊥
-StopsSync records calls (Some stop) = WasNotKept records calls stop.place
+-- a sync failed: so, or since the tree had been stopped
+abbrev pub StopsSync : RealData → RealData → Option Stop → Type 0
+StopsSync old new None = ⊥
+StopsSync old new (Some stop) =
+    ((old.is_stopped ≡ true) × (stop.place ≡ None)) ⊎ WasNotKept old.records new.calls stop.place
+
+-- ---- why it failed
+
+-- the tree had been stopped, or the last call that was made on the disk is such
+abbrev pub FailsBy : (Called → Type 0) → RealData → RealData → Type 0
+FailsBy Is old new = (old.is_stopped ≡ true) ⊎ AskedLast Is old.calls new.calls
+
+-- the file is not there, or the record with its path has another change
+abbrev pub IsOutside : List PlanRecord → List ℕ → Option Owner → Owner → Type 0
+IsOutside records path None after = ⊤
+IsOutside records path (Some before) after =
+    (i : ℕ) (r : PlanRecord) → place_of records path ≡ Some i → slice_get records i ≡ Some r
+    → is_of path before after r ≡ false
+
+-- the file of this path was not given this owner
+abbrev pub IsNotGiven : List ℕ → Owner → RealData → RealData → Type 0
+IsNotGiven path after old new =
+    IsOutside old.records path ((known_real old).owner path) after
+    ⊎ FailsBy (FailsToGive path after) old new
+
+-- the mark was not put: it is another plan's, or not each file was kept after the last change
+abbrev pub IsNotPut : PlanMark → RealData → RealData → Type 0
+IsNotPut plan old new =
+    (mark_eq plan old.mark ≡ false) ⊎ (old.is_kept ≡ false) ⊎ FailsBy (FailsToPut plan) old new

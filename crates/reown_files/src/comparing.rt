@@ -1,12 +1,13 @@
 //! What a disk has, compared with what is held of it.
-ghost use Rattle.std.specs.Prelude.{◌≡◌, OnOk};
+ghost use Rattle.std.specs.Prelude.{◌≡◌, ◌≢◌, OnOk, OnErr};
 
 use crate::Trouble;
 use reown_plan::Owner;
 
 /// The owner that was found is the one that is held.
 pub fn check_owner(found: Option<Owner>, held: Option<Owner>) -> Result<(), Trouble>
-    ensures { OnOk result (found ≡ held) }
+    ensures same { OnOk result (found ≡ held) }
+    ensures other { OnErr result (found ≢ held) }
 {
     if found == held {
         return Ok(());
@@ -16,7 +17,8 @@ pub fn check_owner(found: Option<Owner>, held: Option<Owner>) -> Result<(), Trou
 
 /// The same of the mark.
 pub fn check_mark(set: bool, held: bool) -> Result<(), Trouble>
-    ensures { OnOk result (set ≡ held) }
+    ensures same { OnOk result (set ≡ held) }
+    ensures other { OnErr result (set ≢ held) }
 {
     if set == held {
         return Ok(());

@@ -1,8 +1,8 @@
 //! The calls by which the files of a plan are looked at and changed.
-ghost use Rattle.std.specs.Prelude.{◌≡◌, ◌∷◌, List, None, Some, IfOk, OnErr, is_ok};
+ghost use Rattle.std.specs.Prelude.{◌≡◌, ◌∷◌, List, None, Some, IfOk, IfErr, OnErr, is_ok};
 ghost use Rattle.reown_files.specs.Calls.{Called, Looked, Met, MetMark, Gave, SetMode, Kept};
 ghost use Rattle.reown_files.specs.Calls.{Settled, PutMark, LostMode, PutModes, CheckedLinks};
-ghost use Rattle.reown_files.specs.Calls.{KeptMark, ReadModes, Saw, SawMark};
+ghost use Rattle.reown_files.specs.Calls.{KeptMark, ReadModes, Saw, SawMark, NotSeen, MarkNotSeen};
 
 use crate::{Modes, Seen, Trouble};
 use reown_plan::{Owner, PlanMark};
@@ -18,19 +18,22 @@ pub trait Disk: Drop {
     fn look(&mut self, path: &[u8]) -> Result<Option<Seen>, Trouble>
         ensures looked { IfOk result
             (λ seen. calls self.new ≡ Looked path.now seen ∷ calls self.old) }
-        ensures failed { OnErr result (calls self.new ≡ calls self.old) };
+        ensures failed { IfErr result
+            (λ trouble. calls self.new ≡ NotSeen path.now trouble ∷ calls self.old) };
 
     /// The owner of a file of the plan, if it is there. Each is met once, before any other call is
     /// made for it. Its names are counted, and where it has its new owner already, which an earlier
     /// run gave it, that is synced.
     fn meet(&mut self, path: &[u8], after: Owner) -> Result<Option<Owner>, Trouble>
         ensures met { IfOk result (λ found. calls self.new ≡ Met path.now found ∷ calls self.old) }
-        ensures failed { OnErr result (calls self.new ≡ calls self.old) };
+        ensures failed { IfErr result
+            (λ trouble. calls self.new ≡ NotSeen path.now trouble ∷ calls self.old) };
 
     /// Whether the mark of this plan is there, before anything is changed. One that is, is synced.
     fn meet_mark(&mut self, plan: &PlanMark) -> Result<bool, Trouble>
         ensures met { IfOk result (λ set. calls self.new ≡ MetMark plan.now set ∷ calls self.old) }
-        ensures failed { OnErr result (calls self.new ≡ calls self.old) };
+        ensures failed { IfErr result
+            (λ trouble. calls self.new ≡ MarkNotSeen plan.now trouble ∷ calls self.old) };
 
     /// Sees that all names of a file were met.
     fn check_links(&mut self, path: &[u8]) -> Result<(), Trouble>
@@ -39,7 +42,8 @@ pub trait Disk: Drop {
     /// The owner of a file, if it is there. No link is followed.
     fn owner(&mut self, path: &[u8]) -> Result<Option<Owner>, Trouble>
         ensures saw { IfOk result (λ found. calls self.new ≡ Saw path.now found ∷ calls self.old) }
-        ensures failed { OnErr result (calls self.new ≡ calls self.old) };
+        ensures failed { IfErr result
+            (λ trouble. calls self.new ≡ NotSeen path.now trouble ∷ calls self.old) };
 
     /// Gives a file that has one owner another, and tells its mode before and after.
     fn give(&mut self, path: &[u8], before: Owner, after: Owner) -> Result<Modes, Trouble>
@@ -65,7 +69,8 @@ pub trait Disk: Drop {
     /// Whether the mark of this plan is there.
     fn is_marked(&mut self, plan: &PlanMark) -> Result<bool, Trouble>
         ensures saw { IfOk result (λ set. calls self.new ≡ SawMark plan.now set ∷ calls self.old) }
-        ensures failed { OnErr result (calls self.new ≡ calls self.old) };
+        ensures failed { IfErr result
+            (λ trouble. calls self.new ≡ MarkNotSeen plan.now trouble ∷ calls self.old) };
 
     /// Puts the mark of this plan there, in place of what mark is there.
     fn put_mark(&mut self, plan: &PlanMark) -> Result<(), Trouble>
@@ -88,7 +93,8 @@ pub trait Disk: Drop {
     ) -> Result<Option<u32>, Trouble>
         ensures told { IfOk result
             (λ mode. calls self.new ≡ LostMode plan.now path.now owner mode ∷ calls self.old) }
-        ensures failed { OnErr result (calls self.new ≡ calls self.old) };
+        ensures failed { IfErr result
+            (λ trouble. calls self.new ≡ NotSeen path.now trouble ∷ calls self.old) };
 
     /// Writes down for this plan the modes of the files that were met at another owner than their
     /// new one and may lose bits of them, in place of what was written down before. A stop of the

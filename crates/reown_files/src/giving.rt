@@ -1,11 +1,12 @@
 //! The changes of a plan, made on a disk.
-ghost use Rattle.std.specs.Prelude.{◌≡◌, ◌&&◌, ◌||◌, not, true, List, Some, map, OnOk, is_ok};
-ghost use Rattle.std.specs.Prelude.{IfErr, if◌then◌else◌};
+ghost use Rattle.std.specs.Prelude.{◌≡◌, ◌&&◌, ◌||◌, not, true, false, List, Some, map, OnOk};
+ghost use Rattle.std.specs.Prelude.{IfErr, OnErr, is_ok, slice_get, if◌then◌else◌};
 ghost use Rattle.reown_plan.specs.declared.mark.PlanMark.{PlanMark};
 ghost use Rattle.reown_plan.specs.PlanData.{PlanRecord};
 ghost use Rattle.reown_plan.specs.Records.{record_of};
 ghost use Rattle.reown_files.specs.Lawful.{is_of, is_planned, all_kept, is_synced, is_begun};
 ghost use Rattle.reown_files.specs.Lawful.{is_lawful, no_mode_failed};
+ghost use Rattle.reown_files.specs.Failed.{AskedLast, FailsToGive};
 ghost use Rattle.reown_files.specs.Replay.{replay, with_owner};
 ghost use Rattle.reown_files.specs.Real.{Grows, WasNotKept};
 
@@ -21,7 +22,11 @@ fn is_change(planned: &Record, path: &[u8], before: Owner, after: Owner) -> bool
 
 /// Whether this change is that of the record at a place.
 pub fn has_change(records: &[Record], i: usize, path: &[u8], before: Owner, after: Owner) -> bool
-    ensures { result ≡ true → is_planned (map record_of records.now) path.now before after ≡ true }
+    ensures planned { result ≡ true
+        → is_planned (map record_of records.now) path.now before after ≡ true }
+    ensures other { result ≡ false → (r : PlanRecord)
+        → slice_get (map record_of records.now) i ≡ Some r
+        → is_of path.now before after r ≡ false }
 {
     if i < records.len() {
         is_change(&records[i], path, before, after)
@@ -55,6 +60,8 @@ pub fn give_file<D: Disk>(disk: &mut D, path: &[u8], before: Owner, after: Owner
     ensures mode { no_mode_failed (D.calls disk.new)
         ≡ ((not result.is_made || is_ok result.told) && no_mode_failed (D.calls disk.old)) }
     ensures grows { Grows (D.calls disk.old) (D.calls disk.new) }
+    ensures failed { OnErr result.told
+        (AskedLast (FailsToGive path.now after) (D.calls disk.old) (D.calls disk.new)) }
 {
     let modes = match disk.give(path, before, after) {
         Ok(modes) => modes,

@@ -22,10 +22,10 @@ mod whole_file;
 
 pub use answers::{Modes, OpenFault, Seen, Stop, Trouble};
 pub use applying::apply;
-pub use counting::{OwnerCounts, count_owners};
+pub use counting::{Count, OwnerCounts, Unfit, count_owners};
 pub use disk::Disk;
 pub use log::{Call, Log};
 pub use modes_file::MODES_BEHIND;
-pub use read_back::{marks_are_read_back, modes_are_read_back};
+pub use read_back::{marks_and_modes_by_example, marks_are_read_back, modes_are_read_back};
 pub use real_tree::{RealTree, Refused};
 pub use root::Root;

@@ -3,7 +3,7 @@ ghost use Rattle.std.specs.Prelude.{◌≡◌, List, [], ◌∷◌};
 ghost use Rattle.std.specs.Borrow.{ftrue};
 ghost use Rattle.reown_files.specs.Calls.{Called};
 
-use crate::{Modes, Seen};
+use crate::{Modes, Seen, Trouble};
 use reown_plan::{Owner, PlanMark};
 use std::marker::Model;
 
@@ -31,6 +31,10 @@ pub enum Call<'a> {
     Saw(&'a [u8], Option<Owner>),
     /// The mark of this plan was seen to be there or not.
     SawMark(&'a PlanMark, bool),
+    /// The file of this path could not be looked at or met, for this.
+    NotSeen(&'a [u8], Trouble),
+    /// The mark of this plan could not be, for this.
+    MarkNotSeen(&'a PlanMark, Trouble),
     /// The names of the file of this path were to be seen to be all in the plan.
     CheckedLinks(&'a [u8], bool),
     /// The file of this path was to be given an owner in place of another.

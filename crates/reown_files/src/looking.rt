@@ -102,7 +102,7 @@ pub fn check_all_links<D: Disk>(disk: &mut D, records: &[Record]) -> Result<(), 
     ensures read { (mark : PlanMark)
         → were_read mark (D.calls disk.new) ≡ were_read mark (D.calls disk.old) }
     ensures replayed { replay (D.calls disk.new) ≡ replay (D.calls disk.old) }
-    ensures refused { IfErr result (IsTrouble (map record_of records.now)) }
+    ensures refused { IfErr result (IsTrouble (map record_of records.now) (D.calls disk.new)) }
 {
     for (i, planned) in records.iter().enumerate() {
         if let Err(trouble) = disk.check_links(planned.path) {

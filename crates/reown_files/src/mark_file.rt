@@ -15,7 +15,7 @@ pub const HEAD: &[u8] = b"unify applied 1 ";
 // The most bytes of it that are read.
 const MOST_BYTES: u64 = 4096;
 
-// Appends the name of a host that has zero bytes behind it.
+// Appends the name of a host that has zero bytes after it.
 fn push_host(text: &mut Vec<u8>, host: &[u8; 64]) -> Result<(), AllocError>
     ensures { OnOk result (text.new.items ≡ text.old.items ++ spec.host_text host.now) }
 {

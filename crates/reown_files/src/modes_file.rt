@@ -22,7 +22,7 @@ use std::alloc::{AllocError, Global};
 use std::collections::BTreeMap;
 use std::fs;
 
-/// What the file of the modes that a run may lose has behind the path of the mark.
+/// What the file of the modes that a run may lose has after the path of the mark.
 pub const MODES_BEHIND: &str = ".modes";
 
 // How it begins, and its last line.

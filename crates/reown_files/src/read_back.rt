@@ -2,6 +2,7 @@
 //! nothing.
 ghost use Rattle.reown_files.specs.Laws.{MarksAreReadBack, ModesAreReadBack, ModesAreOfOnePlan};
 ghost use Rattle.reown_files.specs.Laws.{MarksEndOnePlan};
+ghost use Rattle.reown_files.specs.Examples.{ExampleOfMark, ExampleOfModes};
 
 /// The mark that is written for a plan is read as the mark of that plan, and as that of no plan
 /// that differs from it in its host, its length or its digest.
@@ -16,4 +17,11 @@ pub fn modes_are_read_back()
     ensures plan { ModesAreOfOnePlan }
     ensures ended { MarksEndOnePlan }
     ensures entries { ModesAreReadBack }
+{}
+
+/// The two files by example, byte by byte: a mark with its digest as `sha256sum` prints it, and
+/// modes in octal digits, each with its file.
+pub fn marks_and_modes_by_example()
+    ensures mark { ExampleOfMark }
+    ensures modes { ExampleOfModes }
 {}

@@ -1,6 +1,6 @@
 //! A tree of real files, held against what the run of its plan must have made of it.
-ghost use Rattle.std.specs.Prelude.{◌≡◌, ◌+◌, ◌^◌, ◌<◌, ◌≤◌, [], ◌∷◌, true, false, None};
-ghost use Rattle.std.specs.Prelude.{IfOk, IfErr, OnOk, OnErr, IsSome, is_ok};
+ghost use Rattle.std.specs.Prelude.{◌≡◌, ◌+◌, ◌^◌, ◌<◌, ◌≤◌, [], ◌∷◌, true, false, None, Some};
+ghost use Rattle.std.specs.Prelude.{IfOk, IfErr, OnOk, OnErr, IsSome, Contains};
 
 use crate::comparing::{check_mark, check_owner};
 use crate::giving::{give_file, has_change, sync_all};
@@ -11,10 +11,12 @@ use reown_runner::{DeviceFault, MemTree, Tree};
 use std::alloc::Global;
 use std::marker::Model;
 
+mod faults;
+
 /// The files of a plan on a disk, held against what the run of the plan must have made of them: a
 /// call that finds anything else fails. Each read looks at the disk. Nothing is written but what
 /// the plan has, and the mark is set only where each file was seen at its new owner and synced
-/// behind the last write. A call takes a look-up by bisection and the calls of its disk; a sync is
+/// after the last write. A call takes a look-up by bisection and the calls of its disk; a sync is
 /// one pass over the plan.
 #[derive(Drop)]
 pub struct RealTree<'p, 'a, D: Disk> {
@@ -71,12 +73,15 @@ ghost use Rattle.reown_files.specs.Replay.{replay};
 ghost use Rattle.reown_files.specs.Real.{RealData, HoldsReplay, known_real, readable_real};
 ghost use Rattle.reown_files.specs.Real.{Grows, IsLater, later_rests, later_goes_on, place_of};
 ghost use Rattle.reown_files.specs.Real.{StopsAt, StopsSync, AsksMore, KeepsMore, GivesMore};
-ghost use Rattle.reown_files.specs.Real.{PutsMore};
+ghost use Rattle.reown_files.specs.Real.{PutsMore, FailsBy, IsOutside, IsNotGiven, IsNotPut};
+ghost use Rattle.reown_files.specs.Failed.{Last, AskedLast, SeesOtherwise, SeesMarkOtherwise};
+ghost use Rattle.reown_files.specs.Failed.{FailsToGive, FailsToSettle};
 ghost use Rattle.reown_runner.specs.Memory.{known_mem, marked, settled};
 ghost use Rattle.reown_runner.specs.Halfway.{MayGoOn};
 ghost use Rattle.reown_plan.specs.Mark.{mark_of, mark_eq, is_marked_for};
 ghost use Rattle.reown_runner.specs.Tree.{cells_of, ForEachPlan, counted, Same, Writes, SetsMark};
 ghost use Rattle.reown_runner.specs.Tree.{Syncs, Stops, MayDo, Write, SetMark, Sync, IsCounted};
+ghost use Rattle.reown_runner.specs.Tree.{MarksNoOther};
 
 impl<'p, 'a, D: Disk> RealTree<'p, 'a, D> {
     /// Opens the files of a plan on a disk, as an earlier run of the plan may have left them, or
@@ -140,28 +145,6 @@ impl<'p, 'a, D: Disk> RealTree<'p, 'a, D> {
     {
         self.stop
     }
-
-    fn fail(&mut self) -> DeviceFault
-        requires { self.old.faults + 1 < 2 ^ 64 }
-        ensures { self.new ≡ record self.old { faults = self.old.faults + 1 } }
-    {
-        self.faults += 1;
-        DeviceFault
-    }
-
-    fn count(&mut self)
-        ensures { self.new ≡ record self.old { asked = counted self.old.asked } }
-    {
-        self.asked = self.asked.saturating_add(1);
-    }
-
-    // Whether a call may fail: not at the last count of failures.
-    fn may_fail(&self) -> bool
-        ensures may { result ≡ true → self.now.faults + 1 < 2 ^ 64 }
-        ensures may_not { result ≡ false → 2 ^ 64 ≤ self.now.faults + 1 }
-    {
-        self.faults < u64::MAX
-    }
 }
 
 // What is held.
@@ -212,7 +195,8 @@ impl<'p, 'a, D: Disk> RealTree<'p, 'a, D> {
     // What a stop has left is for the next `open` to find: what was held is among it.
     fn leave(&mut self)
         ensures left { ForEachPlan Stops (known_mem self.old.tree) (known_mem self.new.tree) }
-        ensures rest { self.new ≡ record self.old { tree = self.new.tree; is_stopped = true } }
+        ensures rest { self.new
+            ≡ record self.old { tree = settled self.old.tree; is_stopped = true } }
     {
         self.is_stopped = true;
         self.settle();
@@ -221,24 +205,11 @@ impl<'p, 'a, D: Disk> RealTree<'p, 'a, D> {
 
 // What is asked of the disk. Each answers whether that was done, and found as it must be.
 impl<'p, 'a, D: Disk> RealTree<'p, 'a, D> {
-    fn note(&mut self, place: Option<usize>, told: Result<(), Trouble>) -> bool
-        ensures rest { self.new ≡ record self.old { stop = self.new.stop } }
-        ensures told { result ≡ is_ok told }
-        ensures stop { result ≡ false → StopsAt place self.new.stop }
-    {
-        match told {
-            Ok(()) => true,
-            Err(trouble) => {
-                self.stop = Some(Stop { place, trouble });
-                false
-            }
-        }
-    }
-
     fn compare_owner(&mut self, path: &[u8], held: Option<Owner>) -> Result<(), Trouble>
         ensures saw { OnOk result (self.new.calls ≡ Saw path.now held ∷ self.old.calls) }
         ensures rest { self.new ≡ record self.old { calls = self.new.calls } }
         ensures grows { Grows self.old.calls self.new.calls }
+        ensures failed { OnErr result (FailsBy (SeesOtherwise path.now held) self.old self.new) }
     {
         if self.is_stopped {
             return Err(Trouble::NotDone);
@@ -253,6 +224,7 @@ impl<'p, 'a, D: Disk> RealTree<'p, 'a, D> {
         ensures stop { result ≡ false → StopsAt (place_of self.old.records path.now) self.new.stop }
         ensures rest { AsksMore self.old self.new }
         ensures grows { Grows self.old.calls self.new.calls }
+        ensures failed { result ≡ false → FailsBy (SeesOtherwise path.now held) self.old self.new }
     {
         let told = self.compare_owner(path, held);
         let place = self.held.index_of(path);
@@ -261,7 +233,9 @@ impl<'p, 'a, D: Disk> RealTree<'p, 'a, D> {
 
     // Whether the plan has this change.
     fn plans(&self, path: &[u8], before: Owner, after: Owner) -> bool
-        ensures { result ≡ true → is_planned self.now.records path.now before after ≡ true }
+        ensures planned { result ≡ true → is_planned self.now.records path.now before after ≡ true }
+        ensures outside { result ≡ false
+            → IsOutside self.now.records path.now (Some before) after }
     {
         match self.held.index_of(path) {
             Some(i) => has_change(self.records, i, path, before, after),
@@ -281,6 +255,8 @@ impl<'p, 'a, D: Disk> RealTree<'p, 'a, D> {
             (known_mem self.old.tree) (known_mem self.new.tree)) }
         ensures rest { GivesMore self.old self.new }
         ensures grows { Grows self.old.calls self.new.calls }
+        ensures why { OnErr result
+            (AskedLast (FailsToGive path.now after) self.old.calls self.new.calls) }
     {
         self.is_kept = false;
         let change = give_file(&mut self.disk, path, before, after);
@@ -300,6 +276,7 @@ impl<'p, 'a, D: Disk> RealTree<'p, 'a, D> {
             (known_mem self.old.tree) (known_mem self.new.tree)) }
         ensures rest { GivesMore self.old self.new }
         ensures grows { Grows self.old.calls self.new.calls }
+        ensures why { OnErr result (IsNotGiven path.now after self.old self.new) }
     {
         let Some(before) = before else {
             return Err(Trouble::Gone);
@@ -322,18 +299,18 @@ impl<'p, 'a, D: Disk> RealTree<'p, 'a, D> {
         ensures stop { result ≡ false → StopsAt (place_of self.old.records path.now) self.new.stop }
         ensures rest { GivesMore self.old self.new }
         ensures grows { Grows self.old.calls self.new.calls }
+        ensures why { result ≡ false → IsNotGiven path.now after self.old self.new }
     {
         let told = self.give(path, before, after);
         let place = self.held.index_of(path);
         self.note(place, told)
     }
 
-    // Each file was seen at its new owner and synced behind the last write; and so the mark, where
+    // Each file was seen at its new owner and synced after the last write; and so the mark, where
     // it is held.
     fn keeps(&mut self, mark: bool) -> bool
         ensures kept { result ≡ true → mark ≡ true → is_mark_kept self.new.calls ≡ true }
-        ensures stop { result ≡ false
-            → StopsSync self.old.records self.new.calls self.new.stop }
+        ensures stop { result ≡ false → StopsSync self.old self.new self.new.stop }
         ensures rest { KeepsMore self.old self.new }
         ensures grows { Grows self.old.calls self.new.calls }
     {
@@ -341,8 +318,7 @@ impl<'p, 'a, D: Disk> RealTree<'p, 'a, D> {
     }
 
     fn keeps_files(&mut self) -> bool
-        ensures stop { result ≡ false
-            → StopsSync self.old.records self.new.calls self.new.stop }
+        ensures stop { result ≡ false → StopsSync self.old self.new self.new.stop }
         ensures rest { KeepsMore self.old self.new }
         ensures grows { Grows self.old.calls self.new.calls }
     {
@@ -353,8 +329,7 @@ impl<'p, 'a, D: Disk> RealTree<'p, 'a, D> {
     }
 
     fn keeps_each(&mut self) -> bool
-        ensures stop { result ≡ false
-            → StopsSync self.old.records self.new.calls self.new.stop }
+        ensures stop { result ≡ false → StopsSync self.old self.new self.new.stop }
         ensures rest { KeepsMore self.old self.new }
         ensures grows { Grows self.old.calls self.new.calls }
     {
@@ -375,6 +350,8 @@ impl<'p, 'a, D: Disk> RealTree<'p, 'a, D> {
         ensures saw { OnOk result (self.new.calls ≡ SawMark plan.now held ∷ self.old.calls) }
         ensures rest { self.new ≡ record self.old { calls = self.new.calls } }
         ensures grows { Grows self.old.calls self.new.calls }
+        ensures failed { OnErr result
+            (FailsBy (SeesMarkOtherwise plan.now held) self.old self.new) }
     {
         if self.is_stopped {
             return Err(Trouble::NotDone);
@@ -389,6 +366,8 @@ impl<'p, 'a, D: Disk> RealTree<'p, 'a, D> {
         ensures stop { result ≡ false → StopsAt None self.new.stop }
         ensures rest { AsksMore self.old self.new }
         ensures grows { Grows self.old.calls self.new.calls }
+        ensures failed { result ≡ false
+            → FailsBy (SeesMarkOtherwise plan.now held) self.old self.new }
     {
         let told = self.compare_mark(plan, held);
         self.note(None, told)
@@ -401,15 +380,14 @@ impl<'p, 'a, D: Disk> RealTree<'p, 'a, D> {
         *plan == self.mark
     }
 
-    // Puts the mark of the plan, where each file was kept behind the last write. One that was put
+    // Puts the mark of the plan, where each file was kept after the last write. One that was put
     // is held.
     fn put_mark(&mut self, plan: &PlanMark) -> Result<(), Trouble>
-        ensures done { OnOk result (SetsMark
-            (cells_of plan.now (known_mem self.old.tree))
-            (cells_of plan.now (known_mem self.new.tree))) }
+        ensures marked { OnOk result (self.new.tree ≡ marked plan.now self.old.tree) }
         ensures failed { OnErr result (self.new.tree ≡ self.old.tree) }
         ensures rest { self.new ≡ record self.old { tree = self.new.tree; calls = self.new.calls } }
         ensures grows { Grows self.old.calls self.new.calls }
+        ensures why { OnErr result (IsNotPut plan.now self.old self.new) }
     {
         if self.is_stopped {
             return Err(Trouble::NotDone);
@@ -430,13 +408,12 @@ impl<'p, 'a, D: Disk> RealTree<'p, 'a, D> {
     }
 
     fn puts_mark(&mut self, plan: &PlanMark) -> bool
-        ensures done { result ≡ true → SetsMark
-            (cells_of plan.now (known_mem self.old.tree))
-            (cells_of plan.now (known_mem self.new.tree)) }
+        ensures marked { result ≡ true → self.new.tree ≡ marked plan.now self.old.tree }
         ensures failed { result ≡ false → self.new.tree ≡ self.old.tree }
         ensures stop { result ≡ false → StopsAt None self.new.stop }
         ensures rest { PutsMore self.old self.new }
         ensures grows { Grows self.old.calls self.new.calls }
+        ensures why { result ≡ false → IsNotPut plan.now self.old self.new }
     {
         let told = self.put_mark(plan);
         self.note(None, told)
@@ -445,6 +422,7 @@ impl<'p, 'a, D: Disk> RealTree<'p, 'a, D> {
     fn keeps_mark(&mut self, held: bool) -> bool
         ensures kept { result ≡ true → held ≡ true → is_mark_kept self.new.calls ≡ true }
         ensures stop { result ≡ false → StopsAt None self.new.stop }
+        ensures failed { result ≡ false → Last FailsToSettle self.new.calls }
         ensures rest { AsksMore self.old self.new }
         ensures grows { Grows self.old.calls self.new.calls }
     {
@@ -471,6 +449,8 @@ impl<'p, 'a, D: Disk> Tree for RealTree<'p, 'a, D> {
         ensures asked { (known_real self.new).asked ≡ (known_real self.old).asked }
         ensures stop { OnErr result
             (StopsAt (place_of self.old.records path.now) self.new.stop) }
+        ensures why { OnErr result (FailsBy
+            (SeesOtherwise path.now ((known_real self.old).owner path.now)) self.old self.new) }
         ensures later { IsLater self.old self.new }
     {
         let held = self.held_owner(path);
@@ -494,6 +474,7 @@ impl<'p, 'a, D: Disk> Tree for RealTree<'p, 'a, D> {
         ensures asked { (known_real self.new).asked ≡ counted (known_real self.old).asked }
         ensures stop { OnErr result
             (StopsAt (place_of self.old.records path.now) self.new.stop) }
+        ensures why { OnErr result (IsNotGiven path.now owner self.old self.new) }
         ensures later { IsLater self.old self.new }
     {
         self.count();
@@ -518,6 +499,8 @@ impl<'p, 'a, D: Disk> Tree for RealTree<'p, 'a, D> {
             (known_real self.old).faults (known_real self.new).faults result }
         ensures asked { (known_real self.new).asked ≡ (known_real self.old).asked }
         ensures stop { OnErr result (StopsAt None self.new.stop) }
+        ensures why { OnErr result (FailsBy (SeesMarkOtherwise plan.now
+            (is_marked_for plan.now (known_real self.old).mark)) self.old self.new) }
         ensures later { IsLater self.old self.new }
     {
         let held = self.held_mark(plan);
@@ -537,10 +520,12 @@ impl<'p, 'a, D: Disk> Tree for RealTree<'p, 'a, D> {
         ensures failed { OnErr result (MayDo SetMark
             (cells_of plan.now (known_real self.old))
             (cells_of plan.now (known_real self.new))) }
+        ensures no_other { MarksNoOther plan.now (known_real self.old) (known_real self.new) }
         ensures faults { IsCounted
             (known_real self.old).faults (known_real self.new).faults result }
         ensures asked { (known_real self.new).asked ≡ counted (known_real self.old).asked }
         ensures stop { OnErr result (StopsAt None self.new.stop) }
+        ensures why { OnErr result (IsNotPut plan.now self.old self.new) }
         ensures later { IsLater self.old self.new }
     {
         self.count();
@@ -564,8 +549,7 @@ impl<'p, 'a, D: Disk> Tree for RealTree<'p, 'a, D> {
         ensures faults { IsCounted
             (known_real self.old).faults (known_real self.new).faults result }
         ensures asked { (known_real self.new).asked ≡ counted (known_real self.old).asked }
-        ensures stop { OnErr result
-            (StopsSync self.old.records self.new.calls self.new.stop) }
+        ensures stop { OnErr result (StopsSync self.old self.new self.new.stop) }
         ensures later { IsLater self.old self.new }
     {
         self.count();
@@ -580,6 +564,7 @@ impl<'p, 'a, D: Disk> Tree for RealTree<'p, 'a, D> {
 
     fn reopen(&mut self)
         ensures left { ForEachPlan Stops (known_real self.old) (known_real self.new) }
+        ensures mark { Contains (known_real self.old).marks_left (known_real self.new).mark }
         ensures faults { (known_real self.new).faults ≡ (known_real self.old).faults }
         ensures asked { (known_real self.new).asked ≡ (known_real self.old).asked }
         ensures later { IsLater self.old self.new }

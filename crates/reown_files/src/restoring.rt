@@ -1,11 +1,12 @@
 //! The modes of a plan's files around its run: those that an earlier run lost are set back, and
 //! those that this one may lose are written down.
-ghost use Rattle.std.specs.Prelude.{◌≡◌, ◌∷◌, ◌++◌, [], true, List, map, IfErr, OnOk};
+ghost use Rattle.std.specs.Prelude.{◌≡◌, ◌∷◌, ◌++◌, [], true, List, map, IfErr, OnOk, OnErr};
 ghost use Rattle.std.specs.List.{list_any};
 ghost use Rattle.reown_plan.specs.PlanData.{PlanRecord};
 ghost use Rattle.reown_plan.specs.Records.{record_of};
 ghost use Rattle.reown_files.specs.Lawful.{is_given, is_unchanged, all_asked, is_begun, is_lawful};
 ghost use Rattle.reown_files.specs.Lawful.{no_mode_failed, all_checked, were_read};
+ghost use Rattle.reown_files.specs.Failed.{Last, FailsOn};
 ghost use Rattle.reown_files.specs.Opening.{IsTrouble};
 ghost use Rattle.reown_files.specs.Replay.{replay};
 
@@ -14,6 +15,7 @@ use reown_plan::{PlanMark, Record};
 
 // Sets the mode of a record's file back, where an earlier run had lost it.
 fn set_back<D: Disk>(disk: &mut D, plan: &PlanMark, planned: &Record) -> Result<(), Trouble>
+    ensures failed { OnErr result (Last (FailsOn (record_of planned.now).path) (D.calls disk.new)) }
     ensures asked { OnOk result ((before : List PlanRecord)
         → all_asked before (D.calls disk.old) ≡ true
         → all_asked (before ++ record_of planned.now ∷ []) (D.calls disk.new) ≡ true) }
@@ -54,7 +56,7 @@ fn set_all_back<D: Disk>(disk: &mut D, plan: &PlanMark, records: &[Record]) -> R
     requires lawful { is_lawful plan.now (map record_of records.now) (D.calls disk.old) ≡ true }
     ensures checked { all_checked (map record_of records.now) (D.calls disk.new) ≡ true }
     ensures read { were_read plan.now (D.calls disk.new) ≡ true }
-    ensures refused { IfErr result (IsTrouble (map record_of records.now)) }
+    ensures refused { IfErr result (IsTrouble (map record_of records.now) (D.calls disk.new)) }
     ensures asked { OnOk result (all_asked (map record_of records.now) (D.calls disk.new) ≡ true) }
     ensures modes { OnOk result
         (no_mode_failed (D.calls disk.new) ≡ no_mode_failed (D.calls disk.old)) }
@@ -83,7 +85,7 @@ pub fn begin<D: Disk>(disk: &mut D, plan: &PlanMark, records: &[Record]) -> Resu
     ensures modes { OnOk result
         (no_mode_failed (D.calls disk.new) ≡ no_mode_failed (D.calls disk.old)) }
     ensures unchanged { is_unchanged (D.calls disk.new) ≡ true }
-    ensures refused { IfErr result (IsTrouble (map record_of records.now)) }
+    ensures refused { IfErr result (IsTrouble (map record_of records.now) (D.calls disk.new)) }
     ensures lawful { is_lawful plan.now (map record_of records.now) (D.calls disk.new) ≡ true }
     ensures replayed { replay (D.calls disk.new) ≡ replay (D.calls disk.old) }
 {

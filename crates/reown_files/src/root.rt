@@ -265,6 +265,30 @@ impl<'w> Root<'w> {
         self.below.has_one_journal = true;
     }
 
+    // The owner of a file that is met. Its mode is noted where it does not have its new owner.
+    fn met(&mut self, path: &[u8], after: Owner) -> Result<Option<Owner>, Trouble>
+        ensures { self.new.log.calls ≡ self.old.log.calls }
+    {
+        let Some(found) = if_there(self.below.meet(path, after))? else {
+            return Ok(None);
+        };
+        if found.owner != after {
+            self.modes.meet(path, &found)?;
+        }
+        Ok(Some(found.owner))
+    }
+
+    // Whether the mark is there. One that is, is synced.
+    fn met_mark(&mut self, plan: &PlanMark) -> Result<bool, Trouble>
+        ensures { self.new.log.calls ≡ self.old.log.calls }
+    {
+        let is_there = self.mark.is_there(plan)?;
+        if is_there {
+            self.mark.keep()?;
+        }
+        Ok(is_there)
+    }
+
     // The mode that was noted for a file of a plan, where the file has this owner and has lost it.
     fn lost(&mut self, plan: &PlanMark, path: &[u8], owner: Owner) -> Result<Option<u32>, Trouble>
         ensures { self.new.log.calls ≡ self.old.log.calls }
@@ -318,32 +342,30 @@ impl<'w> Disk for Root<'w> {
     ghost calls = { λ root. root.log.calls };
 
     fn look(&mut self, path: &[u8]) -> Result<Option<Seen>, Trouble> {
-        let seen = if_there(self.below.see(path))?;
-        self.log.note(&Call::Looked(path, seen));
-        Ok(seen)
+        let told = if_there(self.below.see(path));
+        self.log.note(&match told {
+            Ok(seen) => Call::Looked(path, seen),
+            Err(trouble) => Call::NotSeen(path, trouble),
+        });
+        told
     }
 
     fn meet(&mut self, path: &[u8], after: Owner) -> Result<Option<Owner>, Trouble> {
-        let owner = match if_there(self.below.meet(path, after))? {
-            Some(found) => {
-                if found.owner != after {
-                    self.modes.meet(path, &found)?;
-                }
-                Some(found.owner)
-            }
-            None => None,
-        };
-        self.log.note(&Call::Met(path, owner));
-        Ok(owner)
+        let told = self.met(path, after);
+        self.log.note(&match told {
+            Ok(found) => Call::Met(path, found),
+            Err(trouble) => Call::NotSeen(path, trouble),
+        });
+        told
     }
 
     fn meet_mark(&mut self, plan: &PlanMark) -> Result<bool, Trouble> {
-        let is_there = self.mark.is_there(plan)?;
-        if is_there {
-            self.mark.keep()?;
-        }
-        self.log.note(&Call::MetMark(plan, is_there));
-        Ok(is_there)
+        let told = self.met_mark(plan);
+        self.log.note(&match told {
+            Ok(is_there) => Call::MetMark(plan, is_there),
+            Err(trouble) => Call::MarkNotSeen(plan, trouble),
+        });
+        told
     }
 
     fn check_links(&mut self, path: &[u8]) -> Result<(), Trouble> {
@@ -353,9 +375,12 @@ impl<'w> Disk for Root<'w> {
     }
 
     fn owner(&mut self, path: &[u8]) -> Result<Option<Owner>, Trouble> {
-        let found = if_there(self.below.owner(path))?;
-        self.log.note(&Call::Saw(path, found));
-        Ok(found)
+        let told = if_there(self.below.owner(path));
+        self.log.note(&match told {
+            Ok(found) => Call::Saw(path, found),
+            Err(trouble) => Call::NotSeen(path, trouble),
+        });
+        told
     }
 
     fn give(&mut self, path: &[u8], before: Owner, after: Owner) -> Result<Modes, Trouble> {
@@ -391,9 +416,12 @@ impl<'w> Disk for Root<'w> {
     }
 
     fn is_marked(&mut self, plan: &PlanMark) -> Result<bool, Trouble> {
-        let is_there = self.mark.is_there(plan)?;
-        self.log.note(&Call::SawMark(plan, is_there));
-        Ok(is_there)
+        let told = self.mark.is_there(plan);
+        self.log.note(&match told {
+            Ok(is_there) => Call::SawMark(plan, is_there),
+            Err(trouble) => Call::MarkNotSeen(plan, trouble),
+        });
+        told
     }
 
     fn put_mark(&mut self, plan: &PlanMark) -> Result<(), Trouble> {
@@ -415,9 +443,12 @@ impl<'w> Disk for Root<'w> {
         path: &[u8],
         owner: Owner,
     ) -> Result<Option<u32>, Trouble> {
-        let lost = self.lost(plan, path, owner)?;
-        self.log.note(&Call::LostMode(plan, path, owner, lost));
-        Ok(lost)
+        let told = self.lost(plan, path, owner);
+        self.log.note(&match told {
+            Ok(lost) => Call::LostMode(plan, path, owner, lost),
+            Err(trouble) => Call::NotSeen(path, trouble),
+        });
+        told
     }
 
     fn put_modes(&mut self, plan: &PlanMark) -> Result<(), Trouble> {

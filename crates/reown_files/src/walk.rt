@@ -256,7 +256,7 @@ pub fn go_to(rt: &HostRuntime, path: &str, wanted: &Found) -> Result<(), Trouble
 }
 
 /// Makes the directory of a name the working directory, if it is on this device. A link is refused:
-/// one that came behind the look is followed, to a directory alone, and then told and refused.
+/// one that came after the look is followed, to a directory alone, and then told and refused.
 pub fn go_below(rt: &HostRuntime, name: &[u8], device: u64) -> Result<(), Trouble> {
     let seen = find(rt, name)?;
     if seen.kind != Kind::Directory {

@@ -32,7 +32,7 @@ fn split_name(path: &[u8]) -> (&[u8], &[u8]) {
     }
 }
 
-// What a path has behind that of a directory on its way, without the slash between them.
+// What a path has after that of a directory on its way, without the slash between them.
 fn rest_below<'b>(path: &'b [u8], directory: &[u8]) -> Option<&'b [u8]> {
     if directory.is_empty() {
         return Some(path);

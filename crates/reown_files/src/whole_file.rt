@@ -7,7 +7,7 @@ use std::io::{Read, Write};
 use std::path::Path;
 use std::{fs, io};
 
-// What is behind its name while it is written.
+// What is after its name while it is written.
 const NEW: &str = ".new";
 
 // The bytes of a file that is there, or as many of them as this.
@@ -57,7 +57,7 @@ fn write(rt: &HostRuntime, new: &str, text: &[u8]) -> io::Result<()> {
     file.sync_all()
 }
 
-/// A path with more behind it.
+/// A path with more after it.
 pub fn path_with(rt: &HostRuntime, path: &str, behind: &str) -> Result<String, Trouble> {
     match format!(in rt.alloc(); "{path}{behind}") {
         Ok(path) => Ok(path),

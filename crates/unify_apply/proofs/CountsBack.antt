@@ -1,16 +1,18 @@
 -- What is counted is read back.
-use Rattle.std.proofs.Common.{◌≡◌, ℕ, ◌==◌, ◌<◌, ◌^◌, All, Bool, true, false, not, List, [], ◌∷◌, Option, Some, None, drop, length, decimal, refl, ap, ◌∙◌, arith, subst, inl, inr}
-use Rattle.std.specs.Prelude.{codes, flat_map}
+use Rattle.std.proofs.Common.{◌≡◌, ℕ, suc, ◌==◌, ◌<◌, ◌^◌, All, Bool, true, false, not, List, [], ◌∷◌, Some, None, drop, length, decimal, refl, ap, ◌∙◌, arith, subst, inl, inr}
+use Rattle.std.specs.Prelude.{codes, find, flat_map, option_map}
 use Rattle.std.specs.Char.{digit_value}
 use Rattle.std.specs.List.{filter_map, cons_option, join_with_byte, list_all}
+use Rattle.std.specs.Str.{bytes_eq}
 use Rattle.std.specs.Str.Parse.{AllDigits, IsNumeral}
 use Rattle.std.proofs.lemmas.Bool.{and_from, and_parts, eqb-true, not_from_false, or_cases}
 use Rattle.std.proofs.lemmas.Fmt.{decimal_is_IsNumeral}
-use Rattle.std.proofs.lemmas.List.Elements.{All-head, All-tail}
+use Rattle.std.proofs.lemmas.List.Elements.{All-from_recursion, All-head, All-tail}
 use Rattle.idtext.specs.Pieces.{lines}
 use Rattle.idtext.specs.Words.{is_filled, is_white, words}
-use Rattle.unify_apply.specs.Answers.{count_line, done_text}
-use Rattle.unify_apply.specs.Laws.{is_inside, is_word, row_of, rows_in}
+use Rattle.reown_files.specs.declared.counting.OwnerCounts.{OwnerCounts}
+use Rattle.unify_apply.specs.Answers.{count_line, counted, counts_text, done_text}
+use Rattle.unify_apply.specs.Laws.{AreOf64Bits, CountsAreReadBack, is_inside, is_word, number_told, row_of, rows_in}
 use Rattle.unify_apply.proofs.WrittenLines.{line-first, no_lines, words-joined}
 
 -- ---- a number is a word
@@ -56,7 +58,7 @@ number-word n small =
 abbrev row_words : List ℕ × ℕ → List (List ℕ)
 row_words row = row.0 ∷ decimal row.1 ∷ []
 
-pub rows-back : (rows : List (List ℕ × ℕ)) → list_all (λ row. is_word row.0) rows ≡ true
+rows-back : (rows : List (List ℕ × ℕ)) → list_all (λ row. is_word row.0) rows ≡ true
     → All (λ (row : List ℕ × ℕ). row.1 < 2 ^ 64) rows → rows_in (flat_map count_line rows) ≡ rows
 rows-back [] are small = ap (filter_map (λ line. row_of (words line))) no_lines
 rows-back (row ∷ rows) are small =
@@ -71,6 +73,41 @@ rows-back (row ∷ rows) are small =
     ∙ ap (λ ws. cons_option (row_of ws) (rows_in rest)) (words-joined (row_words row) both)
     ∙ ap (λ n. (row.0, n) ∷ rows_in rest) (decimal_is_IsNumeral row.1 fits).1
     ∙ ap (λ others. row ∷ others) (rows-back rows parts.1 (All-tail Fits row rows small))
+
+rows-count : (rows : List (List ℕ × ℕ)) → list_all (λ row. is_word row.0) rows ≡ true
+    → All (λ (row : List ℕ × ℕ). row.1 < 2 ^ 64) rows → length (lines (flat_map count_line rows)) ≡ length rows
+rows-count [] are small = ap length no_lines
+rows-count (row ∷ rows) are small =
+    let Fits : List ℕ × ℕ → Type 0 = λ r. r.1 < 2 ^ 64 in
+    let parts = and_parts (is_word row.0) (list_all (λ r. is_word r.0) rows) are in
+    let both : list_all is_word (row_words row) ≡ true =
+    and_from (is_word row.0) (list_all is_word (decimal row.1 ∷ [])) parts.0
+    (and_from (is_word (decimal row.1)) true (number-word row.1 (All-head Fits row rows small)) refl) in
+    ap length (line-first (row_words row) (flat_map count_line rows) both)
+    ∙ ap (λ n. suc n) (rows-count rows parts.1 (All-tail Fits row rows small))
+
+-- ---- what is counted
+
+module _ (counts : OwnerCounts) (mounts : ℕ) (are : AreOf64Bits counts) (few : mounts < 2 ^ 64) where
+  fit : All (λ (row : List ℕ × ℕ). row.1 < 2 ^ 64) (counted counts mounts)
+  fit = All-from_recursion (λ (row : List ℕ × ℕ). row.1 < 2 ^ 64) (counted counts mounts)
+      (are.before, (are.after, (are.missing, (are.foreign, (are.set_id, (are.linked, (few, tt)))))))
+
+  told : (word : List ℕ) → number_told word (counts_text counts mounts)
+      ≡ option_map (λ (row : List ℕ × ℕ). row.1) (find (λ row. bytes_eq row.0 word) (counted counts mounts))
+  told word = ap (λ (rows : List (List ℕ × ℕ)). option_map (λ (row : List ℕ × ℕ). row.1) (find (λ row. bytes_eq row.0 word) rows)) (rows-back (counted counts mounts) refl fit)
+
+pub counts-back : CountsAreReadBack
+counts-back counts mounts are few = record {
+  before = told counts mounts are few (codes "before");
+  after = told counts mounts are few (codes "after");
+  missing = told counts mounts are few (codes "missing");
+  foreign = told counts mounts are few (codes "foreign");
+  set_id = told counts mounts are few (codes "set-id");
+  linked = told counts mounts are few (codes "linked");
+  mounts = told counts mounts are few (codes "mounts");
+  seven = rows-count (counted counts mounts) refl (fit counts mounts are few);
+}
 
 -- ---- a plan that was carried out
 

@@ -1,3 +1,4 @@
+pub mod AskedBack
 pub mod CountsBack
 pub mod HostName
 pub mod MountsBack

@@ -1,6 +1,6 @@
 -- The numbers that a plan changes, and the processes that have them.
--- Source: proc(5), /proc/PID/status: behind the words `Uid:` and `Gid:` stand the real, the
--- effective, the saved and the file system number of a user and of a group, and behind `Groups:`
+-- Source: proc(5), /proc/PID/status: after the words `Uid:` and `Gid:` stand the real, the
+-- effective, the saved and the file system number of a user and of a group, and after `Groups:`
 -- the numbers of its other groups.
 use Rattle.std.specs.Prelude.{ℕ, ◌==◌, ◌&&◌, ◌||◌, Bool, false, List, [], ◌∷◌, not, codes}
 use Rattle.std.specs.List.{list_any}
@@ -27,7 +27,7 @@ is_changed_group records v = is_changed (λ owner. owner.gid) records v
 abbrev pub writes_changed : (ℕ → Bool) → List ℕ → Bool
 writes_changed changed word = option_map_or changed (id_of word) false
 
--- a line begins with this word, and a number behind it is changed
+-- a line begins with this word, and a number after it is changed
 abbrev pub has_changed : List ℕ → (ℕ → Bool) → List (List ℕ) → Bool
 has_changed head changed [] = false
 has_changed head changed (word ∷ more) =

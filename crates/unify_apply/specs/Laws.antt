@@ -4,7 +4,8 @@
 -- three octal digits.
 use Rattle.std.specs.Prelude.{◌≡◌, ℕ, ◌==◌, ◌||◌, ◌&&◌, ◌<◌, ◌≤◌, ◌^◌, Bool, true, false, not}
 use Rattle.std.specs.Prelude.{List, [], ◌∷◌, ◌++◌, map, flat_map, filter_map, length, codes, All}
-use Rattle.std.specs.Prelude.{drop, Option, Some, None, MatchOption, if◌then◌else◌}
+use Rattle.std.specs.Prelude.{drop, find, option_map, Option, Some, None, MatchOption}
+use Rattle.std.specs.Prelude.{if◌then◌else◌}
 use Rattle.std.specs.List.{join_with_byte, list_all, list_any}
 use Rattle.std.specs.Str.{bytes_eq}
 use Rattle.std.specs.Str.Parse.{digits_value}
@@ -12,7 +13,7 @@ use Rattle.idtext.specs.Escapes.{escape}
 use Rattle.idtext.specs.Pieces.{lines}
 use Rattle.idtext.specs.Words.{is_filled, is_white, words}
 use Rattle.reown_files.specs.declared.counting.OwnerCounts.{OwnerCounts}
-use Rattle.unify_apply.specs.Answers.{counted, counts_text, done_text}
+use Rattle.unify_apply.specs.Answers.{counts_text, done_text}
 use Rattle.unify_apply.specs.Mounts.{MountText, path_from, path_in, is_in, is_under, mount_of}
 use Rattle.unify_apply.specs.Mounts.{mounts_in, same_file_system, is_way, second_way}
 
@@ -78,7 +79,7 @@ MountsAreReadBack = (mounts : List MountLine) → list_all is_lawful mounts ≡ 
 -- ---- the mount that a directory is in
 
 -- It is one of the mounts, the directory is in it, it is as near as any other that the directory
--- is in, and nearer than those behind it.
+-- is in, and nearer than those after it.
 pub record IsNearest (mounts : List MountText) (directory : List ℕ) (mount : MountText)
     : Type 0 where
   pub before : List MountText
@@ -124,12 +125,38 @@ row_of _ = None
 abbrev pub rows_in : List ℕ → List (List ℕ × ℕ)
 rows_in text = filter_map (λ line. row_of (words line)) (lines text)
 
-abbrev pub CountsAreReadBack : Type 0
-CountsAreReadBack = (counts : OwnerCounts) (mounts : ℕ)
-    → All (λ (row : List ℕ × ℕ). row.1 < 2 ^ 64) (counted counts mounts)
-    → rows_in (counts_text counts mounts) ≡ counted counts mounts
+-- the number that stands after a word, in the first line of these two that begins with it
+abbrev pub number_told : List ℕ → List ℕ → Option ℕ
+number_told word text =
+    option_map (λ (row : List ℕ × ℕ). row.1) (find (λ row. bytes_eq row.0 word) (rows_in text))
 
--- behind the row of the records stands the line `done`, and no other
+-- each of seven words has its number after it, and there are seven lines; below: how many mounts
+-- there are below the files
+pub record TellsCounts (text : List ℕ) (counts : OwnerCounts) (below : ℕ) : Type 0 where
+  pub before : number_told (codes "before") text ≡ Some counts.before
+  pub after : number_told (codes "after") text ≡ Some counts.after
+  pub missing : number_told (codes "missing") text ≡ Some counts.missing
+  pub foreign : number_told (codes "foreign") text ≡ Some counts.foreign
+  pub set_id : number_told (codes "set-id") text ≡ Some counts.set_id
+  pub linked : number_told (codes "linked") text ≡ Some counts.linked
+  pub mounts : number_told (codes "mounts") text ≡ Some below
+  pub seven : length (lines text) ≡ 7
+
+-- numbers that a machine of 64 bits counts to
+pub record AreOf64Bits (counts : OwnerCounts) : Type 0 where
+  pub before : counts.before < 2 ^ 64
+  pub after : counts.after < 2 ^ 64
+  pub missing : counts.missing < 2 ^ 64
+  pub foreign : counts.foreign < 2 ^ 64
+  pub set_id : counts.set_id < 2 ^ 64
+  pub linked : counts.linked < 2 ^ 64
+
+-- the counts that are printed are read back, each after its word
+abbrev pub CountsAreReadBack : Type 0
+CountsAreReadBack = (counts : OwnerCounts) (mounts : ℕ) → AreOf64Bits counts → mounts < 2 ^ 64
+    → TellsCounts (counts_text counts mounts) counts mounts
+
+-- after the row of the records stands the line `done`, and no other
 abbrev pub DoneIsReadBack : Type 0
 DoneIsReadBack = (records : ℕ) → records < 2 ^ 64
     → (rows_in (done_text records) ≡ (codes "records", records) ∷ [])

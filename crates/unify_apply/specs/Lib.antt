@@ -1,4 +1,5 @@
 pub mod Answers
+pub mod AskedLaws
 pub mod Changing
 pub mod Ends
 pub mod Journal

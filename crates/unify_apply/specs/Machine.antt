@@ -3,7 +3,7 @@
 -- then the effective user. That a machine is a host too if its name begins with the host's and a
 -- dot, and that a word of the command may name a host that is called otherwise, are this project's
 -- own rules.
-use Rattle.std.specs.Prelude.{ℕ, Bool, false, ◌&&◌, ◌||◌, List, [], ◌∷◌, ◌++◌, Option, None, Some}
+use Rattle.std.specs.Prelude.{ℕ, Bool, false, ◌&&◌, ◌||◌, List, ◌∷◌, ◌++◌, Option, None, Some}
 use Rattle.std.specs.Prelude.{codes, if◌then◌else◌}
 use Rattle.std.specs.List.{list_any}
 use Rattle.std.specs.Str.{bytes_eq}
@@ -15,7 +15,7 @@ use Rattle.unify_apply.specs.declared.machine.HostFit.TheVariants.{Same, Named, 
 
 -- ---- its name
 
--- the name that a text tells: without the newline behind it
+-- the name that a text tells: without the newline after it
 abbrev pub name_in : List ℕ → List ℕ
 name_in text = without_end (codes "\n") text
 

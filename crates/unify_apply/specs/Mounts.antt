@@ -1,7 +1,7 @@
 -- The mounts that a process sees.
--- Source: proc(5), /proc/PID/mountinfo: a line for each mount, those mounted later behind the
+-- Source: proc(5), /proc/PID/mountinfo: a line for each mount, those mounted later after the
 -- others. Of a line the third word is the number of the file system, the fifth the path that it is
--- mounted at, with escapes, and the first behind the word `-`, before which some words may be left
+-- mounted at, with escapes, and the first after the word `-`, before which some words may be left
 -- out, what kind it is of.
 use Rattle.std.specs.Prelude.{ℕ, ◌==◌, ◌||◌, ◌&&◌, Bool, true, false, List, [], ◌∷◌, map}
 use Rattle.std.specs.Prelude.{Option, None, Some, option_map, codes, length, drop, Vec}
@@ -32,7 +32,7 @@ abbrev pub text_of : MountWords → MountText
 text_of words =
     record { device = words.device.now; point = words.point.now; kind = words.kind.now }
 
--- the first word behind `-`
+-- the first word after `-`
 abbrev pub kind_in : List (List ℕ) → Option (List ℕ)
 kind_in [] = None
 kind_in (word ∷ more) = if bytes_eq word (codes "-") then slice_get more 0 else kind_in more
@@ -74,7 +74,7 @@ mount_texts mounts = map mount_text mounts
 
 -- ---- paths
 
--- what is at the front of a path behind that of a directory: nothing, or a slash
+-- what is at the front of a path after that of a directory: nothing, or a slash
 abbrev pub is_rest : List ℕ → Bool
 is_rest [] = true
 is_rest (b ∷ more) = b == 47

@@ -5,12 +5,12 @@ use Rattle.reown_files.specs.declared.answers.Trouble.{Trouble}
 use Rattle.reown_files.specs.declared.answers.Trouble.TheVariants as trouble
 use Rattle.reown_plan.specs.declared.plan.Record.{Record}
 
--- the path of the mark: the one that is named, or that of the plan with `.done` behind it
+-- the path of the mark: the one that is named, or that of the plan with `.done` after it
 abbrev pub mark_at : Option (List ℕ) → List ℕ → List ℕ
 mark_at None plan = plan ++ codes ".done"
 mark_at (Some path) plan = path
 
--- the path of the record at a place; none has one behind the last
+-- the path of the record at a place; none has one after the last
 abbrev pub path_of_record : List Record → ℕ → List ℕ
 path_of_record records i = option_map_or (λ (r : Record). r.path.now) (slice_get records i) []
 

@@ -18,10 +18,10 @@ use std::alloc::{AllocError, Global};
 use unify_io::{FileFault, print_answer, read_file};
 use unify_texts::Fault;
 
-// What the mark's file has behind the name of the plan's.
+// What the mark's file has after the name of the plan's.
 const DONE: &str = ".done";
 
-/// The path of the mark: the one that is named, or else that of the plan with `.done` behind it. A
+/// The path of the mark: the one that is named, or else that of the plan with `.done` after it. A
 /// copy; `AllocError` where memory is refused.
 pub fn mark_path(alloc: Global, named: Option<&str>, plan: &str) -> Result<String, AllocError>
     ensures { IfOk result

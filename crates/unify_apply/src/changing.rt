@@ -70,7 +70,7 @@ fn write_one(mut words: Words<'_>, numbers: &HashSet<u32>) -> bool
     words.any(|word| writes_one(word, numbers))
 }
 
-// Whether a line begins with this word, and one of the numbers behind it is one of these.
+// Whether a line begins with this word, and one of the numbers after it is one of these.
 fn has_number(line: &[u8], head: &[u8], numbers: &HashSet<u32>) -> bool
     ensures { result ≡ has_changed head.now (contains nat_eq numbers.now) (words line.now) }
 {

@@ -4,13 +4,13 @@ use crate::answers::counts_text;
 use crate::mounts::count_mounts;
 use crate::progress::{Progress, Telling};
 use crate::staying::warn_of_staying;
-use crate::told::{Place, file_refused, foreign, missing, not_as_counted, root_refused};
-use reown_files::{Disk, OpenFault, OwnerCounts, Root, count_owners};
+use crate::told::{Place, file_refused, foreign, missing, root_refused};
+use reown_files::{Count, Disk, OpenFault, OwnerCounts, Root, Unfit, count_owners};
 use reown_plan::{Plan, Record};
 use std::io::{self, Write};
 use unify_io::{FileFault, write_failed};
 
-// Why an owner was not had.
+// Why a file was not counted.
 fn not_counted(rt: &HostRuntime, records: &[Record<'_>], fault: OpenFault) -> FileFault {
     match fault {
         OpenFault::File(i, trouble) => match records.get(i) {
@@ -21,26 +21,12 @@ fn not_counted(rt: &HostRuntime, records: &[Record<'_>], fault: OpenFault) -> Fi
     }
 }
 
-// Tells the first file that is not there, or has neither of its owners; or that none is so any
-// more.
-fn tell_first<D: Disk>(
-    rt: &HostRuntime,
-    disk: &mut D,
-    place: Place<'_>,
-    records: &[Record<'_>],
-) -> FileFault {
-    for (i, planned) in records.iter().enumerate() {
-        match disk.owner(planned.path) {
-            Ok(None) => return missing(rt, records, i),
-            Ok(Some(owner)) => {
-                if owner != planned.before && owner != planned.after {
-                    return foreign(rt, records, i);
-                }
-            }
-            Err(trouble) => return file_refused(rt, planned.path, trouble),
-        }
+// Tells a file with which no run could go on.
+fn unfit_told(rt: &HostRuntime, records: &[Record<'_>], unfit: Unfit) -> FileFault {
+    match unfit {
+        Unfit::Missing(i) => missing(rt, records, i),
+        Unfit::Foreign(i) => foreign(rt, records, i),
     }
-    not_as_counted(rt, place)
 }
 
 // Prints how many files there are by what is seen of them, and how many mounts.
@@ -58,11 +44,11 @@ fn count_files<D: Disk>(
     progress: Progress,
     disk: &mut D,
     records: &[Record<'_>],
-) -> Result<OwnerCounts, FileFault> {
+) -> Result<Count, FileFault> {
     let counted = count_owners(disk, records);
     progress.clear(rt);
     match counted {
-        Ok(counts) => Ok(counts),
+        Ok(count) => Ok(count),
         Err(fault) => Err(not_counted(rt, records, fault)),
     }
 }
@@ -82,13 +68,13 @@ pub fn check_below(
     };
     let mounts = count_mounts(rt, place.root, quiet)?;
     let mut disk = Telling::of(rt, progress, plan.records().len(), root);
-    let counts = count_files(rt, progress, &mut disk, plan.records())?;
-    print_counts(rt, counts, mounts)?;
+    let count = count_files(rt, progress, &mut disk, plan.records())?;
+    print_counts(rt, count.owners, mounts)?;
     if !quiet {
         warn_of_staying(rt, plan)?;
     }
-    if counts.missing == 0 && counts.foreign == 0 {
-        return Ok(0);
+    match count.first_unfit {
+        Some(unfit) => Err(unfit_told(rt, plan.records(), unfit)),
+        None => Ok(0),
     }
-    Err(tell_first(rt, &mut disk, place, plan.records()))
 }

@@ -1,6 +1,9 @@
 //! Laws over what this crate reads and prints. Each is the contract of a function that does
 //! nothing.
 
+ghost use Rattle.unify_apply.specs.AskedLaws.{ChangedGroupsMove, ChangedUsersMove, FitsTellTheHost};
+ghost use Rattle.unify_apply.specs.AskedLaws.{JournalIsANumber, OneJournalIsOfThree};
+ghost use Rattle.unify_apply.specs.AskedLaws.{ProcessesAreFound, RootIsEffective};
 ghost use Rattle.unify_apply.specs.Laws.{MountIsNearest, NoSecondWay, SystemPathIsReadBack};
 ghost use Rattle.unify_apply.specs.Laws.{MountsAreReadBack, CountsAreReadBack, DoneIsReadBack};
 
@@ -18,9 +21,37 @@ pub fn mounts_are_read_back()
     ensures mounts { MountsAreReadBack }
 {}
 
-/// What a count prints is read back: which words, and how many of each; and so is what tells that a
-/// plan was carried out: how many records it has, and the line `done`.
+/// What a count prints is read back: which number stands after each of the seven words; and so is
+/// what tells that a plan was carried out: how many records it has, and the line `done`.
 pub fn answers_are_read_back()
     ensures counts { CountsAreReadBack }
     ensures done { DoneIsReadBack }
+{}
+
+/// A directory may have one journal exactly where the mount that it is in is an ext3, an ext4 or an
+/// xfs; and a journal is told by the number of a process, and by no text with another byte.
+pub fn journals_are_told()
+    ensures kind { OneJournalIsOfThree }
+    ensures process { JournalIsANumber }
+{}
+
+/// A machine is the host of a plan exactly where its name is the host's, or begins with that and a
+/// dot, and no other host is named; it is named so exactly where its name is another and that host
+/// is named; and else it is another.
+pub fn machines_are_told()
+    ensures { FitsTellTheHost }
+{}
+
+/// A status is that of root exactly where a line `Uid:` of it has the effective user 0.
+pub fn root_is_told()
+    ensures { RootIsEffective }
+{}
+
+/// A number of a user or of a group is changed exactly where a record has it before and another
+/// after; and a process has one exactly where its status tells one after `Uid:` or, of a group,
+/// after `Gid:` or `Groups:`.
+pub fn processes_are_told()
+    ensures users { ChangedUsersMove }
+    ensures groups { ChangedGroupsMove }
+    ensures found { ProcessesAreFound }
 {}

@@ -63,11 +63,11 @@ fn other_host(rt: &HostRuntime, name: &[u8], host: &[u8]) -> FileFault {
 
 // Warns that the machine has another name than the host that it is to be.
 fn warn_of_name<'a>(rt: &HostRuntime, host: &'a [u8], machine: &'a [u8]) -> Result<(), AllocError> {
-    let middle = Part::Text("is to be this machine, whose name is");
+    let middle = Part::Text("is carried out on machine");
     warn(
         rt,
         &[
-            Part::Text("host"),
+            Part::Text("the plan of host"),
             Part::Name(host),
             middle,
             Part::Name(machine),

@@ -36,7 +36,7 @@ struct MountWords<'a> {
     device: &'a [u8],
     // The path, with escapes, the fifth.
     point: &'a [u8],
-    // The kind of file system, behind the word `-`, before which stand as many as there are.
+    // The kind of file system, after the word `-`, before which stand as many as there are.
     kind: &'a [u8],
 }
 
@@ -70,7 +70,7 @@ fn unescaped(alloc: Global, word: &[u8]) -> Result<Vec<u8>, AllocError>
     Ok(path)
 }
 
-// The first word behind the word `-`.
+// The first word after the word `-`.
 fn kind_behind<'a>(mut words: Words<'a>) -> Option<&'a [u8]>
     ensures { option_copied result ≡ kind_in words.entry }
 {

@@ -17,7 +17,7 @@ use unify_io::{FileFault, Part, Said, read_file, tell_of, warn};
 const MOUNTS: &str = "/proc/self/mountinfo";
 
 // What is said of a directory that has its own file system below it once more.
-const TWICE: &str = "its file system is mounted below it once more, at ";
+const TWICE: &str = "its file system is also mounted below it, at ";
 
 // Tells why a directory is not looked at, unless it was for want of memory, which is told later.
 fn root_failed(rt: &HostRuntime, root: &str, error: &io::Error) -> FileFault {

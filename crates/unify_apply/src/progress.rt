@@ -38,7 +38,7 @@ impl Step {
     }
 }
 
-// Whether it is told that a step was done with so many of the files: now and then, and behind the
+// Whether it is told that a step was done with so many of the files: now and then, and after the
 // last.
 fn is_told(done: usize, files: usize) -> bool
     ensures { result ≡ is_due done files }

@@ -13,7 +13,7 @@ use unify_io::{Part, warn};
 const PROCESSES: &str = "/proc";
 
 // What is said where processes were found.
-const GO_ON: &str = "as users or groups whose numbers change, the first of them";
+const GO_ON: &str = "that run as users or groups whose numbers change";
 
 // What is said of the rest.
 const BY_NUMBER: &str =
@@ -69,11 +69,11 @@ pub fn warn_of_staying(rt: &HostRuntime, plan: &Plan<'_>) -> Result<(), AllocErr
         warn(
             rt,
             &[
-                Part::Text("processes run"),
-                Part::Text(GO_ON),
+                Part::Text("process"),
                 Part::Count(found.first),
-                Part::Text("of"),
+                Part::Text("is the first of"),
                 Part::Count(found.count),
+                Part::Text(GO_ON),
             ],
         )?;
     }

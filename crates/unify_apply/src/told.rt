@@ -21,10 +21,10 @@ pub struct Place<'a> {
 }
 
 // What is said where a plan was begun that is not this one.
-const OTHER_PLAN: &str = "another plan was begun and has not ended; carry that one out to its end \
-    first (the reverse of a plan is another plan)";
+const OTHER_PLAN: &str = "another plan was started and is not finished; finish that one first \
+    (the reverse of a plan is another plan)";
 
-// What stands behind the reason of a stop.
+// What stands after the reason of a stop.
 const GOES_ON: &str = "; the same command goes on from there";
 
 /// Tells a fault that has a number.
@@ -81,20 +81,20 @@ fn said_of(trouble: Trouble) -> Said<'static> {
     Said::Text(match trouble {
         Trouble::System(number) => return Said::System(number),
         Trouble::Memory => "memory",
-        Trouble::BadPath => "a path that no inventory has, or too long",
+        Trouble::BadPath => "no inventory has such a path, or it is too long",
         Trouble::NotText => "a name that is not UTF-8",
-        Trouble::Gone => "not there, or behind a link",
-        Trouble::Foreign(_) => "another owner than the plan says",
-        Trouble::Exchanged => "another file came to its name",
+        Trouble::Gone => "does not exist, or is reached through a symbolic link",
+        Trouble::Foreign(_) => "its owner is not the one that the plan says",
+        Trouble::Exchanged => "another file took its place",
         Trouble::OtherMount => "on another file system than the root",
-        Trouble::LinkedElsewhere => "the file has a name that the plan does not have",
-        Trouble::LinkedOtherwise => "the plan has another owner for another name of the file",
-        Trouble::NotDone => "the system did not do what it was asked",
+        Trouble::LinkedElsewhere => "a hard link to the file is not in the plan",
+        Trouble::LinkedOtherwise => "the plan gives another hard link of the file another owner",
+        Trouble::NotDone => "the system call had no effect",
         Trouble::NotDirectory => "Not a directory",
         Trouble::Busy => "another command is at work there",
-        Trouble::NoProc => "files are reached by /proc, which is not there",
-        Trouble::NotMark => "no mark of a plan",
-        Trouble::NotModes => "cut, or no modes of a plan",
+        Trouble::NoProc => "/proc is not available",
+        Trouble::NotMark => "not the mark of a plan",
+        Trouble::NotModes => "truncated, or not the modes of a plan",
         Trouble::OtherPlan => OTHER_PLAN,
     })
 }
@@ -131,12 +131,6 @@ pub fn root_refused(rt: &HostRuntime, place: Place<'_>, trouble: Trouble) -> Fil
         return FileFault::Memory;
     }
     tell_of(rt, "root", place.root.as_bytes(), &[said_of(trouble)], 2)
-}
-
-/// Tells that the files that were counted as not there or foreign are so no more.
-pub fn not_as_counted(rt: &HostRuntime, place: Place<'_>) -> FileFault {
-    let said = Said::Text("files changed while they were counted");
-    tell_of(rt, "root", place.root.as_bytes(), &[said], 1)
 }
 
 // Tells what is wrong with the file of the modes beside a mark.

@@ -1,3 +1,6 @@
+use Rattle.std.proofs.Common.{sym, ap, subst}
+use Rattle.std.specs.Result.{is_ok}
+use Rattle.reown_files.specs.Failed.{Last, FailsToSettle}
 use Rattle.reown_files.proofs.Laws.{one_more_call}
 use Rattle.reown_files.proofs.giving.sync_all.Goals as goal
 
@@ -8,3 +11,6 @@ returns-in-Ok-clause-grows g c =
 pub returns-in-Err-clause-grows : goal.returns-in-Err-clause-grows
 returns-in-Err-clause-grows g c =
     one_more_call (g.D.Disk.calls c.args.disk.now) (g.D.Disk.calls c.keep_all.new.disk) (g.D.Disk.calls c.settle.new.self) _ c.keep_all.ensures.grows c.settle.ensures
+
+pub returns-in-Err-clause-stop : goal.returns-in-Err-clause-stop
+returns-in-Err-clause-stop g c = subst (Last FailsToSettle) (sym c.settle.ensures) (ap is_ok c.in-Err.is)

@@ -1,9 +1,12 @@
-use Rattle.std.proofs.Common.{◌≡◌, ◌∙◌, ◌∷◌, ◌<◌, map, length, sym, ap, subst, arith}
+use Rattle.std.proofs.Common.{◌≡◌, ◌∙◌, ◌∷◌, ◌<◌, get_or, map, length, refl, sym, ap, subst, arith}
+use Rattle.std.specs.Option.{option_map}
 use Rattle.std.specs.Result.{is_ok}
 use Rattle.std.proofs.lemmas.List.{get_or-map, length-map}
 use Rattle.reown_plan.specs.PlanData.{PlanRecord}
 use Rattle.reown_plan.specs.Records.{record_of}
+use Rattle.reown_runner.proofs.Lists.{slice_get-map, slice_get-read}
 use Rattle.reown_files.specs.Calls.{CheckedLinks}
+use Rattle.reown_files.specs.Failed.{Last, FailsOn}
 use Rattle.reown_files.specs.Lawful.{is_unchanged, is_lawful, no_mode_failed, were_read}
 use Rattle.reown_files.specs.Replay.{replay}
 use Rattle.reown_files.proofs.Laws.{nothing, checks_on}
@@ -24,3 +27,11 @@ loop-i-preserved g c =
       read = λ mark. ap (were_read mark) c.check_links.ensures ∙ c.loop-i.invariant.read mark;
       replayed = ap replay c.check_links.ensures ∙ c.loop-i.invariant.replayed;
     }
+
+pub returns-in-Err-clause-refused : goal.returns-in-Err-clause-refused
+returns-in-Err-clause-refused g c =
+    let rs = c.args.records.now in
+    let i = c.loop-i.i in
+    let below : i < length rs = omega arith in
+    let r = record_of (get_or rs i _) in
+    (r, slice_get-map record_of rs i ∙ ap (option_map record_of) (slice_get-read rs i _ below), subst (Last (FailsOn r.path)) (sym c.check_links.ensures) (refl, ap is_ok c.in-Err.is))

@@ -1,10 +1,11 @@
-use Rattle.std.proofs.Common.{◌≡◌, ℕ, Option, inr, ◌∙◌, ◌+◌, ◌<◌, List, [], ◌∷◌, Some, get_or, sym, ap, subst, arith, map, take, length}
+use Rattle.std.proofs.Common.{◌≡◌, ℕ, Option, inl, inr, ◌∙◌, ◌+◌, ◌<◌, List, [], ◌∷◌, Some, get_or, refl, sym, ap, subst, arith, map, take, length}
 use Rattle.std.proofs.lemmas.List.{length-append, get_or-map, get_or-take, length-map, length-take-le}
 use Rattle.reown_plan.specs.PlanData.{PlanRecord}
 use Rattle.reown_plan.specs.Records.{record_of}
 use Rattle.reown_plan.specs.declared.plan.Owner.{Owner}
 use Rattle.reown_runner.specs.Halfway.{IsHalfway}
 use Rattle.reown_files.specs.Calls.{Called, Met}
+use Rattle.reown_files.specs.Failed.{Last, FailsOn}
 use Rattle.std.specs.Option.{option_map}
 use Rattle.reown_runner.proofs.Lists.{slice_get-map, slice_get-read}
 use Rattle.reown_files.specs.Lawful.{is_unchanged, is_lawful, no_mode_failed, were_read}
@@ -64,3 +65,11 @@ returns-in-Err-check_left-clause-refused g c =
           let before : k < i = omega (arith, length-take-le i (map record_of rs) (omega (arith, length-map rs record_of))) in
           subst (λ (r : PlanRecord). IsHalfway r (get_or c.loop-i.owners.items k o) c.args.mark) (sym (get_or-take i (map record_of rs) k d before)) (c.loop-i.invariant.halfway k d o before);
     })
+
+pub returns-in-Err-meet-clause-refused : goal.returns-in-Err-meet-clause-refused
+returns-in-Err-meet-clause-refused g c =
+    let rs = c.args.records.now in
+    let i = c.loop-i.i in
+    let below : i < length rs = omega arith in
+    let r = record_of (get_or rs i _) in
+    inl (r, slice_get-map record_of rs i ∙ ap (option_map record_of) (slice_get-read rs i _ below), subst (Last (FailsOn r.path)) (sym c.in-Err-meet.ensures.failed) refl)

@@ -11,7 +11,7 @@ turned : (a b : List ℕ) → bytes_eq a b ≡ bytes_eq b a
 turned a b =
     same_test (bytes_eq a b) (bytes_eq b a) (λ e. (bytes_decides b a).1 (sym ((bytes_decides a b).0 e))) (λ e. (bytes_decides a b).1 (sym ((bytes_decides b a).0 e)))
 
--- what is asked behind the first words of the text
+-- what is asked after the first words of the text
 abbrev behind_text : List ℕ → List ℕ → Bool
 behind_text mark text =
     ends_with nat_eq (drop (length mark_head) mark) (10 ∷ []) && starts_with nat_eq (drop (length modes_head) text) (drop (length mark_head) mark)

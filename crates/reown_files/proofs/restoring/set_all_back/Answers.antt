@@ -1,7 +1,9 @@
-use Rattle.std.proofs.Common.{◌∙◌, ◌∷◌, ◌++◌, [], ◌<◌, map, take, length, ap, arith}
+use Rattle.std.proofs.Common.{◌∙◌, ◌∷◌, ◌++◌, [], ◌<◌, get_or, map, take, length, ap, arith}
 use Rattle.std.proofs.lemmas.List.{get_or-map, length-map, take_more}
+use Rattle.std.specs.Option.{option_map}
 use Rattle.reown_plan.specs.PlanData.{PlanRecord}
 use Rattle.reown_plan.specs.Records.{record_of}
+use Rattle.reown_runner.proofs.Lists.{slice_get-map, slice_get-read}
 use Rattle.reown_files.specs.Lawful.{all_asked}
 use Rattle.reown_files.proofs.Laws.{nothing, given_at}
 use Rattle.reown_files.proofs.restoring.set_all_back.Goals as goal
@@ -26,3 +28,9 @@ loop-i-preserved g c =
 pub returns-in-Err-clause-lawful : goal.returns-in-Err-clause-lawful
 returns-in-Err-clause-lawful g c =
     c.set_back.ensures.lawful (map record_of c.args.records.now) (given_at c.args.records.now c.loop-i.i _ c.loop-i-test.true) c.loop-i.invariant.read c.loop-i.invariant.unchanged c.loop-i.invariant.lawful
+
+pub returns-in-Err-clause-refused : goal.returns-in-Err-clause-refused
+returns-in-Err-clause-refused g c =
+    let rs = c.args.records.now in
+    let i = c.loop-i.i in
+    (record_of (get_or rs i _), slice_get-map record_of rs i ∙ ap (option_map record_of) (slice_get-read rs i _ c.loop-i-test.true), c.in-Err.ensures.failed)

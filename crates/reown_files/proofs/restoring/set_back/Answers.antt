@@ -1,8 +1,10 @@
-use Rattle.std.proofs.Common.{◌∙◌, ◌∷◌, ◌++◌, [], ℕ, List, Option, ap}
+use Rattle.std.proofs.Common.{◌∙◌, ◌∷◌, ◌++◌, [], ℕ, List, Option, refl, sym, ap, subst}
 use Rattle.std.specs.Result.{is_ok}
 use Rattle.reown_plan.specs.Records.{record_of}
 use Rattle.reown_files.specs.Calls.{Called, SetMode, Kept, LostMode}
+use Rattle.reown_files.specs.Failed.{Last, FailsOn}
 use Rattle.reown_files.specs.Lawful.{all_asked, is_lawful}
+use Rattle.reown_files.proofs.Failures.{failed_as}
 use Rattle.reown_files.proofs.Laws.{on_ok_any, one_more_asked, one_more_found, lawful_none, lawful_found}
 use Rattle.reown_files.proofs.restoring.set_back.Goals as goal
 
@@ -47,3 +49,11 @@ returns-in-Err-set_mode-clause-lawful g c = λ records given read unchanged h.
     let set = is_ok c.set_mode.result in
     let told = c.in-Ok.ensures.told ∙ ap (λ (m : Option ℕ). LostMode c.args.plan.now r.path r.after m ∷ old) c.in-Some.is in
     ap (is_lawful c.args.plan.now records) (c.set_mode.ensures ∙ ap (λ (cs : List Called). SetMode r.path r.after mode set ∷ cs) told) ∙ lawful_found c.args.plan.now records old read unchanged h r.path r.after given mode set
+
+pub returns-in-Ok-set_mode-clause-failed : goal.returns-in-Ok-set_mode-clause-failed
+returns-in-Ok-set_mode-clause-failed g c =
+    failed_as c.keep.result (λ e. subst (Last (FailsOn (record_of c.args.planned.now).path)) (sym c.keep.ensures) (refl, e))
+
+pub returns-in-Err-set_mode-clause-failed : goal.returns-in-Err-set_mode-clause-failed
+returns-in-Err-set_mode-clause-failed g c =
+    subst (Last (FailsOn (record_of c.args.planned.now).path)) (sym c.set_mode.ensures) (refl, ap is_ok c.in-Err-set_mode.is)

@@ -1,14 +1,22 @@
-use Rattle.std.proofs.Common.{◌∙◌, ◌∷◌, [], List, Option, map, ap, subst, refl}
-use Rattle.std.proofs.lemmas.Result.{on_ok_weaker}
+use Rattle.std.proofs.Common.{◌≡◌, ◌∙◌, ◌∷◌, inl, inr, ℕ, true, List, Option, map, ap, sym, subst, refl}
+use Rattle.std.proofs.lemmas.Result.{on_ok_weaker, on_err_weaker}
 use Rattle.reown_plan.specs.declared.plan.Owner.{Owner}
+use Rattle.reown_plan.specs.PlanData.{PlanRecord}
+use Rattle.reown_files.specs.declared.answers.Trouble.{Trouble}
 use Rattle.reown_plan.specs.Records.{record_of}
-use Rattle.reown_files.specs.Calls.{Called, Saw}
+use Rattle.reown_files.specs.Calls.{Called, Saw, NotSeen}
+use Rattle.reown_files.specs.Failed.{AskedLast, SeesOtherwise}
 use Rattle.reown_files.specs.Lawful.{is_lawful, is_begun, is_synced, no_mode_failed}
 use Rattle.reown_files.specs.Real.{RealData, Grows}
 use Rattle.reown_files.specs.Replay.{replay}
+use Rattle.reown_files.proofs.Failures.{failed_as, asked_once}
 use Rattle.reown_files.proofs.Laws.{synced_stays, one_call}
 use Rattle.reown_files.proofs.Replays.{same_replay}
 use Rattle.reown_files.proofs.real_tree.RealTree.compare_owner.Goals as goal
+
+-- what was kept stays so after a look that failed
+still_synced : (path : List ℕ) (trouble : Trouble) (old new : List Called) (records : List PlanRecord) → new ≡ NotSeen path trouble ∷ old → is_synced records old ≡ true → is_synced records new ≡ true
+still_synced path trouble old new records is h = ap (is_synced records) is ∙ synced_stays old (NotSeen path trouble ∷ old) (λ r e. e) refl records h
 
 pub invariant_of-self-2 : goal.invariant_of-self-2
 invariant_of-self-2 g c =
@@ -27,7 +35,7 @@ invariant_of-self-2 g c =
 pub returns-clause-saw : goal.returns-clause-saw
 returns-clause-saw g c =
     on_ok_weaker c.check_owner.result
-    (λ same. c.in_ok-found.ensures.saw ∙ ap (λ (found : Option Owner). Saw c.args.path.now found ∷ g.D.Disk.calls c.self.inside.disk) same ∙ ap (λ (r : RealData). Saw c.args.path.now c.args.held ∷ r.calls) c.self.view_is) c.check_owner.ensures
+    (λ same. c.in_ok-found.ensures.saw ∙ ap (λ (found : Option Owner). Saw c.args.path.now found ∷ g.D.Disk.calls c.self.inside.disk) same ∙ ap (λ (r : RealData). Saw c.args.path.now c.args.held ∷ r.calls) c.self.view_is) c.check_owner.ensures.same
 
 pub returns-clause-grows : goal.returns-clause-grows
 returns-clause-grows g c =
@@ -42,7 +50,7 @@ invariant_of-self g c =
     let is = c.in_err-found.ensures.failed in (
       c.self.invariant.0,
       ap (is_lawful c.self.inside.mark records) is ∙ c.self.invariant.1,
-      λ kept. ap (is_synced records) is ∙ c.self.invariant.2 kept,
+      λ kept. still_synced _ _ old new records is (c.self.invariant.2 kept),
       ap (is_begun records) is ∙ c.self.invariant.3,
       λ h. same_replay old new c.self.inside.held (ap replay is) (c.self.invariant.4 h),
       λ runs. ap no_mode_failed is ∙ c.self.invariant.5 runs,
@@ -51,4 +59,20 @@ invariant_of-self g c =
 pub returns-in_err-found-clause-grows : goal.returns-in_err-found-clause-grows
 returns-in_err-found-clause-grows g c =
     let new = g.D.Disk.calls c.owner.new.self in
-    subst (λ (old : List Called). Grows old new) (ap (λ (r : RealData). r.calls) c.self.view_is) ([], c.in_err-found.ensures.failed)
+    subst (λ (old : List Called). Grows old new) (ap (λ (r : RealData). r.calls) c.self.view_is) (one_call (g.D.Disk.calls c.self.inside.disk) new _ c.in_err-found.ensures.failed)
+
+pub returns-then-self-clause-failed : goal.returns-then-self-clause-failed
+returns-then-self-clause-failed g c = inl (sym (ap (λ (r : RealData). r.is_stopped) c.self.view_is) ∙ c.if-self.true)
+
+pub returns-in_err-found-clause-failed : goal.returns-in_err-found-clause-failed
+returns-in_err-found-clause-failed g c =
+    let new = g.D.Disk.calls c.owner.new.self in
+    failed_as c.from_residual.result (λ failed. inr (subst (λ (old : List Called). AskedLast (SeesOtherwise c.args.path.now c.args.held) old new) (ap (λ (r : RealData). r.calls) c.self.view_is)
+    (asked_once (SeesOtherwise c.args.path.now c.args.held) (g.D.Disk.calls c.self.inside.disk) new _ c.in_err-found.ensures.failed refl)))
+
+pub returns-clause-failed : goal.returns-clause-failed
+returns-clause-failed g c =
+    let new = g.D.Disk.calls c.owner.new.self in
+    on_err_weaker c.check_owner.result
+    (λ other. inr (subst (λ (old : List Called). AskedLast (SeesOtherwise c.args.path.now c.args.held) old new) (ap (λ (r : RealData). r.calls) c.self.view_is)
+    (asked_once (SeesOtherwise c.args.path.now c.args.held) (g.D.Disk.calls c.self.inside.disk) new _ c.in_ok-found.ensures.saw (refl, other)))) c.check_owner.ensures.other

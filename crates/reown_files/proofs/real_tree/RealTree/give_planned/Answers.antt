@@ -1,8 +1,10 @@
-use Rattle.std.proofs.Common.{◌≡◌, ◌∙◌, ap, true, false, cond, not, ◌&&◌, ◌||◌, map, Bool, List, Some, Result, Ok, Err, sym}
+use Rattle.std.proofs.Common.{◌≡◌, ◌∙◌, ap, true, false, cond, not, ◌&&◌, ◌||◌, map, Bool, List, Some, Result, Ok, Err, OnErr, sym, subst}
 use Rattle.std.specs.Result.{is_ok, is_err}
 use Rattle.reown_plan.specs.PlanData.{PlanRecord}
 use Rattle.reown_plan.specs.Records.{record_of}
 use Rattle.reown_runner.specs.Memory.{Mem}
+use Rattle.reown_files.specs.Calls.{Called}
+use Rattle.reown_files.specs.Failed.{AskedLast, FailsToGive}
 use Rattle.reown_files.specs.Real.{RealData}
 use Rattle.reown_files.specs.Lawful.{is_planned, no_mode_failed}
 use Rattle.reown_files.specs.Replay.{replay, with_owner}
@@ -50,3 +52,13 @@ invariant_of-self-else-change g c =
           c.give_file-change.ensures.mode ∙ ap (λ (b : Bool). (not b || is_ok c.give_file-change.result.told) && no_mode_failed old) c.if-change.false
           ∙ c.self.invariant.5 runs,
     )
+
+pub returns-then-change-clause-why : goal.returns-then-change-clause-why
+returns-then-change-clause-why g c =
+    let new = g.D.Disk.calls c.give_file-change.new.disk in
+    subst (λ (old : List Called). OnErr c.give_file-change.result.told (AskedLast (FailsToGive c.args.path.now c.args.after) old new)) (ap (λ (r : RealData). r.calls) c.self.view_is) c.give_file-change.ensures.failed
+
+pub returns-else-change-clause-why : goal.returns-else-change-clause-why
+returns-else-change-clause-why g c =
+    let new = g.D.Disk.calls c.give_file-change.new.disk in
+    subst (λ (old : List Called). OnErr c.give_file-change.result.told (AskedLast (FailsToGive c.args.path.now c.args.after) old new)) (ap (λ (r : RealData). r.calls) c.self.view_is) c.give_file-change.ensures.failed

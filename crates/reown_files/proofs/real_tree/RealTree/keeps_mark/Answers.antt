@@ -2,6 +2,7 @@ use Rattle.std.proofs.Common.{◌∙◌, ◌∷◌, List, map, ap, sym, subst, r
 use Rattle.std.specs.Result.{is_ok}
 use Rattle.reown_plan.specs.Records.{record_of}
 use Rattle.reown_files.specs.Calls.{Called, KeptMark}
+use Rattle.reown_files.specs.Failed.{Last, FailsToSettle}
 use Rattle.reown_files.specs.Lawful.{is_lawful, is_begun, is_synced, no_mode_failed}
 use Rattle.reown_files.specs.Real.{RealData, Grows}
 use Rattle.reown_files.specs.Replay.{replay}
@@ -29,3 +30,8 @@ returns-clause-grows g c =
     let new = g.D.Disk.calls c.keep_mark-told.new.self in
     subst (λ (after : List Called). Grows c.args.self.now.calls after) (sym (ap calls c.note.ensures.rest))
     (subst (λ (old : List Called). Grows old new) (ap calls c.self.view_is) (one_call (g.D.Disk.calls c.self.inside.disk) new _ c.keep_mark-told.ensures))
+
+pub returns-clause-failed : goal.returns-clause-failed
+returns-clause-failed g c = λ e.
+    subst (λ (r : RealData). Last FailsToSettle r.calls) (sym c.note.ensures.rest)
+    (subst (Last FailsToSettle) (sym c.keep_mark-told.ensures) (sym c.note.ensures.told ∙ e))

@@ -1,12 +1,14 @@
-use Rattle.std.proofs.Common.{◌≡◌, ◌∙◌, List, ap, sym, subst, map, true}
+use Rattle.std.proofs.Common.{◌≡◌, ◌∙◌, inl, inr, refl, List, ap, sym, subst, map, true}
 use Rattle.reown_plan.specs.Mark.{mark_eq}
 use Rattle.reown_files.specs.Calls.{Called}
+use Rattle.reown_files.specs.Failed.{AskedLast, FailsToPut}
 use Rattle.reown_files.specs.Real.{RealData, Grows}
 use Rattle.std.specs.Result.{is_ok}
 use Rattle.reown_plan.specs.Records.{record_of}
 use Rattle.reown_files.specs.Lawful.{is_lawful, is_begun, is_synced, no_mode_failed}
 use Rattle.reown_runner.specs.Memory.{Mem}
 use Rattle.reown_files.specs.Replay.{replay}
+use Rattle.reown_files.proofs.Failures.{asked_once}
 use Rattle.reown_files.proofs.Laws.{lawful_mark, synced_behind_mark, one_call}
 use Rattle.reown_files.proofs.Replays.{marked_replay, same_replay}
 use Rattle.reown_files.proofs.real_tree.RealTree.put_mark.Goals as goal
@@ -48,3 +50,18 @@ pub returns-in-Err-clause-grows : goal.returns-in-Err-clause-grows
 returns-in-Err-clause-grows g c =
     let new = g.D.Disk.calls c.put_mark.new.self in
     subst (λ (old : List Called). Grows old new) (ap (λ (r : RealData). r.calls) c.self.view_is) (one_call (g.D.Disk.calls c.self.inside.disk) new _ c.put_mark.ensures)
+
+pub returns-then-self-clause-why : goal.returns-then-self-clause-why
+returns-then-self-clause-why g c = inr (inr (inl (sym (ap (λ (r : RealData). r.is_stopped) c.self.view_is) ∙ c.if-self.true)))
+
+pub returns-then-not-self-clause-why : goal.returns-then-not-self-clause-why
+returns-then-not-self-clause-why g c = inr (inl (sym (ap (λ (r : RealData). r.is_kept) c.self.view_is) ∙ c.if-not-self.true))
+
+pub returns-then-not-is_own-clause-why : goal.returns-then-not-is_own-clause-why
+returns-then-not-is_own-clause-why g c = inl (sym c.is_own.ensures ∙ c.if-not-is_own.true)
+
+pub returns-in-Err-clause-why : goal.returns-in-Err-clause-why
+returns-in-Err-clause-why g c =
+    let new = g.D.Disk.calls c.put_mark.new.self in
+    inr (inr (inr (subst (λ (old : List Called). AskedLast (FailsToPut c.args.plan.now) old new) (ap (λ (r : RealData). r.calls) c.self.view_is)
+    (asked_once (FailsToPut c.args.plan.now) (g.D.Disk.calls c.self.inside.disk) new _ c.put_mark.ensures (refl, ap is_ok c.in-Err.is)))))

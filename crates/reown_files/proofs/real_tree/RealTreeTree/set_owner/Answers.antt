@@ -1,7 +1,7 @@
 use Rattle.std.proofs.Common.{◌∙◌, sym, ap, subst, IsSome}
 use Rattle.reown_runner.specs.Tree.{ForEachPlan, Writes, MayDo, Write, cells_of}
 use Rattle.reown_runner.specs.Memory.{Mem, known_mem}
-use Rattle.reown_files.specs.Real.{RealData}
+use Rattle.reown_files.specs.Real.{RealData, IsNotGiven}
 use Rattle.reown_files.proofs.Replays.{still_there, writes_after}
 use Rattle.reown_files.proofs.real_tree.RealTreeTree.set_owner.Goals as goal
 
@@ -32,3 +32,8 @@ returns-clause-done g c = λ plan.
     let before = ap tree c.held_owner-held.ensures.untouched ∙ ap tree c.count.ensures in
     subst (λ (m : Mem). Writes c.args.path.now c.args.owner (cells_of plan (known_mem m)) (cells_of plan (known_mem c.write.new.self.tree))) before
     (writes_after c.args.path.now c.args.owner (cells_of plan (known_mem c.held_owner-held.new.self.tree)) (cells_of plan (known_mem c.gives.new.self.tree)) (cells_of plan (known_mem c.write.new.self.tree)) (c.gives.ensures.failed c.if-gives.false plan) (c.write.ensures.done plan))
+
+pub returns-then-may_fail-clause-why : goal.returns-then-may_fail-clause-why
+returns-then-may_fail-clause-why g c =
+    subst (IsNotGiven c.args.path.now c.args.owner c.args.self.now) (sym c.fail.ensures)
+    (subst (λ (r : RealData). IsNotGiven c.args.path.now c.args.owner r c.gives.new.self) (c.held_owner-held.ensures.untouched ∙ c.count.ensures) (c.gives.ensures.why c.if-gives.false))

@@ -1,0 +1,5 @@
+use Rattle.unify_apply.proofs.AskedBack.{journal-told, one-journal}
+use Rattle.unify_apply.proofs.laws.journals_are_told.Goals as goal
+
+pub returns : goal.returns
+returns c = record { kind = one-journal; process = journal-told }
