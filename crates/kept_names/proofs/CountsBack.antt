@@ -1,18 +1,19 @@
 -- The counts that are printed are read back.
 use Rattle.std.proofs.Common.{◌≡◌, ℕ, ◌==◌, ◌<◌, ◌≤◌, ◌^◌, Bool, true, false, not, List, [], ◌∷◌, ◌++◌, decimal, Some, None, refl, ap, ◌∙◌, arith, subst, append_assoc}
-use Rattle.std.specs.Prelude.{flat_map, option_map, filter_map}
+use Rattle.std.specs.Prelude.{codes, find, flat_map, length, map, option_map, filter_map}
 use Rattle.std.specs.Char.{digit_value}
 use Rattle.std.specs.List.{All, cons_option, list_all}
+use Rattle.std.specs.Str.{bytes_eq}
 use Rattle.std.specs.Str.Parse.{AllDigits, digits_value}
 use Rattle.std.proofs.lemmas.Bool.{and_parts, eqb-true, not-true}
 use Rattle.std.proofs.lemmas.Fmt.{decimal_is_IsNumeral}
-use Rattle.std.proofs.lemmas.List.Elements.{All-append, All-cons, All-head, All-nil, All-tail}
+use Rattle.std.proofs.lemmas.List.Elements.{All-append, All-cons, All-from_recursion, All-head, All-nil, All-tail}
 use Rattle.std.proofs.lemmas.List.Splits.{slice_split_at}
 use Rattle.idtext.specs.Pieces.{lines, pieces}
 use Rattle.idtext.specs.Spaces.{cut_at_last_space}
 use Rattle.idtext.proofs.PieceLemmas.{lines-cut, lines-empty}
-use Rattle.kept_names.specs.Telling.{count_line, counted}
-use Rattle.kept_names.specs.TellingLaws.{CountsAreReadBack, row_of, rows_in}
+use Rattle.kept_names.specs.Telling.{Counts, count_line, counted, counts_text}
+use Rattle.kept_names.specs.TellingLaws.{AreOf64Bits, CountsAreReadBack, number_told, row_of}
 
 -- ---- digits
 
@@ -62,19 +63,45 @@ Row = List ℕ × ℕ
 abbrev Fits : Row → Type 0
 Fits row = row.1 < 2 ^ 64
 
-rows-back : (rows : List Row) → list_all (λ row. list_all (λ b. not (b == 10)) row.0) rows ≡ true → All Fits rows → rows_in (flat_map count_line rows) ≡ rows
-rows-back [] words small = ap (filter_map row_of) lines-empty
-rows-back (row ∷ rows) words small =
-    let parts = and_parts (list_all (λ b. not (b == 10)) row.0) (list_all (λ r. list_all (λ b. not (b == 10)) r.0) rows) words in
+-- a line without its newline
+abbrev bare : Row → List ℕ
+bare row = row.0 ++ 32 ∷ decimal row.1
+
+rows-lines : (rows : List Row) → list_all (λ (row : Row). list_all (λ b. not (b == 10)) row.0) rows ≡ true → All Fits rows → lines (flat_map count_line rows) ≡ map bare rows
+rows-lines [] words small = lines-empty
+rows-lines (row ∷ rows) words small =
+    let parts = and_parts (list_all (λ b. not (b == 10)) row.0) (list_all (λ (r : Row). list_all (λ b. not (b == 10)) r.0) rows) words in
     let is = decimal_is_IsNumeral row.1 (All-head Fits row rows small) in
-    let digits : AllDigits 10 (decimal row.1) = is.0.1 in
-    let line : List ℕ = row.0 ++ 32 ∷ decimal row.1 in
     let rest : List ℕ = flat_map count_line rows in
-    let none : All IsNoEnd line = All-append IsNoEnd row.0 (32 ∷ decimal row.1) (word-end row.0 parts.0) (All-cons IsNoEnd 32 (decimal row.1) refl (digits-end (decimal row.1) digits)) in
-    ap (filter_map row_of) (ap lines (append_assoc line (10 ∷ []) rest) ∙ line-first line rest none)
-    ∙ ap (λ cut. cons_option (option_map (λ (p : List ℕ × List ℕ). (p.0, digits_value 10 p.1)) cut) (rows_in rest)) (word-space row.0 (decimal row.1) digits)
-    ∙ ap (λ n. (row.0, n) ∷ rows_in rest) is.1
-    ∙ ap (λ others. row ∷ others) (rows-back rows parts.1 (All-tail Fits row rows small))
+    let none : All IsNoEnd (bare row) = All-append IsNoEnd row.0 (32 ∷ decimal row.1) (word-end row.0 parts.0) (All-cons IsNoEnd 32 (decimal row.1) refl (digits-end (decimal row.1) is.0.1)) in
+    ap lines (append_assoc (bare row) (10 ∷ []) rest) ∙ line-first (bare row) rest none
+    ∙ ap (λ others. bare row ∷ others) (rows-lines rows parts.1 (All-tail Fits row rows small))
+
+rows-said : (rows : List Row) → All Fits rows → filter_map row_of (map bare rows) ≡ rows
+rows-said [] small = refl
+rows-said (row ∷ rows) small =
+    let is = decimal_is_IsNumeral row.1 (All-head Fits row rows small) in
+    ap (λ cut. cons_option (option_map (λ (p : List ℕ × List ℕ). (p.0, digits_value 10 p.1)) cut) (filter_map row_of (map bare rows))) (word-space row.0 (decimal row.1) is.0.1)
+    ∙ ap (λ n. (row.0, n) ∷ filter_map row_of (map bare rows)) is.1
+    ∙ ap (λ others. row ∷ others) (rows-said rows (All-tail Fits row rows small))
+
+module _ (counts : Counts) (are : AreOf64Bits counts) where
+  fit : All Fits (counted counts)
+  fit = All-from_recursion Fits (counted counts) (are.kept, (are.missing, (are.changed, (are.new, (are.unnamed, (are.left, tt))))))
+
+  lines-are : lines (counts_text counts) ≡ map bare (counted counts)
+  lines-are = rows-lines (counted counts) refl fit
+
+  told : (word : List ℕ) → number_told word (counts_text counts) ≡ option_map (λ (row : Row). row.1) (find (λ row. bytes_eq row.0 word) (counted counts))
+  told word = ap (λ (rows : List Row). option_map (λ (row : Row). row.1) (find (λ row. bytes_eq row.0 word) rows)) (ap (filter_map row_of) lines-are ∙ rows-said (counted counts) fit)
 
 pub counts-back : CountsAreReadBack
-counts-back counts small = rows-back (counted counts) refl small
+counts-back counts are = record {
+  kept = told counts are (codes "kept");
+  missing = told counts are (codes "missing");
+  changed = told counts are (codes "changed");
+  new = told counts are (codes "new");
+  unnamed = told counts are (codes "unnamed");
+  left = told counts are (codes "left");
+  six = ap length (lines-are counts are);
+}

@@ -3,7 +3,10 @@ pub mod AllTold
 pub mod CountsBack
 pub mod Finds
 pub mod InOrder
+pub mod LineWords
+pub mod LinesBack
 pub mod Lost
 pub mod Noted
 pub mod Tallies
+pub mod Tellable
 pub mod Told

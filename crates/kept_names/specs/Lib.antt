@@ -4,3 +4,4 @@ pub mod Laws
 pub mod Telling
 pub mod Tally
 pub mod TellingLaws
+pub mod LinesBack

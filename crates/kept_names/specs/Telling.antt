@@ -106,7 +106,7 @@ numbers_text file uid gid =
     (if uid then codes " uid " ++ decimal file.uid else [])
     ++ (if gid then codes " gid " ++ decimal file.gid else [])
 
--- what a line says of a file behind its path
+-- what a line says of a file after its path
 abbrev pub details : Accounts → Accounts → Entry → What → List ℕ
 details was now file Missing = []
 details was now file (Changed uid gid) =

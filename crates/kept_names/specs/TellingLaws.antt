@@ -1,7 +1,8 @@
 -- What the counts, the lines and the exit status of `verify` mean.
 -- Source: this project's own rule and format; chown(2) for what an owner is.
-use Rattle.std.specs.Prelude.{◌≡◌, ◌≢◌, ◌↔◌, ℕ, ◌+◌, ◌<◌, ◌≤◌, ◌^◌, List}
-use Rattle.std.specs.Prelude.{length, Option, None, All, filter_map, flat_map, option_map}
+use Rattle.std.specs.Prelude.{◌≡◌, ◌≢◌, ◌↔◌, ℕ, ◌+◌, ◌<◌, ◌≤◌, ◌^◌, List, codes, find}
+use Rattle.std.specs.Prelude.{length, Option, None, Some, All, filter_map, flat_map, option_map}
+use Rattle.std.specs.Str.{bytes_eq}
 use Rattle.std.specs.Str.Parse.{digits_value}
 use Rattle.hosts_join.specs.Kinds.{user_at, group_at}
 use Rattle.idtext.specs.Pieces.{lines}
@@ -10,24 +11,46 @@ use Rattle.mtree_inv.specs.declared.entry.Entry.{Entry}
 use Rattle.mtree_inv.specs.Files.{HaveDistinctFiles}
 use Rattle.kept_names.specs.Kept.{Found, findings}
 use Rattle.kept_names.specs.Laws.{HasNoFileAt, IsKept, IsLeft}
-use Rattle.kept_names.specs.Telling.{Counts, counted, counts_of, counts_text, found_text}
+use Rattle.kept_names.specs.Telling.{Counts, counts_of, counts_text, found_text}
 use Rattle.kept_names.specs.Telling.{line_of, status_of}
 use Rattle.kept_names.specs.declared.names.Accounts.{Accounts}
 
 -- ---- the counts
 
--- of a line what stands before its last space, and the number behind it
+-- of a line what stands before its last space, and the number after it
 abbrev pub row_of : List ℕ → Option (List ℕ × ℕ)
 row_of line = option_map (λ parts. (parts.0, digits_value 10 parts.1)) (cut_at_last_space line)
 
 abbrev pub rows_in : List ℕ → List (List ℕ × ℕ)
 rows_in text = filter_map row_of (lines text)
 
--- the counts that are printed are read back, each with its word
+-- the number that stands after a word, in the first line that begins with it
+abbrev pub number_told : List ℕ → List ℕ → Option ℕ
+number_told word text =
+    option_map (λ (row : List ℕ × ℕ). row.1) (find (λ row. bytes_eq row.0 word) (rows_in text))
+
+-- each of six words has its number after it, and there are six lines
+pub record TellsCounts (text : List ℕ) (counts : Counts) : Type 0 where
+  pub kept : number_told (codes "kept") text ≡ Some counts.kept
+  pub missing : number_told (codes "missing") text ≡ Some counts.missing
+  pub changed : number_told (codes "changed") text ≡ Some counts.changed
+  pub new : number_told (codes "new") text ≡ Some counts.new
+  pub unnamed : number_told (codes "unnamed") text ≡ Some counts.unnamed
+  pub left : number_told (codes "left") text ≡ Some counts.left
+  pub six : length (lines text) ≡ 6
+
+-- numbers that a machine of 64 bits counts to
+pub record AreOf64Bits (counts : Counts) : Type 0 where
+  pub kept : counts.kept < 2 ^ 64
+  pub missing : counts.missing < 2 ^ 64
+  pub changed : counts.changed < 2 ^ 64
+  pub new : counts.new < 2 ^ 64
+  pub unnamed : counts.unnamed < 2 ^ 64
+  pub left : counts.left < 2 ^ 64
+
+-- the counts that are printed are read back, each after its word
 abbrev pub CountsAreReadBack : Type 0
-CountsAreReadBack = (counts : Counts)
-    → All (λ (row : List ℕ × ℕ). row.1 < 2 ^ 64) (counted counts)
-    → rows_in (counts_text counts) ≡ counted counts
+CountsAreReadBack = (counts : Counts) → AreOf64Bits counts → TellsCounts (counts_text counts) counts
 
 -- each file of the first inventory is kept, missing or changed
 abbrev pub CountsAddUp : Type 0

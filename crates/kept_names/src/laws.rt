@@ -1,6 +1,8 @@
 //! What the findings mean. Each call does nothing: its contract is the law.
 ghost use Rattle.kept_names.specs.Laws.{ChangedAreTold, LeftAreTold, MissingAreTold, NewAreTold};
 ghost use Rattle.kept_names.specs.Laws.{NothingLostIsKept, UnnamedAreTold};
+ghost use Rattle.kept_names.specs.LinesBack.{FindingsAreTellable, LinesAreReadBack};
+ghost use Rattle.kept_names.specs.LinesBack.{TablesAreTellable};
 ghost use Rattle.kept_names.specs.TellingLaws.{AllAreTold, CountsAddUp, CountsAreReadBack};
 ghost use Rattle.kept_names.specs.TellingLaws.{StatusTellsOrder};
 
@@ -61,7 +63,17 @@ pub fn counts_add_up()
     ensures { CountsAddUp }
 {}
 
-/// The text of any counts is read back: which words, and how many of each.
+/// The text of any counts is read back: which number stands after each of the six words.
 pub fn counts_are_read_back()
     ensures { CountsAreReadBack }
+{}
+
+/// The line of any finding is read back, where names are lawful and numbers are those of accounts:
+/// its kind, its path, and the names and the numbers that it tells, the earlier before the later.
+/// So it is with the names of accepted account files, and with what is found of lawful files, where
+/// their paths are of bytes.
+pub fn lines_are_read_back()
+    ensures back { LinesAreReadBack }
+    ensures names { TablesAreTellable }
+    ensures found { FindingsAreTellable }
 {}

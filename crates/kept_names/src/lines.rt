@@ -62,7 +62,7 @@ fn push_owners(
     Ok(())
 }
 
-// Appends the user that a file had, with the new one behind it, where it has another number now,
+// Appends the user that a file had, with the new one after it, where it has another number now,
 // which is given.
 fn push_user_change(
     line: &mut Vec<u8>,
@@ -116,7 +116,7 @@ fn push_numbers(line: &mut Vec<u8>, file: &Entry, uid: bool, gid: bool) -> Resul
     Ok(())
 }
 
-// Appends what a line says of a file behind its path.
+// Appends what a line says of a file after its path.
 fn push_details(
     line: &mut Vec<u8>,
     was: &Accounts<'_>,

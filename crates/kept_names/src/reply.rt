@@ -121,7 +121,7 @@ fn status_of(found: &[Finding<'_>]) -> u8
 /// What `verify` tells of the files of two inventories, of which the first was made under the
 /// account files `was` and the second under `now`: on standard output how many there are, and on
 /// standard error the lines of the first `most` of each kind, in the order of [`find_changes`],
-/// and behind all of them how many more there are of each kind.
+/// and after all of them how many more there are of each kind.
 ///
 /// It takes what [`find_changes`] takes, and what it tells.
 ///
