@@ -30,7 +30,6 @@ use crate::solver::Solver;
 use candidates::Rows;
 use ownership::Mapping;
 use std::alloc::{AllocError, Global};
-use thiserror::Error;
 
 /// A mapping of the greatest weight, and potentials that certify it. Potentials are in the unit of
 /// the rows' weights.
@@ -42,19 +41,6 @@ pub struct Solution {
     pub y: Vec<u64>,
     /// The numbers whose potential is not 0, ascending, each with its potential.
     pub z: Vec<(u32, u64)>,
-}
-
-/// Why there is no solution.
-#[derive(Debug, Drop, Error)]
-pub enum SolveFault {
-    #[error("out of memory")]
-    Memory,
-}
-
-impl From<AllocError> for SolveFault {
-    fn from(_: AllocError) -> Self {
-        SolveFault::Memory
-    }
 }
 
 /// The mapping that leaves the most weight as it is, with potentials that certify it. Names that
@@ -75,7 +61,7 @@ impl From<AllocError> for SolveFault {
 /// some 110 a name, 60 a number, and half a megabyte in which numbers below 65,536 are looked up,
 /// beside what its lists have to spare; then a name takes 24 bytes and a number that was given some
 /// 80, beside one search's names and candidates and the memory of the fill.
-pub fn solve(alloc: Global, rows: &Rows<'_, '_>) -> Result<Solution, SolveFault>
+pub fn solve(alloc: Global, rows: &Rows<'_, '_>) -> Result<Solution, AllocError>
     ensures admissible { IfOk result (λ s. IsAdmissible rows.now.accounts s.mapping) }
     ensures proves { IfOk result (λ s. Proves rows.now s.mapping s.y.items s.z.items) }
     ensures filled { IfOk result

@@ -8,7 +8,7 @@ use std::time::{SystemTime, UNIX_EPOCH};
 const SECOND: i128 = 1_000_000_000;
 
 // The time that the system tells in UTC, without the fraction of its second. None where it tells
-// none, or one behind the year 9999.
+// none, or one after the year 9999.
 fn utc_now(rt: &HostRuntime) -> Option<DateTime> {
     let Ok(now) = SystemTime::now(rt) else {
         return None;

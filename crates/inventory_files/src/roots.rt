@@ -72,7 +72,7 @@ fn see_apart(
     Ok(())
 }
 
-// The root that a word names, behind these.
+// The root that a word names, after these.
 fn root_of<'w>(
     rt: &HostRuntime,
     roots: &[NamedRoot<'w>],

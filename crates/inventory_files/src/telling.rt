@@ -39,13 +39,13 @@ fn said_of(trouble: Trouble) -> Said<'static> {
     Said::Text(match trouble {
         Trouble::System(error) => match error.raw_os_error() {
             Some(number) => return Said::System(number),
-            None => "it cannot be had",
+            None => "it cannot be read",
         },
         Trouble::NotText => "a name in it is not UTF-8",
         Trouble::NotDirectory => "not a directory",
         Trouble::Exchanged => "exchanged while it was opened",
         Trouble::TooLong => "the path is too long",
-        Trouble::NoOwner => "no number of an owner",
+        Trouble::NoOwner => "its owner is not one that an account may have",
     })
 }
 

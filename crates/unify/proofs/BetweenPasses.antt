@@ -122,7 +122,7 @@ whole_of p joined counted inv whole over made are =
 
 -- ---- the second pass
 
--- behind a first pass of which no host is left
+-- after a first pass of which no host is left
 abbrev pub solved_pass : Pass → Joined → Merged → PlanTurn → second.Pass
 solved_pass p joined merged turn = record { hosts = p.hosts; joined = joined; passed = p.passed; merged = merged; ended = 0; turn = turn; first = p.taken.ended; taken = nothing }
 

@@ -47,12 +47,12 @@ module _ (files : List Entry) (records : List PlanRecord) where
   pub same_fault : first_fault (record_fault planned) [] records ≡ first_fault (record_fault files) [] records
   same_fault = faults_from records [] same_at
 
--- what is refused whatever comes behind it is refused as it is
+-- what is refused whatever comes after it is refused as it is
 pub refused_whole : (plan : PlanData) (text : List ℕ) (o : Option Fault) → IfSome o (IsRefusedBy plan text) → IfSome o (λ f. rehearsed (Ok plan) text ≡ Err f)
 refused_whole plan text None h = tt
 refused_whole plan text (Some f) h = ap (rehearsed (Ok plan)) (sym (append-nil text)) ∙ h []
 
--- behind the end all files of the inventory are noted
+-- after the end all files of the inventory are noted
 pub record AreAllNoted (text : List ℕ) (paths : List (List ℕ)) (tree : FilesOfPlan) : Type 0 where
   pub files : List Entry
   pub read : inventory 16777216 text ≡ Ok files

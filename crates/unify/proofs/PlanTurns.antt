@@ -42,7 +42,7 @@ use Rattle.unify.specs.SecondPass.{IsUnfinished, or_changed, owned_lines, plan_b
 use Rattle.unify.proofs.FilesSoFar.{files_first, files_so_far}
 use Rattle.unify.proofs.Turns.{files_with, grown_files, inventory_is, none_then}
 
--- ---- files behind files
+-- ---- files after files
 
 -- a judge that asks nothing of the items before
 pub first_none : {A F : Type 0} (judge : A → Option F) (seen xs : List A) → All (λ x. judge x ≡ None) xs → first_fault (λ s x. judge x) seen xs ≡ None
@@ -56,13 +56,13 @@ first_at judge seen [] e after f all is = rw is refl
 first_at judge seen (x ∷ before) e after f all is =
     rw (All-head (λ y. judge y ≡ None) x before all) (first_at judge (seen ++ x ∷ []) before e after f (All-tail (λ y. judge y ≡ None) x before all) is)
 
--- it finds the same behind others
+-- it finds the same after others
 first_anywhere : {A F : Type 0} (judge : A → Option F) (seen other xs : List A) → first_fault (λ s x. judge x) seen xs ≡ first_fault (λ s x. judge x) other xs
 unfolding first_fault
 first_anywhere judge seen other [] = refl
 first_anywhere judge seen other (x ∷ xs) = ap (or_else (judge x)) (first_anywhere judge (seen ++ x ∷ []) (other ++ x ∷ []) xs)
 
--- ---- plans of files behind files
+-- ---- plans of files after files
 
 records_both : (to : Entry → Owner) (files more : List Entry) → records_to to (files ++ more) ≡ records_to to files ++ records_to to more
 records_both to files more =
@@ -219,7 +219,7 @@ more_after host joined merged index old turn after text fed planned turns is mos
     record { turns = begun; begun = ap (λ (t : PlanTurn). t.is_begun) is; most = most; grow = grow; stands = goes begun.reading }
 
 module _ (host : Host) (joined : Joined) (merged : Merged) (index : ℕ) (turn : PlanTurn) (after : ReaderValue) (text fed planned : List ℕ) (more : HasMore host joined merged index turn after text fed planned) where
-  -- they stand behind those that were appended
+  -- they stand after those that were appended
   files_more : after.files ≡ turn.reader.files ++ after.waiting
   files_more = grown_files turn.reader.files after.files turn.reader.waiting after.waiting more.grow more.turns.waiting
 

@@ -193,7 +193,7 @@ module _ {p : Pass} {host : Host} (turn_is : IsTurnOf p host) where
     pub was_unmet : (seen p).met ≡ None
     was_unmet = unstopped_met (slice_get p.hosts p.ended) p.turn.stop (unstopped p.turn.stop u A P again)
 
-    -- ---- behind a piece
+    -- ---- after a piece
 
     -- old, new: the plan
     module _ (turn : PlanTurn) (bytes old new : List ℕ) (stands : (text planned : List ℕ) → TurnsFor host p.joined p.merged p.ended p.turn text planned
@@ -229,7 +229,7 @@ module _ {p : Pass} {host : Host} (turn_is : IsTurnOf p host) where
             (lines.0, lines.1, lines.2 ∙ ap (λ k. plan_before_end host p.joined p.merged k lines.0) (sym inv.ended_are)),
           )
 
-    -- ---- behind its end
+    -- ---- after its end
 
     module _ (turn : PlanTurn) (new : (next : Host) → slice_get p.hosts (p.ended + 1) ≡ Some next → TurnsFor next p.joined p.merged (p.ended + 1) turn [] []) where
       abbrev pub after : Pass

@@ -71,7 +71,7 @@ module _ (records : List PlanRecord) where
     turn_err : (f : RunFault) → turn records place (cells_at s).owner (cells_at s).mark ≡ Err f → refused ≡ Some f
     turn_err f is = after_err place s run.1.1 n refused end (turn records place (cells_at s).owner (cells_at s).mark) unfailing f run.1.0 is run.1.2.step run.1.3
 
-  -- behind the records nothing is refused
+  -- after the records nothing is refused
   abbrev IsBehind : Place → Type 0
   IsBehind Start = ⊥
   IsBehind (Record i) = ⊥

@@ -17,9 +17,9 @@ use Rattle.unify.specs.Others.{keep_read}
 use Rattle.unify.specs.Survey.{found_on, inventory_of, keeps_unowned, listed_of, sparing_hosts, sparing_ranges, surveyed, surveyed_hosts}
 use Rattle.unify.specs.Told.{in_site}
 
--- ---- host behind host
+-- ---- host after host
 
--- the one at an index is refused, behind others that were accepted
+-- the one at an index is refused, after others that were accepted
 pub list_refused_at : (hosts : List Host) (texts : List (List ℕ)) (listed : List (Host × List Entry)) (k : ℕ) (host : Host) (text : List ℕ) (f : Fault) → each listed_of (loaded_from hosts (take k texts)) ≡ Ok listed
     → slice_get hosts k ≡ Some host → slice_get texts k ≡ Some text → inventory_of host text ≡ Err f → each listed_of (loaded_from hosts texts) ≡ Err f
 unfolding each

@@ -22,10 +22,10 @@ use Rattle.unify.specs.Turns.{AreCounted, IsAccepted, TurnsFor, met_at, or_memor
 use Rattle.unify.specs.RowFiles.{RowFiles, row_files}
 use Rattle.unify.proofs.Faults.{memory_or, told_is}
 
--- ---- files behind files
+-- ---- files after files
 
 module _ {A F : Type 0} (judge : List A → A → Option F) where
-  -- behind items without a fault
+  -- after items without a fault
   pub none_then : (seen xs ys : List A) → first_fault judge seen xs ≡ None → first_fault judge seen (xs ++ ys) ≡ first_fault judge (seen ++ xs) ys
   unfolding first_fault
   none_then seen [] ys h = ap (λ b. first_fault judge b ys) (sym (append-nil seen))
@@ -33,7 +33,7 @@ module _ {A F : Type 0} (judge : List A → A → Option F) where
       let both = none_of_both (judge seen x) (first_fault judge (seen ++ x ∷ []) xs) h in
       ap (λ o. or_else o (first_fault judge (seen ++ x ∷ []) (xs ++ ys))) both.0 ∙ none_then (seen ++ x ∷ []) xs ys both.1 ∙ ap (λ b. first_fault judge b ys) (append_assoc seen (x ∷ []) xs)
 
-  -- behind the first fault
+  -- after the first fault
   some_then : (seen xs ys : List A) (f : F) → first_fault judge seen xs ≡ Some f → first_fault judge seen (xs ++ ys) ≡ Some f
   unfolding first_fault
   some_then seen [] ys f h = absurd (cc)
@@ -68,7 +68,7 @@ module _ (host : Host) where
       let rest = first_fault (owner_fault host) (files ++ done ++ e ∷ []) left in
       (found.0, found.1, ap (first_fault (owner_fault host) []) behind ∙ none_then (owner_fault host) [] (files ++ done) (e ∷ left) counted.0 ∙ ap (λ (o : Option Fault). or_else o rest) found.1)
 
-  -- files behind the first without an account
+  -- files after the first without an account
   pub still_counted : (rows : RowFiles) (found : Option Entry) (e : Entry) (files more : List Entry) → found ≡ Some e → AreCounted host rows found files → AreCounted host rows found (files ++ more)
   still_counted rows None e files more is counted = absurd (cc)
   still_counted rows (Some x) e files more is counted = (counted.0, counted.1, some_then (owner_fault host) [] files more counted.0 counted.2)

@@ -18,14 +18,14 @@ use Rattle.unify.specs.Told.{in_certificate, in_check}
 abbrev pub checked : WholeSite → Result Certificate Fault → Result ℕ Fault
 checked site certificate = certificate >>= λ c. in_check (answer site.joined (files_of_site site) c)
 
-unfoldable pub verified : List HostText → SiteRules → List ℕ → Result ℕ Fault
-verified texts rules text =
+unfoldable pub check_of : List HostText → SiteRules → List ℕ → Result ℕ Fault
+check_of texts rules text =
     site_read texts rules >>= λ site. checked site (in_certificate (certificate_in text))
 
 -- What a yes means: the texts say a site and a certificate of exactly its names; its mappings are
 -- admissible, its potentials certify them, no admissible mappings cost less, and this is their
 -- cost.
-pub record IsVerified (texts : List HostText) (rules : SiteRules) (text : List ℕ) (cost : ℕ)
+pub record IsChecked (texts : List HostText) (rules : SiteRules) (text : List ℕ) (cost : ℕ)
     : Type 0 where
   pub site : WholeSite
   pub read : site_read texts rules ≡ Ok site

@@ -20,6 +20,6 @@ pub record StandsFor (rehearsal : Rehearsal) (plan : PlanData) (text : List ℕ)
   pub waiting : rehearsal.reader.waiting ≡ []
   pub found : rehearsal.tree ≡ found_among rehearsal.reader.files (paths_in plan.records)
 
--- this fault is the answer, whatever comes behind the text
+-- this fault is the answer, whatever comes after the text
 abbrev pub IsRefusedBy : PlanData → List ℕ → Fault → Type 0
 IsRefusedBy plan text f = (more : List ℕ) → rehearsed (Ok plan) (text ++ more) ≡ Err f

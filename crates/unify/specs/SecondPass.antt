@@ -119,7 +119,7 @@ abbrev pub IsPlannedSoFar : SolvedValue → Host → Type 0
 IsPlannedSoFar s host = (files : List Entry) × (second_lines host s.text ≡ Ok files)
     × (s.planned ≡ plan_before_end host s.joined s.merged (ended_in s) files)
 
--- a second pass of which no inventory has come, behind a first pass of which each was ended
+-- a second pass of which no inventory has come, after a first pass of which each was ended
 abbrev pub at_start : InventoriesValue → Joined → Merged → SolvedValue
 at_start c joined merged =
     record {

@@ -54,7 +54,7 @@ inventory_of host text = in_file host.name file.Mtree (inventory most_files text
 abbrev pub listed_of : Loaded → Result (Host × List Entry) Fault
 listed_of loaded = inventory_of loaded.host loaded.mtree >>= λ files. Ok (loaded.host, files)
 
--- the numbers so far, and behind them host by host those of these files
+-- the numbers so far, and after them host by host those of these files
 abbrev pub unowned_over : UnownedNumbers → List (Host × List Entry) → UnownedNumbers
 unowned_over found listed = fold (λ so_far here. unowned_with so_far here.0 here.1) found listed
 

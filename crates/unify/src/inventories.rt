@@ -38,7 +38,7 @@ impl<'a> Model for Inventories<'a> {
     ghost invariant = { λ c. AreComing (pass_of c) };
 }
 
-// Notes how many files each row of the present host owns, and begins the turn of the host behind
+// Notes how many files each row of the present host owns, and begins the turn of the host after
 // it, if there is one.
 fn next_host(
     alloc: Global,

@@ -12,6 +12,7 @@ ghost use Rattle.unify.specs.PlanTurns.{IsFreshTurn};
 ghost use Rattle.unify.specs.Reading.{WholeSite, added_from};
 ghost use Rattle.unify.specs.RowFiles.{row_files};
 
+use crate::checking::check_counted;
 use crate::inventories::Inventories;
 use crate::merging::{Merged, merge_counted};
 use crate::plan_turn::{PlanTurn, new_turn};
@@ -19,7 +20,6 @@ use crate::row_files::no_files;
 use crate::site::JoinedSite;
 use crate::solved_pass::Solved;
 use crate::text_log::TextLog;
-use crate::verifying::verify_counted;
 use hosts_join::{Host, Site};
 use ownership::Counts;
 use std::alloc::{AllocError, Global};
@@ -108,7 +108,7 @@ impl<'a> JoinedSite<'a> {
     /// accounts are those of the hosts.
     ///
     /// A refusal, which is want of memory, hands the same value back, and `solve` may be called
-    /// again. Its time is near linear in the names and account rows but for the solver, which is
+    /// again. Its time is near linear in the names and account rows except for the solver, which is
     /// near linear where few numbers are contested.
     pub fn solve(self) -> Result<Solved<'a>, JoinedSite<'a>>
         requires together { AreTogether self.inventories.hosts self.site }
@@ -148,7 +148,7 @@ impl<'a> JoinedSite<'a> {
     /// It refuses with the first fault in this order: the certificate's text, by line; the check,
     /// users before groups. `Fault::Memory` is a growth that was refused. Near linear in the
     /// account rows, the rows' counters and the certificate's lines.
-    pub fn verify(&self, certificate: &'a [u8]) -> Result<u64, Fault<'a>>
+    pub fn check(&self, certificate: &'a [u8]) -> Result<u64, Fault<'a>>
         requires together { AreTogether self.now.inventories.hosts self.now.site }
         requires none_left { ended_in self.now.inventories ≡ length self.now.inventories.hosts }
         ensures { (read : List (Host × List Entry)) → read_in self.now.inventories ≡ Ok read
@@ -158,6 +158,6 @@ impl<'a> JoinedSite<'a> {
     {
         let alloc = self.inventories.alloc;
         let counts = counts_of(alloc, &self.inventories, &self.site)?;
-        verify_counted(alloc, &self.site, &counts, certificate)
+        check_counted(alloc, &self.site, &counts, certificate)
     }
 }

@@ -50,7 +50,7 @@ pub fn no_owners(alloc: Global) -> Result<Vec<KnownOwner>, AllocError>
 }
 
 /// Where it is kept what was found of a file's owner, unless another owner with the same place came
-/// behind it. Owners have places of their own where their users follow one another and have one
+/// after it. Owners have places of their own where their users follow one another and have one
 /// group, or each a group with the user's number. Nothing rests on which place it is but time. No
 /// cost.
 pub fn place_of(file: &Entry) -> usize

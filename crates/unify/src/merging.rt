@@ -27,7 +27,7 @@ use ownership::{Counts, Mapping};
 use std::alloc::{AllocError, Global};
 use unify_texts::{figures_under, keeps_a_name, push_map, report_text};
 
-/// What a merge gives for a site but for its plans, and the mappings that these go by.
+/// What a merge gives for a site except for its plans, and the mappings that these go by.
 #[derive(Drop)]
 pub struct Merged {
     /// Its list of plans is empty.
@@ -223,7 +223,7 @@ fn write_changes(
     Ok(())
 }
 
-// What a merge of a site that was counted writes, by its mappings and their certificate, but for
+// What a merge of a site that was counted writes, by its mappings and their certificate, except for
 // the plans.
 fn texts_of(
     alloc: Global,
@@ -248,7 +248,7 @@ fn texts_of(
     Ok(outcome)
 }
 
-/// What a merge of a site that was counted gives but for its plans. Requires that the site is
+/// What a merge of a site that was counted gives except for its plans. Requires that the site is
 /// whole. It fails for want of memory alone.
 pub fn merge_counted(
     alloc: Global,

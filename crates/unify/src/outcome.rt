@@ -36,7 +36,7 @@ impl TextList {
         self.texts.as_slice()
     }
 
-    /// Appends a text, in constant time but for growth. `AllocError` where a growth was refused;
+    /// Appends a text, in constant time except for growth. `AllocError` where a growth was refused;
     /// the texts are then as before.
     pub fn push(&mut self, text: ByteString) -> Result<(), AllocError>
         ensures pushed { OnOk result (self.new ≡ self.old ++ text ∷ []) }

@@ -200,7 +200,7 @@ fn plan_waiting(
     Ok(())
 }
 
-// Reads the next piece behind what was read.
+// Reads the next piece after what was read.
 fn read_on(
     turn: &mut PlanTurn,
     site: &Site<'_>,
@@ -273,7 +273,7 @@ pub fn feed_plan(
     read
 }
 
-// Reads the end behind what was read, and compares how many files each row owns with the first
+// Reads the end after what was read, and compares how many files each row owns with the first
 // pass.
 fn read_end(
     turn: &mut PlanTurn,

@@ -90,7 +90,7 @@ impl<'a> Solved<'a> {
     ///
     /// `Fault::InventoryChanged` is answered exactly where the whole logical lines so far have a
     /// fault, or a file that the host does not allow. After a fault of either call, want of memory
-    /// too, it is always that one, and nothing changes. Behind a fault all that the calls for this
+    /// too, it is always that one, and nothing changes. After a fault all that the calls for this
     /// host have appended is a prefix of a plan without its `end` line, for files that the text has
     /// before its first fault. The first piece appends the header, even if it is empty.
     ///
@@ -137,7 +137,7 @@ impl<'a> Solved<'a> {
     /// `Fault::InventoryChanged` is answered exactly where the whole inventory has a fault, or a
     /// file that the host does not allow, or where a user or a group of the host does not own as
     /// many of its files as in the first pass. After a fault of either call, want of memory too, it
-    /// is always that one, and nothing changes. Behind a fault all that the calls for this host
+    /// is always that one, and nothing changes. After a fault all that the calls for this host
     /// have appended is a prefix of a plan without its `end` line, for files that the text has
     /// before its first fault.
     pub fn end_host(&mut self, plan: &mut Vec<u8>) -> Result<(), Fault<'a>>

@@ -7,7 +7,7 @@ ghost use Rattle.ownership.specs.Counts.{AreMadeFor, AreWithin, CountFiles};
 ghost use Rattle.ownership.specs.Files.{File};
 ghost use Rattle.unify.specs.Solving.{IsSolved};
 
-use assignment::{Solution, SolveFault, solve};
+use assignment::{Solution, solve};
 use candidates::Rows;
 use certcheck::{Side, side_of};
 use hosts_join::Names;
@@ -49,7 +49,7 @@ pub fn solve_names<'a>(
     alloc: Global,
     names: &Names<'a>,
     counts: &KindCounts,
-) -> Result<CertifiedMapping<'a>, SolveFault>
+) -> Result<CertifiedMapping<'a>, AllocError>
     requires made { AreMadeFor names.now.names counts.now }
     requires few { AreWithin counts.now 2147483648 }
     ensures len { IfOk result (λ s. length s.mapping ≡ length names.now.names) }

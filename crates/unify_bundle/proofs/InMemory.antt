@@ -15,7 +15,7 @@ none (x ∷ xs) h = absurd (omega (arith, h))
 
 -- ---- what is held
 
--- behind one piece more
+-- after one piece more
 module _ (texts : List (List ℕ)) (left : List ℕ) (files : List NamedText) (writing : Option NamedText) (l : Ledger) (h : Holds texts left files writing l) where
   pub held_piece : (next rest : List ℕ) → left ≡ next ++ rest → (next ≡ [] → rest ≡ []) → Holds texts rest files writing (with_piece next l)
   held_piece next rest parts ends = by l.reading refl next parts ends
@@ -65,7 +65,7 @@ reads_texts texts left files writing l failed h = record {
   so_far = λ r is. (left, h.reading r is);
 }
 
--- those in front of others, and those behind them
+-- those in front of others, and those after them
 pub front_all : {A : Type 0} (P : A → Type 0) (xs ys : List A) → All P (xs ++ ys) → All P xs
 front_all P [] ys all = All-nil P
 front_all P (x ∷ xs) ys all = All-cons P x xs (All-head P x (xs ++ ys) all) (front_all P xs ys (All-tail P x (xs ++ ys) all))

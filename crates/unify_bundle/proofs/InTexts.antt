@@ -23,7 +23,7 @@ use Rattle.unify.specs.declared.rules.KeepRules.{KeepRules}
 use Rattle.unify.specs.declared.rules.SiteRules.{SiteRules}
 use Rattle.unify.specs.declared.site_files.NamedText.{NamedText}
 use Rattle.unify.specs.declared.site_files.SiteFiles.{SiteFiles}
-use Rattle.unify.specs.Checking.{IsVerified, verified}
+use Rattle.unify.specs.Checking.{IsChecked, check_of}
 use Rattle.unify.specs.Count.{count_of, site_of}
 use Rattle.unify.specs.Hosts.{host_of}
 use Rattle.unify.specs.Loading.{loaded_from}
@@ -113,23 +113,23 @@ module _ (hosts : List HostText) (all : List (List ℕ)) (new : Ledger) (own : R
   at_checked rules certificate texts read = ap (with_inventories hosts) (same.once hosts all new own texts read.readings read.one_each) ∙ own_inventories hosts
 
   pub checked : (rules : SiteRules) (certificate : List ℕ) (result : Result ℕ MergeFault) → IfOk result (HasChecked hosts rules certificate (at_start hosts) new) → IfErr result (StopsCheck hosts rules certificate (at_start hosts) new failed)
-      → Gives (λ cost. cost) told (in_memory result) (verified hosts rules certificate) × IfOk (in_memory result) (IsVerified hosts rules certificate)
-  unfolding verified
+      → Gives (λ cost. cost) told (in_memory result) (check_of hosts rules certificate) × IfOk (in_memory result) (IsChecked hosts rules certificate)
+  unfolding check_of
   checked rules certificate (Ok cost) h stops =
       let is = at_checked rules certificate h.texts h.were_read in
-      (ap (λ hs. verified hs rules certificate) (sym is) ∙ h.answer, subst (λ hs. IsVerified hs rules certificate cost) is h.means)
+      (ap (λ hs. check_of hs rules certificate) (sym is) ∙ h.answer, subst (λ hs. IsChecked hs rules certificate cost) is h.means)
   checked rules certificate (Err Failed) h stops = (tt, tt)
   checked rules certificate (Err TooLarge) h stops = (tt, tt)
   checked rules certificate (Err (Refused e)) h stops = (if_told (told e) _ _ by stops, tt)
     where
-      unread : (f : Fault) → site_read hosts rules ≡ Err f → verified hosts rules certificate ≡ Err f
+      unread : (f : Fault) → site_read hosts rules ≡ Err f → check_of hosts rules certificate ≡ Err f
       unread f read = rw read refl
 
-      by : (f : Fault) → IsCheckFault hosts rules certificate (at_start hosts) new f → verified hosts rules certificate ≡ Err f
+      by : (f : Fault) → IsCheckFault hosts rules certificate (at_start hosts) new f → check_of hosts rules certificate ≡ Err f
       by f (inl refused) = unread f (begun_refused hosts rules f refused.0)
       by f (inr (inl (begun, is, fault))) =
           unread f (inventories_refused hosts rules begun f is (same.inventories_refused hosts all new own begun.hosts (omega (arith, begun_each hosts rules begun is)) f fault))
-      by f (inr (inr (texts, read, bad))) = ap (λ hs. verified hs rules certificate) (sym (at_checked rules certificate texts read)) ∙ bad
+      by f (inr (inr (texts, read, bad))) = ap (λ hs. check_of hs rules certificate) (sym (at_checked rules certificate texts read)) ∙ bad
 
   -- ---- a survey
 
@@ -180,7 +180,7 @@ module _ (hosts : List HostText) (all : List (List ℕ)) (new : Ledger) (own : R
     same_hosts = (hosts_held h.begun.hosts h.second h.are h.second_read.one_each h.second_read.accepted).0
 
     pub own_files : List NamedText
-    own_files = host_files h.begun.joined h.is_believed.mappings hosts h.begun.hosts
+    own_files = host_files h.begun.joined h.is_correct.mappings hosts h.begun.hosts
 
     pub are_site_files : (files : SiteFiles) → files.outcome ≡ h.outcome → files.own.items ≡ own_files → AreSiteFiles hosts site files
     unfolding own_files
@@ -190,9 +190,9 @@ module _ (hosts : List HostText) (all : List (List ℕ)) (new : Ledger) (own : R
         subst (AreSiteFiles hosts site) same_files
         (record {
           is_right = h.is_right;
-          is_believed = h.is_believed;
+          is_correct = h.is_correct;
           own_files = h.own_files;
-          own_are = own_are ∙ ap (host_files h.begun.joined h.is_believed.mappings hosts) same_hosts;
+          own_are = own_are ∙ ap (host_files h.begun.joined h.is_correct.mappings hosts) same_hosts;
         })
 
     a_plan_each : length h.outcome.plans ≡ length hosts

@@ -1,6 +1,7 @@
 pub mod Telling
 pub mod Taking
 pub mod PlanLines
+pub mod AnswersBack
 pub mod FaultAnswers
 pub mod Carrying
 pub mod RunSites

@@ -1,4 +1,4 @@
--- The plans of hosts, as files behind one another.
+-- The plans of hosts, as files after one another.
 use Rattle.std.proofs.Common.{◌≡◌, ℕ, List, [], ◌∷◌, ◌++◌, refl, sym, ap, ◌∙◌, append-nil, inl, inr}
 use Rattle.std.specs.Prelude.{◌⊎◌}
 use Rattle.hosts_join.specs.declared.texts.HostText.{HostText}

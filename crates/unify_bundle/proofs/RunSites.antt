@@ -37,7 +37,7 @@ use Rattle.unify_bundle.specs.SiteRuns.{IsSiteRun}
 use Rattle.unify.proofs.Whole.{hosts_held}
 use Rattle.unify_laws.specs.Headline.{Headline}
 use Rattle.unify_laws.specs.SiteRuns.{DoneKeepsNames, new_trees, new_world, runners_from}
-use Rattle.unify_laws.proofs.Believed.{name_is, outcomes_are_believed}
+use Rattle.unify_laws.proofs.Correct.{name_is, outcomes_are_correct}
 use Rattle.unify_laws.proofs.Keeping.{is_mapping, plan_is_old}
 use Rattle.unify_laws.proofs.WholeSites.{paired, steps}
 use Rattle.unify_laws.proofs.SiteRuns.{runs_keep, runs_stay}
@@ -150,7 +150,7 @@ pub site_runs : (keep : Keep) (events : List Event) (site : WholeSite) → IsWho
 site_runs keep events site whole run merged trees are carried =
     let m = merged.mappings in
     let all = map (λ (h : Host × List Entry). h.1) site.hosts in
-    let believed : Headline site run.outcome = outcomes_are_believed site run.outcome whole merged in
+    let correct : Headline site run.outcome = outcomes_are_correct site run.outcome whole merged in
     let runners_are = runners_start site m 0 site.hosts in
     let trees_are : trees ≡ new_trees keep site = are ∙ trees_start keep site.hosts in
     let first : World Mem = record { runners = at_start (plans_in site m); trees = trees } in
@@ -159,15 +159,15 @@ site_runs keep events site whole run merged trees are carried =
     let went : EachGoes known_mem (new_world keep site m) events (λ host. None) last = subst (λ (w : World Mem). EachGoes known_mem w events (λ host. None) last) begun carried.went in
     record {
       merged = merged;
-      believed = believed;
+      correct = correct;
       runners = carried.runners;
       a_runner_each = carried.a_runner_each ∙ length-plans (hosts_in site) site.joined m 0 all ∙ length-map site.hosts (λ (h : Host × List Entry). h.1);
       a_tree_each = carried.a_tree_each ∙ ap length are ∙ length-map all (new_tree_of keep) ∙ length-map site.hosts (λ (h : Host × List Entry). h.1);
       went = went;
       done = carried.done_are;
-      at_this_moment = runs_stay site run.outcome whole merged believed.map believed.map_read believed.mappings believed.installed keep events (λ host. None) carried.runners run.trees.items went;
-      names_kept = subst (λ told. DoneKeepsNames site believed.map believed.installed.passwd.rows believed.installed.group.rows told run.trees.items) (sym carried.done_are)
-          (runs_keep site run.outcome whole merged believed.map believed.map_read believed.mappings believed.installed keep events (λ host. None) carried.runners run.trees.items went);
+      at_this_moment = runs_stay site run.outcome whole merged correct.map correct.map_read correct.mappings correct.installed keep events (λ host. None) carried.runners run.trees.items went;
+      names_kept = subst (λ told. DoneKeepsNames site correct.map correct.installed.passwd.rows correct.installed.group.rows told run.trees.items) (sym carried.done_are)
+          (runs_keep site run.outcome whole merged correct.map correct.map_read correct.mappings correct.installed keep events (λ host. None) carried.runners run.trees.items went);
     }
 
 pub texts_run : (keep : Keep) (events : List Event) (site : WholeSite) → IsWhole site → (texts : List HostText) → AreInventoriesOf texts site → (run : SiteRun) → IsOutcome site run.outcome → (mtrees : List (List ℕ)) → mtrees ≡ map (λ t. t.mtree) texts

@@ -3,7 +3,7 @@
 use Rattle.std.specs.Prelude.{◌≡◌, ℕ, Bool, List, [], ◌∷◌, ◌++◌, length, map, if◌then◌else◌}
 use Rattle.unify.specs.declared.site_files.NamedText.{NamedText}
 
--- behind those of the whole site, among which are passwd and group unless a name is kept, stand the
+-- after those of the whole site, among which are passwd and group unless a name is kept, stand the
 -- plan of each host, the own files of hosts, and the report
 pub record ArePartedFor (keeps : Bool) (hosts : ℕ) (files : List NamedText)
     (plans : List (List ℕ)) (own : List NamedText) : Type 0 where

@@ -27,15 +27,15 @@ records_lines n = codes "records " ++ decimal n ++ codes "\ndone\n"
 abbrev pub barred : List ℕ → List ℕ
 barred line = 124 ∷ line ++ 10 ∷ []
 
--- a file as a bundle has it: its name, and each line of its text behind a bar
+-- a file as a bundle has it: its name, and each line of its text after a bar
 abbrev pub file_lines : List ℕ → List ℕ → List ℕ
 file_lines name text = codes "file " ++ name ++ 10 ∷ flat_map barred (lines text)
 
--- files behind one another
+-- files after one another
 abbrev pub named_lines : List NamedText → List ℕ
 named_lines files = flat_map (λ file. file_lines file.name file.text) files
 
--- what a merge writes for the whole site, and the plans behind that
+-- what a merge writes for the whole site, and the plans after that
 abbrev pub merge_lines : List HostText → Outcome → List ℕ
 merge_lines hosts outcome =
     named_lines (account_files outcome) ++ file_lines (codes "map") outcome.map
@@ -43,6 +43,6 @@ merge_lines hosts outcome =
     ++ file_lines (codes "report") outcome.report
     ++ named_lines (plan_files hosts outcome.plans)
 
--- what a merge writes with each host's own files: these behind all others
+-- what a merge writes with each host's own files: these after all others
 abbrev pub site_lines : List HostText → SiteFiles → List ℕ
 site_lines hosts files = merge_lines hosts files.outcome ++ named_lines files.own.items

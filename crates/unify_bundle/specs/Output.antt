@@ -25,7 +25,7 @@ use Rattle.unify.specs.declared.rules.SiteRules.{SiteRules}
 use Rattle.unify.specs.declared.site_files.SiteFiles.{SiteFiles}
 use Rattle.unify_bundle.specs.declared.input.ReadFault.{ReadFault}
 use Rattle.unify_bundle.specs.declared.input.ReadFault.TheVariants.{Read, Memory}
-use Rattle.unify.specs.Checking.{verified}
+use Rattle.unify.specs.Checking.{check_of}
 use Rattle.unify.specs.Count.{count_of}
 use Rattle.unify_bundle.specs.Lines.{cost_lines, accepted_line, records_lines, merge_lines}
 use Rattle.unify_bundle.specs.Lines.{site_lines}
@@ -81,7 +81,7 @@ count_lines places =
 
 abbrev pub checked : List HostText → SiteRules → List ℕ → Result (List ℕ) Fault
 checked hosts rules certificate =
-    verified hosts rules certificate >>= λ cost. Ok (accepted_line cost)
+    check_of hosts rules certificate >>= λ cost. Ok (accepted_line cost)
 
 abbrev pub check_lines : List Place → Result (List ℕ) Fault
 check_lines places =
@@ -106,8 +106,7 @@ abbrev pub IsMergeReply : List Place → Result (List ℕ) Fault → Type 0
 IsMergeReply places reply =
     IsToldBy (IsMergeTold (host_texts (drop 1 places))) (rules_in places) reply
 
--- the same with each host's own files, by the map of the outcome and with what they are believed
--- for
+-- the same with each host's own files, by the map of the outcome and with what they guarantee
 abbrev pub IsMergeWithHostsTold : List HostText → SiteRules → Result (List ℕ) Fault → Type 0
 IsMergeWithHostsTold hosts rules (Ok text) =
     (site : WholeSite) × (site_read hosts rules ≡ Ok site) × (files : SiteFiles)
@@ -189,7 +188,7 @@ IsTold input failed answer =
 -- What stands in the writer after the call, and with which status, where no call on the reader or
 -- the writer had failed before. There are bytes, those that were left to read where these are
 -- known: after a failed write the status is 3, and nothing is said of how much went out; else what
--- was told of the bytes stands behind what was there, and the status is its own.
+-- was told of the bytes stands after what was there, and the status is its own.
 abbrev pub Tells : Option (List ℕ) → Bool → Option (List ℕ) → Option (List ℕ) → Bool → ℕ → Type 0
 Tells left read_failed old new write_failed status =
     (input : List ℕ) × IfSome left (λ known. known ≡ input)

@@ -17,14 +17,14 @@ use Rattle.unify_bundle.specs.declared.rehearsing_site.SiteRun.{SiteRun}
 pub record IsSiteRun (keep : Keep) (events : List Event) (site : WholeSite) (run : SiteRun) : Type 0
   where
     pub merged : IsOutcome site run.outcome
-    pub believed : Headline site run.outcome
+    pub correct : Headline site run.outcome
     pub runners : List RunnerData
     pub a_runner_each : length runners ≡ length site.hosts
     pub a_tree_each : length run.trees.items ≡ length site.hosts
     pub went : EachGoes known_mem (new_world keep site merged.mappings) events (λ host. None)
         (record { runners = runners; trees = run.trees.items })
     pub done : run.done.items ≡ map (λ runner. is_done runner.place) runners
-    pub at_this_moment : EachIsOldOrNamed site believed.map believed.installed.passwd.rows
-        believed.installed.group.rows run.trees.items
-    pub names_kept : DoneKeepsNames site believed.map believed.installed.passwd.rows
-        believed.installed.group.rows run.done.items run.trees.items
+    pub at_this_moment : EachIsOldOrNamed site correct.map correct.installed.passwd.rows
+        correct.installed.group.rows run.trees.items
+    pub names_kept : DoneKeepsNames site correct.map correct.installed.passwd.rows
+        correct.installed.group.rows run.done.items run.trees.items

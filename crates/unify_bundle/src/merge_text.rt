@@ -10,13 +10,13 @@ ghost use Rattle.unify_bundle.specs.Output.{Answers, IsMergeTold, IsMergeWithHos
 ghost use Rattle.unify_bundle.specs.Replies.{reply_of};
 
 use crate::reply::{Reply, refused};
-use crate::texts::{consolidate, consolidate_hosts};
+use crate::texts::{merge, merge_hosts};
 use hosts_join::HostText;
 use idtext::{ByteString, Lines};
 use std::alloc::{AllocError, Global};
 use unify::{NamedText, Outcome, SiteFiles, SiteRules};
 
-// Appends a line of a file: behind a bar, and with its newline.
+// Appends a line of a file: after a bar, and with its newline.
 fn push_barred(out: &mut Vec<u8>, line: &[u8]) -> Result<(), AllocError>
     ensures { OnOk result (out.new.items ≡ out.old.items ++ barred line.now) }
 {
@@ -26,7 +26,7 @@ fn push_barred(out: &mut Vec<u8>, line: &[u8]) -> Result<(), AllocError>
     Ok(())
 }
 
-// Appends the lines of a text, each behind a bar, in one pass over it.
+// Appends the lines of a text, each after a bar, in one pass over it.
 fn push_text(out: &mut Vec<u8>, text: &[u8]) -> Result<(), AllocError>
     ensures { OnOk result (out.new.items ≡ out.old.items ++ flat_map barred (lines text.now)) }
 {
@@ -80,7 +80,7 @@ fn push_plans(out: &mut Vec<u8>, hosts: &[HostText], plans: &[ByteString]) -> Re
     Ok(())
 }
 
-// The files of an outcome, behind one another.
+// The files of an outcome, after one another.
 fn outcome_text(alloc: Global, hosts: &[HostText], outcome: &Outcome) -> Result<Vec<u8>, AllocError>
     ensures { IfOk result (λ text. text.items ≡ merge_lines hosts.now outcome.now) }
 {
@@ -93,7 +93,7 @@ fn outcome_text(alloc: Global, hosts: &[HostText], outcome: &Outcome) -> Result<
     Ok(text)
 }
 
-// Appends files, behind one another.
+// Appends files, after one another.
 fn push_files(out: &mut Vec<u8>, files: &[NamedText]) -> Result<(), AllocError>
     ensures { OnOk result (out.new.items ≡ out.old.items ++ named_lines files.now) }
 {
@@ -103,7 +103,7 @@ fn push_files(out: &mut Vec<u8>, files: &[NamedText]) -> Result<(), AllocError>
     Ok(())
 }
 
-// The files of an outcome, and behind them each host's own.
+// The files of an outcome, and after them each host's own.
 fn site_text(alloc: Global, hosts: &[HostText], files: &SiteFiles) -> Result<Vec<u8>, AllocError>
     ensures { IfOk result (λ text. text.items ≡ site_lines hosts.now files.now) }
 {
@@ -115,7 +115,7 @@ fn site_text(alloc: Global, hosts: &[HostText], files: &SiteFiles) -> Result<Vec
 /// What goes out for a merge of these hosts with these rules: the files of its outcome, or the
 /// fault line with its status. An error is a growth that was refused.
 ///
-/// Beside what `consolidate` takes, it is one pass over the texts of the outcome.
+/// Beside what `merge` takes, it is one pass over the texts of the outcome.
 pub fn merge_reply(
     alloc: Global,
     hosts: &[HostText],
@@ -123,7 +123,7 @@ pub fn merge_reply(
 ) -> Result<Reply, AllocError>
     ensures { IfOk result (λ reply. Answers (IsMergeTold hosts.now rules.now) (reply_of reply)) }
 {
-    match consolidate(alloc, hosts, rules) {
+    match merge(alloc, hosts, rules) {
         Ok(outcome) => Ok(Reply {
             text: outcome_text(alloc, hosts, &outcome)?,
             status: 0,
@@ -133,10 +133,10 @@ pub fn merge_reply(
 }
 
 /// What goes out for a merge of these hosts with these rules, with each host's own files: the files
-/// of its outcome, and behind them passwd.NAME and group.NAME of each host, one host after the
+/// of its outcome, and after them passwd.NAME and group.NAME of each host, one host after the
 /// other; or the fault line with its status. An error is a growth that was refused.
 ///
-/// Beside what `consolidate_hosts` takes, it is one pass over all these texts.
+/// Beside what `merge_hosts` takes, it is one pass over all these texts.
 pub fn merge_hosts_reply(
     alloc: Global,
     hosts: &[HostText],
@@ -145,7 +145,7 @@ pub fn merge_hosts_reply(
     ensures { IfOk result
         (λ reply. Answers (IsMergeWithHostsTold hosts.now rules.now) (reply_of reply)) }
 {
-    match consolidate_hosts(alloc, hosts, rules) {
+    match merge_hosts(alloc, hosts, rules) {
         Ok(files) => Ok(Reply {
             text: site_text(alloc, hosts, &files)?,
             status: 0,

@@ -16,7 +16,7 @@ ghost use Rattle.unify.specs.Outcomes.{IsOutcome};
 ghost use Rattle.unify.specs.Reading.{WholeSite, site_read};
 ghost use Rattle.unify_bundle.specs.SiteRuns.{IsSiteRun};
 
-use crate::texts::consolidate;
+use crate::texts::merge;
 use hosts_join::HostText;
 use idtext::Name;
 use mtree_inv::{Inventory, read_inventory};
@@ -210,10 +210,10 @@ fn run_of<'a>(
 /// far as the events lead: an advance is one step of a host's plan, and after a stop a tree has
 /// what the choice keeps of what was pending. Requires that each event is for a host of the site.
 ///
-/// It refuses with the first fault of `consolidate`, and else for want of memory alone: no event is
+/// It refuses with the first fault of `merge`, and else for want of memory alone: no event is
 /// refused.
 ///
-/// It takes the time of `consolidate`, reads each inventory and each plan once more, and makes one
+/// It takes the time of `merge`, reads each inventory and each plan once more, and makes one
 /// step an event. The trees of all hosts are in memory at once.
 pub fn rehearse_site<'a>(
     alloc: Global,
@@ -225,7 +225,7 @@ pub fn rehearse_site<'a>(
     requires { All (λ event. host_of event < length hosts.now) events.now }
     ensures { Yields (IsSiteRun keep events.now) told result (site_read hosts.now rules.now) }
 {
-    match consolidate(alloc, hosts, rules) {
+    match merge(alloc, hosts, rules) {
         Ok(outcome) => run_of(alloc, hosts, outcome, keep, events),
         Err(fault) => Err(fault),
     }

@@ -7,7 +7,7 @@ ghost use Rattle.unify_bundle.specs.Lines.{cost_lines, accepted_line};
 ghost use Rattle.unify_bundle.specs.Output.{counted, checked, answered};
 ghost use Rattle.unify_bundle.specs.Replies.{reply_of};
 
-use crate::texts::{count, verify};
+use crate::texts::{check, count};
 use hosts_join::HostText;
 use idtext::push_number;
 use std::alloc::{AllocError, Global};
@@ -114,7 +114,7 @@ pub fn accepted_reply(alloc: Global, cost: u64) -> Result<Reply, AllocError>
 }
 
 /// What goes out for a check of a certificate of these hosts with these rules: its line, or the
-/// fault line with its status. An error is a growth that was refused. It takes what `verify` takes,
+/// fault line with its status. An error is a growth that was refused. It takes what `check` takes,
 /// and a line.
 pub fn check_reply(
     alloc: Global,
@@ -125,7 +125,7 @@ pub fn check_reply(
     ensures { IfOk result
         (λ reply. reply_of reply ≡ answered (checked hosts.now rules.now certificate.now)) }
 {
-    match verify(alloc, hosts, rules, certificate) {
+    match check(alloc, hosts, rules, certificate) {
         Ok(cost) => accepted_reply(alloc, cost),
         Err(fault) => refused(alloc, &fault),
     }

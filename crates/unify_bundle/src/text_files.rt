@@ -72,7 +72,7 @@ fn file_of(alloc: Global, name: &[u8], text: &[u8]) -> Result<NamedText, AllocEr
     })
 }
 
-// Moves a file behind others, where there is room for it.
+// Moves a file after others, where there is room for it.
 fn push_file(alloc: Global, name: &mut Vec<u8>, text: &mut Vec<u8>, files: &mut Vec<NamedText>)
     requires room { vec_len files.old < vec_capacity files.old }
     ensures { files.new.items

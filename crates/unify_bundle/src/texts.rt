@@ -3,7 +3,7 @@
 ghost use Rattle.std.specs.Prelude.{IfOk};
 ghost use Rattle.idtext.specs.First.{Gives, Yields};
 ghost use Rattle.unify_texts.specs.Told.{told};
-ghost use Rattle.unify.specs.Checking.{IsVerified, verified};
+ghost use Rattle.unify.specs.Checking.{IsChecked, check_of};
 ghost use Rattle.unify.specs.Count.{count_of};
 ghost use Rattle.unify.specs.Outcomes.{IsOutcome};
 ghost use Rattle.unify.specs.Reading.{site_read};
@@ -24,7 +24,7 @@ use unify_texts::Fault;
 /// keeps such numbers; else none.
 ///
 /// It refuses with the first fault of `begin_survey`, and then of the inventories, host by host.
-/// `Fault::Memory` is as for `consolidate`. One pass over the keep text; where it keeps such
+/// `Fault::Memory` is as for `merge`. One pass over the keep text; where it keeps such
 /// numbers another over the tables and the inventories, with three look-ups by hash for each file.
 pub fn survey_texts<'a>(
     alloc: Global,
@@ -66,35 +66,35 @@ pub fn count<'a>(
 /// How many owner and group fields the mappings of a certificate change, where the certificate
 /// proves that no admissible mappings change fewer; it may be written by anybody.
 ///
-/// It refuses with the first fault in this order: those of `consolidate`; the certificate's text,
+/// It refuses with the first fault in this order: those of `merge`; the certificate's text,
 /// by line; the check, users before groups. `Fault::Memory` is as there.
 ///
 /// It reads each text once, and takes time near linear in account rows, files and the certificate's
 /// lines.
-pub fn verify<'a>(
+pub fn check<'a>(
     alloc: Global,
     hosts: &'a [HostText],
     rules: &SiteRules<'a>,
     certificate: &'a [u8],
 ) -> Result<u64, Fault<'a>>
     ensures exact { Gives (λ cost. cost) told result
-        (verified hosts.now rules.now certificate.now) }
-    ensures proved { IfOk result (IsVerified hosts.now rules.now certificate.now) }
+        (check_of hosts.now rules.now certificate.now) }
+    ensures proved { IfOk result (IsChecked hosts.now rules.now certificate.now) }
 {
     let mut files = TextFiles::new(alloc, hosts);
     let cost = check_by(alloc, &mut files, hosts, rules, certificate);
     files.answer(cost)
 }
 
-/// What `consolidate` gives, with each host's own passwd and group with their new numbers, as the
+/// What `merge` gives, with each host's own passwd and group with their new numbers, as the
 /// files passwd.NAME and group.NAME: by the same map the texts of the host with only their numbers
-/// replaced. It refuses as `consolidate` does.
+/// replaced. It refuses as `merge` does.
 ///
 /// It is the merge that people run, over files in memory: it reads each inventory twice, each
 /// passwd and each group twice, and else each text once. Its time is near linear in the texts but
 /// for the solver, which is near linear where few numbers are contested. What it writes is in
 /// memory.
-pub fn consolidate_hosts<'a>(
+pub fn merge_hosts<'a>(
     alloc: Global,
     hosts: &'a [HostText],
     rules: &SiteRules<'a>,
@@ -118,15 +118,15 @@ pub fn consolidate_hosts<'a>(
 /// before gid. `Fault::Memory` is a growth that was refused, or an inventory of more than
 /// 4,294,967,295 bytes. Several maps may cost the least; which of them is given is not said.
 ///
-/// It is `consolidate_hosts` without each host's own files, and takes the same.
-pub fn consolidate<'a>(
+/// It is `merge_hosts` without each host's own files, and takes the same.
+pub fn merge<'a>(
     alloc: Global,
     hosts: &'a [HostText],
     rules: &SiteRules<'a>,
 ) -> Result<Outcome, Fault<'a>>
     ensures answers { Yields IsOutcome told result (site_read hosts.now rules.now) }
-    ensures believed { Yields Headline told result (site_read hosts.now rules.now) }
+    ensures correct { Yields Headline told result (site_read hosts.now rules.now) }
 {
-    let site = consolidate_hosts(alloc, hosts, rules)?;
+    let site = merge_hosts(alloc, hosts, rules)?;
     Ok(site.outcome)
 }

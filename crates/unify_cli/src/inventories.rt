@@ -121,9 +121,10 @@ impl Calls {
     }
 
     /// Notes a call that was made, or why it failed.
-    pub fn told(&mut self, done: Result<(), FileFault>, call: &Call<'_>) -> Result<(), CallFailed>
+    pub fn note(&mut self, done: Result<(), FileFault>, call: &Call<'_>) -> Result<(), CallFailed>
         ensures noted { OnOk result (self.new.log.ledger ≡ noted call.now self.old.log.ledger) }
         ensures none { OnErr result (self.new.log.ledger ≡ self.old.log.ledger) }
+        ensures ok { OnOk result (self.new.fault ≡ self.old.fault) }
         ensures failed { OnErr result (is_some self.new.fault ≡ true) }
     {
         match done {
@@ -178,12 +179,12 @@ impl ReadFiles for HostFiles<'_> {
 
     fn open(&mut self, host: usize) -> Result<(), CallFailed> {
         let done = self.inventories.open(host);
-        self.calls.told(done, &Call::Open(host))
+        self.calls.note(done, &Call::Open(host))
     }
 
     fn piece(&mut self, bytes: &mut Vec<u8>) -> Result<(), CallFailed> {
         let done = self.inventories.piece(bytes);
-        self.calls.told(done, &Call::Piece(bytes))
+        self.calls.note(done, &Call::Piece(bytes))
     }
 }
 
@@ -253,11 +254,11 @@ impl ReadFiles for InventoryAt<'_> {
 
     fn open(&mut self, host: usize) -> Result<(), CallFailed> {
         let done = self.open.begin();
-        self.calls.told(done, &Call::Open(host))
+        self.calls.note(done, &Call::Open(host))
     }
 
     fn piece(&mut self, bytes: &mut Vec<u8>) -> Result<(), CallFailed> {
         let done = self.open.read_on(bytes);
-        self.calls.told(done, &Call::Piece(bytes))
+        self.calls.note(done, &Call::Piece(bytes))
     }
 }

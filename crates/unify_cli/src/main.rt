@@ -56,7 +56,7 @@ fn run_args(rt: &HostRuntime) -> u8 {
     }
 }
 
-/// Whether a word stands behind the program's name. It takes no memory.
+/// Whether a word stands after the program's name. It takes no memory.
 fn has_words(rt: &HostRuntime) -> bool {
     match rt.arg(1, &mut [0; 1]) {
         Err(FillError::NotPresent) => false,

@@ -103,12 +103,12 @@ impl ReadFiles for SiteFiles<'_> {
 
     fn open(&mut self, host: usize) -> Result<(), CallFailed> {
         let done = self.inventories.open(host);
-        self.calls.told(done, &Call::Open(host))
+        self.calls.note(done, &Call::Open(host))
     }
 
     fn piece(&mut self, bytes: &mut Vec<u8>) -> Result<(), CallFailed> {
         let done = self.inventories.piece(bytes);
-        self.calls.told(done, &Call::Piece(bytes))
+        self.calls.note(done, &Call::Piece(bytes))
     }
 }
 
@@ -116,27 +116,27 @@ impl MergeFiles for SiteFiles<'_> {
     fn clear(&mut self) -> Result<(), CallFailed> {
         let at = &self.output;
         let done = begin_output(at.rt, at.directory, at.words);
-        self.calls.told(done, &Call::Clear)
+        self.calls.note(done, &Call::Clear)
     }
 
     fn begin(&mut self, name: &[u8]) -> Result<(), CallFailed> {
         let done = self.output.begin(name);
-        self.calls.told(done, &Call::Begin(name))
+        self.calls.note(done, &Call::Begin(name))
     }
 
     fn append(&mut self, bytes: &[u8]) -> Result<(), CallFailed> {
         let done = self.output.append(bytes);
-        self.calls.told(done, &Call::Append(bytes))
+        self.calls.note(done, &Call::Append(bytes))
     }
 
     fn finish(&mut self) -> Result<(), CallFailed> {
         let done = self.output.finish();
-        self.calls.told(done, &Call::Finish)
+        self.calls.note(done, &Call::Finish)
     }
 
     fn seal(&mut self, name: &[u8], text: &[u8]) -> Result<(), CallFailed> {
         let at = &self.output;
         let done = finish_output(at.rt, at.directory, name, text);
-        self.calls.told(done, &Call::Seal(name, text))
+        self.calls.note(done, &Call::Seal(name, text))
     }
 }

@@ -42,107 +42,113 @@ fn print_reply<T, F: KnowsWhy>(
     Ok(status)
 }
 
-// Warns of the lines of a text and of those of the keep text.
-fn warn_of_texts(
-    rt: &HostRuntime,
-    matches: &ArgMatches<'_>,
-    path: &str,
-    text: &ByteString,
-    keep: &ByteString,
-) -> Result<(), AllocError> {
-    warn_of_text(rt, path, text)?;
-    warn_of_text(rt, matches.get_str("keep").unwrap_or(""), keep)
+// A site as words name it: its hosts but their inventories, and what they are merged by.
+#[derive(Drop)]
+struct SiteInput<'w> {
+    // The words that name the hosts.
+    words: &'w [&'w str],
+    hosts: Vec<HostText>,
+    pins: ByteString,
+    keep: ByteString,
+    // Whether nobody is to be warned.
+    is_quiet: bool,
 }
 
-// The hosts that words name, but their inventories. Warns of them, of a text and of the keep text,
-// unless it is to be quiet.
-fn hosts_named(
-    rt: &HostRuntime,
-    matches: &ArgMatches<'_>,
-    path: &str,
-    text: &ByteString,
-    keep: &ByteString,
-) -> Result<Vec<HostText>, FileFault> {
-    let hosts = read_hosts_tables(rt, matches.get_strs("HOST").unwrap_or(&[]))?;
-    if !matches.get_flag("quiet") {
-        warn_of_texts(rt, matches, path, text, keep)?;
-        warn_of_hosts_tables(rt, &hosts)?;
+impl<'w> SiteInput<'w> {
+    // Reads the site of the hosts that these words name.
+    fn read(
+        rt: &HostRuntime,
+        matches: &ArgMatches<'_>,
+        words: &'w [&'w str],
+    ) -> Result<SiteInput<'w>, FileFault> {
+        let pins = read_named(rt, matches, "pins")?;
+        let keep = read_named(rt, matches, "keep")?;
+        let hosts = read_hosts_tables(rt, words)?;
+        Ok(SiteInput {
+            words,
+            hosts,
+            pins,
+            keep,
+            is_quiet: matches.get_flag("quiet"),
+        })
     }
-    Ok(hosts)
+
+    // Warns of its texts.
+    fn warn(&self, rt: &HostRuntime, matches: &ArgMatches<'_>) -> Result<(), AllocError> {
+        if self.is_quiet {
+            return Ok(());
+        }
+        warn_of_text(rt, matches.get_str("pins").unwrap_or(""), &self.pins)?;
+        warn_of_text(rt, matches.get_str("keep").unwrap_or(""), &self.keep)?;
+        warn_of_hosts_tables(rt, &self.hosts)
+    }
+
+    // Warns of what its merge has written. The merge is done, also where that cannot be read again,
+    // or memory is refused.
+    fn warn_of_output(&self, rt: &HostRuntime, directory: &str, file_lines: u64) {
+        let (pins, keep) = (self.pins.bytes(), self.keep.bytes());
+        if warn_of_merge(rt, &self.hosts, directory, pins, keep, file_lines).is_err() {
+            let _ = rt.eprintln(
+                "unify: warning: the merge is complete, but was not checked for warnings",
+            );
+        }
+    }
 }
 
-// Prints what a map costs on hosts with these files.
+// Prints what a map costs on a site.
 fn count_by(
     rt: &HostRuntime,
-    files: &mut HostFiles<'_>,
-    hosts: &[HostText],
-    keep: &ByteString,
-    map: &ByteString,
-    is_quiet: bool,
-) -> Result<u8, FileFault> {
-    let answer = count_answer(rt.alloc(), files, hosts, keep.bytes(), map.bytes());
-    print_reply(rt, files, &answer, is_quiet)
-}
-
-// Counts by a map of the hosts that words name.
-fn count_texts(
-    rt: &HostRuntime,
     matches: &ArgMatches<'_>,
+    site: &SiteInput<'_>,
     map: &ByteString,
-    keep: &ByteString,
 ) -> Result<u8, FileFault> {
-    let path = matches.get_str("MAP").unwrap_or("");
-    let hosts = hosts_named(rt, matches, path, map, keep)?;
-    let words = matches.get_strs("HOST").unwrap_or(&[]);
-    let is_quiet = matches.get_flag("quiet");
-    let mut files = HostFiles::new(rt, words, is_quiet);
-    count_by(rt, &mut files, &hosts, keep, map, is_quiet)
+    if !site.is_quiet {
+        warn_of_text(rt, matches.get_str("MAP").unwrap_or(""), map)?;
+    }
+    site.warn(rt, matches)?;
+    let mut files = HostFiles::new(rt, site.words, site.is_quiet);
+    let answer = count_answer(
+        rt.alloc(),
+        &mut files,
+        &site.hosts,
+        site.keep.bytes(),
+        map.bytes(),
+    );
+    print_reply(rt, &files, &answer, site.is_quiet)
 }
 
 // count [--quiet] [--keep FILE] MAP HOST...
 fn run_count(rt: &HostRuntime, matches: &ArgMatches<'_>) -> Result<u8, FileFault> {
     let map = read_file(rt, matches.get_str("MAP").unwrap_or(""))?;
-    let keep = read_named(rt, matches, "keep")?;
-    count_texts(rt, matches, &map, &keep)
+    let site = SiteInput::read(rt, matches, matches.get_strs("HOST").unwrap_or(&[]))?;
+    count_by(rt, matches, &site, &map)
 }
 
-// Prints what a check of a certificate of hosts with these files gives.
+// Prints what a check of a certificate of a site gives.
 fn check_by(
     rt: &HostRuntime,
-    files: &mut HostFiles<'_>,
-    hosts: &[HostText],
-    certificate: &ByteString,
-    pins: &ByteString,
-    keep: &ByteString,
-    is_quiet: bool,
-) -> Result<u8, FileFault> {
-    let (pins, keep) = (pins.bytes(), keep.bytes());
-    let answer = check_answer(rt.alloc(), files, hosts, pins, keep, certificate.bytes());
-    print_reply(rt, files, &answer, is_quiet)
-}
-
-// Checks a certificate of the hosts that words name by pins.
-fn check_texts(
-    rt: &HostRuntime,
     matches: &ArgMatches<'_>,
+    site: &SiteInput<'_>,
     certificate: &ByteString,
-    pins: &ByteString,
-    keep: &ByteString,
 ) -> Result<u8, FileFault> {
-    let path = matches.get_str("pins").unwrap_or("");
-    let hosts = hosts_named(rt, matches, path, pins, keep)?;
-    let words = matches.get_strs("HOST").unwrap_or(&[]);
-    let is_quiet = matches.get_flag("quiet");
-    let mut files = HostFiles::new(rt, words, is_quiet);
-    check_by(rt, &mut files, &hosts, certificate, pins, keep, is_quiet)
+    site.warn(rt, matches)?;
+    let mut files = HostFiles::new(rt, site.words, site.is_quiet);
+    let answer = check_answer(
+        rt.alloc(),
+        &mut files,
+        &site.hosts,
+        site.pins.bytes(),
+        site.keep.bytes(),
+        certificate.bytes(),
+    );
+    print_reply(rt, &files, &answer, site.is_quiet)
 }
 
 // check [--quiet] [--pins FILE] [--keep FILE] CERTIFICATE HOST...
 fn run_check(rt: &HostRuntime, matches: &ArgMatches<'_>) -> Result<u8, FileFault> {
     let certificate = read_file(rt, matches.get_str("CERTIFICATE").unwrap_or(""))?;
-    let pins = read_named(rt, matches, "pins")?;
-    let keep = read_named(rt, matches, "keep")?;
-    check_texts(rt, matches, &certificate, &pins, &keep)
+    let site = SiteInput::read(rt, matches, matches.get_strs("HOST").unwrap_or(&[]))?;
+    check_by(rt, matches, &site, &certificate)
 }
 
 // rehearse PLAN MTREE
@@ -151,6 +157,36 @@ fn run_rehearse(rt: &HostRuntime, matches: &ArgMatches<'_>) -> Result<u8, FileFa
     let mut inventory = InventoryAt::new(rt, matches.get_str("MTREE").unwrap_or(""))?;
     let answer = rehearse_answer(rt.alloc(), &mut inventory, plan.bytes());
     print_reply(rt, &inventory, &answer, true)
+}
+
+// Merges a site into a directory, warns of what it gives, and prints what it costs.
+fn merge_by(
+    rt: &HostRuntime,
+    matches: &ArgMatches<'_>,
+    directory: &str,
+    site: &SiteInput<'_>,
+) -> Result<u8, FileFault> {
+    site.warn(rt, matches)?;
+    let mut files = SiteFiles::new(rt, directory, site.words, site.is_quiet);
+    let (pins, keep) = (site.pins.bytes(), site.keep.bytes());
+    let answer = merge_answer(rt.alloc(), &mut files, &site.hosts, pins, keep);
+    if answer.found.is_err() {
+        files.discard();
+    } else if !site.is_quiet {
+        site.warn_of_output(rt, directory, files.file_lines());
+    }
+    print_reply(rt, &files, &answer, site.is_quiet)
+}
+
+// Merges the hosts that words name into a directory, which is locked.
+fn merge_words(
+    rt: &HostRuntime,
+    matches: &ArgMatches<'_>,
+    directory: &str,
+    words: &[&str],
+) -> Result<u8, FileFault> {
+    let site = SiteInput::read(rt, matches, words)?;
+    merge_by(rt, matches, directory, &site)
 }
 
 // Merges the hosts that words name into a directory, which is looked at first, and is locked until
@@ -162,94 +198,12 @@ fn merge_into(
     words: &[&str],
 ) -> Result<u8, FileFault> {
     let locked = open_output(rt, directory, words)?;
-    let merged = merge_words_into(rt, matches, directory, words);
+    let merged = merge_words(rt, matches, directory, words);
     drop(locked);
     merged
 }
 
-// Merges the hosts that words name into a directory.
-fn merge_words_into(
-    rt: &HostRuntime,
-    matches: &ArgMatches<'_>,
-    directory: &str,
-    words: &[&str],
-) -> Result<u8, FileFault> {
-    let pins = read_named(rt, matches, "pins")?;
-    let keep = read_named(rt, matches, "keep")?;
-    let hosts = read_hosts_tables(rt, words)?;
-    merge_texts(rt, matches, directory, words, &hosts, &pins, &keep)
-}
-
-// Warns of what was read before a merge.
-fn warn_before(
-    rt: &HostRuntime,
-    matches: &ArgMatches<'_>,
-    hosts: &[HostText],
-    pins: &ByteString,
-    keep: &ByteString,
-) -> Result<(), AllocError> {
-    let path = matches.get_str("pins").unwrap_or("");
-    warn_of_texts(rt, matches, path, pins, keep)?;
-    warn_of_hosts_tables(rt, hosts)
-}
-
-// Warns of what a merge of hosts has written. The merge is done, also where that cannot be read
-// again, or memory is refused.
-fn warn_behind(
-    rt: &HostRuntime,
-    hosts: &[HostText],
-    directory: &str,
-    pins: &[u8],
-    keep: &[u8],
-    file_lines: u64,
-) {
-    if warn_of_merge(rt, hosts, directory, pins, keep, file_lines).is_err() {
-        let _ = rt.eprintln(
-            "unify: warning: the merge is done, and what it wrote was not looked at for warnings",
-        );
-    }
-}
-
-// Merges hosts by these files, warns of what it gives unless it is to be quiet, and prints what it
-// costs.
-fn merge_by(
-    rt: &HostRuntime,
-    files: &mut SiteFiles<'_>,
-    directory: &str,
-    hosts: &[HostText],
-    pins: &ByteString,
-    keep: &ByteString,
-    is_quiet: bool,
-) -> Result<u8, FileFault> {
-    let answer = merge_answer(rt.alloc(), files, hosts, pins.bytes(), keep.bytes());
-    if answer.found.is_err() {
-        files.discard();
-    } else if !is_quiet {
-        let (pins, keep) = (pins.bytes(), keep.bytes());
-        warn_behind(rt, hosts, directory, pins, keep, files.file_lines());
-    }
-    print_reply(rt, files, &answer, is_quiet)
-}
-
-// Merges hosts whose texts are given but for their inventories, and prints what it costs.
-fn merge_texts(
-    rt: &HostRuntime,
-    matches: &ArgMatches<'_>,
-    directory: &str,
-    words: &[&str],
-    hosts: &[HostText],
-    pins: &ByteString,
-    keep: &ByteString,
-) -> Result<u8, FileFault> {
-    let is_quiet = matches.get_flag("quiet");
-    if !is_quiet {
-        warn_before(rt, matches, hosts, pins, keep)?;
-    }
-    let mut files = SiteFiles::new(rt, directory, words, is_quiet);
-    merge_by(rt, &mut files, directory, hosts, pins, keep, is_quiet)
-}
-
-// A word and others behind it.
+// A word and others after it.
 fn with_first<'a>(
     rt: &HostRuntime,
     first: &'a str,
@@ -325,7 +279,7 @@ fn tell_usage(rt: &HostRuntime, error: &Error) -> u8 {
     0
 }
 
-// The words behind the program's name, which is told as `unify` whatever the file is called.
+// The words after the program's name, which is told as `unify` whatever the file is called.
 fn named<'a>(rt: &HostRuntime, words: &'a [String]) -> Result<Vec<&'a str>, AllocError> {
     let mut named = Vec::new(rt.alloc());
     named.push("unify")?;
@@ -351,7 +305,7 @@ pub fn tell_help(rt: &HostRuntime) -> u8 {
     run_named(rt, &["unify", "--help"])
 }
 
-/// Runs the command of the words behind the program's name, and hands out the exit status.
+/// Runs the command of the words after the program's name, and hands out the exit status.
 pub fn run_words(rt: &HostRuntime, words: &[String]) -> u8 {
     match named(rt, words) {
         Ok(words) => run_named(rt, &words),

@@ -36,7 +36,7 @@ struct Argument {
     name: &'static str,
     form: Form,
     need: Need,
-    /// The letter behind one dash that names it too.
+    /// The letter after one dash that names it too.
     letter: Option<char>,
     help: &'static str,
 }

@@ -43,7 +43,7 @@ impl LineStart {
 pub struct FileLines {
     ended: u64,
     start: LineStart,
-    // The last byte of the line, if one has come. Behind a backslash it goes on in the next line.
+    // The last byte of the line, if one has come. After a backslash it goes on in the next line.
     last: Option<u8>,
     // Whether a line has ended in a carriage return.
     has_returns: bool,
@@ -83,7 +83,7 @@ impl FileLines {
     }
 
     // Takes a byte of a line whose first word is not known as yet. A backslash is a byte of it
-    // where another one comes behind it before the line ends.
+    // where another one comes after it before the line ends.
     fn take_byte(&mut self, byte: u8) {
         if self.last == Some(b'\\') {
             self.start = LineStart::File;

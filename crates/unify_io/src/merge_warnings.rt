@@ -41,7 +41,7 @@ fn warn_of_paths(rt: &HostRuntime, report: &[u8], file_lines: u64) -> Result<(),
     warn(
         rt,
         &[
-            Part::Text("lines of inventories whose path stood there before:"),
+            Part::Text("inventory lines that repeat a path:"),
             Part::Count(again as usize),
         ],
     )
@@ -102,9 +102,9 @@ fn warn_of_group<'a>(
             Part::Name(group),
             Part::Text("on host"),
             Part::Name(host),
-            Part::Text("has"),
+            Part::Text("had"),
             had,
-            Part::Text("and gets"),
+            Part::Text("and gains"),
             Part::Names(new),
         ],
     )

@@ -51,7 +51,7 @@ impl OutputFault<'_> {
 // Files that directories of hosts hold, and no merge writes.
 const HOST_FILES: [&str; 3] = ["mtree", "login.defs", "shadow"];
 
-// Files that a merge writes, but for those of each host.
+// Files that a merge writes, except for those of each host.
 const MERGED_FILES: [&str; 5] = ["passwd", "group", "map", "certificate", "report"];
 
 // The host whose directory it is, among those that words name.

@@ -82,7 +82,7 @@ fn warn_of_kept(rt: &HostRuntime, pinned: Pinned<'_>) -> Result<(), AllocError> 
         &[
             pin_of(pinned),
             Part::Name(pinned.name),
-            Part::Text("is for a name that stays as it is on each host, and gives it no number"),
+            Part::Text("has no effect: the name stays as it is on each host"),
         ],
     )
 }

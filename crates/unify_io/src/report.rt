@@ -174,12 +174,11 @@ fn is_of_what_may_stay(fault: &Fault<'_>) -> bool {
     )
 }
 
-/// Tells of keep texts behind a refusal that one may take away, where standard error is a terminal.
+/// Tells of keep texts after a refusal that one may take away, where standard error is a terminal.
 pub fn tell_of_keep(rt: &HostRuntime, fault: &Fault<'_>) {
     if is_of_what_may_stay(fault) && rt.stderr().is_terminal() {
         let _ = rt.eprintln(
-            "unify: accounts and numbers that may differ from host to host \
-            can be left as they are: --keep FILE",
+            "unify: hint: --keep FILE leaves accounts and numbers as they are on each host",
         );
     }
 }
@@ -197,7 +196,7 @@ pub fn file_fault_told(rt: &HostRuntime, fault: FileFault) -> u8 {
     }
 }
 
-// Appends a letter. One that would act on a terminal is escaped, but for a newline.
+// Appends a letter. One that would act on a terminal is escaped, except for a newline.
 fn push_letter(told: &mut Vec<u8>, letter: char) -> Result<(), AllocError> {
     let mut buffer = [0; 4];
     let bytes = letter.encode_utf8(&mut buffer).as_bytes();

@@ -22,7 +22,7 @@ pub enum Part<'a> {
     Count(usize),
 }
 
-// Appends a name of several, behind those with a lower index.
+// Appends a name of several, after those with a lower index.
 fn push_listed(line: &mut Vec<u8>, index: usize, name: &[u8]) -> Result<(), AllocError> {
     if index > 0 {
         line.extend_from_slice(b", ")?;

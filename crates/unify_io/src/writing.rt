@@ -97,7 +97,7 @@ fn write_file(rt: &HostRuntime, directory: &str, name: &str, text: &[u8]) -> Res
     file.keep(rt)
 }
 
-// What a call gave, but for a failure of that kind, which is none.
+// What a call gave, except for a failure of that kind, which is none.
 fn unless(done: io::Result<()>, kind: io::ErrorKind) -> io::Result<()> {
     match done {
         Err(error) if error.kind() == kind => Ok(()),

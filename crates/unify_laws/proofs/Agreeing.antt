@@ -18,7 +18,7 @@ use Rattle.reown_plan.specs.Reading.{ReadsAs}
 use Rattle.reown_runner.specs.Finished.{AreOld}
 use Rattle.reown_runner.specs.Memory.{owner_in}
 use Rattle.unify_texts.specs.declared.bundle_line.FileName.TheVariants as file
-use Rattle.unify.specs.Checking.{verified}
+use Rattle.unify.specs.Checking.{check_of}
 use Rattle.unify.specs.Cost.{cost_of}
 use Rattle.unify.specs.Reading.{files_of_site}
 use Rattle.unify.specs.Rehearsing.{found_fault, record_fault}
@@ -28,13 +28,13 @@ use Rattle.unify.proofs.ReadSites.{as-many-others}
 use Rattle.unify.proofs.Rehearsed.{carried_out}
 use Rattle.unify_laws.specs.Agreeing.{PrintedCertificatesAreAccepted, NoMapRewritesFewer, PrintedPlansAreRehearsed}
 use Rattle.unify_laws.specs.Headline.{fields}
-use Rattle.unify_laws.proofs.Believed.{outcomes_are_believed}
+use Rattle.unify_laws.proofs.Correct.{outcomes_are_correct}
 use Rattle.unify_laws.proofs.Costs.{costs_agree}
 use Rattle.unify_laws.proofs.OnePiece.{accepted_at}
 use Rattle.unify_laws.proofs.WholeSites.{read_sites_are_whole, steps}
 
 pub printed_certificates_are_accepted : PrintedCertificatesAreAccepted
-unfolding verified
+unfolding check_of
 printed_certificates_are_accepted texts rules site outcome read o =
     let whole = read_sites_are_whole texts rules site read in
     let files = files_of_site site in
@@ -82,7 +82,7 @@ printed_plans_are_rehearsed texts rules site outcome read o h text plan text_at 
     let here = accepted_at s.others.hosts mtrees site.hosts h host text.mtree s.files_are at.1 mtree_at in
     let files = here.0 in
     let listed = (files_read (record { host = host; mtree = text.mtree }) files here.1).0 in
-    let found = (outcomes_are_believed site outcome (read_sites_are_whole texts rules site read) o).a_plan_keeps_names h host files here.2 in
+    let found = (outcomes_are_correct site outcome (read_sites_are_whole texts rules site read) o).a_plan_keeps_names h host files here.2 in
     let told : PlanData = record { host = host.name; records = found.records } in
     let reads : ReadsAs plan (Ok told) = subst (λ p. ReadsAs p (Ok told)) (same_Some found.plan plan (sym found.printed ∙ plan_at)) found.read in
     let none = none_faulty files [] found.records found.begins in

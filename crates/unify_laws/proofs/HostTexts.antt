@@ -51,33 +51,33 @@ by_pairs : (a : Accounts) (m : List ℕ) (pairs : List Pair) → SayMapping a m 
 by_pairs a m pairs say (Some name) old new is = paired a m pairs say name new is
 by_pairs a m pairs say None old new is = (is.0, λ name has. is.1 name (is-paired a m pairs say name new has))
 
-module _ (site : WholeSite) (outcome : Outcome) (believed : Headline site outcome) (full host : Host) (text : HostText) where
+module _ (site : WholeSite) (outcome : Outcome) (correct : Headline site outcome) (full host : Host) (text : HostText) where
   -- a file that has by the map the names that it had has them by the host's own new files
-  named_by_own : (passwd : IsFullPasswd site.joined believed.mappings full host text.passwd (own_passwd host site.joined believed.mappings text)) (group : IsFullGroupFile site.joined believed.mappings full host text.group (own_group site.joined believed.mappings text))
-      → (were_users : List Passwd) (were_groups : List Group) (tree : List ℕ → Option Owner) (file : Entry) → IsNamedAsBefore believed.map were_users were_groups host host tree file → IsNamedAsBefore believed.map passwd.rows group.rows full host tree file
+  named_by_own : (passwd : IsFullPasswd site.joined correct.mappings full host text.passwd (own_passwd host site.joined correct.mappings text)) (group : IsFullGroupFile site.joined correct.mappings full host text.group (own_group site.joined correct.mappings text))
+      → (were_users : List Passwd) (were_groups : List Group) (tree : List ℕ → Option Owner) (file : Entry) → IsNamedAsBefore correct.map were_users were_groups host host tree file → IsNamedAsBefore correct.map passwd.rows group.rows full host tree file
   named_by_own passwd group were_users were_groups tree file named =
-      let m = believed.mappings in
+      let m = correct.mappings in
       let by = named.by_map in
       record {
         by_map = by;
-        user_is = passwd.names_are_kept file.uid by.now.uid (by_pairs site.joined.users m.users believed.map.users believed.users_have_one_number_each.say (user_at host.users file.uid) file.uid by.now.uid by.user);
-        group_is = group.names_are_kept file.gid by.now.gid (by_pairs site.joined.groups m.groups believed.map.groups believed.groups_have_one_number_each.say (group_at host.groups file.gid) file.gid by.now.gid by.group);
+        user_is = passwd.names_are_kept file.uid by.now.uid (by_pairs site.joined.users m.users correct.map.users correct.users_have_one_number_each.say (user_at host.users file.uid) file.uid by.now.uid by.user);
+        group_is = group.names_are_kept file.gid by.now.gid (by_pairs site.joined.groups m.groups correct.map.groups correct.groups_have_one_number_each.say (group_at host.groups file.gid) file.gid by.now.gid by.group);
       }
 
-  old_or_own : (passwd : IsFullPasswd site.joined believed.mappings full host text.passwd (own_passwd host site.joined believed.mappings text)) (group : IsFullGroupFile site.joined believed.mappings full host text.group (own_group site.joined believed.mappings text))
-      → (users : List Passwd) (groups : List Group) (tree : List ℕ → Option Owner) (file : Entry) → IsOldOrNamed believed.map users groups host host tree file → IsOldOrNamed believed.map passwd.rows group.rows full host tree file
+  old_or_own : (passwd : IsFullPasswd site.joined correct.mappings full host text.passwd (own_passwd host site.joined correct.mappings text)) (group : IsFullGroupFile site.joined correct.mappings full host text.group (own_group site.joined correct.mappings text))
+      → (users : List Passwd) (groups : List Group) (tree : List ℕ → Option Owner) (file : Entry) → IsOldOrNamed correct.map users groups host host tree file → IsOldOrNamed correct.map passwd.rows group.rows full host tree file
   old_or_own passwd group users groups tree file (inl old) = inl old
   old_or_own passwd group users groups tree file (inr named) = inr (named_by_own passwd group users groups tree file named)
 
 -- ---- own files
 
 -- no name has the number of a row that is kept
-numbered_part : (site : WholeSite) (outcome : Outcome) → IsWhole site → (believed : Headline site outcome) (full host : Host) → IsJoinedPart site.joined full host → IsNumberedHost site.joined believed.mappings full host
-numbered_part site outcome whole believed full host part =
-    let m = believed.mappings in
-    let printed = believed.map in
-    let users = believed.users_have_one_number_each in
-    let groups = believed.groups_have_one_number_each in
+numbered_part : (site : WholeSite) (outcome : Outcome) → IsWhole site → (correct : Headline site outcome) (full host : Host) → IsJoinedPart site.joined full host → IsNumberedHost site.joined correct.mappings full host
+numbered_part site outcome whole correct full host part =
+    let m = correct.mappings in
+    let printed = correct.map in
+    let users = correct.users_have_one_number_each in
+    let groups = correct.groups_have_one_number_each in
     record {
       users = numbered_rows (λ (row : Passwd). row.name) (λ (row : Passwd). row.uid) site.joined.users m.users printed.users full.users host.users whole.lawful.users users.admissible users.say whole.leaves.users part.users;
       groups = numbered_rows (λ (row : Group). row.name) (λ (row : Group). row.gid) site.joined.groups m.groups printed.groups full.groups host.groups whole.lawful.groups groups.admissible groups.say whole.leaves.groups part.groups;
@@ -91,14 +91,14 @@ all_numbered site m full host is all = record {
 }
 
 pub hosts_keep_own_files : HostsKeepOwnFiles
-hosts_keep_own_files site outcome whole believed h full host files text here part users groups =
-    let m = believed.mappings in
+hosts_keep_own_files site outcome whole correct h full host files text here part users groups =
+    let m = correct.mappings in
     let known = whole.each_host h host files here in
-    let is = numbered_part site outcome whole believed full host part in
+    let is = numbered_part site outcome whole correct full host part in
     let passwd : IsFullPasswd site.joined m full host text.passwd (own_passwd host site.joined m text) = full_passwd_back site.joined m full host text.passwd is users in
     let group : IsFullGroupFile site.joined m full host text.group (own_group site.joined m text) = full_group_back site.joined m full host text.group is groups in
-    let kept = believed.a_plan_keeps_names h host files here in
-    let merged = believed.installed in
+    let kept = correct.a_plan_keeps_names h host files here in
+    let merged = correct.installed in
     record {
       passwd = passwd;
       group = group;
@@ -111,11 +111,11 @@ hosts_keep_own_files site outcome whole believed h full host files text here par
         begins = kept.begins;
         only_the_device_refuses = kept.only_the_device_refuses;
         at_every_moment = λ asked runs end are image is_image.
-            All-weaker (IsOldOrNamed believed.map merged.passwd.rows merged.group.rows host host image.owner) (IsOldOrNamed believed.map passwd.rows group.rows full host image.owner)
-            (old_or_own site outcome believed full host text passwd group merged.passwd.rows merged.group.rows image.owner) files (kept.at_every_moment asked runs end are image is_image);
+            All-weaker (IsOldOrNamed correct.map merged.passwd.rows merged.group.rows host host image.owner) (IsOldOrNamed correct.map passwd.rows group.rows full host image.owner)
+            (old_or_own site outcome correct full host text passwd group merged.passwd.rows merged.group.rows image.owner) files (kept.at_every_moment asked runs end are image is_image);
         kept = λ asked runs end are done image is_image.
-            All-weaker (IsNamedAsBefore believed.map merged.passwd.rows merged.group.rows host host image.owner) (IsNamedAsBefore believed.map passwd.rows group.rows full host image.owner)
-            (named_by_own site outcome believed full host text passwd group merged.passwd.rows merged.group.rows image.owner) files (kept.kept asked runs end are done image is_image);
+            All-weaker (IsNamedAsBefore correct.map merged.passwd.rows merged.group.rows host host image.owner) (IsNamedAsBefore correct.map passwd.rows group.rows full host image.owner)
+            (named_by_own site outcome correct full host text passwd group merged.passwd.rows merged.group.rows image.owner) files (kept.kept asked runs end are done image is_image);
       };
       passwd_in_full = λ was all.
           own_passwd_in_full site.joined m h host known.lawful known.known (all_numbered site.joined m full host is all) was text.passwd (users ∙ ap (λ (rows : List Passwd). Ok rows) all.users);
@@ -124,12 +124,12 @@ hosts_keep_own_files site outcome whole believed h full host files text here par
     }
 
 -- the text of a host tells what its own files are made of
-pub text_keeps : (site : WholeSite) (outcome : Outcome) → IsWhole site → (believed : Headline site outcome) (h : ℕ) (host : Host) (files : List Entry) (text : HostText) (loaded : Loaded) → slice_get site.hosts h ≡ Some (host, files)
-    → IsTextOf site.joined host text → host_of text ≡ Ok loaded → KeepsOwnFiles site believed.mappings believed.map outcome.plans h loaded.host host files text
-text_keeps site outcome whole believed h host files text loaded here is told =
+pub text_keeps : (site : WholeSite) (outcome : Outcome) → IsWhole site → (correct : Headline site outcome) (h : ℕ) (host : Host) (files : List Entry) (text : HostText) (loaded : Loaded) → slice_get site.hosts h ≡ Some (host, files)
+    → IsTextOf site.joined host text → host_of text ≡ Ok loaded → KeepsOwnFiles site correct.mappings correct.map outcome.plans h loaded.host host files text
+text_keeps site outcome whole correct h host files text loaded here is told =
     let same : is.loaded ≡ loaded = ok_same is.loaded loaded (sym is.told ∙ told) in
-    subst (λ (l : Loaded). KeepsOwnFiles site believed.mappings believed.map outcome.plans h l.host host files text) same
-    (hosts_keep_own_files site outcome whole believed h is.loaded.host host files text here is.part is.passwd is.group)
+    subst (λ (l : Loaded). KeepsOwnFiles site correct.mappings correct.map outcome.plans h l.host host files text) same
+    (hosts_keep_own_files site outcome whole correct h is.loaded.host host files text here is.part is.passwd is.group)
 
 -- ---- the texts of a host's tables
 

@@ -5,12 +5,12 @@ pub mod OnePiece
 pub mod Keeping
 pub mod Installed
 pub mod SiteRuns
-pub mod Believed
+pub mod Correct
 pub mod EmptyPins
 pub mod EmptyKeep
 pub mod TwoPasses
 pub mod CountPasses
-pub mod PassesBelieved
+pub mod PassesCorrect
 pub mod Costs
 pub mod Agreeing
 pub mod Counted

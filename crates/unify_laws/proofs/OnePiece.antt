@@ -36,7 +36,7 @@ pub read_refused : {A : Type 0} (r : Result A Fault) (f : Fault) → is_read r �
 read_refused (Ok x) f h = absurd (cc)
 read_refused (Err e) f h = let same : e ≡ f = cc in ap (λ x. Err x) same
 
--- the one at an index is refused, behind others that were accepted
+-- the one at an index is refused, after others that were accepted
 pub refused_at : (hosts : List Host) (texts : List (List ℕ)) (read : List (Host × List Entry)) (k : ℕ) (host : Host) (text : List ℕ) (f : Fault) → each site_of (loaded_from hosts (take k texts)) ≡ Ok read
     → slice_get hosts k ≡ Some host → slice_get texts k ≡ Some text → is_read (files_of (record { host = host; mtree = text })) ≡ Err f → each site_of (loaded_from hosts texts) ≡ Err f
 unfolding each
@@ -81,7 +81,7 @@ accepted_at = pairs_at files_of
 
 -- ---- lists that grow
 
--- the item behind a list, and those in it
+-- the item after a list, and those in it
 pub at_end : {A : Type 0} (xs : List A) (x : A) (k : ℕ) → k ≡ length xs → slice_get (xs ++ x ∷ []) k ≡ Some x
 at_end [] x zero is = refl
 at_end [] x (suc k) is = absurd (omega (arith, is))

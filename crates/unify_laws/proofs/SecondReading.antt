@@ -40,10 +40,10 @@ use Rattle.unify.specs.SecondPass.{HaveSameCounts, or_changed}
 use Rattle.unify.proofs.Counts.{apart, as_many}
 use Rattle.unify.proofs.Owners.{owner-told}
 use Rattle.unify.proofs.Reading.{all-owned, read-host}
-use Rattle.unify_laws.specs.TwoPasses.{AreReadAgain, SecondReadingIsBelieved, SecondReadingIsRight, read_last}
+use Rattle.unify_laws.specs.TwoPasses.{AreReadAgain, SecondReadingIsCorrect, SecondReadingIsRight, read_last}
 use Rattle.unify_laws.proofs.Agreeing.{item_at}
 use Rattle.unify_laws.proofs.Counted.{mapped_some}
-use Rattle.unify_laws.proofs.PassesBelieved.{two_passes_are_believed, with_plans}
+use Rattle.unify_laws.proofs.PassesCorrect.{two_passes_are_correct, with_plans}
 
 -- ---- the files of all hosts
 
@@ -283,6 +283,6 @@ pub second_reading_is_right : SecondReadingIsRight
 second_reading_is_right first merged hosts plans whole is again are =
     with_plans (read_last first hosts) merged plans (still_merged first whole hosts again merged is) are
 
-pub second_reading_is_believed : SecondReadingIsBelieved
-second_reading_is_believed first merged hosts plans whole is again are =
-    two_passes_are_believed (read_last first hosts) merged plans (still_whole first whole hosts again) (still_merged first whole hosts again merged is) are
+pub second_reading_is_correct : SecondReadingIsCorrect
+second_reading_is_correct first merged hosts plans whole is again are =
+    two_passes_are_correct (read_last first hosts) merged plans (still_whole first whole hosts again) (still_merged first whole hosts again merged is) are

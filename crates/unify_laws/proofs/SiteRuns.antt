@@ -34,7 +34,7 @@ use Rattle.unify.specs.declared.outcome.Outcome.{Outcome}
 use Rattle.unify.specs.Whole.{IsWhole}
 use Rattle.unify.specs.Outcomes.{IsOutcome, hosts_in}
 use Rattle.unify.specs.Reading.{WholeSite}
-use Rattle.unify_laws.specs.Believed.{DoneKeepsPrintedNames, RunsKeepNames}
+use Rattle.unify_laws.specs.Correct.{DoneKeepsPrintedNames, RunsKeepNames}
 use Rattle.unify_laws.specs.Headline.{IsNamedAsBefore, IsOldOrNamed, KeepsItsNames}
 use Rattle.unify_laws.specs.Installed.{AreInstalled}
 use Rattle.unify_laws.specs.SiteRuns.{DoneKeepsNames, EachIsOldOrNamed, runners_from, new_world}

@@ -15,7 +15,7 @@ use Rattle.unify.specs.Reading.{WholeSite, site_read}
 use Rattle.unify.specs.Told.{in_site}
 use Rattle.unify_laws.specs.Laws.{PassesReadTheSite}
 
--- a step before two steps, and before what goes on behind the one of them
+-- a step before two steps, and before what goes on after the one of them
 pub first-step : {A B C F : Type 0} (r : Result A F) (whole : A → Result C F) (begun : A → Result B F) (rest : B → Result C F) → ((x : A) → r ≡ Ok x → whole x ≡ (begun x >>= rest)) → (r >>= whole) ≡ ((r >>= begun) >>= rest)
 first-step (Ok x) whole begun rest h = h x refl
 first-step (Err e) whole begun rest h = refl

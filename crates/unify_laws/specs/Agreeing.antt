@@ -8,7 +8,7 @@ use Rattle.reown_plan.specs.Reading.{ReadsAs}
 use Rattle.unify_texts.specs.declared.map_text.MapText.{MapText}
 use Rattle.unify.specs.declared.outcome.Outcome.{Outcome}
 use Rattle.unify.specs.declared.rules.SiteRules.{SiteRules}
-use Rattle.unify.specs.Checking.{IsVerified, verified}
+use Rattle.unify.specs.Checking.{IsChecked, check_of}
 use Rattle.unify.specs.Cost.{cost_of}
 use Rattle.unify.specs.Count.{count_of}
 use Rattle.unify.specs.Outcomes.{IsOutcome}
@@ -22,7 +22,7 @@ abbrev pub PrintedCertificatesAreAccepted : Type 0
 PrintedCertificatesAreAccepted =
     (texts : List HostText) (rules : SiteRules) (site : WholeSite) (outcome : Outcome)
     → site_read texts rules ≡ Ok site → IsOutcome site outcome
-    → verified texts rules outcome.certificate ≡ Ok (fields outcome.cost)
+    → check_of texts rules outcome.certificate ≡ Ok (fields outcome.cost)
 
 -- a count of the map that a merge prints answers the cost that the merge tells
 abbrev pub PrintedMapsAreCounted : Type 0
@@ -36,7 +36,7 @@ PrintedMapsAreCounted =
 abbrev pub NoMapRewritesFewer : Type 0
 NoMapRewritesFewer =
     (texts : List HostText) (rules : SiteRules) (text : List ℕ) (cost : ℕ)
-    → (is : IsVerified texts rules text cost) → (other : MapText) (m : Mappings)
+    → (is : IsChecked texts rules text cost) → (other : MapText) (m : Mappings)
     → HaveOneNumberEach is.site.joined.users m.users other.users
     → HaveOneNumberEach is.site.joined.groups m.groups other.groups
     → cost ≤ fields (cost_of other is.site.hosts)

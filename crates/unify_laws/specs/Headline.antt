@@ -1,4 +1,4 @@
--- What a merge is believed for.
+-- What a merge guarantees.
 -- Source: the assignment problem with its weak duality (Kuhn, Munkres); the sentence is this
 -- project's own.
 use Rattle.std.specs.Prelude.{◌≡◌, ◌⊎◌, ◌≤◌, ◌+◌, ℕ, false, List, Option, Some, None, Ok, IfSome}
@@ -84,7 +84,8 @@ abbrev pub fields : Cost → ℕ
 fields cost = cost.users + cost.groups
 
 -- a host as its inventory tells it: each file at its owner, the mark not set, nothing pending, its
--- plan not begun asked: how many writes and syncs its tree was asked for before
+-- plan not begun
+-- asked: how many writes and syncs its tree was asked for before
 abbrev pub untouched : ℕ → List Entry → run.Host
 untouched asked files =
     record {

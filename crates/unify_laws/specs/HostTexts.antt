@@ -1,4 +1,4 @@
--- Each host's own passwd and group with their new numbers, and what they are believed for.
+-- Each host's own passwd and group with their new numbers, and what they guarantee.
 -- Source: passwd(5) and group(5); the sentence is this project's own.
 use Rattle.std.specs.Prelude.{◌≡◌, ℕ, true, false, List, [], ◌∷◌, ◌++◌, codes, filter, All, Some}
 use Rattle.std.specs.Prelude.{Ok, slice_get}
@@ -96,7 +96,7 @@ pub record AreJoinedInFull (hosts : List Host) (texts : List HostText) : Type 0 
       → host_of text ≡ Ok loaded → IsJoinedInFull loaded.host host
 
 -- So it is for the hosts of a site of which no name is kept, before its inventories are read, and
--- behind them.
+-- after them.
 abbrev pub BegunSitesAreInFull : Type 0
 BegunSitesAreInFull = (texts : List HostText) (rules : SiteRules) (begun : BegunSite)
     → site_begun texts rules ≡ Ok begun → keeps_a_name begun.joined ≡ false
@@ -115,7 +115,7 @@ EmptyTextsKeepNoName = (texts : List HostText) (rules : SiteRules) (begun : Begu
 
 -- ---- what its own files say
 
--- What they say when they are read: line by line they are those of the host, but for the numbers
+-- What they say when they are read: line by line they are those of the host, except for the numbers
 -- of what was joined; each user has the primary group that it had; and while the host's plan is
 -- carried out, however often stopped, every file of it has its old owner, or by them the user and
 -- group names it had; once it has finished, every file has these.
@@ -141,20 +141,20 @@ pub record KeepsOwnFiles (site : WholeSite) (m : Mappings) (map : MapText)
 -- so it is for each host of a site that has the headline, and the texts of its own files
 abbrev pub HostsKeepOwnFiles : Type 0
 HostsKeepOwnFiles = (site : WholeSite) (outcome : Outcome) → IsWhole site
-    → (believed : Headline site outcome) (h : ℕ) (full host : Host) (files : List Entry)
+    → (correct : Headline site outcome) (h : ℕ) (full host : Host) (files : List Entry)
     (text : HostText) → slice_get site.hosts h ≡ Some (host, files)
     → IsJoinedPart site.joined full host
     → passwd_table text.passwd ≡ Ok full.users → group_table text.group ≡ Ok full.groups
-    → KeepsOwnFiles site believed.mappings believed.map outcome.plans h full host files text
+    → KeepsOwnFiles site correct.mappings correct.map outcome.plans h full host files text
 
 -- The own files of every host keep its names. The texts are those of the hosts, index by index,
 -- and tell each host in full.
 abbrev pub EachKeepsOwnFiles : (site : WholeSite) (outcome : Outcome) → Headline site outcome
     → List HostText → Type 0
-EachKeepsOwnFiles site outcome believed texts = (h : ℕ) (host : Host) (files : List Entry)
+EachKeepsOwnFiles site outcome correct texts = (h : ℕ) (host : Host) (files : List Entry)
     (text : HostText) (loaded : Loaded) → slice_get site.hosts h ≡ Some (host, files)
     → slice_get texts h ≡ Some text → host_of text ≡ Ok loaded
-    → KeepsOwnFiles site believed.mappings believed.map outcome.plans h loaded.host host files text
+    → KeepsOwnFiles site correct.mappings correct.map outcome.plans h loaded.host host files text
 
 -- What a merge of texts may give with each host's own files: an outcome that is right for the
 -- site, with the headline; and the own files of each host by the mappings of that headline, which
@@ -162,6 +162,6 @@ EachKeepsOwnFiles site outcome believed texts = (h : ℕ) (host : Host) (files :
 pub record AreSiteFiles (texts : List HostText) (site : WholeSite)
     (files : SiteFiles) : Type 0 where
   pub is_right : IsOutcome site files.outcome
-  pub is_believed : Headline site files.outcome
-  pub own_files : EachKeepsOwnFiles site files.outcome is_believed texts
-  pub own_are : files.own.items ≡ host_files site.joined is_believed.mappings texts (hosts_in site)
+  pub is_correct : Headline site files.outcome
+  pub own_files : EachKeepsOwnFiles site files.outcome is_correct texts
+  pub own_are : files.own.items ≡ host_files site.joined is_correct.mappings texts (hosts_in site)

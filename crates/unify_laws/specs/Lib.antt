@@ -2,7 +2,7 @@ pub mod Laws
 pub mod Installed
 pub mod Headline
 pub mod SiteRuns
-pub mod Believed
+pub mod Correct
 pub mod TwoPasses
 pub mod HostTexts
 pub mod Texts

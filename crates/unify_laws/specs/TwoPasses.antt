@@ -1,4 +1,4 @@
--- What two passes over inventories in pieces are believed for.
+-- What two passes over inventories in pieces guarantee.
 -- Source: this project's own rule.
 use Rattle.std.specs.Prelude.{◌≡◌, ℕ, List, length, Some, Ok, slice_get}
 use Rattle.mtree_inv.specs.declared.entry.Entry.{Entry}
@@ -19,10 +19,10 @@ pub record AreWholePlans (site : WholeSite) (merged : Merged) (plans : List (Lis
       → slice_get site.hosts index ≡ Some (host, files)
       → slice_get plans index ≡ Some (whole_plan host site.joined merged index files)
 
--- what was merged behind a first pass, with the plans that a second pass appends, is believed as
+-- what was merged after a first pass, with the plans that a second pass appends, is as correct as
 -- what one merge answers
-abbrev pub TwoPassesAreBelieved : Type 0
-TwoPassesAreBelieved =
+abbrev pub TwoPassesAreCorrect : Type 0
+TwoPassesAreCorrect =
     (site : WholeSite) (merged : Merged) (plans : List (List ℕ)) → IsWhole site
     → IsMerged site merged → AreWholePlans site merged plans
     → Headline site (record merged.outcome { plans = plans })
@@ -40,7 +40,7 @@ pub record AreReadAgain (first : WholeSite) (hosts : List (Host × List Entry)) 
 abbrev pub read_last : WholeSite → List (Host × List Entry) → WholeSite
 read_last first hosts = record { hosts = hosts; joined = first.joined }
 
--- What was merged behind a first pass, with the plans that a second pass appends, is what a merge
+-- What was merged after a first pass, with the plans that a second pass appends, is what a merge
 -- may answer for the files that came the second time, whether or not they are those of the first.
 abbrev pub SecondReadingIsRight : Type 0
 SecondReadingIsRight =
@@ -49,9 +49,9 @@ SecondReadingIsRight =
     → AreWholePlans (read_last first hosts) merged plans
     → IsOutcome (read_last first hosts) (record merged.outcome { plans = plans })
 
--- So it is believed of these.
-abbrev pub SecondReadingIsBelieved : Type 0
-SecondReadingIsBelieved =
+-- So it is correct for these.
+abbrev pub SecondReadingIsCorrect : Type 0
+SecondReadingIsCorrect =
     (first : WholeSite) (merged : Merged) (hosts : List (Host × List Entry)) (plans : List (List ℕ))
     → IsWhole first → IsMerged first merged → AreReadAgain first hosts
     → AreWholePlans (read_last first hosts) merged plans

@@ -3,10 +3,10 @@ ghost use Rattle.unify_laws.specs.Laws.{OwnersAgree, ReadSitesAreWhole, NothingS
 ghost use Rattle.unify_laws.specs.Laws.{ReadHostsSpareNothing, EmptyKeepCountsAll, EmptyKeepIsNone};
 ghost use Rattle.unify_laws.specs.Laws.{EmptyPinsAreNone, PassesReadTheSite, CostsAgree};
 ghost use Rattle.unify_laws.specs.Laws.{SurveyedFilesAreAllowed};
-ghost use Rattle.unify_laws.specs.Believed.{OutcomesAreBelieved, DoneKeepsPrintedNames};
-ghost use Rattle.unify_laws.specs.Believed.{RunsKeepNames, NumbersTellNames};
-ghost use Rattle.unify_laws.specs.Believed.{NamedFilesHaveTheirNames};
-ghost use Rattle.unify_laws.specs.TwoPasses.{TwoPassesAreBelieved, SecondReadingIsBelieved};
+ghost use Rattle.unify_laws.specs.Correct.{OutcomesAreCorrect, DoneKeepsPrintedNames};
+ghost use Rattle.unify_laws.specs.Correct.{RunsKeepNames, NumbersTellNames};
+ghost use Rattle.unify_laws.specs.Correct.{NamedFilesHaveTheirNames};
+ghost use Rattle.unify_laws.specs.TwoPasses.{TwoPassesAreCorrect, SecondReadingIsCorrect};
 ghost use Rattle.unify_laws.specs.TwoPasses.{SecondReadingIsRight};
 ghost use Rattle.unify_laws.specs.HostTexts.{BegunSitesAreInFull, EmptyTextsKeepNoName};
 ghost use Rattle.unify_laws.specs.HostTexts.{HostsKeepOwnFiles, ReadSitesAreInFull};
@@ -41,15 +41,15 @@ pub fn owners_agree()
     ensures { OwnersAgree }
 {}
 
-/// What a merge may answer for a site that was read is believed: the map that is printed gives
+/// What a merge may answer for a site that was read is correct: the map that is printed gives
 /// every name one distinct number, in its pool or at its pin, and the passwd and group that are
 /// printed have exactly one row for each name, with its number; no other such mappings rewrite
 /// fewer owner and group fields, as the printed potentials prove; and while a host's plan is
 /// carried out, however often stopped, every file of it has its old owner, or by the map, and by
 /// that passwd and group, the names it had; once the plan has finished, every file has these names.
 /// A uid or gid that had no name stays as it is, and is no name's.
-pub fn outcomes_are_believed()
-    ensures { OutcomesAreBelieved }
+pub fn outcomes_are_correct()
+    ensures { OutcomesAreCorrect }
 {}
 
 /// Where the plans of a merge were carried out on trees in memory as far as any events lead,
@@ -92,24 +92,24 @@ pub fn passes_read_the_site()
     ensures { PassesReadTheSite }
 {}
 
-/// What was merged behind a first pass over inventories in pieces is believed as what one merge
+/// What was merged after a first pass over inventories in pieces is as correct as what one merge
 /// answers, once its plans are those that a second pass over the same inventories appends, one for
 /// each host.
-pub fn two_passes_are_believed()
-    ensures { TwoPassesAreBelieved }
+pub fn two_passes_are_correct()
+    ensures { TwoPassesAreCorrect }
 {}
 
-/// What was merged behind a first pass, with the plans that a second pass appends, is what a merge
-/// may answer for the files that came the second time, and believed of these: they need not be
+/// What was merged after a first pass, with the plans that a second pass appends, is what a merge
+/// may answer for the files that came the second time, and correct for them: they need not be
 /// those of the first pass, where each user and each group of each host owns as many.
-pub fn second_reading_is_believed()
+pub fn second_reading_is_correct()
     ensures right { SecondReadingIsRight }
-    ensures believed { SecondReadingIsBelieved }
+    ensures correct { SecondReadingIsCorrect }
 {}
 
 /// Where what was merged has the headline, each host's own passwd and group with their new numbers
-/// are, line by line, those of the host but for the numbers of what was joined of it; each user has
-/// the primary group that it had; and what the headline says of the host's plan holds with these
+/// are, line by line, those of the host except for the numbers of what was joined of it; each user
+/// has the primary group that it had; and what the headline says of the host's plan holds with these
 /// two in place of the merged ones, by the names that the host has in full. The texts are those
 /// that the tables of the hosts were read from, each at the index of its host. Where no name is
 /// kept, as with an empty keep text, all rows of each host were joined, and so every line has the

@@ -41,7 +41,7 @@ same_site s mid new come site = site ∙ ap (λ (v : SolvedValue). record v { en
 pub same_again : (s mid new : SolvedValue) → IsOfSameSite s mid → IsOfSameSite mid new → IsOfSameSite s new
 same_again s mid new one two = two ∙ ap (λ (v : SolvedValue). record v { ended = new.ended; text = new.text; planned = new.planned; met = new.met }) one
 
--- now: the second pass behind the hosts before it
+-- now: the second pass after the hosts before it
 pub turn_of : (s now : SolvedValue) (read : List (Host × List Entry)) (index : ℕ) (host : Host) (were : List Entry) → IsOfSameSite s now → ended_in now ≡ index → WereRead s read → slice_get read index ≡ Some (host, were)
     → IsFresh now → IsTurnOf now host were
 turn_of s now read index host were site ended was at fresh = record {

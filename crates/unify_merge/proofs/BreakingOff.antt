@@ -10,7 +10,7 @@ use Rattle.unify_merge.specs.SecondReading.{FinishesNone, HasReadOneAtMost}
 abbrev name_of : NamedText → List ℕ
 name_of file = file.name
 
--- behind another reading
+-- after another reading
 abbrev pub reading_as : Ledger → Ledger → Ledger
 reading_as new l = record l { read = new.read; reading = new.reading }
 
@@ -115,7 +115,7 @@ broken_as files others old other new same equal b = record {
 pub wrote : (files : List NamedText) (old new : Ledger) → new ≡ after_files files old → HasFiles files old new
 wrote files old new is = is ∙ (λ j. record (after_files files old) { writing = (sym is j).writing })
 
--- ---- behind readings
+-- ---- after readings
 
 -- nothing was read while it was written
 pub reads_same : (files : List NamedText) (mid new : Ledger) → BrokeOff files mid new → mid ≡ reading_as new mid
@@ -123,7 +123,7 @@ reads_same files mid new b =
     let stands = b.stands in
     λ j. record mid { read = sym (ap (λ (l : Ledger). l.read) stands) j; reading = sym (ap (λ (l : Ledger). l.reading) stands) j }
 
--- files behind which more was read
+-- files after which more was read
 pub files_reading : (files : List NamedText) (old mid new : Ledger) → mid ≡ record (after_files files old) { read = mid.read; reading = mid.reading; writing = mid.writing } → HasFiles files (reading_as new old) (reading_as new mid)
 files_reading files old mid new has = ap (reading_as new) has
 

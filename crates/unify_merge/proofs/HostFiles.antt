@@ -18,7 +18,7 @@ pub on_ok_goes : {T E : Type 0} (r : Result T E) (P Q : Type 0) → (P → Q) �
 on_ok_goes (Ok x) P Q goes p = goes p
 on_ok_goes (Err e) P Q goes p = tt
 
--- files behind files
+-- files after files
 pub files_behind : (one two : List NamedText) (l : Ledger) → after_files two (after_files one l) ≡ after_files (one ++ two) l
 files_behind one two l =
     let name_of : NamedText → List ℕ = λ file. file.name in
@@ -33,7 +33,7 @@ none_written l =
     let finished = sym (append-nil l.finished) in
     λ j. record { read = l.read; reading = l.reading; is_clear = l.is_clear; begun = begun j; finished = finished j; settled = l.settled; writing = l.writing }
 
--- more files behind those that were written
+-- more files after those that were written
 pub more_written : (one two : List NamedText) (old mid new : Ledger) → HasFiles one old mid → new ≡ after_files two mid → HasFiles (one ++ two) old new
 more_written one two old mid new first then =
     let name_of : NamedText → List ℕ = λ file. file.name in
@@ -47,7 +47,7 @@ more_written one two old mid new first then =
 
 -- ---- one host
 
--- the files of the hosts before it, its own, and those behind it
+-- the files of the hosts before it, its own, and those after it
 pub host_files_from : (site : Joined) (m : Mappings) (texts : List HostText) (hosts : List Host) (k : ℕ) (text : HostText) (host : Host) → slice_get texts k ≡ Some text → slice_get hosts k ≡ Some host
     → host_files site m texts hosts ≡ host_files site m (take k texts) hosts ++ (passwd_file host site m text ∷ group_file site m text ∷ host_files site m (drop (suc k) texts) (drop (suc k) hosts))
 host_files_from site m [] hosts k text host at there = absurd (cc)

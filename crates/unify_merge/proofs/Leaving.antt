@@ -22,7 +22,7 @@ use Rattle.unify.specs.SecondPass.{SolvedValue, whole_plan}
 use Rattle.unify_laws.specs.Headline.{Headline}
 use Rattle.unify_laws.specs.HostTexts.{host_files}
 use Rattle.unify_laws.proofs.Agreeing.{item_at}
-use Rattle.unify_laws.proofs.SecondReading.{second_reading_is_believed, second_reading_is_right}
+use Rattle.unify_laws.proofs.SecondReading.{second_reading_is_correct, second_reading_is_right}
 use Rattle.unify_merge.specs.Ledger.{BrokeOff, Ledger, after_files, cleared}
 use Rattle.unify_merge.specs.FirstReading.{ReadsOnly, readings_from}
 use Rattle.unify_merge.specs.SecondReading.{ArePlanned, PlansBrokeOff, WereRead, plan_files, plan_name, plans_from}
@@ -42,7 +42,7 @@ length-plan_files [] plans = omega arith
 length-plan_files (n ∷ names) [] = omega arith
 length-plan_files (n ∷ names) (p ∷ plans) = omega (arith, length-plan_files names plans)
 
--- those before a host, its own, and those behind it
+-- those before a host, its own, and those after it
 plan_files_from : (names : List HostText) (plans more : List (List ℕ)) (name : HostText) (plan : List ℕ) → slice_get names (length plans) ≡ Some name
     → plan_files names (plans ++ plan ∷ more) ≡ plan_files names plans ++ (record { name = plan_name name; text = plan } ∷ plan_files (drop (suc (length plans)) names) more)
 plan_files_from [] plans more name plan here = absurd (cc)
@@ -88,7 +88,7 @@ module _ (names : List HostText) (s : SolvedValue) (read : List (Host × List En
     first_read : first.read ≡ old.read
     first_read = ap (λ (l : Ledger). l.read) first_is
 
-    -- behind them
+    -- after them
     behind_first : (files : List NamedText) (new : Ledger) → BrokeOff files (reading_as new first) new → BrokeOff (first_files s.merged.outcome ++ files) (reading_as new (cleared old)) new
     behind_first files new b =
         let done = first_files s.merged.outcome in
@@ -173,10 +173,10 @@ merge_left texts rules s old mid new h reads w =
     let again = last_again s h.first h.were index one_each accepted h.was_read w.site within in
     let whole = last_plans s h.first h.were index one_each accepted h.was_read w.site within in
     let right = second_reading_is_right first s.merged last plans h.whole h.merged again whole in
-    let believed = second_reading_is_believed first s.merged last plans h.whole h.merged again whole in
+    let correct = second_reading_is_correct first s.merged last plans h.whole h.merged again whole in
     let site_is : ◌≡◌ {A = WholeSite} (record { hosts = last; joined = s.joined }) (record { hosts = last; joined = h.begun.joined }) = λ j. record { hosts = last; joined = h.joined j } in
-    let is_believed : Headline (record { hosts = last; joined = h.begun.joined }) outcome = subst (λ (x : WholeSite). Headline x outcome) site_is believed in
-    let same : is_believed.mappings ≡ mappings_in s.merged = same_mappings first s.merged (record { hosts = last; joined = h.begun.joined }) plans h.merged (sym h.joined) is_believed in
+    let is_correct : Headline (record { hosts = last; joined = h.begun.joined }) outcome = subst (λ (x : WholeSite). Headline x outcome) site_is correct in
+    let same : is_correct.mappings ≡ mappings_in s.merged = same_mappings first s.merged (record { hosts = last; joined = h.begun.joined }) plans h.merged (sym h.joined) is_correct in
     let texts_last = w.site.texts ++ drop (length w.site.texts) h.first in
     record {
       begun = h.begun;
@@ -194,8 +194,8 @@ merge_left texts rules s old mid new h reads w =
       reads = record { more = w.reads.more; one_at_most = w.reads.one_at_most; readings = w.reads.readings ∙ ap (λ rs. (rs ++ readings_from 0 w.site.texts) ++ w.reads.more) h.readings };
       outcome = outcome;
       is_right = subst (λ (x : WholeSite). IsOutcome x outcome) site_is right;
-      is_believed = is_believed;
-      files = broken_as (merged_files texts (record { hosts = s.hosts; joined = s.joined }) (mappings_in s.merged) outcome) (merged_files texts h.begun is_believed.mappings outcome) (reading_as new (cleared mid)) (reading_as new (cleared old)) new
+      is_correct = is_correct;
+      files = broken_as (merged_files texts (record { hosts = s.hosts; joined = s.joined }) (mappings_in s.merged) outcome) (merged_files texts h.begun is_correct.mappings outcome) (reading_as new (cleared mid)) (reading_as new (cleared old)) new
           (λ j. merged_files texts (record { hosts = h.hosts j; joined = h.joined j }) (sym same j) outcome) (λ j. reading_as new (cleared (reads j))) w.files;
       in_turn = λ less. subst (λ n. length w.files.whole ≤ length (first_files s.merged.outcome) + n) (sym w.site.texts_are) (w.in_turn (omega (arith, less, w.site.texts_are)));
     }
@@ -204,7 +204,7 @@ pub merge_leaves : (texts : List HostText) (rules : SiteRules) (s : SolvedValue)
 merge_leaves texts rules s old mid new h reads (inl same) = inl (reads_on old mid new reads same)
 merge_leaves texts rules s old mid new h reads (inr broken) = inr (merge_left texts rules s old mid new h reads broken)
 
--- behind a survey
+-- after a survey
 pub files_leave : (hosts : List HostText) (pins keep : List ℕ) (unowned : UnownedNumbers) (old mid new : Ledger) → WereFound hosts keep old mid unowned → Leaves hosts (rules_by pins keep unowned) mid new → LeavesFiles hosts pins keep old new
 files_leave hosts pins keep unowned old mid new found (inl same) = inl (reads_on old mid new found.reads same)
 files_leave hosts pins keep unowned old mid new found (inr broken) = inr (record { unowned = unowned; middle = mid; surveyed = found; holds = broken })

@@ -4,6 +4,7 @@ pub mod Changes
 pub mod Writing
 pub mod OwnFiles
 pub mod HostFiles
+pub mod NamedFiles
 pub mod Planned
 pub mod AllPlanned
 pub mod BreakingOff
@@ -11,7 +12,7 @@ pub mod ReadLast
 pub mod Leaving
 pub mod WholeMerge
 pub mod Inventories
-pub mod Verified
+pub mod Checked
 pub mod WholeCheck
 pub mod WholeCount
 pub mod Surveyed

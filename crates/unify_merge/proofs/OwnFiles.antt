@@ -41,9 +41,9 @@ module _ (site : Joined) (m : Mappings) where
 -- ---- what was merged
 
 -- the mappings of a headline are those that were merged
-pub same_mappings : (site : WholeSite) (merged : Merged) (last : WholeSite) (plans : List (List ℕ)) → IsMerged site merged → last.joined ≡ site.joined → (believed : Headline last (record merged.outcome { plans = plans })) → believed.mappings ≡ mappings_in merged
-same_mappings site merged last plans is joined believed =
+pub same_mappings : (site : WholeSite) (merged : Merged) (last : WholeSite) (plans : List (List ℕ)) → IsMerged site merged → last.joined ≡ site.joined → (correct : Headline last (record merged.outcome { plans = plans })) → correct.mappings ≡ mappings_in merged
+same_mappings site merged last plans is joined correct =
     let c = is.certificate in
     let read = ap certificate_in is.printed.printed.certificate ∙ spelled_is_read c (record { users = is.answered.user_side; groups = is.answered.group_side }) in
-    let same : believed.certificate ≡ c = ok_same believed.certificate c (sym believed.certificate_read ∙ read) in
-    sym believed.potentials_are_of_these ∙ (λ j. mappings_of (joined j) (same j)) ∙ is.answered.certificate_has
+    let same : correct.certificate ≡ c = ok_same correct.certificate c (sym correct.certificate_read ∙ read) in
+    sym correct.potentials_are_of_these ∙ (λ j. mappings_of (joined j) (same j)) ∙ is.answered.certificate_has

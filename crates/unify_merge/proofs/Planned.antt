@@ -41,7 +41,7 @@ plan_files_push (n ∷ names) (p ∷ plans) name plan here =
     let one : List NamedText → List NamedText = λ fs. record { name = plan_name n; text = p } ∷ fs in
     ap one (plan_files_push names plans name plan here)
 
--- files behind files
+-- files after files
 pub files_more : (one two : List NamedText) (old mid new : Ledger) → mid ≡ record (after_files one old) { read = mid.read; reading = mid.reading; writing = mid.writing } → new ≡ record (after_files two mid) { read = new.read; reading = new.reading; writing = new.writing }
     → new ≡ record (after_files (one ++ two) old) { read = new.read; reading = new.reading; writing = new.writing }
 files_more one two old mid new first then =
@@ -91,7 +91,7 @@ unchanged host (Ok fs) files h = h
 unchanged host (Err f) files h = absurd (cc)
 
 -- one host more
--- now: the second pass behind the hosts before it
+-- now: the second pass after the hosts before it
 pub one_planned : (names : List HostText) (s now : SolvedValue) (read : List (Host × List Entry)) (index : ℕ) (name : HostText) (host : Host) (were : List Entry) (old mid new : Ledger) → PlannedSoFar names s read index old mid
     → IsOfSameSite s now → ended_in now ≡ index → slice_get names index ≡ Some name → slice_get s.hosts index ≡ Some host → slice_get read index ≡ Some (host, were)
     → HasPlan now host were (plan_name name) mid new → PlannedSoFar names s read (index + 1) old new

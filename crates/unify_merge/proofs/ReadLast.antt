@@ -19,7 +19,7 @@ use Rattle.unify_merge.specs.FirstReading.{AreWithinLimit, IsWithinLimit}
 use Rattle.unify_merge.specs.SecondReading.{ArePlannedFirst, IsPlannedAgain, WereRead, plans_from}
 use Rattle.unify_merge.proofs.AllPlanned.{host_at, read_len}
 
--- ---- lists, one behind the other
+-- ---- lists, one after the other
 
 at_first : {A : Type 0} (xs ys : List A) (k : ℕ) (x : A) → slice_get xs k ≡ Some x → slice_get (xs ++ ys) k ≡ Some x
 at_first [] ys k x here = absurd (cc)

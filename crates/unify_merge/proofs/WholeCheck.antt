@@ -21,7 +21,7 @@ use Rattle.unify_merge.specs.FirstReading.{AreWithinLimit, IsInventoryFault, Sto
 use Rattle.unify_merge.specs.Ledger.{Ledger}
 use Rattle.unify_merge.specs.declared.fault.MergeFault.{MergeFault}
 use Rattle.unify_merge.specs.declared.fault.MergeFault.TheVariants.{Refused}
-use Rattle.unify_merge.proofs.Verified.{answer_of_site, cost_means}
+use Rattle.unify_merge.proofs.Checked.{answer_of_site, cost_means}
 use Rattle.unify_merge.proofs.Inventories.{read-with}
 use Rattle.unify_merge.proofs.Stops.{if_told, stops_map}
 

@@ -28,7 +28,7 @@ use Rattle.unify_laws.specs.Headline.{Headline}
 use Rattle.unify_laws.specs.HostTexts.{AreJoinedInFull, host_files}
 use Rattle.unify_laws.specs.TwoPasses.{AreReadAgain}
 use Rattle.unify_laws.proofs.HostTexts.{begun_sites_are_in_full, empty_texts_keep_no_name, tables_are_of_texts, text_keeps}
-use Rattle.unify_laws.proofs.SecondReading.{second_reading_is_believed, second_reading_is_right, still_whole}
+use Rattle.unify_laws.proofs.SecondReading.{second_reading_is_correct, second_reading_is_right, still_whole}
 use Rattle.unify_merge.specs.Ledger.{Ledger, Reading, after_files, all_settled, cleared, with_sealed}
 use Rattle.unify_merge.specs.FirstReading.{AreWithinLimit, IsInventoryFault, ReadsOnly, StopsCounting, readings_from}
 use Rattle.unify_merge.specs.HostFiles.{HasFiles, StopsWriting}
@@ -125,12 +125,12 @@ has_solved texts rules begun over site s old new first read same accepted is joi
       };
     }
 
--- what was merged is right and believed, and stands in its files
+-- what was merged is right and correct, and stands in its files
 record IsMergedFor (texts : List HostText) (begun : BegunSite) (are : List (Host × List Entry)) (outcome : Outcome) (old new : Ledger) : Type 0 where
   whole : IsWhole (record { hosts = are; joined = begun.joined })
   right : IsOutcome (record { hosts = are; joined = begun.joined }) outcome
-  believed : Headline (record { hosts = are; joined = begun.joined }) outcome
-  files : new ≡ record (all_settled (after_files (merged_files texts begun believed.mappings outcome) (cleared old))) { read = new.read; reading = new.reading; writing = new.writing }
+  correct : Headline (record { hosts = are; joined = begun.joined }) outcome
+  files : new ≡ record (all_settled (after_files (merged_files texts begun correct.mappings outcome) (cleared old))) { read = new.read; reading = new.reading; writing = new.writing }
 
 -- what was merged for the first reading stands in its files, with plans for the second
 merged_for : (texts : List HostText) (rules : SiteRules) (s : SolvedValue) (old mid new : Ledger) (cost : Cost) (h : HasSolved texts rules old mid s) → ReadsOnly old mid → (w : HasWritten texts s h.were mid new cost)
@@ -141,13 +141,13 @@ merged_for texts rules s old mid new cost h reads w =
     let read : BegunSite = record { hosts = s.hosts; joined = s.joined } in
     let last : WholeSite = record { hosts = w.site.again; joined = s.joined } in
     let begun : read ≡ h.begun = λ j. record { hosts = h.hosts j; joined = h.joined j } in
-    let believed : Headline last outcome = second_reading_is_believed first s.merged w.site.again w.site.plans h.whole h.merged w.site.same w.site.whole in
-    let same : mappings_in s.merged ≡ believed.mappings = sym (same_mappings first s.merged last w.site.plans h.merged refl believed) in
+    let correct : Headline last outcome = second_reading_is_correct first s.merged w.site.again w.site.plans h.whole h.merged w.site.same w.site.whole in
+    let same : mappings_in s.merged ≡ correct.mappings = sym (same_mappings first s.merged last w.site.plans h.merged refl correct) in
     subst (λ (b : BegunSite). IsMergedFor texts b w.site.again outcome old new) begun
     (record {
       whole = still_whole first h.whole w.site.again w.site.same;
       right = second_reading_is_right first s.merged w.site.again w.site.plans h.whole h.merged w.site.same w.site.whole;
-      believed = believed;
+      correct = correct;
       files = w.files ∙ (λ j. record (all_settled (after_files (merged_files texts read (same j) outcome) (cleared (reads j)))) { read = new.read; reading = new.reading; writing = new.writing });
     })
 
@@ -173,10 +173,10 @@ has_merged texts rules s old mid new cost h reads w =
       readings = w.readings ∙ ap (λ rs. rs ++ readings_from 0 w.site.texts) h.readings;
       outcome = outcome;
       is_right = merged.right;
-      is_believed = merged.believed;
+      is_correct = merged.correct;
       own_files = λ k host files text loaded at there is_told.
           let here : slice_get h.begun.hosts k ≡ Some host = ap (λ hs. slice_get hs k) (sym held) ∙ slice_get-map first w.site.again k ∙ ap (option_map first) at in
-          text_keeps site outcome merged.whole merged.believed k host files text loaded at (tables_are_of_texts texts rules h.begun k host text h.begun_is here there) is_told;
+          text_keeps site outcome merged.whole merged.correct k host files text loaded at (tables_are_of_texts texts rules h.begun k host text h.begun_is here there) is_told;
       in_full = λ none. subst (λ (hs : List Host). AreJoinedInFull hs texts) (sym held) (begun_sites_are_in_full texts rules h.begun h.begun_is none);
       none_kept = λ empty. empty_texts_keep_no_name texts rules h.begun empty h.begun_is;
       files = merged.files;

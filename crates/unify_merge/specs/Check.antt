@@ -4,7 +4,7 @@ use Rattle.std.specs.Prelude.{◌≡◌, ℕ, ◌⊎◌, Bool, List, Ok, Err}
 use Rattle.hosts_join.specs.declared.texts.HostText.{HostText}
 use Rattle.unify_texts.specs.declared.fault.Fault.{Fault}
 use Rattle.unify.specs.declared.rules.SiteRules.{SiteRules}
-use Rattle.unify.specs.Checking.{IsVerified, verified}
+use Rattle.unify.specs.Checking.{IsChecked, check_of}
 use Rattle.unify.specs.Passes.{BegunSite, site_begun}
 use Rattle.unify_merge.specs.Ledger.{Ledger}
 use Rattle.unify_merge.specs.FirstReading.{IsInventoryFault, StopsFor, WereEachRead}
@@ -17,8 +17,8 @@ pub record HasChecked (hosts : List HostText) (rules : SiteRules) (certificate :
     (old new : Ledger) (cost : ℕ) : Type 0 where
   pub texts : List (List ℕ)
   pub were_read : WereEachRead hosts texts old new
-  pub answer : verified (with_inventories hosts texts) rules certificate ≡ Ok cost
-  pub means : IsVerified (with_inventories hosts texts) rules certificate cost
+  pub answer : check_of (with_inventories hosts texts) rules certificate ≡ Ok cost
+  pub means : IsChecked (with_inventories hosts texts) rules certificate cost
 
 -- The first fault of what was read: of the tables or the rules; of an inventory; or, where each of
 -- these was read, that which a check answers with them.
@@ -28,7 +28,7 @@ IsCheckFault hosts rules certificate old new f =
     ⊎ (((begun : BegunSite) × (site_begun hosts rules ≡ Ok begun)
     × IsInventoryFault begun.hosts old new f)
     ⊎ ((texts : List (List ℕ)) × WereEachRead hosts texts old new
-    × (verified (with_inventories hosts texts) rules certificate ≡ Err f)))
+    × (check_of (with_inventories hosts texts) rules certificate ≡ Err f)))
 
 -- why a check ended early
 abbrev pub StopsCheck : List HostText → SiteRules → List ℕ → Ledger → Ledger → Bool → MergeFault

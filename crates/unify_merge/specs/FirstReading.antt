@@ -25,7 +25,7 @@ readings_from host [] = []
 readings_from host (text ∷ texts) =
     record { host = host; text = text } ∷ readings_from (host + 1) texts
 
--- behind some readings that of a host has come to this text, and goes on
+-- after some readings that of a host has come to this text, and goes on
 abbrev pub IsReading : List Reading → ℕ → List ℕ → Ledger → Type 0
 IsReading before host text l =
     (l.read ≡ before) × (l.reading ≡ Some (record { host = host; text = text }))

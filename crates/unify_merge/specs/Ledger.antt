@@ -38,11 +38,11 @@ nothing =
 
 -- ---- reading
 
--- behind the first bytes of a reading
+-- after the first bytes of a reading
 abbrev pub reading_so_far : ℕ → List ℕ → Ledger → Ledger
 reading_so_far host text l = record l { reading = Some (record { host = host; text = text }) }
 
--- behind a whole reading
+-- after a whole reading
 abbrev pub after_reading : ℕ → List ℕ → Ledger → Ledger
 after_reading host text l =
     record l { read = l.read ++ record { host = host; text = text } ∷ []; reading = None }
@@ -62,7 +62,7 @@ with_piece bytes l = read_on bytes l.reading l
 abbrev pub cleared : Ledger → Ledger
 cleared l = record l { is_clear = true; begun = []; finished = []; settled = []; writing = None }
 
--- behind the first bytes of a file that was begun
+-- after the first bytes of a file that was begun
 abbrev pub writing_so_far : List ℕ → List ℕ → Ledger → Ledger
 writing_so_far name text l = record l { writing = Some (record { name = name; text = text }) }
 
@@ -85,7 +85,7 @@ finished_on (Some file) l = record l { finished = l.finished ++ file ∷ []; wri
 abbrev pub with_finished : Ledger → Ledger
 with_finished l = finished_on l.writing l
 
--- behind whole files
+-- after whole files
 abbrev pub after_files : List NamedText → Ledger → Ledger
 after_files files l =
     record l {
@@ -98,7 +98,7 @@ after_files files l =
 abbrev pub all_settled : Ledger → Ledger
 all_settled l = record l { settled = l.finished }
 
--- behind the last file, with which all are settled
+-- after the last file, with which all are settled
 abbrev pub with_sealed : NamedText → Ledger → Ledger
 with_sealed file l = all_settled (after_files (file ∷ []) l)
 

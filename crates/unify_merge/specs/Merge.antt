@@ -123,14 +123,14 @@ pub record HasMerged (texts : List HostText) (rules : SiteRules) (old new : Ledg
   pub readings : new.read ≡ (old.read ++ readings_from 0 first) ++ readings_from 0 second
   pub outcome : Outcome
   pub is_right : IsOutcome (record { hosts = are; joined = begun.joined }) outcome
-  pub is_believed : Headline (record { hosts = are; joined = begun.joined }) outcome
+  pub is_correct : Headline (record { hosts = are; joined = begun.joined }) outcome
   pub own_files : EachKeepsOwnFiles (record { hosts = are; joined = begun.joined }) outcome
-      is_believed texts
+      is_correct texts
   pub in_full : keeps_a_name begun.joined ≡ false → AreJoinedInFull (map (λ h. h.0) are) texts
   pub none_kept : rules.keep.text ≡ [] → keeps_a_name begun.joined ≡ false
   pub files : new
       ≡ record (all_settled
-      (after_files (merged_files texts begun is_believed.mappings outcome) (cleared old))) {
+      (after_files (merged_files texts begun is_correct.mappings outcome) (cleared old))) {
         read = new.read;
         reading = new.reading;
         writing = new.writing;
@@ -171,7 +171,7 @@ StopsMerge texts rules old new = StopsFor (IsMergeFault texts rules old new) new
 
 -- ---- what an early end leaves
 
--- What was merged was being written behind a clearing away, and that broke off. The inventories of
+-- What was merged was being written after a clearing away, and that broke off. The inventories of
 -- the first hosts were read again, and the plans of these are for the files that they have now;
 -- those of the others would be for the files that they had.
 -- index: how many hosts
@@ -190,7 +190,7 @@ pub record WritingBrokeOff (names : List HostText) (s : SolvedValue)
       → length files.whole ≤ length (first_files s.merged.outcome) + index
 
 -- The tables and the rules were read, and the inventory of each host, all of which are accepted;
--- the inventories of the first hosts were read again, and are accepted again. Behind a clearing
+-- the inventories of the first hosts were read again, and are accepted again. After a clearing
 -- away, which may have stopped midway, the files of an outcome were being written that is right,
 -- with the headline, for the inventories as they were read last, and that broke off: which of them
 -- are whole is known, with their bytes, the report last of all; none is told to be settled. No plan
@@ -208,8 +208,8 @@ pub record MergeBrokeOff (texts : List HostText) (rules : SiteRules) (old new : 
     pub reads : HasReadOneAtMost ((old.read ++ readings_from 0 first) ++ readings_from 0 again) new
     pub outcome : Outcome
     pub is_right : IsOutcome (record { hosts = last; joined = begun.joined }) outcome
-    pub is_believed : Headline (record { hosts = last; joined = begun.joined }) outcome
-    pub files : BrokeOff (merged_files texts begun is_believed.mappings outcome)
+    pub is_correct : Headline (record { hosts = last; joined = begun.joined }) outcome
+    pub files : BrokeOff (merged_files texts begun is_correct.mappings outcome)
         (record (cleared old) { read = new.read; reading = new.reading }) new
     pub in_turn : length again < length texts
         → length files.whole ≤ length (first_files outcome) + length again

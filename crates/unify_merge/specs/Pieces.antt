@@ -6,7 +6,7 @@ use Rattle.unify_merge.specs.declared.fault.MergeFault.{MergeFault}
 use Rattle.unify_merge.specs.declared.fault.MergeFault.TheVariants.{Failed, TooLarge, Refused}
 
 -- the reading goes on with bytes, or comes to its end
--- left, less: how many bytes more it may have before and behind them
+-- left, less: how many bytes more it may have before and after them
 abbrev pub GoesOn : Reading → List ℕ → ℕ → ℕ → Ledger → Ledger → Bool → Type 0
 GoesOn r bytes left less old new true =
     (new ≡ reading_so_far r.host (r.text ++ bytes) old) × (less + length bytes ≡ left)

@@ -20,7 +20,7 @@ HasCarriedOut plan before l n =
     (text : List ℕ) × HasRead before 0 text l × (rehearsed (Ok plan) text ≡ Ok n)
     × IsWithinLimit text
 
--- The first fault: what was read so far has it, whatever comes behind that; or all that was read.
+-- The first fault: what was read so far has it, whatever comes after that; or all that was read.
 abbrev pub IsCarryingFault : PlanData → List Reading → Ledger → Fault → Type 0
 IsCarryingFault plan before l f = (text : List ℕ)
     × ((IsReading before 0 text l × IsRefusedBy plan text f)

@@ -46,7 +46,7 @@ abbrev pub IsChangeFault : Host → List Entry → ℕ → List Reading → Ledg
 IsChangeFault host were index before l f =
     (f ≡ InventoryChanged host.name) × IsChange host were index before l
 
--- why a piece of it, behind which this much had come, or its end was refused
+-- why a piece of it, after which this much had come, or its end was refused
 abbrev pub StopsPiece : Host → List ℕ → Bool → MergeFault → Type 0
 StopsPiece host text failed Failed = failed ≡ true
 StopsPiece host text failed TooLarge = ⊥
@@ -105,7 +105,7 @@ pub record HasPlan (s : SolvedValue) (host : Host) (were : List Entry) (name : L
       (record { name = name; text = whole_plan host s.joined s.merged (ended_in s) files } ∷ [])
       old) { read = new.read; reading = new.reading }
 
--- behind some readings at most one more came to its end
+-- after some readings at most one more came to its end
 pub record HasReadOneAtMost (before : List Reading) (l : Ledger) : Type 0 where
   pub more : List Reading
   pub one_at_most : length more ≤ 1

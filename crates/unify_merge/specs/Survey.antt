@@ -26,7 +26,7 @@ abbrev pub IsSurveyOf : Host → List ℕ → HostSurvey → Type 0
 IsSurveyOf host text survey =
     (files : List Entry) × (inventory_of host text ≡ Ok files) × HasNumbersOf host files survey
 
--- the text was read, and the numbers of its files stand behind those before
+-- the text was read, and the numbers of its files stand after those before
 abbrev pub AddsNumbers : Host → List ℕ → UnownedNumbers → UnownedNumbers → Type 0
 AddsNumbers host text old new =
     (files : List Entry) × (inventory_of host text ≡ Ok files)
@@ -47,7 +47,7 @@ StopsReading host index before l = StopsFor (IsReadFault host index before l) l
 -- ---- those of all hosts
 
 -- the inventory of each host was read once, in order, as these texts; and the numbers of their
--- files stand behind those before
+-- files stand after those before
 pub record HasAdded (hosts : List Host) (old new : Ledger) (before after : UnownedNumbers) : Type 0
   where
     pub texts : List (List ℕ)

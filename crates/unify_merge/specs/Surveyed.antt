@@ -44,9 +44,9 @@ IsFindingFault hosts keep old new f =
 abbrev pub StopsFinding : List HostText → List ℕ → Ledger → Ledger → Bool → MergeFault → Type 0
 StopsFinding hosts keep old new = StopsFor (IsFindingFault hosts keep old new) new
 
--- ---- behind it
+-- ---- after it
 
--- behind a survey this holds of the numbers that it found, and of what was read and written then
+-- after a survey this holds of the numbers that it found, and of what was read and written then
 pub record Behind (hosts : List HostText) (keep : List ℕ) (old : Ledger)
     (Holds : UnownedNumbers → Ledger → Type 0) : Type 0 where
   pub unowned : UnownedNumbers
@@ -65,7 +65,7 @@ StopsMergeFiles hosts pins keep old new failed fault =
     ⊎ Behind hosts keep old
     (λ unowned middle. StopsMerge hosts (rules_by pins keep unowned) middle new failed fault)
 
--- nothing was written or cleared away; or behind the survey the writing broke off
+-- nothing was written or cleared away; or after the survey the writing broke off
 abbrev pub LeavesFiles : List HostText → List ℕ → List ℕ → Ledger → Ledger → Type 0
 LeavesFiles hosts pins keep old new =
     ReadsOnly old new

@@ -20,7 +20,7 @@ use unify::{KeepRules, SiteRules, begin_site};
 ///
 /// Each inventory is read when its host's turn comes, piece by piece, and none is kept. It stops
 /// early where a call on the files fails, where an inventory has more than 4,294,967,295 bytes, at
-/// the first fault of what is read, in the order of `verify`, or where a growth is refused
+/// the first fault of what is read, in the order of `check`, or where a growth is refused
 /// (`Fault::Memory`).
 ///
 /// One pass over each inventory, with two look-ups by hash for each file; the rest is near linear
@@ -41,7 +41,7 @@ pub fn check_by<'a, F: ReadFiles>(
 {
     let mut begun = begin_site(alloc, hosts, rules)?;
     count_hosts(alloc, files, &mut begun.inventories)?;
-    Ok(begun.verify(certificate)?)
+    Ok(begun.check(certificate)?)
 }
 
 /// What [`check_by`] tells of a certificate by these pins and this keep text, with the numbers that

@@ -20,6 +20,7 @@ pub trait ReadFiles {
     fn open(&mut self, host: usize) -> Result<(), CallFailed>
         ensures opened { OnOk result (ledger self.new ≡ reading_so_far host [] (ledger self.old)) }
         ensures none { OnErr result (ledger self.new ≡ ledger self.old) }
+        ensures ok { OnOk result (has_failed self.new ≡ has_failed self.old) }
         ensures failed { OnErr result (has_failed self.new ≡ true) };
 
     /// Replaces the bytes by the next of the reading; by none only at its end.
@@ -27,6 +28,7 @@ pub trait ReadFiles {
         ensures read { OnOk result
             (ledger self.new ≡ with_piece bytes.new.items (ledger self.old)) }
         ensures none { OnErr result (ledger self.new ≡ ledger self.old) }
+        ensures ok { OnOk result (has_failed self.new ≡ has_failed self.old) }
         ensures failed { OnErr result (has_failed self.new ≡ true) };
 }
 
@@ -43,6 +45,7 @@ pub trait MergeFiles: ReadFiles {
         ensures clear { OnOk result (Self.ledger self.new ≡ cleared (Self.ledger self.old)) }
         ensures failing { OnErr result ((Self.ledger self.new ≡ Self.ledger self.old)
             ⊎ (Self.ledger self.new ≡ cleared (Self.ledger self.old))) }
+        ensures ok { OnOk result (Self.has_failed self.new ≡ Self.has_failed self.old) }
         ensures failed { OnErr result (Self.has_failed self.new ≡ true) };
 
     /// Begins a file. What has its name stays until it is finished.
@@ -51,6 +54,7 @@ pub trait MergeFiles: ReadFiles {
         ensures begun { OnOk result
             (Self.ledger self.new ≡ with_begun name.now (Self.ledger self.old)) }
         ensures none { OnErr result (Self.ledger self.new ≡ Self.ledger self.old) }
+        ensures ok { OnOk result (Self.has_failed self.new ≡ Self.has_failed self.old) }
         ensures failed { OnErr result (Self.has_failed self.new ≡ true) };
 
     /// Appends bytes to the file.
@@ -58,6 +62,7 @@ pub trait MergeFiles: ReadFiles {
         ensures written { OnOk result
             (Self.ledger self.new ≡ with_bytes bytes.now (Self.ledger self.old)) }
         ensures none { OnErr result (Self.ledger self.new ≡ Self.ledger self.old) }
+        ensures ok { OnOk result (Self.has_failed self.new ≡ Self.has_failed self.old) }
         ensures failed { OnErr result (Self.has_failed self.new ≡ true) };
 
     /// Gives the file its name, with all its bytes.
@@ -65,6 +70,7 @@ pub trait MergeFiles: ReadFiles {
         ensures finished { OnOk result
             (Self.ledger self.new ≡ with_finished (Self.ledger self.old)) }
         ensures none { OnErr result (Self.ledger self.new ≡ Self.ledger self.old) }
+        ensures ok { OnOk result (Self.has_failed self.new ≡ Self.has_failed self.old) }
         ensures failed { OnErr result (Self.has_failed self.new ≡ true) };
 
     /// Writes the last file whole, when all others are settled where they stand, and settles it.
@@ -79,5 +85,6 @@ pub trait MergeFiles: ReadFiles {
             ⊎ (Self.ledger self.new
             ≡ after_files (record { name = name.now; text = text.now } ∷ [])
             (Self.ledger self.old))) }
+        ensures ok { OnOk result (Self.has_failed self.new ≡ Self.has_failed self.old) }
         ensures failed { OnErr result (Self.has_failed self.new ≡ true) };
 }

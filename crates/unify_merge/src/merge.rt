@@ -122,8 +122,8 @@ fn write_merged<'a, F: MergeFiles>(
 }
 
 /// Merges hosts, whose tables and rules are given, and whose inventories are read from the files,
-/// twice; and writes the files of the merge. It hands out what was merged but for the plans, which
-/// are among the files.
+/// twice; and writes the files of the merge. It hands out what was merged except for the plans,
+/// which are among the files.
 ///
 /// Each inventory is read when its host's turn comes, piece by piece. Nothing is written before the
 /// hosts are merged; then the files of an earlier merge are cleared away, and these are written, in
@@ -137,7 +137,7 @@ fn write_merged<'a, F: MergeFiles>(
 /// first of these, with their bytes, and at most the next was begun.
 ///
 /// Two passes over each inventory, with two look-ups by hash for each file; the rest is near linear
-/// in the names and account rows, but for the solver, which is near linear where few numbers are
+/// in the names and account rows, except for the solver, which is near linear where few numbers are
 /// contested.
 pub fn merge_outcome<'a, F: MergeFiles>(
     alloc: Global,

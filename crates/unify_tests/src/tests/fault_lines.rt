@@ -5,7 +5,7 @@ use std::process::Abort;
 use std::test::Fail;
 use unify_texts::{Fault, push_fault};
 
-/// Checks the line of a fault, behind what is there already.
+/// Checks the line of a fault, after what is there already.
 fn tells(rt: &impl Abort, alloc: Global, fault: &Fault<'_>, line: &[u8]) -> Result<(), Fail> {
     let mut out = Vec::from_slice(alloc, b"unify:")?;
     push_fault(alloc, &mut out, fault)?;

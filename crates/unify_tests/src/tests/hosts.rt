@@ -4,7 +4,7 @@ use hosts_join::HostText;
 use idtext::ByteString;
 use std::alloc::{AllocError, Global};
 
-// A host's name, its passwd and its mtree, but for their last newline.
+// A host's name, its passwd and its mtree, except for their last newline.
 type Texts = (&'static [u8], &'static [u8], &'static [u8]);
 
 const HOSTS: [Texts; 2] = [

@@ -19,22 +19,22 @@ count_hosts-requires g c =
     let start = c.in_ok-begun.ensures.begun.2.start in
     record { start = start ∙ ap (λ (v : InventoriesValue). at_start v.hosts) (sym start) }
 
-pub verify-requires-clause-together : goal.verify-requires-clause-together
-verify-requires-clause-together g c =
+pub check-requires-clause-together : goal.check-requires-clause-together
+check-requires-clause-together g c =
     let begun = c.in_ok-begun.ensures.begun in
     let counted = c.in_ok-count_hosts.ensures.counted in
     let hosts = ap (λ (v : InventoriesValue). v.hosts) begun.2.start in
     let over : c.count_hosts.new.inventories ≡ behind begun.0.hosts counted.0 = counted.1 ∙ ap (λ hs. behind hs counted.0) hosts in
     subst (λ (hs : List Host). AreTogether hs c.in_ok-begun.begun.site) (sym (ap (λ (v : InventoriesValue). v.hosts) over)) (subst (AreTogether begun.0.hosts) (sym begun.2.joined) begun.2.whole)
 
-pub verify-requires-clause-none_left : goal.verify-requires-clause-none_left
-verify-requires-clause-none_left g c =
+pub check-requires-clause-none_left : goal.check-requires-clause-none_left
+check-requires-clause-none_left g c =
     let counted = c.in_ok-count_hosts.ensures.counted in
     subst (λ (v : InventoriesValue). length v.ended ≡ length v.hosts) (sym counted.1) counted.2
 
-pub returns-in_err-verify-clause-stopped : goal.returns-in_err-verify-clause-stopped
-returns-in_err-verify-clause-stopped g c =
-    let p = err_from_is_err_and c.from_residual-in_err-verify.result c.from_residual-in_err-verify.ensures.1 in
+pub returns-in_err-check-clause-stopped : goal.returns-in_err-check-clause-stopped
+returns-in_err-check-clause-stopped g c =
+    let p = err_from_is_err_and c.from_residual-in_err-check.result c.from_residual-in_err-check.ensures.1 in
     let begun = c.in_ok-begun.ensures.begun in
     let counted = c.in_ok-count_hosts.ensures.counted in
     let accepted = c.in_ok-count_hosts.ensures.accepted in
@@ -45,7 +45,7 @@ returns-in_err-verify-clause-stopped g c =
     let new = g.F.ReadFiles.ledger c.count_hosts.new.files in
     let site = read_site c.args.hosts.now c.args.rules.now begun.0 joined old new counted.0 accepted.0 begun.1 begun.2.joined (counted.2 ∙ c.in_ok-begun.ensures.hosts) (sym (ap read_in over) ∙ accepted.1) counted.3 counted.4 in
     rw (p.1, p.2)
-    (check_refused c.args.hosts.now c.args.rules.now c.args.certificate.now old new joined counted.0 accepted.0 site (g.F.ReadFiles.has_failed c.count_hosts.new.files) c.in_err-verify.field-0.0 (c.in_err-verify.ensures accepted.0 accepted.1))
+    (check_refused c.args.hosts.now c.args.rules.now c.args.certificate.now old new joined counted.0 accepted.0 site (g.F.ReadFiles.has_failed c.count_hosts.new.files) c.in_err-check.field-0.0 (c.in_err-check.ensures accepted.0 accepted.1))
 
 pub returns-clause-checked : goal.returns-clause-checked
 returns-clause-checked g c =
@@ -58,4 +58,4 @@ returns-clause-checked g c =
     let old = g.F.ReadFiles.ledger c.args.files.now in
     let new = g.F.ReadFiles.ledger c.count_hosts.new.files in
     let site = read_site c.args.hosts.now c.args.rules.now begun.0 joined old new counted.0 accepted.0 begun.1 begun.2.joined (counted.2 ∙ c.in_ok-begun.ensures.hosts) (sym (ap read_in over) ∙ accepted.1) counted.3 counted.4 in
-    has_checked c.args.hosts.now c.args.rules.now c.args.certificate.now old new joined counted.0 accepted.0 site _ (c.in_ok-verify.ensures accepted.0 accepted.1)
+    has_checked c.args.hosts.now c.args.rules.now c.args.certificate.now old new joined counted.0 accepted.0 site _ (c.in_ok-check.ensures accepted.0 accepted.1)

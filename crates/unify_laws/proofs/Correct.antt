@@ -1,4 +1,4 @@
--- What a merge may answer is what it is believed for.
+-- What a merge may answer is what it is correct for.
 use Rattle.std.proofs.Common.{◌≡◌, ◌⊎◌, ℕ, zero, suc, ◌+◌, ◌≤◌, ◌↔◌, true, false, List, [], ◌∷◌, map, Option, Some, None, refl, sym, ap, subst, ◌∙◌, arith}
 use Rattle.std.specs.List.{slice_get}
 use Rattle.std.specs.Option.{is_some, option_map}
@@ -34,7 +34,7 @@ use Rattle.unify.specs.Cost.{cost_of}
 use Rattle.unify.specs.Whole.{IsWhole}
 use Rattle.unify.specs.Outcomes.{IsOutcome, cost_in, hosts_in, plan_texts_from}
 use Rattle.unify.specs.Reading.{WholeSite}
-use Rattle.unify_laws.specs.Believed.{OutcomesAreBelieved, NamedFilesHaveTheirNames, NumbersTellNames, WereOne}
+use Rattle.unify_laws.specs.Correct.{OutcomesAreCorrect, NamedFilesHaveTheirNames, NumbersTellNames, WereOne}
 use Rattle.unify_laws.specs.Headline.{HaveOneNumberEach, PlanKeepsNames, IsNamedAsBefore, IsNewNumber, IsOldOrNamed, KeepsItsNames, fields, untouched}
 use Rattle.unify_laws.specs.Installed.{AreInstalled}
 use Rattle.unify_laws.proofs.Costs.{costs_agree}
@@ -117,8 +117,8 @@ none_fewer site outcome whole o printed says_users says_groups other m users gro
     subst (λ c. fields c ≤ fields (cost_of other site.hosts)) (sym (costs_agree site o.mappings printed whole says_users says_groups))
     (subst (λ c. fields (cost_in site o.mappings) ≤ fields c) (sym (costs_agree site m other whole users.say groups.say)) least)
 
-pub outcomes_are_believed : OutcomesAreBelieved
-outcomes_are_believed site outcome whole o =
+pub outcomes_are_correct : OutcomesAreCorrect
+outcomes_are_correct site outcome whole o =
     let back = map_says_mappings site outcome whole o in
     let ok = o.answered.least.admissible in
     let installed = are_installed site outcome whole o back.pairs back.users back.groups in

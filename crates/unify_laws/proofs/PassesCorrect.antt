@@ -12,8 +12,8 @@ use Rattle.unify.specs.declared.merging.Merged.{Merged}
 use Rattle.unify.specs.Merging.{IsMerged, mappings_in}
 use Rattle.unify.specs.Outcomes.{IsOutcome, IsPrinted, hosts_in, plan_texts, plan_texts_from}
 use Rattle.unify.specs.Reading.{WholeSite}
-use Rattle.unify_laws.specs.TwoPasses.{AreWholePlans, TwoPassesAreBelieved}
-use Rattle.unify_laws.proofs.Believed.{name_is, outcomes_are_believed}
+use Rattle.unify_laws.specs.TwoPasses.{AreWholePlans, TwoPassesAreCorrect}
+use Rattle.unify_laws.proofs.Correct.{name_is, outcomes_are_correct}
 
 -- texts that are the plans index by index are the plan texts
 texts_are : (hosts : List Host) (site : Joined) (m : Mappings) (start : ℕ) (all : List (Host × List Entry)) (plans : List (List ℕ)) → length plans ≡ length all
@@ -46,5 +46,5 @@ with_plans site merged plans is are = record {
   printed = subst (λ ts. IsPrinted site (mappings_in merged) is.certificate (record merged.outcome { plans = ts })) (sym (plans_are site merged plans are)) is.printed.printed;
 }
 
-pub two_passes_are_believed : TwoPassesAreBelieved
-two_passes_are_believed site merged plans whole is are = outcomes_are_believed site (record merged.outcome { plans = plans }) whole (with_plans site merged plans is are)
+pub two_passes_are_correct : TwoPassesAreCorrect
+two_passes_are_correct site merged plans whole is are = outcomes_are_correct site (record merged.outcome { plans = plans }) whole (with_plans site merged plans is are)

@@ -13,14 +13,14 @@ use Rattle.certcheck.specs.declared.fault.CheckFault.{CheckFault}
 use Rattle.unify_texts.specs.Told.{told}
 use Rattle.unify_texts.specs.declared.fault.Fault.{Fault}
 use Rattle.unify.specs.declared.rules.SiteRules.{SiteRules}
-use Rattle.unify.specs.Checking.{IsVerified, checked, verified}
+use Rattle.unify.specs.Checking.{IsChecked, checked, check_of}
 use Rattle.unify.specs.Reading.{WholeSite, files_of_site, site_read}
 use Rattle.unify.specs.Told.{in_certificate, in_check}
 use Rattle.unify_laws.proofs.WholeSites.{read_sites_are_whole}
 
 -- the answer is that of the site that is read
-pub answer_of_site : (texts : List HostText) (rules : SiteRules) (text : List ℕ) (site : WholeSite) → site_read texts rules ≡ Ok site → verified texts rules text ≡ checked site (in_certificate (certificate_in text))
-unfolding verified
+pub answer_of_site : (texts : List HostText) (rules : SiteRules) (text : List ℕ) (site : WholeSite) → site_read texts rules ≡ Ok site → check_of texts rules text ≡ checked site (in_certificate (certificate_in text))
+unfolding check_of
 answer_of_site texts rules text site read = rw read refl
 
 check_ok : {X : Type 0} (r : Result X CheckFault) (x : X) → in_check r ≡ Ok x → r ≡ Ok x
@@ -28,7 +28,7 @@ check_ok (Ok y) x e = ap (λ z. Ok z) (ok_same y x e)
 check_ok (Err f) x e = absurd (cc)
 
 module _ (texts : List HostText) (rules : SiteRules) (text : List ℕ) (site : WholeSite) (read : site_read texts rules ≡ Ok site) where
-  means : (said : Result Certificate ℕ) → certificate_in text ≡ said → (result : Result ℕ Fault) → Gives (λ cost. cost) told result (checked site (in_certificate said)) → IfOk result (IsVerified texts rules text)
+  means : (said : Result Certificate ℕ) → certificate_in text ≡ said → (result : Result ℕ Fault) → Gives (λ cost. cost) told result (checked site (in_certificate said)) → IfOk result (IsChecked texts rules text)
   means (Ok c) given (Ok cost) gives =
       let whole = read_sites_are_whole texts rules site read in
       let sides = (reads_what_is_spelled text c given).0 in
@@ -44,5 +44,5 @@ module _ (texts : List HostText) (rules : SiteRules) (text : List ℕ) (site : W
   means (Err line) given (Err e) gives = tt
 
   -- what a cost means
-  pub cost_means : (result : Result ℕ Fault) → Gives (λ cost. cost) told result (checked site (in_certificate (certificate_in text))) → IfOk result (IsVerified texts rules text)
+  pub cost_means : (result : Result ℕ Fault) → Gives (λ cost. cost) told result (checked site (in_certificate (certificate_in text))) → IfOk result (IsChecked texts rules text)
   cost_means result gives = means (certificate_in text) refl result gives

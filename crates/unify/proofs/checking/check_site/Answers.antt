@@ -7,7 +7,7 @@ use Rattle.certcheck.specs.declared.fault.CheckFault.TheVariants.{NameMissing, N
 use Rattle.unify_texts.specs.declared.fault.Fault.{Fault}
 use Rattle.unify_texts.specs.Told.{told}
 use Rattle.unify.specs.Told.{check_told, in_check}
-use Rattle.unify.proofs.verifying.check_site.Goals as goal
+use Rattle.unify.proofs.checking.check_site.Goals as goal
 
 -- a fault of a check, as the program tells it
 told_so : (e : CheckFault) (given : Result ℕ CheckFault) → IfSome (certcheck_told e) (λ f. given ≡ Err f) → IfSome (told (check_told e)) (λ f. in_check given ≡ Err f)

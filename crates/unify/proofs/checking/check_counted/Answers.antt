@@ -7,7 +7,7 @@ use Rattle.unify.specs.Checking.{checked}
 use Rattle.unify.specs.Reading.{files_of_site}
 use Rattle.unify.specs.Told.{in_certificate, in_check}
 use Rattle.unify.proofs.Faults.{passed_on}
-use Rattle.unify.proofs.verifying.verify_counted.Goals as goal
+use Rattle.unify.proofs.checking.check_counted.Goals as goal
 
 pub returns-in-Err : goal.returns-in-Err
 returns-in-Err c = λ whole joined stands.

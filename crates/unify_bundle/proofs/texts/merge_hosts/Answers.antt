@@ -5,7 +5,7 @@ use Rattle.unify_merge.specs.Merge.{HasMade, StopsMerge}
 use Rattle.unify_bundle.specs.TextFiles.{TextFilesValue, ledger_of}
 use Rattle.unify_bundle.proofs.InTexts.{answered_ok, made_parted, made_site, merge_refused, own_files}
 use Rattle.unify_bundle.proofs.SameTexts.{at_start}
-use Rattle.unify_bundle.proofs.texts.consolidate_hosts.Goals as goal
+use Rattle.unify_bundle.proofs.texts.merge_hosts.Goals as goal
 
 pub returns-in_err-outcome : goal.returns-in_err-outcome
 returns-in_err-outcome c =

@@ -29,9 +29,9 @@ use Rattle.unify_laws.specs.Installed.{AreInstalled}
 use Rattle.unify_laws.specs.Laws.{HaveAccounts}
 use Rattle.unify_laws.specs.SiteRuns.{new_world, DoneKeepsNames, EachIsOldOrNamed}
 
--- what a merge may answer for a site is believed
-abbrev pub OutcomesAreBelieved : Type 0
-OutcomesAreBelieved =
+-- what a merge may answer for a site is correct
+abbrev pub OutcomesAreCorrect : Type 0
+OutcomesAreCorrect =
     (site : WholeSite) (outcome : Outcome) → IsWhole site → IsOutcome site outcome
     → Headline site outcome
 

@@ -69,7 +69,7 @@ fn check_site<'a>(
 /// It refuses with the first fault in this order: the certificate's text, by line; the check, users
 /// before groups. `Fault::Memory` is a growth that was refused. Near linear in the account rows,
 /// the counters and the certificate's lines.
-pub fn verify_counted<'a>(
+pub fn check_counted<'a>(
     alloc: Global,
     site: &Site<'a>,
     counts: &Counts,
