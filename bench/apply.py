@@ -35,7 +35,7 @@ STEP = re.compile(r"\r\x1b\[Kunify: (looked at|changed|synced) (\d+) of (\d+)")
 # The calls by which a mode is set, and that by which a file is given an owner.
 SETS_MODE, GIVES = "chmod,fchmod,fchmodat", "fchown"
 # What is told where another plan was begun.
-OTHER_PLAN = "another plan was begun and has not ended; carry that one out to its end first"
+OTHER_PLAN = "another plan was started and is not finished; finish that one first"
 faults = []
 
 
@@ -266,7 +266,7 @@ class Bench:
         whole = modes_file.read_bytes()
         for what, text in (("cut", whole[:-4]), ("empty", b""), ("no mode", whole.replace(b"\n4755 ", b"\n4795 ", 1)), ("no such file", b"end\n")):
             modes_file.write_bytes(text)
-            self.refused(f"a modes file, {what}", (), 1, f"file {modes_file}: cut, or no modes of a plan")
+            self.refused(f"a modes file, {what}", (), 1, f"file {modes_file}: truncated, or not the modes of a plan")
         modes_file.write_bytes(whole.replace(b" bench-host ", b" bench-hose "))
         self.refused("a modes file of another plan", (), 1, f"file {modes_file}: {OTHER_PLAN}")
         modes_file.write_bytes(whole)
@@ -282,7 +282,7 @@ class Bench:
 
     def no_files(self):
         """What is no regular file in place of the mark and of the modes: it is refused, and nobody waits for it."""
-        for name, told in (("done", "no mark of a plan"), ("done.modes", "cut, or no modes of a plan")):
+        for name, told in (("done", "not the mark of a plan"), ("done.modes", "truncated, or not the modes of a plan")):
             path = pathlib.Path(f"{self.plan}.{name}")
             for kind in ("pipe", "socket", "folder", "device"):
                 if kind == "folder":
@@ -345,11 +345,11 @@ class Bench:
         inside = self.root / "d0/e0"
         subprocess.run(["mount", "--bind", inside, inside], check=True)
         try:
-            self.refused("a bind mount below", (), 2, "mounted below it once more")
+            self.refused("a bind mount below", (), 2, "is also mounted below it")
         finally:
             subprocess.run(["umount", inside], check=True)
         os.link(self.root / path, self.root / "one name more")
-        self.refused("a name that is not planned", (), 1, "has a name that the plan does not have")
+        self.refused("a name that is not planned", (), 1, "a hard link to the file is not in the plan")
         os.unlink(self.root / "one name more")
         came = subprocess.run(["setpriv", "--reuid", "41009", "--clear-groups", *self.words()], capture_output=True, text=True)
         say(f"as another user: status {came.returncode}, {came.stderr.strip()}", came.returncode == 2 and "only root" in came.stderr)
@@ -358,7 +358,7 @@ class Bench:
         with subprocess.Popen(["sleep", "60"], extra_groups=[ONE[1]]) as other:
             came = subprocess.run([self.program, "apply", "--check", str(self.plan), str(self.root)], capture_output=True, text=True)
             other.kill()
-        say(f"a process of another group: {came.stderr.splitlines()[:1]}", f"the first of them {other.pid} of 1\n" in came.stderr)
+        say(f"a process of another group: {came.stderr.splitlines()[:1]}", f"process {other.pid} is the first of 1 that run as users or groups whose numbers change\n" in came.stderr)
 
 
 def no_modes(program, room):
@@ -437,7 +437,7 @@ def count_ways(program, room):
             (root / name).mkdir()
         mount("-o", "subvol=other", device, root / "home")
         mount("--bind", root / "d0", root / "again")
-        bench.refused("a folder of a btrfs below it once more", (), 2, "mounted below it once more")
+        bench.refused("a folder of a btrfs below it once more", (), 2, "is also mounted below it")
         mount("-t", "tmpfs", "none", root / "again")
         came = bench.ran()
         say(f"a subvolume below: status {came.returncode}, {came.stderr.strip()}", came.returncode == 0)
@@ -475,7 +475,7 @@ def in_a_cell(program, room):
             elif os.path.isdir(f"/{name}"):
                 mount("--bind", f"/{name}", room / name)
         mount("--bind", room / "tree/d0", room / "tree/again")
-        cell.refused("a bind mount below, in a cell", (), 2, "mounted below it once more, at /tree/again")
+        cell.refused("a bind mount below, in a cell", (), 2, "is also mounted below it, at /tree/again")
         subprocess.run(["umount", mounted.pop()], check=True)
         mount("-t", "tmpfs", "none", room / "tree/again")
         came = cell.ran()

@@ -11,7 +11,8 @@ open in a function that the edit touches. What is not refused in a round is trie
 is an edit outside of functions: all of the crate is checked with it, and it is refused where any goal is left open.
 
 An edit may turn the contracts of functions with their bodies. A line `in: PATH FUNCTION` names the one above them that has to
-refuse it; that function alone is checked then, and by itself.
+refuse it; that function alone is checked then, and by itself. What breaks in a lemma that its answers cite does not count: an edit
+that turns a definition with its body, and so the lemmas of a law, has no such line.
 
 All is done in a copy of the repository's crates. A crate that `rt ci` has passed on this machine is taken as proved, by the
 record of rt where it keeps one and else by build/passed and the libraries that it left; any other is proved first. Crates are

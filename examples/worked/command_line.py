@@ -56,7 +56,7 @@ KEPT = "unify: warning: keep of {} is for a name that no host has\n".format
 SPACED = "".join(f"unify: warning: host a has lines in {file} that begin with white space\n" for file in ("passwd", "group"))
 SPACED += "unify: warning: host a has members in group that begin with white space\n"
 MTREE_RETURNS = "unify: warning: host a has lines in mtree that end in a carriage return\n"
-STAYS = "unify: warning: pin of {} is for a name that stays as it is on each host, and gives it no number\n".format
+STAYS = "unify: warning: pin of {} has no effect: the name stays as it is on each host\n".format
 ALICE = "alice:x:1001:100:{}:/home/alice:/bin/sh\n".format
 MANY = range(10, 22)
 # Hosts whose users and groups may be two under one name. Each has alice.
@@ -74,7 +74,7 @@ DOUBTED = {
     "wide": (ALICE("") + f"{'x' * 64}:x:1003:100::/:/bin/sh\n", "users:x:100:\n"),
     "long": (ALICE(""), "users:x:100:" + ",".join(f"u{number}" for number in MANY) + "\n"),
 }
-GETS = "unify: warning: group {} on host {} has {} and gets {}\n".format
+GETS = "unify: warning: group {} on host {} had {} and gains {}\n".format
 # A tree, of which each folder holds one name, so that the files come in one order, and a folder with a link; and their lines.
 TREE = ["tree", "tree/new\nline", "tree/new\nline/a b\\#\u00e9\\"]
 LINKED = "linked/to nothing"
@@ -128,7 +128,7 @@ WRITTEN = {
 # A file that no user of b owns, what is told of it, and what is told behind that to whoever looks on.
 UNOWNED = {"unowned": "./file uid=7 gid=100\n"}
 UNOWNED_TOLD = "unify: 25 UnownedUid host b uid 7 file\n"
-MAY_STAY = "unify: accounts and numbers that may differ from host to host can be left as they are: --keep FILE\n"
+MAY_STAY = "unify: hint: --keep FILE leaves accounts and numbers as they are on each host\n"
 WAS_CUT = "unify: 45 CutInventory host b mtree line {}\n".format
 # Hosts that are a without a file, and one whose passwd is refused and that has no inventory.
 LACKING = {"lacks-passwd": "passwd", "lacks-group": "group", "lacks-mtree": "mtree", "refused": "mtree"}
@@ -265,7 +265,7 @@ TABLE = [
     ("inventory linked . tree", 2, "", "unify: root linked: it lies in .\n"),
     ("inventory tree treehouse", 3, MACHINE("tree treehouse") + TREE_LINES, "unify: file treehouse: No such file or directory\n"),
     ("apply --check -q own-plan .", 0, SEEN(1, 1, 0, 0, 0, 0), ""),
-    ("apply --check -q rooted-plan .", 1, "", "unify: file /map: a path that no inventory has, or too long\n"),
+    ("apply --check -q rooted-plan .", 1, "", "unify: file /map: no inventory has such a path, or it is too long\n"),
     ("apply --check -q near-plan .", 0, SEEN(1, 0, 0, 0, 0, 0), ""),
     ("apply --check -q --reverse near-plan .", 0, SEEN(0, 1, 0, 0, 0, 0), ""),
     ("apply --check -q more-plan .", 0, SEEN(3, 0, 0, 0, 1, 2), ""),
@@ -448,8 +448,8 @@ TABLE = [
         NOTHING_COUNTED,
         GETS("users", "a", "no member", ", ".join(f"u{number}" for number in MANY[:8]) + " and others"),
     ),
-    ("merge out a=again b=again", 0, NOTHING_COUNTED, "unify: warning: lines of inventories whose path stood there before: 4\n"),
-    ("merge out a=pieced b=pieced", 0, NOTHING_COUNTED, "unify: warning: lines of inventories whose path stood there before: 4\n"),
+    ("merge out a=again b=again", 0, NOTHING_COUNTED, "unify: warning: inventory lines that repeat a path: 4\n"),
+    ("merge out a=pieced b=pieced", 0, NOTHING_COUNTED, "unify: warning: inventory lines that repeat a path: 4\n"),
     ("merge out a=folded b=folded", 0, NOTHING_COUNTED, ""),
     ("merge -q out a=again b=again", 0, NOTHING_COUNTED, ""),
     ("check --pins cut-pins good a=returns b", 4, "", CUT + RETURNS + "unify: 32 PinBroken user bob\n"),
@@ -501,7 +501,7 @@ TABLE = [
     ("rehearse none b/mtree", 3, "", "unify: file none: No such file or directory\n"),
     ("rehearse plan none", 3, "", "unify: file none: No such file or directory\n"),
     ("apply none b", 3, "", "unify: file none: No such file or directory\n"),
-    ("apply --check plan none", 2, "", "unify: root none: not there, or behind a link\n"),
+    ("apply --check plan none", 2, "", "unify: root none: does not exist, or is reached through a symbolic link\n"),
     ("apply --check plan plan", 2, "", "unify: root plan: Not a directory\n"),
     # The order in which files are read: all of them but inventories before anything is judged.
     ("count none x y", 3, "", "unify: file none: No such file or directory\n"),
