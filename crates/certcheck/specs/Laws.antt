@@ -1,6 +1,7 @@
 -- Laws of certificates and their texts.
 -- Source: this project's own format.
-use Rattle.std.specs.Prelude.{◌≡◌, ℕ, ◌+◌, ◌==◌, List, [], ◌∷◌, ◌++◌, take, if◌then◌else◌, Ok, Err}
+use Rattle.std.specs.Prelude.{◌≡◌, ℕ, ◌+◌, ◌==◌, List, [], ◌∷◌, ◌++◌, take}
+use Rattle.std.specs.Prelude.{if◌then◌else◌, Ok, Err}
 use Rattle.std.specs.List.{onto_first}
 use Rattle.idtext.specs.Faults.{line_number}
 use Rattle.certcheck.specs.Certificate.{IsSide}

@@ -1,6 +1,7 @@
 -- What host names are, by their bytes: each is one word, and one part of a path.
 -- Source: this project's own rule.
-use Rattle.std.specs.Prelude.{◌≡◌, ◌≢◌, ◌↔◌, ◌⊎◌, ℕ, ◌≤◌, true, List, length, All, slice_index}
+use Rattle.std.specs.Prelude.{◌≡◌, ◌≢◌, ◌↔◌, ◌⊎◌, ℕ, ◌≤◌, true, List, length, All}
+use Rattle.std.specs.Prelude.{slice_index}
 use Rattle.hosts_join.specs.Checks.{is_host_name}
 
 -- an ASCII letter or digit, a full stop, a hyphen or an underscore

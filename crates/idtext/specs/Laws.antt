@@ -1,7 +1,8 @@
 -- Laws over the definitions of this crate, in the words of its subject.
 -- Source: chown(2) for the greatest id; mtree(5) and vis(3) for escapes, with this project's own
 -- rules of which are read.
-use Rattle.std.specs.Prelude.{◌≡◌, ℕ, ◌+◌, ◌-◌, ◌*◌, false, ◌<◌, ◌≤◌, List, [], ◌∷◌, ◌++◌, length}
+use Rattle.std.specs.Prelude.{◌≡◌, ℕ, ◌+◌, ◌-◌, ◌*◌, false, ◌<◌, ◌≤◌, List, [], ◌∷◌}
+use Rattle.std.specs.Prelude.{◌++◌, length}
 use Rattle.std.specs.Prelude.{drop, All, Some, IfSome, codes, decimal}
 use Rattle.idtext.specs.declared.escapes.Character.TheVariants.{Escape}
 use Rattle.idtext.specs.Escapes.{escaped, front, characters, unescaped, has_bad_escape}

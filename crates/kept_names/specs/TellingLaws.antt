@@ -1,6 +1,7 @@
 -- What the counts, the lines and the exit status of `verify` mean.
 -- Source: this project's own rule and format; chown(2) for what an owner is.
-use Rattle.std.specs.Prelude.{◌≡◌, ◌≢◌, ◌↔◌, ℕ, ◌+◌, ◌<◌, ◌≤◌, ◌^◌, List, codes, find}
+use Rattle.std.specs.Prelude.{◌≡◌, ◌≢◌, ◌↔◌, ℕ, ◌+◌, ◌<◌, ◌≤◌, ◌^◌, List, codes}
+use Rattle.std.specs.Prelude.{find}
 use Rattle.std.specs.Prelude.{length, Option, None, Some, All, filter_map, flat_map, option_map}
 use Rattle.std.specs.Str.{bytes_eq}
 use Rattle.std.specs.Str.Parse.{digits_value}

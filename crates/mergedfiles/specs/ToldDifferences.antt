@@ -1,6 +1,7 @@
 -- Which differences are told, in other words.
 -- Source: this project's own rule.
-use Rattle.std.specs.Prelude.{◌≡◌, ◌≢◌, ◌↔◌, ℕ, List, ◌∷◌, ◌++◌, map, Option, Some, None, All}
+use Rattle.std.specs.Prelude.{◌≡◌, ◌≢◌, ◌↔◌, ℕ, List, ◌∷◌, ◌++◌, map, Option, Some, None}
+use Rattle.std.specs.Prelude.{All}
 use Rattle.std.specs.Prelude.{Contains}
 use Rattle.hosts_join.specs.Accounts.{Accounts}
 use Rattle.hosts_join.specs.Site.{Joined}
