@@ -91,7 +91,7 @@ rows-know h v n rows named there =
 
 -- ---- a table of names with their numbers
 
-twice : (v k : ℕ) (p d : List ℕ × ℕ) (ps : List (List ℕ × ℕ)) → AreDistinct (map (λ q. q.1) (p ∷ ps)) → k < length ps → (v == (get_or ps k d).1) ≡ true → (v == p.1) ≡ true → ⊥
+pub twice : (v k : ℕ) (p d : List ℕ × ℕ) (ps : List (List ℕ × ℕ)) → AreDistinct (map (λ q. q.1) (p ∷ ps)) → k < length ps → (v == (get_or ps k d).1) ≡ true → (v == p.1) ≡ true → ⊥
 twice v k p d ps apart l e it =
     let same : p.1 ≡ get_or (map (λ (q : List ℕ × ℕ). q.1) ps) k 0 = sym (eqb-true v p.1 it) ∙ eqb-true v _ e ∙ sym (get_or-map (λ (q : List ℕ × ℕ). q.1) ps k d 0 l) in
     let z : 0 ≡ suc k = apart 0 (suc k) 0 (omega arith) (omega (arith, length-map ps (λ (q : List ℕ × ℕ). q.1))) same in
@@ -125,7 +125,7 @@ none-there v (p ∷ ps) is = elim (cases_Bool (v == p.1)) [
     full n e = cc
 
 -- a table by its rows, and by its names with their numbers
-told-by : {X : Type 0} (name : X → List ℕ) (number : X → ℕ) (v : ℕ) (xs : List X) → option_map (λ (p : List ℕ × ℕ). p.0) (find (λ p. v == p.1) (map (λ x. (name x, number x)) xs)) ≡ option_map name (find (λ x. v == number x) xs)
+pub told-by : {X : Type 0} (name : X → List ℕ) (number : X → ℕ) (v : ℕ) (xs : List X) → option_map (λ (p : List ℕ × ℕ). p.0) (find (λ p. v == p.1) (map (λ x. (name x, number x)) xs)) ≡ option_map name (find (λ x. v == number x) xs)
 told-by name number v [] = refl
 told-by name number v (x ∷ xs) = elim (cases_Bool (v == number x)) [ inl t ↦ rw t refl | inr f ↦ rw f (told-by name number v xs) ]
 

@@ -33,7 +33,7 @@ use Rattle.hosts_join.specs.declared.host.Host.{Host}
 use Rattle.hosts_join.proofs.Grouping.{AreNames, AreNames-first_appearances, bytes_refl, length-grouped}
 
 -- how many of the claims have the number
-abbrev count : ℕ → List Pair → ℕ
+abbrev pub count : ℕ → List Pair → ℕ
 count v ps = count_by (λ p. p.number == v) ps
 
 least-none : (cs : List Clash) → least cs ≡ None → cs ≡ []
@@ -71,10 +71,14 @@ count-once v before (p ∷ ps) e h =
     let rest = count-once v (before ++ p ∷ []) ps parts.1 few in
     rw (sym (append_assoc before (p ∷ []) ps)) rest
 
-claims-once : (v : ℕ) (a : Accounts) → clash_of (claims a) ≡ None → count v (pinned_names a.pins a.names) ≤ 1
-claims-once v a e =
+-- a number is claimed once, by a pinned name or by one that is on no host
+pub claims-apart : (v : ℕ) (a : Accounts) → clash_of (claims a) ≡ None → count v (pinned_names a.pins a.names) + count v (absent_pins a.names a.pins) ≤ 1
+claims-apart v a e =
     let all = count-once v [] (claims a) (least-none (repeats [] (claims a)) e) (omega arith) in
     omega (arith, all, sum_by-append (λ (q : Pair). cond (q.number == v) 1 0) (pinned_names a.pins a.names) (absent_pins a.names a.pins))
+
+pub claims-once : (v : ℕ) (a : Accounts) → clash_of (claims a) ≡ None → count v (pinned_names a.pins a.names) ≤ 1
+claims-once v a e = omega (arith, claims-apart v a e)
 
 module _ (pins : List Pair) (v : ℕ) where
   count-names : (n : Account) (ns : List Account) → count v (pinned_names pins (n ∷ ns)) ≡ count v (pinned_to (class_of pins n) n.name) + count v (pinned_names pins ns)
@@ -83,12 +87,12 @@ module _ (pins : List Pair) (v : ℕ) where
   count-one : (c : Class) (n : List ℕ) → c ≡ Pinned v → count v (pinned_to c n) ≡ 1
   count-one c n e = rw (e, eq-eqb v v refl) refl
 
-  count-there : (ns : List Account) (i : ℕ) → i < length ns → class_of pins (get_or ns i nobody) ≡ Pinned v → 1 ≤ count v (pinned_names pins ns)
+  pub count-there : (ns : List Account) (i : ℕ) → i < length ns → class_of pins (get_or ns i nobody) ≡ Pinned v → 1 ≤ count v (pinned_names pins ns)
   count-there [] i h e = absurd (omega arith)
   count-there (n ∷ ns) zero h e = omega (arith, count-names n ns, count-one (class_of pins n) n.name e)
   count-there (n ∷ ns) (suc i) h e = omega (arith, count-names n ns, count-there ns i (omega arith) e)
 
-  pins-once : (ns : List Account) (i j : ℕ) → count v (pinned_names pins ns) ≤ 1 → i < length ns → j < length ns → class_of pins (get_or ns i nobody) ≡ Pinned v → class_of pins (get_or ns j nobody) ≡ Pinned v → i ≡ j
+  pub pins-once : (ns : List Account) (i j : ℕ) → count v (pinned_names pins ns) ≤ 1 → i < length ns → j < length ns → class_of pins (get_or ns i nobody) ≡ Pinned v → class_of pins (get_or ns j nobody) ≡ Pinned v → i ≡ j
   pins-once [] i j few hi hj ei ej = absurd (omega arith)
   pins-once (n ∷ ns) zero zero few hi hj ei ej = refl
   pins-once (n ∷ ns) zero (suc j) few hi hj ei ej = absurd (omega (arith, count-names n ns, count-one (class_of pins n) n.name ei, count-there ns j (omega arith) ej))

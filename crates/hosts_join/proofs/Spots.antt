@@ -50,7 +50,7 @@ one-spot place (s ∷ t ∷ ss) all once =
     let at_t = All-head (λ (s : Spot). s.host ≡ place) t ss (All-tail (λ (s : Spot). s.host ≡ place) s (t ∷ ss) all) in
     absurd (both_ways (t.host == s.host) (or_parts (t.host == s.host) (list_any (λ (u : Spot). u.host == s.host) ss) once.0).0 (eq-eqb t.host s.host (at_t ∙ sym at_s)))
 
-spots_of-append : (xs ys : List Row) (n : List ℕ) → spots_of (xs ++ ys) n ≡ spots_of xs n ++ spots_of ys n
+pub spots_of-append : (xs ys : List Row) (n : List ℕ) → spots_of (xs ++ ys) n ≡ spots_of xs n ++ spots_of ys n
 unfolding spots_of
 spots_of-append xs ys n = rw (filter-append, map-append) refl
 

@@ -27,4 +27,6 @@ pub mod Hosts
 pub mod Site
 pub mod Checks
 pub mod Laws
+pub mod Standings
 pub mod HostNames
+pub mod NumberFaults

@@ -3,6 +3,10 @@ ghost use Rattle.hosts_join.specs.HostNames.{HostNamesAreOneWord, HostNamesAreTh
 ghost use Rattle.hosts_join.specs.Laws.{JoinedSitesAreLawful, JoinedSitesKnowTheirHosts};
 ghost use Rattle.hosts_join.specs.Laws.{JoinedSitesLeaveReserved, JoinedSitesLeaveSpared};
 ghost use Rattle.hosts_join.specs.Laws.{NothingReservedChangesNothing};
+ghost use Rattle.hosts_join.specs.NumberFaults.{ClashesAreThere, SmallPoolsAreThere};
+ghost use Rattle.hosts_join.specs.Standings.{DisagreeingPinsAreRefused, LinesCountTheHosts};
+ghost use Rattle.hosts_join.specs.Standings.{NumbersStandWhereTheyMay};
+ghost use Rattle.hosts_join.specs.Standings.{NumbersThatMayStandAreOffered};
 ghost use Rattle.hosts_join.specs.Laws.{ReadPinsArePins, ReadPinsReserveNothing};
 
 /// A site knows the accounts of each of its hosts: who has a number there is the account of the
@@ -52,4 +56,37 @@ pub fn read_pins_reserve_nothing()
 pub fn host_names_are_one_word()
     ensures exactly { HostNamesAreTheseBytes }
     ensures word { HostNamesAreOneWord }
+{}
+
+/// Each number that a name of a joined site may have is its pin, or the number that it has outside
+/// the ranges of a host, and is then no other name's; a free name has numbers that are regular on
+/// every host, where it is regular on some, or else system numbers on every host.
+pub fn numbers_stand_where_they_may()
+    ensures { NumbersStandWhereTheyMay }
+{}
+
+/// And a name may have every such number that an account may have and that is not reserved.
+pub fn numbers_that_may_stand_are_offered()
+    ensures { NumbersThatMayStandAreOffered }
+{}
+
+/// Where hosts were joined, all that have a name outside their ranges have it at one number, and
+/// the pins text gives it no other.
+pub fn disagreeing_pins_are_refused()
+    ensures { DisagreeingPinsAreRefused }
+{}
+
+/// Of the rows of a name so many have a number as there are hosts whose passwd, or group, gives the
+/// name that number.
+pub fn lines_count_the_hosts()
+    ensures { LinesCountTheHosts }
+{}
+
+/// Where two names with one number are told, they are the first two that are given that number, and
+/// no lesser number is given to two. Where a pool is told as too small, the site has as many names
+/// of its class as are told, and the pool as many numbers, which are fewer; and the pool of system
+/// names is told only where that of regular names is large enough.
+pub fn number_faults_are_there()
+    ensures clashes { ClashesAreThere }
+    ensures pools { SmallPoolsAreThere }
 {}
