@@ -1,5 +1,6 @@
 pub mod PickedLemmas
 pub mod OtherLemmas
+pub mod OnlyLemmas
 pub mod ReservedLemmas
 pub mod SparedLemmas
 pub mod StayLemmas

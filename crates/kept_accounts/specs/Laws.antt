@@ -1,8 +1,8 @@
 -- What holds of the accounts that are kept.
 -- Source: this project's own rule.
 use Rattle.std.specs.Prelude.{◌≡◌, ◌⊎◌, ◌↔◌, ℕ, ◌++◌, Bool, true, false, List, [], Option, Some}
-use Rattle.std.specs.Prelude.{Ok}
-use Rattle.std.specs.List.{Contains}
+use Rattle.std.specs.Prelude.{Ok, ◌≤◌}
+use Rattle.std.specs.List.{Any, Contains}
 use Rattle.std.specs.List.Sorted.{IsPermutation}
 use Rattle.accounts.specs.Laws.{IsPasswdTable, IsGroupTable}
 use Rattle.accounts.specs.Rows.{Passwd, Group}
@@ -124,6 +124,50 @@ SparedAreReserved = (keep : KeepText) (hosts : List Host) (unowned : UnownedNumb
     → is_reserved (reserved_users keep hosts unowned.users) number ≡ true)
     × (spares_group (without_kept keep hosts unowned host) number ≡ true
     → is_reserved (reserved_groups keep hosts unowned.groups) number ≡ true)
+
+-- The number lies in a listed range; or a kept name has it; or, where numbers without an account
+-- stay, it is one of those.
+-- had: a kept name has it; found: some file has it, and no account
+abbrev pub NumberStays : Kept → ℕ → Type 0 → Type 0 → Type 0
+NumberStays keep number had found =
+    Any (λ range. (range.low ≤ number) × (number ≤ range.high)) keep.ranges
+    ⊎ (had ⊎ ((keep.unowned ≡ true) × found))
+
+-- a kept user of the table has the uid, by what is kept on these hosts
+abbrev pub KeptUserHas : KeepText → List Host → List Passwd → ℕ → Type 0
+KeptUserHas keep hosts users uid =
+    Any (λ row. (is_kept_user keep hosts row.name ≡ true) × (row.uid ≡ uid)) users
+
+-- a kept group of the table has the gid, by what is kept on these hosts
+abbrev pub KeptGroupHas : KeepText → List Host → List Group → ℕ → Type 0
+KeptGroupHas keep hosts groups gid =
+    Any (λ row. (is_kept_group keep hosts row.name ≡ true) × (row.gid ≡ gid)) groups
+
+-- A number is reserved exactly where it lies in a listed range, or a kept name has it on some host,
+-- or numbers without an account stay and it is one of those of some host.
+abbrev pub OnlyWhatStaysIsReserved : Type 0
+OnlyWhatStaysIsReserved = (keep : KeepText) (hosts : List Host) (unowned : UnownedNumbers)
+    (number : ℕ)
+    → ((is_reserved (reserved_users keep hosts unowned.users) number ≡ true)
+    ↔ NumberStays keep.users number
+    (Any (λ host. KeptUserHas keep hosts host.users number) hosts)
+    (Any (λ found. found.number ≡ number) unowned.users))
+    × ((is_reserved (reserved_groups keep hosts unowned.groups) number ≡ true)
+    ↔ NumberStays keep.groups number
+    (Any (λ host. KeptGroupHas keep hosts host.groups number) hosts)
+    (Any (λ found. found.number ≡ number) unowned.groups))
+
+-- A host spares a number exactly where it lies in a listed range, or a kept name has it on this
+-- host, or numbers without an account stay and it is one of those of this host.
+abbrev pub HostSparesItsOwn : Type 0
+HostSparesItsOwn = (keep : KeepText) (hosts : List Host) (unowned : UnownedNumbers) (host : Host)
+    (number : ℕ)
+    → ((spares_user (without_kept keep hosts unowned host) number ≡ true)
+    ↔ NumberStays keep.users number (KeptUserHas keep hosts host.users number)
+    (Any (λ found. (found.host ≡ host.name) × (found.number ≡ number)) unowned.users))
+    × ((spares_group (without_kept keep hosts unowned host) number ≡ true)
+    ↔ NumberStays keep.groups number (KeptGroupHas keep hosts host.groups number)
+    (Any (λ found. (found.host ≡ host.name) × (found.number ≡ number)) unowned.groups))
 
 -- Where numbers without an account stay, one that files of a host have is spared by the host, and
 -- it is reserved, by the files of that host.

@@ -5,7 +5,8 @@ ghost use Rattle.kept_accounts.specs.Laws.{KeptNamesStay, KeptNumbersAreReserved
 ghost use Rattle.kept_accounts.specs.Laws.{UsersAreParted, GroupsAreParted, OthersAreLawful};
 ghost use Rattle.kept_accounts.specs.Laws.{OtherUsersAgree, OtherGroupsAgree};
 ghost use Rattle.kept_accounts.specs.Laws.{NamedAreLeftOrSpared, SparedAreReserved};
-ghost use Rattle.kept_accounts.specs.Laws.{UnownedAreSpared};
+ghost use Rattle.kept_accounts.specs.Laws.{UnownedAreSpared, OnlyWhatStaysIsReserved};
+ghost use Rattle.kept_accounts.specs.Laws.{HostSparesItsOwn};
 
 /// By an empty keep text no name is kept and no number is reserved, and each host is as it was, and
 /// spares no number, whichever numbers its files have without an account.
@@ -68,4 +69,17 @@ pub fn unowned_numbers_are_spared()
 /// A number that a host's table names is named so by what is left of it, or the host spares it.
 pub fn named_numbers_are_left_or_spared()
     ensures { NamedAreLeftOrSpared }
+{}
+
+/// A number is reserved exactly where it lies in a range that the text lists of the kind, or a kept
+/// name has it on some host, or the text keeps numbers without an account and it is one of them.
+pub fn only_what_stays_is_reserved()
+    ensures { OnlyWhatStaysIsReserved }
+{}
+
+/// A host without its kept rows spares a number exactly where it lies in a range that the text
+/// lists of the kind, or a kept name has it on this host, or the text keeps numbers without an
+/// account and it is one of this host's.
+pub fn a_host_spares_what_is_its_own()
+    ensures { HostSparesItsOwn }
 {}

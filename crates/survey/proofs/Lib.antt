@@ -1,1 +1,2 @@
 pub mod OnceLemmas
+pub mod FoundLemmas

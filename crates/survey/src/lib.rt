@@ -8,4 +8,6 @@ mod noting;
 mod number_set;
 
 pub use host_survey::HostSurvey;
-pub use laws::{no_number_stands_twice, unowned_numbers_are_of_files};
+pub use laws::{
+    no_number_stands_twice, only_unowned_numbers_are_found, unowned_numbers_are_of_files,
+};
