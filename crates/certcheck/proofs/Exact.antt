@@ -6,7 +6,6 @@ use Rattle.std.specs.Str.{bytes_eq}
 use Rattle.std.specs.Ordering.{nat_cmp, is_lt}
 use Rattle.std.specs.Cmp.Lexicographic.{slice_cmp}
 use Rattle.std.proofs.lemmas.List.{length-map, get_or-map, get_or_default}
-use Rattle.std.proofs.lemmas.List.Sums.{sum_by-cons}
 use Rattle.std.proofs.lemmas.Bool.{cases_Bool, cases_lt, cond-true, cond-false, and_parts, eqb-true, eq-eqb, ltb-true, ltb-false, le-ltb, false_from_ne_true, false≢true, not-false}
 use Rattle.idtext.specs.First.{or_else}
 use Rattle.hosts_join.specs.declared.Which.{Which}
@@ -23,10 +22,11 @@ use Rattle.certcheck.specs.declared.fault.CheckFault.TheVariants.{NameMissing, N
 use Rattle.certcheck.specs.Check.{weight_by, lesser, least_name, missing, repeated, outside, broken, uncovered, uncovered_at, uncovered_in, is_uncovered, is_outside, breaks_pin, passes, is_row_outside, row_breaks_pin, is_listed, mapping_of, potentials_of, differ, sums_differ, kind_fault}
 use Rattle.certcheck.proofs.Order.{least_name-append, eq_itself, differ as differ_names}
 use Rattle.certcheck.proofs.Least.{least_below-none, least_below_none_says, none_both}
-use Rattle.certcheck.proofs.Spots.{Passing, passing_any, passing_counted, counted_from}
+use Rattle.certcheck.proofs.Spots.{Passing, passing_any}
 use Rattle.certcheck.proofs.Covers.{pool_id}
 use Rattle.certcheck.proofs.Indices.{row, blank, any_from, same_names, HasRow, HasIndex, index_found, row_at_index, index_of_row, find_none_says, find_none_from}
 use Rattle.certcheck.proofs.Faults.{fault_is, no_difference}
+use Rattle.certcheck.proofs.Twice.{count_two, two_counted}
 
 -- 1. Names
 
@@ -123,42 +123,6 @@ not_broken a Regular v may = refl
 not_broken a System v may = refl
 
 -- 3. Numbers
-
--- two that pass
-pub count_two : {X : Type 0} (p : X → Bool) (xs : List X) (i j : ℕ) (d : X) → i < j → j < length xs → p (get_or xs i d) ≡ true → p (get_or xs j d) ≡ true → 1 < count_by p xs
-count_two p [] i j d l m h k = absurd (omega arith)
-count_two p (x ∷ xs) i zero d l m h k = absurd (omega arith)
-count_two p (x ∷ xs) zero (suc j) d l m h k =
-    let cons = sum_by-cons (λ y. cond (p y) 1 0) x xs in
-    let one : ◌≡◌ {A = ℕ} (cond (p x) 1 0) 1 = cond-true _ _ _ h in
-    let rest = counted_from p xs j d (omega arith) k in
-    omega (arith, cons, one, rest)
-count_two p (x ∷ xs) (suc i) (suc j) d l m h k =
-    let cons = sum_by-cons (λ y. cond (p y) 1 0) x xs in
-    let rest = count_two p xs i j d (omega arith) (omega arith) h k in
-    omega (arith, cons, rest)
-
-abbrev pub Two : {X : Type 0} → (X → Bool) → List X → Type 0
-Two {X} p xs = (i : ℕ) × (j : ℕ) × (i < j) × (j < length xs) × ((d : X) → p (get_or xs i d) ≡ true) × ((d : X) → p (get_or xs j d) ≡ true)
-
-two_more : {X : Type 0} (p : X → Bool) (x : X) (xs : List X) → Two p xs → Two p (x ∷ xs)
-two_more p x xs h = (suc h.0, suc h.1, omega (arith, h.2), omega (arith, h.3), λ d. h.4 d, λ d. h.5 d)
-
-two_first : {X : Type 0} (p : X → Bool) (x : X) (xs : List X) → p x ≡ true → Passing p xs → Two p (x ∷ xs)
-two_first p x xs e h = (0, suc h.0, omega arith, omega (arith, h.1), λ d. e, λ d. h.2 d)
-
-pub two_counted : {X : Type 0} (p : X → Bool) (xs : List X) → 1 < count_by p xs → Two p xs
-two_counted p [] h = absurd (omega arith)
-two_counted p (x ∷ xs) h =
-    let cons = sum_by-cons (λ y. cond (p y) 1 0) x xs in
-    ⊎_elim
-    (λ (e : p x ≡ true).
-    let one : ◌≡◌ {A = ℕ} (cond (p x) 1 0) 1 = cond-true _ _ _ e in
-    two_first p x xs e (passing_counted p xs (omega (arith, h, cons, one))))
-    (λ (e : p x ≡ false).
-    let none : ◌≡◌ {A = ℕ} (cond (p x) 1 0) 0 = cond-false _ _ _ e in
-    two_more p x xs (two_counted p xs (omega (arith, h, cons, none))))
-    (cases_Bool (p x))
 
 -- no two rows have one number
 no_repeat : (rows : List Row) → repeated rows ≡ None → (i j : ℕ) → i < j → j < length rows → (row rows j).number < 2 ^ 32 → (row rows i).number ≡ (row rows j).number → ⊥

@@ -25,7 +25,7 @@ use Rattle.certcheck.specs.Check.{is_listed, number_named, y_named}
 use Rattle.certcheck.specs.Made.{IsSolutionFor, AreRowsInOrder, IsSideOf, row_at}
 use Rattle.certcheck.proofs.Order.{same_from_equal, eq_itself}
 use Rattle.certcheck.proofs.Indices.{row, blank, same_names, row_at_index}
-use Rattle.certcheck.proofs.Exact.{count_two, two_counted}
+use Rattle.certcheck.proofs.Twice.{count_two, two_counted}
 
 -- the rows, by the index of their names
 record AreRowsOf (a : Accounts) (m y : List ℕ) (rows : List Row) : Type 0 where

@@ -11,3 +11,5 @@ pub mod Items
 pub mod LinesRead
 pub mod Laws
 pub mod Examples
+pub mod Refused
+pub mod FaultOrder

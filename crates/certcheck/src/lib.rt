@@ -23,7 +23,9 @@ mod sums;
 mod writing;
 
 pub use certificate::{CertRow, Certificate, Side};
-pub use certified::{accepted_is_certified, certified_is_accepted};
+pub use certified::{
+    accepted_is_certified, certified_is_accepted, first_fault_is_told, told_fault_is_there,
+};
 pub use checking::check;
 pub use fault::CheckFault;
 pub use laws::{certificate_by_example, certificates_are_spelled, first_bad_line_is_told};

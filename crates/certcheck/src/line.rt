@@ -30,61 +30,53 @@ pub enum Item<'a> {
 fn id(text: &[u8]) -> Option<u32>
     ensures { result ≡ spec.spelled_number 4294967294 text.now }
 {
-    match spelled_number(u64::from(GREATEST_ID), text) {
-        Some(number) => Some(number as u32),
-        None => None,
-    }
+    let number = spelled_number(u64::from(GREATEST_ID), text)?;
+    Some(number as u32)
 }
 
 /// NAME NUMBER Y.
 fn row(text: &[u8]) -> Option<CertRow<'_>>
     ensures { option_map row_of result ≡ spec.row_in text.now }
 {
-    let Some((rest, y)) = split_at_last_space(text) else {
+    let (rest, y) = split_at_last_space(text)?;
+    let (name, number) = split_at_last_space(rest)?;
+    let number = id(number)?;
+    let y = spelled_number(u64::MAX, y)?;
+    if !is_lawful_name(name) {
         return None;
-    };
-    let Some((name, number)) = split_at_last_space(rest) else {
-        return None;
-    };
-    match (id(number), spelled_number(u64::MAX, y)) {
-        (Some(number), Some(y)) if is_lawful_name(name) => Some(CertRow { name, number, y }),
-        _ => None,
     }
+    Some(CertRow { name, number, y })
 }
 
 /// NUMBER Z.
 fn z(text: &[u8]) -> Option<(u32, u64)>
     ensures { result ≡ spec.z_in text.now }
 {
-    let Some((number, value)) = split_at_last_space(text) else {
+    let (number, value) = split_at_last_space(text)?;
+    let number = id(number)?;
+    let value = spelled_number(u64::MAX, value)?;
+    if value == 0 {
         return None;
-    };
-    match (id(number), spelled_number(u64::MAX, value)) {
-        (Some(number), Some(value)) if value > 0 => Some((number, value)),
-        _ => None,
     }
+    Some((number, value))
 }
 
 fn row_item(kind: Which, row: Option<CertRow<'_>>) -> Option<Item<'_>>
     ensures { option_map item_view result ≡ spec.row_item kind (option_map row_of row.entry) }
 {
-    match row {
-        Some(row) => Some(Item::Row { kind, row }),
-        None => None,
-    }
+    let row = row?;
+    Some(Item::Row { kind, row })
 }
 
 fn z_item<'a>(kind: Which, z: Option<(u32, u64)>) -> Option<Item<'a>>
     ensures { option_map item_view result ≡ spec.z_item kind z }
 {
-    match z {
-        Some((number, value)) => Some(Item::Z {
-            kind,
-            number,
-            value,
-        }),
-        None => None,
-    }
+    let (number, value) = z?;
+    Some(Item::Z {
+        kind,
+        number,
+        value,
+    })
 }
 
 /// What a line says, where it is one of the lines of a certificate.

@@ -16,12 +16,16 @@ use idtext::Lines;
 use std::alloc::Global;
 
 /// What the lines of a text say, the last of them, and how many they are.
-fn read_lines<'a>(
-    alloc: Global,
-    text: &'a [u8],
-) -> Result<(Parts<'a>, Option<Item<'a>>, u64), CertificateFault>
+struct ReadLines<'a> {
+    parts: Parts<'a>,
+    last: Option<Item<'a>>,
+    count: u64,
+}
+
+/// Reads the lines of a text, where none is wrong or out of place.
+fn read_lines<'a>(alloc: Global, text: &'a [u8]) -> Result<ReadLines<'a>, CertificateFault>
     ensures fine { IfOk result (λ _. first_fault line_fault [] (lines_of text.now) ≡ None) }
-    ensures parts { IfOk result (λ r. AreRead (lines_of text.now) r.0 r.1 r.2) }
+    ensures parts { IfOk result (λ r. AreRead (lines_of text.now) r.parts r.last r.count) }
     ensures fault { IfErr result
         (λ e. IfSome (line_told e) (λ n. first_fault line_fault [] (lines_of text.now) ≡ Some n)) }
 {
@@ -44,7 +48,11 @@ fn read_lines<'a>(
         take_item(&mut parts, item)?;
         before = Some(item);
     }
-    Ok((parts, before, number))
+    Ok(ReadLines {
+        parts,
+        last: before,
+        count: number,
+    })
 }
 
 /// Whether the last line of a text has no newline.
@@ -75,7 +83,7 @@ pub fn read_certificate<'a>(
 ) -> Result<Certificate<'a>, CertificateFault>
     ensures { Gives (λ certificate. certificate) line_told result (certificate_in text.now) }
 {
-    let (parts, last, count) = read_lines(alloc, text)?;
+    let ReadLines { parts, last, count } = read_lines(alloc, text)?;
     if is_cut(text) {
         return Err(CertificateFault::BadCertificate(count));
     }

@@ -27,3 +27,5 @@ pub mod SameUsers
 pub mod ComingRows
 pub mod ToldDifferences
 pub mod DifferingExample
+pub mod FirstHosts
+pub mod JoinedUsers

@@ -22,10 +22,10 @@ use Rattle.mergedfiles.proofs.Ordering.{In, at-in, in-at, in-ordered, ordered-in
 
 -- ---- members of lists
 
-contained : {X : Type 0} (xs : List X) (x : X) → In x xs → Contains xs x
+pub contained : {X : Type 0} (xs : List X) (x : X) → In x xs → Contains xs x
 contained xs x i = at-in x xs i
 
-inside : {X : Type 0} (xs : List X) (x : X) → Contains xs x → In x xs
+pub inside : {X : Type 0} (xs : List X) (x : X) → Contains xs x → In x xs
 inside xs x c = in-at x x xs c.0 c.1 c.2
 
 in_left : {X : Type 0} (x : X) (xs ys : List X) → In x xs → In x (xs ++ ys)
@@ -43,19 +43,19 @@ in_one x (z ∷ xs) ys (inl e) = inl (inl e)
 in_one x (z ∷ xs) ys (inr i) = elim (in_one x xs ys i) [ inl j ↦ inl (inr j) | inr j ↦ inr j ]
 
 -- a member of what a function gives for the members
-record From {X Y : Type 0} (f : X → List Y) (xs : List X) (y : Y) : Type 0 where
-  of : X
-  member : In of xs
-  gives : In y (f of)
+pub record From {X Y : Type 0} (f : X → List Y) (xs : List X) (y : Y) : Type 0 where
+  pub of : X
+  pub member : In of xs
+  pub gives : In y (f of)
 
-from_flat : {X Y : Type 0} (f : X → List Y) (xs : List X) (y : Y) → In y (flat_map f xs) → From f xs y
+pub from_flat : {X Y : Type 0} (f : X → List Y) (xs : List X) (y : Y) → In y (flat_map f xs) → From f xs y
 from_flat f [] y i = absurd i
 from_flat f (x ∷ xs) y i = elim (in_one y (f x) (flat_map f xs) i) [
   | inl here ↦ record { of = x; member = inl refl; gives = here }
   | inr later ↦ let rest = from_flat f xs y later in record { of = rest.of; member = inr rest.member; gives = rest.gives }
 ]
 
-to_flat : {X Y : Type 0} (f : X → List Y) (xs : List X) (x : X) (y : Y) → In x xs → In y (f x) → In y (flat_map f xs)
+pub to_flat : {X Y : Type 0} (f : X → List Y) (xs : List X) (x : X) (y : Y) → In x xs → In y (f x) → In y (flat_map f xs)
 to_flat f [] x y m i = absurd m
 to_flat f (z ∷ xs) x y (inl e) i = in_left y (f z) (flat_map f xs) (subst (λ w. In y (f w)) e i)
 to_flat f (z ∷ xs) x y (inr m) i = in_right y (f z) (flat_map f xs) (to_flat f xs x y m i)
@@ -91,20 +91,20 @@ to_made make test (z ∷ xs) x (inr m) t = elim (cases_Bool (test z)) [
 
 -- ---- rows of hosts
 
-in_option : {X : Type 0} (x : X) (o : Option X) (xs : List X) → In x xs → In x (cons_option o xs)
+pub in_option : {X : Type 0} (x : X) (o : Option X) (xs : List X) → In x xs → In x (cons_option o xs)
 in_option x None xs i = i
 in_option x (Some y) xs i = inr i
 
 module _ {Row : Type 0} (host_of : Row → Host) (on : Host → Option Row) (own : (h : Host) (r : Row) → on h ≡ Some r → host_of r ≡ h) where
-  record Start (hosts : List Host) (one : Row) (others : List Row) : Type 0 where
-    before : List Host
-    back : List Host
-    split : hosts ≡ before ++ host_of one ∷ back
-    none : AllByRecursion (λ h. on h ≡ None) before
-    row : on (host_of one) ≡ Some one
-    rest : others ≡ filter_map on back
+  pub record Start (hosts : List Host) (one : Row) (others : List Row) : Type 0 where
+    pub before : List Host
+    pub back : List Host
+    pub split : hosts ≡ before ++ host_of one ∷ back
+    pub none : AllByRecursion (λ h. on h ≡ None) before
+    pub row : on (host_of one) ≡ Some one
+    pub rest : others ≡ filter_map on back
 
-  start : (hosts : List Host) (one : Row) (others : List Row) → filter_map on hosts ≡ one ∷ others → Start hosts one others
+  pub start : (hosts : List Host) (one : Row) (others : List Row) → filter_map on hosts ≡ one ∷ others → Start hosts one others
   start [] one others e = absurd (cc)
   start (h ∷ hs) one others e = step (on h) refl (start hs one others)
     where
@@ -181,7 +181,7 @@ abbrev user_host : Option UserRow → Host → Host
 user_host None h = h
 user_host (Some r) h = r.host
 
-user_own : (name : List ℕ) (h : Host) (r : UserRow) → user_on name h ≡ Some r → r.host ≡ h
+pub user_own : (name : List ℕ) (h : Host) (r : UserRow) → user_on name h ≡ Some r → r.host ≡ h
 user_own name h r e = own (find (λ row. bytes_eq name row.name) h.users) e
   where
     own : (o : Option Passwd) → option_map (λ row. record { host = h; row = row }) o ≡ Some r → r.host ≡ h
@@ -192,7 +192,7 @@ abbrev group_host : Option GroupRow → Host → Host
 group_host None h = h
 group_host (Some r) h = r.host
 
-group_own : (name : List ℕ) (h : Host) (r : GroupRow) → group_on name h ≡ Some r → r.host ≡ h
+pub group_own : (name : List ℕ) (h : Host) (r : GroupRow) → group_on name h ≡ Some r → r.host ≡ h
 group_own name h r e = own (find (λ row. bytes_eq name row.name) h.groups) e
   where
     own : (o : Option GroupLine) → option_map (λ row. record { host = h; row = row }) o ≡ Some r → r.host ≡ h

@@ -15,3 +15,5 @@ pub mod Spots
 pub mod Alike
 pub mod Coming
 pub mod Seen
+pub mod FirstHosts
+pub mod JoinedUsers

@@ -5,6 +5,7 @@ ghost use Rattle.hosts_join.specs.Rules.{account};
 ghost use Rattle.hosts_join.specs.Site.{Joined, joined_site};
 ghost use Rattle.hosts_join.specs.declared.host.Host.{Host};
 ghost use Rattle.mergedfiles.specs.DifferingExample.{ExampleOfDiffering};
+ghost use Rattle.mergedfiles.specs.FirstHosts.{FirstHostDecidesGroups, FirstHostDecidesUsers};
 ghost use Rattle.mergedfiles.specs.FullTables.{FullGroupReadsBack, FullNamesAreKept};
 ghost use Rattle.mergedfiles.specs.FullTables.{FullPasswdReadsBack, HostsJoinInFull};
 ghost use Rattle.mergedfiles.specs.HostExample.{ExampleOfGroup, ExampleOfPasswd};
@@ -12,6 +13,7 @@ ghost use Rattle.mergedfiles.specs.HostReadBack.{HostGroupReadsBack, HostNamesAr
 ghost use Rattle.mergedfiles.specs.HostReadBack.{HostPasswdReadsBack};
 ghost use Rattle.mergedfiles.specs.InPart.{AllIsInPart, GroupInPartReadsBack};
 ghost use Rattle.mergedfiles.specs.InPart.{PasswdInPartReadsBack};
+ghost use Rattle.mergedfiles.specs.JoinedUsers.{MergedUsersAreOfAllHosts};
 ghost use Rattle.mergedfiles.specs.ReadBack.{MergedPasswdReadsBack, MergedGroupReadsBack};
 ghost use Rattle.mergedfiles.specs.Rows.{users_named, groups_named};
 ghost use Rattle.mergedfiles.specs.Together.{AreJoined};
@@ -45,6 +47,23 @@ pub fn merged_passwd_reads_back()
 /// these rows are its table.
 pub fn merged_group_reads_back()
     ensures { MergedGroupReadsBack }
+{}
+
+/// The first host decides: the row that counts for a name, whose fields the merged passwd has for a
+/// user and whose password the merged group has for a group, is that of the first host that has the
+/// name. No host before it has one.
+pub fn first_host_decides()
+    ensures users { FirstHostDecidesUsers }
+    ensures groups { FirstHostDecidesGroups }
+{}
+
+/// A user is among the users of a merged group exactly where some host lists it in its row of this
+/// group, and each stands there once: those of the first hosts before all others, and those that a
+/// host adds to them in the order of its own list.
+///
+/// Source: group(5).
+pub fn merged_users_are_of_all_hosts()
+    ensures { MergedUsersAreOfAllHosts }
 {}
 
 /// The merged passwd reads back, also where not all rows of each host were joined: as

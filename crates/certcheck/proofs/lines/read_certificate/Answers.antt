@@ -8,7 +8,7 @@ pub returns-in_err-parts : goal.returns-in_err-parts
 returns-in_err-parts c = handed_on c.args.text.now c.from_residual.result c.in_err-parts.field-0.0 c.from_residual.ensures.0 c.from_residual.ensures.1 c.in_err-parts.ensures.fault
 
 pub returns-then-is_cut : goal.returns-then-is_cut
-returns-then-is_cut c = cut_refused c.args.text.now c.in_ok-parts.count c.in_ok-parts.ensures.fine (sym c.is_cut.ensures ∙ c.if-is_cut.true) c.in_ok-parts.ensures.parts.counted
+returns-then-is_cut c = cut_refused c.args.text.now _ c.in_ok-parts.ensures.fine (sym c.is_cut.ensures ∙ c.if-is_cut.true) c.in_ok-parts.ensures.parts.counted
 
 pub returns-then-not-is_end : goal.returns-then-not-is_end
 returns-then-not-is_end c = unended_refused c.args.text.now c.saturating_add.result c.in_ok-parts.ensures.fine (sym c.is_cut.ensures ∙ c.if-is_cut.false) (ap is_end (sym c.in_ok-parts.ensures.parts.last) ∙ sym c.is_end.ensures ∙ c.if-not-is_end.true) (saturated _ _ _ c.in_ok-parts.ensures.parts.counted c.saturating_add.ensures)
