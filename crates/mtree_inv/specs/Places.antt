@@ -94,6 +94,13 @@ IsToldNowhere cuts places cut count =
     (k : ℕ) → k < count → (i : ℕ) → slice_get cuts i ≡ Some cut
     → TellsOf (place_at places (start_of (length places) cut + k)) cut i → ⊥
 
+-- no place among so many tells of a cut with its hash
+abbrev pub IsAlone : List Cut → List Place → Cut → ℕ → Type 0
+IsAlone cuts places cut count =
+    (k : ℕ) → k < count → (i : ℕ) (other : Cut) → slice_get cuts i ≡ Some other
+    → hash_of other ≡ hash_of cut
+    → TellsOf (place_at places (start_of (length places) cut + k)) other i → ⊥
+
 -- what the tree says of cuts of the list is what it said
 abbrev pub KeepOthers : List Cut → Others → Others → Type 0
 KeepOthers cuts others new_others =

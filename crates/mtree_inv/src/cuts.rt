@@ -1,8 +1,9 @@
 //! Cuts of paths, each once.
-ghost use Rattle.std.specs.Prelude.{◌≡◌, ◌<◌, [], false, length, OnOk};
+ghost use Rattle.std.specs.Prelude.{◌≡◌, ◌<◌, [], false, true, length, OnOk};
 ghost use Rattle.mtree_inv.specs.Cuts.{AreDistinct};
-ghost use Rattle.mtree_inv.specs.Places.{most_probes, AreFound};
+ghost use Rattle.mtree_inv.specs.Places.{most_probes, AreFound, KeepOthers};
 
+use crate::cut_hashes::{CutHashes, hashes_of, is_expected, no_hashes};
 use crate::held_cuts::{Rows, no_rows};
 use crate::places::{
     MOST_PROBES, Others, Place, Probed, all_settled, find_or_settle, free_all, look_at_places,
@@ -42,11 +43,36 @@ fn make_room(
     requires distinct { AreDistinct rows.now }
     requires found { AreFound rows.now places.old.items others.old.entries }
     ensures found { AreFound rows.now places.new.items others.new.entries }
+    ensures others { KeepOthers rows.now others.old.entries others.new.entries }
     ensures roomy { OnOk result (most_probes < length places.new.items) }
 {
     let placed = rows.len().saturating_sub(others.len());
     if is_crowded(placed, places.len()) {
         *places = all_settled(rows, others, alloc, places_for(rows.len()))?;
+    }
+    Ok(())
+}
+
+// Sees to it that the cuts are found, where hashes were followed so far and places told of none.
+fn stop_following(
+    rows: &Rows,
+    places: &mut Vec<Place>,
+    others: &mut Others,
+    follows: &mut bool,
+    alloc: Global,
+) -> Result<(), AllocError>
+    requires distinct { AreDistinct rows.now }
+    requires found { follows.old ≡ false → AreFound rows.now places.old.items others.old.entries }
+    ensures found { follows.new ≡ false
+        → AreFound rows.now places.new.items others.new.entries }
+    ensures follows { follows.new ≡ true → follows.old ≡ true }
+    ensures others { KeepOthers rows.now others.old.entries others.new.entries }
+    ensures stops { OnOk result (follows.new ≡ false) }
+{
+    if *follows {
+        let len = places_for(rows.len()).max(places.len());
+        *places = all_settled(rows, others, alloc, len)?;
+        *follows = false;
     }
     Ok(())
 }
@@ -58,24 +84,33 @@ fn make_room(
 /// many cuts where it looks for each. So only 16 places are looked at, and what finds none of them
 /// free stands in a search tree, where no look-up costs more than a few comparisons. They are of
 /// digests first, which hardly ever are the same for two, so that few bytes are compared.
+///
+/// Where hashes are expected that are all different, each cut that comes with the next of them is
+/// new, and no place is looked at. The first that has another is looked for in places, and so are
+/// all that come after it: then all cuts so far have to find theirs.
 #[derive(Drop)]
 pub(crate) struct Cuts {
     rows: Rows,
     places: Vec<Place>,
     others: Others,
+    expected: CutHashes,
+    // Whether each cut so far had the hash that was expected of it. Places tell of none then.
+    follows: bool,
+    // True only where no two cuts have one hash, unless the tree has both.
+    are_apart: bool,
 }
 
 impl Model for Cuts {
     ghost use Rattle.std.specs.Prelude.{List};
-    ghost use Rattle.mtree_inv.specs.Cuts.{Cut, AreDistinct};
-    ghost use Rattle.mtree_inv.specs.Places.{AreFound};
+    ghost use Rattle.mtree_inv.specs.Cuts.{Cut};
+    ghost use Rattle.mtree_inv.specs.Following.{AreKept};
 
     ghost Value = { List Cut };
 
     ghost view = { λ c. c.rows };
 
-    ghost invariant = { λ c. AreFound c.rows c.places.items c.others.entries
-        × AreDistinct c.rows };
+    ghost invariant = { λ c. AreKept c.rows c.places.items c.others.entries c.expected
+        c.follows c.are_apart };
 }
 
 /// No cut. Takes no memory.
@@ -86,6 +121,9 @@ pub(crate) fn no_cuts(alloc: Global) -> Cuts
         rows: no_rows(alloc),
         places: Vec::new(alloc),
         others: BTreeMap::new(alloc),
+        expected: no_hashes(alloc),
+        follows: false,
+        are_apart: true,
     }
 }
 
@@ -100,31 +138,51 @@ impl Cuts {
         self.rows.len()
     }
 
-    /// Leaves no cut, and keeps the memory.
-    pub(crate) fn clear(&mut self)
+    /// Leaves no cut, and keeps the memory. Cuts of these hashes are expected then.
+    pub(crate) fn restart(&mut self, expected: CutHashes)
         ensures { self.new ≡ [] }
     {
         self.rows.clear();
         self.others.clear();
         free_all(&mut self.places);
+        self.follows = expected.len() > 0;
+        self.expected = expected;
+        self.are_apart = true;
+    }
+
+    /// The hashes of the cuts so far, or none where two of them may be the same.
+    pub(crate) fn hashes(&self, alloc: Global) -> Result<CutHashes, AllocError> {
+        if self.are_apart {
+            hashes_of(&self.rows, &self.others, alloc)
+        } else {
+            Ok(no_hashes(alloc))
+        }
     }
 
     /// The index of a cut, or None where it is new.
     pub(crate) fn find(
-        &self,
+        &mut self,
         alloc: Global,
         front: u32,
         tail: &[u8],
     ) -> Result<Option<usize>, AllocError>
-        ensures { IfOk result (IsPlaceOf self.now (front, tail.now)) }
+        ensures place { IfOk result (IsPlaceOf self.old (front, tail.now)) }
+        ensures cuts { self.new ≡ self.old }
     {
+        stop_following(
+            &self.rows,
+            &mut self.places,
+            &mut self.others,
+            &mut self.follows,
+            alloc,
+        )?;
         if self.places.len() <= MOST_PROBES {
             return Ok(None);
         }
         match look_at_places(&self.rows, &self.places, front, tail) {
             Probed::At(index) => Ok(Some(index)),
-            Probed::Free(_, _) => Ok(None),
-            Probed::Full => other(&self.rows, &self.others, alloc, front, tail),
+            Probed::Free(_, _, _) => Ok(None),
+            Probed::Full(_) => other(&self.rows, &self.others, alloc, front, tail),
         }
     }
 
@@ -140,11 +198,23 @@ impl Cuts {
             (λ known. self.new ≡ with_cut self.old (front, tail.now) known) }
         ensures err { OnErr result (self.new ≡ self.old) }
     {
+        if self.follows && is_expected(&self.rows, &self.expected, front, tail) {
+            self.rows.push(front, tail)?;
+            return Ok(None);
+        }
+        stop_following(
+            &self.rows,
+            &mut self.places,
+            &mut self.others,
+            &mut self.follows,
+            alloc,
+        )?;
         make_room(&self.rows, &mut self.places, &mut self.others, alloc)?;
         match find_or_settle(
             &self.rows,
             &mut self.places,
             &mut self.others,
+            &mut self.are_apart,
             alloc,
             front,
             tail,

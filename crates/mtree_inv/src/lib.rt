@@ -29,6 +29,7 @@
 #![tactic(auto)]
 
 mod begun;
+mod cut_hashes;
 mod cuts;
 mod defaults;
 mod entry;
@@ -41,6 +42,7 @@ mod keywords;
 mod laws;
 mod open_line;
 mod parts;
+mod past;
 mod place;
 mod places;
 mod reader;

@@ -12,6 +12,7 @@ ghost use Rattle.mtree_inv.specs.Standing.{GrowAlike};
 ghost use Rattle.mtree_inv.specs.Views.{listed};
 ghost use Rattle.mtree_inv.specs.Walked.{kept_of, waiting_of};
 
+use crate::cut_hashes::CutHashes;
 use crate::entry::Entry;
 use crate::fault::LineFault;
 use crate::open_line::{Ends, OpenLine, ends_in_backslash};
@@ -113,14 +114,19 @@ impl Parts {
         }
     }
 
-    /// Nothing of the next text has come.
-    pub(crate) fn restart(&mut self, most: u32)
+    /// Nothing of the next text has come, whose paths are expected to have these hashes.
+    pub(crate) fn restart(&mut self, most: u32, expected: CutHashes)
         ensures reading { reading_of self.new ≡ start }
         ensures waiting { waiting_in self.new ≡ [] }
         ensures most { most_of self.new ≡ most }
     {
-        self.walk.restart(self.alloc, most);
+        self.walk.restart(self.alloc, most, expected);
         self.in_progress = OpenLine::new(self.alloc);
+    }
+
+    /// The hashes of the paths of the text so far, if there are at most so many.
+    pub(crate) fn hashes(&self, most: usize) -> CutHashes {
+        self.walk.hashes(self.alloc, most)
     }
 
     // Takes the line in progress, which is whole or cut.

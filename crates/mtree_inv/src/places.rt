@@ -7,6 +7,7 @@ ghost use Rattle.mtree_inv.specs.Places.{digest_of as digest_of_cut, IsKeyOf};
 ghost use Rattle.mtree_inv.specs.Places.{all_hashes, most_probes, AreTaken, other_at, IsFoundAt};
 ghost use Rattle.mtree_inv.specs.Places.{AreFound, KeepFound, KeepOthers};
 ghost use Rattle.mtree_inv.specs.Probed.{IsAnswer};
+ghost use Rattle.mtree_inv.specs.Following.{IsApart};
 
 use crate::held_cuts::Rows;
 use std::alloc::{AllocError, Global};
@@ -36,7 +37,7 @@ pub(crate) type Others = BTreeMap<Key, usize>;
 
 // A number that tells most cuts from others. Whoever names files may make it the same for many.
 #[tactic(auto, unfolding(crate::specs::Places::hash_of))]
-fn hash_of(front: u32, tail: &[u8]) -> u64
+pub(crate) fn hash_of(front: u32, tail: &[u8]) -> u64
     ensures { result ≡ hash_of_cut (front, tail.now) }
 {
     let mut hasher = FoldHasher::default();
@@ -93,15 +94,28 @@ fn is_at(rows: &Rows, index: usize, front: u32, tail: &[u8]) -> bool
     }
 }
 
+// Whether the cut at an index has this hash.
+fn has_hash(rows: &Rows, index: usize, hash: u64) -> bool
+    ensures { (cut : Cut) → slice_get rows.now index ≡ Some cut → hash_of_cut cut ≡ hash
+        → result ≡ true }
+{
+    match rows.get(index) {
+        None => false,
+        Some((front, tail)) => hash_of(front, tail) == hash,
+    }
+}
+
 /// What the places say of a cut.
 #[derive(Clone, Copy, Drop)]
 pub(crate) enum Probed {
     /// It is the one at this index.
     At(usize),
-    /// It is nowhere. At this place it would stand, with this half of its hash.
-    Free(usize, u32),
-    /// All places where it might stand are taken: the tree has it, if it is anywhere.
-    Full,
+    /// It is nowhere. At this place it would stand, with this half of its hash. Where the last is
+    /// true, no cut has its whole hash.
+    Free(usize, u32, bool),
+    /// All places where it might stand are taken: the tree has it, if it is anywhere. Where this
+    /// is true, none of these places tells of a cut with its whole hash.
+    Full(bool),
 }
 
 // Looks at the places of a cut, up to the first that is free.
@@ -112,16 +126,20 @@ pub(crate) fn look_at_places(rows: &Rows, places: &[Place], front: u32, tail: &[
     let hash = hash_of(front, tail);
     let start = start_of(places.len(), hash);
     let half = half_of(hash);
+    let mut is_alone = true;
     for probe in 0..MOST_PROBES {
         let place = places[start + probe];
         let Some(index) = place.number.checked_sub(1) else {
-            return Probed::Free(start + probe, half);
+            return Probed::Free(start + probe, half, is_alone);
         };
         if place.hash == half && is_at(rows, index as usize, front, tail) {
             return Probed::At(index as usize);
         }
+        if place.hash == half && has_hash(rows, index as usize, hash) {
+            is_alone = false;
+        }
     }
-    Probed::Full
+    Probed::Full(is_alone)
 }
 
 // Looks for a cut in the tree.
@@ -228,11 +246,13 @@ fn other_or_last(
     Ok(None)
 }
 
-/// The index of a cut, or None where it is new: then it is found at the end of the list.
+/// The index of a cut, or None where it is new: then it is found at the end of the list. The flag
+/// stays only where each cut that is found in a place has a hash of its own.
 pub(crate) fn find_or_settle(
     rows: &Rows,
     places: &mut [Place],
     others: &mut Others,
+    are_apart: &mut bool,
     alloc: Global,
     front: u32,
     tail: &[u8],
@@ -243,6 +263,9 @@ pub(crate) fn find_or_settle(
     ensures settled { IfOk result (λ known. IfNone known
         (IsFoundAt places.new others.new.entries (front, tail.now) (length rows.now))) }
     ensures found { AreFound rows.now places.new others.new.entries }
+    ensures others { KeepOthers rows.now others.old.entries others.new.entries }
+    ensures apart { are_apart.new ≡ true → (are_apart.old ≡ true) × IfOk result (λ known.
+        IfNone known (IsApart rows.now others.new.entries (front, tail.now))) }
     ensures len { length places.new ≡ length places.old }
 {
     let Some(number) = number_at(rows.len()) else {
@@ -250,11 +273,15 @@ pub(crate) fn find_or_settle(
     };
     match look_at_places(rows, places, front, tail) {
         Probed::At(index) => Ok(Some(index)),
-        Probed::Free(at, hash) => {
+        Probed::Free(at, hash, is_alone) => {
             places[at] = Place { hash, number };
+            *are_apart &= is_alone;
             Ok(None)
         }
-        Probed::Full => other_or_last(rows, others, alloc, front, tail),
+        Probed::Full(is_alone) => {
+            *are_apart &= is_alone;
+            other_or_last(rows, others, alloc, front, tail)
+        }
     }
 }
 

@@ -1,7 +1,9 @@
 //! A reader of an mtree text in pieces.
 
+use crate::cut_hashes::CutHashes;
 use crate::entry::Entry;
 use crate::parts::Parts;
+use crate::past::Past;
 use idtext::ReadError;
 use std::alloc::Global;
 use std::marker::Model;
@@ -16,9 +18,13 @@ use std::marker::Model;
 /// text that came, whoever named the files. A path that stands in the search tree of which `feed`
 /// tells takes up to some 350 bytes more, as its key has these 256 bytes once more; whoever names
 /// the files may choose many such paths. Only a file that waits to be taken has its whole path.
+///
+/// Of texts that are to come twice it can also keep a hash of each path, 8 bytes, by which their
+/// second reading is faster (`keep_hashes`). What it answers never depends on these.
 #[derive(Drop)]
 pub struct Reader {
     parts: Parts,
+    past: Past,
     fault: Option<ReadError>,
     is_finished: bool,
 }
@@ -62,6 +68,7 @@ impl Reader {
     {
         Reader {
             parts: Parts::new(alloc, most),
+            past: Past::new(alloc),
             fault: None,
             is_finished: false,
         }
@@ -75,6 +82,8 @@ impl Reader {
     ///
     /// Constant time for each place that the table has, at most some four for each file of the
     /// longest text that was kept, for each path in a search tree, and for each file that waits.
+    /// Where hashes are kept, one pass more over what is kept of each path, and for each path in a
+    /// search tree one look-up in another.
     pub fn restart(&mut self, most: u32)
         ensures stands { StandsFor self.new [] }
         ensures most { self.new.most ≡ most }
@@ -83,9 +92,79 @@ impl Reader {
         ensures waiting { self.new.waiting ≡ [] }
         ensures files { files self.new ≡ [] }
     {
-        self.parts.restart(most);
+        let expected = self.past.next_text(&self.parts);
+        self.begin(most, expected);
+    }
+
+    /// Is as after a `restart`, and gives its memory back, but for the hashes that it keeps: for a
+    /// reader that has no next text for now.
+    ///
+    /// Where hashes are kept, it takes the time of a `restart`, and else of a new reader.
+    pub fn give_back(&mut self, most: u32)
+        ensures stands { StandsFor self.new [] }
+        ensures most { self.new.most ≡ most }
+        ensures fault { self.new.fault ≡ None }
+        ensures going { self.new.is_finished ≡ false }
+        ensures waiting { self.new.waiting ≡ [] }
+        ensures files { files self.new ≡ [] }
+    {
+        let expected = self.past.next_text(&self.parts);
+        self.parts = Parts::new(self.parts.alloc, most);
+        self.begin(most, expected);
+    }
+
+    // Is as a new reader then, for a text whose paths are expected to have these hashes.
+    fn begin(&mut self, most: u32, expected: CutHashes)
+        ensures stands { StandsFor self.new [] }
+        ensures most { self.new.most ≡ most }
+        ensures fault { self.new.fault ≡ None }
+        ensures going { self.new.is_finished ≡ false }
+        ensures waiting { self.new.waiting ≡ [] }
+        ensures files { files self.new ≡ [] }
+    {
+        self.parts.restart(most, expected);
         self.fault = None;
         self.is_finished = false;
+    }
+
+    /// From now on keeps the hashes of the paths of each text, from the one in progress on, when
+    /// the next begins: for a second reading of the same texts, one after the other, after
+    /// `rewind`. Hashes that were kept before are given back. Constant time for each text of these.
+    ///
+    /// Each path takes 8 bytes until its text has come once more. None are kept of a text of which
+    /// two paths have one hash, as whoever names the files can bring about, nor where memory is
+    /// refused, nor where there would be more than 16,777,216 in all. Then that text is read as
+    /// always.
+    pub fn keep_hashes(&mut self)
+        ensures { self.new ≡ self.old }
+    {
+        self.past.keep();
+    }
+
+    /// Is as a new reader then, and gives its memory back, but for the hashes that it keeps: the
+    /// texts that came since `keep_hashes` are expected once more, one after the other, the first
+    /// now and the next after each `restart`. As long as the paths of a text come with the hashes
+    /// that are kept, each is known to be new by a comparison with one hash, and no table of paths
+    /// is made, nor looked at. So the second reading of a host with many files is faster, and takes
+    /// less memory.
+    ///
+    /// They may be any other texts, or come in another order. The first path that has not the hash
+    /// of the one expected in its place only ends this for its text: all paths so far are put into
+    /// the table then, in the time that it had saved.
+    ///
+    /// After a second `rewind` nothing is expected, nor is after one without `keep_hashes`. It takes
+    /// the time of `give_back`.
+    pub fn rewind(&mut self, most: u32)
+        ensures stands { StandsFor self.new [] }
+        ensures most { self.new.most ≡ most }
+        ensures fault { self.new.fault ≡ None }
+        ensures going { self.new.is_finished ≡ false }
+        ensures waiting { self.new.waiting ≡ [] }
+        ensures files { files self.new ≡ [] }
+    {
+        let expected = self.past.first_text(&self.parts);
+        self.parts = Parts::new(self.parts.alloc, most);
+        self.begin(most, expected);
     }
 
     /// Takes the next piece of the text, which must not be finished. The answer is

@@ -5,6 +5,7 @@ ghost use Rattle.mtree_inv.specs.Inventory.{file_at};
 ghost use Rattle.mtree_inv.specs.Machine.{with_new_file};
 ghost use Rattle.mtree_inv.specs.Table.{file, listed};
 
+use crate::cut_hashes::{CutHashes, no_hashes};
 use crate::cuts::{Cuts, no_cuts};
 use crate::fronts::{Fronts, cut, empty_front};
 use std::alloc::{AllocError, Global};
@@ -55,16 +56,28 @@ pub(crate) fn empty_table(alloc: Global) -> Table
 }
 
 /// Leaves no file. The memory is kept for the files of the next text, unless there were very many.
-pub(crate) fn empty(table: &mut Table, alloc: Global)
+/// Their paths are expected to have these hashes.
+pub(crate) fn empty(table: &mut Table, alloc: Global, expected: CutHashes)
     ensures { listed table.new ≡ [] }
 {
     if table.owners.len() > MOST_KEPT {
         *table = empty_table(alloc);
-        return;
     }
     table.fronts = empty_front(alloc);
-    table.paths.clear();
+    table.paths.restart(expected);
     table.owners.clear();
+}
+
+/// The hashes of the paths so far, in their order, if these are at most so many and no two have
+/// one hash; else none.
+pub(crate) fn hashes(table: &Table, alloc: Global, most: usize) -> CutHashes {
+    if table.paths.len() > most {
+        return no_hashes(alloc);
+    }
+    match table.paths.hashes(alloc) {
+        Ok(hashes) => hashes,
+        Err(_) => no_hashes(alloc),
+    }
 }
 
 /// The path as a key: the number of its front, and what stands after that.
@@ -81,15 +94,16 @@ pub(crate) fn key_of<'a>(
 
 /// The owner of the file with a path, if there is one.
 pub(crate) fn find(
-    table: &Table,
+    table: &mut Table,
     alloc: Global,
     front: u32,
     tail: &[u8],
 ) -> Result<Option<Owner>, AllocError>
-    requires { IsCut table.now.fronts (front, tail.now) }
-    ensures { IfOk result
-        (λ owner. option_map (file (path_of_cut table.now.fronts (front, tail.now))) owner
-        ≡ file_at (listed table.now) (path_of_cut table.now.fronts (front, tail.now))) }
+    requires { IsCut table.old.fronts (front, tail.now) }
+    ensures found { IfOk result
+        (λ owner. option_map (file (path_of_cut table.old.fronts (front, tail.now))) owner
+        ≡ file_at (listed table.old) (path_of_cut table.old.fronts (front, tail.now))) }
+    ensures files { listed table.new ≡ listed table.old }
 {
     match table.paths.find(alloc, front, tail)? {
         None => Ok(None),

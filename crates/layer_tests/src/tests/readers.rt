@@ -1,6 +1,8 @@
 //! Of idtext, logindefs and mtree_inv: what no command shows. Their other examples are bundles and
 //! texts of `examples/worked`.
 
+ghost use Rattle.std.specs.Prelude.{◌≡◌, false};
+
 use idtext::{ByteString, ReadError, TextCode, TextFault, push_escaped, push_number};
 use logindefs::IdRange;
 use mtree_inv::{Reader, read_inventory};
@@ -59,7 +61,7 @@ fn feed_a_refused_text(alloc: Global) -> AfterRefusal {
     }
 }
 
-// The next four are to be run with each growth refused in turn, too.
+// The next seven are to be run with each growth refused in turn, too.
 
 // A reader answers its refusal again, whatever comes, and hands out the files before it.
 #[test]
@@ -73,6 +75,128 @@ fn refused_reader_keeps_its_fault(rt: HostRuntime) -> Result<(), Fail> {
         fault(TextCode::DotDotAbove, 2)
     );
     assert_eq!(rt; reader.first, Some(1));
+    Ok(())
+}
+
+// Whether a reader has this answer to a text: its fault, and the user of each file.
+fn answers(
+    reader: &mut Reader,
+    text: &[u8],
+    fault: Option<TextFault>,
+    uids: &[u32],
+) -> Result<bool, AllocError>
+    requires { reader.old.is_finished ≡ false }
+{
+    let refusal = match reader.feed(text) {
+        Ok(()) => reader.finish().err(),
+        Err(refusal) => Some(refusal),
+    };
+    if fault_of(refusal)? != fault {
+        return Ok(false);
+    }
+    for uid in uids {
+        if reader.next_entry().map(|file| file.uid) != Some(*uid) {
+            return Ok(false);
+        }
+    }
+    Ok(reader.next_entry().is_none())
+}
+
+const THREE_FILES: &[u8] = b"./f uid=1 gid=9\n./g uid=2 gid=9\n./h uid=3 gid=9\n";
+
+const OWNERS_DIFFER_ON_3: TextFault = TextFault {
+    code: TextCode::OwnersDiffer,
+    line: 3,
+};
+
+const OWNERS_DIFFER_ON_4: TextFault = TextFault {
+    code: TextCode::OwnersDiffer,
+    line: 4,
+};
+
+// A text, and the answer to it.
+type SecondText = (&'static [u8], Option<TextFault>, &'static [u32]);
+
+// What comes where the three files are expected: they, in another order, fewer, one more, other
+// ones, one twice with one owner, and one twice with two, as the third and as the fourth.
+const SECOND_TEXTS: [SecondText; 8] = [
+    (THREE_FILES, None, &[1, 2, 3]),
+    (
+        b"./f uid=1 gid=9\n./h uid=3 gid=9\n./g uid=2 gid=9\n",
+        None,
+        &[1, 3, 2],
+    ),
+    (b"./f uid=1 gid=9\n", None, &[1]),
+    (
+        b"./f uid=1 gid=9\n./g uid=2 gid=9\n./h uid=3 gid=9\n./i uid=4 gid=9\n",
+        None,
+        &[1, 2, 3, 4],
+    ),
+    (b"./k uid=5 gid=9\n./l uid=6 gid=9\n", None, &[5, 6]),
+    (
+        b"./f uid=1 gid=9\n./f uid=1 gid=9\n./g uid=2 gid=9\n",
+        None,
+        &[1, 2],
+    ),
+    (
+        b"./f uid=1 gid=9\n./g uid=2 gid=9\n./f uid=4 gid=9\n",
+        Some(OWNERS_DIFFER_ON_3),
+        &[1, 2],
+    ),
+    (
+        b"./f uid=1 gid=9\n./g uid=2 gid=9\n./h uid=3 gid=9\n./g uid=4 gid=9\n",
+        Some(OWNERS_DIFFER_ON_4),
+        &[1, 2, 3],
+    ),
+];
+
+#[test]
+fn second_text_may_be_another(rt: HostRuntime) -> Result<(), Fail> {
+    for (text, fault, uids) in SECOND_TEXTS {
+        let mut reader = Reader::new(rt.alloc(), 9);
+        reader.keep_hashes();
+        assert!(rt; answers(&mut reader, THREE_FILES, None, &[1, 2, 3])?);
+        reader.rewind(9);
+        assert!(rt; answers(&mut reader, text, fault, uids)?);
+    }
+    Ok(())
+}
+
+const TWO_FILES: &[u8] = b"./f uid=4 gid=9\n./x uid=5 gid=9\n";
+
+// Two texts come twice, the second then once more. A reader that is rewound again is a new one.
+#[test]
+fn texts_come_twice(rt: HostRuntime) -> Result<(), Fail> {
+    let mut reader = Reader::new(rt.alloc(), 9);
+    reader.keep_hashes();
+    assert!(rt; answers(&mut reader, THREE_FILES, None, &[1, 2, 3])?);
+    reader.restart(9);
+    assert!(rt; answers(&mut reader, TWO_FILES, None, &[4, 5])?);
+    reader.rewind(9);
+    assert!(rt; answers(&mut reader, THREE_FILES, None, &[1, 2, 3])?);
+    reader.restart(9);
+    assert!(rt; answers(&mut reader, TWO_FILES, None, &[4, 5])?);
+    reader.restart(9);
+    assert!(rt; answers(&mut reader, TWO_FILES, None, &[4, 5])?);
+    reader.rewind(9);
+    assert!(rt; answers(&mut reader, TWO_FILES, None, &[4, 5])?);
+    Ok(())
+}
+
+// The table is full where its last file is an expected one.
+#[test]
+fn second_text_fills_the_table(rt: HostRuntime) -> Result<(), Fail> {
+    let mut reader = Reader::new(rt.alloc(), 9);
+    reader.keep_hashes();
+    assert!(rt; answers(&mut reader, TWO_FILES, None, &[4, 5])?);
+    reader.restart(9);
+    assert!(rt; answers(&mut reader, THREE_FILES, None, &[1, 2, 3])?);
+    reader.rewind(2);
+    let known_again = b"./f uid=4 gid=9\n./x uid=5 gid=9\n./f uid=4 gid=9\n";
+    assert!(rt; answers(&mut reader, known_again, None, &[4, 5])?);
+    reader.restart(2);
+    let refused = fault(TextCode::TooManyEntries, 3);
+    assert!(rt; answers(&mut reader, THREE_FILES, refused, &[1, 2])?);
     Ok(())
 }
 

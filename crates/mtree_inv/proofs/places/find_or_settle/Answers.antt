@@ -1,8 +1,10 @@
 use Rattle.std.proofs.Common.{◌∙◌, ℕ, sym, ap, length-set, get_or-set_same, get_or-set_other}
+use Rattle.std.proofs.lemmas.Bool.{and_parts}
 use Rattle.std.specs.Prelude.{slice_set}
 use Rattle.mtree_inv.specs.declared.places.Place.{Place}
 use Rattle.mtree_inv.specs.Places.{place_at}
 use Rattle.mtree_inv.proofs.PlaceLemmas.{new_at_free, found_still, found_beside, place_when_known, found_when_known}
+use Rattle.mtree_inv.proofs.FollowLemmas.{apart_at_free, apart_when_known}
 use Rattle.mtree_inv.proofs.places.find_or_settle.Goals as goal
 
 abbrev free : Place
@@ -37,3 +39,20 @@ returns-in-Full-clause-settled c =
 pub returns-in-Full-clause-found : goal.returns-in-Full-clause-found
 returns-in-Full-clause-found c = λ i cut stands.
     found_beside c.args.places.now c.args.others.now.entries c.other_or_last.new.others.entries cut i (λ told. c.other_or_last.ensures.others i cut stands told) (c.requires.found i cut stands)
+
+pub returns-in-Free-clause-apart : goal.returns-in-Free-clause-apart
+returns-in-Free-clause-apart c = λ stays.
+    let h = c.in-Free.ensures in
+    let both = and_parts c.args.are_apart.now c.in-Free.is_alone stays in (
+      both.0,
+      apart_at_free c.args.rows.now c.args.places.now c.args.others.now.entries c.requires.found (c.args.front, c.args.tail.now) h.0 h.1
+          (ap (λ (n : ℕ). (place_at c.args.places.now n).number) (sym h.2) ∙ h.3) (h.8 both.1) c.args.others.now.entries,
+    )
+
+pub returns-in-Full-clause-apart : goal.returns-in-Full-clause-apart
+returns-in-Full-clause-apart c = λ stays.
+    let both = and_parts c.args.are_apart.now c.in-Full.is_alone stays in (
+      both.0,
+      apart_when_known c.args.rows.now c.args.places.now c.args.others.now.entries c.requires.found (c.args.front, c.args.tail.now) (c.in-Full.ensures.2 both.1)
+          c.other_or_last.new.others.entries c.other_or_last.ensures.others _ c.other_or_last.result c.other_or_last.ensures.new,
+    )

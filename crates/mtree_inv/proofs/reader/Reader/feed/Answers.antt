@@ -14,7 +14,7 @@ returns-in-Ok-clause-stands c = λ text h.
     let reader = the_view c.self.inside in
     let open_still = ap (λ (r : ReaderValue). r.is_finished) c.self.view_is ∙ c.requires in
     let going = going_at reader text c.in_default.is open_still (subst (λ (r : ReaderValue). StandsFor r text) (sym c.self.view_is) h) in
-    let new = the_view (record { parts = c.take_piece.new.self; fault = c.self.inside.fault; is_finished = c.self.inside.is_finished }) in
+    let new = the_view (record { parts = c.take_piece.new.self; past = c.self.inside.past; fault = c.self.inside.fault; is_finished = c.self.inside.is_finished }) in
     stands_by new (text ++ c.args.piece.now) None false c.in_default.is open_still
     (fed_going reader new text c.args.piece.now going c.take_piece.ensures.most c.in-Ok.ensures.taken refl refl)
 
@@ -23,7 +23,7 @@ returns-in-Ok-clause-told c = λ text h.
     let reader = the_view c.self.inside in
     let open_still = ap (λ (r : ReaderValue). r.is_finished) c.self.view_is ∙ c.requires in
     let going = going_at reader text c.in_default.is open_still (subst (λ (r : ReaderValue). StandsFor r text) (sym c.self.view_is) h) in
-    let new = the_view (record { parts = c.take_piece.new.self; fault = c.self.inside.fault; is_finished = c.self.inside.is_finished }) in
+    let new = the_view (record { parts = c.take_piece.new.self; past = c.self.inside.past; fault = c.self.inside.fault; is_finished = c.self.inside.is_finished }) in
     none_then c.args.self.now.fault
     (subst (λ (r : ReaderValue). inventory_of_lines r.most (whole_lines (text ++ c.args.piece.now)) ≡ Ok (files new)) c.self.view_is
     (fed_whole reader new text c.args.piece.now going c.take_piece.ensures.most c.in-Ok.ensures.taken refl refl))
@@ -33,7 +33,7 @@ returns-in-Err-clause-stands c = λ text h.
     let reader = the_view c.self.inside in
     let open_still = ap (λ (r : ReaderValue). r.is_finished) c.self.view_is ∙ c.requires in
     let going = going_at reader text c.in_default.is open_still (subst (λ (r : ReaderValue). StandsFor r text) (sym c.self.view_is) h) in
-    let new = the_view (record { parts = c.take_piece.new.self; fault = Some c.in-Err.fault; is_finished = c.self.inside.is_finished }) in
+    let new = the_view (record { parts = c.take_piece.new.self; past = c.self.inside.past; fault = Some c.in-Err.fault; is_finished = c.self.inside.is_finished }) in
     fed_failed reader new text c.args.piece.now c.self.inside.is_finished c.in-Err.fault going c.take_piece.ensures.most c.in-Err.ensures.taken
 
 pub returns-in-Err-clause-told : goal.returns-in-Err-clause-told

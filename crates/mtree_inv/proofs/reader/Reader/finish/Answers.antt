@@ -13,7 +13,7 @@ returns-in-Ok-clause-stands c = λ text h.
     let reader = the_view c.self.inside in
     let open_still = ap (λ (r : ReaderValue). r.is_finished) c.self.view_is ∙ c.requires in
     let going = going_at reader text c.in_default.is open_still (subst (λ (r : ReaderValue). StandsFor r text) (sym c.self.view_is) h) in
-    let new = the_view (record { parts = c.take_end.new.self; fault = c.self.inside.fault; is_finished = true }) in
+    let new = the_view (record { parts = c.take_end.new.self; past = c.self.inside.past; fault = c.self.inside.fault; is_finished = true }) in
     stands_by new text None true c.in_default.is refl
     (ap (λ (n : ℕ). inventory n text) c.take_end.ensures.most ∙ finished_whole reader new text going c.in-Ok.ensures.taken refl refl)
 
@@ -22,7 +22,7 @@ returns-in-Ok-clause-told c = λ text h.
     let reader = the_view c.self.inside in
     let open_still = ap (λ (r : ReaderValue). r.is_finished) c.self.view_is ∙ c.requires in
     let going = going_at reader text c.in_default.is open_still (subst (λ (r : ReaderValue). StandsFor r text) (sym c.self.view_is) h) in
-    let new = the_view (record { parts = c.take_end.new.self; fault = c.self.inside.fault; is_finished = true }) in
+    let new = the_view (record { parts = c.take_end.new.self; past = c.self.inside.past; fault = c.self.inside.fault; is_finished = true }) in
     none_then c.args.self.now.fault
     (subst (λ (r : ReaderValue). inventory r.most text ≡ Ok (files new)) c.self.view_is (finished_whole reader new text going c.in-Ok.ensures.taken refl refl))
 
@@ -31,7 +31,7 @@ returns-in-Err-clause-stands c = λ text h.
     let reader = the_view c.self.inside in
     let open_still = ap (λ (r : ReaderValue). r.is_finished) c.self.view_is ∙ c.requires in
     let going = going_at reader text c.in_default.is open_still (subst (λ (r : ReaderValue). StandsFor r text) (sym c.self.view_is) h) in
-    let new = the_view (record { parts = c.take_end.new.self; fault = Some c.in-Err.fault; is_finished = c.self.inside.is_finished }) in
+    let new = the_view (record { parts = c.take_end.new.self; past = c.self.inside.past; fault = Some c.in-Err.fault; is_finished = c.self.inside.is_finished }) in
     finished_failed reader new text c.self.inside.is_finished c.in-Err.fault going c.take_end.ensures.most c.in-Err.ensures.taken
 
 pub returns-in-Err-clause-told : goal.returns-in-Err-clause-told

@@ -3,7 +3,7 @@ use Rattle.std.specs.Prelude.{None}
 use Rattle.mtree_inv.specs.Parts.{most_of, files_of_parts, reading_of}
 use Rattle.mtree_inv.specs.Reading.{Reading}
 use Rattle.mtree_inv.proofs.StandLemmas.{stands_start}
-use Rattle.mtree_inv.proofs.reader.Reader.restart.Goals as goal
+use Rattle.mtree_inv.proofs.reader.Reader.begin.Goals as goal
 
 pub returns-clause-stands : goal.returns-clause-stands
 returns-clause-stands c =
