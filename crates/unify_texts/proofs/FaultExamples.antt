@@ -75,6 +75,7 @@ statuses_go_by_faults fault.Device = refl
 statuses_go_by_faults (fault.Missing path) = refl
 statuses_go_by_faults (fault.Foreign path) = refl
 statuses_go_by_faults (fault.Unfinished path) = refl
+statuses_go_by_faults (fault.AlreadyChanged path) = refl
 statuses_go_by_faults (fault.BadMap n) = refl
 statuses_go_by_faults (fault.InventoryChanged host) = refl
 statuses_go_by_faults (fault.BadBundle n) = refl

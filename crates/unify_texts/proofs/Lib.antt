@@ -1,3 +1,4 @@
+pub mod KeptNames
 pub mod MapLoop
 pub mod DraftLemmas
 pub mod SpellingLemmas

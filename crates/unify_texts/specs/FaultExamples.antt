@@ -135,6 +135,7 @@ plan_faults =
     ∷ told (fault.Missing (codes "etc/a")) (codes "unify: 37 Missing etc/a\n")
     ∷ told (fault.Foreign (codes "etc/b")) (codes "unify: 38 Foreign etc/b\n")
     ∷ told (fault.Unfinished (codes "etc/c")) (codes "unify: 44 Unfinished etc/c\n")
+    ∷ told (fault.AlreadyChanged (codes "etc/d")) (codes "unify: 48 AlreadyChanged etc/d\n")
     ∷ []
 
 abbrev pub text_faults : List Example

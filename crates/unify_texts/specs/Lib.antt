@@ -1,4 +1,5 @@
 pub mod Codes
+pub mod KeptNames
 pub mod Words
 pub mod Faults
 pub mod FaultExamples

@@ -68,9 +68,10 @@ pub fn push_details(out: &mut Vec<u8>, fault: &Fault<'_>) -> Result<(), AllocErr
         }
         Fault::SumsDiffer { kind, sum, weight } => push_sums(out, *kind, *sum, *weight),
         Fault::BadPlan(offset) => push_labelled(out, "byte", *offset),
-        Fault::Missing(path) | Fault::Foreign(path) | Fault::Unfinished(path) => {
-            push_name(out, path.bytes())
-        }
+        Fault::Missing(path)
+        | Fault::Foreign(path)
+        | Fault::Unfinished(path)
+        | Fault::AlreadyChanged(path) => push_name(out, path.bytes()),
         Fault::InventoryChanged(host) => push_host(out, host.bytes()),
         Fault::BadCertificate(line)
         | Fault::BadMap(line)

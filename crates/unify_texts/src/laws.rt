@@ -5,6 +5,7 @@ ghost use Rattle.unify_texts.specs.BundleSpelling.{FirstBadIsTold};
 ghost use Rattle.unify_texts.specs.BundleWords.{WordsAreRead};
 ghost use Rattle.unify_texts.specs.FaultExamples as example;
 ghost use Rattle.unify_texts.specs.FaultExamples.{AreTold, StatusesGoByFaults};
+ghost use Rattle.unify_texts.specs.KeptNames.{KeptNamesAreSeen};
 ghost use Rattle.unify_texts.specs.ReportBack.{ReportsReadBack};
 ghost use Rattle.unify_texts.specs.ReportExample.{ExampleOfDiffering, ExampleOfPlain};
 ghost use Rattle.unify_texts.specs.ReportExample.{ExampleOfUsers};
@@ -44,6 +45,12 @@ pub fn written_maps_are_pins()
 /// files without an account, reserves one number, and that no name is empty.
 pub fn reserved_lines_read_back()
     ensures { ReservedLinesReadBack }
+{}
+
+/// `keeps_a_name` is true exactly where, of users or of groups, some number is reserved by a name
+/// that is kept on a host.
+pub fn kept_names_are_seen()
+    ensures { KeptNamesAreSeen }
 {}
 
 /// The figures of a report are read from its words: after `hosts` how many hosts there are; of the
