@@ -7,6 +7,7 @@ ghost use Rattle.accounts.specs.Tables.{passwd_table, group_table};
 ghost use Rattle.logindefs.specs.Ranges.{IsHostRanges, ranges_of};
 ghost use Rattle.hosts_join.specs.Checks.{primary_checked};
 ghost use Rattle.hosts_join.specs.Hosts.{IsLawfulHost};
+ghost use Rattle.hosts_join.specs.declared.fault.SiteFault.TheVariants as site;
 ghost use Rattle.unify_texts.specs.declared.fault.Fault.{Fault};
 ghost use Rattle.unify_texts.specs.declared.fault.Fault.TheVariants.{Line};
 ghost use Rattle.unify_texts.specs.Told.{told};
@@ -14,7 +15,7 @@ ghost use Rattle.unify.specs.Told.{in_file, site_told, in_site};
 ghost use Rattle.unify.specs.Hosts.{host_of, owner_fault};
 
 use accounts::{GroupTable, PasswdTable, read_group, read_passwd};
-use hosts_join::{Host, HostText, Runs, SiteFault, check_primary};
+use hosts_join::{Host, HostText, Reserved, Runs, SiteFault, Which, check_primary};
 use idtext::{ByteString, Name, ReadError, TextFault};
 use logindefs::{HostRanges, read_ranges};
 use mtree_inv::Entry;
@@ -43,6 +44,47 @@ pub fn line_fault(host: &[u8], file: FileName, fault: TextFault) -> Fault<'_>
     }
 }
 
+// A name that is pinned to two numbers.
+fn pins_disagree<'a>(
+    kind: Which,
+    name: Name<'a>,
+    first: Option<Name<'a>>,
+    second: Option<Name<'a>>,
+) -> Fault<'a>
+    ensures { result ≡ site_told (site.PinDisagrees kind name.entry first.entry second.entry) }
+{
+    Fault::PinDisagrees {
+        kind,
+        name,
+        first,
+        second: second.unwrap_or(Name::new(b"")),
+    }
+}
+
+// A name that is pinned to a number which no name is to be given.
+fn pin_is_reserved<'a>(kind: Which, number: u32, name: Name<'a>, by: Reserved<'a>) -> Fault<'a>
+    ensures { result ≡ site_told (site.PinReserved kind number name.entry by.entry) }
+{
+    Fault::PinReserved {
+        kind,
+        number,
+        name,
+        by,
+    }
+}
+
+// Two names that are to have one number.
+fn pins_clash<'a>(kind: Which, number: u32, first: Name<'a>, second: Name<'a>) -> Fault<'a>
+    ensures { result ≡ site_told (site.PinClash kind number first.entry second.entry) }
+{
+    Fault::PinClash {
+        kind,
+        number,
+        first,
+        second,
+    }
+}
+
 /// A fault of the host list, of the primary groups or of the join, as the program tells it.
 /// Constant time.
 pub fn site_fault(fault: SiteFault<'_>) -> Fault<'_>
@@ -58,34 +100,19 @@ pub fn site_fault(fault: SiteFault<'_>) -> Fault<'_>
             name,
             first,
             second,
-        } => Fault::PinDisagrees {
-            kind,
-            name,
-            first,
-            second: second.unwrap_or(Name::new(b"")),
-        },
+        } => pins_disagree(kind, name, first, second),
         SiteFault::PinReserved {
             kind,
             number,
             name,
             by,
-        } => Fault::PinReserved {
-            kind,
-            number,
-            name,
-            by,
-        },
+        } => pin_is_reserved(kind, number, name, by),
         SiteFault::PinClash {
             kind,
             number,
             first,
             second,
-        } => Fault::PinClash {
-            kind,
-            number,
-            first,
-            second,
-        },
+        } => pins_clash(kind, number, first, second),
         SiteFault::PoolTooSmall {
             kind,
             class,

@@ -16,7 +16,8 @@ use unify_texts::Fault;
 
 /// Inventories that come in pieces, host by host, and whose files are counted. It keeps the tables
 /// of the hosts, which borrow their texts, how many files each row owns of each host that was
-/// ended, and of the present inventory each path once; no text of an inventory is kept.
+/// ended, and of the present inventory each path once; no text of an inventory is kept. Where the
+/// inventories are to come a second time it keeps a hash of each path too.
 #[derive(Drop)]
 pub struct Inventories<'a> {
     pub(crate) alloc: Global,
@@ -57,7 +58,7 @@ fn next_host(
     let next = no_files(alloc, hosts, passed.len() + 1)?;
     let rows = mem::replace(&mut turn.rows, next);
     passed.push(rows)?;
-    begin_next(&mut turn.reader, alloc, passed.len() < hosts.len());
+    begin_next(&mut turn.reader, passed.len() < hosts.len());
     turn.unowned = None;
     Ok(())
 }
@@ -90,6 +91,15 @@ impl<'a> Inventories<'a> {
             turn: new_turn(alloc, rows),
             log: TextLog::new(),
         })
+    }
+
+    /// The inventories will come a second time: keeps 8 bytes for each path, of 16,777,216 at most,
+    /// so that the second reading takes less time. It takes no memory by itself, and is for
+    /// inventories of which none has come.
+    pub fn expect_second_reading(&mut self)
+        ensures { self.new ≡ self.old }
+    {
+        self.turn.reader.keep_hashes();
     }
 
     /// Takes the next bytes of the inventory of the present host. Requires that a host is left.

@@ -15,11 +15,12 @@ ghost use Rattle.unify.specs.RowFiles.{row_files};
 use crate::checking::check_counted;
 use crate::inventories::Inventories;
 use crate::merging::{Merged, merge_counted};
-use crate::plan_turn::{PlanTurn, new_turn};
+use crate::plan_turn::{PlanTurn, new_turn, read_again_by};
 use crate::row_files::no_files;
 use crate::site::JoinedSite;
 use crate::solved_pass::Solved;
 use crate::text_log::TextLog;
+use crate::turn::Turn;
 use hosts_join::{Host, Site};
 use ownership::Counts;
 use std::alloc::{AllocError, Global};
@@ -118,16 +119,19 @@ impl<'a> JoinedSite<'a> {
             (λ back. back ≡ self.entry) }
     {
         let alloc = self.inventories.alloc;
-        let Ok((merged, turn)) = solve_site(alloc, &self) else {
+        let Ok((merged, mut turn)) = solve_site(alloc, &self) else {
             return Err(self);
         };
         let JoinedSite { inventories, site } = self;
         let Inventories {
             hosts,
             passed,
+            turn: last,
             log,
             ..
         } = inventories;
+        let Turn { reader, .. } = last;
+        read_again_by(&mut turn, reader);
         Ok(Solved {
             alloc,
             hosts,

@@ -84,6 +84,16 @@ pub fn new_turn(alloc: Global, rows: RowFiles) -> Result<PlanTurn, AllocError>
     })
 }
 
+/// Has the reader of the first pass read this one, and expect the inventories that it has read.
+/// Takes no memory.
+pub fn read_again_by(turn: &mut PlanTurn, reader: Reader)
+    ensures fresh { IsFreshTurn turn.old → IsFreshTurn turn.new }
+    ensures rows { turn.new.rows ≡ turn.old.rows }
+{
+    turn.reader = reader;
+    turn.reader.rewind(MOST_FILES);
+}
+
 // Appends the header of the plan, unless it has it.
 fn begin_plan(turn: &mut PlanTurn, host: &Host<'_>, plan: &mut Vec<u8>) -> Result<(), AllocError>
     ensures turn { turn.new
@@ -364,7 +374,7 @@ pub fn next_turn(
     let rows = no_files(alloc, hosts, next)?;
     let known = no_owners(alloc)?;
     push_plan_end(plan)?;
-    begin_next(&mut turn.reader, alloc, next < hosts.len());
+    begin_next(&mut turn.reader, next < hosts.len());
     turn.rows = rows;
     turn.known = known;
     turn.is_begun = false;

@@ -42,8 +42,8 @@ pub fn new_turn(alloc: Global, rows: RowFiles) -> Turn
 }
 
 /// Makes a reader ready for the next inventory, with the memory that it has. Where none is left it
-/// gives that back.
-pub fn begin_next(reader: &mut Reader, alloc: Global, is_left: bool)
+/// gives that back, but for the hashes that it keeps.
+pub fn begin_next(reader: &mut Reader, is_left: bool)
     ensures stands { standing.StandsFor reader.new [] }
     ensures most { reader.new.most ≡ 16777216 }
     ensures fault { reader.new.fault ≡ None }
@@ -54,7 +54,7 @@ pub fn begin_next(reader: &mut Reader, alloc: Global, is_left: bool)
     if is_left {
         reader.restart(MOST_FILES);
     } else {
-        *reader = Reader::new(alloc, MOST_FILES);
+        reader.give_back(MOST_FILES);
     }
 }
 

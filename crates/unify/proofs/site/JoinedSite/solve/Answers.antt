@@ -1,4 +1,4 @@
-use Rattle.std.proofs.Common.{subst, sym}
+use Rattle.std.proofs.Common.{subst, sym, ◌∙◌}
 use Rattle.unify.specs.Passes.{AreTogether}
 use Rattle.unify.specs.PlanTurns as again
 use Rattle.unify.specs.PlanTurns.{IsSolving}
@@ -14,14 +14,17 @@ invariant_of-result c =
     let p = pass_of c.self.inside.0.0 in
     let site = c.self.inside.0.1.0 in
     let are : IsMergedOf (seen p) site c.in-Ok.merged = rw (← c.self.view_is) at c.in-Ok.ensures.merged in
-    let rows : AreFirstRows p.hosts c.in-Ok.turn = rw (← c.self.view_is) at c.in-Ok.ensures.rows in
+    let turn = c.read_again_by.new.turn in
+    let first : AreFirstRows p.hosts c.in-Ok.turn = rw (← c.self.view_is) at c.in-Ok.ensures.rows in
+    let rows : AreFirstRows p.hosts turn = λ host here. c.read_again_by.ensures.rows ∙ first host here in
     let over : IsOver (seen p) = rw (← c.self.view_is) at c.requires.none_left in
     let together : AreTogether p.hosts site = rw (← c.self.view_is) at c.requires.together in
-    subst (λ (t : Taken). IsSolving (record (solved_pass p site c.in-Ok.merged c.in-Ok.turn) { taken = t })) (sym c.new.ensures) (solving_from p site c.in-Ok.merged c.in-Ok.turn c.self.invariant.counting together over are (c.in-Ok.ensures.fresh, rows))
+    subst (λ (t : Taken). IsSolving (record (solved_pass p site c.in-Ok.merged turn) { taken = t })) (sym c.new.ensures) (solving_from p site c.in-Ok.merged turn c.self.invariant.counting together over are (c.read_again_by.ensures.fresh c.in-Ok.ensures.fresh, rows))
 
 pub returns : goal.returns
 returns c =
     let p = pass_of c.self.inside.0.0 in
     let site = c.self.inside.0.1.0 in
     let are : IsMergedOf (seen p) site c.in-Ok.merged = rw (← c.self.view_is) at c.in-Ok.ensures.merged in
-    rw (← c.self.view_is) (subst (λ (t : Taken). IsSolvedFrom (seen p) site (again.seen (record (solved_pass p site c.in-Ok.merged c.in-Ok.turn) { taken = t }))) (sym c.new.ensures) (solved_from p site c.in-Ok.merged c.in-Ok.turn are c.in-Ok.ensures.fresh))
+    let turn = c.read_again_by.new.turn in
+    rw (← c.self.view_is) (subst (λ (t : Taken). IsSolvedFrom (seen p) site (again.seen (record (solved_pass p site c.in-Ok.merged turn) { taken = t }))) (sym c.new.ensures) (solved_from p site c.in-Ok.merged turn are (c.read_again_by.ensures.fresh c.in-Ok.ensures.fresh)))

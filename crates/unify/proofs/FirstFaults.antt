@@ -1,0 +1,53 @@
+-- The first fault of a judge that asks nothing of the items before.
+use Rattle.std.proofs.Common.{◌≡◌, List, [], ◌∷◌, ◌++◌, Option, None, Some, Result, Err, All, refl, ap, ◌∙◌}
+use Rattle.std.proofs.lemmas.List.Elements.{All-nil, All-cons, All-head, All-tail}
+use Rattle.idtext.specs.First.{first_fault, or_else, unless}
+
+-- the item whose fault is told, and those before it, which have none
+pub record FirstFault {A F : Type 0} (judge : A → Option F) (xs : List A) (f : F) : Type 0 where
+  pub earlier : List A
+  pub item : A
+  pub later : List A
+  pub split : xs ≡ earlier ++ item ∷ later
+  pub passed : All (λ x. judge x ≡ None) earlier
+  pub told : judge item ≡ Some f
+
+module _ {A F : Type 0} (judge : A → Option F) where
+  next_fault : (x : A) (xs : List A) (f : F) (o later : Option F) → judge x ≡ o → or_else o later ≡ Some f → (later ≡ Some f → FirstFault judge xs f) → FirstFault judge (x ∷ xs) f
+  next_fault x xs f None later none h more =
+      let rest = more h in
+      record {
+        earlier = x ∷ rest.earlier;
+        item = rest.item;
+        later = rest.later;
+        split = ap (λ ys. x ∷ ys) rest.split;
+        passed = All-cons (λ y. judge y ≡ None) x rest.earlier none rest.passed;
+        told = rest.told;
+      }
+  next_fault x xs f (Some g) later some h more =
+      record { earlier = []; item = x; later = xs; split = refl; passed = All-nil (λ y. judge y ≡ None); told = some ∙ h }
+
+  pub first_fails : (before xs : List A) (f : F) → first_fault (λ seen x. judge x) before xs ≡ Some f → FirstFault judge xs f
+  unfolding first_fault
+  first_fails before [] f h = absurd (cc)
+  first_fails before (x ∷ xs) f h =
+      next_fault x xs f (judge x) (first_fault (λ seen y. judge y) (before ++ x ∷ []) xs) refl h (first_fails (before ++ x ∷ []) xs f)
+
+  none_before : (o later : Option F) → o ≡ None → later ≡ None → or_else o later ≡ None
+  none_before None later none h = h
+  none_before (Some f) later none h = none
+
+  pub all_pass : (before xs : List A) → All (λ x. judge x ≡ None) xs → first_fault (λ seen x. judge x) before xs ≡ None
+  unfolding first_fault
+  all_pass before [] h = refl
+  all_pass before (x ∷ xs) h =
+      none_before (judge x) (first_fault (λ seen y. judge y) (before ++ x ∷ []) xs) (All-head (λ y. judge y ≡ None) x xs h)
+      (all_pass (before ++ x ∷ []) xs (All-tail (λ y. judge y ≡ None) x xs h))
+
+err_same : {B F : Type 0} (a b : F) → ◌≡◌ {A = Result B F} (Err a) (Err b) → a ≡ b
+err_same a b e = cc
+
+-- a value that is refused for a fault
+pub unless_err : {B F : Type 0} (o : Option F) (v : B) (f : F) → unless o v ≡ Err f → o ≡ Some f
+unless_err None v f h = absurd (cc)
+unless_err {B = B} (Some g) v f h = ap (λ e. Some e) (err_same {B = B} g f h)

@@ -1,0 +1,5 @@
+use Rattle.unify.proofs.FaultLaws.{gids_are, lines_are, uids_are}
+use Rattle.unify.proofs.laws.faults_name_their_file.Goals as goal
+
+pub returns : goal.returns
+returns c = record { line = lines_are; uid = uids_are; gid = gids_are }
