@@ -1,5 +1,6 @@
 pub mod Telling
 pub mod Taking
+pub mod TakenFiles
 pub mod PlanLines
 pub mod AnswersBack
 pub mod FaultAnswers

@@ -1,5 +1,6 @@
 pub mod Lines
 pub mod Output
+pub mod TakenFiles
 pub mod AnswersBack
 pub mod Replies
 pub mod Carrying

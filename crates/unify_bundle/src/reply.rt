@@ -2,7 +2,6 @@
 
 ghost use Rattle.std.specs.Prelude.{◌≡◌, Some, Ok, Err, IfOk};
 ghost use Rattle.unify_texts.specs.Told.{told};
-ghost use Rattle.unify_texts.specs.Codes.{code_of, status_of};
 ghost use Rattle.unify_bundle.specs.Lines.{cost_lines, accepted_line};
 ghost use Rattle.unify_bundle.specs.Output.{counted, checked, answered};
 ghost use Rattle.unify_bundle.specs.Replies.{reply_of};
@@ -21,22 +20,6 @@ pub struct Reply {
     pub status: u8,
 }
 
-// The exit status that goes with a fault.
-fn status_of_fault(fault: &Fault<'_>) -> u8
-    ensures { result ≡ status_of (code_of fault.now) }
-{
-    let code = fault.code();
-    if code == 0 || code == 36 {
-        3
-    } else if code == 42 {
-        2
-    } else if code >= 29 && code <= 34 {
-        4
-    } else {
-        1
-    }
-}
-
 /// The line that tells a fault, with its status, unless memory is wanting.
 pub fn refused(alloc: Global, fault: &Fault<'_>) -> Result<Reply, AllocError>
     ensures { IfOk result (λ reply. (told fault.now ≡ Some fault.now)
@@ -49,7 +32,7 @@ pub fn refused(alloc: Global, fault: &Fault<'_>) -> Result<Reply, AllocError>
     push_fault(alloc, &mut text, fault)?;
     Ok(Reply {
         text,
-        status: status_of_fault(fault),
+        status: fault.status(),
     })
 }
 

@@ -4,6 +4,7 @@ pub mod Changes
 pub mod Writing
 pub mod OwnFiles
 pub mod HostFiles
+pub mod FileNames
 pub mod NamedFiles
 pub mod Planned
 pub mod AllPlanned
@@ -15,6 +16,7 @@ pub mod Inventories
 pub mod Checked
 pub mod WholeCheck
 pub mod WholeCount
+pub mod Settled
 pub mod Surveyed
 pub mod Finding
 pub mod Rehearsals

@@ -1,4 +1,4 @@
--- Among the files of a merge each name has its own text.
+-- Among the files of a merge each name has its own text, and no name stands twice.
 use Rattle.std.proofs.Common.{◌≡◌, ◌++◌, ◌∷◌, [], ℕ, zero, suc, Bool, true, false, cond, List, take, drop, Some, Contains, codes, refl, sym, subst, arith}
 use Rattle.std.specs.List.{slice_get}
 use Rattle.std.proofs.lemmas.List.Elements.{Contains-append_left, Contains-append_right}
@@ -12,6 +12,8 @@ use Rattle.unify_laws.specs.HostTexts.{group_file, host_files, passwd_file}
 use Rattle.unify_merge.specs.Merge.{account_files, first_files, merged_files, report_file}
 use Rattle.unify_merge.specs.SecondReading.{plan_files}
 use Rattle.unify_merge.specs.NamedFiles.{FilesHaveTheirNames}
+use Rattle.unify_laws.proofs.HostTexts.{begun_steps}
+use Rattle.unify_merge.proofs.FileNames.{have_distinct_names, names_differ, no_group, no_other, no_passwd}
 use Rattle.unify_merge.proofs.HostFiles.{host_files_from}
 
 first_of : {X : Type 0} (x : X) (xs : List X) → Contains (x ∷ xs) x
@@ -82,10 +84,14 @@ files_have_their_names texts begun m outcome =
     record {
       passwd = λ none. of_site passwd (Contains-append_left (account_files outcome) (map ∷ certificate ∷ []) passwd (unless_kept outcome.keeps_names passwd group passwd none (first_of passwd (group ∷ []))));
       group = λ none. of_site group (Contains-append_left (account_files outcome) (map ∷ certificate ∷ []) group (unless_kept outcome.keeps_names passwd group group none (later passwd (group ∷ []) group (first_of group []))));
+      no_passwd = no_passwd texts begun m outcome;
+      no_group = no_group texts begun m outcome;
       map = of_site map (Contains-append_right (account_files outcome) (map ∷ certificate ∷ []) map (first_of map (certificate ∷ [])));
       certificate = of_site certificate (Contains-append_right (account_files outcome) (map ∷ certificate ∷ []) certificate (later map (certificate ∷ []) certificate (first_of certificate [])));
       report = Contains-append_right (first_files outcome) (plans ++ (own ++ report ∷ [])) report (Contains-append_right plans (own ++ report ∷ []) report (Contains-append_right own (report ∷ []) report (first_of report [])));
       plan_of_host = λ h text plan at there. of_plans (record { name = codes "plan." ++ text.name; text = plan }) (plan_there texts outcome.plans h text plan at there);
       passwd_of_host = λ h text host at there. of_hosts (passwd_file host begun.joined m text) (passwd_there begun.joined m texts begun.hosts h text host at there);
       group_of_host = λ h text host at there. of_hosts (group_file begun.joined m text) (group_there begun.joined m texts begun.hosts h text host at there);
+      no_other = no_other texts begun m outcome;
+      once = λ rules is. let s = begun_steps texts rules begun is in have_distinct_names texts begun m outcome (names_differ texts s.listed s.listed_are);
     }

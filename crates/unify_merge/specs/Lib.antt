@@ -7,6 +7,7 @@ pub mod Survey
 pub mod SecondReading
 pub mod HostFiles
 pub mod Merge
+pub mod LedgerLaws
 pub mod NamedFiles
 pub mod Check
 pub mod Count

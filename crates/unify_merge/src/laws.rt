@@ -1,10 +1,21 @@
 //! What holds of the files of a merge.
+ghost use Rattle.unify_merge.specs.LedgerLaws.{LedgersNoteFiles, MergesAreSettled};
 ghost use Rattle.unify_merge.specs.NamedFiles.{FilesHaveTheirNames};
 
 /// Among the files of a merge, each name has its own text: passwd and group, unless a name is kept,
 /// map, certificate and report those of the whole site; `plan.`, `passwd.` and `group.` with a
 /// host's name after them the plan of that host and its own passwd and group with their new
-/// numbers.
+/// numbers. Where a name is kept, no file is named passwd or group. No file has another name, and
+/// no name stands twice, where the hosts were read from the texts.
 pub fn files_have_their_names()
     ensures { FilesHaveTheirNames }
+{}
+
+/// After a merge its files were begun and no other since the clearing away, and all of them are
+/// finished and settled. Of single calls: after a clearing away there is no file; one that is begun
+/// and finished stands after those before it, with all bytes that were appended to it, and is not
+/// settled; with one that is sealed all are.
+pub fn ledgers_note_files()
+    ensures merged { MergesAreSettled }
+    ensures calls { LedgersNoteFiles }
 {}

@@ -85,6 +85,7 @@ fn solve_hosts<'a, F: MergeFiles>(
     ensures reads { ReadsOnly (F.ledger files.old) (F.ledger files.new) }
 {
     let mut begun = begin_site(alloc, hosts, rules)?;
+    begun.inventories.expect_second_reading();
     count_hosts(alloc, files, &mut begun.inventories)?;
     solve(begun)
 }
