@@ -10,14 +10,14 @@ use Rattle.mtree_inv.specs.declared.entry.Entry.{Entry}
 use Rattle.mtree_inv.specs.Inventory.{file_at}
 use Rattle.kept_names.specs.Kept.{Found, change_at, change_by, findings, groups_agree, is_left, left_by, left_file, loss, loss_of, new_file, told_of, unnamed, unnamed_by, users_agree}
 use Rattle.kept_names.specs.Tally.{counts_by, tally_of}
-use Rattle.kept_names.specs.Telling.{Counts, counts_of, kept_files, kind_word, number_of}
+use Rattle.kept_names.specs.Telling.{counts_of, kept_files, kind_word, number_of}
 use Rattle.kept_names.specs.TellingLaws.{CountsAddUp}
 use Rattle.kept_names.specs.declared.finding.What.{What}
 use Rattle.kept_names.specs.declared.finding.What.TheVariants.{Missing, Changed, New, Unnamed, Left}
-use Rattle.kept_names.specs.declared.names.Accounts.{Accounts}
+use Rattle.kept_names.specs.declared.names.Renumbering.{Renumbering}
 use Rattle.kept_names.proofs.Lost.{every-all, given-all, head-all, tail-all}
 
-count-cons : {X : Type 0} (p : X → Bool) (x : X) (xs : List X) → count_by p (x ∷ xs) ≡ cond (p x) 1 0 + count_by p xs
+pub count-cons : {X : Type 0} (p : X → Bool) (x : X) (xs : List X) → count_by p (x ∷ xs) ≡ cond (p x) 1 0 + count_by p xs
 count-cons p x xs = sum_by-cons (λ y. cond (p y) 1 0) x xs
 
 count-append : {X : Type 0} (p : X → Bool) (xs ys : List X) → count_by p (xs ++ ys) ≡ count_by p xs + count_by p ys
@@ -41,7 +41,7 @@ IsOther word f = is_of word f ≡ false
 told-other : (word : List ℕ) (file : Entry) (what : What) (y : Found) → bytes_eq (kind_word what) word ≡ false → told_of file (Some what) ≡ Some y → IsOther word y
 told-other word file what y other e = let same : record { file = file; what = what } ≡ y = cc in subst (IsOther word) same other
 
-module _ (was now : Accounts) (before after : List Entry) (word : List ℕ) where
+module _ (renumbering : Renumbering) (before after : List Entry) (word : List ℕ) where
   abbrev GivesOthers : (Entry → Option Found) → Entry → Type 0
   GivesOthers f file = (y : Found) → f file ≡ Some y → IsOther word y
 
@@ -55,16 +55,27 @@ module _ (was now : Accounts) (before after : List Entry) (word : List ℕ) wher
       by file y true e = told-other word file New y other e
       by file y false e = absurd (cc)
 
-  unnamed-others : bytes_eq (codes "unnamed") word ≡ false → Others (unnamed now)
-  unnamed-others other = given-all (unnamed now) (IsOther word) after (every-all (GivesOthers (unnamed now)) after (λ file y e. by file y (is_none (user_at now.users file.uid)) (is_none (group_at now.groups file.gid)) e))
+  unnamed-others : bytes_eq (codes "unnamed") word ≡ false → Others (unnamed renumbering.after)
+  unnamed-others other =
+      given-all (unnamed renumbering.after) (IsOther word) after
+      (every-all (GivesOthers (unnamed renumbering.after)) after
+      (λ file y e. by file y (is_none (user_at renumbering.after.users file.uid))
+      (is_none (group_at renumbering.after.groups file.gid)) e))
     where
       by : (file : Entry) (y : Found) (u g : Bool) → told_of file (unnamed_by u g) ≡ Some y → IsOther word y
       by file y true g e = told-other word file (Unnamed true g) y other e
       by file y false true e = told-other word file (Unnamed false true) y other e
       by file y false false e = absurd (cc)
 
-  left-others : bytes_eq (codes "left") word ≡ false → Others (left_file was now before)
-  left-others other = given-all (left_file was now before) (IsOther word) after (every-all (GivesOthers (left_file was now before)) after (λ file y e. by file y (is_left (user_at was.users file.uid) (user_at now.users file.uid)) (is_left (group_at was.groups file.gid) (group_at now.groups file.gid)) (file_at before file.path) e))
+  left-others : bytes_eq (codes "left") word ≡ false → Others (left_file renumbering before)
+  left-others other =
+      given-all (left_file renumbering before) (IsOther word) after
+      (every-all (GivesOthers (left_file renumbering before)) after
+      (λ file y e. by file y
+      (is_left (user_at renumbering.before.users file.uid)
+      (user_at renumbering.after.users file.uid))
+      (is_left (group_at renumbering.before.groups file.gid)
+      (group_at renumbering.after.groups file.gid)) (file_at before file.path) e))
     where
       by : (file : Entry) (y : Found) (u g : Bool) (earlier : Option Entry) → told_of file (left_by u g earlier) ≡ Some y → IsOther word y
       by file y true g None e = told-other word file (Left true g) y other e
@@ -74,18 +85,20 @@ module _ (was now : Accounts) (before after : List Entry) (word : List ℕ) wher
       by file y false false earlier e = absurd (cc)
 
   abbrev losses : List Found
-  losses = filter_map (loss was now after) before
+  losses = filter_map (loss renumbering after) before
 
   abbrev news : List Found
   news = filter_map (new_file before) after
 
   abbrev bare : List Found
-  bare = filter_map (unnamed now) after
+  bare = filter_map (unnamed renumbering.after) after
 
   abbrev lefts : List Found
-  lefts = filter_map (left_file was now before) after
+  lefts = filter_map (left_file renumbering before) after
 
-  of_losses : bytes_eq (codes "new") word ≡ false → bytes_eq (codes "unnamed") word ≡ false → bytes_eq (codes "left") word ≡ false → number_of word (findings was now before after) ≡ number_of word losses
+  of_losses : bytes_eq (codes "new") word ≡ false → bytes_eq (codes "unnamed") word ≡ false
+      → bytes_eq (codes "left") word ≡ false
+      → number_of word (findings renumbering before after) ≡ number_of word losses
   unfolding findings
   of_losses no_new no_unnamed no_left =
       let a = count-append (is_of word) (losses ++ news ++ bare) lefts in
@@ -98,9 +111,9 @@ module _ (was now : Accounts) (before after : List Entry) (word : List ℕ) wher
 
 -- ---- what is found of the first
 
-module _ (was now : Accounts) (before after : List Entry) where
+module _ (renumbering : Renumbering) (before after : List Entry) where
   abbrev lost_in : List Entry → List Found
-  lost_in files = filter_map (loss was now after) files
+  lost_in files = filter_map (loss renumbering after) files
 
   abbrev missing : List Found → ℕ
   missing found = number_of (codes "missing") found
@@ -122,9 +135,11 @@ module _ (was now : Accounts) (before after : List Entry) where
       let c = count-cons (is_of (codes "changed")) (record { file = file; what = what }) rest in
       omega (arith, m, c, either)
 
-  one : (file : Entry) (o : Option Entry) (rest : List Found) → Adds file (change_at was now file o) rest
+  one : (file : Entry) (o : Option Entry) (rest : List Found)
+      → Adds file (change_at renumbering file o) rest
   one file None rest = lost-one file Missing rest refl
-  one file (Some there) rest = by (users_agree was now file there) (groups_agree was now file there)
+  one file (Some there) rest =
+      by (users_agree renumbering file there) (groups_agree renumbering file there)
     where
       by : (u g : Bool) → Adds file (change_by u g there) rest
       by true true = omega arith
@@ -132,27 +147,35 @@ module _ (was now : Accounts) (before after : List Entry) where
       by false true = lost-one file (Changed (Some there.uid) None) rest refl
       by false false = lost-one file (Changed (Some there.uid) (Some there.gid)) rest refl
 
-  add-up : (files : List Entry) → kept_files was now files after + missing (lost_in files) + changed (lost_in files) ≡ length files
+  add-up : (files : List Entry)
+      → kept_files renumbering files after + missing (lost_in files) + changed (lost_in files)
+      ≡ length files
   add-up [] = refl
   add-up (x ∷ xs) =
-      omega (arith, count-cons (λ (file : Entry). is_none (loss_of was now after file)) x xs, one x (file_at after x.path) (lost_in xs), add-up xs)
+      omega (
+        arith,
+        count-cons (λ (file : Entry). is_none (loss_of renumbering after file)) x xs,
+        one x (file_at after x.path) (lost_in xs),
+        add-up xs,
+      )
 
-  pub adds-up : kept_files was now before after + missing (findings was now before after) + changed (findings was now before after) ≡ length before
+  pub adds-up : kept_files renumbering before after + missing (findings renumbering before after)
+      + changed (findings renumbering before after) ≡ length before
   adds-up =
-      omega (arith, add-up before, of_losses was now before after (codes "missing") refl refl refl, of_losses was now before after (codes "changed") refl refl refl)
+      omega (
+        arith,
+        add-up before,
+        of_losses renumbering before after (codes "missing") refl refl refl,
+        of_losses renumbering before after (codes "changed") refl refl refl,
+      )
 
-  kept-is : length before - missing (findings was now before after) - changed (findings was now before after) ≡ kept_files was now before after
+  kept-is : length before - missing (findings renumbering before after)
+      - changed (findings renumbering before after) ≡ kept_files renumbering before after
   kept-is = omega (arith, adds-up)
 
-  pub counts-same : counts_by (length before) (tally_of (findings was now before after)) ≡ counts_of was now before after
-  counts-same = ap (λ (n : ℕ). let same : Counts = record {
-    kept = n;
-    missing = missing (findings was now before after);
-    changed = changed (findings was now before after);
-    new = number_of (codes "new") (findings was now before after);
-    unnamed = number_of (codes "unnamed") (findings was now before after);
-    left = number_of (codes "left") (findings was now before after);
-  } in same) kept-is
+  pub counts-same : counts_by (length before) (tally_of (findings renumbering before after))
+      ≡ counts_of renumbering before after
+  counts-same = ap (λ (n : ℕ). record (counts_of renumbering before after) { kept = n }) kept-is
 
 pub all-add-up : CountsAddUp
-all-add-up was now before after = adds-up was now before after
+all-add-up renumbering before after = adds-up renumbering before after

@@ -16,7 +16,7 @@ use Rattle.kept_names.specs.Telling.{is_fault, status_of}
 use Rattle.kept_names.specs.TellingLaws.{HasNames, HasNoLeftNumber, IsInOrder, StatusTellsOrder}
 use Rattle.kept_names.specs.declared.finding.What.{What}
 use Rattle.kept_names.specs.declared.finding.What.TheVariants.{Missing, Changed, New, Unnamed, Left}
-use Rattle.kept_names.specs.declared.names.Accounts.{Accounts}
+use Rattle.kept_names.specs.declared.names.Renumbering.{Renumbering}
 use Rattle.kept_names.proofs.Lost.{all-given, cons-all, each-all, every-all, front-all, given-all, not-lost, nothing-lost-is-kept, tail-all}
 use Rattle.kept_names.proofs.Told.{file-none, no-file, says-left}
 
@@ -85,15 +85,24 @@ not-fine file what o fault e fine = true≢false (sym fault ∙ fine (record { f
 nothing : (file : Entry) (o : Option What) → o ≡ None → (y : Found) → told_of file o ≡ Some y → IsFine y
 nothing file o none y e = let is : told_of file o ≡ None = ap (told_of file) none in absurd (cc)
 
-module _ (was now : Accounts) (before after : List Entry) where
-  named-one : (file : Entry) → AreFine (unnamed now) file → HasNames now file
+module _ (renumbering : Renumbering) (before after : List Entry) where
+  named-one : (file : Entry) → AreFine (unnamed renumbering.after) file
+      → HasNames renumbering.after file
   named-one file fine = record {
-    user = λ none. by-user (is_none (group_at now.groups file.gid)) (ap (λ u. unnamed_by (is_none u) (is_none (group_at now.groups file.gid))) none);
-    group = λ none. by-group (is_none (user_at now.users file.uid)) (ap (λ g. unnamed_by (is_none (user_at now.users file.uid)) (is_none g)) none);
+    user =
+        λ none. by-user (is_none (group_at renumbering.after.groups file.gid))
+        (ap (λ u. unnamed_by (is_none u) (is_none (group_at renumbering.after.groups file.gid)))
+        none);
+    group =
+        λ none. by-group (is_none (user_at renumbering.after.users file.uid))
+        (ap (λ g. unnamed_by (is_none (user_at renumbering.after.users file.uid)) (is_none g))
+        none);
   }
     where
       o : Option What
-      o = unnamed_by (is_none (user_at now.users file.uid)) (is_none (group_at now.groups file.gid))
+      o =
+          unnamed_by (is_none (user_at renumbering.after.users file.uid))
+          (is_none (group_at renumbering.after.groups file.gid))
 
       by-user : (g : Bool) → o ≡ unnamed_by true g → ⊥
       by-user g e = not-fine file (Unnamed true g) o refl e fine
@@ -102,25 +111,44 @@ module _ (was now : Accounts) (before after : List Entry) where
       by-group true e = not-fine file (Unnamed true true) o refl e fine
       by-group false e = not-fine file (Unnamed false true) o refl e fine
 
-  one-named : (file : Entry) → HasNames now file → AreFine (unnamed now) file
-  one-named file has = nothing file _ (by (user_at now.users file.uid) (group_at now.groups file.gid) has.user has.group)
+  one-named : (file : Entry) → HasNames renumbering.after file
+      → AreFine (unnamed renumbering.after) file
+  one-named file has =
+      nothing file _
+      (by (user_at renumbering.after.users file.uid) (group_at renumbering.after.groups file.gid)
+      has.user has.group)
     where
       by : (u g : Option (List ℕ)) → u ≢ None → g ≢ None → unnamed_by (is_none u) (is_none g) ≡ None
       by None g some other = absurd (some refl)
       by (Some x) None some other = absurd (other refl)
       by (Some x) (Some y) some other = refl
 
-  new-one : (file : Entry) → AreFine (left_file was now before) file → HasNoFileAt before file.path → HasNoLeftNumber was now file
+  new-one : (file : Entry) → AreFine (left_file renumbering before) file
+      → HasNoFileAt before file.path → HasNoLeftNumber renumbering file
   new-one file fine new = record {
-    user = λ it. by-user group_left (λ i. left_by ((says-left (user_at was.users file.uid) (user_at now.users file.uid)).1 it i) group_left (file-none before file.path new i));
-    group = λ it. by-group user_left (λ i. left_by user_left ((says-left (group_at was.groups file.gid) (group_at now.groups file.gid)).1 it i) (file-none before file.path new i));
+    user =
+        λ it. by-user group_left
+        (λ i. left_by
+        ((says-left (user_at renumbering.before.users file.uid)
+        (user_at renumbering.after.users file.uid)).1 it i) group_left
+        (file-none before file.path new i));
+    group =
+        λ it. by-group user_left
+        (λ i. left_by user_left
+        ((says-left (group_at renumbering.before.groups file.gid)
+        (group_at renumbering.after.groups file.gid)).1 it i)
+        (file-none before file.path new i));
   }
     where
       user_left : Bool
-      user_left = is_left (user_at was.users file.uid) (user_at now.users file.uid)
+      user_left =
+          is_left (user_at renumbering.before.users file.uid)
+          (user_at renumbering.after.users file.uid)
 
       group_left : Bool
-      group_left = is_left (group_at was.groups file.gid) (group_at now.groups file.gid)
+      group_left =
+          is_left (group_at renumbering.before.groups file.gid)
+          (group_at renumbering.after.groups file.gid)
 
       o : Option What
       o = left_by user_left group_left (file_at before file.path)
@@ -132,22 +160,39 @@ module _ (was now : Accounts) (before after : List Entry) where
       by-group true e = not-fine file (Left true true) o refl e fine
       by-group false e = not-fine file (Left false true) o refl e fine
 
-  one-new : (file : Entry) → (HasNoFileAt before file.path → HasNoLeftNumber was now file) → AreFine (left_file was now before) file
-  one-new file has = nothing file _ (by user_left group_left (file_at before file.path) (says-left (user_at was.users file.uid) (user_at now.users file.uid)).0 (says-left (group_at was.groups file.gid) (group_at now.groups file.gid)).0 (λ none. has (no-file before file.path none)))
+  one-new : (file : Entry) → (HasNoFileAt before file.path → HasNoLeftNumber renumbering file)
+      → AreFine (left_file renumbering before) file
+  one-new file has =
+      nothing file _
+      (by user_left group_left (file_at before file.path)
+      (says-left (user_at renumbering.before.users file.uid)
+      (user_at renumbering.after.users file.uid)).0
+      (says-left (group_at renumbering.before.groups file.gid)
+      (group_at renumbering.after.groups file.gid)).0
+      (λ none. has (no-file before file.path none)))
     where
       user_left : Bool
-      user_left = is_left (user_at was.users file.uid) (user_at now.users file.uid)
+      user_left =
+          is_left (user_at renumbering.before.users file.uid)
+          (user_at renumbering.after.users file.uid)
 
       group_left : Bool
-      group_left = is_left (group_at was.groups file.gid) (group_at now.groups file.gid)
+      group_left =
+          is_left (group_at renumbering.before.groups file.gid)
+          (group_at renumbering.after.groups file.gid)
 
       OfUser : Type 0
-      OfUser = IsLeft (user_at was.users file.uid) (user_at now.users file.uid)
+      OfUser =
+          IsLeft (user_at renumbering.before.users file.uid)
+          (user_at renumbering.after.users file.uid)
 
       OfGroup : Type 0
-      OfGroup = IsLeft (group_at was.groups file.gid) (group_at now.groups file.gid)
+      OfGroup =
+          IsLeft (group_at renumbering.before.groups file.gid)
+          (group_at renumbering.after.groups file.gid)
 
-      by : (u g : Bool) (p : Option Entry) → (u ≡ true → OfUser) → (g ≡ true → OfGroup) → (p ≡ None → HasNoLeftNumber was now file) → left_by u g p ≡ None
+      by : (u g : Bool) (p : Option Entry) → (u ≡ true → OfUser) → (g ≡ true → OfGroup)
+          → (p ≡ None → HasNoLeftNumber renumbering file) → left_by u g p ≡ None
       by true g None user group none = absurd ((none refl).user (user refl))
       by true g (Some x) user group none = refl
       by false true None user group none = absurd ((none refl).group (group refl))
@@ -162,46 +207,62 @@ module _ (was now : Accounts) (before after : List Entry) where
       by false e = absurd (cc)
 
   abbrev losses : List Found
-  losses = filter_map (loss was now after) before
+  losses = filter_map (loss renumbering after) before
 
   abbrev news : List Found
   news = filter_map (new_file before) after
 
   abbrev bare : List Found
-  bare = filter_map (unnamed now) after
+  bare = filter_map (unnamed renumbering.after) after
 
   abbrev lefts : List Found
-  lefts = filter_map (left_file was now before) after
+  lefts = filter_map (left_file renumbering before) after
 
   abbrev NewHasNoLeft : Entry → Type 0
-  NewHasNoLeft file = HasNoFileAt before file.path → HasNoLeftNumber was now file
+  NewHasNoLeft file = HasNoFileAt before file.path → HasNoLeftNumber renumbering file
 
-  parts : All IsFine (findings was now before after) → All IsFine bare × All IsFine lefts
+  parts : All IsFine (findings renumbering before after) → All IsFine bare × All IsFine lefts
   unfolding findings
   parts h = (back-all IsFine (losses ++ news) bare (front-all IsFine (losses ++ news ++ bare) lefts h), back-all IsFine (losses ++ news ++ bare) lefts h)
 
-  whole : All IsFine losses → All IsFine news → All IsFine bare → All IsFine lefts → All IsFine (findings was now before after)
+  whole : All IsFine losses → All IsFine news → All IsFine bare → All IsFine lefts
+      → All IsFine (findings renumbering before after)
   unfolding findings
   whole a b c d = All-append IsFine (losses ++ news ++ bare) lefts (All-append IsFine (losses ++ news) bare (All-append IsFine losses news a b) c) d
 
   module _ (distinct : HaveDistinctFiles after) where
-    fine-order : All IsFine (findings was now before after) → IsInOrder was now before after
+    fine-order : All IsFine (findings renumbering before after) → IsInOrder renumbering before after
     fine-order all = record {
-      kept = (nothing-lost-is-kept was now before after distinct).0 (each-all IsFine (λ f. is_loss f.what ≡ false) (findings was now before after) fine-no_loss all);
-      named = each-all (AreFine (unnamed now)) (HasNames now) after named-one (all-given (unnamed now) IsFine after (parts all).0);
-      new = each-all (AreFine (left_file was now before)) NewHasNoLeft after new-one (all-given (left_file was now before) IsFine after (parts all).1);
+      kept =
+          (nothing-lost-is-kept renumbering before after distinct).0
+          (each-all IsFine (λ f. is_loss f.what ≡ false) (findings renumbering before after)
+          fine-no_loss all);
+      named =
+          each-all (AreFine (unnamed renumbering.after)) (HasNames renumbering.after) after
+          named-one (all-given (unnamed renumbering.after) IsFine after (parts all).0);
+      new =
+          each-all (AreFine (left_file renumbering before)) NewHasNoLeft after new-one
+          (all-given (left_file renumbering before) IsFine after (parts all).1);
     }
 
-    order-fine : IsInOrder was now before after → All IsFine (findings was now before after)
+    order-fine : IsInOrder renumbering before after → All IsFine (findings renumbering before after)
     order-fine is =
         whole
-        (given-all (loss was now after) IsFine before (each-all (IsKept was now after) (AreFine (loss was now after)) before (λ file kept. nothing file _ (not-lost was now before after distinct file kept)) is.kept))
+        (given-all (loss renumbering after) IsFine before
+        (each-all (IsKept renumbering after) (AreFine (loss renumbering after)) before
+        (λ file kept. nothing file _ (not-lost renumbering before after distinct file kept))
+        is.kept))
         (given-all (new_file before) IsFine after (every-all (AreFine (new_file before)) after new-fine))
-        (given-all (unnamed now) IsFine after (each-all (HasNames now) (AreFine (unnamed now)) after one-named is.named))
-        (given-all (left_file was now before) IsFine after (each-all NewHasNoLeft (AreFine (left_file was now before)) after one-new is.new))
+        (given-all (unnamed renumbering.after) IsFine after
+        (each-all (HasNames renumbering.after) (AreFine (unnamed renumbering.after)) after
+        one-named is.named))
+        (given-all (left_file renumbering before) IsFine after
+        (each-all NewHasNoLeft (AreFine (left_file renumbering before)) after one-new is.new))
 
 pub status-tells : StatusTellsOrder
-status-tells was now before after distinct = (
-  (λ e. fine-order was now before after distinct (status-fine (findings was now before after) e)),
-  (λ is. fine-status (findings was now before after) (order-fine was now before after distinct is)),
+status-tells renumbering before after distinct = (
+  (λ e. fine-order renumbering before after distinct
+      (status-fine (findings renumbering before after) e)),
+  (λ is. fine-status (findings renumbering before after)
+      (order-fine renumbering before after distinct is)),
 )

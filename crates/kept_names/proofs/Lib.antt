@@ -7,6 +7,7 @@ pub mod LineWords
 pub mod LinesBack
 pub mod Lost
 pub mod Noted
+pub mod Once
 pub mod Tallies
 pub mod Tellable
 pub mod Told

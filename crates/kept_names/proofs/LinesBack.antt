@@ -22,6 +22,7 @@ use Rattle.kept_names.specs.Kept.{Found}
 use Rattle.kept_names.specs.LinesBack.{AreTellable, HasIds, IsTellable, IsTellableName, Line, LinesAreReadBack, Owner, line_said, line_told, name_said, number_said, told}
 use Rattle.kept_names.specs.Telling.{details, group_change, kind_word, line_of, numbers_text, owner_text, owners_text, user_change}
 use Rattle.kept_names.specs.declared.names.Accounts.{Accounts}
+use Rattle.kept_names.specs.declared.names.Renumbering.{Renumbering}
 use Rattle.kept_names.specs.declared.finding.What.{What}
 use Rattle.kept_names.specs.declared.finding.What.TheVariants.{Missing, Changed, New, Unnamed, Left}
 use Rattle.kept_names.proofs.LineWords.{IsWord, Lacks, escaped_word, given_word, lacks-append, number_word, spaced, spaced_lacks, words_spaced}
@@ -70,29 +71,43 @@ module _ (head : List ℕ) where
   number-front true number more = append_assoc (32 ∷ head) (32 ∷ decimal number) (spaced more)
   number-front false number more = refl
 
-module _ (was now : Accounts) (file : Entry) where
+module _ (renumbering : Renumbering) (file : Entry) where
   abbrev detail_words : What → List (List ℕ)
   detail_words Missing = []
   detail_words (Changed uid gid) =
-      change_words (codes "user") (user_at was.users file.uid) file.uid (user_at now.users) uid
-      (change_words (codes "group") (group_at was.groups file.gid) file.gid (group_at now.groups) gid [])
+      change_words (codes "user") (user_at renumbering.before.users file.uid) file.uid
+      (user_at renumbering.after.users) uid
+      (change_words (codes "group") (group_at renumbering.before.groups file.gid) file.gid
+      (group_at renumbering.after.groups) gid [])
   detail_words New =
-      one_words (codes "user") true (user_at now.users file.uid) file.uid
-      (one_words (codes "group") true (group_at now.groups file.gid) file.gid [])
-  detail_words (Unnamed uid gid) = number_words (codes "uid") uid file.uid (number_words (codes "gid") gid file.gid [])
-  detail_words (Left uid gid) =
-      one_words (codes "user") uid (user_at was.users file.uid) file.uid
-      (one_words (codes "group") gid (group_at was.groups file.gid) file.gid [])
+      one_words (codes "user") true (user_at renumbering.after.users file.uid) file.uid
+      (one_words (codes "group") true (group_at renumbering.after.groups file.gid) file.gid [])
+  detail_words (Unnamed user group) =
+      number_words (codes "uid") user file.uid (number_words (codes "gid") group file.gid [])
+  detail_words (Left user group) =
+      one_words (codes "user") user (user_at renumbering.before.users file.uid) file.uid
+      (one_words (codes "group") group (group_at renumbering.before.groups file.gid) file.gid [])
 
-  user-changed : (uid : Option ℕ) (more : List (List ℕ)) → user_change was now file uid ++ spaced more ≡ spaced (change_words (codes "user") (user_at was.users file.uid) file.uid (user_at now.users) uid more)
+  user-changed : (uid : Option ℕ) (more : List (List ℕ))
+      → user_change renumbering file uid ++ spaced more
+      ≡ spaced
+      (change_words (codes "user") (user_at renumbering.before.users file.uid) file.uid
+      (user_at renumbering.after.users) uid more)
   user-changed None more = refl
-  user-changed (Some uid) more = change-front (codes "user") (user_at was.users file.uid) file.uid (user_at now.users uid) uid more
+  user-changed (Some uid) more =
+      change-front (codes "user") (user_at renumbering.before.users file.uid) file.uid
+      (user_at renumbering.after.users uid) uid more
 
-  group-changed : (gid : Option ℕ) → group_change was now file gid ≡ spaced (change_words (codes "group") (group_at was.groups file.gid) file.gid (group_at now.groups) gid [])
+  group-changed : (gid : Option ℕ)
+      → group_change renumbering file gid
+      ≡ spaced
+      (change_words (codes "group") (group_at renumbering.before.groups file.gid) file.gid
+      (group_at renumbering.after.groups) gid [])
   group-changed None = refl
   group-changed (Some gid) =
-      sym (append-nil (group_change was now file (Some gid)))
-      ∙ change-front (codes "group") (group_at was.groups file.gid) file.gid (group_at now.groups gid) gid []
+      sym (append-nil (group_change renumbering file (Some gid)))
+      ∙ change-front (codes "group") (group_at renumbering.before.groups file.gid) file.gid
+      (group_at renumbering.after.groups gid) gid []
 
   both-owners : (accounts : Accounts) (user group : Bool) → owners_text accounts file user group
       ≡ spaced (one_words (codes "user") user (user_at accounts.users file.uid) file.uid (one_words (codes "group") group (group_at accounts.groups file.gid) file.gid []))
@@ -102,21 +117,26 @@ module _ (was now : Accounts) (file : Entry) where
       ap (λ t. users ++ t) (sym (append-nil groups) ∙ one-front (codes "group") group (group_at accounts.groups file.gid) file.gid [])
       ∙ one-front (codes "user") user (user_at accounts.users file.uid) file.uid (one_words (codes "group") group (group_at accounts.groups file.gid) file.gid [])
 
-  both-numbers : (uid gid : Bool) → numbers_text file uid gid ≡ spaced (number_words (codes "uid") uid file.uid (number_words (codes "gid") gid file.gid []))
-  both-numbers uid gid =
-      let uids : List ℕ = cond uid (codes " uid " ++ decimal file.uid) [] in
-      let gids : List ℕ = cond gid (codes " gid " ++ decimal file.gid) [] in
-      ap (λ t. uids ++ t) (sym (append-nil gids) ∙ number-front (codes "gid") gid file.gid [])
-      ∙ number-front (codes "uid") uid file.uid (number_words (codes "gid") gid file.gid [])
+  both-numbers : (user group : Bool)
+      → numbers_text file user group
+      ≡ spaced
+      (number_words (codes "uid") user file.uid (number_words (codes "gid") group file.gid []))
+  both-numbers user group =
+      let uids : List ℕ = cond user (codes " uid " ++ decimal file.uid) [] in
+      let gids : List ℕ = cond group (codes " gid " ++ decimal file.gid) [] in
+      ap (λ t. uids ++ t) (sym (append-nil gids) ∙ number-front (codes "gid") group file.gid [])
+      ∙ number-front (codes "uid") user file.uid (number_words (codes "gid") group file.gid [])
 
-  details-are : (what : What) → details was now file what ≡ spaced (detail_words what)
+  details-are : (what : What) → details renumbering file what ≡ spaced (detail_words what)
   details-are Missing = refl
   details-are (Changed uid gid) =
-      ap (λ t. user_change was now file uid ++ t) (group-changed gid)
-      ∙ user-changed uid (change_words (codes "group") (group_at was.groups file.gid) file.gid (group_at now.groups) gid [])
-  details-are New = both-owners now true true
-  details-are (Unnamed uid gid) = both-numbers uid gid
-  details-are (Left uid gid) = both-owners was uid gid
+      ap (λ t. user_change renumbering file uid ++ t) (group-changed gid)
+      ∙ user-changed uid
+      (change_words (codes "group") (group_at renumbering.before.groups file.gid) file.gid
+      (group_at renumbering.after.groups) gid [])
+  details-are New = both-owners renumbering.after true true
+  details-are (Unnamed user group) = both-numbers user group
+  details-are (Left user group) = both-owners renumbering.before user group
 
   -- a line without its newline
   abbrev behind_first : What → List (List ℕ)
@@ -125,7 +145,8 @@ module _ (was now : Accounts) (file : Entry) where
   abbrev bare : What → List ℕ
   bare what = codes "unify:" ++ spaced (behind_first what)
 
-  line-is : (what : What) → line_of was now (record { file = file; what = what }) ≡ bare what ++ 10 ∷ []
+  line-is : (what : What)
+      → line_of renumbering (record { file = file; what = what }) ≡ bare what ++ 10 ∷ []
   line-is what =
       let rest : List ℕ = spaced (detail_words what) in
       ap (λ t. t ++ 10 ∷ []) (
@@ -194,18 +215,31 @@ piece-first line rest none = slice_split_at (λ b. b == 10) line 10 rest (All-fr
 one-line : (line rest : List ℕ) → Lacks 10 line → lines (line ++ 10 ∷ rest) ≡ line ∷ lines rest
 one-line line rest none = lines-cut (line ++ 10 ∷ rest) line rest (piece-first line rest none)
 
-module _ (was now : Accounts) (were : AreTellable was) (are : AreTellable now) where
-  old-user : (uid : ℕ) → IfSome (user_at was.users uid) IsTellableName
-  old-user uid = user-named was.users uid (recursion_from_All (λ (row : Passwd). IsTellableName row.name) was.users were.users)
+module _ (renumbering : Renumbering) (were : AreTellable renumbering.before)
+    (are : AreTellable renumbering.after) where
+  old-user : (uid : ℕ) → IfSome (user_at renumbering.before.users uid) IsTellableName
+  old-user uid =
+      user-named renumbering.before.users uid
+      (recursion_from_All (λ (row : Passwd). IsTellableName row.name) renumbering.before.users
+      were.users)
 
-  new-user : (uid : ℕ) → IfSome (user_at now.users uid) IsTellableName
-  new-user uid = user-named now.users uid (recursion_from_All (λ (row : Passwd). IsTellableName row.name) now.users are.users)
+  new-user : (uid : ℕ) → IfSome (user_at renumbering.after.users uid) IsTellableName
+  new-user uid =
+      user-named renumbering.after.users uid
+      (recursion_from_All (λ (row : Passwd). IsTellableName row.name) renumbering.after.users
+      are.users)
 
-  old-group : (gid : ℕ) → IfSome (group_at was.groups gid) IsTellableName
-  old-group gid = group-named was.groups gid (recursion_from_All (λ (row : Group). IsTellableName row.name) was.groups were.groups)
+  old-group : (gid : ℕ) → IfSome (group_at renumbering.before.groups gid) IsTellableName
+  old-group gid =
+      group-named renumbering.before.groups gid
+      (recursion_from_All (λ (row : Group). IsTellableName row.name) renumbering.before.groups
+      were.groups)
 
-  new-group : (gid : ℕ) → IfSome (group_at now.groups gid) IsTellableName
-  new-group gid = group-named now.groups gid (recursion_from_All (λ (row : Group). IsTellableName row.name) now.groups are.groups)
+  new-group : (gid : ℕ) → IfSome (group_at renumbering.after.groups gid) IsTellableName
+  new-group gid =
+      group-named renumbering.after.groups gid
+      (recursion_from_All (λ (row : Group). IsTellableName row.name) renumbering.after.groups
+      are.groups)
 
   module _ (file : Entry) (filled : 0 < length file.path) (bytes : All (λ b. b < 256) file.path) (uid_small : file.uid ≤ greatest_id) (gid_small : file.gid ≤ greatest_id) where
     -- ---- words
@@ -226,8 +260,8 @@ module _ (was now : Accounts) (were : AreTellable was) (are : AreTellable now) w
     kinds Missing = given_word _ _ refl refl refl
     kinds (Changed uid gid) = given_word _ _ refl refl refl
     kinds New = given_word _ _ refl refl refl
-    kinds (Unnamed uid gid) = given_word _ _ refl refl refl
-    kinds (Left uid gid) = given_word _ _ refl refl refl
+    kinds (Unnamed user group) = given_word _ _ refl refl refl
+    kinds (Left user group) = given_word _ _ refl refl refl
 
     one-words : (head : List ℕ) → IsWord head → (asked : Bool) (name : Option (List ℕ)) (number : ℕ) (more : List (List ℕ)) → IfSome name IsTellableName → number ≤ greatest_id → AllByRecursion IsWord more → AllByRecursion IsWord (one_words head asked name number more)
     one-words head word true name number more is small all = (word, (shown_word name is, (number_word number small, all)))
@@ -241,20 +275,35 @@ module _ (was now : Accounts) (were : AreTellable was) (are : AreTellable now) w
     change-words head word old number new None more is small then low all = all
     change-words head word old number new (Some other) more is small then low all = (word, (shown_word old is, (number_word number small, (shown_word (new other) (then other), (number_word other low, all)))))
 
-    detail-words : (what : What) → HasIds what → AllByRecursion IsWord (detail_words was now file what)
+    detail-words : (what : What) → HasIds what
+        → AllByRecursion IsWord (detail_words renumbering file what)
     detail-words Missing ids = tt
     detail-words (Changed uid gid) ids =
-        change-words (codes "user") users (user_at was.users file.uid) file.uid (user_at now.users) uid (change_words (codes "group") (group_at was.groups file.gid) file.gid (group_at now.groups) gid []) (old-user file.uid) uid_small new-user ids.0
-        (change-words (codes "group") groups (group_at was.groups file.gid) file.gid (group_at now.groups) gid [] (old-group file.gid) gid_small new-group ids.1 tt)
+        change-words (codes "user") users (user_at renumbering.before.users file.uid) file.uid
+        (user_at renumbering.after.users) uid
+        (change_words (codes "group") (group_at renumbering.before.groups file.gid) file.gid
+        (group_at renumbering.after.groups) gid []) (old-user file.uid) uid_small new-user ids.0
+        (change-words (codes "group") groups (group_at renumbering.before.groups file.gid) file.gid
+        (group_at renumbering.after.groups) gid [] (old-group file.gid) gid_small new-group ids.1
+        tt)
     detail-words New ids =
-        one-words (codes "user") users true (user_at now.users file.uid) file.uid (one_words (codes "group") true (group_at now.groups file.gid) file.gid []) (new-user file.uid) uid_small
-        (one-words (codes "group") groups true (group_at now.groups file.gid) file.gid [] (new-group file.gid) gid_small tt)
-    detail-words (Unnamed uid gid) ids = number-words (codes "uid") uids uid file.uid (number_words (codes "gid") gid file.gid []) uid_small (number-words (codes "gid") gids gid file.gid [] gid_small tt)
-    detail-words (Left uid gid) ids =
-        one-words (codes "user") users uid (user_at was.users file.uid) file.uid (one_words (codes "group") gid (group_at was.groups file.gid) file.gid []) (old-user file.uid) uid_small
-        (one-words (codes "group") groups gid (group_at was.groups file.gid) file.gid [] (old-group file.gid) gid_small tt)
+        one-words (codes "user") users true (user_at renumbering.after.users file.uid) file.uid
+        (one_words (codes "group") true (group_at renumbering.after.groups file.gid) file.gid [])
+        (new-user file.uid) uid_small
+        (one-words (codes "group") groups true (group_at renumbering.after.groups file.gid) file.gid
+        [] (new-group file.gid) gid_small tt)
+    detail-words (Unnamed user group) ids =
+        number-words (codes "uid") uids user file.uid (number_words (codes "gid") group file.gid [])
+        uid_small (number-words (codes "gid") gids group file.gid [] gid_small tt)
+    detail-words (Left user group) ids =
+        one-words (codes "user") users user (user_at renumbering.before.users file.uid) file.uid
+        (one_words (codes "group") group (group_at renumbering.before.groups file.gid) file.gid [])
+        (old-user file.uid) uid_small
+        (one-words (codes "group") groups group (group_at renumbering.before.groups file.gid)
+        file.gid [] (old-group file.gid) gid_small tt)
 
-    are-words : (what : What) → HasIds what → AllByRecursion IsWord (behind_first was now file what)
+    are-words : (what : What) → HasIds what
+        → AllByRecursion IsWord (behind_first renumbering file what)
     are-words what ids = (kinds what, (escaped_word file.path filled, detail-words what ids))
 
     -- ---- what they say
@@ -292,52 +341,98 @@ module _ (was now : Accounts) (were : AreTellable was) (are : AreTellable now) w
         ∙ ap (λ x. line kind file.path vs hs x js) i
         ∙ ap (λ x. line kind file.path vs hs ks x) j
 
-    users-back : (uid : ℕ) → uid ≤ greatest_id → ◌≡◌ {A = List Owner} (read (user_at was.users file.uid) file.uid ∷ read (user_at now.users uid) uid ∷ []) (owner (user_at was.users file.uid) file.uid ∷ owner (user_at now.users uid) uid ∷ [])
-    users-back uid low = two-back (user_at was.users file.uid) (user_at now.users uid) file.uid uid (old-user file.uid) (new-user uid) uid_small low
+    users-back : (uid : ℕ) → uid ≤ greatest_id
+        → ◌≡◌ {A = List Owner}
+        (read (user_at renumbering.before.users file.uid) file.uid
+        ∷ read (user_at renumbering.after.users uid) uid ∷ [])
+        (owner (user_at renumbering.before.users file.uid) file.uid
+        ∷ owner (user_at renumbering.after.users uid) uid ∷ [])
+    users-back uid low =
+        two-back (user_at renumbering.before.users file.uid) (user_at renumbering.after.users uid)
+        file.uid uid (old-user file.uid) (new-user uid) uid_small low
 
-    groups-back : (gid : ℕ) → gid ≤ greatest_id → ◌≡◌ {A = List Owner} (read (group_at was.groups file.gid) file.gid ∷ read (group_at now.groups gid) gid ∷ []) (owner (group_at was.groups file.gid) file.gid ∷ owner (group_at now.groups gid) gid ∷ [])
-    groups-back gid low = two-back (group_at was.groups file.gid) (group_at now.groups gid) file.gid gid (old-group file.gid) (new-group gid) gid_small low
+    groups-back : (gid : ℕ) → gid ≤ greatest_id
+        → ◌≡◌ {A = List Owner}
+        (read (group_at renumbering.before.groups file.gid) file.gid
+        ∷ read (group_at renumbering.after.groups gid) gid ∷ [])
+        (owner (group_at renumbering.before.groups file.gid) file.gid
+        ∷ owner (group_at renumbering.after.groups gid) gid ∷ [])
+    groups-back gid low =
+        two-back (group_at renumbering.before.groups file.gid)
+        (group_at renumbering.after.groups gid) file.gid gid (old-group file.gid) (new-group gid)
+        gid_small low
 
     number-list : (n : ℕ) → n ≤ greatest_id → (number_said (decimal n) ∷ []) ≡ n ∷ []
     number-list n small = ap (λ m. m ∷ []) (number-back n small)
 
-    said-back : (what : What) → HasIds what → line_said (codes "unify:" ∷ behind_first was now file what) ≡ Some (line_told was now file what)
+    said-back : (what : What) → HasIds what
+        → line_said (codes "unify:" ∷ behind_first renumbering file what)
+        ≡ Some (line_told renumbering file what)
     said-back Missing ids = same (codes "missing") _ _ _ _ _ _ _ _ refl refl refl refl
     said-back (Changed None None) ids = same (codes "changed") [] [] [] [] [] [] [] [] refl refl refl refl
     said-back (Changed (Some uid) None) ids = same (codes "changed") _ _ [] [] [] [] [] [] (users-back uid ids.0) refl refl refl
     said-back (Changed None (Some gid)) ids = same (codes "changed") [] [] _ _ [] [] [] [] refl (groups-back gid ids.1) refl refl
     said-back (Changed (Some uid) (Some gid)) ids = same (codes "changed") _ _ _ _ [] [] [] [] (users-back uid ids.0) (groups-back gid ids.1) refl refl
-    said-back New ids = same (codes "new") _ _ _ _ [] [] [] [] (one-back (user_at now.users file.uid) file.uid (new-user file.uid) uid_small) (one-back (group_at now.groups file.gid) file.gid (new-group file.gid) gid_small) refl refl
+    said-back New ids =
+        same (codes "new") _ _ _ _ [] [] [] []
+        (one-back (user_at renumbering.after.users file.uid) file.uid (new-user file.uid)
+        uid_small)
+        (one-back (group_at renumbering.after.groups file.gid) file.gid (new-group file.gid)
+        gid_small) refl refl
     said-back (Unnamed false false) ids = same (codes "unnamed") [] [] [] [] [] [] [] [] refl refl refl refl
     said-back (Unnamed true false) ids = same (codes "unnamed") [] [] [] [] _ _ [] [] refl refl (number-list file.uid uid_small) refl
     said-back (Unnamed false true) ids = same (codes "unnamed") [] [] [] [] [] [] _ _ refl refl refl (number-list file.gid gid_small)
     said-back (Unnamed true true) ids = same (codes "unnamed") [] [] [] [] _ _ _ _ refl refl (number-list file.uid uid_small) (number-list file.gid gid_small)
     said-back (Left false false) ids = same (codes "left") [] [] [] [] [] [] [] [] refl refl refl refl
-    said-back (Left true false) ids = same (codes "left") _ _ [] [] [] [] [] [] (one-back (user_at was.users file.uid) file.uid (old-user file.uid) uid_small) refl refl refl
-    said-back (Left false true) ids = same (codes "left") [] [] _ _ [] [] [] [] refl (one-back (group_at was.groups file.gid) file.gid (old-group file.gid) gid_small) refl refl
-    said-back (Left true true) ids = same (codes "left") _ _ _ _ [] [] [] [] (one-back (user_at was.users file.uid) file.uid (old-user file.uid) uid_small) (one-back (group_at was.groups file.gid) file.gid (old-group file.gid) gid_small) refl refl
+    said-back (Left true false) ids =
+        same (codes "left") _ _ [] [] [] [] [] []
+        (one-back (user_at renumbering.before.users file.uid) file.uid (old-user file.uid)
+        uid_small) refl refl refl
+    said-back (Left false true) ids =
+        same (codes "left") [] [] _ _ [] [] [] [] refl
+        (one-back (group_at renumbering.before.groups file.gid) file.gid (old-group file.gid)
+        gid_small) refl refl
+    said-back (Left true true) ids =
+        same (codes "left") _ _ _ _ [] [] [] []
+        (one-back (user_at renumbering.before.users file.uid) file.uid (old-user file.uid)
+        uid_small)
+        (one-back (group_at renumbering.before.groups file.gid) file.gid (old-group file.gid)
+        gid_small) refl refl
 
-    line-back : (what : What) → HasIds what → line_said (words (bare was now file what)) ≡ Some (line_told was now file what)
+    line-back : (what : What) → HasIds what
+        → line_said (words (bare renumbering file what)) ≡ Some (line_told renumbering file what)
     line-back what ids =
-        ap line_said (words_spaced (codes "unify:") (behind_first was now file what) (given_word _ _ refl refl refl) (are-words what ids))
+        ap line_said
+        (words_spaced (codes "unify:") (behind_first renumbering file what)
+        (given_word _ _ refl refl refl) (are-words what ids))
         ∙ said-back what ids
 
-    bare-lacks : (what : What) → HasIds what → Lacks 10 (bare was now file what)
-    bare-lacks what ids = lacks-append 10 (codes "unify:") (spaced (behind_first was now file what)) (refl, (refl, (refl, (refl, (refl, (refl, tt)))))) (spaced_lacks (behind_first was now file what) (are-words what ids))
+    bare-lacks : (what : What) → HasIds what → Lacks 10 (bare renumbering file what)
+    bare-lacks what ids =
+        lacks-append 10 (codes "unify:") (spaced (behind_first renumbering file what))
+        (refl, (refl, (refl, (refl, (refl, (refl, tt))))))
+        (spaced_lacks (behind_first renumbering file what) (are-words what ids))
 
   abbrev reads : List ℕ → Option Line
   reads text = line_said (words text)
 
-  all-back : (found : List Found) → AllByRecursion IsTellable found → map reads (lines (flat_map (line_of was now) found)) ≡ map (λ f. Some (told was now f)) found
+  all-back : (found : List Found) → AllByRecursion IsTellable found
+      → map reads (lines (flat_map (line_of renumbering) found))
+      ≡ map (λ f. Some (told renumbering f)) found
   all-back [] all = ap (map reads) lines-empty
   all-back (f ∷ fs) all =
       let is = all.0 in
-      let more : List ℕ = flat_map (line_of was now) fs in
-      ap (λ l. map reads (lines (l ++ more))) (line-is was now f.file f.what)
-      ∙ ap (λ text. map reads (lines text)) (append_assoc (bare was now f.file f.what) (10 ∷ []) more)
-      ∙ ap (map reads) (one-line (bare was now f.file f.what) more (bare-lacks f.file is.file.lawful.path.filled is.file.bytes is.file.lawful.uid is.file.lawful.gid f.what is.what))
+      let more : List ℕ = flat_map (line_of renumbering) fs in
+      ap (λ l. map reads (lines (l ++ more))) (line-is renumbering f.file f.what)
+      ∙ ap (λ text. map reads (lines text))
+      (append_assoc (bare renumbering f.file f.what) (10 ∷ []) more)
+      ∙ ap (map reads)
+      (one-line (bare renumbering f.file f.what) more
+      (bare-lacks f.file is.file.lawful.path.filled is.file.bytes is.file.lawful.uid
+      is.file.lawful.gid f.what is.what))
       ∙ ap (λ first. first ∷ map reads (lines more)) (line-back f.file is.file.lawful.path.filled is.file.bytes is.file.lawful.uid is.file.lawful.gid f.what is.what)
-      ∙ ap (λ others. Some (told was now f) ∷ others) (all-back fs all.1)
+      ∙ ap (λ others. Some (told renumbering f) ∷ others) (all-back fs all.1)
 
 pub lines-back : LinesAreReadBack
-lines-back was now found were are all = all-back was now were are found (recursion_from_All IsTellable found all)
+lines-back renumbering found were are all =
+    all-back renumbering were are found (recursion_from_All IsTellable found all)

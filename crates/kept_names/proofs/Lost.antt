@@ -13,7 +13,7 @@ use Rattle.mtree_inv.specs.Inventory.{file_at}
 use Rattle.hosts_join.specs.Kinds.{user_at, group_at}
 use Rattle.kept_names.specs.Kept.{Found, told_of, agree, users_agree, groups_agree, change_by, change_at, loss_of, loss, new_file, unnamed_by, unnamed, is_left, left_by, left_file, findings}
 use Rattle.kept_names.specs.Laws.{KeepsName, IsKept, is_loss, NothingLostIsKept}
-use Rattle.kept_names.specs.declared.names.Accounts.{Accounts}
+use Rattle.kept_names.specs.declared.names.Renumbering.{Renumbering}
 use Rattle.kept_names.specs.declared.finding.What.{What}
 use Rattle.kept_names.specs.declared.finding.What.TheVariants.{New, Unnamed, Left}
 
@@ -127,32 +127,50 @@ told-no-loss file what y e harmless =
     let same : record { file = file; what = what } ≡ y = cc in
     subst NoLoss same harmless
 
-module _ (was now : Accounts) (before after : List Entry) (distinct : HaveDistinctFiles after) where
-  kept-one : (file : Entry) → Given (loss was now after) NoLoss file → IsKept was now after file
+module _ (renumbering : Renumbering) (before after : List Entry)
+    (distinct : HaveDistinctFiles after) where
+  kept-one : (file : Entry) → Given (loss renumbering after) NoLoss file
+      → IsKept renumbering after file
   kept-one file h = by (file_at after file.path) refl h
     where
-      by : (o : Option Entry) → file_at after file.path ≡ o → ((y : Found) → told_of file (change_at was now file o) ≡ Some y → NoLoss y) → IsKept was now after file
+      by : (o : Option Entry) → file_at after file.path ≡ o
+          → ((y : Found) → told_of file (change_at renumbering file o) ≡ Some y → NoLoss y)
+          → IsKept renumbering after file
       by None e h = let no = h _ refl in absurd (cc)
       by (Some there) e h =
           let at = file-there after file.path there e in
-          let same = no-change (users_agree was now file there) (groups_agree was now file there) file there h in (
+          let same =
+          no-change (users_agree renumbering file there) (groups_agree renumbering file there)
+          file there h in (
             there,
             at.0,
             at.1,
             record {
-              user = agree-keeps (user_at was.users file.uid) (user_at now.users there.uid) file.uid there.uid same.0;
-              group = agree-keeps (group_at was.groups file.gid) (group_at now.groups there.gid) file.gid there.gid same.1;
+              user =
+                  agree-keeps (user_at renumbering.before.users file.uid)
+                  (user_at renumbering.after.users there.uid) file.uid there.uid same.0;
+              group =
+                  agree-keeps (group_at renumbering.before.groups file.gid)
+                  (group_at renumbering.after.groups there.gid) file.gid there.gid same.1;
             },
           )
 
-  pub not-lost : (file : Entry) → IsKept was now after file → loss_of was now after file ≡ None
+  pub not-lost : (file : Entry) → IsKept renumbering after file
+      → loss_of renumbering after file ≡ None
   not-lost file (there, within, at, keeps) =
-      ap (change_at was now file) (there-file after file.path there distinct within at)
-      ∙ ap (λ b. change_by b (groups_agree was now file there) there) (keeps-agree (user_at was.users file.uid) (user_at now.users there.uid) file.uid there.uid keeps.user)
-      ∙ ap (λ b. change_by true b there) (keeps-agree (group_at was.groups file.gid) (group_at now.groups there.gid) file.gid there.gid keeps.group)
+      ap (change_at renumbering file) (there-file after file.path there distinct within at)
+      ∙ ap (λ b. change_by b (groups_agree renumbering file there) there)
+      (keeps-agree (user_at renumbering.before.users file.uid)
+      (user_at renumbering.after.users there.uid) file.uid there.uid keeps.user)
+      ∙ ap (λ b. change_by true b there)
+      (keeps-agree (group_at renumbering.before.groups file.gid)
+      (group_at renumbering.after.groups there.gid) file.gid there.gid keeps.group)
 
-  lost-one : (file : Entry) → IsKept was now after file → Given (loss was now after) NoLoss file
-  lost-one file kept y e = let none : loss was now after file ≡ None = ap (told_of file) (not-lost file kept) in absurd (cc)
+  lost-one : (file : Entry) → IsKept renumbering after file
+      → Given (loss renumbering after) NoLoss file
+  lost-one file kept y e =
+      let none : loss renumbering after file ≡ None = ap (told_of file) (not-lost file kept) in
+      absurd (cc)
 
   new-one : (file : Entry) → Given (new_file before) NoLoss file
   new-one file y e = by (is_none (file_at before file.path)) e
@@ -161,17 +179,23 @@ module _ (was now : Accounts) (before after : List Entry) (distinct : HaveDistin
       by true e = told-no-loss file New y e refl
       by false e = absurd (cc)
 
-  unnamed-one : (file : Entry) → Given (unnamed now) NoLoss file
-  unnamed-one file y e = by (is_none (user_at now.users file.uid)) (is_none (group_at now.groups file.gid)) e
+  unnamed-one : (file : Entry) → Given (unnamed renumbering.after) NoLoss file
+  unnamed-one file y e =
+      by (is_none (user_at renumbering.after.users file.uid))
+      (is_none (group_at renumbering.after.groups file.gid)) e
     where
       by : (u g : Bool) → told_of file (unnamed_by u g) ≡ Some y → NoLoss y
       by true g e = told-no-loss file (Unnamed true g) y e refl
       by false true e = told-no-loss file (Unnamed false true) y e refl
       by false false e = absurd (cc)
 
-  left-one : (file : Entry) → Given (left_file was now before) NoLoss file
+  left-one : (file : Entry) → Given (left_file renumbering before) NoLoss file
   left-one file y e =
-      by (is_left (user_at was.users file.uid) (user_at now.users file.uid)) (is_left (group_at was.groups file.gid) (group_at now.groups file.gid)) (file_at before file.path) e
+      by
+      (is_left (user_at renumbering.before.users file.uid)
+      (user_at renumbering.after.users file.uid))
+      (is_left (group_at renumbering.before.groups file.gid)
+      (group_at renumbering.after.groups file.gid)) (file_at before file.path) e
     where
       by : (u g : Bool) (earlier : Option Entry) → told_of file (left_by u g earlier) ≡ Some y → NoLoss y
       by true g None e = told-no-loss file (Left true g) y e refl
@@ -181,33 +205,45 @@ module _ (was now : Accounts) (before after : List Entry) (distinct : HaveDistin
       by false false earlier e = absurd (cc)
 
   abbrev losses : List Found
-  losses = filter_map (loss was now after) before
+  losses = filter_map (loss renumbering after) before
 
   abbrev news : List Found
   news = filter_map (new_file before) after
 
   abbrev bare : List Found
-  bare = filter_map (unnamed now) after
+  bare = filter_map (unnamed renumbering.after) after
 
   abbrev lefts : List Found
-  lefts = filter_map (left_file was now before) after
+  lefts = filter_map (left_file renumbering before) after
 
-  pub lost-is-not-kept : All NoLoss (findings was now before after) → All (IsKept was now after) before
+  pub lost-is-not-kept : All NoLoss (findings renumbering before after)
+      → All (IsKept renumbering after) before
   unfolding findings
   lost-is-not-kept h =
-      each-all (Given (loss was now after) NoLoss) (IsKept was now after) before kept-one
-      (all-given (loss was now after) NoLoss before (front-all NoLoss losses news (front-all NoLoss (losses ++ news) bare (front-all NoLoss (losses ++ news ++ bare) lefts h))))
+      each-all (Given (loss renumbering after) NoLoss) (IsKept renumbering after) before kept-one
+      (all-given (loss renumbering after) NoLoss before
+      (front-all NoLoss losses news
+      (front-all NoLoss (losses ++ news) bare
+      (front-all NoLoss (losses ++ news ++ bare) lefts h))))
 
-  pub kept-is-not-lost : All (IsKept was now after) before → All NoLoss (findings was now before after)
+  pub kept-is-not-lost : All (IsKept renumbering after) before
+      → All NoLoss (findings renumbering before after)
   unfolding findings
   kept-is-not-lost h =
       All-append NoLoss (losses ++ news ++ bare) lefts
       (All-append NoLoss (losses ++ news) bare
       (All-append NoLoss losses news
-      (given-all (loss was now after) NoLoss before (each-all (IsKept was now after) (Given (loss was now after) NoLoss) before lost-one h))
+      (given-all (loss renumbering after) NoLoss before
+      (each-all (IsKept renumbering after) (Given (loss renumbering after) NoLoss) before lost-one
+      h))
       (given-all (new_file before) NoLoss after (every-all (Given (new_file before) NoLoss) after new-one)))
-      (given-all (unnamed now) NoLoss after (every-all (Given (unnamed now) NoLoss) after unnamed-one)))
-      (given-all (left_file was now before) NoLoss after (every-all (Given (left_file was now before) NoLoss) after left-one))
+      (given-all (unnamed renumbering.after) NoLoss after
+      (every-all (Given (unnamed renumbering.after) NoLoss) after unnamed-one)))
+      (given-all (left_file renumbering before) NoLoss after
+      (every-all (Given (left_file renumbering before) NoLoss) after left-one))
 
 pub nothing-lost-is-kept : NothingLostIsKept
-nothing-lost-is-kept was now before after distinct = (lost-is-not-kept was now before after distinct, kept-is-not-lost was now before after distinct)
+nothing-lost-is-kept renumbering before after distinct = (
+  lost-is-not-kept renumbering before after distinct,
+  kept-is-not-lost renumbering before after distinct,
+)

@@ -13,7 +13,7 @@ use Rattle.kept_names.specs.Tally.{one_more, tallied, tally_of}
 use Rattle.kept_names.specs.Telling.{first_line, first_lines, kind_word, line_of, number_of}
 use Rattle.kept_names.specs.declared.finding.What.{What}
 use Rattle.kept_names.specs.declared.finding.What.TheVariants.{Missing, Changed, New, Unnamed, Left}
-use Rattle.kept_names.specs.declared.names.Accounts.{Accounts}
+use Rattle.kept_names.specs.declared.names.Renumbering.{Renumbering}
 use Rattle.kept_names.specs.declared.tally.Tally.{Tally}
 
 pub tallied-is : (found : List Found) (what : What) → tallied (tally_of found) what ≡ number_of (kind_word what) found
@@ -58,36 +58,43 @@ module _ (found : List Found) (i : ℕ) (f : Found) (below : i < length found) (
   pub tally-more : tally_of (take (i + 1) found) ≡ one_more (tally_of seen) f.what
   tally-more = by_kind f.what refl
 
-  module _ (was now : Accounts) (most : ℕ) where
+  module _ (renumbering : Renumbering) (most : ℕ) where
     abbrev told : List Found → List ℕ
-    told xs = first_lines was now most xs
+    told xs = first_lines renumbering most xs
 
-    lines-snoc : (xs : List Found) (y : Found) → told (xs ++ y ∷ []) ≡ told xs ++ first_line was now most xs y
+    lines-snoc : (xs : List Found) (y : Found)
+        → told (xs ++ y ∷ []) ≡ told xs ++ first_line renumbering most xs y
     unfolding first_lines
     lines-snoc xs y =
-        ap (flat_map (λ line. line)) (looking_back-snoc (first_line was now most) xs y)
-        ∙ flat_map-append (λ line. line) (looking_back (first_line was now most) xs) (first_line was now most xs y ∷ [])
-        ∙ ap (λ t. told xs ++ t) (append-nil (first_line was now most xs y))
+        ap (flat_map (λ line. line)) (looking_back-snoc (first_line renumbering most) xs y)
+        ∙ flat_map-append (λ line. line) (looking_back (first_line renumbering most) xs)
+        (first_line renumbering most xs y ∷ [])
+        ∙ ap (λ t. told xs ++ t) (append-nil (first_line renumbering most xs y))
 
-    lines-more : told (take (i + 1) found) ≡ told seen ++ first_line was now most seen f
+    lines-more : told (take (i + 1) found) ≡ told seen ++ first_line renumbering most seen f
     lines-more = ap told (take_more found i f below ∙ ap (λ (g : Found). seen ++ g ∷ []) (sym at)) ∙ lines-snoc seen f
 
     module _ (front lines : List ℕ) (so_far : lines ≡ front ++ told seen) where
-      grown : lines ++ first_line was now most seen f ≡ front ++ told (take (i + 1) found)
+      grown : lines ++ first_line renumbering most seen f ≡ front ++ told (take (i + 1) found)
       grown =
-          ap (λ t. t ++ first_line was now most seen f) so_far
-          ∙ append_assoc front (told seen) (first_line was now most seen f)
+          ap (λ t. t ++ first_line renumbering most seen f) so_far
+          ∙ append_assoc front (told seen) (first_line renumbering most seen f)
           ∙ ap (λ t. front ++ t) (sym lines-more)
 
-      pub told-more : (next : List ℕ) → number_of (kind_word f.what) seen < most → next ≡ lines ++ line_of was now f → next ≡ front ++ told (take (i + 1) found)
+      pub told-more : (next : List ℕ) → number_of (kind_word f.what) seen < most
+          → next ≡ lines ++ line_of renumbering f → next ≡ front ++ told (take (i + 1) found)
       told-more next few is =
-          is ∙ ap (λ b. lines ++ cond b (line_of was now f) []) (sym (lt-ltb (number_of (kind_word f.what) seen) most few)) ∙ grown
+          is
+          ∙ ap (λ b. lines ++ cond b (line_of renumbering f) [])
+          (sym (lt-ltb (number_of (kind_word f.what) seen) most few)) ∙ grown
 
       pub not-told : most ≤ number_of (kind_word f.what) seen → lines ≡ front ++ told (take (i + 1) found)
       not-told many =
           sym (append-nil lines)
-          ∙ ap (λ b. lines ++ cond b (line_of was now f) []) (sym (le-ltb (number_of (kind_word f.what) seen) most many)) ∙ grown
+          ∙ ap (λ b. lines ++ cond b (line_of renumbering f) [])
+          (sym (le-ltb (number_of (kind_word f.what) seen) most many)) ∙ grown
 
-pub lines-none : (was now : Accounts) (most : ℕ) (front : List ℕ) → front ≡ front ++ first_lines was now most []
+pub lines-none : (renumbering : Renumbering) (most : ℕ) (front : List ℕ)
+    → front ≡ front ++ first_lines renumbering most []
 unfolding first_lines
-lines-none was now most front = sym (append-nil front)
+lines-none renumbering most front = sym (append-nil front)

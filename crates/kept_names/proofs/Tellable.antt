@@ -14,7 +14,7 @@ use Rattle.mtree_inv.specs.declared.entry.Entry.{Entry}
 use Rattle.mtree_inv.specs.Inventory.{file_at}
 use Rattle.kept_names.specs.Kept.{Found, change_at, change_by, findings, groups_agree, is_left, left_by, left_file, loss, loss_of, new_file, new_of, told_of, unnamed, unnamed_of, users_agree}
 use Rattle.kept_names.specs.LinesBack.{FindingsAreTellable, HasIds, IsTellable, IsTellableFile, IsTellableName, TablesAreTellable}
-use Rattle.kept_names.specs.declared.names.Accounts.{Accounts}
+use Rattle.kept_names.specs.declared.names.Renumbering.{Renumbering}
 use Rattle.kept_names.specs.declared.finding.What.{What}
 use Rattle.kept_names.specs.declared.finding.What.TheVariants.{Missing, Changed, New, Unnamed, Left}
 use Rattle.kept_names.proofs.Lost.{each-all, file-there, given-all}
@@ -73,45 +73,66 @@ changed false false there uid gid w e = let same : Changed (Some there.uid) (Som
 abbrev Gives : (Entry → Option Found) → Entry → Type 0
 Gives of file = (f : Found) → of file ≡ Some f → IsTellable f
 
-module _ (was now : Accounts) (before after : List Entry) (there : All IsTellableFile after) where
-  lost-ids : (file : Entry) (found : Option Entry) → file_at after file.path ≡ found → (w : What) → change_at was now file found ≡ Some w → HasIds w
+module _ (renumbering : Renumbering) (before after : List Entry)
+    (there : All IsTellableFile after) where
+  lost-ids : (file : Entry) (found : Option Entry) → file_at after file.path ≡ found → (w : What)
+      → change_at renumbering file found ≡ Some w → HasIds w
   lost-ids file None at w e = let same : Missing ≡ w = cc in subst HasIds same tt
   lost-ids file (Some other) at w e =
-      let is = All-contains IsTellableFile after other there (file-there after file.path other at).0 in
-      changed (users_agree was now file other) (groups_agree was now file other) other is.lawful.uid is.lawful.gid w e
+      let is =
+      All-contains IsTellableFile after other there (file-there after file.path other at).0 in
+      changed (users_agree renumbering file other) (groups_agree renumbering file other) other
+      is.lawful.uid is.lawful.gid w e
 
-  lost : All IsTellableFile before → All IsTellable (filter_map (loss was now after) before)
-  lost all = given-all (loss was now after) IsTellable before (each-all IsTellableFile (Gives (loss was now after)) before
-      (λ file is f e. tellable file (loss_of was now after file) is (lost-ids file (file_at after file.path) refl) f e) all)
+  lost : All IsTellableFile before → All IsTellable (filter_map (loss renumbering after) before)
+  lost all =
+      given-all (loss renumbering after) IsTellable before
+      (each-all IsTellableFile (Gives (loss renumbering after)) before
+      (λ file is f e. tellable file (loss_of renumbering after file) is
+      (lost-ids file (file_at after file.path) refl) f e) all)
 
   news : All IsTellable (filter_map (new_file before) after)
-  news = given-all (new_file before) IsTellable after (each-all IsTellableFile (Gives (new_file before)) after
-      (λ file is f e. tellable file (new_of before file) is (λ w. only (is_none (file_at before file.path)) New w tt) f e) there)
+  news =
+      given-all (new_file before) IsTellable after
+      (each-all IsTellableFile (Gives (new_file before)) after
+      (λ file is f e. tellable file (new_of before file) is
+      (λ w. only (is_none (file_at before file.path)) New w tt) f e) there)
 
-  bare : All IsTellable (filter_map (unnamed now) after)
-  bare = given-all (unnamed now) IsTellable after (each-all IsTellableFile (Gives (unnamed now)) after
+  bare : All IsTellable (filter_map (unnamed renumbering.after) after)
+  bare =
+      given-all (unnamed renumbering.after) IsTellable after
+      (each-all IsTellableFile (Gives (unnamed renumbering.after)) after
       (λ file is f e.
-      let user = is_none (user_at now.users file.uid) in
-      let group = is_none (group_at now.groups file.gid) in
-      tellable file (unnamed_of now file) is (λ w. only (user || group) (Unnamed user group) w tt) f e) there)
+      let user = is_none (user_at renumbering.after.users file.uid) in
+      let group = is_none (group_at renumbering.after.groups file.gid) in
+      tellable file (unnamed_of renumbering.after file) is
+      (λ w. only (user || group) (Unnamed user group) w tt) f e) there)
 
-  lefts : All IsTellable (filter_map (left_file was now before) after)
-  lefts = given-all (left_file was now before) IsTellable after (each-all IsTellableFile (Gives (left_file was now before)) after
+  lefts : All IsTellable (filter_map (left_file renumbering before) after)
+  lefts =
+      given-all (left_file renumbering before) IsTellable after
+      (each-all IsTellableFile (Gives (left_file renumbering before)) after
       (λ file is f e.
-      let user = is_left (user_at was.users file.uid) (user_at now.users file.uid) in
-      let group = is_left (group_at was.groups file.gid) (group_at now.groups file.gid) in
+      let user =
+      is_left (user_at renumbering.before.users file.uid)
+      (user_at renumbering.after.users file.uid) in
+      let group =
+      is_left (group_at renumbering.before.groups file.gid)
+      (group_at renumbering.after.groups file.gid) in
       let earlier = file_at before file.path in
-      tellable file (left_by user group earlier) is (λ w. only-left (user || group) (is_none earlier) (Left user group) w tt) f e) there)
+      tellable file (left_by user group earlier) is
+      (λ w. only-left (user || group) (is_none earlier) (Left user group) w tt) f e) there)
 
 pub findings-tellable : FindingsAreTellable
 unfolding findings
-findings-tellable was now before after here there =
-    let losses = filter_map (loss was now after) before in
+findings-tellable renumbering before after here there =
+    let losses = filter_map (loss renumbering after) before in
     let newer = filter_map (new_file before) after in
-    let nameless = filter_map (unnamed now) after in
-    let olds = filter_map (left_file was now before) after in
+    let nameless = filter_map (unnamed renumbering.after) after in
+    let olds = filter_map (left_file renumbering before) after in
     All-append IsTellable ((losses ++ newer) ++ nameless) olds
     (All-append IsTellable (losses ++ newer) nameless
-    (All-append IsTellable losses newer (lost was now before after there here) (news was now before after there))
-    (bare was now before after there))
-    (lefts was now before after there)
+    (All-append IsTellable losses newer (lost renumbering before after there here)
+    (news renumbering before after there))
+    (bare renumbering before after there))
+    (lefts renumbering before after there)

@@ -14,7 +14,7 @@ use Rattle.mtree_inv.specs.Files.{HaveDistinctFiles}
 use Rattle.mtree_inv.specs.Inventory.{file_at}
 use Rattle.kept_names.specs.Kept.{Found, agree, change_at, change_by, changed_to, findings, groups_agree, is_left, new_of, left_by, left_file, left_of, loss, loss_of, new_file, told_of, unnamed, unnamed_by, unnamed_of, users_agree}
 use Rattle.kept_names.specs.Laws.{ChangedAreTold, HasNoFileAt, IsChanged, IsFound, IsLeft, LeftAreTold, MissingAreTold, NewAreTold, Says, SomeIsSet, TellsNumber, UnnamedAreTold, is_loss}
-use Rattle.kept_names.specs.declared.names.Accounts.{Accounts}
+use Rattle.kept_names.specs.declared.names.Renumbering.{Renumbering}
 use Rattle.kept_names.specs.declared.finding.What.{What}
 use Rattle.kept_names.specs.declared.finding.What.TheVariants.{Missing, Changed, New, Unnamed, Left}
 use Rattle.kept_names.proofs.Lost.{agree-keeps, cons-all, cons-contains, file-there, head-all, keeps-agree, tail-all, there-file}
@@ -64,74 +64,83 @@ into-list found files file what (there, is) = at files there.0 there.1 there.2
     at (f ∷ fs) zero lt e = front (told_of f (found f)) (filter_map (λ g. told_of g (found g)) fs) (ap (λ (g : Entry). told_of g (found g)) e ∙ ap (told_of file) is)
     at (f ∷ fs) (suc k) lt e = behind (told_of f (found f)) (filter_map (λ g. told_of g (found g)) fs) (at fs k (omega (arith, lt)) e)
 
-module _ (was now : Accounts) (before after : List Entry) (file : Entry) (what : What) where
+module _ (renumbering : Renumbering) (before after : List Entry) (file : Entry) (what : What) where
   abbrev Origin : Type 0
   Origin =
-      Gives (loss_of was now after) before file what
+      Gives (loss_of renumbering after) before file what
       ⊎ (Gives (new_of before) after file what
-      ⊎ (Gives (unnamed_of now) after file what
-      ⊎ Gives (left_of was now before) after file what))
+      ⊎ (Gives (unnamed_of renumbering.after) after file what
+      ⊎ Gives (left_of renumbering before) after file what))
 
   abbrev found : Found
   found = record { file = file; what = what }
 
   abbrev losses : List Found
-  losses = filter_map (loss was now after) before
+  losses = filter_map (loss renumbering after) before
 
   abbrev news : List Found
   news = filter_map (new_file before) after
 
   abbrev bare : List Found
-  bare = filter_map (unnamed now) after
+  bare = filter_map (unnamed renumbering.after) after
 
   abbrev lefts : List Found
-  lefts = filter_map (left_file was now before) after
+  lefts = filter_map (left_file renumbering before) after
 
-  pub origin : IsFound was now before after file what → Origin
+  pub origin : IsFound renumbering before after file what → Origin
   unfolding findings
   origin c = fourth (Contains-append_cases (losses ++ news ++ bare) lefts found c)
     where
       second : Contains losses found ⊎ Contains news found → Origin
-      second (inl c) = inl (from-list (loss_of was now after) before file what c)
+      second (inl c) = inl (from-list (loss_of renumbering after) before file what c)
       second (inr c) = inr (inl (from-list (new_of before) after file what c))
 
       third : Contains (losses ++ news) found ⊎ Contains bare found → Origin
       third (inl c) = second (Contains-append_cases losses news found c)
-      third (inr c) = inr (inr (inl (from-list (unnamed_of now) after file what c)))
+      third (inr c) = inr (inr (inl (from-list (unnamed_of renumbering.after) after file what c)))
 
       fourth : Contains (losses ++ news ++ bare) found ⊎ Contains lefts found → Origin
       fourth (inl c) = third (Contains-append_cases (losses ++ news) bare found c)
-      fourth (inr c) = inr (inr (inr (from-list (left_of was now before) after file what c)))
+      fourth (inr c) = inr (inr (inr (from-list (left_of renumbering before) after file what c)))
 
-  pub lost : Gives (loss_of was now after) before file what → IsFound was now before after file what
+  pub lost : Gives (loss_of renumbering after) before file what
+      → IsFound renumbering before after file what
   unfolding findings
   lost g =
       Contains-append_left (losses ++ news ++ bare) lefts found
       (Contains-append_left (losses ++ news) bare found
-      (Contains-append_left losses news found (into-list (loss_of was now after) before file what g)))
+      (Contains-append_left losses news found
+      (into-list (loss_of renumbering after) before file what g)))
 
-  pub fresh : Gives (new_of before) after file what → IsFound was now before after file what
+  pub fresh : Gives (new_of before) after file what → IsFound renumbering before after file what
   unfolding findings
   fresh g =
       Contains-append_left (losses ++ news ++ bare) lefts found
       (Contains-append_left (losses ++ news) bare found
       (Contains-append_right losses news found (into-list (new_of before) after file what g)))
 
-  pub nameless : Gives (unnamed_of now) after file what → IsFound was now before after file what
+  pub nameless : Gives (unnamed_of renumbering.after) after file what
+      → IsFound renumbering before after file what
   unfolding findings
   nameless g =
       Contains-append_left (losses ++ news ++ bare) lefts found
-      (Contains-append_right (losses ++ news) bare found (into-list (unnamed_of now) after file what g))
+      (Contains-append_right (losses ++ news) bare found
+      (into-list (unnamed_of renumbering.after) after file what g))
 
-  pub left : Gives (left_of was now before) after file what → IsFound was now before after file what
+  pub left : Gives (left_of renumbering before) after file what
+      → IsFound renumbering before after file what
   unfolding findings
-  left g = Contains-append_right (losses ++ news ++ bare) lefts found (into-list (left_of was now before) after file what g)
+  left g =
+      Contains-append_right (losses ++ news ++ bare) lefts found
+      (into-list (left_of renumbering before) after file what g)
 
 -- ---- which kinds each of them gives
 
-loss-kind : (was now : Accounts) (file : Entry) (o : Option Entry) (what : What) → change_at was now file o ≡ Some what → is_loss what ≡ true
-loss-kind was now file None what e = ap is_loss (sym (same_Some Missing what e))
-loss-kind was now file (Some there) what e = by (users_agree was now file there) (groups_agree was now file there) e
+loss-kind : (renumbering : Renumbering) (file : Entry) (o : Option Entry) (what : What)
+    → change_at renumbering file o ≡ Some what → is_loss what ≡ true
+loss-kind renumbering file None what e = ap is_loss (sym (same_Some Missing what e))
+loss-kind renumbering file (Some there) what e =
+    by (users_agree renumbering file there) (groups_agree renumbering file there) e
   where
     by : (u g : Bool) → change_by u g there ≡ Some what → is_loss what ≡ true
     by true true e = absurd (cc)
@@ -213,48 +222,65 @@ says-left (Some w) (Some n) = (there, back)
 
 -- ---- of one file
 
-module _ (was now : Accounts) (before : List Entry) (file : Entry) where
+module _ (renumbering : Renumbering) (before : List Entry) (file : Entry) where
   abbrev no_user : Bool
-  no_user = is_none (user_at now.users file.uid)
+  no_user = is_none (user_at renumbering.after.users file.uid)
 
   abbrev no_group : Bool
-  no_group = is_none (group_at now.groups file.gid)
+  no_group = is_none (group_at renumbering.after.groups file.gid)
 
   abbrev user_left : Bool
-  user_left = is_left (user_at was.users file.uid) (user_at now.users file.uid)
+  user_left =
+      is_left (user_at renumbering.before.users file.uid) (user_at renumbering.after.users file.uid)
 
   abbrev group_left : Bool
-  group_left = is_left (group_at was.groups file.gid) (group_at now.groups file.gid)
+  group_left =
+      is_left (group_at renumbering.before.groups file.gid)
+      (group_at renumbering.after.groups file.gid)
 
   new_is : (what : What) → new_of before file ≡ Some what → (what ≡ New) × (file_at before file.path ≡ None)
   new_is what e = new-kind (file_at before file.path) what e
 
-  unnamed_is : (what : What) → unnamed_of now file ≡ Some what → ((no_user || no_group) ≡ true) × (what ≡ Unnamed no_user no_group)
+  unnamed_is : (what : What) → unnamed_of renumbering.after file ≡ Some what
+      → ((no_user || no_group) ≡ true) × (what ≡ Unnamed no_user no_group)
   unnamed_is what e = unnamed-kind no_user no_group what e
 
-  left_is : (what : What) → left_of was now before file ≡ Some what → ((user_left || group_left) ≡ true) × (file_at before file.path ≡ None) × (what ≡ Left user_left group_left)
+  left_is : (what : What) → left_of renumbering before file ≡ Some what
+      → ((user_left || group_left) ≡ true) × (file_at before file.path ≡ None)
+      × (what ≡ Left user_left group_left)
   left_is what e = left-kind user_left group_left (file_at before file.path) what e
 
 -- ---- new and missing files
 
 pub new_told : NewAreTold
-new_told was now before after file = (there, back)
+new_told renumbering before after file = (there, back)
   where
-    by : Origin was now before after file New → Contains after file × HasNoFileAt before file.path
-    by (inl g) = absurd (true≢false (sym (loss-kind was now file (file_at after file.path) New g.1)))
-    by (inr (inl g)) = (g.0, no-file before file.path (new_is was now before file New g.1).1)
-    by (inr (inr (inl g))) = let it = (unnamed_is was now before file New g.1).1 in absurd (cc)
-    by (inr (inr (inr g))) = let it = (left_is was now before file New g.1).2 in absurd (cc)
+    by : Origin renumbering before after file New
+        → Contains after file × HasNoFileAt before file.path
+    by (inl g) =
+        absurd (true≢false (sym (loss-kind renumbering file (file_at after file.path) New g.1)))
+    by (inr (inl g)) = (g.0, no-file before file.path (new_is renumbering before file New g.1).1)
+    by (inr (inr (inl g))) = let it = (unnamed_is renumbering before file New g.1).1 in absurd (cc)
+    by (inr (inr (inr g))) = let it = (left_is renumbering before file New g.1).2 in absurd (cc)
 
-    there : IsFound was now before after file New → Contains after file × HasNoFileAt before file.path
-    there c = by (origin was now before after file New c)
+    there : IsFound renumbering before after file New
+        → Contains after file × HasNoFileAt before file.path
+    there c = by (origin renumbering before after file New c)
 
-    back : Contains after file × HasNoFileAt before file.path → IsFound was now before after file New
-    back (c, none) = fresh was now before after file New (c, ap (λ (o : Option Entry). if is_none o then Some New else None) (file-none before file.path none))
+    back : Contains after file × HasNoFileAt before file.path
+        → IsFound renumbering before after file New
+    back (c, none) =
+        fresh renumbering before after file New (
+          c,
+          ap (λ (o : Option Entry). if is_none o then Some New else None)
+              (file-none before file.path none),
+        )
 
-missing-kind : (was now : Accounts) (file : Entry) (o : Option Entry) → change_at was now file o ≡ Some Missing → o ≡ None
-missing-kind was now file None e = refl
-missing-kind was now file (Some there) e = absurd (by (users_agree was now file there) (groups_agree was now file there) e)
+missing-kind : (renumbering : Renumbering) (file : Entry) (o : Option Entry)
+    → change_at renumbering file o ≡ Some Missing → o ≡ None
+missing-kind renumbering file None e = refl
+missing-kind renumbering file (Some there) e =
+    absurd (by (users_agree renumbering file there) (groups_agree renumbering file there) e)
   where
     by : (u g : Bool) → change_by u g there ≡ Some Missing → ⊥
     by true true e = absurd (cc)
@@ -263,19 +289,26 @@ missing-kind was now file (Some there) e = absurd (by (users_agree was now file 
     by false false e = absurd (cc)
 
 pub missing_told : MissingAreTold
-missing_told was now before after file = (there, back)
+missing_told renumbering before after file = (there, back)
   where
-    by : Origin was now before after file Missing → Contains before file × HasNoFileAt after file.path
-    by (inl g) = (g.0, no-file after file.path (missing-kind was now file (file_at after file.path) g.1))
-    by (inr (inl g)) = let it = (new_is was now before file Missing g.1).0 in absurd (cc)
-    by (inr (inr (inl g))) = let it = (unnamed_is was now before file Missing g.1).1 in absurd (cc)
-    by (inr (inr (inr g))) = let it = (left_is was now before file Missing g.1).2 in absurd (cc)
+    by : Origin renumbering before after file Missing
+        → Contains before file × HasNoFileAt after file.path
+    by (inl g) =
+        (g.0, no-file after file.path (missing-kind renumbering file (file_at after file.path) g.1))
+    by (inr (inl g)) = let it = (new_is renumbering before file Missing g.1).0 in absurd (cc)
+    by (inr (inr (inl g))) =
+        let it = (unnamed_is renumbering before file Missing g.1).1 in absurd (cc)
+    by (inr (inr (inr g))) = let it = (left_is renumbering before file Missing g.1).2 in absurd (cc)
 
-    there : IsFound was now before after file Missing → Contains before file × HasNoFileAt after file.path
-    there c = by (origin was now before after file Missing c)
+    there : IsFound renumbering before after file Missing
+        → Contains before file × HasNoFileAt after file.path
+    there c = by (origin renumbering before after file Missing c)
 
-    back : Contains before file × HasNoFileAt after file.path → IsFound was now before after file Missing
-    back (c, none) = lost was now before after file Missing (c, ap (change_at was now file) (file-none after file.path none))
+    back : Contains before file × HasNoFileAt after file.path
+        → IsFound renumbering before after file Missing
+    back (c, none) =
+        lost renumbering before after file Missing
+        (c, ap (change_at renumbering file) (file-none after file.path none))
 
 -- ---- unnamed files, and numbers that are left
 
@@ -297,93 +330,132 @@ same_set : (user group u g : Bool) → user ≡ u → group ≡ g → (u || g) �
 same_set user group u g p q set = ap (λ b. b || group) p ∙ ap (λ b. u || b) q ∙ set
 
 pub unnamed_told : UnnamedAreTold
-unnamed_told was now before after file user group = (there, back)
+unnamed_told renumbering before after file user group = (there, back)
   where
     of_user : Type 0
-    of_user = user_at now.users file.uid ≡ None
+    of_user = user_at renumbering.after.users file.uid ≡ None
 
     of_group : Type 0
-    of_group = group_at now.groups file.gid ≡ None
+    of_group = group_at renumbering.after.groups file.gid ≡ None
 
     Holds : Type 0
     Holds = Contains after file × SomeIsSet user group × Says user of_user × Says group of_group
 
     u : Bool
-    u = is_none (user_at now.users file.uid)
+    u = is_none (user_at renumbering.after.users file.uid)
 
     g : Bool
-    g = is_none (group_at now.groups file.gid)
+    g = is_none (group_at renumbering.after.groups file.gid)
 
-    by : Origin was now before after file (Unnamed user group) → Holds
-    by (inl h) = absurd (true≢false (sym (loss-kind was now file (file_at after file.path) (Unnamed user group) h.1)))
-    by (inr (inl h)) = let it = (new_is was now before file (Unnamed user group) h.1).0 in absurd (cc)
+    by : Origin renumbering before after file (Unnamed user group) → Holds
+    by (inl h) =
+        absurd
+        (true≢false
+        (sym (loss-kind renumbering file (file_at after file.path) (Unnamed user group) h.1)))
+    by (inr (inl h)) =
+        let it = (new_is renumbering before file (Unnamed user group) h.1).0 in absurd (cc)
     by (inr (inr (inl h))) =
-        let it = unnamed_is was now before file (Unnamed user group) h.1 in
+        let it = unnamed_is renumbering before file (Unnamed user group) h.1 in
         let p : user ≡ u = ap user_flag it.1 in
         let q : group ≡ g = ap group_flag it.1 in (
           h.0,
           some-set user group (same_set user group u g p q it.0),
-          subst (λ (b : Bool). Says b of_user) (sym p) (says-none (user_at now.users file.uid)),
-          subst (λ (b : Bool). Says b of_group) (sym q) (says-none (group_at now.groups file.gid)),
+          subst (λ (b : Bool). Says b of_user) (sym p)
+              (says-none (user_at renumbering.after.users file.uid)),
+          subst (λ (b : Bool). Says b of_group) (sym q)
+              (says-none (group_at renumbering.after.groups file.gid)),
         )
-    by (inr (inr (inr h))) = let it = (left_is was now before file (Unnamed user group) h.1).2 in absurd (cc)
+    by (inr (inr (inr h))) =
+        let it = (left_is renumbering before file (Unnamed user group) h.1).2 in absurd (cc)
 
-    there : IsFound was now before after file (Unnamed user group) → Holds
-    there c = by (origin was now before after file (Unnamed user group) c)
+    there : IsFound renumbering before after file (Unnamed user group) → Holds
+    there c = by (origin renumbering before after file (Unnamed user group) c)
 
     set : (a b : Bool) → (a || b) ≡ true → unnamed_by a b ≡ Some (Unnamed a b)
     set a b e = ap (λ (c : Bool). if c then Some (Unnamed a b) else None) e
 
-    back : Holds → IsFound was now before after file (Unnamed user group)
+    back : Holds → IsFound renumbering before after file (Unnamed user group)
     back (c, some, says_user, says_group) =
-        let p : u ≡ user = same-flag u user of_user (says-none (user_at now.users file.uid)) says_user in
-        let q : g ≡ group = same-flag g group of_group (says-none (group_at now.groups file.gid)) says_group in
-        nameless was now before after file (Unnamed user group) (c, (λ i. unnamed_by (p i) (q i)) ∙ set user group (set-some user group some))
+        let p : u ≡ user =
+        same-flag u user of_user (says-none (user_at renumbering.after.users file.uid))
+        says_user in
+        let q : g ≡ group =
+        same-flag g group of_group (says-none (group_at renumbering.after.groups file.gid))
+        says_group in
+        nameless renumbering before after file (Unnamed user group)
+        (c, (λ i. unnamed_by (p i) (q i)) ∙ set user group (set-some user group some))
 
 pub left_told : LeftAreTold
-left_told was now before after file user group = (there, back)
+left_told renumbering before after file user group = (there, back)
   where
     of_user : Type 0
-    of_user = IsLeft (user_at was.users file.uid) (user_at now.users file.uid)
+    of_user =
+        IsLeft (user_at renumbering.before.users file.uid)
+        (user_at renumbering.after.users file.uid)
 
     of_group : Type 0
-    of_group = IsLeft (group_at was.groups file.gid) (group_at now.groups file.gid)
+    of_group =
+        IsLeft (group_at renumbering.before.groups file.gid)
+        (group_at renumbering.after.groups file.gid)
 
     Holds : Type 0
     Holds = Contains after file × HasNoFileAt before file.path × SomeIsSet user group × Says user of_user × Says group of_group
 
     u : Bool
-    u = is_left (user_at was.users file.uid) (user_at now.users file.uid)
+    u =
+        is_left (user_at renumbering.before.users file.uid)
+        (user_at renumbering.after.users file.uid)
 
     g : Bool
-    g = is_left (group_at was.groups file.gid) (group_at now.groups file.gid)
+    g =
+        is_left (group_at renumbering.before.groups file.gid)
+        (group_at renumbering.after.groups file.gid)
 
-    by : Origin was now before after file (Left user group) → Holds
-    by (inl h) = absurd (true≢false (sym (loss-kind was now file (file_at after file.path) (Left user group) h.1)))
-    by (inr (inl h)) = let it = (new_is was now before file (Left user group) h.1).0 in absurd (cc)
-    by (inr (inr (inl h))) = let it = (unnamed_is was now before file (Left user group) h.1).1 in absurd (cc)
+    by : Origin renumbering before after file (Left user group) → Holds
+    by (inl h) =
+        absurd
+        (true≢false
+        (sym (loss-kind renumbering file (file_at after file.path) (Left user group) h.1)))
+    by (inr (inl h)) =
+        let it = (new_is renumbering before file (Left user group) h.1).0 in absurd (cc)
+    by (inr (inr (inl h))) =
+        let it = (unnamed_is renumbering before file (Left user group) h.1).1 in absurd (cc)
     by (inr (inr (inr h))) =
-        let it = left_is was now before file (Left user group) h.1 in
+        let it = left_is renumbering before file (Left user group) h.1 in
         let p : user ≡ u = ap user_flag it.2 in
         let q : group ≡ g = ap group_flag it.2 in (
           h.0,
           no-file before file.path it.1,
           some-set user group (same_set user group u g p q it.0),
-          subst (λ (b : Bool). Says b of_user) (sym p) (says-left (user_at was.users file.uid) (user_at now.users file.uid)),
-          subst (λ (b : Bool). Says b of_group) (sym q) (says-left (group_at was.groups file.gid) (group_at now.groups file.gid)),
+          subst (λ (b : Bool). Says b of_user) (sym p)
+              (says-left (user_at renumbering.before.users file.uid)
+              (user_at renumbering.after.users file.uid)),
+          subst (λ (b : Bool). Says b of_group) (sym q)
+              (says-left (group_at renumbering.before.groups file.gid)
+              (group_at renumbering.after.groups file.gid)),
         )
 
-    there : IsFound was now before after file (Left user group) → Holds
-    there c = by (origin was now before after file (Left user group) c)
+    there : IsFound renumbering before after file (Left user group) → Holds
+    there c = by (origin renumbering before after file (Left user group) c)
 
     set : (a b : Bool) → (a || b) ≡ true → left_by a b None ≡ Some (Left a b)
     set a b e = ap (λ (c : Bool). if c then Some (Left a b) else None) e
 
-    back : Holds → IsFound was now before after file (Left user group)
+    back : Holds → IsFound renumbering before after file (Left user group)
     back (c, none, some, says_user, says_group) =
-        let p : u ≡ user = same-flag u user of_user (says-left (user_at was.users file.uid) (user_at now.users file.uid)) says_user in
-        let q : g ≡ group = same-flag g group of_group (says-left (group_at was.groups file.gid) (group_at now.groups file.gid)) says_group in
-        left was now before after file (Left user group) (c, (λ i. left_by (p i) (q i) (file-none before file.path none i)) ∙ set user group (set-some user group some))
+        let p : u ≡ user =
+        same-flag u user of_user
+        (says-left (user_at renumbering.before.users file.uid)
+        (user_at renumbering.after.users file.uid)) says_user in
+        let q : g ≡ group =
+        same-flag g group of_group
+        (says-left (group_at renumbering.before.groups file.gid)
+        (group_at renumbering.after.groups file.gid)) says_group in
+        left renumbering before after file (Left user group) (
+          c,
+          (λ i. left_by (p i) (q i) (file-none before file.path none i))
+              ∙ set user group (set-some user group some),
+        )
 
 -- ---- changed files
 
@@ -443,44 +515,69 @@ change-from true false there uid gid p q either = λ i. Some (Changed (sym p i) 
 change-from false true there uid gid p q either = λ i. Some (Changed (sym p i) (sym q i))
 change-from false false there uid gid p q either = λ i. Some (Changed (sym p i) (sym q i))
 
-module _ (was now : Accounts) (before after : List Entry) (file : Entry) (uid gid : Option ℕ) (distinct : HaveDistinctFiles after) where
+module _ (renumbering : Renumbering) (before after : List Entry) (file : Entry) (uid gid : Option ℕ)
+    (distinct : HaveDistinctFiles after) where
   abbrev IsThere : Type 0
-  IsThere = (there : Entry) × Contains after there × (there.path ≡ file.path) × IsChanged was now file there uid gid
+  IsThere =
+      (there : Entry) × Contains after there × (there.path ≡ file.path)
+      × IsChanged renumbering file there uid gid
 
-  changed-kind : (o : Option Entry) → file_at after file.path ≡ o → change_at was now file o ≡ Some (Changed uid gid) → IsThere
+  changed-kind : (o : Option Entry) → file_at after file.path ≡ o
+      → change_at renumbering file o ≡ Some (Changed uid gid) → IsThere
   changed-kind None e h = absurd (cc)
   changed-kind (Some there) e h =
       let at = file-there after file.path there e in
-      let parts = change-parts (users_agree was now file there) (groups_agree was now file there) there uid gid h in (
+      let parts =
+      change-parts (users_agree renumbering file there) (groups_agree renumbering file there)
+      there uid gid h in (
         there,
         at.0,
         at.1,
         record {
-          user = tells-by (user_at was.users file.uid) (user_at now.users there.uid) file.uid there.uid uid (users_agree was now file there) refl parts.0;
-          group = tells-by (group_at was.groups file.gid) (group_at now.groups there.gid) file.gid there.gid gid (groups_agree was now file there) refl parts.1;
+          user =
+              tells-by (user_at renumbering.before.users file.uid)
+              (user_at renumbering.after.users there.uid) file.uid there.uid uid
+              (users_agree renumbering file there) refl parts.0;
+          group =
+              tells-by (group_at renumbering.before.groups file.gid)
+              (group_at renumbering.after.groups there.gid) file.gid there.gid gid
+              (groups_agree renumbering file there) refl parts.1;
           either = parts.2;
         },
       )
 
-  changed-from : IsThere → loss_of was now after file ≡ Some (Changed uid gid)
+  changed-from : IsThere → loss_of renumbering after file ≡ Some (Changed uid gid)
   changed-from (there, within, at, is) =
-      ap (change_at was now file) (there-file after file.path there distinct within at)
-      ∙ change-from (users_agree was now file there) (groups_agree was now file there) there uid gid
-      (told-by (user_at was.users file.uid) (user_at now.users there.uid) file.uid there.uid uid is.user)
-      (told-by (group_at was.groups file.gid) (group_at now.groups there.gid) file.gid there.gid gid is.group)
+      ap (change_at renumbering file) (there-file after file.path there distinct within at)
+      ∙ change-from (users_agree renumbering file there) (groups_agree renumbering file there) there
+      uid gid
+      (told-by (user_at renumbering.before.users file.uid)
+      (user_at renumbering.after.users there.uid) file.uid there.uid uid is.user)
+      (told-by (group_at renumbering.before.groups file.gid)
+      (group_at renumbering.after.groups there.gid) file.gid there.gid gid is.group)
       is.either
 
-  changed-origin : Origin was now before after file (Changed uid gid) → Contains before file × IsThere
+  changed-origin : Origin renumbering before after file (Changed uid gid)
+      → Contains before file × IsThere
   changed-origin (inl g) = (g.0, changed-kind (file_at after file.path) refl g.1)
-  changed-origin (inr (inl g)) = let it = (new_is was now before file (Changed uid gid) g.1).0 in absurd (cc)
-  changed-origin (inr (inr (inl g))) = let it = (unnamed_is was now before file (Changed uid gid) g.1).1 in absurd (cc)
-  changed-origin (inr (inr (inr g))) = let it = (left_is was now before file (Changed uid gid) g.1).2 in absurd (cc)
+  changed-origin (inr (inl g)) =
+      let it = (new_is renumbering before file (Changed uid gid) g.1).0 in absurd (cc)
+  changed-origin (inr (inr (inl g))) =
+      let it = (unnamed_is renumbering before file (Changed uid gid) g.1).1 in absurd (cc)
+  changed-origin (inr (inr (inr g))) =
+      let it = (left_is renumbering before file (Changed uid gid) g.1).2 in absurd (cc)
 
 pub changed_told : ChangedAreTold
-changed_told was now before after file uid gid distinct = (there, back)
+changed_told renumbering before after file uid gid distinct = (there, back)
   where
-    there : IsFound was now before after file (Changed uid gid) → Contains before file × IsThere was now before after file uid gid distinct
-    there c = changed-origin was now before after file uid gid distinct (origin was now before after file (Changed uid gid) c)
+    there : IsFound renumbering before after file (Changed uid gid)
+        → Contains before file × IsThere renumbering before after file uid gid distinct
+    there c =
+        changed-origin renumbering before after file uid gid distinct
+        (origin renumbering before after file (Changed uid gid) c)
 
-    back : Contains before file × IsThere was now before after file uid gid distinct → IsFound was now before after file (Changed uid gid)
-    back (c, is) = lost was now before after file (Changed uid gid) (c, changed-from was now before after file uid gid distinct is)
+    back : Contains before file × IsThere renumbering before after file uid gid distinct
+        → IsFound renumbering before after file (Changed uid gid)
+    back (c, is) =
+        lost renumbering before after file (Changed uid gid)
+        (c, changed-from renumbering before after file uid gid distinct is)

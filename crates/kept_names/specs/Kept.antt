@@ -9,6 +9,7 @@ use Rattle.hosts_join.specs.Kinds.{user_at, group_at}
 use Rattle.mtree_inv.specs.declared.entry.Entry.{Entry}
 use Rattle.mtree_inv.specs.Inventory.{file_at}
 use Rattle.kept_names.specs.declared.names.Accounts.{Accounts}
+use Rattle.kept_names.specs.declared.names.Renumbering.{Renumbering}
 use Rattle.kept_names.specs.declared.finding.What.{What}
 use Rattle.kept_names.specs.declared.finding.What.TheVariants.{Missing, Changed, New, Unnamed, Left}
 
@@ -27,13 +28,15 @@ agree None None old new = old == new
 agree (Some was) None old new = false
 agree None (Some now) old new = false
 
-abbrev pub users_agree : Accounts → Accounts → Entry → Entry → Bool
-users_agree was now file there =
-    agree (user_at was.users file.uid) (user_at now.users there.uid) file.uid there.uid
+abbrev pub users_agree : Renumbering → Entry → Entry → Bool
+users_agree renumbering file there =
+    agree (user_at renumbering.before.users file.uid)
+    (user_at renumbering.after.users there.uid) file.uid there.uid
 
-abbrev pub groups_agree : Accounts → Accounts → Entry → Entry → Bool
-groups_agree was now file there =
-    agree (group_at was.groups file.gid) (group_at now.groups there.gid) file.gid there.gid
+abbrev pub groups_agree : Renumbering → Entry → Entry → Bool
+groups_agree renumbering file there =
+    agree (group_at renumbering.before.groups file.gid)
+    (group_at renumbering.after.groups there.gid) file.gid there.gid
 
 -- the new number of an owner that no longer has the name that it had
 abbrev pub changed_to : Bool → ℕ → Option ℕ
@@ -46,21 +49,21 @@ change_by false true there = Some (Changed (Some there.uid) None)
 change_by false false there = Some (Changed (Some there.uid) (Some there.gid))
 
 -- what is found of a file of the first inventory, which is `there` in the second
-abbrev pub change : Accounts → Accounts → Entry → Entry → Option What
-change was now file there =
-    change_by (users_agree was now file there) (groups_agree was now file there) there
+abbrev pub change : Renumbering → Entry → Entry → Option What
+change renumbering file there =
+    change_by (users_agree renumbering file there) (groups_agree renumbering file there) there
 
-abbrev pub change_at : Accounts → Accounts → Entry → Option Entry → Option What
-change_at was now file None = Some Missing
-change_at was now file (Some there) = change was now file there
+abbrev pub change_at : Renumbering → Entry → Option Entry → Option What
+change_at renumbering file None = Some Missing
+change_at renumbering file (Some there) = change renumbering file there
 
 -- what is found of a file of the first inventory: that the second does not have it, or has it with
 -- other names
-abbrev pub loss_of : Accounts → Accounts → List Entry → Entry → Option What
-loss_of was now after file = change_at was now file (file_at after file.path)
+abbrev pub loss_of : Renumbering → List Entry → Entry → Option What
+loss_of renumbering after file = change_at renumbering file (file_at after file.path)
 
-abbrev pub loss : Accounts → Accounts → List Entry → Entry → Option Found
-loss was now after file = told_of file (loss_of was now after file)
+abbrev pub loss : Renumbering → List Entry → Entry → Option Found
+loss renumbering after file = told_of file (loss_of renumbering after file)
 
 -- of a file of the second inventory: that the first does not have it
 abbrev pub new_of : List Entry → Entry → Option What
@@ -74,11 +77,12 @@ abbrev pub unnamed_by : Bool → Bool → Option What
 unnamed_by user group = if user || group then Some (Unnamed user group) else None
 
 abbrev pub unnamed_of : Accounts → Entry → Option What
-unnamed_of now file =
-    unnamed_by (is_none (user_at now.users file.uid)) (is_none (group_at now.groups file.gid))
+unnamed_of accounts file =
+    unnamed_by (is_none (user_at accounts.users file.uid))
+    (is_none (group_at accounts.groups file.gid))
 
 abbrev pub unnamed : Accounts → Entry → Option Found
-unnamed now file = told_of file (unnamed_of now file)
+unnamed accounts file = told_of file (unnamed_of accounts file)
 
 -- Whether a number that belonged to a name no longer does.
 abbrev pub is_left : Option (List ℕ) → Option (List ℕ) → Bool
@@ -91,18 +95,21 @@ abbrev pub left_by : Bool → Bool → Option Entry → Option What
 left_by user group earlier =
     if user || group then (if is_none earlier then Some (Left user group) else None) else None
 
-abbrev pub left_of : Accounts → Accounts → List Entry → Entry → Option What
-left_of was now before file =
-    left_by (is_left (user_at was.users file.uid) (user_at now.users file.uid))
-    (is_left (group_at was.groups file.gid) (group_at now.groups file.gid))
+abbrev pub left_of : Renumbering → List Entry → Entry → Option What
+left_of renumbering before file =
+    left_by
+    (is_left (user_at renumbering.before.users file.uid)
+    (user_at renumbering.after.users file.uid))
+    (is_left (group_at renumbering.before.groups file.gid)
+    (group_at renumbering.after.groups file.gid))
     (file_at before file.path)
 
-abbrev pub left_file : Accounts → Accounts → List Entry → Entry → Option Found
-left_file was now before file = told_of file (left_of was now before file)
+abbrev pub left_file : Renumbering → List Entry → Entry → Option Found
+left_file renumbering before file = told_of file (left_of renumbering before file)
 
--- what is found of the files of two inventories, by the old and by the new account files
-unfoldable pub findings : Accounts → Accounts → List Entry → List Entry → List Found
-findings was now before after =
-    filter_map (loss was now after) before ++ filter_map (new_file before) after
-    ++ filter_map (unnamed now) after
-    ++ filter_map (left_file was now before) after
+-- what is found of the files of two inventories, each made under its account files
+unfoldable pub findings : Renumbering → List Entry → List Entry → List Found
+findings renumbering before after =
+    filter_map (loss renumbering after) before ++ filter_map (new_file before) after
+    ++ filter_map (unnamed renumbering.after) after
+    ++ filter_map (left_file renumbering before) after

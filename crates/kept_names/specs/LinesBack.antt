@@ -18,6 +18,7 @@ use Rattle.mtree_inv.specs.Files.{IsLawfulFile}
 use Rattle.kept_names.specs.Kept.{Found, findings}
 use Rattle.kept_names.specs.Telling.{line_of}
 use Rattle.kept_names.specs.declared.names.Accounts.{Accounts}
+use Rattle.kept_names.specs.declared.names.Renumbering.{Renumbering}
 use Rattle.kept_names.specs.declared.finding.What.{What}
 use Rattle.kept_names.specs.declared.finding.What.TheVariants.{Missing, Changed, New, Unnamed, Left}
 
@@ -89,11 +90,11 @@ line_said other = None
 
 -- ---- what is to be told
 
-abbrev pub user : Accounts → ℕ → Owner
-user accounts uid = record { name = user_at accounts.users uid; number = uid }
+abbrev pub user_told : Accounts → ℕ → Owner
+user_told accounts uid = record { name = user_at accounts.users uid; number = uid }
 
-abbrev pub group : Accounts → ℕ → Owner
-group accounts gid = record { name = group_at accounts.groups gid; number = gid }
+abbrev pub group_told : Accounts → ℕ → Owner
+group_told accounts gid = record { name = group_at accounts.groups gid; number = gid }
 
 -- it, where it is asked for
 abbrev pub asked : {X : Type 0} → Bool → X → List X
@@ -112,31 +113,31 @@ path_alone kind file =
 -- a missing file has its path alone; one that has changed each owner that is another, by the old
 -- account files and then by the new ones; a new one both its owners, by the new ones; one that is
 -- unnamed the numbers without a name; and one with a number that was left the owners who had it
-abbrev pub line_told : Accounts → Accounts → Entry → What → Line
-line_told was now file Missing = path_alone (codes "missing") file
-line_told was now file (Changed uid gid) =
+abbrev pub line_told : Renumbering → Entry → What → Line
+line_told renumbering file Missing = path_alone (codes "missing") file
+line_told renumbering file (Changed uid gid) =
     record (path_alone (codes "changed") file) {
-      users = both uid (user was file.uid) (user now);
-      groups = both gid (group was file.gid) (group now);
+      users = both uid (user_told renumbering.before file.uid) (user_told renumbering.after);
+      groups = both gid (group_told renumbering.before file.gid) (group_told renumbering.after);
     }
-line_told was now file New =
+line_told renumbering file New =
     record (path_alone (codes "new") file) {
-      users = user now file.uid ∷ [];
-      groups = group now file.gid ∷ [];
+      users = user_told renumbering.after file.uid ∷ [];
+      groups = group_told renumbering.after file.gid ∷ [];
     }
-line_told was now file (Unnamed uid gid) =
+line_told renumbering file (Unnamed user group) =
     record (path_alone (codes "unnamed") file) {
-      uids = asked uid file.uid;
-      gids = asked gid file.gid;
+      uids = asked user file.uid;
+      gids = asked group file.gid;
     }
-line_told was now file (Left uid gid) =
+line_told renumbering file (Left user group) =
     record (path_alone (codes "left") file) {
-      users = asked uid (user was file.uid);
-      groups = asked gid (group was file.gid);
+      users = asked user (user_told renumbering.before file.uid);
+      groups = asked group (group_told renumbering.before file.gid);
     }
 
-abbrev pub told : Accounts → Accounts → Found → Line
-told was now found = line_told was now found.file found.what
+abbrev pub told : Renumbering → Found → Line
+told renumbering found = line_told renumbering found.file found.what
 
 -- ---- what can be told
 
@@ -171,15 +172,16 @@ TablesAreTellable = (passwd group : List ℕ) (accounts : Accounts) → All (λ 
 
 -- what is found of lawful files can be told, where their paths are of bytes
 abbrev pub FindingsAreTellable : Type 0
-FindingsAreTellable = (was now : Accounts) (before after : List Entry)
+FindingsAreTellable = (renumbering : Renumbering) (before after : List Entry)
     → All IsTellableFile before → All IsTellableFile after
-    → All IsTellable (findings was now before after)
+    → All IsTellable (findings renumbering before after)
 
 -- ---- the law
 
 -- each line is read as what is to be told of its finding
 abbrev pub LinesAreReadBack : Type 0
-LinesAreReadBack = (was now : Accounts) (found : List Found) → AreTellable was → AreTellable now
+LinesAreReadBack = (renumbering : Renumbering) (found : List Found)
+    → AreTellable renumbering.before → AreTellable renumbering.after
     → All IsTellable found
-    → map (λ line. line_said (words line)) (lines (flat_map (line_of was now) found))
-    ≡ map (λ f. Some (told was now f)) found
+    → map (λ line. line_said (words line)) (lines (flat_map (line_of renumbering) found))
+    ≡ map (λ f. Some (told renumbering f)) found

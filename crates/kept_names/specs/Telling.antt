@@ -11,6 +11,7 @@ use Rattle.mtree_inv.specs.Looking.{looking_back}
 use Rattle.mtree_inv.specs.declared.entry.Entry.{Entry}
 use Rattle.kept_names.specs.Kept.{Found, findings, loss_of}
 use Rattle.kept_names.specs.declared.names.Accounts.{Accounts}
+use Rattle.kept_names.specs.declared.names.Renumbering.{Renumbering}
 use Rattle.kept_names.specs.declared.finding.What.{What}
 use Rattle.kept_names.specs.declared.finding.What.TheVariants.{Missing, Changed, New, Unnamed, Left}
 
@@ -43,18 +44,19 @@ pub record Counts : Type 0 where
   pub left : ℕ
 
 -- of how many files of the first inventory nothing is found missing or changed
-abbrev pub kept_files : Accounts → Accounts → List Entry → List Entry → ℕ
-kept_files was now before after = count_by (λ file. is_none (loss_of was now after file)) before
+abbrev pub kept_files : Renumbering → List Entry → List Entry → ℕ
+kept_files renumbering before after =
+    count_by (λ file. is_none (loss_of renumbering after file)) before
 
-abbrev pub counts_of : Accounts → Accounts → List Entry → List Entry → Counts
-counts_of was now before after =
+abbrev pub counts_of : Renumbering → List Entry → List Entry → Counts
+counts_of renumbering before after =
     record {
-      kept = kept_files was now before after;
-      missing = number_of (codes "missing") (findings was now before after);
-      changed = number_of (codes "changed") (findings was now before after);
-      new = number_of (codes "new") (findings was now before after);
-      unnamed = number_of (codes "unnamed") (findings was now before after);
-      left = number_of (codes "left") (findings was now before after);
+      kept = kept_files renumbering before after;
+      missing = number_of (codes "missing") (findings renumbering before after);
+      changed = number_of (codes "changed") (findings renumbering before after);
+      new = number_of (codes "new") (findings renumbering before after);
+      unnamed = number_of (codes "unnamed") (findings renumbering before after);
+      left = number_of (codes "left") (findings renumbering before after);
     }
 
 abbrev pub counted : Counts → List (List ℕ × ℕ)
@@ -90,47 +92,47 @@ owners_text accounts file user group =
     ++ (if group then codes " group" ++ group_text accounts file.gid else [])
 
 -- the user that a file had by the old account files, and the one that it has by the new ones
-abbrev pub user_change : Accounts → Accounts → Entry → Option ℕ → List ℕ
-user_change was now file None = []
-user_change was now file (Some uid) =
-    codes " user" ++ user_text was file.uid ++ user_text now uid
+abbrev pub user_change : Renumbering → Entry → Option ℕ → List ℕ
+user_change renumbering file None = []
+user_change renumbering file (Some uid) =
+    codes " user" ++ user_text renumbering.before file.uid ++ user_text renumbering.after uid
 
-abbrev pub group_change : Accounts → Accounts → Entry → Option ℕ → List ℕ
-group_change was now file None = []
-group_change was now file (Some gid) =
-    codes " group" ++ group_text was file.gid ++ group_text now gid
+abbrev pub group_change : Renumbering → Entry → Option ℕ → List ℕ
+group_change renumbering file None = []
+group_change renumbering file (Some gid) =
+    codes " group" ++ group_text renumbering.before file.gid ++ group_text renumbering.after gid
 
 -- of a file's two numbers those that are asked for
 abbrev pub numbers_text : Entry → Bool → Bool → List ℕ
-numbers_text file uid gid =
-    (if uid then codes " uid " ++ decimal file.uid else [])
-    ++ (if gid then codes " gid " ++ decimal file.gid else [])
+numbers_text file user group =
+    (if user then codes " uid " ++ decimal file.uid else [])
+    ++ (if group then codes " gid " ++ decimal file.gid else [])
 
 -- what a line says of a file after its path
-abbrev pub details : Accounts → Accounts → Entry → What → List ℕ
-details was now file Missing = []
-details was now file (Changed uid gid) =
-    user_change was now file uid ++ group_change was now file gid
-details was now file New = owners_text now file true true
-details was now file (Unnamed user group) = numbers_text file user group
-details was now file (Left user group) = owners_text was file user group
+abbrev pub details : Renumbering → Entry → What → List ℕ
+details renumbering file Missing = []
+details renumbering file (Changed uid gid) =
+    user_change renumbering file uid ++ group_change renumbering file gid
+details renumbering file New = owners_text renumbering.after file true true
+details renumbering file (Unnamed user group) = numbers_text file user group
+details renumbering file (Left user group) = owners_text renumbering.before file user group
 
-abbrev pub line_of : Accounts → Accounts → Found → List ℕ
-line_of was now found =
+abbrev pub line_of : Renumbering → Found → List ℕ
+line_of renumbering found =
     codes "unify: " ++ kind_word found.what ++ 32 ∷ escaped found.file.path
-    ++ details was now found.file found.what ++ 10 ∷ []
+    ++ details renumbering found.file found.what ++ 10 ∷ []
 
 -- ---- which lines there are
 
 -- The line of a finding, where fewer than `most` of its kind stand before it.
-abbrev pub first_line : Accounts → Accounts → ℕ → List Found → Found → List ℕ
-first_line was now most before found =
-    if nat_lt (number_of (kind_word found.what) before) most then line_of was now found else []
+abbrev pub first_line : Renumbering → ℕ → List Found → Found → List ℕ
+first_line renumbering most before found =
+    if nat_lt (number_of (kind_word found.what) before) most then line_of renumbering found else []
 
 -- the lines of the first findings of each kind
-unfoldable pub first_lines : Accounts → Accounts → ℕ → List Found → List ℕ
-first_lines was now most found =
-    flat_map (λ line. line) (looking_back (first_line was now most) found)
+unfoldable pub first_lines : Renumbering → ℕ → List Found → List ℕ
+first_lines renumbering most found =
+    flat_map (λ line. line) (looking_back (first_line renumbering most) found)
 
 -- the line that tells how many more there are of a kind
 abbrev pub more_line : List ℕ → ℕ → List ℕ
@@ -141,9 +143,9 @@ abbrev pub more_of : ℕ → List ℕ → ℕ → List ℕ
 more_of most word number = if nat_lt most number then more_line word (number - most) else []
 
 -- all that is told of the findings
-abbrev pub found_text : Accounts → Accounts → ℕ → List Found → List ℕ
-found_text was now most found =
-    first_lines was now most found
+abbrev pub found_text : Renumbering → ℕ → List Found → List ℕ
+found_text renumbering most found =
+    first_lines renumbering most found
     ++ flat_map (λ word. more_of most word (number_of word found)) kinds
 
 -- ---- the exit status

@@ -1,7 +1,7 @@
 -- What the counts, the lines and the exit status of `verify` mean.
 -- Source: this project's own rule and format; chown(2) for what an owner is.
-use Rattle.std.specs.Prelude.{◌≡◌, ◌≢◌, ◌↔◌, ℕ, ◌+◌, ◌<◌, ◌≤◌, ◌^◌, List, codes}
-use Rattle.std.specs.Prelude.{find}
+use Rattle.std.specs.Prelude.{◌≡◌, ◌≢◌, ◌↔◌, ℕ, ◌+◌, ◌<◌, ◌≤◌, ◌^◌}
+use Rattle.std.specs.Prelude.{Bool, List, codes, filter, find, map}
 use Rattle.std.specs.Prelude.{length, Option, None, Some, All, filter_map, flat_map, option_map}
 use Rattle.std.specs.Str.{bytes_eq}
 use Rattle.std.specs.Str.Parse.{digits_value}
@@ -13,8 +13,9 @@ use Rattle.mtree_inv.specs.Files.{HaveDistinctFiles}
 use Rattle.kept_names.specs.Kept.{Found, findings}
 use Rattle.kept_names.specs.Laws.{HasNoFileAt, IsKept, IsLeft}
 use Rattle.kept_names.specs.Telling.{Counts, counts_of, counts_text, found_text}
-use Rattle.kept_names.specs.Telling.{line_of, status_of}
+use Rattle.kept_names.specs.Telling.{kind_word, line_of, status_of}
 use Rattle.kept_names.specs.declared.names.Accounts.{Accounts}
+use Rattle.kept_names.specs.declared.names.Renumbering.{Renumbering}
 
 -- ---- the counts
 
@@ -55,37 +56,74 @@ CountsAreReadBack = (counts : Counts) → AreOf64Bits counts → TellsCounts (co
 
 -- each file of the first inventory is kept, missing or changed
 abbrev pub CountsAddUp : Type 0
-CountsAddUp = (was now : Accounts) (before after : List Entry)
-    → (let counts = counts_of was now before after in
+CountsAddUp = (renumbering : Renumbering) (before after : List Entry)
+    → (let counts = counts_of renumbering before after in
     counts.kept + counts.missing + counts.changed) ≡ length before
+
+-- ---- each finding once
+
+-- the files that are told with this word, in the order of what is found
+abbrev pub files_told : List ℕ → List Found → List Entry
+files_told word found = map (λ f. f.file) (filter (λ f. bytes_eq (kind_word f.what) word) found)
+
+-- some of these files, each as often as there, and in their order
+abbrev pub AreSomeOf : List Entry → List Entry → Type 0
+AreSomeOf files some = (chosen : Entry → Bool) × (some ≡ filter chosen files)
+
+-- With each word a file is told once, in the order of its inventory: the first for what is missing
+-- or changed, and the second for the rest.
+pub record TellsOnce (before after : List Entry) (found : List Found) : Type 0 where
+  pub missing : AreSomeOf before (files_told (codes "missing") found)
+  pub changed : AreSomeOf before (files_told (codes "changed") found)
+  pub new : AreSomeOf after (files_told (codes "new") found)
+  pub unnamed : AreSomeOf after (files_told (codes "unnamed") found)
+  pub left : AreSomeOf after (files_told (codes "left") found)
+
+abbrev pub EachIsToldOnce : Type 0
+EachIsToldOnce = (renumbering : Renumbering) (before after : List Entry)
+    → TellsOnce before after (findings renumbering before after)
+
+-- each number is how many files are told with its word
+pub record AreNumbersOf (found : List Found) (counts : Counts) : Type 0 where
+  pub missing : counts.missing ≡ length (files_told (codes "missing") found)
+  pub changed : counts.changed ≡ length (files_told (codes "changed") found)
+  pub new : counts.new ≡ length (files_told (codes "new") found)
+  pub unnamed : counts.unnamed ≡ length (files_told (codes "unnamed") found)
+  pub left : counts.left ≡ length (files_told (codes "left") found)
+
+abbrev pub EachIsCountedOnce : Type 0
+EachIsCountedOnce = (renumbering : Renumbering) (before after : List Entry)
+    → AreNumbersOf (findings renumbering before after) (counts_of renumbering before after)
 
 -- ---- the lines
 
 -- with room for all, each finding has its line, in their order, and nothing else is told
 abbrev pub AllAreTold : Type 0
-AllAreTold = (was now : Accounts) (most : ℕ) (found : List Found) → length found ≤ most
-    → found_text was now most found ≡ flat_map (line_of was now) found
+AllAreTold = (renumbering : Renumbering) (most : ℕ) (found : List Found) → length found ≤ most
+    → found_text renumbering most found ≡ flat_map (line_of renumbering) found
 
 -- ---- the exit status
 
 -- the user and the group of a file have names
-pub record HasNames (now : Accounts) (file : Entry) : Type 0 where
-  pub user : user_at now.users file.uid ≢ None
-  pub group : group_at now.groups file.gid ≢ None
+pub record HasNames (accounts : Accounts) (file : Entry) : Type 0 where
+  pub user : user_at accounts.users file.uid ≢ None
+  pub group : group_at accounts.groups file.gid ≢ None
 
 -- neither of a file's numbers is one that a name has left
-pub record HasNoLeftNumber (was now : Accounts) (file : Entry) : Type 0 where
-  pub user : ¬ IsLeft (user_at was.users file.uid) (user_at now.users file.uid)
-  pub group : ¬ IsLeft (group_at was.groups file.gid) (group_at now.groups file.gid)
+pub record HasNoLeftNumber (renumbering : Renumbering) (file : Entry) : Type 0 where
+  pub user : ¬ IsLeft (user_at renumbering.before.users file.uid)
+      (user_at renumbering.after.users file.uid)
+  pub group : ¬ IsLeft (group_at renumbering.before.groups file.gid)
+      (group_at renumbering.after.groups file.gid)
 
 -- Each file of the first inventory is in the second with its owner, each file of the second has
 -- names by the new account files, and no file that is new has a number that a name has left.
-pub record IsInOrder (was now : Accounts) (before after : List Entry) : Type 0 where
-  pub kept : All (IsKept was now after) before
-  pub named : All (HasNames now) after
-  pub new : All (λ file. HasNoFileAt before file.path → HasNoLeftNumber was now file) after
+pub record IsInOrder (renumbering : Renumbering) (before after : List Entry) : Type 0 where
+  pub kept : All (IsKept renumbering after) before
+  pub named : All (HasNames renumbering.after) after
+  pub new : All (λ file. HasNoFileAt before file.path → HasNoLeftNumber renumbering file) after
 
 -- the status is 0 exactly where that is so
 abbrev pub StatusTellsOrder : Type 0
-StatusTellsOrder = (was now : Accounts) (before after : List Entry) → HaveDistinctFiles after
-    → (status_of (findings was now before after) ≡ 0) ↔ IsInOrder was now before after
+StatusTellsOrder = (renumbering : Renumbering) (before after : List Entry) → HaveDistinctFiles after
+    → (status_of (findings renumbering before after) ≡ 0) ↔ IsInOrder renumbering before after

@@ -3,7 +3,7 @@ ghost use Rattle.std.specs.Prelude.{◌≡◌, option_copied};
 ghost use Rattle.kept_names.specs.Kept as kept;
 ghost use Rattle.kept_names.specs.Kept.{left_of, loss_of, unnamed_of, new_of};
 
-use crate::names::{Accounts, group_name, names_agree, user_name};
+use crate::names::{Accounts, Renumbering, group_name, names_agree, user_name};
 use crate::paths::Paths;
 use mtree_inv::Entry;
 use std::marker::Model;
@@ -15,16 +15,16 @@ pub enum What {
     Missing,
     /// Of a file of the first inventory: in the second its user or its group is another by name.
     /// Of each that is, the number there; where neither name is known, the number is another.
-    Changed(Option<u32>, Option<u32>),
+    Changed { uid: Option<u32>, gid: Option<u32> },
     /// Of a file of the second inventory: the first does not have it.
     New,
     /// Of a file of the second inventory: whether no user, and whether no group, has its number
     /// by the new account files.
-    Unnamed(bool, bool),
+    Unnamed { user: bool, group: bool },
     /// Of a file of the second inventory that the first does not have: whether its user's number,
     /// and whether its group's, belonged to a name by the old account files and no longer does by
     /// the new ones.
-    Left(bool, bool),
+    Left { user: bool, group: bool },
 }
 
 /// A file of which something is found.
@@ -53,9 +53,11 @@ fn changed_to(agree: bool, number: u32) -> Option<u32>
 }
 
 // What has changed between a file's two owners.
-fn change(was: &Accounts<'_>, now: &Accounts<'_>, file: &Entry, there: &Entry) -> Option<What>
-    ensures { result ≡ kept.change was.now now.now file.now there.now }
+fn change(renumbering: &Renumbering<'_>, file: &Entry, there: &Entry) -> Option<What>
+    ensures { result ≡ kept.change renumbering.now file.now there.now }
 {
+    let was = &renumbering.before;
+    let now = &renumbering.after;
     let users_agree = names_agree(
         user_name(was, file.uid),
         user_name(now, there.uid),
@@ -71,30 +73,29 @@ fn change(was: &Accounts<'_>, now: &Accounts<'_>, file: &Entry, there: &Entry) -
     if users_agree && groups_agree {
         return None;
     }
-    Some(What::Changed(
-        changed_to(users_agree, there.uid),
-        changed_to(groups_agree, there.gid),
-    ))
+    Some(What::Changed {
+        uid: changed_to(users_agree, there.uid),
+        gid: changed_to(groups_agree, there.gid),
+    })
 }
 
 /// Whether a file of the first inventory is missing or changed. Four look-ups of numbers by hash,
 /// and one of its path in a search tree.
-pub(crate) fn loss(
-    was: &Accounts<'_>,
-    now: &Accounts<'_>,
+pub(crate) fn find_loss(
+    renumbering: &Renumbering<'_>,
     after: &Paths<'_>,
     file: &Entry,
 ) -> Option<What>
-    ensures { result ≡ loss_of was.now now.now after.now file.now }
+    ensures { result ≡ loss_of renumbering.now after.now file.now }
 {
     match after.file(file.path.bytes()) {
         None => Some(What::Missing),
-        Some(there) => change(was, now, file, there),
+        Some(there) => change(renumbering, file, there),
     }
 }
 
 /// Whether a file of the second inventory is new. A look-up of its path in a search tree.
-pub(crate) fn newness(before: &Paths<'_>, file: &Entry) -> Option<What>
+pub(crate) fn find_new(before: &Paths<'_>, file: &Entry) -> Option<What>
     ensures { result ≡ new_of before.now file.now }
 {
     match before.file(file.path.bytes()) {
@@ -103,15 +104,15 @@ pub(crate) fn newness(before: &Paths<'_>, file: &Entry) -> Option<What>
     }
 }
 
-/// Whether a file has a number that no account has. Two look-ups of numbers by
-/// hash.
-pub(crate) fn lack_of_name(now: &Accounts<'_>, file: &Entry) -> Option<What>
-    ensures { result ≡ unnamed_of now.now file.now }
+/// Whether a file of the second inventory has a number that no account has. Two look-ups of numbers
+/// by hash.
+pub(crate) fn find_unnamed(accounts: &Accounts<'_>, file: &Entry) -> Option<What>
+    ensures { result ≡ unnamed_of accounts.now file.now }
 {
-    let user = user_name(now, file.uid).is_none();
-    let group = group_name(now, file.gid).is_none();
+    let user = user_name(accounts, file.uid).is_none();
+    let group = group_name(accounts, file.gid).is_none();
     if user || group {
-        return Some(What::Unnamed(user, group));
+        return Some(What::Unnamed { user, group });
     }
     None
 }
@@ -129,21 +130,22 @@ fn is_left(was: Option<&[u8]>, now: Option<&[u8]>) -> bool
 
 /// Whether a file of the second inventory is new and has a number that belonged to a name and no
 /// longer does. Four look-ups of numbers by hash, and one of its path in a search tree.
-pub(crate) fn number_left(
-    was: &Accounts<'_>,
-    now: &Accounts<'_>,
+pub(crate) fn find_left(
+    renumbering: &Renumbering<'_>,
     before: &Paths<'_>,
     file: &Entry,
 ) -> Option<What>
-    ensures { result ≡ left_of was.now now.now before.now file.now }
+    ensures { result ≡ left_of renumbering.now before.now file.now }
 {
+    let was = &renumbering.before;
+    let now = &renumbering.after;
     let user = is_left(user_name(was, file.uid), user_name(now, file.uid));
     let group = is_left(group_name(was, file.gid), group_name(now, file.gid));
     if !user && !group {
         return None;
     }
     match before.file(file.path.bytes()) {
-        None => Some(What::Left(user, group)),
+        None => Some(What::Left { user, group }),
         Some(_) => None,
     }
 }

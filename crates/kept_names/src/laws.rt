@@ -4,6 +4,7 @@ ghost use Rattle.kept_names.specs.Laws.{NothingLostIsKept, UnnamedAreTold};
 ghost use Rattle.kept_names.specs.LinesBack.{FindingsAreTellable, LinesAreReadBack};
 ghost use Rattle.kept_names.specs.LinesBack.{TablesAreTellable};
 ghost use Rattle.kept_names.specs.TellingLaws.{AllAreTold, CountsAddUp, CountsAreReadBack};
+ghost use Rattle.kept_names.specs.TellingLaws.{EachIsCountedOnce, EachIsToldOnce};
 ghost use Rattle.kept_names.specs.TellingLaws.{StatusTellsOrder};
 
 /// No file is found missing or changed exactly where each file of the first inventory is in the
@@ -61,6 +62,13 @@ pub fn all_lines_are_told()
 /// Each file of the first inventory is counted once: as kept, missing or changed.
 pub fn counts_add_up()
     ensures { CountsAddUp }
+{}
+
+/// Of each kind a file is told once, in the order of the inventory that it is in; and the number of
+/// that kind is how many files are told.
+pub fn each_finding_is_told_once()
+    ensures told { EachIsToldOnce }
+    ensures counted { EachIsCountedOnce }
 {}
 
 /// The text of any counts is read back: which number stands after each of the six words.

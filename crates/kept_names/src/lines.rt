@@ -5,7 +5,7 @@ ghost use Rattle.kept_names.specs.Telling.{numbers_text, owner_text, owners_text
 ghost use Rattle.kept_names.specs.Telling.{user_text};
 
 use crate::finding::{Finding, What};
-use crate::names::{Accounts, group_name, user_name};
+use crate::names::{Accounts, Renumbering, group_name, user_name};
 use idtext::{push_escaped, push_number};
 use mtree_inv::Entry;
 use std::alloc::AllocError;
@@ -66,18 +66,17 @@ fn push_owners(
 // which is given.
 fn push_user_change(
     line: &mut Vec<u8>,
-    was: &Accounts<'_>,
-    now: &Accounts<'_>,
+    renumbering: &Renumbering<'_>,
     file: &Entry,
     uid: Option<u32>,
 ) -> Result<(), AllocError>
     ensures { OnOk result (line.new.items
-        ≡ line.old.items ++ user_change was.now now.now file.now uid) }
+        ≡ line.old.items ++ user_change renumbering.now file.now uid) }
 {
     if let Some(uid) = uid {
         line.extend_from_slice(b" user")?;
-        push_user(line, was, file.uid)?;
-        push_user(line, now, uid)?;
+        push_user(line, &renumbering.before, file.uid)?;
+        push_user(line, &renumbering.after, uid)?;
     }
     Ok(())
 }
@@ -85,31 +84,30 @@ fn push_user_change(
 // Appends the group that a file had in the same way.
 fn push_group_change(
     line: &mut Vec<u8>,
-    was: &Accounts<'_>,
-    now: &Accounts<'_>,
+    renumbering: &Renumbering<'_>,
     file: &Entry,
     gid: Option<u32>,
 ) -> Result<(), AllocError>
     ensures { OnOk result (line.new.items
-        ≡ line.old.items ++ group_change was.now now.now file.now gid) }
+        ≡ line.old.items ++ group_change renumbering.now file.now gid) }
 {
     if let Some(gid) = gid {
         line.extend_from_slice(b" group")?;
-        push_group(line, was, file.gid)?;
-        push_group(line, now, gid)?;
+        push_group(line, &renumbering.before, file.gid)?;
+        push_group(line, &renumbering.after, gid)?;
     }
     Ok(())
 }
 
 // Appends ` uid UID` and ` gid GID` of a file: those of the two that are asked for.
-fn push_numbers(line: &mut Vec<u8>, file: &Entry, uid: bool, gid: bool) -> Result<(), AllocError>
-    ensures { OnOk result (line.new.items ≡ line.old.items ++ numbers_text file.now uid gid) }
+fn push_numbers(line: &mut Vec<u8>, file: &Entry, user: bool, group: bool) -> Result<(), AllocError>
+    ensures { OnOk result (line.new.items ≡ line.old.items ++ numbers_text file.now user group) }
 {
-    if uid {
+    if user {
         line.extend_from_slice(b" uid ")?;
         push_number(line, u128::from(file.uid))?;
     }
-    if gid {
+    if group {
         line.extend_from_slice(b" gid ")?;
         push_number(line, u128::from(file.gid))?;
     }
@@ -119,23 +117,22 @@ fn push_numbers(line: &mut Vec<u8>, file: &Entry, uid: bool, gid: bool) -> Resul
 // Appends what a line says of a file after its path.
 fn push_details(
     line: &mut Vec<u8>,
-    was: &Accounts<'_>,
-    now: &Accounts<'_>,
+    renumbering: &Renumbering<'_>,
     file: &Entry,
     what: What,
 ) -> Result<(), AllocError>
     ensures { OnOk result (line.new.items
-        ≡ line.old.items ++ details was.now now.now file.now what) }
+        ≡ line.old.items ++ details renumbering.now file.now what) }
 {
     match what {
         What::Missing => Ok(()),
-        What::Changed(uid, gid) => {
-            push_user_change(line, was, now, file, uid)?;
-            push_group_change(line, was, now, file, gid)
+        What::Changed { uid, gid } => {
+            push_user_change(line, renumbering, file, uid)?;
+            push_group_change(line, renumbering, file, gid)
         }
-        What::New => push_owners(line, now, file, true, true),
-        What::Unnamed(uid, gid) => push_numbers(line, file, uid, gid),
-        What::Left(user, group) => push_owners(line, was, file, user, group),
+        What::New => push_owners(line, &renumbering.after, file, true, true),
+        What::Unnamed { user, group } => push_numbers(line, file, user, group),
+        What::Left { user, group } => push_owners(line, &renumbering.before, file, user, group),
     }
 }
 
@@ -145,27 +142,26 @@ fn word_of(what: What) -> &'static str
 {
     match what {
         What::Missing => "missing",
-        What::Changed(_, _) => "changed",
+        What::Changed { .. } => "changed",
         What::New => "new",
-        What::Unnamed(_, _) => "unnamed",
-        What::Left(_, _) => "left",
+        What::Unnamed { .. } => "unnamed",
+        What::Left { .. } => "left",
     }
 }
 
 /// Appends the line of a file: the names of its owners are looked up by hash.
 pub(crate) fn push_finding(
     lines: &mut Vec<u8>,
-    was: &Accounts<'_>,
-    now: &Accounts<'_>,
+    renumbering: &Renumbering<'_>,
     finding: &Finding<'_>,
 ) -> Result<(), AllocError>
     ensures { OnOk result (lines.new.items
-        ≡ lines.old.items ++ line_of was.now now.now finding.now) }
+        ≡ lines.old.items ++ line_of renumbering.now finding.now) }
 {
     lines.extend_from_slice(b"unify: ")?;
     lines.extend_from_slice(word_of(finding.what).as_bytes())?;
     lines.push(b' ')?;
     push_escaped(lines, finding.file.path.bytes())?;
-    push_details(lines, was, now, finding.file, finding.what)?;
+    push_details(lines, renumbering, finding.file, finding.what)?;
     lines.extend_from_slice(b"\n")
 }

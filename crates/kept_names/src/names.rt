@@ -12,6 +12,13 @@ pub struct Accounts<'a> {
     pub groups: GroupTable<'a>,
 }
 
+/// The accounts of a host before and after they got new numbers.
+#[derive(Drop)]
+pub struct Renumbering<'a> {
+    pub before: Accounts<'a>,
+    pub after: Accounts<'a>,
+}
+
 /// The name of the user with this number, if there is one. One hash look-up; takes no memory.
 pub(crate) fn user_name<'t, 'a>(accounts: &'t Accounts<'a>, uid: u32) -> Option<&'t [u8]>
     ensures { option_copied result ≡ user_at accounts.now.users uid }

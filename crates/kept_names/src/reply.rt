@@ -9,7 +9,7 @@ ghost use Rattle.kept_names.specs.Tally.{counts_by, more_lines, tally_of};
 use crate::changes::find_changes;
 use crate::finding::{Finding, What};
 use crate::lines::push_finding;
-use crate::names::Accounts;
+use crate::names::Renumbering;
 use crate::tally::Tally;
 use idtext::push_number;
 use mtree_inv::Inventory;
@@ -30,18 +30,17 @@ pub struct VerifyReply {
 // there are of each.
 fn push_first(
     lines: &mut Vec<u8>,
-    was: &Accounts<'_>,
-    now: &Accounts<'_>,
+    renumbering: &Renumbering<'_>,
     found: &[Finding<'_>],
     most: usize,
 ) -> Result<Tally, AllocError>
     ensures { IfOk result (λ tally. (tally ≡ tally_of found.now)
-        × (lines.new.items ≡ lines.old.items ++ first_lines was.now now.now most found.now)) }
+        × (lines.new.items ≡ lines.old.items ++ first_lines renumbering.now most found.now)) }
 {
     let mut tally = Tally::new();
     for finding in found {
         if tally.number(finding.what) < most {
-            push_finding(lines, was, now, finding)?;
+            push_finding(lines, renumbering, finding)?;
         }
         tally.count(finding.what);
     }
@@ -119,9 +118,9 @@ fn status_of(found: &[Finding<'_>]) -> u8
 }
 
 /// What `verify` tells of the files of two inventories, of which the first was made under the
-/// account files `was` and the second under `now`: on standard output how many there are, and on
-/// standard error the lines of the first `most` of each kind, in the order of [`find_changes`],
-/// and after all of them how many more there are of each kind.
+/// accounts before a renumbering and the second under those after it: on standard output how many
+/// there are, and on standard error the lines of the first `most` of each kind, in the order of
+/// [`find_changes`], and after all of them how many more there are of each kind.
 ///
 /// It takes what [`find_changes`] takes, and what it tells.
 ///
@@ -130,22 +129,21 @@ fn status_of(found: &[Finding<'_>]) -> u8
 /// `AllocError` where memory is refused.
 pub fn verify_reply(
     alloc: Global,
-    was: &Accounts<'_>,
-    now: &Accounts<'_>,
+    renumbering: &Renumbering<'_>,
     before: &Inventory,
     after: &Inventory,
     most: usize,
 ) -> Result<VerifyReply, AllocError>
     ensures output { IfOk result (λ reply. reply.output.items
-        ≡ telling.counts_text (counts_of was.now now.now before.now after.now)) }
+        ≡ telling.counts_text (counts_of renumbering.now before.now after.now)) }
     ensures errors { IfOk result (λ reply. reply.errors.items
-        ≡ found_text was.now now.now most (findings was.now now.now before.now after.now)) }
+        ≡ found_text renumbering.now most (findings renumbering.now before.now after.now)) }
     ensures status { IfOk result (λ reply. reply.status
-        ≡ telling.status_of (findings was.now now.now before.now after.now)) }
+        ≡ telling.status_of (findings renumbering.now before.now after.now)) }
 {
-    let found = find_changes(alloc, was, now, before, after)?;
+    let found = find_changes(alloc, renumbering, before, after)?;
     let mut errors = Vec::new(alloc);
-    let tally = push_first(&mut errors, was, now, &found, most)?;
+    let tally = push_first(&mut errors, renumbering, &found, most)?;
     push_rest(&mut errors, most, &tally)?;
     let output = counts_text(alloc, before.entries().len(), &tally)?;
     Ok(VerifyReply {

@@ -34,10 +34,10 @@ impl Tally {
     {
         match what {
             What::Missing => self.missing,
-            What::Changed(_, _) => self.changed,
+            What::Changed { .. } => self.changed,
             What::New => self.new,
-            What::Unnamed(_, _) => self.unnamed,
-            What::Left(_, _) => self.left,
+            What::Unnamed { .. } => self.unnamed,
+            What::Left { .. } => self.left,
         }
     }
 
@@ -48,10 +48,10 @@ impl Tally {
     {
         match what {
             What::Missing => self.missing += 1,
-            What::Changed(_, _) => self.changed += 1,
+            What::Changed { .. } => self.changed += 1,
             What::New => self.new += 1,
-            What::Unnamed(_, _) => self.unnamed += 1,
-            What::Left(_, _) => self.left += 1,
+            What::Unnamed { .. } => self.unnamed += 1,
+            What::Left { .. } => self.left += 1,
         }
     }
 

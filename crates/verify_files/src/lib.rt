@@ -9,7 +9,7 @@ mod reading;
 mod refused;
 
 use clap::ArgMatches;
-use kept_names::{Accounts, VerifyReply, verify_reply};
+use kept_names::{Renumbering, VerifyReply, verify_reply};
 use later::later_files;
 use mtree_inv::Inventory;
 use reading::{AccountTexts, read_account_texts, read_accounts, read_mtree};
@@ -29,13 +29,12 @@ fn tell_found(rt: &HostRuntime, reply: &VerifyReply) -> u8 {
 // Compares two inventories by the account files that each was made under.
 fn compare(
     rt: &HostRuntime,
-    was: &Accounts<'_>,
-    now: &Accounts<'_>,
+    renumbering: &Renumbering<'_>,
     before: &Inventory,
     after: &Inventory,
     most: usize,
 ) -> Result<u8, FileFault> {
-    let reply = verify_reply(rt.alloc(), was, now, before, after, most)?;
+    let reply = verify_reply(rt.alloc(), renumbering, before, after, most)?;
     Ok(tell_found(rt, &reply))
 }
 
@@ -43,14 +42,13 @@ fn compare(
 // with it. Where a part of the tree could not be read, that is the status.
 fn compare_with(
     rt: &HostRuntime,
-    was: &Accounts<'_>,
-    now: &Accounts<'_>,
+    renumbering: &Renumbering<'_>,
     before: &Inventory,
     path: &str,
     most: usize,
 ) -> Result<u8, FileFault> {
     let after = later_files(rt, path)?;
-    let status = compare(rt, was, now, before, &after.inventory, most)?;
+    let status = compare(rt, renumbering, before, &after.inventory, most)?;
     Ok(if after.is_whole { status } else { 3 })
 }
 
@@ -63,34 +61,33 @@ fn most_lines(matches: &ArgMatches<'_>) -> usize {
     }
 }
 
-// Reads the account files under the new numbers, and both inventories.
+// Reads both inventories.
 fn verify_under(
     rt: &HostRuntime,
     matches: &ArgMatches<'_>,
-    was: &Accounts<'_>,
-    texts: &AccountTexts<'_>,
+    renumbering: &Renumbering<'_>,
 ) -> Result<u8, FileFault> {
-    let now = read_accounts(rt, texts)?;
     let before = read_mtree(rt, matches.get_str("BEFORE").unwrap_or(""))?;
     compare_with(
         rt,
-        was,
-        &now,
+        renumbering,
         &before,
         matches.get_str("AFTER").unwrap_or(""),
         most_lines(matches),
     )
 }
 
-// Reads the account files under the old numbers.
-fn verify_texts(
+// Reads the account files under the old numbers, and those under the new ones.
+fn verify_texts<'t>(
     rt: &HostRuntime,
     matches: &ArgMatches<'_>,
-    was_texts: &AccountTexts<'_>,
-    now_texts: &AccountTexts<'_>,
+    was: &'t AccountTexts<'_>,
+    now: &'t AccountTexts<'_>,
 ) -> Result<u8, FileFault> {
-    let was = read_accounts(rt, was_texts)?;
-    verify_under(rt, matches, &was, now_texts)
+    let before = read_accounts(rt, was)?;
+    let after = read_accounts(rt, now)?;
+    let renumbering = Renumbering { before, after };
+    verify_under(rt, matches, &renumbering)
 }
 
 /// verify [--all] --was PASSWD GROUP --now PASSWD GROUP BEFORE AFTER

@@ -4,4 +4,7 @@ use Rattle.kept_names.specs.Kept.{left_file}
 use Rattle.kept_names.proofs.changes.push_left.Given as goal
 
 abbrev pub invariant-loop-file : goal.invariant-loop-file
-invariant-loop-file l = l.found.items ≡ l.fn.found.items ++ filter_map (left_file l.was l.now l.before) (take l.file-index l.files)
+invariant-loop-file l =
+    l.found.items
+    ≡ l.fn.found.items
+    ++ filter_map (left_file l.renumbering l.before) (take l.file-index l.files)

@@ -7,7 +7,18 @@ use Rattle.kept_names.proofs.changes.push_new.Goals.{in-Some+in_ok-push, in_defa
 pub loop-file-preserved : goal.loop-file-preserved
 loop-file-preserved c =
     let f = new_file c.args.before.now in
-    elim c.match-newness.branch [
-      | in-Some+in_ok-push w ↦ rw w.found-is (one_found f c.args.found.now.items c.loop-file.found.items _ c.args.files.now c.loop-file.file-index c.file-item.result c.loop-file-test.true c.file-item.is c.loop-file.invariant _ (ap (told_of c.file-item.result) (sym c.newness.ensures ∙ w.in-Some.is)) w.in_ok-push.ensures.items)
-      | in_default w ↦ rw w.found-is (none_found f c.args.found.now.items c.loop-file.found.items c.loop-file.found.items c.args.files.now c.loop-file.file-index c.file-item.result c.loop-file-test.true c.file-item.is c.loop-file.invariant (ap (told_of c.file-item.result) (sym c.newness.ensures ∙ w.in_default.is)))
+    elim c.match-find_new.branch [
+      | in-Some+in_ok-push w ↦
+          rw w.found-is
+          (one_found f c.args.found.now.items c.loop-file.found.items _ c.args.files.now
+          c.loop-file.file-index c.file-item.result c.loop-file-test.true c.file-item.is
+          c.loop-file.invariant _
+          (ap (told_of c.file-item.result) (sym c.find_new.ensures ∙ w.in-Some.is))
+          w.in_ok-push.ensures.items)
+      | in_default w ↦
+          rw w.found-is
+          (none_found f c.args.found.now.items c.loop-file.found.items c.loop-file.found.items
+          c.args.files.now c.loop-file.file-index c.file-item.result c.loop-file-test.true
+          c.file-item.is c.loop-file.invariant
+          (ap (told_of c.file-item.result) (sym c.find_new.ensures ∙ w.in_default.is)))
     ]

@@ -6,8 +6,19 @@ use Rattle.kept_names.proofs.changes.push_unnamed.Goals.{in-Some+in_ok-push, in_
 
 pub loop-file-preserved : goal.loop-file-preserved
 loop-file-preserved c =
-    let f = unnamed c.args.now.now in
-    elim c.match-lack_of_name.branch [
-      | in-Some+in_ok-push w ↦ rw w.found-is (one_found f c.args.found.now.items c.loop-file.found.items _ c.args.files.now c.loop-file.file-index c.file-item.result c.loop-file-test.true c.file-item.is c.loop-file.invariant _ (ap (told_of c.file-item.result) (sym c.lack_of_name.ensures ∙ w.in-Some.is)) w.in_ok-push.ensures.items)
-      | in_default w ↦ rw w.found-is (none_found f c.args.found.now.items c.loop-file.found.items c.loop-file.found.items c.args.files.now c.loop-file.file-index c.file-item.result c.loop-file-test.true c.file-item.is c.loop-file.invariant (ap (told_of c.file-item.result) (sym c.lack_of_name.ensures ∙ w.in_default.is)))
+    let f = unnamed c.args.accounts.now in
+    elim c.match-find_unnamed.branch [
+      | in-Some+in_ok-push w ↦
+          rw w.found-is
+          (one_found f c.args.found.now.items c.loop-file.found.items _ c.args.files.now
+          c.loop-file.file-index c.file-item.result c.loop-file-test.true c.file-item.is
+          c.loop-file.invariant _
+          (ap (told_of c.file-item.result) (sym c.find_unnamed.ensures ∙ w.in-Some.is))
+          w.in_ok-push.ensures.items)
+      | in_default w ↦
+          rw w.found-is
+          (none_found f c.args.found.now.items c.loop-file.found.items c.loop-file.found.items
+          c.args.files.now c.loop-file.file-index c.file-item.result c.loop-file-test.true
+          c.file-item.is c.loop-file.invariant
+          (ap (told_of c.file-item.result) (sym c.find_unnamed.ensures ∙ w.in_default.is)))
     ]

@@ -4,4 +4,5 @@ use Rattle.kept_names.specs.Kept.{unnamed}
 use Rattle.kept_names.proofs.changes.push_unnamed.Given as goal
 
 abbrev pub invariant-loop-file : goal.invariant-loop-file
-invariant-loop-file l = l.found.items ≡ l.fn.found.items ++ filter_map (unnamed l.now) (take l.file-index l.files)
+invariant-loop-file l =
+    l.found.items ≡ l.fn.found.items ++ filter_map (unnamed l.accounts) (take l.file-index l.files)

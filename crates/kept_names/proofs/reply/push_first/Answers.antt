@@ -10,7 +10,8 @@ use Rattle.kept_names.proofs.reply.push_first.Goals as goal
 use Rattle.kept_names.proofs.reply.push_first.Goals.{then-number-most+in_ok-push_finding, else-number-most}
 
 pub loop-finding-init : goal.loop-finding-init
-loop-finding-init c = (c.new-tally.ensures, lines-none c.args.was.now c.args.now.now c.args.most c.args.lines.now.items)
+loop-finding-init c =
+    (c.new-tally.ensures, lines-none c.args.renumbering.now c.args.most c.args.lines.now.items)
 
 pub count-requires : goal.count-requires
 count-requires c =
@@ -33,7 +34,16 @@ loop-finding-preserved c =
       c.count.ensures ∙ ap (λ t. one_more t c.finding.inside.what) c.loop-finding.invariant.0 ∙ ap (one_more (tally_of seen)) (sym what-is)
           ∙ sym (tally-more found i f c.loop-finding-test.true c.finding-item.is),
       elim c.if-number-most.branch [
-        | then-number-most+in_ok-push_finding w ↦ rw w.lines-is (told-more found i f c.loop-finding-test.true c.finding-item.is c.args.was.now c.args.now.now c.args.most c.args.lines.now.items c.loop-finding.lines.items c.loop-finding.invariant.1 _ (omega (arith, counted, w.if-number-most.true)) w.in_ok-push_finding.ensures)
-        | else-number-most w ↦ rw w.lines-is (not-told found i f c.loop-finding-test.true c.finding-item.is c.args.was.now c.args.now.now c.args.most c.args.lines.now.items c.loop-finding.lines.items c.loop-finding.invariant.1 (omega (arith, counted, w.if-number-most.false)))
+        | then-number-most+in_ok-push_finding w ↦
+            rw w.lines-is
+            (told-more found i f c.loop-finding-test.true c.finding-item.is c.args.renumbering.now
+            c.args.most c.args.lines.now.items c.loop-finding.lines.items
+            c.loop-finding.invariant.1 _ (omega (arith, counted, w.if-number-most.true))
+            w.in_ok-push_finding.ensures)
+        | else-number-most w ↦
+            rw w.lines-is
+            (not-told found i f c.loop-finding-test.true c.finding-item.is c.args.renumbering.now
+            c.args.most c.args.lines.now.items c.loop-finding.lines.items
+            c.loop-finding.invariant.1 (omega (arith, counted, w.if-number-most.false)))
       ],
     )

@@ -6,4 +6,5 @@ use Rattle.kept_names.proofs.reply.push_first.Given as goal
 abbrev pub invariant-loop-finding : goal.invariant-loop-finding
 invariant-loop-finding l =
     (l.tally ≡ tally_of (take l.finding-index l.found))
-    × (l.lines.items ≡ l.fn.lines.items ++ first_lines l.was l.now l.most (take l.finding-index l.found))
+    × (l.lines.items
+    ≡ l.fn.lines.items ++ first_lines l.renumbering l.most (take l.finding-index l.found))
