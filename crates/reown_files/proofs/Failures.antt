@@ -1,5 +1,5 @@
 -- Why calls have failed.
-use Rattle.std.proofs.Common.{◌≡◌, inl, inr, true, false, List, [], ◌∷◌, Option, None, Some, Result, Ok, Err, OnErr, refl, sym, subst}
+use Rattle.std.proofs.Common.{◌≡◌, inl, inr, true, false, List, [], ◌∷◌, Option, None, Some, Result, Ok, Err, IfErr, OnErr, refl, sym, subst}
 use Rattle.std.specs.Result.{is_ok}
 use Rattle.reown_files.specs.declared.answers.Stop.{Stop}
 use Rattle.reown_files.specs.Calls.{Called}
@@ -10,6 +10,11 @@ use Rattle.reown_files.specs.Real.{RealData, StopsAt, StopsSync, WasNotKept}
 pub failed_as : {T E P : Type 0} (r : Result T E) → (is_ok r ≡ false → P) → OnErr r P
 failed_as (Ok x) p = tt
 failed_as (Err e) p = p refl
+
+-- what follows of the error where a call failed
+pub failed_with : {T E : Type 0} (P : E → Type 0) (r : Result T E) → ((e : E) → is_ok r ≡ false → P e) → IfErr r P
+failed_with P (Ok x) p = tt
+failed_with P (Err e) p = p e refl
 
 -- what holds where a call failed
 pub where_failed : {T E P : Type 0} (r : Result T E) → OnErr r P → is_ok r ≡ false → P

@@ -13,11 +13,12 @@ use Rattle.reown_plan.specs.declared.plan.Record.{Record}
 use Rattle.reown_plan.specs.PlanData.{PlanRecord}
 use Rattle.reown_plan.specs.Records.{record_of}
 use Rattle.reown_files.specs.declared.answers.Modes.{Modes}
-use Rattle.reown_files.specs.Calls.{Called, Gave, SetMode, Kept, Settled, PutMark, LostMode, PutModes, CheckedLinks, ReadModes}
-use Rattle.reown_files.specs.Lawful.{is_planned, is_given, gives_by_plan, modes_stay, was_kept, all_kept, is_settled, is_synced, no_mode_failed, marks_last, is_unchanged, was_asked, all_asked, was_checked, all_checked, were_read, is_begun, begins_first, is_lawful}
+use Rattle.reown_files.specs.Calls.{Called, Met, Gave, SetMode, Kept, Settled, PutMark, LostMode, PutModes, CheckedLinks, ReadModes}
+use Rattle.reown_files.specs.Lawful.{ModeSet, is_set_to, is_planned, is_given, gives_by_plan, modes_stay, was_kept, all_kept, is_settled, is_synced, no_mode_failed, marks_last, is_unchanged, was_asked, all_asked, was_met, all_met, was_checked, all_checked, is_mode_kept, all_modes_kept, were_read, is_begun, begins_first, is_lawful}
 use Rattle.reown_files.specs.Real.{Grows, grows_on}
 use Rattle.reown_files.specs.Replay.{replay}
 use Rattle.std.specs.Bool.{beq}
+use Rattle.std.specs.Result.{is_ok}
 
 -- ---- tests
 
@@ -40,7 +41,7 @@ and_true false b e f = e
 nat_same : (n : ℕ) → (n == n) ≡ true
 nat_same n = grind (arith, nat_tests)
 
-owner_same : (o : Owner) → owner_eq o o ≡ true
+pub owner_same : (o : Owner) → owner_eq o o ≡ true
 owner_same o = and_true (o.uid == o.uid) (o.gid == o.gid) (nat_same o.uid) (nat_same o.gid)
 
 same_bool : (b : Bool) → beq b b ≡ true
@@ -59,6 +60,11 @@ all_one_more p (x ∷ xs) r h e =
 pub on_ok_any : {T E P : Type 0} (r : Result T E) → P → OnOk r P
 on_ok_any (Ok x) p = p
 on_ok_any (Err e) p = tt
+
+-- what follows where it was done
+pub on_ok_as : {T E P : Type 0} (r : Result T E) → (is_ok r ≡ true → P) → OnOk r P
+on_ok_as (Ok x) p = p refl
+on_ok_as (Err e) p = tt
 
 -- ---- the change of a record
 
@@ -90,6 +96,11 @@ module _ (mark : PlanMark) (records : List PlanRecord) (calls : List Called) whe
       (and_true (modes_stay calls) (marks_last mark records calls && begins_first mark records calls) modes
       (and_true (marks_last mark records calls) (begins_first mark records calls) last begins))
 
+-- a mode that was set as it is asked for
+set_as_asked : (path : List ℕ) (owner : Owner) (mode : ℕ) → is_set_to path owner mode (record { path = path; owner = owner; mode = mode }) ≡ true
+set_as_asked path owner mode =
+    and_true (bytes_eq path path) (owner_eq owner owner && (mode == mode)) (bytes_same path) (and_true (owner_eq owner owner) (mode == mode) (owner_same owner) (nat_same mode))
+
 module _ (mark : PlanMark) (records : List PlanRecord) (calls : List Called) (path : List ℕ) (before after : Owner) (planned : is_planned records path before after ≡ true) (begun : is_begun records calls ≡ true) (h : is_lawful mark records calls ≡ true) where
   abbrev parts : (gives_by_plan records calls ≡ true) × (modes_stay calls ≡ true) × (marks_last mark records calls ≡ true) × (begins_first mark records calls ≡ true)
   parts = lawful_parts mark records calls h
@@ -111,10 +122,11 @@ module _ (mark : PlanMark) (records : List PlanRecord) (calls : List Called) (pa
       (and_true (modes.before == modes.after) (modes_stay calls) (ap (λ n. modes.before == n) (sym same) ∙ nat_same modes.before) parts.1) parts.2 behind
 
   -- one after which the mode was set back
-  pub lawful_set_back : (modes : Modes) (owner : Owner) (done : Bool) → is_lawful mark records (SetMode path owner modes.before done ∷ Gave path before after (Some modes) ∷ calls) ≡ true
-  lawful_set_back modes owner done =
-      lawful_of mark records (SetMode path owner modes.before done ∷ Gave path before after (Some modes) ∷ calls) more
-      (and_true (bytes_eq path path && (modes.before == modes.before)) (modes_stay calls) (and_true (bytes_eq path path) (modes.before == modes.before) (bytes_same path) (nat_same modes.before)) parts.1) parts.2 behind
+  pub lawful_set_back : (modes : Modes) (done : Bool) → is_lawful mark records (SetMode path after modes.before done ∷ Gave path before after (Some modes) ∷ calls) ≡ true
+  lawful_set_back modes done =
+      let set : ModeSet = record { path = path; owner = after; mode = modes.before } in
+      lawful_of mark records (SetMode path after modes.before done ∷ Gave path before after (Some modes) ∷ calls) more
+      (and_true (is_set_to path after modes.before set) (modes_stay calls) (set_as_asked path after modes.before) parts.1) parts.2 behind
 
 -- the mark, where all files are synced and no mode failed to be set
 pub lawful_mark : (mark : PlanMark) (records : List PlanRecord) (calls : List Called) (plan : PlanMark) (done : Bool) → mark_eq plan mark ≡ true → is_synced records calls ≡ true → no_mode_failed calls ≡ true → is_lawful mark records calls ≡ true → is_lawful mark records (PutMark plan done ∷ calls) ≡ true
@@ -154,15 +166,16 @@ module _ (mark : PlanMark) (records : List PlanRecord) (calls : List Called) (re
     -- one that was lost, and set back
     pub lawful_found : (mode : ℕ) (done : Bool) → is_lawful mark records (SetMode path owner mode done ∷ LostMode mark path owner (Some mode) ∷ calls) ≡ true
     lawful_found mode done =
+        let set : ModeSet = record { path = path; owner = owner; mode = mode } in
         lawful_of mark records (SetMode path owner mode done ∷ LostMode mark path owner (Some mode) ∷ calls) held.0
-        (and_true (bytes_eq path path && (mode == mode)) (modes_stay calls) (and_true (bytes_eq path path) (mode == mode) (bytes_same path) (nat_same mode)) held.1) held.2 (asks (Some mode))
+        (and_true (is_set_to path owner mode set) (modes_stay calls) (set_as_asked path owner mode) held.1) held.2 (asks (Some mode))
 
 all_also : (p q : PlanRecord → Bool) → ((r : PlanRecord) → p r ≡ true → q r ≡ true) → (rs : List PlanRecord) → list_all p rs ≡ true → list_all q rs ≡ true
 all_also p q each [] h = refl
 all_also p q each (r ∷ rs) h =
     let hs = both (p r) (list_all p rs) h in and_true (q r) (list_all q rs) (each r hs.0) (all_also p q each rs hs.1)
 
-given_same : (r : PlanRecord) → is_given r.path r.after r ≡ true
+pub given_same : (r : PlanRecord) → is_given r.path r.after r ≡ true
 given_same r = and_true (bytes_eq r.path r.path) (owner_eq r.after r.after) (bytes_same r.path) (owner_same r.after)
 
 pub given_at : (rs : List Record) (i : ℕ) (d : Record) → i < length rs → list_any (is_given (record_of (get_or rs i d)).path (record_of (get_or rs i d)).after) (map record_of rs) ≡ true
@@ -252,10 +265,37 @@ synced_stays old new each settled records h =
 -- ---- before the first change
 
 -- modes that were read now
-pub read_now : (mark : PlanMark) (set : Bool) (calls : List Called) → set ≡ is_marked_for mark (replay calls).mark → were_read mark (ReadModes mark set true ∷ calls) ≡ true
-read_now mark set calls e =
+pub read_now : (mark : PlanMark) (set begun : Bool) (calls : List Called) → set ≡ is_marked_for mark (replay calls).mark → were_read mark (ReadModes mark set (Some begun) ∷ calls) ≡ true
+read_now mark set begun calls e =
     or_first (mark_eq mark mark && beq set (is_marked_for mark (replay calls).mark)) (were_read mark calls)
     (and_true (mark_eq mark mark) (beq set (is_marked_for mark (replay calls).mark)) (mark_same mark) (ap (beq set) (sym e) ∙ same_bool set))
+
+-- files of which some were met stay so
+met_stays : (path : List ℕ) (after : Owner) (found : Option Owner) (calls : List Called) (r : PlanRecord) → was_met calls r ≡ true → was_met (Met path after found ∷ calls) r ≡ true
+met_stays path after found calls r h = or_true (is_given path after r) (was_met calls r) h
+
+now_met : (r : PlanRecord) (found : Option Owner) (calls : List Called) → was_met (Met r.path r.after found ∷ calls) r ≡ true
+now_met r found calls = or_first (is_given r.path r.after r) (was_met calls r) (given_same r)
+
+-- one turn of a loop that meets them
+pub meets_on : (rs : List PlanRecord) (i : ℕ) (old new : List Called) (found : Option Owner) → i < length rs → new ≡ Met (get_or rs i nothing).path (get_or rs i nothing).after found ∷ old → all_met (take i rs) old ≡ true → all_met (take (i + 1) rs) new ≡ true
+meets_on rs i old new found below is h =
+    let r = get_or rs i nothing in
+    let last = Met r.path r.after found ∷ old in
+    ap (all_met (take (i + 1) rs)) is ∙ ap (λ xs. all_met xs last) (take_more rs i nothing below)
+    ∙ all_one_more (was_met last) (take i rs) r (all_also (was_met old) (was_met last) (λ x k. met_stays r.path r.after found old x k) (take i rs) h) (now_met r found old)
+
+-- a look at names leaves them so
+pub met_behind_links : (path : List ℕ) (done : Bool) (old new : List Called) (records : List PlanRecord) → new ≡ CheckedLinks path done ∷ old → all_met records old ≡ true → all_met records new ≡ true
+met_behind_links path done old new records is h =
+    ap (all_met records) is ∙ all_also (was_met old) (was_met (CheckedLinks path done ∷ old)) (λ r e. e) records h
+
+-- and is lawful once all were met
+pub lawful_links : (mark : PlanMark) (records : List PlanRecord) (path : List ℕ) (done : Bool) (old new : List Called) → new ≡ CheckedLinks path done ∷ old → all_met records old ≡ true → is_lawful mark records old ≡ true → is_lawful mark records new ≡ true
+lawful_links mark records path done old new is met h =
+    let parts = lawful_parts mark records old h in
+    ap (is_lawful mark records) is
+    ∙ lawful_of mark records (CheckedLinks path done ∷ old) parts.0 parts.1 parts.2 (and_true (all_met records old) (begins_first mark records old) met parts.3)
 
 -- files of which some had their names looked at stay so
 pub checked_on : (old new : List Called) → ((r : PlanRecord) → was_checked old r ≡ true → was_checked new r ≡ true) → (records : List PlanRecord) → all_checked records old ≡ true → all_checked records new ≡ true
@@ -275,17 +315,40 @@ checks_on rs i old new done below is e h =
     ap (all_checked (take (i + 1) rs)) (is ∙ ap (λ b. CheckedLinks r.path b ∷ old) e) ∙ ap (λ xs. all_checked xs last) (take_more rs i nothing below)
     ∙ all_one_more (was_checked last) (take i rs) r (checked_on old last (λ x k. checked_stays r.path true old x k) (take i rs) h) (now_checked r old)
 
+kept_or : (same kept : Bool) → kept ≡ true → (same || cond same false kept) ≡ true
+kept_or true kept h = refl
+kept_or false kept h = h
+
+-- a mode that was set back is kept by the sync of its file
+pub mode_kept_now : (path : List ℕ) (owner set : Owner) (mode : ℕ) (done : Bool) (calls : List Called) (r : PlanRecord) → is_mode_kept calls r ≡ true → is_mode_kept (Kept path owner true ∷ SetMode path set mode done ∷ calls) r ≡ true
+mode_kept_now path owner set mode done calls r h = kept_or (bytes_eq path r.path) (is_mode_kept calls r) h
+
+all_always : (p : PlanRecord → Bool) → ((r : PlanRecord) → p r ≡ true) → (rs : List PlanRecord) → list_all p rs ≡ true
+all_always p each [] = refl
+all_always p each (r ∷ rs) = and_true (p r) (list_all p rs) (each r) (all_always p each rs)
+
 -- the modes that a run may lose are written down
-pub lawful_put_modes : (mark : PlanMark) (records : List PlanRecord) (calls : List Called) (done : Bool) → all_checked records calls ≡ true → were_read mark calls ≡ true → is_unchanged calls ≡ true → is_settled calls ≡ true → is_lawful mark records calls ≡ true
+pub lawful_put_modes : (mark : PlanMark) (records : List PlanRecord) (calls : List Called) (done : Bool) → all_checked records calls ≡ true → were_read mark calls ≡ true → is_unchanged calls ≡ true → ((r : PlanRecord) → is_mode_kept calls r ≡ true) → is_settled calls ≡ true → is_lawful mark records calls ≡ true
     → is_lawful mark records (PutModes mark done ∷ calls) ≡ true
-lawful_put_modes mark records calls done checked read unchanged settled h =
+lawful_put_modes mark records calls done checked read unchanged each settled h =
     let parts = lawful_parts mark records calls h in
+    let kept = all_always (is_mode_kept calls) each records in
+    let last = all_modes_kept records calls && (is_settled calls && begins_first mark records calls) in
     lawful_of mark records (PutModes mark done ∷ calls) parts.0 parts.1 parts.2
-    (and_true (mark_eq mark mark) (all_checked records calls && (were_read mark calls && (is_unchanged calls && (is_settled calls && begins_first mark records calls)))) (mark_same mark)
-    (and_true (all_checked records calls) (were_read mark calls && (is_unchanged calls && (is_settled calls && begins_first mark records calls))) checked
-    (and_true (were_read mark calls) (is_unchanged calls && (is_settled calls && begins_first mark records calls)) read
-    (and_true (is_unchanged calls) (is_settled calls && begins_first mark records calls) unchanged
-    (and_true (is_settled calls) (begins_first mark records calls) settled parts.3)))))
+    (and_true (mark_eq mark mark) (all_checked records calls && (were_read mark calls && (is_unchanged calls && last))) (mark_same mark)
+    (and_true (all_checked records calls) (were_read mark calls && (is_unchanged calls && last)) checked
+    (and_true (were_read mark calls) (is_unchanged calls && last) read
+    (and_true (is_unchanged calls) last unchanged
+    (and_true (all_modes_kept records calls) (is_settled calls && begins_first mark records calls) kept
+    (and_true (is_settled calls) (begins_first mark records calls) settled parts.3))))))
+
+-- after a sync of all that was done
+pub lawful_begun : (mark : PlanMark) (records : List PlanRecord) (old mid new : List Called) (synced done : Bool) → mid ≡ Settled synced ∷ old → synced ≡ true → new ≡ PutModes mark done ∷ mid
+    → all_checked records old ≡ true → were_read mark old ≡ true → is_unchanged old ≡ true → ((r : PlanRecord) → is_mode_kept old r ≡ true) → is_lawful mark records old ≡ true → is_lawful mark records new ≡ true
+lawful_begun mark records old mid new synced done settles is puts checked read unchanged each h =
+    let last = Settled synced ∷ old in
+    ap (is_lawful mark records) (puts ∙ ap (λ cs. PutModes mark done ∷ cs) settles)
+    ∙ lawful_put_modes mark records last done (checked_on old last (λ r e. e) records checked) read unchanged each (or_first synced (is_settled old) is) h
 
 -- ---- calls that were made since
 

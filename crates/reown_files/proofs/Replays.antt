@@ -61,7 +61,7 @@ none_found (r ∷ rs) (o ∷ os) path h =
 abbrev path_in : PlanRecord → List ℕ
 path_in r = r.path
 
-differ : (a b : List ℕ) → a ≢ b → bytes_eq a b ≡ false
+pub differ : (a b : List ℕ) → a ≢ b → bytes_eq a b ≡ false
 differ a b ne = elim (either (bytes_eq a b)) [ inl same ↦ absurd (ne ((bytes_decides a b).0 same)) | inr other ↦ other ]
 
 module _ (rs : List PlanRecord) (distinct : HaveDistinctPaths rs) (i : ℕ) (below : i < length rs) where

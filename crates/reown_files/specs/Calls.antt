@@ -11,8 +11,8 @@ use Rattle.reown_files.specs.declared.answers.Trouble.{Trouble}
 pub data Called : Type 0 where
   -- this was seen of a file, if it is there
   Looked : (path : List ℕ) (seen : Option Seen) → Called
-  -- a file was met, with this owner or not there
-  Met : (path : List ℕ) (found : Option Owner) → Called
+  -- a file that is to have this owner was met, with an owner or not there
+  Met : (path : List ℕ) (after : Owner) (found : Option Owner) → Called
   -- the mark of a plan was met, there or not
   MetMark : (plan : PlanMark) (set : Bool) → Called
   -- a file was seen at this owner, or not there
@@ -38,8 +38,8 @@ pub data Called : Type 0 where
   -- it was to be synced
   KeptMark : (done : Bool) → Called
   -- the modes that an earlier run of a plan wrote down were to be read, where its mark was there or
-  -- not
-  ReadModes : (plan : PlanMark) (set : Bool) (done : Bool) → Called
+  -- not; and this is whether there are such, if that could be told
+  ReadModes : (plan : PlanMark) (set : Bool) (begun : Option Bool) → Called
   -- the mode was asked for that was read of a plan for a file, which has this owner now and lacks
   -- bits of that mode
   LostMode : (plan : PlanMark) (path : List ℕ) (owner : Owner) (mode : Option ℕ) → Called

@@ -1,8 +1,9 @@
 -- Which call on a disk has failed.
 -- Source: this project's own rule.
-use Rattle.std.specs.Prelude.{◌≡◌, ◌≢◌, ℕ, Bool, false, List, [], ◌∷◌, ◌++◌, Option, None, ⊤}
+use Rattle.std.specs.Prelude.{◌≡◌, ◌≢◌, ℕ, Bool, false, List, [], ◌∷◌, ◌++◌, Option, None}
 use Rattle.reown_plan.specs.declared.mark.PlanMark.{PlanMark}
 use Rattle.reown_plan.specs.declared.plan.Owner.{Owner}
+use Rattle.reown_files.specs.declared.answers.Trouble.{Trouble}
 use Rattle.reown_files.specs.Calls.{Called, Gave, Kept, Settled, SetMode, ReadModes, PutModes}
 use Rattle.reown_files.specs.Calls.{CheckedLinks, NotSeen, MarkNotSeen, Saw, SawMark, PutMark}
 use Rattle.reown_files.specs.Calls.{KeptMark}
@@ -12,23 +13,23 @@ abbrev pub Last : (Called → Type 0) → List Called → Type 0
 Last Is [] = ⊥
 Last Is (call ∷ calls) = Is call
 
--- it was made on the file of this path, and failed
-abbrev pub FailsOn : List ℕ → Called → Type 0
-FailsOn path (NotSeen q trouble) = q ≡ path
-FailsOn path (CheckedLinks q done) = (q ≡ path) × (done ≡ false)
-FailsOn path (SetMode q owner mode done) = (q ≡ path) × (done ≡ false)
-FailsOn path (Kept q owner done) = (q ≡ path) × (done ≡ false)
-FailsOn path _ = ⊥
+-- it was made on the file of this path, and failed; for this, where it was a look
+abbrev pub FailsOn : List ℕ → Trouble → Called → Type 0
+FailsOn path trouble (NotSeen q why) = (q ≡ path) × (why ≡ trouble)
+FailsOn path trouble (CheckedLinks q done) = (q ≡ path) × (done ≡ false)
+FailsOn path trouble (SetMode q owner mode done) = (q ≡ path) × (done ≡ false)
+FailsOn path trouble (Kept q owner done) = (q ≡ path) × (done ≡ false)
+FailsOn path trouble _ = ⊥
 
--- it was a look at the mark, or the sync of all, and failed
-abbrev pub FailsOnDisk : Called → Type 0
-FailsOnDisk (MarkNotSeen plan trouble) = ⊤
-FailsOnDisk (Settled done) = done ≡ false
-FailsOnDisk _ = ⊥
+-- it was a look at the mark, which failed for this, or the sync of all, which failed
+abbrev pub FailsOnDisk : Trouble → Called → Type 0
+FailsOnDisk trouble (MarkNotSeen plan why) = why ≡ trouble
+FailsOnDisk trouble (Settled done) = done ≡ false
+FailsOnDisk trouble _ = ⊥
 
 -- it was to read modes that were written down, or to write them down, and failed
 abbrev pub FailsOnModes : Called → Type 0
-FailsOnModes (ReadModes plan set done) = done ≡ false
+FailsOnModes (ReadModes plan set begun) = begun ≡ None
 FailsOnModes (PutModes plan done) = done ≡ false
 FailsOnModes _ = ⊥
 

@@ -5,9 +5,12 @@ pub mod Lawful
 pub mod Replay
 pub mod Real
 pub mod Counting
+pub mod Stages
 pub mod Opening
 pub mod MarkText
 pub mod Laws
 pub mod Examples
+pub mod Runs
+pub mod CountExample
 pub mod ModesNoted
 pub mod OneFile

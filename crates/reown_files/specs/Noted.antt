@@ -8,7 +8,7 @@ use Rattle.reown_files.specs.declared.log.Call.TheVariants as call
 
 abbrev pub noted : Call → Called
 noted (call.Looked path seen) = Looked path.now seen
-noted (call.Met path found) = Met path.now found
+noted (call.Met path after found) = Met path.now after found
 noted (call.MetMark plan set) = MetMark plan.now set
 noted (call.Saw path found) = Saw path.now found
 noted (call.SawMark plan set) = SawMark plan.now set
@@ -21,6 +21,6 @@ noted (call.Kept path owner done) = Kept path.now owner done
 noted (call.Settled done) = Settled done
 noted (call.PutMark plan done) = PutMark plan.now done
 noted (call.KeptMark done) = KeptMark done
-noted (call.ReadModes plan set done) = ReadModes plan.now set done
+noted (call.ReadModes plan set begun) = ReadModes plan.now set begun
 noted (call.LostMode plan path owner mode) = LostMode plan.now path.now owner mode
 noted (call.PutModes plan done) = PutModes plan.now done

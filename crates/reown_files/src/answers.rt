@@ -80,8 +80,10 @@ pub enum OpenFault {
     Missing(usize),
     /// 38: the file of this record has this owner, which is neither its old nor its new one.
     Foreign(usize, Owner),
-    /// The plan's mark is set, and the file of this record has its old owner.
+    /// 44: the plan's mark is set, and the file of this record has its old owner.
     Unfinished(usize),
+    /// 48: the plan was not begun, and the file of this record has its new owner.
+    AlreadyChanged(usize),
     /// The file of this record could not be looked at.
     File(usize, Trouble),
     /// The mark could not be looked at, or the disk not be synced.

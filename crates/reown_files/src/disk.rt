@@ -25,7 +25,8 @@ pub trait Disk: Drop {
     /// made for it. Its names are counted, and where it has its new owner already, which an earlier
     /// run gave it, that is synced.
     fn meet(&mut self, path: &[u8], after: Owner) -> Result<Option<Owner>, Trouble>
-        ensures met { IfOk result (λ found. calls self.new ≡ Met path.now found ∷ calls self.old) }
+        ensures met { IfOk result
+            (λ found. calls self.new ≡ Met path.now after found ∷ calls self.old) }
         ensures failed { IfErr result
             (λ trouble. calls self.new ≡ NotSeen path.now trouble ∷ calls self.old) };
 
@@ -45,7 +46,9 @@ pub trait Disk: Drop {
         ensures failed { IfErr result
             (λ trouble. calls self.new ≡ NotSeen path.now trouble ∷ calls self.old) };
 
-    /// Gives a file that has one owner another, and tells its mode before and after.
+    /// Gives a file that has one owner another, and tells its mode before and after. A file with
+    /// several names is given once, with its last name; until then the record of calls has what the
+    /// disk has still to do.
     fn give(&mut self, path: &[u8], before: Owner, after: Owner) -> Result<Modes, Trouble>
         ensures gave { IfOk result
             (λ modes. calls self.new ≡ Gave path.now before after (Some modes) ∷ calls self.old) }
@@ -76,11 +79,14 @@ pub trait Disk: Drop {
     fn put_mark(&mut self, plan: &PlanMark) -> Result<(), Trouble>
         ensures { calls self.new ≡ PutMark plan.now (is_ok result) ∷ calls self.old };
 
-    /// Reads the modes that an earlier run of this plan wrote down, if there is one that did. Where
-    /// the mark is there, that run has lost none. Fails where another plan was begun with this mark
-    /// and has not ended.
-    fn read_modes(&mut self, plan: &PlanMark, mark: bool) -> Result<(), Trouble>
-        ensures { calls self.new ≡ ReadModes plan.now mark (is_ok result) ∷ calls self.old };
+    /// Reads the modes that an earlier run of this plan wrote down, and answers whether there are
+    /// such, which tells that the plan was begun. Where the mark is there, that run has lost none.
+    /// Fails where another plan was begun with this mark and has not ended.
+    fn read_modes(&mut self, plan: &PlanMark, mark: bool) -> Result<bool, Trouble>
+        ensures told { IfOk result
+            (λ begun. calls self.new ≡ ReadModes plan.now mark (Some begun) ∷ calls self.old) }
+        ensures failed { OnErr result
+            (calls self.new ≡ ReadModes plan.now mark None ∷ calls self.old) };
 
     /// The mode that was read of this plan for a file, where the file has this owner and its mode
     /// lacks bits of that one, as a change of its owner clears them; none where it has another

@@ -3,6 +3,7 @@
 
 mod answers;
 mod applying;
+mod by_example;
 mod comparing;
 mod counting;
 mod disk;
@@ -16,12 +17,14 @@ mod read_back;
 mod real_tree;
 mod restoring;
 mod root;
+mod stage;
 mod walk;
 mod way;
 mod whole_file;
 
 pub use answers::{Modes, OpenFault, Seen, Stop, Trouble};
 pub use applying::apply;
+pub use by_example::{counts_by_example, lawful_calls_by_example};
 pub use counting::{Count, OwnerCounts, Unfit, count_owners};
 pub use disk::Disk;
 pub use log::{Call, Log};
@@ -29,3 +32,4 @@ pub use modes_file::MODES_BEHIND;
 pub use read_back::{marks_and_modes_by_example, marks_are_read_back, modes_are_read_back};
 pub use real_tree::{RealTree, Refused};
 pub use root::Root;
+pub use stage::owners_go_by_stage;

@@ -23,8 +23,8 @@ impl Model for Log {
 pub enum Call<'a> {
     /// The file of this path was looked at, and this was seen of it, if it is there.
     Looked(&'a [u8], Option<Seen>),
-    /// The file of this path was met, with this owner or not there.
-    Met(&'a [u8], Option<Owner>),
+    /// The file of this path, which is to have this owner, was met, with an owner or not there.
+    Met(&'a [u8], Owner, Option<Owner>),
     /// The mark of this plan was met, there or not.
     MetMark(&'a PlanMark, bool),
     /// The file of this path was seen at this owner, or not there.
@@ -50,8 +50,8 @@ pub enum Call<'a> {
     /// That mark was to be synced.
     KeptMark(bool),
     /// The modes that an earlier run of this plan wrote down were to be read, where its mark was
-    /// there or not.
-    ReadModes(&'a PlanMark, bool, bool),
+    /// there or not; and this is whether there are such, if that could be told.
+    ReadModes(&'a PlanMark, bool, Option<bool>),
     /// The mode was asked for that an earlier run of this plan had lost of a file, which has this
     /// owner now.
     LostMode(&'a PlanMark, &'a [u8], Owner, Option<u32>),

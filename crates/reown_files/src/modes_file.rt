@@ -273,39 +273,39 @@ impl<'w> ModesFile<'w> {
         Ok(())
     }
 
-    // Reads a text that is there.
+    // Reads a text that is there, and answers whether it is of this plan.
     fn read_text(
         &mut self,
         plan: &PlanMark,
         text: &[u8],
         mark: &MarkFile<'_>,
-    ) -> Result<(), Trouble> {
+    ) -> Result<bool, Trouble> {
         let head = head_of(self.rt.alloc(), plan)?;
         let beside = mark.text()?.unwrap_or(Vec::new(self.rt.alloc()));
         let Some(lines) = judge(text, &head, &beside)? else {
-            return Ok(());
+            return Ok(false);
         };
         if !self.is_over {
             let all = read_lines(self.rt.alloc(), lines)?;
             self.noted = tree_of(self.rt.alloc(), all)?;
             self.plan = Some(*plan);
         }
-        Ok(())
+        Ok(true)
     }
 
-    /// Reads what an earlier run of this plan wrote down, if one did; none is lost where its mark
-    /// is there. A file that is cut, or has no modes, is refused, and so is that of another plan
-    /// which has not ended; that of one which has is none of this one's.
+    /// Reads what an earlier run of this plan wrote down, and answers whether one did; none is lost
+    /// where its mark is there. A file that is cut, or has no modes, is refused, and so is that of
+    /// another plan which has not ended; that of one which has is none of this one's.
     pub fn read(
         &mut self,
         plan: &PlanMark,
         is_marked: bool,
         mark: &MarkFile<'_>,
-    ) -> Result<(), Trouble> {
+    ) -> Result<bool, Trouble> {
         self.is_over = is_marked;
         match read_whole(self.rt, self.path.as_str(), MOST_BYTES, Trouble::NotModes)? {
             Some(text) => self.read_text(plan, &text, mark),
-            None => Ok(()),
+            None => Ok(false),
         }
     }
 

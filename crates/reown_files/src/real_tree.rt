@@ -69,8 +69,9 @@ impl<'p, 'a, D: Disk> Model for RealTree<'p, 'a, D> {
 
 ghost use Rattle.reown_files.specs.Lawful.{is_lawful, is_mark_kept, is_planned, is_unchanged};
 ghost use Rattle.reown_files.specs.Calls.{Saw, SawMark};
-ghost use Rattle.reown_files.specs.Opening.{IsRefusal};
+ghost use Rattle.reown_files.specs.Opening.{IsRefusal, MetFit};
 ghost use Rattle.reown_files.specs.Replay.{replay};
+ghost use Rattle.reown_files.specs.Stages.{stage_in};
 ghost use Rattle.reown_files.specs.Real.{RealData, HoldsReplay, known_real, readable_real};
 ghost use Rattle.reown_files.specs.Real.{Grows, IsLater, later_rests, later_goes_on, place_of};
 ghost use Rattle.reown_files.specs.Real.{StopsAt, StopsSync, AsksMore, KeepsMore, GivesMore};
@@ -88,33 +89,43 @@ impl<'p, 'a, D: Disk> RealTree<'p, 'a, D> {
     /// Opens the files of a plan on a disk, as an earlier run of the plan may have left them, or
     /// none. What modes such a run lost are set back; that and what else it did is synced, so that
     /// a stop of the machine leaves it; and those that this one may lose are written down. Three
-    /// passes over the plan.
+    /// passes over the plan. A plan was begun where its modes are written down, or its mark is
+    /// there; or the caller knows that it was, by `was_begun`.
     ///
     /// # Errors
     ///
     /// Modes of an earlier run that cannot be read, or another plan that has not ended; then the
     /// first record, in order, whose file is not there, or has neither its old nor its new owner,
-    /// or its old one where the mark is set; then the first whose file has a name that is not in
-    /// the plan; a call of the disk that failed; or want of memory. Nothing is changed then but
-    /// modes that were set back, and the disk is handed back.
-    pub fn open(alloc: Global, plan: &'p Plan<'a>, mut disk: D) -> Result<Self, Refused<D>>
+    /// or its old one where the mark is set, or its new one where the plan was not begun; then the
+    /// first whose file has a name that is not in the plan; a call of the disk that failed; or want
+    /// of memory. Nothing is changed then but modes that were set back, and the disk is handed
+    /// back.
+    pub fn open(
+        alloc: Global,
+        plan: &'p Plan<'a>,
+        was_begun: bool,
+        mut disk: D,
+    ) -> Result<Self, Refused<D>>
         requires { D.calls disk ≡ [] }
         ensures mark { IfOk result (λ tree. tree.mark ≡ mark_of plan.now) }
         ensures records { IfOk result (λ tree. tree.records ≡ plan.now.records) }
         ensures safe { IfOk result
             (λ tree. MayGoOn plan.now.records (cells_of (mark_of plan.now) (known_real tree))) }
+        ensures fit { IfOk result (λ tree. MetFit
+            (stage_in was_begun (mark_of plan.now) (replay tree.calls))
+            plan.now.records tree.calls) }
         ensures none_failed { IfOk result
             (λ tree. (tree.faults ≡ 0) × (tree.stop ≡ None) × (tree.asked ≡ 0)) }
         ensures unchanged { IfErr result (λ refused. is_unchanged (D.calls refused.disk) ≡ true) }
         ensures lawful { IfErr result (λ refused.
             is_lawful (mark_of plan.now) plan.now.records (D.calls refused.disk) ≡ true) }
         ensures refused { IfErr result (λ refused. IsRefusal
-            (is_marked_for (mark_of plan.now) (replay (D.calls refused.disk)).mark)
+            (stage_in was_begun (mark_of plan.now) (replay (D.calls refused.disk)))
             plan.now.records (D.calls refused.disk) refused.fault) }
     {
         let mark = plan.mark();
         let records = plan.records();
-        match begun_tree(alloc, &mut disk, &mark, records) {
+        match begun_tree(alloc, &mut disk, &mark, records, was_begun) {
             Ok(held) => Ok(RealTree {
                 mark,
                 records,

@@ -1,11 +1,11 @@
 //! The modes of a plan's files around its run: those that an earlier run lost are set back, and
 //! those that this one may lose are written down.
-ghost use Rattle.std.specs.Prelude.{◌≡◌, ◌∷◌, ◌++◌, [], true, List, map, IfErr, OnOk, OnErr};
+ghost use Rattle.std.specs.Prelude.{◌≡◌, ◌∷◌, ◌++◌, [], true, List, map, IfErr, OnOk};
 ghost use Rattle.std.specs.List.{list_any};
 ghost use Rattle.reown_plan.specs.PlanData.{PlanRecord};
 ghost use Rattle.reown_plan.specs.Records.{record_of};
 ghost use Rattle.reown_files.specs.Lawful.{is_given, is_unchanged, all_asked, is_begun, is_lawful};
-ghost use Rattle.reown_files.specs.Lawful.{no_mode_failed, all_checked, were_read};
+ghost use Rattle.reown_files.specs.Lawful.{no_mode_failed, all_checked, is_mode_kept, were_read};
 ghost use Rattle.reown_files.specs.Failed.{Last, FailsOn};
 ghost use Rattle.reown_files.specs.Opening.{IsTrouble};
 ghost use Rattle.reown_files.specs.Replay.{replay};
@@ -15,12 +15,15 @@ use reown_plan::{PlanMark, Record};
 
 // Sets the mode of a record's file back, where an earlier run had lost it.
 fn set_back<D: Disk>(disk: &mut D, plan: &PlanMark, planned: &Record) -> Result<(), Trouble>
-    ensures failed { OnErr result (Last (FailsOn (record_of planned.now).path) (D.calls disk.new)) }
+    ensures failed { IfErr result
+        (λ trouble. Last (FailsOn (record_of planned.now).path trouble) (D.calls disk.new)) }
     ensures asked { OnOk result ((before : List PlanRecord)
         → all_asked before (D.calls disk.old) ≡ true
         → all_asked (before ++ record_of planned.now ∷ []) (D.calls disk.new) ≡ true) }
     ensures modes { OnOk result
         (no_mode_failed (D.calls disk.new) ≡ no_mode_failed (D.calls disk.old)) }
+    ensures kept { OnOk result ((r : PlanRecord) → is_mode_kept (D.calls disk.old) r ≡ true
+        → is_mode_kept (D.calls disk.new) r ≡ true) }
     ensures checked { (records : List PlanRecord) → all_checked records (D.calls disk.old) ≡ true
         → all_checked records (D.calls disk.new) ≡ true }
     ensures read { were_read plan.now (D.calls disk.new) ≡ were_read plan.now (D.calls disk.old) }
@@ -52,9 +55,11 @@ fn set_back<D: Disk>(disk: &mut D, plan: &PlanMark, planned: &Record) -> Result<
 fn set_all_back<D: Disk>(disk: &mut D, plan: &PlanMark, records: &[Record]) -> Result<(), OpenFault>
     requires unchanged { is_unchanged (D.calls disk.old) ≡ true }
     requires checked { all_checked (map record_of records.now) (D.calls disk.old) ≡ true }
+    requires kept { (r : PlanRecord) → is_mode_kept (D.calls disk.old) r ≡ true }
     requires read { were_read plan.now (D.calls disk.old) ≡ true }
     requires lawful { is_lawful plan.now (map record_of records.now) (D.calls disk.old) ≡ true }
     ensures checked { all_checked (map record_of records.now) (D.calls disk.new) ≡ true }
+    ensures kept { OnOk result ((r : PlanRecord) → is_mode_kept (D.calls disk.new) r ≡ true) }
     ensures read { were_read plan.now (D.calls disk.new) ≡ true }
     ensures refused { IfErr result (IsTrouble (map record_of records.now) (D.calls disk.new)) }
     ensures asked { OnOk result (all_asked (map record_of records.now) (D.calls disk.new) ≡ true) }
@@ -79,6 +84,7 @@ fn set_all_back<D: Disk>(disk: &mut D, plan: &PlanMark, records: &[Record]) -> R
 pub fn begin<D: Disk>(disk: &mut D, plan: &PlanMark, records: &[Record]) -> Result<(), OpenFault>
     requires read { were_read plan.now (D.calls disk.old) ≡ true }
     requires checked { all_checked (map record_of records.now) (D.calls disk.old) ≡ true }
+    requires kept { (r : PlanRecord) → is_mode_kept (D.calls disk.old) r ≡ true }
     requires unchanged { is_unchanged (D.calls disk.old) ≡ true }
     requires lawful { is_lawful plan.now (map record_of records.now) (D.calls disk.old) ≡ true }
     ensures begun { OnOk result (is_begun (map record_of records.now) (D.calls disk.new) ≡ true) }

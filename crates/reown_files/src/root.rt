@@ -353,7 +353,7 @@ impl<'w> Disk for Root<'w> {
     fn meet(&mut self, path: &[u8], after: Owner) -> Result<Option<Owner>, Trouble> {
         let told = self.met(path, after);
         self.log.note(&match told {
-            Ok(found) => Call::Met(path, found),
+            Ok(found) => Call::Met(path, after, found),
             Err(trouble) => Call::NotSeen(path, trouble),
         });
         told
@@ -431,9 +431,12 @@ impl<'w> Disk for Root<'w> {
         told
     }
 
-    fn read_modes(&mut self, plan: &PlanMark, mark: bool) -> Result<(), Trouble> {
+    fn read_modes(&mut self, plan: &PlanMark, mark: bool) -> Result<bool, Trouble> {
         let told = self.modes.read(plan, mark, &self.mark);
-        self.log.note(&Call::ReadModes(plan, mark, told.is_ok()));
+        self.log.note(&match told {
+            Ok(is_begun) => Call::ReadModes(plan, mark, Some(is_begun)),
+            Err(_) => Call::ReadModes(plan, mark, None),
+        });
         told
     }
 

@@ -77,11 +77,17 @@ pub fn path_from(rt: &HostRuntime, from: &Directory, path: &str) -> Result<Strin
 }
 
 /// Puts a text at a path, whole or not at all: it is written under another name, synced, and
-/// renamed.
+/// renamed. What was written is removed where that fails.
 pub fn put_whole(rt: &HostRuntime, path: &str, text: &[u8]) -> Result<(), Trouble> {
     let new = path_with(rt, path, NEW)?;
-    done(write(rt, new.as_str(), text))?;
-    done(fs::rename(rt, new.as_str(), path))
+    let put = match done(write(rt, new.as_str(), text)) {
+        Ok(()) => done(fs::rename(rt, new.as_str(), path)),
+        Err(trouble) => Err(trouble),
+    };
+    if put.is_err() {
+        let _ = fs::remove_file(rt, new.as_str());
+    }
+    put
 }
 
 /// Waits until the name of a file has reached the device.

@@ -18,7 +18,7 @@ returns-then-modes-clause-lawful g c = λ mark records planned begun h.
 pub returns-else-modes-clause-lawful : goal.returns-else-modes-clause-lawful
 returns-else-modes-clause-lawful g c = λ mark records planned begun h.
     ap (is_lawful mark records) (c.set_mode-told.ensures ∙ ap (λ (cs : List Called). SetMode c.args.path.now c.args.after c.in-Ok.modes.before (is_ok c.set_mode-told.result) ∷ cs) c.in-Ok.ensures.gave)
-    ∙ lawful_set_back mark records (g.D.Disk.calls c.args.disk.now) c.args.path.now c.args.before c.args.after planned begun h c.in-Ok.modes c.args.after (is_ok c.set_mode-told.result)
+    ∙ lawful_set_back mark records (g.D.Disk.calls c.args.disk.now) c.args.path.now c.args.before c.args.after planned begun h c.in-Ok.modes (is_ok c.set_mode-told.result)
 
 pub returns-in-Err-clause-grows : goal.returns-in-Err-clause-grows
 returns-in-Err-clause-grows g c = one_call (g.D.Disk.calls c.args.disk.now) (g.D.Disk.calls c.give.new.self) _ c.in-Err.ensures.failed

@@ -19,6 +19,7 @@ loop-i-preserved g c =
       asked = ap (λ xs. all_asked xs (g.D.Disk.calls c.set_back.new.disk)) more ∙ c.in-Ok.ensures.asked (take i (map record_of rs)) c.loop-i.invariant.asked;
       modes = c.in-Ok.ensures.modes ∙ c.loop-i.invariant.modes;
       checked = c.set_back.ensures.checked (map record_of rs) c.loop-i.invariant.checked;
+      kept = λ r. c.in-Ok.ensures.kept r (c.loop-i.invariant.kept r);
       read = c.set_back.ensures.read ∙ c.loop-i.invariant.read;
       unchanged = c.set_back.ensures.unchanged c.loop-i.invariant.unchanged;
       lawful = c.set_back.ensures.lawful (map record_of rs) (given_at rs i _ below) c.loop-i.invariant.read c.loop-i.invariant.unchanged c.loop-i.invariant.lawful;

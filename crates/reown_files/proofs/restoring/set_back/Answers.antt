@@ -1,11 +1,11 @@
-use Rattle.std.proofs.Common.{◌∙◌, ◌∷◌, ◌++◌, [], ℕ, List, Option, refl, sym, ap, subst}
+use Rattle.std.proofs.Common.{◌∙◌, ◌∷◌, ◌++◌, [], ℕ, Bool, true, List, Option, refl, sym, ap, subst}
 use Rattle.std.specs.Result.{is_ok}
 use Rattle.reown_plan.specs.Records.{record_of}
 use Rattle.reown_files.specs.Calls.{Called, SetMode, Kept, LostMode}
 use Rattle.reown_files.specs.Failed.{Last, FailsOn}
-use Rattle.reown_files.specs.Lawful.{all_asked, is_lawful}
-use Rattle.reown_files.proofs.Failures.{failed_as}
-use Rattle.reown_files.proofs.Laws.{on_ok_any, one_more_asked, one_more_found, lawful_none, lawful_found}
+use Rattle.reown_files.specs.Lawful.{all_asked, is_lawful, is_mode_kept}
+use Rattle.reown_files.proofs.Failures.{failed_with}
+use Rattle.reown_files.proofs.Laws.{on_ok_any, on_ok_as, one_more_asked, one_more_found, mode_kept_now, lawful_none, lawful_found}
 use Rattle.reown_files.proofs.restoring.set_back.Goals as goal
 
 pub returns-in_default-clause-asked : goal.returns-in_default-clause-asked
@@ -30,6 +30,18 @@ returns-in-Ok-set_mode-clause-asked g c = on_ok_any c.keep.result (λ before h.
     ap (all_asked (before ++ r ∷ [])) all
     ∙ one_more_found c.args.plan.now (g.D.Disk.calls c.args.disk.now) before r h c.in-Ok.lost mode set kept)
 
+pub returns-in-Ok-set_mode-clause-kept : goal.returns-in-Ok-set_mode-clause-kept
+returns-in-Ok-set_mode-clause-kept g c = on_ok_as c.keep.result (λ done r h.
+    let planned = record_of c.args.planned.now in
+    let old = g.D.Disk.calls c.args.disk.now in
+    let set = is_ok c.set_mode.result in
+    let mode = c.in-Some.mode in
+    let all =
+    c.keep.ensures ∙ ap (λ (kept : Bool). Kept planned.path planned.after kept ∷ g.D.Disk.calls c.set_mode.new.self) done
+    ∙ ap (λ (cs : List Called). Kept planned.path planned.after true ∷ cs) (c.set_mode.ensures ∙ ap (λ (cs : List Called). SetMode planned.path planned.after mode set ∷ cs) c.in-Ok.ensures.told) in
+    ap (λ (cs : List Called). is_mode_kept cs r) all
+    ∙ mode_kept_now planned.path planned.after planned.after mode set (LostMode c.args.plan.now planned.path planned.after c.in-Ok.lost ∷ old) r h)
+
 pub returns-in-Ok-set_mode-clause-lawful : goal.returns-in-Ok-set_mode-clause-lawful
 returns-in-Ok-set_mode-clause-lawful g c = λ records given read unchanged h.
     let r = record_of c.args.planned.now in
@@ -52,8 +64,9 @@ returns-in-Err-set_mode-clause-lawful g c = λ records given read unchanged h.
 
 pub returns-in-Ok-set_mode-clause-failed : goal.returns-in-Ok-set_mode-clause-failed
 returns-in-Ok-set_mode-clause-failed g c =
-    failed_as c.keep.result (λ e. subst (Last (FailsOn (record_of c.args.planned.now).path)) (sym c.keep.ensures) (refl, e))
+    let path = (record_of c.args.planned.now).path in
+    failed_with (λ trouble. Last (FailsOn path trouble) (g.D.Disk.calls c.keep.new.self)) c.keep.result (λ trouble e. subst (Last (FailsOn path trouble)) (sym c.keep.ensures) (refl, e))
 
 pub returns-in-Err-set_mode-clause-failed : goal.returns-in-Err-set_mode-clause-failed
 returns-in-Err-set_mode-clause-failed g c =
-    subst (Last (FailsOn (record_of c.args.planned.now).path)) (sym c.set_mode.ensures) (refl, ap is_ok c.in-Err-set_mode.is)
+    subst (Last (FailsOn (record_of c.args.planned.now).path c.in-Err-set_mode.trouble)) (sym c.set_mode.ensures) (refl, ap is_ok c.in-Err-set_mode.is)
