@@ -1,5 +1,5 @@
 -- What is asked before a plan is carried out, in its own words.
-use Rattle.std.proofs.Common.{◌≡◌, ◌≢◌, inl, inr, ⊎_elim, ℕ, zero, suc, ◌==◌, ◌&&◌, ◌||◌, ◌-◌, Bool, true, false, cond, not, nat_lt, List, [], ◌∷◌, ◌++◌, Option, Some, None, Contains, decimal, drop, length, take, refl, sym, ap, ◌∙◌, arith, length-append, true≢false}
+use Rattle.std.proofs.Common.{◌≡◌, ◌≢◌, inl, inr, ⊎_elim, ℕ, ◌==◌, ◌&&◌, ◌||◌, ◌-◌, Bool, true, false, cond, not, nat_lt, List, [], ◌∷◌, ◌++◌, Option, Some, None, Contains, decimal, drop, length, take, refl, sym, ap, ◌∙◌, arith, length-append, true≢false}
 use Rattle.std.specs.Prelude.{codes, is_some, nat_le, ◌↔◌}
 use Rattle.std.specs.Char.{digit_value}
 use Rattle.std.specs.List.{list_all, list_any}
@@ -25,6 +25,7 @@ use Rattle.unify_apply.specs.Machine.{fit_of, have_root, is_called, tells_root}
 use Rattle.unify_apply.specs.Mounts.{MountText, has_one_journal, mount_of, mounts_in, path_from}
 use Rattle.unify_apply.specs.declared.machine.HostFit.{HostFit}
 use Rattle.unify_apply.specs.declared.machine.HostFit.TheVariants.{Same, Named, Other}
+use Rattle.unify_apply.proofs.Fronts.{begins, behind, front-of}
 
 -- ---- one of a list
 
@@ -68,22 +69,14 @@ one-journal text path = by (mount_of (mounts_in text) (path_from path))
 abbrev newline : List ℕ
 newline = codes "\n"
 
-drop-front : (text : List ℕ) → drop (length text) (text ++ newline) ≡ newline
-drop-front [] = refl
-drop-front (b ∷ bs) = drop-front bs
-
-take-front : (text : List ℕ) → take (length text) (text ++ newline) ≡ text
-take-front [] = refl
-take-front (b ∷ bs) = ap (λ t. b ∷ t) (take-front bs)
-
 without-newline : (text : List ℕ) → without_end newline (text ++ newline) ≡ text
 without-newline text =
     let whole : List ℕ = text ++ newline in
     let long = length-append text newline in
     let less : length whole - 1 ≡ length text = omega (arith, long) in
     ap (λ n. cond (bytes_eq (drop n whole) newline) (take n whole) whole) less
-    ∙ ap (λ d. cond (bytes_eq d newline) (take (length text) whole) whole) (drop-front text)
-    ∙ take-front text
+    ∙ ap (λ d. cond (bytes_eq d newline) (take (length text) whole) whole) (behind text newline)
+    ∙ front-of text newline
 
 no-digit : (c : ℕ) (digit : Bool) → nat_lt (digit_value c) 10 ≡ digit → nat_le 10 (digit_value c) ≡ not digit
 no-digit c digit is = grind (arith, leb_tells)
@@ -109,21 +102,6 @@ journal-told = record {
 }
 
 -- ---- the machine
-
-join-parts : (n : ℕ) (text : List ℕ) → text ≡ take n text ++ drop n text
-join-parts zero text = refl
-join-parts (suc n) [] = refl
-join-parts (suc n) (b ∷ bs) = ap (λ t. b ∷ t) (join-parts n bs)
-
-front-of : (front rest : List ℕ) → take (length front) (front ++ rest) ≡ front
-front-of [] rest = refl
-front-of (b ∷ bs) rest = ap (λ t. b ∷ t) (front-of bs rest)
-
-begins : (front text : List ℕ) → Decides (begins_with front text) ((rest : List ℕ) × (text ≡ front ++ rest))
-begins front text = (
-  λ e. (drop (length front) text, join-parts (length front) text ∙ ap (λ t. t ++ drop (length front) text) ((bytes_eq-Decides (take (length front) text) front).0 e)),
-  λ h. (bytes_eq-Decides (take (length front) text) front).1 (ap (take (length front)) h.1 ∙ front-of front h.0),
-)
 
 abbrev rank : HostFit → ℕ
 rank Same = 0

@@ -1,9 +1,11 @@
 pub mod AskedBack
 pub mod CountsBack
+pub mod Fronts
 pub mod HostName
 pub mod MountsBack
 pub mod Nearest
 pub mod NearestLaw
+pub mod PathLaws
 pub mod PathLemmas
 pub mod SecondWay
 pub mod WrittenLines

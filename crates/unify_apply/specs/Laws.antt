@@ -2,7 +2,8 @@
 -- Source: proc(5), /proc/PID/mountinfo: words with a space between them, a line for each mount; and
 -- getmntent(3): of a path the system writes space, tab, newline and backslash as a backslash and
 -- three octal digits.
-use Rattle.std.specs.Prelude.{◌≡◌, ℕ, ◌==◌, ◌||◌, ◌&&◌, ◌<◌, ◌≤◌, ◌^◌, Bool, true, false, not}
+use Rattle.std.specs.Prelude.{◌≡◌, ◌≢◌, ◌↔◌, ◌⊎◌, ℕ, ◌==◌, ◌<◌, ◌≤◌, ◌^◌}
+use Rattle.std.specs.Prelude.{◌||◌, ◌&&◌, Bool, true, false, not}
 use Rattle.std.specs.Prelude.{List, [], ◌∷◌, ◌++◌, map, flat_map, filter_map, length, codes, All}
 use Rattle.std.specs.Prelude.{drop, find, option_map, Option, Some, None, MatchOption}
 use Rattle.std.specs.Prelude.{if◌then◌else◌}
@@ -16,6 +17,7 @@ use Rattle.reown_files.specs.declared.counting.OwnerCounts.{OwnerCounts}
 use Rattle.unify_apply.specs.Answers.{counts_text, done_text}
 use Rattle.unify_apply.specs.Mounts.{MountText, path_from, path_in, is_in, is_under, mount_of}
 use Rattle.unify_apply.specs.Mounts.{mounts_in, same_file_system, is_way, second_way}
+use Rattle.unify_apply.specs.Told.{mark_at}
 
 -- ---- paths
 
@@ -29,6 +31,25 @@ system_path path = flat_map (λ b. if is_escaped b then escape b else b ∷ []) 
 -- it is read back, without the slash that the root of all has
 abbrev pub SystemPathIsReadBack : Type 0
 SystemPathIsReadBack = (path : List ℕ) → path_in (system_path path) ≡ path_from path
+
+-- a path is that of a directory, a slash, and what is below
+abbrev pub IsBelow : List ℕ → List ℕ → Type 0
+IsBelow directory path = (rest : List ℕ) × (path ≡ directory ++ (codes "/" ++ rest))
+
+-- It is below the directory exactly where it is such a path, and in it exactly where it is such a
+-- path or the directory's own.
+pub record PathIsTold (directory path : List ℕ) : Type 0 where
+  pub below : (is_under directory path ≡ true) ↔ IsBelow directory path
+  pub within : (is_in directory path ≡ true) ↔ ((path ≡ directory) ⊎ IsBelow directory path)
+
+abbrev pub PathsAreTold : Type 0
+PathsAreTold = (directory path : List ℕ) → PathIsTold directory path
+
+-- one slash at the end of a path is left out, and any other byte there stays
+pub record SlashIsTaken : Type 0 where
+  pub slash : (path : List ℕ) → path_from (path ++ codes "/") ≡ path
+  pub other : (path : List ℕ) (b : ℕ) → b ≢ 47 → path_from (path ++ b ∷ []) ≡ path ++ b ∷ []
+  pub none : path_from [] ≡ []
 
 -- ---- lines of words
 
@@ -114,6 +135,19 @@ NoSecondWay = (text path : List ℕ) (device : ℕ) (look : List ℕ → Option 
     (λ mount. list_any (λ other. is_under (path_from path) other.point
     && bytes_eq other.device mount.device && is_way device (look other.point)) (mounts_in text)
     ≡ false)
+
+-- a mount is a second way exactly where no device number was seen there, or this one
+abbrev pub WaysAreSeen : Type 0
+WaysAreSeen = (device : ℕ) (seen : Option ℕ)
+    → (is_way device seen ≡ true) ↔ ((seen ≡ None) ⊎ (seen ≡ Some device))
+
+-- ---- the mark
+
+-- a mark that is named is there, and any other beside its plan
+pub record MarksStandBesidePlans : Type 0 where
+  pub named : (path plan : List ℕ) → mark_at (Some path) plan ≡ path
+  pub beside : (plan : List ℕ) → mark_at None plan ≡ plan ++ codes ".done"
+  pub example : mark_at None (codes "site/plan.web") ≡ codes "site/plan.web.done"
 
 -- ---- what the command prints
 

@@ -42,12 +42,13 @@ fn carry_out<'w>(
     progress: Progress,
     place: Place<'_>,
     plan: &Plan<'_>,
+    was_begun: bool,
     root: Root<'w>,
 ) -> Result<(), FileFault>
     requires { root.log.calls ≡ [] }
 {
     let disk = Telling::of(rt, progress, plan.records().len(), root);
-    let found = RealTree::open(rt.alloc(), plan, disk);
+    let found = RealTree::open(rt.alloc(), plan, was_begun, disk);
     progress.clear(rt);
     let mut tree = match found {
         Ok(tree) => tree,
@@ -86,10 +87,11 @@ fn apply_below(
     progress: Progress,
     place: Place<'_>,
     plan: &Plan<'_>,
+    was_begun: bool,
     has_one_journal: bool,
 ) -> Result<u8, FileFault> {
     let root = opened(rt, place, has_one_journal)?;
-    carry_out(rt, progress, place, plan, root)?;
+    carry_out(rt, progress, place, plan, was_begun, root)?;
     let text = records_text(rt.alloc(), plan.records().len())?;
     Ok(print_answer(rt, 0, &text))
 }
@@ -112,7 +114,8 @@ fn run_plan(
     if !quiet {
         warn_of_staying(rt, plan)?;
     }
-    apply_below(rt, progress, place, plan, has_one_journal)
+    let was_begun = matches.get_flag("begun");
+    apply_below(rt, progress, place, plan, was_begun, has_one_journal)
 }
 
 // Why a text is no plan.

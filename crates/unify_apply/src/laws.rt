@@ -4,15 +4,33 @@
 ghost use Rattle.unify_apply.specs.AskedLaws.{ChangedGroupsMove, ChangedUsersMove, FitsTellTheHost};
 ghost use Rattle.unify_apply.specs.AskedLaws.{JournalIsANumber, OneJournalIsOfThree};
 ghost use Rattle.unify_apply.specs.AskedLaws.{ProcessesAreFound, RootIsEffective};
-ghost use Rattle.unify_apply.specs.Laws.{MountIsNearest, NoSecondWay, SystemPathIsReadBack};
+ghost use Rattle.unify_apply.specs.Laws.{MarksStandBesidePlans, MountIsNearest, NoSecondWay};
+ghost use Rattle.unify_apply.specs.Laws.{PathsAreTold, SlashIsTaken, SystemPathIsReadBack};
+ghost use Rattle.unify_apply.specs.Laws.{WaysAreSeen};
 ghost use Rattle.unify_apply.specs.Laws.{MountsAreReadBack, CountsAreReadBack, DoneIsReadBack};
+
+/// A path is below a directory exactly where it is the directory's, a slash and more, and in it
+/// exactly where it is that or the directory's own. A slash at the end of a path is left out, and
+/// any other byte there stays.
+pub fn paths_below_are_told()
+    ensures paths { PathsAreTold }
+    ensures slash { SlashIsTaken }
+{}
 
 /// The mount that is found for a directory is the nearest and the last of those, and none is found
 /// only where none holds it. Where no second way is found, no mount of its own file system below it
-/// was seen to be one, and none at all below it where its own mount is not told.
+/// was seen to be one, and none at all below it where its own mount is not told; a mount is one
+/// exactly where the device number that was seen there is that of the directory, or none was seen.
 pub fn one_way_to_files()
     ensures nearest { MountIsNearest }
     ensures one_way { NoSecondWay }
+    ensures seen { WaysAreSeen }
+{}
+
+/// The mark of a plan is where it is named, and else beside the plan: at its path with `.done`
+/// after it.
+pub fn marks_stand_beside_plans()
+    ensures { MarksStandBesidePlans }
 {}
 
 /// The mounts that the system writes are read back, in their order, with their paths.

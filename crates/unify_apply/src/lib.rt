@@ -19,8 +19,8 @@ pub use answers::{counts_text, records_text};
 pub use applying::{mark_path, run_apply};
 pub use journal::tells_journal;
 pub use laws::{
-    answers_are_read_back, journals_are_told, machines_are_told, mounts_are_read_back,
-    one_way_to_files, processes_are_told, root_is_told,
+    answers_are_read_back, journals_are_told, machines_are_told, marks_stand_beside_plans,
+    mounts_are_read_back, one_way_to_files, paths_below_are_told, processes_are_told, root_is_told,
 };
 pub use machine::{HostFit, host_fit, is_root};
 pub use mountinfo::{

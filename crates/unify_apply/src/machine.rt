@@ -5,7 +5,7 @@ ghost use Rattle.unify_apply.specs.Machine.{tells_root, is_of_root};
 
 use idtext::{Lines, Words};
 use std::alloc::AllocError;
-use unify_io::{FileFault, Part, Said, read_file, tell_of, warn};
+use unify_io::{FileFault, Part, read_file, tell_of, warn};
 
 // Where the system tells the name of the machine (proc(5)).
 const NAME: &str = "/proc/sys/kernel/hostname";
@@ -57,7 +57,7 @@ pub fn host_fit(host: &[u8], named: Option<&[u8]>, machine: &[u8]) -> HostFit
 
 // Tells that a plan is another host's.
 fn other_host(rt: &HostRuntime, name: &[u8], host: &[u8]) -> FileFault {
-    let parts = [Said::Text("the plan is of host "), Said::Name(host)];
+    let parts = [Part::Text("the plan is of host "), Part::Name(host)];
     tell_of(rt, "host", name, &parts, 1)
 }
 
@@ -123,6 +123,6 @@ pub fn see_caller(rt: &HostRuntime) -> Result<(), FileFault> {
     if is_root(status.bytes()) {
         return Ok(());
     }
-    let parts = [Said::Text("only root may give files other owners")];
+    let parts = [Part::Text("only root may give files other owners")];
     Err(tell_of(rt, "command", b"apply", &parts, 2))
 }

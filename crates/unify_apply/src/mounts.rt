@@ -11,7 +11,7 @@ use std::alloc::AllocError;
 use std::os::unix::fs::MetadataExt;
 use std::path::PathBuf;
 use std::{fs, io};
-use unify_io::{FileFault, Part, Said, read_file, tell_of, warn};
+use unify_io::{FileFault, Part, read_file, tell_of, warn};
 
 // Where the system tells the mounts that this process sees (proc(5)).
 const MOUNTS: &str = "/proc/self/mountinfo";
@@ -24,12 +24,12 @@ fn root_failed(rt: &HostRuntime, root: &str, error: &io::Error) -> FileFault {
     if error.kind() == io::ErrorKind::OutOfMemory {
         return FileFault::Memory;
     }
-    tell_of(rt, "root", root.as_bytes(), &[Said::Failed(*error)], 2)
+    tell_of(rt, "root", root.as_bytes(), &[Part::Failed(*error)], 2)
 }
 
 // Tells that the file system of a directory is mounted below it once more.
 fn mounted_twice(rt: &HostRuntime, root: &str, point: &[u8]) -> FileFault {
-    let parts = [Said::Text(TWICE), Said::Name(point)];
+    let parts = [Part::Text(TWICE), Part::Name(point)];
     tell_of(rt, "root", root.as_bytes(), &parts, 2)
 }
 

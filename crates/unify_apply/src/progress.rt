@@ -211,7 +211,7 @@ impl<'w, D: Disk> Disk for Telling<'w, D> {
         self.disk.put_mark(plan)
     }
 
-    fn read_modes(&mut self, plan: &PlanMark, mark: bool) -> Result<(), Trouble> {
+    fn read_modes(&mut self, plan: &PlanMark, mark: bool) -> Result<bool, Trouble> {
         self.disk.read_modes(plan, mark)
     }
 

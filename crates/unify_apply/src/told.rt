@@ -7,8 +7,8 @@ use idtext::ByteString;
 use reown_files::{MODES_BEHIND, OpenFault, Stop, Trouble};
 use reown_plan::Record;
 use std::alloc::AllocError;
-use std::io::Write;
-use unify_io::{FileFault, Said, tell_of};
+use std::io::{IsTerminal, Write};
+use unify_io::{FileFault, Part, tell_of};
 use unify_texts::{Fault, push_fault};
 
 /// Where a plan is carried out.
@@ -24,8 +24,8 @@ pub struct Place<'a> {
 const OTHER_PLAN: &str = "another plan was started and is not finished; finish that one first \
     (the reverse of a plan is another plan)";
 
-// What stands after the reason of a stop.
-const GOES_ON: &str = "; the same command goes on from there";
+// What the system calls an error of a disk (EIO of errno(3)).
+const DISK_ERROR: i32 = 5;
 
 /// Tells a fault that has a number.
 pub fn fault_told(rt: &HostRuntime, fault: &Fault<'_>) -> FileFault {
@@ -34,7 +34,7 @@ pub fn fault_told(rt: &HostRuntime, fault: &Fault<'_>) -> FileFault {
         return FileFault::Memory;
     }
     let _ = rt.stderr().write_all(&line);
-    FileFault::Told(1)
+    FileFault::Told(fault.status())
 }
 
 // The path of a record, of those that are there.
@@ -52,10 +52,30 @@ fn path_of(rt: &HostRuntime, records: &[Record<'_>], i: usize) -> Result<ByteStr
     ByteString::copy_of(rt.alloc(), path_at(records, i))
 }
 
+// What to see before a file is made in the place of one that is not there: a link on the way may be
+// somebody's, and lead to another file.
+const SEE_WAY: &str = "unify: hint: a directory on the way may be a link, or a file system not \
+    mounted; see that first";
+
+// What to do about a file that has its new owner before the first run, and so is somebody else's.
+const GATHER_ANEW: &str = "unify: hint: gather this host again and merge anew; where a run of this \
+    plan was stopped and its .modes file is gone, use --begun";
+
+// Gives advice where standard error is a terminal.
+fn hint(rt: &HostRuntime, advice: &str) {
+    if rt.stderr().is_terminal() {
+        let _ = rt.eprintln(advice);
+    }
+}
+
 /// Tells that the file of a record is not there.
 pub fn missing(rt: &HostRuntime, records: &[Record<'_>], i: usize) -> FileFault {
     match path_of(rt, records, i) {
-        Ok(path) => fault_told(rt, &Fault::Missing(path)),
+        Ok(path) => {
+            let fault = fault_told(rt, &Fault::Missing(path));
+            hint(rt, SEE_WAY);
+            fault
+        }
         Err(_) => FileFault::Memory,
     }
 }
@@ -76,10 +96,22 @@ fn unfinished(rt: &HostRuntime, records: &[Record<'_>], i: usize) -> FileFault {
     }
 }
 
+// Tells that the file of a record has its new owner, though the plan was not begun.
+fn already_changed(rt: &HostRuntime, records: &[Record<'_>], i: usize) -> FileFault {
+    match path_of(rt, records, i) {
+        Ok(path) => {
+            let fault = fault_told(rt, &Fault::AlreadyChanged(path));
+            hint(rt, GATHER_ANEW);
+            fault
+        }
+        Err(_) => FileFault::Memory,
+    }
+}
+
 // What is said of trouble.
-fn said_of(trouble: Trouble) -> Said<'static> {
-    Said::Text(match trouble {
-        Trouble::System(number) => return Said::System(number),
+fn part_of(trouble: Trouble) -> Part<'static> {
+    Part::Text(match trouble {
+        Trouble::System(number) => return Part::System(number),
         Trouble::Memory => "memory",
         Trouble::BadPath => "no inventory has such a path, or it is too long",
         Trouble::NotText => "a name that is not UTF-8",
@@ -122,7 +154,7 @@ pub fn file_refused(rt: &HostRuntime, path: &[u8], trouble: Trouble) -> FileFaul
     if trouble == Trouble::Memory {
         return FileFault::Memory;
     }
-    tell_of(rt, "file", path, &[said_of(trouble)], status(trouble))
+    tell_of(rt, "file", path, &[part_of(trouble)], status(trouble))
 }
 
 /// Tells why a directory is not worked below.
@@ -130,13 +162,33 @@ pub fn root_refused(rt: &HostRuntime, place: Place<'_>, trouble: Trouble) -> Fil
     if trouble == Trouble::Memory {
         return FileFault::Memory;
     }
-    tell_of(rt, "root", place.root.as_bytes(), &[said_of(trouble)], 2)
+    tell_of(rt, "root", place.root.as_bytes(), &[part_of(trouble)], 2)
+}
+
+// What stands after the reason of a stop. Some file systems report an error of the disk only once,
+// so what is there has to be read anew.
+fn way_on(trouble: Trouble) -> &'static str {
+    if trouble == Trouble::System(DISK_ERROR) {
+        "; restart the machine, and then the same command goes on from there"
+    } else {
+        "; the same command goes on from there"
+    }
+}
+
+// Tells of a file why a plan is not begun with. What an earlier run has changed is synced before
+// that, so an error of the disk may be of such a sync.
+fn not_begun(rt: &HostRuntime, path: &[u8], trouble: Trouble) -> FileFault {
+    if trouble != Trouble::System(DISK_ERROR) {
+        return file_refused(rt, path, trouble);
+    }
+    let parts = [part_of(trouble), Part::Text(way_on(trouble))];
+    tell_of(rt, "file", path, &parts, status(trouble))
 }
 
 // Tells what is wrong with the file of the modes beside a mark.
 fn modes_refused(rt: &HostRuntime, mark: &str, trouble: Trouble) -> FileFault {
     match format!(in rt.alloc(); "{mark}{MODES_BEHIND}") {
-        Ok(path) => file_refused(rt, path.as_str().as_bytes(), trouble),
+        Ok(path) => not_begun(rt, path.as_str().as_bytes(), trouble),
         Err(_) => FileFault::Memory,
     }
 }
@@ -154,8 +206,9 @@ pub fn not_opened(
         OpenFault::Missing(i) => missing(rt, records, i),
         OpenFault::Foreign(i, _) => foreign(rt, records, i),
         OpenFault::Unfinished(i) => unfinished(rt, records, i),
-        OpenFault::File(i, trouble) => file_refused(rt, path_at(records, i), trouble),
-        OpenFault::Disk(trouble) => file_refused(rt, place.mark.as_bytes(), trouble),
+        OpenFault::AlreadyChanged(i) => already_changed(rt, records, i),
+        OpenFault::File(i, trouble) => not_begun(rt, path_at(records, i), trouble),
+        OpenFault::Disk(trouble) => not_begun(rt, place.mark.as_bytes(), trouble),
         OpenFault::Modes(trouble) => modes_refused(rt, place.mark, trouble),
     }
 }
@@ -175,11 +228,6 @@ pub fn stopped(
         ),
         None => (place.mark.as_bytes(), Trouble::NotDone),
     };
-    tell_of(
-        rt,
-        "file",
-        path,
-        &[said_of(trouble), Said::Text(GOES_ON)],
-        3,
-    )
+    let parts = [part_of(trouble), Part::Text(way_on(trouble))];
+    tell_of(rt, "file", path, &parts, 3)
 }

@@ -1,0 +1,95 @@
+-- Which paths are below a directory, and in it.
+use Rattle.std.proofs.Common.{◌≡◌, ◌≢◌, inl, inr, ℕ, suc, zero, ◌==◌, ◌&&◌, ◌-◌, ◌<◌, Bool, true, false, cond, nat_lt, List, [], ◌∷◌, ◌++◌, Option, Some, None, drop, length, take, refl, sym, subst, ap, ◌∙◌, arith, append-nil, length-append}
+use Rattle.std.specs.Prelude.{◌⊎◌, codes}
+use Rattle.std.specs.Str.{bytes_eq}
+use Rattle.std.specs.Prelude.{Decides}
+use Rattle.std.proofs.lemmas.Bool.{and_from, and_parts, eqb-true, lt-ltb, ltb-true}
+use Rattle.std.proofs.lemmas.Bool.Decides.{Decides-eqb, not_from_Decides}
+use Rattle.std.proofs.lemmas.Option.{same_Some}
+use Rattle.std.proofs.lemmas.Slice.Eq.{bytes_eq-Decides}
+use Rattle.idtext.specs.Pieces.{begins_with}
+use Rattle.unify_apply.specs.Laws.{IsBelow, PathsAreTold, SlashIsTaken, WaysAreSeen}
+use Rattle.unify_apply.specs.Mounts.{is_in, is_rest, is_under, is_way, path_from}
+use Rattle.unify_apply.proofs.Fronts.{begins, behind, front-of, front-is}
+
+-- ---- in a directory
+
+module _ (directory : List ℕ) where
+  in-front : (rest : List ℕ) → is_in directory (directory ++ rest) ≡ is_rest rest
+  in-front rest =
+      ap (λ t. t && is_rest (drop (length directory) (directory ++ rest))) ((begins directory (directory ++ rest)).1 (rest, refl))
+      ∙ ap is_rest (behind directory rest)
+
+  in-from : (path : List ℕ) → is_in directory path ≡ true → (path ≡ directory) ⊎ IsBelow directory path
+  in-from path e =
+      let parts = and_parts (begins_with directory path) (is_rest (drop (length directory) path)) e in
+      by (drop (length directory) path) (front-is directory path parts.0) parts.1
+    where
+      by : (rest : List ℕ) → path ≡ directory ++ rest → is_rest rest ≡ true → (path ≡ directory) ⊎ IsBelow directory path
+      by [] at is = inl (at ∙ append-nil directory)
+      by (b ∷ more) at is = inr (more, at ∙ ap (λ c. directory ++ c ∷ more) (eqb-true b 47 is))
+
+  in-to : (path : List ℕ) → (path ≡ directory) ⊎ IsBelow directory path → is_in directory path ≡ true
+  in-to path (inl same) = ap (is_in directory) (same ∙ sym (append-nil directory)) ∙ in-front []
+  in-to path (inr below) = ap (is_in directory) below.1 ∙ in-front (codes "/" ++ below.0)
+
+  under-from : (path : List ℕ) → is_under directory path ≡ true → IsBelow directory path
+  under-from path e =
+      let parts = and_parts (nat_lt (length directory) (length path)) (is_in directory path) e in
+      by (ltb-true _ _ parts.0) (in-from path parts.1)
+    where
+      by : length directory < length path → (path ≡ directory) ⊎ IsBelow directory path → IsBelow directory path
+      by longer (inl same) = let long = ap length same in absurd (omega (arith, longer, long))
+      by longer (inr below) = below
+
+  under-to : (path : List ℕ) → IsBelow directory path → is_under directory path ≡ true
+  under-to path below =
+      let long = length-append directory (codes "/" ++ below.0) in
+      let same = ap length below.1 in
+      and_from (nat_lt (length directory) (length path)) (is_in directory path)
+      (lt-ltb _ _ (omega (arith, long, same))) (in-to path (inr below))
+
+pub paths-told : PathsAreTold
+paths-told directory path = record {
+  below = (under-from directory path, under-to directory path);
+  within = (in-from directory path, in-to directory path);
+}
+
+-- ---- the slash at the end
+
+last-of : (b : ℕ) (text : List ℕ) → path_from (text ++ b ∷ []) ≡ cond (bytes_eq (b ∷ []) (codes "/")) text (text ++ b ∷ [])
+last-of b text =
+    let whole : List ℕ = text ++ b ∷ [] in
+    let long = length-append text (b ∷ []) in
+    let less : length whole - 1 ≡ length text = omega (arith, long) in
+    ap (λ n. cond (bytes_eq (drop n whole) (codes "/")) (take n whole) whole) less
+    ∙ ap (λ d. cond (bytes_eq d (codes "/")) (take (length text) whole) whole) (behind text (b ∷ []))
+    ∙ ap (λ t. cond (bytes_eq (b ∷ []) (codes "/")) t whole) (front-of text (b ∷ []))
+
+pub slash-taken : SlashIsTaken
+slash-taken = record {
+  slash = last-of 47;
+  other = λ path b apart.
+      last-of b path ∙ ap (λ t. cond t path (path ++ b ∷ [])) (not-slash b apart);
+  none = refl;
+}
+  where
+    not-slash : (b : ℕ) → b ≢ 47 → bytes_eq (b ∷ []) (codes "/") ≡ false
+    not-slash b apart = by (bytes_eq (b ∷ []) (codes "/")) refl
+      where
+        by : (t : Bool) → bytes_eq (b ∷ []) (codes "/") ≡ t → t ≡ false
+        by true is = let same = (bytes_eq-Decides (b ∷ []) (codes "/")).0 is in absurd (apart (cc))
+        by false is = refl
+
+-- ---- second ways
+
+pub ways-seen : WaysAreSeen
+ways-seen device None = (λ _. inl refl, λ _. refl)
+ways-seen device (Some seen) = (
+  λ e. inr (ap Some (eqb-true seen device e)),
+  λ h. (Decides-eqb seen device).1 (by h),
+)
+  where
+    by : (Some seen ≡ None) ⊎ (Some seen ≡ Some device) → seen ≡ device
+    by (inl e) = absurd (cc)
+    by (inr e) = same_Some seen device e
