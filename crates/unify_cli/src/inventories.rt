@@ -145,11 +145,11 @@ impl Calls {
     }
 }
 
-/// The inventories of the hosts that words name, for a command that writes nothing.
+/// The inventories of the hosts that words name, and the calls on them.
 #[derive(Drop)]
 pub struct HostFiles<'w> {
     inventories: Inventories<'w>,
-    calls: Calls,
+    pub(crate) calls: Calls,
 }
 
 impl<'w> HostFiles<'w> {
@@ -159,6 +159,11 @@ impl<'w> HostFiles<'w> {
             inventories: Inventories::new(rt, words, is_quiet),
             calls: Calls::new(),
         }
+    }
+
+    /// How many lines of files the inventories have, as far as each was read once.
+    pub fn file_lines(&self) -> u64 {
+        self.inventories.file_lines()
     }
 }
 

@@ -40,6 +40,7 @@ fn run_args(rt: &HostRuntime) -> u8 {
             return if error.kind() == io::ErrorKind::OutOfMemory {
                 memory_refused(rt)
             } else {
+                let _ = rt.eprintln("unify: an argument is not UTF-8");
                 2
             };
         }

@@ -2,7 +2,7 @@
 
 ghost use Rattle.std.specs.Prelude.{is_some};
 
-use crate::inventories::{Calls, Inventories, KnowsWhy};
+use crate::inventories::{HostFiles, KnowsWhy};
 use std::str;
 use unify_io::{FileFault, NewFile, begin_output, finish_output, no_host};
 use unify_merge::{Call, CallFailed, MergeFiles, ReadFiles};
@@ -48,9 +48,8 @@ impl Output<'_> {
 /// The files of a merge of the hosts that words name into a directory.
 #[derive(Drop)]
 pub struct SiteFiles<'w> {
-    inventories: Inventories<'w>,
+    read: HostFiles<'w>,
     output: Output<'w>,
-    calls: Calls,
 }
 
 impl<'w> SiteFiles<'w> {
@@ -62,20 +61,19 @@ impl<'w> SiteFiles<'w> {
         is_quiet: bool,
     ) -> SiteFiles<'w> {
         SiteFiles {
-            inventories: Inventories::new(rt, words, is_quiet),
+            read: HostFiles::new(rt, words, is_quiet),
             output: Output {
                 rt,
                 directory,
                 words,
                 file: None,
             },
-            calls: Calls::new(),
         }
     }
 
     /// How many lines of files the inventories have, as far as each was read once.
     pub fn file_lines(&self) -> u64 {
-        self.inventories.file_lines()
+        self.read.file_lines()
     }
 
     /// Removes what there is of a file that was not finished.
@@ -88,27 +86,25 @@ impl<'w> SiteFiles<'w> {
 
 impl KnowsWhy for SiteFiles<'_> {
     fn fault(&self) -> FileFault {
-        self.calls.fault()
+        self.read.fault()
     }
 
     fn too_large(&self) -> FileFault {
-        self.inventories.too_large()
+        self.read.too_large()
     }
 }
 
 impl ReadFiles for SiteFiles<'_> {
-    ghost ledger = { λ files. files.calls.log.ledger };
+    ghost ledger = { λ files. files.read.calls.log.ledger };
 
-    ghost has_failed = { λ files. is_some files.calls.fault };
+    ghost has_failed = { λ files. is_some files.read.calls.fault };
 
     fn open(&mut self, host: usize) -> Result<(), CallFailed> {
-        let done = self.inventories.open(host);
-        self.calls.note(done, &Call::Open(host))
+        self.read.open(host)
     }
 
     fn piece(&mut self, bytes: &mut Vec<u8>) -> Result<(), CallFailed> {
-        let done = self.inventories.piece(bytes);
-        self.calls.note(done, &Call::Piece(bytes))
+        self.read.piece(bytes)
     }
 }
 
@@ -116,27 +112,27 @@ impl MergeFiles for SiteFiles<'_> {
     fn clear(&mut self) -> Result<(), CallFailed> {
         let at = &self.output;
         let done = begin_output(at.rt, at.directory, at.words);
-        self.calls.note(done, &Call::Clear)
+        self.read.calls.note(done, &Call::Clear)
     }
 
     fn begin(&mut self, name: &[u8]) -> Result<(), CallFailed> {
         let done = self.output.begin(name);
-        self.calls.note(done, &Call::Begin(name))
+        self.read.calls.note(done, &Call::Begin(name))
     }
 
     fn append(&mut self, bytes: &[u8]) -> Result<(), CallFailed> {
         let done = self.output.append(bytes);
-        self.calls.note(done, &Call::Append(bytes))
+        self.read.calls.note(done, &Call::Append(bytes))
     }
 
     fn finish(&mut self) -> Result<(), CallFailed> {
         let done = self.output.finish();
-        self.calls.note(done, &Call::Finish)
+        self.read.calls.note(done, &Call::Finish)
     }
 
     fn seal(&mut self, name: &[u8], text: &[u8]) -> Result<(), CallFailed> {
         let at = &self.output;
         let done = finish_output(at.rt, at.directory, name, text);
-        self.calls.note(done, &Call::Seal(name, text))
+        self.read.calls.note(done, &Call::Seal(name, text))
     }
 }

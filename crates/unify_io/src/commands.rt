@@ -209,7 +209,8 @@ const INVENTORY: Subcommand = Subcommand {
     ],
 };
 
-// apply [--quiet] [--progress] [--check] [--reverse] [--mark FILE] [--host NAME] PLAN ROOT
+// apply [--quiet] [--progress] [--check] [--reverse] [--begun] [--mark FILE] [--host NAME]
+//     PLAN ROOT
 const APPLY: Subcommand = Subcommand {
     name: "apply",
     about: "Carries a plan out on the files below a directory, from wherever it was stopped",
@@ -232,6 +233,12 @@ const APPLY: Subcommand = Subcommand {
         Argument {
             name: "reverse",
             help: "takes the plan back: each file gets its old owner in place of its new one",
+            ..FLAG
+        },
+        Argument {
+            name: "begun",
+            help: "the plan was started, and FILE.modes is gone: \
+            files may have their new owners already",
             ..FLAG
         },
         Argument {

@@ -1,8 +1,9 @@
 //! Warnings of users who have another full name on one host than on another, as the comments of
 //! passwd(5) tell: they may be two people.
 
-use crate::warnings::{MOST_LINES, Part, only_memory, warn, warn_of_more};
-use accounts::{PasswdRow, read_passwd};
+use crate::account_lines::{UserLine, user_line};
+use crate::message::Part;
+use crate::warnings::{MOST_LINES, warn, warn_of_more};
 use hosts_join::{HostText, PairTable};
 use idtext::{Character, Lines, cut, first_character};
 use std::alloc::AllocError;
@@ -77,18 +78,25 @@ fn commented_users(rt: &HostRuntime, report: &[u8]) -> Result<Vec<Vec<u8>>, Allo
     Ok(users)
 }
 
-// Sees the comments of a host.
-fn see_rows<'t>(
+// Sees the comment in a row of a host, if it is of one of the users with these places.
+fn see_row<'t>(
     seen: &mut [SeenUser<'t>],
     places: &PairTable<'_>,
     host: &'t [u8],
-    rows: &[PasswdRow<'t>],
+    row: UserLine<'t>,
 ) {
-    for row in rows {
-        if let Some(place) = places.number(row.name) {
-            if let Some(user) = seen.get_mut(place as usize) {
-                user.see(host, row.comment);
-            }
+    if let Some(place) = places.number(row.name) {
+        if let Some(user) = seen.get_mut(place as usize) {
+            user.see(host, row.comment);
+        }
+    }
+}
+
+// Sees the comments of a host.
+fn see_host<'t>(seen: &mut [SeenUser<'t>], places: &PairTable<'_>, host: &'t HostText) {
+    for line in Lines::new(host.passwd.bytes()) {
+        if let Some(row) = user_line(line) {
+            see_row(seen, places, host.name.bytes(), row);
         }
     }
 }
@@ -112,10 +120,7 @@ fn seen_users<'t>(
         })?;
     }
     for host in hosts {
-        match read_passwd(rt.alloc(), host.passwd.bytes()) {
-            Ok(table) => see_rows(&mut seen, &places, host.name.bytes(), table.rows()),
-            Err(fault) => only_memory(&fault)?,
-        }
+        see_host(&mut seen, &places, host);
     }
     Ok(seen)
 }

@@ -1,8 +1,8 @@
 //! The names that hosts have, for warnings of texts that name others.
 
-use crate::warnings::only_memory;
-use accounts::{GroupRow, PasswdRow, read_group, read_passwd};
+use crate::account_lines::{group_line, user_line};
 use hosts_join::{HostText, PairTable, Which};
+use idtext::Lines;
 use std::alloc::AllocError;
 
 /// The names of hosts, each with one of its numbers.
@@ -22,47 +22,28 @@ impl HostNames<'_> {
     }
 }
 
-// Adds the names of users.
-fn add_users<'h>(users: &mut PairTable<'h>, rows: &[PasswdRow<'h>]) -> Result<(), AllocError> {
-    for row in rows {
-        users.add(row.name, row.uid)?;
-    }
-    Ok(())
-}
-
-// Adds the names of groups.
-fn add_groups<'h>(groups: &mut PairTable<'h>, rows: &[GroupRow<'h>]) -> Result<(), AllocError> {
-    for row in rows {
-        groups.add(row.name, row.gid)?;
-    }
-    Ok(())
-}
-
 // Adds the names in a host's passwd.
-fn add_passwd<'h>(
-    rt: &HostRuntime,
-    users: &mut PairTable<'h>,
-    passwd: &'h [u8],
-) -> Result<(), AllocError> {
-    match read_passwd(rt.alloc(), passwd) {
-        Ok(table) => add_users(users, table.rows()),
-        Err(fault) => only_memory(&fault),
+fn add_users<'h>(users: &mut PairTable<'h>, passwd: &'h [u8]) -> Result<(), AllocError> {
+    for line in Lines::new(passwd) {
+        if let Some(row) = user_line(line) {
+            users.add(row.name, row.uid)?;
+        }
     }
+    Ok(())
 }
 
 // Adds the names in a host's group.
-fn add_group<'h>(
-    rt: &HostRuntime,
-    groups: &mut PairTable<'h>,
-    group: &'h [u8],
-) -> Result<(), AllocError> {
-    match read_group(rt.alloc(), group) {
-        Ok(table) => add_groups(groups, table.rows()),
-        Err(fault) => only_memory(&fault),
+fn add_groups<'h>(groups: &mut PairTable<'h>, group: &'h [u8]) -> Result<(), AllocError> {
+    for line in Lines::new(group) {
+        if let Some(row) = group_line(line) {
+            groups.add(row.name, row.gid)?;
+        }
     }
+    Ok(())
 }
 
-/// The names of hosts: those of users in their passwd, those of groups in their group.
+/// The names of hosts whose account files were accepted: those of users in their passwd, those of
+/// groups in their group.
 pub(crate) fn names_of<'h>(
     rt: &HostRuntime,
     hosts: &'h [HostText],
@@ -72,8 +53,8 @@ pub(crate) fn names_of<'h>(
         groups: PairTable::new(rt.alloc()),
     };
     for host in hosts {
-        add_passwd(rt, &mut names.users, host.passwd.bytes())?;
-        add_group(rt, &mut names.groups, host.group.bytes())?;
+        add_users(&mut names.users, host.passwd.bytes())?;
+        add_groups(&mut names.groups, host.group.bytes())?;
     }
     Ok(names)
 }

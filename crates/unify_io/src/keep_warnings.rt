@@ -1,7 +1,8 @@
 //! Warnings of lines of a keep text that keep no name, since no host has it.
 
 use crate::host_names::{HostNames, names_of};
-use crate::warnings::{MOST_LINES, Part, warn, warn_of_more};
+use crate::message::Part;
+use crate::warnings::{MOST_LINES, warn, warn_of_more};
 use hosts_join::{HostText, Which};
 use idtext::Lines;
 use std::alloc::AllocError;

@@ -1,14 +1,16 @@
 //! Warnings of what a merge gives: users and groups that are one by their name, and may have been
 //! two.
 
+use crate::account_lines::{GroupLine, group_line, user_line};
 use crate::comment_warnings::warn_of_comments;
 use crate::files::{FileFault, holds, read_file_in};
 use crate::keep_warnings::warn_of_keep;
+use crate::message::{MOST_NAMES, Part};
 use crate::pin_warnings::warn_of_pins;
-use crate::warnings::{MOST_LINES, MOST_NAMES, Part, only_memory, warn, warn_of_more};
+use crate::warnings::{MOST_LINES, only_memory, warn, warn_of_more};
 use accounts::{GroupRow, GroupTable, PasswdRow, PasswdTable, read_group, read_passwd};
 use hosts_join::{HostText, PairTable};
-use idtext::Lines;
+use idtext::{Lines, Pieces};
 use std::alloc::AllocError;
 use std::str;
 
@@ -47,10 +49,11 @@ fn warn_of_paths(rt: &HostRuntime, report: &[u8], file_lines: u64) -> Result<(),
     )
 }
 
-// The members of a group, as a table to look them up in.
-fn members_in<'a>(rt: &HostRuntime, row: &GroupRow<'a>) -> Result<PairTable<'a>, AllocError> {
+// The members of a group, as a table to look them up in. What stands between two commas may be
+// empty: that is nobody's name.
+fn members_in<'a>(rt: &HostRuntime, row: &GroupLine<'a>) -> Result<PairTable<'a>, AllocError> {
     let mut members = PairTable::new(rt.alloc());
-    for member in row.members() {
+    for member in Pieces::new(b',', row.members) {
         members.add(member, row.gid)?;
     }
     Ok(members)
@@ -132,14 +135,17 @@ struct SeenGroups<'t> {
 }
 
 // Looks at whether a merged group gets members on a host that has the row. That is warned of, if
-// not too many were told.
+// not too many were told. Mostly the two lists are the same.
 fn see_members(
     rt: &HostRuntime,
     host: &[u8],
-    row: &GroupRow<'_>,
+    row: &GroupLine<'_>,
     merged: &GroupRow<'_>,
     gaining: &mut usize,
 ) -> Result<(), AllocError> {
+    if row.members == merged.members {
+        return Ok(());
+    }
     let members = members_in(rt, row)?;
     if are_all_in(merged, &members) {
         return Ok(());
@@ -156,7 +162,7 @@ fn see_members(
 // Notes the group whose number was another group's on a host that has the row.
 fn note_taken<'t>(
     taken: &mut PairTable<'t>,
-    row: &GroupRow<'_>,
+    row: &GroupLine<'_>,
     groups: &GroupTable<'t>,
 ) -> Result<(), AllocError> {
     if let Some(other) = groups.by_number(row.gid) {
@@ -171,7 +177,7 @@ fn note_taken<'t>(
 fn see_row<'t>(
     rt: &HostRuntime,
     host: &[u8],
-    row: &GroupRow<'_>,
+    row: &GroupLine<'_>,
     groups: &GroupTable<'t>,
     seen: &mut SeenGroups<'t>,
 ) -> Result<(), AllocError> {
@@ -181,20 +187,6 @@ fn see_row<'t>(
     note_taken(&mut seen.taken, row, groups)
 }
 
-// Looks at the rows of a host's group.
-fn see_rows<'t>(
-    rt: &HostRuntime,
-    host: &[u8],
-    rows: &[GroupRow<'_>],
-    groups: &GroupTable<'t>,
-    seen: &mut SeenGroups<'t>,
-) -> Result<(), AllocError> {
-    for row in rows {
-        see_row(rt, host, row, groups, seen)?;
-    }
-    Ok(())
-}
-
 // Looks at the group of a host.
 fn see_host<'t>(
     rt: &HostRuntime,
@@ -202,19 +194,27 @@ fn see_host<'t>(
     groups: &GroupTable<'t>,
     seen: &mut SeenGroups<'t>,
 ) -> Result<(), AllocError> {
-    match read_group(rt.alloc(), host.group.bytes()) {
-        Ok(table) => see_rows(rt, host.name.bytes(), table.rows(), groups, seen),
-        Err(fault) => only_memory(&fault),
+    for line in Lines::new(host.group.bytes()) {
+        if let Some(row) = group_line(line) {
+            see_row(rt, host.name.bytes(), &row, groups, seen)?;
+        }
     }
+    Ok(())
 }
 
-// Warns of groups that give users on a host what they had on another one. Hands out how many get
-// members on a host, and how many have a number that was another group's.
+// How many groups get members on a host, and how many have a number that was another group's.
+#[derive(Clone, Copy)]
+struct GroupCounts {
+    gaining: usize,
+    taken: usize,
+}
+
+// Warns of groups that give users on a host what they had on another one, and counts them.
 fn see_groups(
     rt: &HostRuntime,
     hosts: &[HostText],
     groups: &GroupTable<'_>,
-) -> Result<(usize, usize), AllocError> {
+) -> Result<GroupCounts, AllocError> {
     let mut seen = SeenGroups {
         gaining: 0,
         taken: PairTable::new(rt.alloc()),
@@ -222,7 +222,10 @@ fn see_groups(
     for host in hosts {
         see_host(rt, host, groups, &mut seen)?;
     }
-    Ok((seen.gaining, seen.taken.len()))
+    Ok(GroupCounts {
+        gaining: seen.gaining,
+        taken: seen.taken.len(),
+    })
 }
 
 // Counts a group for the user in the row of that line.
@@ -301,33 +304,26 @@ fn warn_of_group_counts(
     warn_of_many_groups(rt, users.rows(), &counts)
 }
 
-// Adds the users whose number was another user's on a host that has these rows.
-fn add_renumbered_users<'t>(
-    taken: &mut PairTable<'t>,
-    rows: &[PasswdRow<'_>],
-    users: &PasswdTable<'t>,
-) -> Result<(), AllocError> {
-    for row in rows {
-        if let Some(other) = users.by_number(row.uid) {
-            if other.name != row.name {
-                taken.add(other.name, other.uid)?;
-            }
-        }
-    }
-    Ok(())
+// The user whose number was another user's by this line of a host's passwd.
+fn renumbered_user<'u, 't>(line: &[u8], users: &'u PasswdTable<'t>) -> Option<&'u PasswdRow<'t>> {
+    let row = user_line(line)?;
+    users
+        .by_number(row.uid)
+        .filter(|user| user.name != row.name)
 }
 
 // Adds the users whose number was another user's on a host.
 fn add_users_of<'t>(
-    rt: &HostRuntime,
     taken: &mut PairTable<'t>,
     host: &HostText,
     users: &PasswdTable<'t>,
 ) -> Result<(), AllocError> {
-    match read_passwd(rt.alloc(), host.passwd.bytes()) {
-        Ok(table) => add_renumbered_users(taken, table.rows(), users),
-        Err(fault) => only_memory(&fault),
+    for line in Lines::new(host.passwd.bytes()) {
+        if let Some(user) = renumbered_user(line, users) {
+            taken.add(user.name, user.uid)?;
+        }
     }
+    Ok(())
 }
 
 // Warns of how many numbers were another name's on some host.
@@ -353,7 +349,7 @@ fn warn_of_user_numbers(
 ) -> Result<(), AllocError> {
     let mut taken = PairTable::new(rt.alloc());
     for host in hosts {
-        add_users_of(rt, &mut taken, host, users)?;
+        add_users_of(&mut taken, host, users)?;
     }
     warn_of_taken(
         rt,
@@ -369,11 +365,15 @@ fn warn_of_tables(
     users: &PasswdTable<'_>,
     groups: &GroupTable<'_>,
 ) -> Result<(), AllocError> {
-    let (gaining, taken) = see_groups(rt, hosts, groups)?;
-    warn_of_more(rt, "groups that get members on a host:", gaining)?;
+    let counts = see_groups(rt, hosts, groups)?;
+    warn_of_more(rt, "groups that get members on a host:", counts.gaining)?;
     warn_of_group_counts(rt, users, groups)?;
     warn_of_user_numbers(rt, hosts, users)?;
-    warn_of_taken(rt, "groups that were another group's on some host:", taken)
+    warn_of_taken(
+        rt,
+        "groups that were another group's on some host:",
+        counts.taken,
+    )
 }
 
 // Warns of what merged users and a merged group text give.

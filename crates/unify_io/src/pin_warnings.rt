@@ -1,7 +1,8 @@
 //! Warnings of pins that give no number: no host has their name, or it stays as it is.
 
 use crate::host_names::{HostNames, names_of};
-use crate::warnings::{MOST_LINES, Part, warn};
+use crate::message::Part;
+use crate::warnings::{MOST_LINES, warn};
 use hosts_join::{HostText, PairLine, PairTable, Which, pair_line};
 use idtext::Lines;
 use std::alloc::AllocError;

@@ -2,6 +2,7 @@
 //! status.
 
 use crate::files::FileFault;
+use crate::message::{Part, push_part};
 use crate::output::OutputFault;
 use clap::Error;
 use idtext::push_escaped;
@@ -29,20 +30,6 @@ pub fn write_failed(rt: &HostRuntime) -> u8 {
     3
 }
 
-// What the system said, without the number that it gives it.
-fn reason_in(told: &str) -> &str {
-    match told.split_once(" (os error ") {
-        Some((reason, _)) => reason,
-        None => told,
-    }
-}
-
-// Appends what the system said.
-fn push_reason(rt: &HostRuntime, line: &mut Vec<u8>, error: &io::Error) -> Result<(), AllocError> {
-    let told = error.to_string(rt.alloc())?;
-    line.extend_from_slice(reason_in(told.as_str()).as_bytes())
-}
-
 // A name or a path as it is told: a hyphen stands for an empty one.
 fn shown(name: &[u8]) -> &[u8] {
     if name.is_empty() { b"-" } else { name }
@@ -54,32 +41,10 @@ fn tell(rt: &HostRuntime, line: &[u8], status: u8) -> FileFault {
     FileFault::Told(status)
 }
 
-/// A part of what is told of a thing that words name.
-#[derive(Clone, Copy)]
-pub enum Said<'a> {
-    Text(&'a str),
-    /// A name or a path, which is escaped.
-    Name(&'a [u8]),
-    /// What the system says of an error with this number (errno(3)).
-    System(i32),
-    /// What is said of an error.
-    Failed(io::Error),
-}
-
-// Appends a part of what is told.
-fn push_said(rt: &HostRuntime, line: &mut Vec<u8>, said: Said<'_>) -> Result<(), AllocError> {
-    match said {
-        Said::Text(text) => line.extend_from_slice(text.as_bytes()),
-        Said::Name(name) => push_escaped(line, name),
-        Said::System(number) => push_reason(rt, line, &io::Error::from_raw_os_error(number)),
-        Said::Failed(error) => push_reason(rt, line, &error),
-    }
-}
-
 // Appends the parts of what is told.
-fn push_parts(rt: &HostRuntime, line: &mut Vec<u8>, parts: &[Said<'_>]) -> Result<(), AllocError> {
-    for said in parts {
-        push_said(rt, line, *said)?;
+fn push_parts(rt: &HostRuntime, line: &mut Vec<u8>, parts: &[Part<'_>]) -> Result<(), AllocError> {
+    for part in parts {
+        push_part(rt, line, *part)?;
     }
     Ok(())
 }
@@ -90,14 +55,14 @@ fn push_told_of<'a>(
     line: &mut Vec<u8>,
     kind: &'a str,
     name: &'a [u8],
-    parts: &[Said<'_>],
+    parts: &[Part<'_>],
 ) -> Result<(), AllocError> {
     let head = [
-        Said::Text("unify: "),
-        Said::Text(kind),
-        Said::Text(" "),
-        Said::Name(shown(name)),
-        Said::Text(": "),
+        Part::Text("unify: "),
+        Part::Text(kind),
+        Part::Text(" "),
+        Part::Name(shown(name)),
+        Part::Text(": "),
     ];
     push_parts(rt, line, &head)?;
     push_parts(rt, line, parts)?;
@@ -110,7 +75,7 @@ pub fn tell_of(
     rt: &HostRuntime,
     kind: &str,
     name: &[u8],
-    parts: &[Said<'_>],
+    parts: &[Part<'_>],
     status: u8,
 ) -> FileFault {
     let mut line = Vec::new(rt.alloc());
@@ -126,30 +91,30 @@ pub fn file_failed(rt: &HostRuntime, path: &str, error: &io::Error) -> FileFault
     if error.kind() == io::ErrorKind::OutOfMemory {
         return FileFault::Memory;
     }
-    tell_of(rt, "file", path.as_bytes(), &[Said::Failed(*error)], 3)
+    tell_of(rt, "file", path.as_bytes(), &[Part::Failed(*error)], 3)
 }
 
 // Why nothing is written into a directory, in three parts.
-fn said_of(fault: OutputFault<'_>) -> [Said<'_>; 3] {
-    let none = Said::Text("");
+fn parts_of(fault: OutputFault<'_>) -> [Part<'_>; 3] {
+    let none = Part::Text("");
     match fault {
-        OutputFault::EmptyWord => [Said::Text("an empty word"), none, none],
-        OutputFault::System(error) => [Said::Failed(error), none, none],
+        OutputFault::EmptyWord => [Part::Text("an empty word"), none, none],
+        OutputFault::System(error) => [Part::Failed(error), none, none],
         OutputFault::HostDirectory(host) => [
-            Said::Text("the directory of host "),
-            Said::Name(shown(host.as_bytes())),
+            Part::Text("the directory of host "),
+            Part::Name(shown(host.as_bytes())),
             none,
         ],
-        OutputFault::Busy => [Said::Text("another merge is writing there"), none, none],
+        OutputFault::Busy => [Part::Text("another merge is writing there"), none, none],
         OutputFault::HostFile(name) => [
-            Said::Text("holds "),
-            Said::Name(name.as_bytes()),
-            Said::Text(", as the directory of a host does"),
+            Part::Text("holds "),
+            Part::Name(name.as_bytes()),
+            Part::Text(", as the directory of a host does"),
         ],
         OutputFault::Foreign(name) => [
-            Said::Text("holds "),
-            Said::Name(name.as_bytes()),
-            Said::Text(", and no report of an earlier merge"),
+            Part::Text("holds "),
+            Part::Name(name.as_bytes()),
+            Part::Text(", and no report of an earlier merge"),
         ],
     }
 }
@@ -160,7 +125,7 @@ pub fn output_refused(rt: &HostRuntime, directory: &str, fault: OutputFault<'_>)
     if fault.is_memory() {
         return FileFault::Memory;
     }
-    tell_of(rt, "output", directory.as_bytes(), &said_of(fault), 2)
+    tell_of(rt, "output", directory.as_bytes(), &parts_of(fault), 2)
 }
 
 // Whether a refusal is of accounts or numbers that a keep text can leave as they are.

@@ -1,75 +1,37 @@
 //! Warnings: of what is accepted and is seldom meant so. Each is a line on standard error.
 
+use crate::message::{Part, push_part};
 use hosts_join::HostText;
-use idtext::{ByteString, Lines, Pieces, ReadError, fields, is_skipped, push_escaped, push_number};
+use idtext::{ByteString, Lines, Pieces, ReadError, fields, is_skipped};
 use std::alloc::AllocError;
 use std::io::Write;
 
 /// How many lines there are of one kind of warning that many names may have; the rest is counted.
 pub const MOST_LINES: usize = 10;
 
-/// How many names are told in one line.
-pub const MOST_NAMES: usize = 8;
-
-/// A part of a warning. Between two parts there is a space.
-#[derive(Clone, Copy)]
-pub enum Part<'a> {
-    Text(&'a str),
-    /// A name or a path, which is escaped.
-    Name(&'a [u8]),
-    /// Names, the first few of them.
-    Names(&'a [&'a [u8]]),
-    Count(usize),
-}
-
-// Appends a name of several, after those with a lower index.
-fn push_listed(line: &mut Vec<u8>, index: usize, name: &[u8]) -> Result<(), AllocError> {
-    if index > 0 {
-        line.extend_from_slice(b", ")?;
-    }
-    push_escaped(line, name)
-}
-
-// Appends the first few of some names.
-fn push_names(line: &mut Vec<u8>, names: &[&[u8]]) -> Result<(), AllocError> {
-    for (index, name) in names.iter().take(MOST_NAMES).enumerate() {
-        push_listed(line, index, *name)?;
-    }
-    if names.len() > MOST_NAMES {
-        line.extend_from_slice(b" and others")?;
-    }
-    Ok(())
-}
-
-// Appends a part of a warning.
-fn push_part(line: &mut Vec<u8>, part: Part<'_>) -> Result<(), AllocError> {
-    match part {
-        Part::Text(text) => line.extend_from_slice(text.as_bytes()),
-        Part::Name(name) => push_escaped(line, name),
-        Part::Names(names) => push_names(line, names),
-        Part::Count(count) => push_number(line, count as u128),
-    }
-}
-
 // Appends a space and a part of a warning.
-fn push_next(line: &mut Vec<u8>, part: Part<'_>) -> Result<(), AllocError> {
+fn push_next(rt: &HostRuntime, line: &mut Vec<u8>, part: Part<'_>) -> Result<(), AllocError> {
     line.extend_from_slice(b" ")?;
-    push_part(line, part)
+    push_part(rt, line, part)
 }
 
 // Appends a warning.
-fn push_warning(line: &mut Vec<u8>, parts: &[Part<'_>]) -> Result<(), AllocError> {
+fn push_warning(
+    rt: &HostRuntime,
+    line: &mut Vec<u8>,
+    parts: &[Part<'_>],
+) -> Result<(), AllocError> {
     line.extend_from_slice(b"unify: warning:")?;
     for part in parts {
-        push_next(line, *part)?;
+        push_next(rt, line, *part)?;
     }
     line.extend_from_slice(b"\n")
 }
 
-/// Warns.
+/// Warns with these parts, between which there is a space.
 pub fn warn(rt: &HostRuntime, parts: &[Part<'_>]) -> Result<(), AllocError> {
     let mut line = Vec::new(rt.alloc());
-    push_warning(&mut line, parts)?;
+    push_warning(rt, &mut line, parts)?;
     let _ = rt.stderr().write_all(&line);
     Ok(())
 }

@@ -1,5 +1,4 @@
-//! Rehearsals of a whole site, and fault lines that no example has.
+//! Rehearsals of a whole site.
 
-mod fault_lines;
 mod hosts;
 mod site_runs;
