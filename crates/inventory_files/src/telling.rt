@@ -4,7 +4,7 @@ use idtext::{push_escaped, push_number};
 use std::alloc::AllocError;
 use std::io;
 use std::io::Write;
-use unify_io::{FileFault, MOST_LINES, Said, tell_of};
+use unify_io::{FileFault, MOST_LINES, Part, tell_of};
 
 /// Why a file, or what is in a directory, is not in an inventory.
 #[derive(Clone, Copy)]
@@ -35,10 +35,10 @@ pub enum RootFault<'a> {
 }
 
 // What is said of trouble.
-fn said_of(trouble: Trouble) -> Said<'static> {
-    Said::Text(match trouble {
+fn part_of(trouble: Trouble) -> Part<'static> {
+    Part::Text(match trouble {
         Trouble::System(error) => match error.raw_os_error() {
-            Some(number) => return Said::System(number),
+            Some(number) => return Part::System(number),
             None => "it cannot be read",
         },
         Trouble::NotText => "a name in it is not UTF-8",
@@ -55,7 +55,7 @@ fn said_of(trouble: Trouble) -> Said<'static> {
 ///
 /// Where memory is refused.
 pub fn tell_trouble(rt: &HostRuntime, path: &[u8], trouble: Trouble) -> Result<(), FileFault> {
-    match tell_of(rt, "file", path, &[said_of(trouble)], 3) {
+    match tell_of(rt, "file", path, &[part_of(trouble)], 3) {
         FileFault::Told(_) => Ok(()),
         fault => Err(fault),
     }
@@ -108,6 +108,6 @@ pub fn root_refused(rt: &HostRuntime, root: &str, fault: RootFault<'_>) -> FileF
         RootFault::Inside(other) => ("it lies in ", other),
         RootFault::TooLong => ("the roots are too long for a line", ""),
     };
-    let parts = [Said::Text(text), Said::Name(other.as_bytes())];
+    let parts = [Part::Text(text), Part::Name(other.as_bytes())];
     tell_of(rt, "root", root.as_bytes(), &parts, 2)
 }
