@@ -3,9 +3,10 @@
 #                          with run-time checks and not proved
 #   make try ARGS='merge OUT HOST..'   any other command, in the same way
 #   make program           proves the program and links it, which takes a while; make demo-proved runs the demo with it
-#   make demo-apply        as root: makes trees of two hosts, merges, carries the plans out, verifies and takes them back
+#   make demo-apply        as root, after make program: makes trees of two hosts, merges, carries the plans out, verifies and
+#                          takes them back
 #   make install PREFIX=.. puts the proved program into PREFIX/bin
-#   make quick             for daily work: lays out and proves the crates that changed, and runs the worked examples unproved
+#   make quick             for daily work: formats and proves the crates that changed, and runs the worked examples unproved
 #   make test              the gate: proves every crate, tries the must-fail edits, runs the tests and the program, and
 #                          ends with make compare
 #   make compare           compares what the program that was built last makes of examples/office, examples/mixed and
@@ -49,7 +50,8 @@ demo-proved: program
 		passwd.amber group.amber passwd.basalt group.basalt; do \
 		echo; echo "$(DEMO)/$$file:"; cat $(DEMO)/$$file; done
 
-demo-apply: program
+demo-apply:
+	@test -x $(PROGRAM) || { echo 'make program comes first, not as root' >&2; exit 1; }
 	@examples/trees/demo.py $(PROGRAM) build/trees
 
 test:
@@ -69,8 +71,9 @@ quick:
 
 # What the program that was built last makes of examples/office is what is committed there: the merge, its certificate
 # accepted with the same sum, the map counted, and each plan rehearsed. Then the hosts of examples/mixed with a keep text and
-# without, each bundle of examples/worked, the command line, and what a merge does to the directory that it writes into. What the program tells goes to a file, since a shell keeps
-# no exit status of a program before a pipe.
+# without, each bundle of examples/worked, the command line, and what a merge does to the directory that it writes into. Last, for
+# root, plans are carried out on real trees and taken back. What the program tells goes to a file, since a shell keeps no exit
+# status of a program before a pipe.
 compare:
 	@rm -rf $(DEMO) && mkdir -p $(DEMO)
 	@./$(PROGRAM) merge $(DEMO) $(OFFICE) >$(TOLD) && diff $(TOLD) examples/office/expected-merge
@@ -85,12 +88,17 @@ compare:
 	@rm -rf $(MIXED) && mkdir -p $(MIXED)
 	@set -e; for other in rocky freebsd; do \
 		./$(PROGRAM) merge -q --keep examples/keep/system $(MIXED) examples/mixed/debian examples/mixed/$$other >$(TOLD); \
-		diff $(TOLD) examples/mixed/expected-$$other; done
+		diff $(TOLD) examples/mixed/expected-$$other; \
+		for file in map report; do diff $(MIXED)/$$file examples/mixed/merged-$$other/$$file; done; done
 	@./$(PROGRAM) merge -q $(MIXED) examples/mixed/debian examples/mixed/rocky 2>$(TOLD); \
 		test $$? -eq 1 && diff $(TOLD) examples/mixed/expected-refusal
 	@echo 'examples/mixed: as committed'
 	@examples/worked/compare.py $(PROGRAM)
 	@examples/worked/outputs.py $(PROGRAM)
+	@if test $$(id -u) -eq 0; then \
+		examples/trees/demo.py $(PROGRAM) build/trees >$(TOLD) || { cat $(TOLD); exit 1; }; \
+		echo 'examples/trees: carried out, verified and taken back'; \
+	else echo 'examples/trees: skipped, for it needs root'; fi
 
 # Proves the program and the crates below it, and links it. What has not changed since is not proved again.
 program:

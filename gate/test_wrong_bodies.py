@@ -79,7 +79,8 @@ EDITS = [
     ("second_is_first", "lib", "self.value.first", "self.value.second", "refused, "),
 ]
 # One that turns the contract of the function below that has to refuse it.
-TURNED = """in: src/lib.rt second
+TURNED = """why: Sums; of one
+in: src/lib.rt second
 file: src/lib.rt
 old: number as u16 + 1
 new: number as u16
@@ -88,7 +89,7 @@ old: ensures { result ≡ number + 1 }
 new: ensures { result ≡ number }
 """
 # One that a law has to refuse.
-UNLAWFUL = """in: src/lib.rt same
+UNLAWFUL = """law: src/lib.rt same
 file: src/lib.rt
 old: number + 1 ≡ number + 1
 new: number + 1 ≡ number + 2
@@ -100,6 +101,8 @@ def main():
         crate = pathlib.Path(top, "crates/small")
         for folder in ("src", "wrong-bodies"):
             (crate / folder).mkdir(parents=True)
+        pathlib.Path(top, "docs").mkdir()
+        pathlib.Path(top, "docs/promises.md").write_text("| **Sums** | the sum of two is told |\n")
         pathlib.Path(top, "crates.txt").write_text("small:\n")
         (crate / "src/lib.rt").write_text(SOURCE)
         (crate / "src/apart.rt").write_text(APART)

@@ -5,14 +5,16 @@
     gate/wrong_bodies.py --passed     notes that `rt ci` has just passed these sources
 
 An edit is a file as rt's must-fail edits are: lines `file: PATH` below the crate, `old: TEXT`, which stands there once, and
-`new: TEXT`. The edits of a crate are tried in rounds. A round takes edits that touch different functions, makes them all in
+`new: TEXT`. A line `why: TEXT` is for the reader: the promise of docs/promises.md that it breaks, or some with commas between them,
+and what else is to be said after a semicolon or a colon. The edits of a crate are tried in rounds. A round takes edits that touch different functions, makes them all in
 one copy of the crate, and has these functions checked, with what they call. An edit is refused where that check leaves a goal
 open in a function that the edit touches. What is not refused in a round is tried alone before it is told as let through. So
 is an edit outside of functions: all of the crate is checked with it, and it is refused where any goal is left open.
 
 An edit may turn the contracts of functions with their bodies. A line `in: PATH FUNCTION` names the one above them that has to
-refuse it; that function alone is checked then, and by itself. What breaks in a lemma that its answers cite does not count: an edit
-that turns a definition with its body, and so the lemmas of a law, has no such line.
+refuse it; that function alone is checked then, and by itself. What breaks in a lemma that its answers cite does not count. It
+does where an edit turns a definition with its body, so that a law of the definition does not hold: there a line `law: PATH FUNCTION`
+names the law, and that alone is checked, with its lemmas.
 
 All is done in a copy of the repository's crates. A crate that `rt ci` has passed on this machine is taken as proved, by the
 record of rt where it keeps one and else by build/passed and the libraries that it left; any other is proved first. Crates are
@@ -44,6 +46,8 @@ ANSWER = re.compile(
 RANGES = "overflow", "bounds", "slice_bounds", "offset_bounds", "nonzero"
 # What keeps a check from any verdict: a text that does not compile.
 ERROR = re.compile(r"^(?:\./)?(src/\S+?):(\d+):\d+: error(?:[^`\n]*`([^`]+)`)?", re.M)
+# A search that took too many steps: the goal may hold.
+BROKE_OFF = re.compile(r"`search` broke off")
 # The last line of a check that came to an end.
 ENDED = re.compile(r"^(?:only=\d+ proved=|logic=)", re.M)
 FUNCTION = re.compile(
@@ -93,25 +97,30 @@ class Function(NamedTuple):
 
 class Edit(NamedTuple):
     """A wrong body: its changes, each a path, an old text and a new one; the functions that they touch, or that have to refuse
-    them; and whether these are named."""
+    them; whether these are named; and whether they are laws, whose lemmas count too."""
 
     name: str
     changes: list
     functions: set
     is_apart: bool
+    is_of_laws: bool
 
     def found_in(self, places):
-        """A place that lies in a function that the edit touches, or in any, where it touches none; at best one of a clause."""
-        found = [it for it in places if not self.functions or any(f.has(it) for f in self.functions)]
+        """A place that lies in a function that the edit touches, or in any, where it touches none or only a law with its lemmas
+        was checked; at best one of a clause."""
+        is_any = self.is_of_laws or not self.functions
+        found = [it for it in places if is_any or any(f.has(it) for f in self.functions)]
         return min(found, key=lambda it: it.goal.startswith(RANGES), default=None)
 
 
 class Told(NamedTuple):
-    """What a check tells: the goals that it left open, the errors, whether it came to an end, and its last line."""
+    """What a check tells: the goals that it left open, the errors, whether it came to an end, whether a search in it broke off,
+    and its last line."""
 
     goals: list
     errors: list
     has_ended: bool
+    broke_off: bool
     last: str
 
 
@@ -176,9 +185,9 @@ def changes_of(text):
     return changes
 
 
-def named_in(text):
-    """The functions that have to refuse an edit, by their paths and names."""
-    return re.findall(r"^in: (\S+) (\w+)$", text, re.M)
+def named_in(text, word):
+    """The functions, or the laws, that have to refuse an edit, by their paths and names."""
+    return re.findall(rf"^{word}: (\S+) (\w+)$", text, re.M)
 
 
 def made(changes, texts, text_of):
@@ -245,8 +254,9 @@ class Crate:
             texts = made([change], texts, self.text_of)
         if not changes:
             raise Unreadable("it has no change")
-        named = {self.function_named(*it) for it in named_in(edit)}
-        return Edit(path.stem, changes, named or (set() if None in functions else functions), bool(named))
+        named, laws = ({self.function_named(*it) for it in named_in(edit, word)} for word in ("in", "law"))
+        touched = set() if None in functions else functions
+        return Edit(path.stem, changes, named | laws or touched, bool(named or laws), bool(laws))
 
     def function_named(self, path, name):
         text = self.text_of(path)
@@ -278,7 +288,7 @@ class Crate:
             [Place(path, int(line), goal) for path, line, goal in it.findall(said)] for it in (OPEN, ANSWER, ERROR)
         )
         last = said.rstrip("\n").rpartition("\n")[2]
-        return Told(goals + answers, errors, ENDED.match(last) is not None, last)
+        return Told(goals + answers, errors, ENDED.match(last) is not None, BROKE_OFF.search(said) is not None, last)
 
     def tried_together(self, kept):
         """Tries the edits in rounds, and returns those that were not refused."""
@@ -302,7 +312,7 @@ class Crate:
         elif not told.has_ended:
             self.told.append((edit.name, f"NOT JUDGED: {told.last}"))
         elif not self.is_refused(edit, told.goals):
-            self.told.append((edit.name, f"LET THROUGH: {told.last}"))
+            self.told.append((edit.name, f"{'NOT JUDGED' if told.broke_off else 'LET THROUGH'}: {told.last}"))
 
     def is_refused(self, edit, goals):
         """Whether a goal is open where the edit is, which is told then."""
@@ -393,6 +403,21 @@ def note_passed(rt):
     return 0
 
 
+def promises_of(text):
+    """The names of promises: headings, and what stands in bold at the front of a row of a table."""
+    found = re.findall(r"^#+ (.+)$", text, re.M) + re.findall(r"^\| \*\*(.+?)\*\*", text, re.M)
+    return {it.replace("`", "") for it in found}
+
+
+def see_promises(top):
+    """Ends the run where an edit names a promise that is not there."""
+    promises = promises_of(pathlib.Path(top, "docs/promises.md").read_text(encoding="utf-8"))
+    for path in sorted(pathlib.Path(top).glob(f"crates/*/{FOLDER}/*.edit")):
+        for why in re.findall(r"^why: ([^;:\n]*)", path.read_text(encoding="utf-8"), re.M):
+            if why not in promises and not promises.issuperset(why.split(", ")):
+                sys.exit(f"{path.relative_to(top)}: no promise: {why}")
+
+
 def copy_crates(top, room):
     """Copies what crates are made from."""
     shutil.copytree(f"{top}/crates", f"{room}/crates", ignore=shutil.ignore_patterns("out"))
@@ -407,6 +432,7 @@ def main(names):
     rt, top = toolchain(), os.getcwd()
     if names == ["--passed"]:
         return note_passed(rt)
+    see_promises(top)
     with tempfile.TemporaryDirectory(prefix="wrong-bodies-") as room:
         copy_crates(top, room)
         os.chdir(room)

@@ -183,7 +183,7 @@ TABLE = [
     ("check --help", 0, ("--pins", "--keep", "CERTIFICATE", "HOST"), ""),
     ("rehearse --help", 0, ("PLAN", "MTREE"), ""),
     ("inventory --help", 0, ("ROOT", "-x", "--one-file-system"), ""),
-    ("apply --help", 0, ("--check", "--reverse", "--mark", "--host", "--quiet", "no progress", "--progress", "PLAN", "ROOT"), ""),
+    ("apply --help", 0, ("--check", "--reverse", "--begun", "--mark", "--host", "--quiet", "no progress", "--progress", "PLAN", "ROOT"), ""),
     (
         "verify --help",
         0,
@@ -215,7 +215,7 @@ TABLE = [
     ("apply", 2, "", ("PLAN", "ROOT")),
     ("apply plan", 2, "", ("ROOT",)),
     ("apply plan b more", 2, "", ("more",)),
-    (b"count map \xff", 2, "", ""),
+    (b"count map \xff", 2, "", "unify: an argument is not UTF-8\n"),
     (["\x1b]0;r\x07 \x7f\u009b\xfc\n"], 2, "", ("\\033]0;r\\007 \\177\\302\\233\xc3\xbc\n",)),
     # What the commands answer. No host has a login.defs.
     ("count map a b", 0, COUNTED, ""),

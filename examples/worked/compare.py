@@ -36,7 +36,7 @@ FOLDER = pathlib.Path(__file__).resolve().parent
 SITES = 300
 ENDINGS = {"bundle", "answer", "parts", "status", "accepted"}
 # So many there are at least: with fewer, some were lost.
-LEAST_FILES, LEAST_BY_WORDS, LEAST_BY_LINE, LEAST_CUT = 135, 85, 105, 280
+LEAST_FILES, LEAST_BY_WORDS, LEAST_BY_LINE, LEAST_CUT, CONTESTED, SMALL = 189, 121, 243, 280, 44, 19683
 
 # The answers to the prefixes of merge/root-only.bundle: the first and the last length, the status, and the fault line or the
 # example that has the answer.
@@ -421,6 +421,8 @@ def main(words):
     want_at_least(LEAST_BY_WORDS, by_words, "merges by words")
     want_at_least(LEAST_BY_LINE, by_line, "command lines")
     want_at_least(LEAST_CUT, cut, "cut certificates, plans and inventories")
+    want_at_least(CONTESTED, contested, "contested sites")
+    want_at_least(SMALL, small, "triples of users")
     for many in (merged, kept):
         want("generated sites, more than half merged, but not all", True, SITES // 2 < many < SITES)
     print(f"generated sites: {merged} merged at the least cost, {SITES - merged} refused for two pins or a small pool")

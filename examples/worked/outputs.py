@@ -28,9 +28,8 @@ ORDER = ["passwd", "group", "map", "certificate"]
 OF_HOSTS = ["plan", "passwd", "group"]
 # The system calls that change files or what is on a disk, as strace names them.
 CHANGING = "openat,write,fsync,rename,unlink"
-# A stop at each of the first calls and then at every seventh is a few seconds' work.
+# A stop at the first call and then at every seventh is a few seconds' work.
 STEP = 7
-LEAST_STOPS = 6
 
 
 def of_hosts(*hosts):
@@ -309,6 +308,18 @@ def stopped(room, step):
     return number
 
 
+def least_stops():
+    """So many stops there are at least where not each call is tried: by strace at calls, and else by time."""
+    return 15 if shutil.which("strace") else 2
+
+
+def some_stopped(room):
+    """Stops some merges; with fewer stops than these nothing would be seen."""
+    number = stopped(room, STEP)
+    want("stops, not too few", True, number >= least_stops())
+    print(f"stops: {number}, after each every file whole and the merge made again")
+
+
 def other_pins(room):
     """Numbers with which a merge differs from one without them in each file."""
     (room.path / "pins").write_text("user alice 1500\nuser bob 1501\n")
@@ -332,7 +343,7 @@ def main(words):
     full_disk(program)
     if not shutil.which("strace"):
         print("stops: without strace, so at times and not at calls")
-    in_room(program, lambda room: print(f"stops: {stopped(room, STEP)}, after each every file whole and the merge made again"))
+    in_room(program, some_stopped)
     print(f"outputs: as wanted, in {time.monotonic() - began:.1f} s")
     return 0
 
