@@ -9,7 +9,7 @@ is killed with SIGKILL after random times and started again until it ends; after
 new owner. Then the same with --reverse, and what has to be refused, a name that is not UTF-8 and a pipe as the mark too. With
 strace it is also killed between the change of an owner, which clears the set-user-ID and set-group-ID bit, and the call that sets
 the mode back, and these bits are counted, and its syncs on an ext4 with a journal and on one without; and behind a kill no other
-plan may be begun, nor the reverse. It is run where standard error is a terminal, too, in a root that is a plain directory, and,
+plan may be begun, nor the reverse, and one whose file of modes is gone goes on with --begun alone. It is run where standard error is a terminal, too, in a root that is a plain directory, and,
 with mkfs.btrfs, where another subvolume of its btrfs is mounted below.
 Ends with status 1 where anything was otherwise.
 """
@@ -280,6 +280,29 @@ class Bench:
         say(f"a modes file that the ended plan has left: status {came.returncode}, {came.stderr!r}, left: {modes_file.exists()}", came.returncode == 0 and not modes_file.exists())
         self.at_end("then back", "old")
 
+    def without_modes(self):
+        """A plan that was stopped and has lost its modes file: it is refused, and so is its reverse, whose mark is there still, with
+        nothing changed; with --begun it goes on. All files are at their old owners before and behind."""
+        mark, modes_file = pathlib.Path(f"{self.plan}.done"), pathlib.Path(f"{self.plan}.done.modes")
+        for flags, side in ((), "new"), (("--reverse",), "old"):
+            is_stopped = self.stopped(9, *flags, calls=GIVES)
+            counts = seen(self.root, self.owners)[0]
+            modes_file.unlink()
+            say(f"stopped, and without a modes file {' '.join(flags)}: {dict(counts)}", is_stopped and counts["old"] > 0 and counts["new"] > 0)
+            for words in (), ("--reverse",):
+                told = "48 AlreadyChanged " if words == flags else "44 Unfinished "
+                self.refused(f"  then {' '.join(words)}", words, 1, told)
+            came = self.ran(*flags, "--begun")
+            say(f"  then --begun: status {came.returncode}, {came.stderr!r}", came.returncode == 0 and not modes_file.exists())
+            self.at_end("then", side)
+        self.stopped(9, calls=GIVES)
+        modes_file.unlink()
+        mark.unlink()
+        self.refused("  then its reverse, without a mark", ("--reverse",), 1, "48 AlreadyChanged ")
+        came = self.ran("--reverse", "--begun")
+        say(f"a plan that was stopped, taken back: status {came.returncode}, {came.stderr!r}", came.returncode == 0)
+        self.at_end("then", "old")
+
     def no_files(self):
         """What is no regular file in place of the mark and of the modes: it is refused, and nobody waits for it."""
         for name, told in (("done", "not the mark of a plan"), ("done.modes", "truncated, or not the modes of a plan")):
@@ -304,7 +327,7 @@ class Bench:
 
     def no_text(self):
         """Plans with a name that is not UTF-8, as the last name of a path and on the way: they are refused before anything is
-        written, and so they are by --check and --reverse. The file is there, at its old owner."""
+        written, and so they are by --check and --reverse, which is told that it was begun. The file is there, at its old owner."""
         whole, folder = self.plan.read_bytes(), os.fsencode(self.root) + b"/d\xff"
         os.mkdir(folder)
         for path, told in ((b"d\xff/file", r"d\377/file"), (b"d0/o\xffd d", r"d0/o\377d\040d")):
@@ -313,7 +336,7 @@ class Bench:
             os.lchown(file, *ONE)
             record = b"%d %d %d %d %d %s\n" % (*ONE, *OTHER, len(path), path)
             self.plan.write_bytes(whole.removesuffix(b"end\n") + record + b"end\n")
-            for flags in ((), ("--check",), ("--reverse",)):
+            for flags in ((), ("--check",), ("--reverse", "--begun")):
                 what = " ".join(["a name that is not UTF-8", *flags])
                 self.refused(what, flags, 1, f"unify: file {told}: a name that is not UTF-8\n")
                 found, marks = os.lstat(file), [mark.name for mark in self.room.glob("plan?*")]
@@ -330,7 +353,12 @@ class Bench:
         self.refused("a third owner", (), 1, f"38 Foreign {path}")
         came = self.ran("--check")
         say(f"  --check: status {came.returncode}, {came.stdout!r}, {came.stderr.strip()}", came.returncode == 1 and "foreign 1" in came.stdout)
+        os.lchown(self.root / path, *self.owners[path][1])
+        self.refused("a new owner before the first run", (), 1, f"48 AlreadyChanged {path}")
         os.lchown(self.root / path, *self.owners[path][0])
+        self.refused("the reverse of a plan that was not begun", ("--reverse",), 1, f"48 AlreadyChanged {next(iter(self.owners))}")
+        marks = [mark.name for mark in self.room.glob("plan?*")]
+        say(f"  written beside the plan: {marks}", not marks)
         os.rename(self.root / path, self.root / "aside")
         left_out = self.owners.pop(path)
         self.refused("a missing file", (), 1, f"37 Missing {path}")
@@ -515,6 +543,7 @@ def main():
         bench.on_terminal()
         if shutil.which("strace"):
             bench.foreign_modes()
+            bench.without_modes()
             no_modes(bench.program, room / "plain")
             bench.between()
             bench.between("--reverse")
