@@ -38,6 +38,13 @@ impl LineStart {
     }
 }
 
+// How many spaces stand at the front of a part of a line.
+fn spaces_before(part: &[u8]) -> usize {
+    part.iter()
+        .position(|byte| *byte != b' ')
+        .unwrap_or(part.len())
+}
+
 /// How many lines of an inventory are of files, as far as it has come.
 #[derive(Drop)]
 pub struct FileLines {
@@ -93,15 +100,28 @@ impl FileLines {
         self.last = Some(byte);
     }
 
-    // Takes a part of a line.
-    fn take_part(&mut self, part: &[u8]) {
-        for byte in part {
+    // Takes a part of a line, up to the byte that decides. Spaces say nothing, unless a backslash
+    // stands before them.
+    fn take_front(&mut self, part: &[u8]) {
+        let spaces = match (self.start, self.last) {
+            (LineStart::Blank, Some(b'\\')) => 0,
+            (LineStart::Blank, _) => spaces_before(part),
+            _ => 0,
+        };
+        for byte in part.get(spaces..).unwrap_or(&[]) {
             if self.start.is_decided() {
                 break;
             }
             self.take_byte(*byte);
         }
+    }
+
+    // Takes a part of a line.
+    fn take_part(&mut self, part: &[u8]) {
         if let Some(last) = part.last() {
+            if !self.start.is_decided() {
+                self.take_front(part);
+            }
             self.last = Some(*last);
         }
     }
