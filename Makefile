@@ -95,10 +95,10 @@ compare:
 	@echo 'examples/mixed: as committed'
 	@examples/worked/compare.py $(PROGRAM)
 	@examples/worked/outputs.py $(PROGRAM)
-	@if test $$(id -u) -eq 0; then \
+	@if touch build/owned && chown 1:1 build/owned 2>/dev/null; then \
 		examples/trees/demo.py $(PROGRAM) build/trees >$(TOLD) || { cat $(TOLD); exit 1; }; \
 		echo 'examples/trees: carried out, verified and taken back'; \
-	else echo 'examples/trees: skipped, for it needs root'; fi
+	else echo 'examples/trees: skipped, for only root may give files other owners'; fi
 
 # Proves the program and the crates below it, and links it. What has not changed since is not proved again.
 program:
