@@ -1,4 +1,4 @@
--- Words of private contracts: hashes of cuts, kept in order, by which later cuts are known to be new.
+-- Words of private contracts: hashes of cuts, kept in order, which tell that later cuts are new.
 use Rattle.std.specs.Prelude.{◌≡◌, ◌⊎◌, ℕ, Bool, true, false, List, length, Some, slice_get}
 use Rattle.mtree_inv.specs.declared.places.Place.{Place}
 use Rattle.mtree_inv.specs.Cuts.{Cut, AreDistinct}

@@ -5,8 +5,9 @@ ghost use Rattle.mtree_inv.specs.Cuts.{Cut, IsNew};
 ghost use Rattle.mtree_inv.specs.Places.{hash_of as hash_of_cut, Others as OthersNow};
 ghost use Rattle.mtree_inv.specs.Following.{AreEachOnce, HaveHashes, AreApart, AreDifferentAt};
 
+use crate::hashed_cut::HashedCut;
 use crate::held_cuts::Rows;
-use crate::places::{Others, hash_of};
+use crate::places::Others;
 use std::alloc::{AllocError, Global};
 use std::collections::BTreeSet;
 use std::marker::Model;
@@ -55,15 +56,15 @@ impl CutHashes {
 }
 
 /// Whether the cut that comes after these has the hash that is expected of it.
-pub(crate) fn is_expected(rows: &Rows, expected: &CutHashes, front: u32, tail: &[u8]) -> bool
+pub(crate) fn is_expected(rows: &Rows, expected: &CutHashes, cut: &HashedCut<'_>) -> bool
     ensures new { result ≡ true → HaveHashes rows.now expected.now
-        → IsNew rows.now (front, tail.now) }
+        → IsNew rows.now cut.now }
     ensures followed { result ≡ true → HaveHashes rows.now expected.now
-        → HaveHashes (rows.now ++ (front, tail.now) ∷ []) expected.now }
+        → HaveHashes (rows.now ++ cut.now ∷ []) expected.now }
     ensures apart { result ≡ true → HaveHashes rows.now expected.now → (others : OthersNow)
-        → AreApart (rows.now ++ (front, tail.now) ∷ []) others }
+        → AreApart (rows.now ++ cut.now ∷ []) others }
 {
-    expected.is_at(rows.len(), hash_of(front, tail))
+    expected.is_at(rows.len(), cut.hash())
 }
 
 // The hash of the cut at an index.
@@ -72,7 +73,7 @@ fn hash_at(rows: &Rows, index: usize) -> u64
 {
     match rows.get(index) {
         None => 0,
-        Some((front, tail)) => hash_of(front, tail),
+        Some(cut) => cut.hash(),
     }
 }
 

@@ -4,6 +4,7 @@ ghost use Rattle.mtree_inv.specs.Cuts.{AreDistinct};
 ghost use Rattle.mtree_inv.specs.Places.{most_probes, AreFound, KeepOthers};
 
 use crate::cut_hashes::{CutHashes, hashes_of, is_expected, no_hashes};
+use crate::hashed_cut::HashedCut;
 use crate::held_cuts::{Rows, no_rows};
 use crate::places::{
     MOST_PROBES, Others, Place, Probed, all_settled, find_or_settle, free_all, look_at_places,
@@ -163,10 +164,9 @@ impl Cuts {
     pub(crate) fn find(
         &mut self,
         alloc: Global,
-        front: u32,
-        tail: &[u8],
+        cut: &HashedCut<'_>,
     ) -> Result<Option<usize>, AllocError>
-        ensures place { IfOk result (IsPlaceOf self.old (front, tail.now)) }
+        ensures place { IfOk result (IsPlaceOf self.old cut.now) }
         ensures cuts { self.new ≡ self.old }
     {
         stop_following(
@@ -179,10 +179,10 @@ impl Cuts {
         if self.places.len() <= MOST_PROBES {
             return Ok(None);
         }
-        match look_at_places(&self.rows, &self.places, front, tail) {
+        match look_at_places(&self.rows, &self.places, cut) {
             Probed::At(index) => Ok(Some(index)),
             Probed::Free(_, _, _) => Ok(None),
-            Probed::Full(_) => other(&self.rows, &self.others, alloc, front, tail),
+            Probed::Full(_) => other(&self.rows, &self.others, alloc, cut),
         }
     }
 
@@ -190,16 +190,15 @@ impl Cuts {
     pub(crate) fn find_or_push(
         &mut self,
         alloc: Global,
-        front: u32,
-        tail: &[u8],
+        cut: &HashedCut<'_>,
     ) -> Result<Option<usize>, AllocError>
-        ensures place { IfOk result (IsPlaceOf self.old (front, tail.now)) }
+        ensures place { IfOk result (IsPlaceOf self.old cut.now) }
         ensures cuts { IfOk result
-            (λ known. self.new ≡ with_cut self.old (front, tail.now) known) }
+            (λ known. self.new ≡ with_cut self.old cut.now known) }
         ensures err { OnErr result (self.new ≡ self.old) }
     {
-        if self.follows && is_expected(&self.rows, &self.expected, front, tail) {
-            self.rows.push(front, tail)?;
+        if self.follows && is_expected(&self.rows, &self.expected, cut) {
+            self.rows.push(cut)?;
             return Ok(None);
         }
         stop_following(
@@ -216,12 +215,11 @@ impl Cuts {
             &mut self.others,
             &mut self.are_apart,
             alloc,
-            front,
-            tail,
+            cut,
         )? {
             Some(index) => Ok(Some(index)),
             None => {
-                self.rows.push(front, tail)?;
+                self.rows.push(cut)?;
                 Ok(None)
             }
         }

@@ -3,6 +3,7 @@ ghost use Rattle.std.specs.Prelude.{◌≡◌, ◌<◌, length, IfOk};
 ghost use Rattle.mtree_inv.specs.Fronts.{block_len, AreFronts, GrowTo, IsCutOf, IsFrontAt};
 
 use crate::cuts::{Cuts, no_cuts};
+use crate::hashed_cut::HashedCut;
 use crate::places::number_at;
 use std::alloc::{AllocError, Global};
 use std::marker::Model;
@@ -53,7 +54,10 @@ fn number_of(
     ensures grow { GrowTo fronts.old fronts.new }
 {
     let last = fronts.cuts.len();
-    if let Some(index) = fronts.cuts.find_or_push(alloc, front, block)? {
+    if let Some(index) = fronts
+        .cuts
+        .find_or_push(alloc, &HashedCut::new(front, block))?
+    {
         return number_at(index).ok_or(AllocError);
     }
     number_at(last).ok_or(AllocError)
@@ -65,9 +69,9 @@ pub(crate) fn cut<'a>(
     fronts: &mut Fronts,
     alloc: Global,
     path: &'a [u8],
-) -> Result<(u32, &'a [u8]), AllocError>
+) -> Result<HashedCut<'a>, AllocError>
     requires { AreFronts fronts.old }
-    ensures ok { IfOk result (λ found. IsCutOf fronts.new (found.0, found.1.now) path.now) }
+    ensures ok { IfOk result (λ found. IsCutOf fronts.new found path.now) }
     ensures fronts { AreFronts fronts.new }
     ensures grow { GrowTo fronts.old fronts.new }
 {
@@ -78,5 +82,5 @@ pub(crate) fn cut<'a>(
         front = number_of(fronts, alloc, front, block)?;
         rest = behind;
     }
-    Ok((front, rest))
+    Ok(HashedCut::new(front, rest))
 }

@@ -36,6 +36,7 @@ mod entry;
 mod fault;
 mod files;
 mod fronts;
+mod hashed_cut;
 mod held_cuts;
 mod inventory;
 mod keywords;

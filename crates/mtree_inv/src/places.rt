@@ -9,10 +9,11 @@ ghost use Rattle.mtree_inv.specs.Places.{AreFound, KeepFound, KeepOthers};
 ghost use Rattle.mtree_inv.specs.Probed.{IsAnswer};
 ghost use Rattle.mtree_inv.specs.Following.{IsApart};
 
+use crate::hashed_cut::HashedCut;
 use crate::held_cuts::Rows;
 use std::alloc::{AllocError, Global};
 use std::collections::BTreeMap;
-use std::hash::{DefaultHasher, FoldHasher, Hasher};
+use std::hash::{DefaultHasher, Hasher};
 
 // How many places are looked at for a cut.
 pub(crate) const MOST_PROBES: usize = 16;
@@ -35,34 +36,23 @@ pub(crate) type Key = (u64, u32, Vec<u8>);
 /// The index of each cut that found no place free.
 pub(crate) type Others = BTreeMap<Key, usize>;
 
-// A number that tells most cuts from others. Whoever names files may make it the same for many.
-#[tactic(auto, unfolding(crate::specs::Places::hash_of))]
-pub(crate) fn hash_of(front: u32, tail: &[u8]) -> u64
-    ensures { result ≡ hash_of_cut (front, tail.now) }
-{
-    let mut hasher = FoldHasher::default();
-    hasher.write_u32(front);
-    hasher.write(tail);
-    hasher.finish()
-}
-
 // A number that tells almost all cuts from one another, whoever names the files. It takes longer.
 #[tactic(auto, unfolding(crate::specs::Places::digest_of))]
-fn digest_of(front: u32, tail: &[u8]) -> u64
-    ensures { result ≡ digest_of_cut (front, tail.now) }
+fn digest_of(cut: &HashedCut<'_>) -> u64
+    ensures { result ≡ digest_of_cut cut.now }
 {
     let mut digest = DefaultHasher::new();
-    digest.write_u32(front);
-    digest.write(tail);
+    digest.write_u32(cut.front());
+    digest.write(cut.tail());
     digest.finish()
 }
 
 // What a cut is looked for by in the tree. The digest comes first, so that few cuts are compared.
-fn key_of(alloc: Global, front: u32, tail: &[u8]) -> Result<Key, AllocError>
-    ensures { IfOk result (λ key. IsKeyOf key (front, tail.now)) }
+fn key_of(alloc: Global, cut: &HashedCut<'_>) -> Result<Key, AllocError>
+    ensures { IfOk result (λ key. IsKeyOf key cut.now) }
 {
-    let tail_kept = Vec::from_slice(alloc, tail)?;
-    Ok((digest_of(front, tail), front, tail_kept))
+    let tail = Vec::from_slice(alloc, cut.tail())?;
+    Ok((digest_of(cut), cut.front(), tail))
 }
 
 // The half of a hash that a place keeps.
@@ -84,13 +74,13 @@ fn start_of(len: usize, hash: u64) -> usize
 }
 
 // Whether the cut at an index is this one.
-fn is_at(rows: &Rows, index: usize, front: u32, tail: &[u8]) -> bool
-    ensures yes { result ≡ true → slice_get rows.now index ≡ Some (front, tail.now) }
-    ensures no { slice_get rows.now index ≡ Some (front, tail.now) → result ≡ true }
+fn is_at(rows: &Rows, index: usize, cut: &HashedCut<'_>) -> bool
+    ensures yes { result ≡ true → slice_get rows.now index ≡ Some cut.now }
+    ensures no { slice_get rows.now index ≡ Some cut.now → result ≡ true }
 {
     match rows.get(index) {
         None => false,
-        Some((other_front, other_tail)) => other_front == front && other_tail == tail,
+        Some(other) => other.is(cut),
     }
 }
 
@@ -101,7 +91,7 @@ fn has_hash(rows: &Rows, index: usize, hash: u64) -> bool
 {
     match rows.get(index) {
         None => false,
-        Some((front, tail)) => hash_of(front, tail) == hash,
+        Some(cut) => cut.hash() == hash,
     }
 }
 
@@ -119,23 +109,22 @@ pub(crate) enum Probed {
 }
 
 // Looks at the places of a cut, up to the first that is free.
-pub(crate) fn look_at_places(rows: &Rows, places: &[Place], front: u32, tail: &[u8]) -> Probed
+pub(crate) fn look_at_places(rows: &Rows, places: &[Place], cut: &HashedCut<'_>) -> Probed
     requires { most_probes < length places.now }
-    ensures { IsAnswer rows.now places.now (front, tail.now) result }
+    ensures { IsAnswer rows.now places.now cut.now result }
 {
-    let hash = hash_of(front, tail);
-    let start = start_of(places.len(), hash);
-    let half = half_of(hash);
+    let start = start_of(places.len(), cut.hash());
+    let half = half_of(cut.hash());
     let mut is_alone = true;
     for probe in 0..MOST_PROBES {
         let place = places[start + probe];
         let Some(index) = place.number.checked_sub(1) else {
             return Probed::Free(start + probe, half, is_alone);
         };
-        if place.hash == half && is_at(rows, index as usize, front, tail) {
+        if place.hash == half && is_at(rows, index as usize, cut) {
             return Probed::At(index as usize);
         }
-        if place.hash == half && has_hash(rows, index as usize, hash) {
+        if place.hash == half && has_hash(rows, index as usize, cut.hash()) {
             is_alone = false;
         }
     }
@@ -147,18 +136,17 @@ pub(crate) fn other(
     rows: &Rows,
     others: &Others,
     alloc: Global,
-    front: u32,
-    tail: &[u8],
+    cut: &HashedCut<'_>,
 ) -> Result<Option<usize>, AllocError>
     ensures found { IfOk result (λ found. IfSome found
-        (λ i. slice_get rows.now i ≡ Some (front, tail.now))) }
+        (λ i. slice_get rows.now i ≡ Some cut.now)) }
     ensures none { IfOk result (λ found. MatchOption found
-        ((i : ℕ) → slice_get rows.now i ≡ Some (front, tail.now)
-        → other_at others.now.entries (front, tail.now) ≡ Some i → ⊥) (λ _. Unit {0})) }
+        ((i : ℕ) → slice_get rows.now i ≡ Some cut.now
+        → other_at others.now.entries cut.now ≡ Some i → ⊥) (λ _. Unit {0})) }
 {
-    let key = key_of(alloc, front, tail)?;
+    let key = key_of(alloc, cut)?;
     match others.get(&key).copied() {
-        Some(index) if is_at(rows, index, front, tail) => Ok(Some(index)),
+        Some(index) if is_at(rows, index, cut) => Ok(Some(index)),
         _ => Ok(None),
     }
 }
@@ -191,31 +179,29 @@ fn settle(
     others: &mut Others,
     alloc: Global,
     index: usize,
-    front: u32,
-    tail: &[u8],
+    cut: &HashedCut<'_>,
 ) -> Result<(), AllocError>
     requires { most_probes < length places.old }
     ensures settled { OnOk result
-        (IsFoundAt places.new others.new.entries (front, tail.now) index) }
-    ensures found { (i : ℕ) (cut : Cut) → IsFoundAt places.old others.old.entries cut i
-        → (cut ≡ (front, tail.now) → i ≡ index)
-        → IsFoundAt places.new others.new.entries cut i }
-    ensures others { (i : ℕ) (cut : Cut) → other_at others.old.entries cut ≡ Some i
-        → (cut ≡ (front, tail.now) → i ≡ index)
-        → other_at others.new.entries cut ≡ Some i }
+        (IsFoundAt places.new others.new.entries cut.now index) }
+    ensures found { (i : ℕ) (one : Cut) → IsFoundAt places.old others.old.entries one i
+        → (one ≡ cut.now → i ≡ index)
+        → IsFoundAt places.new others.new.entries one i }
+    ensures others { (i : ℕ) (one : Cut) → other_at others.old.entries one ≡ Some i
+        → (one ≡ cut.now → i ≡ index)
+        → other_at others.new.entries one ≡ Some i }
     ensures len { length places.new ≡ length places.old }
 {
     let Some(number) = number_at(index) else {
         return Err(AllocError);
     };
-    let hash = hash_of(front, tail);
-    let start = start_of(places.len(), hash);
+    let start = start_of(places.len(), cut.hash());
     let Some(at) = free_place(places, start) else {
-        others.insert(key_of(alloc, front, tail)?, index)?;
+        others.insert(key_of(alloc, cut)?, index)?;
         return Ok(());
     };
     places[at] = Place {
-        hash: half_of(hash),
+        hash: half_of(cut.hash()),
         number,
     };
     Ok(())
@@ -226,20 +212,19 @@ fn other_or_last(
     rows: &Rows,
     others: &mut Others,
     alloc: Global,
-    front: u32,
-    tail: &[u8],
+    cut: &HashedCut<'_>,
 ) -> Result<Option<usize>, AllocError>
     ensures known { IfOk result (λ known. IfSome known
-        (λ i. slice_get rows.now i ≡ Some (front, tail.now))) }
+        (λ i. slice_get rows.now i ≡ Some cut.now)) }
     ensures new { IfOk result (λ known. IfNone known
-        (((i : ℕ) → slice_get rows.now i ≡ Some (front, tail.now)
-        → other_at others.old.entries (front, tail.now) ≡ Some i → ⊥)
-        × (other_at others.new.entries (front, tail.now) ≡ Some (length rows.now)))) }
+        (((i : ℕ) → slice_get rows.now i ≡ Some cut.now
+        → other_at others.old.entries cut.now ≡ Some i → ⊥)
+        × (other_at others.new.entries cut.now ≡ Some (length rows.now)))) }
     ensures others { KeepOthers rows.now others.old.entries others.new.entries }
 {
-    let key = key_of(alloc, front, tail)?;
+    let key = key_of(alloc, cut)?;
     let index = others.entry(key)?.or_insert(rows.len());
-    if is_at(rows, *index, front, tail) {
+    if is_at(rows, *index, cut) {
         return Ok(Some(*index));
     }
     *index = rows.len();
@@ -254,24 +239,23 @@ pub(crate) fn find_or_settle(
     others: &mut Others,
     are_apart: &mut bool,
     alloc: Global,
-    front: u32,
-    tail: &[u8],
+    cut: &HashedCut<'_>,
 ) -> Result<Option<usize>, AllocError>
     requires roomy { most_probes < length places.old }
     requires found { AreFound rows.now places.old others.old.entries }
-    ensures place { IfOk result (IsPlaceOf rows.now (front, tail.now)) }
+    ensures place { IfOk result (IsPlaceOf rows.now cut.now) }
     ensures settled { IfOk result (λ known. IfNone known
-        (IsFoundAt places.new others.new.entries (front, tail.now) (length rows.now))) }
+        (IsFoundAt places.new others.new.entries cut.now (length rows.now))) }
     ensures found { AreFound rows.now places.new others.new.entries }
     ensures others { KeepOthers rows.now others.old.entries others.new.entries }
     ensures apart { are_apart.new ≡ true → (are_apart.old ≡ true) × IfOk result (λ known.
-        IfNone known (IsApart rows.now others.new.entries (front, tail.now))) }
+        IfNone known (IsApart rows.now others.new.entries cut.now)) }
     ensures len { length places.new ≡ length places.old }
 {
     let Some(number) = number_at(rows.len()) else {
         return Err(AllocError);
     };
-    match look_at_places(rows, places, front, tail) {
+    match look_at_places(rows, places, cut) {
         Probed::At(index) => Ok(Some(index)),
         Probed::Free(at, hash, is_alone) => {
             places[at] = Place { hash, number };
@@ -280,7 +264,7 @@ pub(crate) fn find_or_settle(
         }
         Probed::Full(is_alone) => {
             *are_apart &= is_alone;
-            other_or_last(rows, others, alloc, front, tail)
+            other_or_last(rows, others, alloc, cut)
         }
     }
 }
@@ -304,7 +288,7 @@ fn settle_at(
 {
     match rows.get(index) {
         None => Ok(()),
-        Some((front, tail)) => settle(places, others, alloc, index, front, tail),
+        Some(cut) => settle(places, others, alloc, index, &cut),
     }
 }
 

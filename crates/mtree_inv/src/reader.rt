@@ -14,10 +14,11 @@ use std::marker::Model;
 /// It keeps the files, the line in progress, of which it keeps 65,535 bytes at most, the current
 /// directory's path and a number for each open directory, a count of files where the text is to
 /// tell one, and not the text. Of the paths it keeps what many begin with once, and at most 256
-/// bytes more of each, with some 50 for its owner and its place, so its memory is in step with the
-/// text that came, whoever named the files. A path that stands in the search tree of which `feed`
-/// tells takes up to some 350 bytes more, as its key has these 256 bytes once more; whoever names
-/// the files may choose many such paths. Only a file that waits to be taken has its whole path.
+/// bytes more of each, with some 60 for its owner, its hash and its place, so its memory is in step
+/// with the text that came, whoever named the files. A path that stands in the search tree of which
+/// `feed` tells takes up to some 350 bytes more, as its key has these 256 bytes once more; whoever
+/// names the files may choose many such paths. Only a file that waits to be taken has its whole
+/// path.
 ///
 /// Of texts that are to come twice it can also keep a hash of each path, 8 bytes, by which their
 /// second reading is faster (`keep_hashes`). What it answers never depends on these.
@@ -82,8 +83,8 @@ impl Reader {
     ///
     /// Constant time for each place that the table has, at most some four for each file of the
     /// longest text that was kept, for each path in a search tree, and for each file that waits.
-    /// Where hashes are kept, one pass more over what is kept of each path, and for each path in a
-    /// search tree one look-up in another.
+    /// Where hashes are kept, one copy of the hash of each path, and for each path in a search tree
+    /// one look-up in another.
     pub fn restart(&mut self, most: u32)
         ensures stands { StandsFor self.new [] }
         ensures most { self.new.most ≡ most }
@@ -152,8 +153,8 @@ impl Reader {
     /// of the one expected in its place only ends this for its text: all paths so far are put into
     /// the table then, in the time that it had saved.
     ///
-    /// After a second `rewind` nothing is expected, nor is after one without `keep_hashes`. It takes
-    /// the time of `give_back`.
+    /// After a second `rewind` nothing is expected, nor is after one without `keep_hashes`. It
+    /// takes the time of `give_back`.
     pub fn rewind(&mut self, most: u32)
         ensures stands { StandsFor self.new [] }
         ensures most { self.new.most ≡ most }

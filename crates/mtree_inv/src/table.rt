@@ -8,6 +8,7 @@ ghost use Rattle.mtree_inv.specs.Table.{file, listed};
 use crate::cut_hashes::{CutHashes, no_hashes};
 use crate::cuts::{Cuts, no_cuts};
 use crate::fronts::{Fronts, cut, empty_front};
+use crate::hashed_cut::HashedCut;
 use std::alloc::{AllocError, Global};
 use std::marker::Model;
 
@@ -80,13 +81,13 @@ pub(crate) fn hashes(table: &Table, alloc: Global, most: usize) -> CutHashes {
     }
 }
 
-/// The path as a key: the number of its front, and what stands after that.
-pub(crate) fn key_of<'a>(
+/// The cut of a path: the number of its front, and what stands after that.
+pub(crate) fn cut_of<'a>(
     table: &mut Table,
     alloc: Global,
     path: &'a [u8],
-) -> Result<(u32, &'a [u8]), AllocError>
-    ensures ok { IfOk result (λ key. IsCutOf table.new.fronts (key.0, key.1.now) path.now) }
+) -> Result<HashedCut<'a>, AllocError>
+    ensures ok { IfOk result (λ found. IsCutOf table.new.fronts found path.now) }
     ensures files { listed table.new ≡ listed table.old }
 {
     cut(&mut table.fronts, alloc, path)
@@ -96,16 +97,15 @@ pub(crate) fn key_of<'a>(
 pub(crate) fn find(
     table: &mut Table,
     alloc: Global,
-    front: u32,
-    tail: &[u8],
+    cut: &HashedCut<'_>,
 ) -> Result<Option<Owner>, AllocError>
-    requires { IsCut table.old.fronts (front, tail.now) }
+    requires { IsCut table.old.fronts cut.now }
     ensures found { IfOk result
-        (λ owner. option_map (file (path_of_cut table.old.fronts (front, tail.now))) owner
-        ≡ file_at (listed table.old) (path_of_cut table.old.fronts (front, tail.now))) }
+        (λ owner. option_map (file (path_of_cut table.old.fronts cut.now)) owner
+        ≡ file_at (listed table.old) (path_of_cut table.old.fronts cut.now)) }
     ensures files { listed table.new ≡ listed table.old }
 {
-    match table.paths.find(alloc, front, tail)? {
+    match table.paths.find(alloc, cut)? {
         None => Ok(None),
         Some(index) => Ok(Some(table.owners[index])),
     }
@@ -122,20 +122,19 @@ pub(crate) fn len(table: &Table) -> usize
 pub(crate) fn find_or_insert(
     table: &mut Table,
     alloc: Global,
-    front: u32,
-    tail: &[u8],
+    cut: &HashedCut<'_>,
     owner: Owner,
 ) -> Result<Option<Owner>, AllocError>
-    requires { IsCut table.old.fronts (front, tail.now) }
+    requires { IsCut table.old.fronts cut.now }
     ensures known { IfOk result
-        (λ known. option_map (file (path_of_cut table.old.fronts (front, tail.now))) known
-        ≡ file_at (listed table.old) (path_of_cut table.old.fronts (front, tail.now))) }
+        (λ known. option_map (file (path_of_cut table.old.fronts cut.now)) known
+        ≡ file_at (listed table.old) (path_of_cut table.old.fronts cut.now)) }
     ensures files { OnOk result (listed table.new ≡ with_new_file (listed table.old)
-        (file (path_of_cut table.old.fronts (front, tail.now)) owner)) }
+        (file (path_of_cut table.old.fronts cut.now) owner)) }
     ensures err { OnErr result (listed table.new ≡ listed table.old) }
 {
     table.owners.reserve(1)?;
-    match table.paths.find_or_push(alloc, front, tail)? {
+    match table.paths.find_or_push(alloc, cut)? {
         Some(index) => Ok(Some(table.owners[index])),
         None => {
             table.owners.push_reserved(owner);

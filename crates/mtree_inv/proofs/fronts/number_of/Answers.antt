@@ -20,8 +20,12 @@ none_of (Some i) none = absurd (none i refl)
 pub returns-in-Some-clause-ok : goal.returns-in-Some-clause-ok
 returns-in-Some-clause-ok c =
     let cut : Cut = (c.args.front, c.args.block.now) in
-    let at = subst (IsPlaceOf c.fronts.inside.cuts cut) c.in-Some.is c.in_ok-index.ensures.place in
-    let same : c.find_or_push.new.self ≡ c.fronts.inside.cuts = c.in_ok-index.ensures.cuts ∙ ap (with_cut c.fronts.inside.cuts cut) c.in-Some.is in
+    let place = subst (λ (of : Cut). IsPlaceOf c.fronts.inside.cuts of c.in_ok-index.field-0) c.new.ensures c.in_ok-index.ensures.place in
+    let at = subst (IsPlaceOf c.fronts.inside.cuts cut) c.in-Some.is place in
+    let same : c.find_or_push.new.self ≡ c.fronts.inside.cuts =
+    c.in_ok-index.ensures.cuts
+    ∙ ap (λ (of : Cut). with_cut c.fronts.inside.cuts of c.in_ok-index.field-0) c.new.ensures
+    ∙ ap (with_cut c.fronts.inside.cuts cut) c.in-Some.is in
     counted (IsFrontAt (fronts_in c.find_or_push.new.self) cut) c.in-Some.index c.number_at.result c.ok_or.result _ c.number_at.ensures c.ok_or.ensures.value
     (subst (λ (cuts : List Cut). IsFrontAt (fronts_in cuts) cut (suc c.in-Some.index)) (sym same) (c.fronts.invariant.told c.in-Some.index cut at))
 
@@ -34,10 +38,15 @@ none : (c : goal.After-ok_or-2) → c.in_ok-index.field-0 ≡ None
 none c = none_of c.in_ok-index.field-0 c.in_default.not-Some
 
 is_new : (c : goal.After-ok_or-2) → IsNew c.fronts.inside.cuts (cut_in c)
-is_new c = subst (IsPlaceOf c.fronts.inside.cuts (cut_in c)) (none c) c.in_ok-index.ensures.place
+is_new c =
+    subst (IsPlaceOf c.fronts.inside.cuts (cut_in c)) (none c)
+    (subst (λ (of : Cut). IsPlaceOf c.fronts.inside.cuts of c.in_ok-index.field-0) c.new.ensures c.in_ok-index.ensures.place)
 
 more : (c : goal.After-ok_or-2) → c.find_or_push.new.self ≡ c.fronts.inside.cuts ++ cut_in c ∷ []
-more c = c.in_ok-index.ensures.cuts ∙ ap (with_cut c.fronts.inside.cuts (cut_in c)) (none c)
+more c =
+    c.in_ok-index.ensures.cuts
+    ∙ ap (λ (of : Cut). with_cut c.fronts.inside.cuts of c.in_ok-index.field-0) c.new.ensures
+    ∙ ap (with_cut c.fronts.inside.cuts (cut_in c)) (none c)
 
 less : (c : goal.After-ok_or-2) → c.args.front < length (fronts_in c.fronts.inside.cuts)
 less c = subst (λ (fronts : List (List ℕ)). c.args.front < length fronts) (sym c.fronts.view_is) c.requires.kept

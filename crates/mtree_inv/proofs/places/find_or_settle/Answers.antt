@@ -13,7 +13,7 @@ free = record { hash = 0; number = 0 }
 pub returns-in-Free-clause-place : goal.returns-in-Free-clause-place
 returns-in-Free-clause-place c =
     let h = c.in-Free.ensures in
-    new_at_free c.args.rows.now c.args.places.now c.args.others.now.entries c.requires.found (c.args.front, c.args.tail.now) h.0 h.1
+    new_at_free c.args.rows.now c.args.places.now c.args.others.now.entries c.requires.found c.args.cut.now h.0 h.1
     (ap (λ (n : ℕ). (place_at c.args.places.now n).number) (sym h.2) ∙ h.3) h.5
 
 pub returns-in-Free-clause-found : goal.returns-in-Free-clause-found
@@ -28,12 +28,12 @@ returns-in-Free-clause-found c = λ i cut stands.
 
 pub returns-in-Full-clause-place : goal.returns-in-Full-clause-place
 returns-in-Full-clause-place c =
-    place_when_known c.args.rows.now c.args.places.now c.args.others.now.entries c.requires.found (c.args.front, c.args.tail.now) c.in-Full.ensures.1
+    place_when_known c.args.rows.now c.args.places.now c.args.others.now.entries c.requires.found c.args.cut.now c.in-Full.ensures.1
     _ c.other_or_last.result c.other_or_last.ensures.known c.other_or_last.ensures.new
 
 pub returns-in-Full-clause-settled : goal.returns-in-Full-clause-settled
 returns-in-Full-clause-settled c =
-    found_when_known c.args.places.now c.other_or_last.new.others.entries (c.args.front, c.args.tail.now) _ c.requires.roomy c.in-Full.ensures.0
+    found_when_known c.args.places.now c.other_or_last.new.others.entries c.args.cut.now _ c.requires.roomy c.in-Full.ensures.0
     _ c.other_or_last.result c.other_or_last.ensures.new
 
 pub returns-in-Full-clause-found : goal.returns-in-Full-clause-found
@@ -45,7 +45,7 @@ returns-in-Free-clause-apart c = λ stays.
     let h = c.in-Free.ensures in
     let both = and_parts c.args.are_apart.now c.in-Free.is_alone stays in (
       both.0,
-      apart_at_free c.args.rows.now c.args.places.now c.args.others.now.entries c.requires.found (c.args.front, c.args.tail.now) h.0 h.1
+      apart_at_free c.args.rows.now c.args.places.now c.args.others.now.entries c.requires.found c.args.cut.now h.0 h.1
           (ap (λ (n : ℕ). (place_at c.args.places.now n).number) (sym h.2) ∙ h.3) (h.8 both.1) c.args.others.now.entries,
     )
 
@@ -53,6 +53,6 @@ pub returns-in-Full-clause-apart : goal.returns-in-Full-clause-apart
 returns-in-Full-clause-apart c = λ stays.
     let both = and_parts c.args.are_apart.now c.in-Full.is_alone stays in (
       both.0,
-      apart_when_known c.args.rows.now c.args.places.now c.args.others.now.entries c.requires.found (c.args.front, c.args.tail.now) (c.in-Full.ensures.2 both.1)
+      apart_when_known c.args.rows.now c.args.places.now c.args.others.now.entries c.requires.found c.args.cut.now (c.in-Full.ensures.2 both.1)
           c.other_or_last.new.others.entries c.other_or_last.ensures.others _ c.other_or_last.result c.other_or_last.ensures.new,
     )

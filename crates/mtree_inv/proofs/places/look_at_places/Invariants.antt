@@ -4,7 +4,7 @@ use Rattle.mtree_inv.proofs.places.look_at_places.Given as goal
 
 abbrev pub invariant-loop-probe : goal.invariant-loop-probe
 invariant-loop-probe l = record {
-  taken : AreTaken l.places (start_of (length l.places) (l.front, l.tail)) l.probe;
-  nowhere : IsToldNowhere l.rows l.places (l.front, l.tail) l.probe;
-  alone : l.is_alone ≡ true → IsAlone l.rows l.places (l.front, l.tail) l.probe;
+  taken : AreTaken l.places (start_of (length l.places) l.cut) l.probe;
+  nowhere : IsToldNowhere l.rows l.places l.cut l.probe;
+  alone : l.is_alone ≡ true → IsAlone l.rows l.places l.cut l.probe;
 }

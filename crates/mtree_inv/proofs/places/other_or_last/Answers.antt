@@ -13,7 +13,7 @@ read others key of cut told last index i is_key is value same at =
 
 pub returns-then-is_at-clause-others : goal.returns-then-is_at-clause-others
 returns-then-is_at-clause-others c = λ i cut stands at.
-    let of : Cut = (c.args.front, c.args.tail.now) in
+    let of : Cut = c.args.cut.now in
     let others = c.args.others.now.entries in
     let index = c.or_insert-index.result.now in
     let is_key = c.in_ok-key.ensures in
@@ -24,7 +24,7 @@ returns-then-is_at-clause-others c = λ i cut stands at.
 
 pub returns-clause-new : goal.returns-clause-new
 returns-clause-new c =
-    let of : Cut = (c.args.front, c.args.tail.now) in
+    let of : Cut = c.args.cut.now in
     let others = c.args.others.now.entries in
     let index = c.or_insert-index.result.now in
     let is_key = c.in_ok-key.ensures in
@@ -38,7 +38,7 @@ returns-clause-new c =
 
 pub returns-clause-others : goal.returns-clause-others
 returns-clause-others c = λ i cut stands at.
-    let of : Cut = (c.args.front, c.args.tail.now) in
+    let of : Cut = c.args.cut.now in
     let others = c.args.others.now.entries in
     let index = c.or_insert-index.result.now in
     let is_key = c.in_ok-key.ensures in

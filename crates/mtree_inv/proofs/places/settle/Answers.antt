@@ -6,16 +6,16 @@ use Rattle.mtree_inv.specs.Places.{all_hashes, most_probes, AreTaken, other_at}
 use Rattle.mtree_inv.proofs.PlaceLemmas.{other_at-new, other_at-other, found_still, found_beside}
 use Rattle.mtree_inv.proofs.places.settle.Goals as goal
 
-others : (c : goal.In_ok-insert) (i : ℕ) (cut : Cut) → other_at c.args.others.now.entries cut ≡ Some i → (cut ≡ (c.args.front, c.args.tail.now) → i ≡ c.args.index)
+others : (c : goal.In_ok-insert) (i : ℕ) (cut : Cut) → other_at c.args.others.now.entries cut ≡ Some i → (cut ≡ c.args.cut.now → i ≡ c.args.index)
     → other_at c.insert.new.self.entries cut ≡ Some i
-others c = other_at-other _ (c.args.front, c.args.tail.now) c.in_ok-key_of.ensures c.args.index c.args.others.now.entries c.insert.new.self.entries c.in_ok-insert.ensures.entries
+others c = other_at-other _ c.args.cut.now c.in_ok-key_of.ensures c.args.index c.args.others.now.entries c.insert.new.self.entries c.in_ok-insert.ensures.entries
 
 pub returns-in_default-free_place-clause-settled : goal.returns-in_default-free_place-clause-settled
 returns-in_default-free_place-clause-settled c = record {
   roomy = c.requires;
   probes = most_probes;
-  taken = subst (λ (n : ℕ). AreTaken c.args.places.now n most_probes) (c.start_of-start.ensures.start ∙ ap (λ (h : ℕ). h * (length c.args.places.now - most_probes) / all_hashes) c.hash_of-hash.ensures) c.in_default-free_place.ensures;
-  there = inr (refl, other_at-new _ (c.args.front, c.args.tail.now) c.in_ok-key_of.ensures c.args.index c.args.others.now.entries c.insert.new.self.entries c.in_ok-insert.ensures.entries);
+  taken = subst (λ (n : ℕ). AreTaken c.args.places.now n most_probes) (c.start_of-start.ensures.start ∙ ap (λ (h : ℕ). h * (length c.args.places.now - most_probes) / all_hashes) c.hash.ensures) c.in_default-free_place.ensures;
+  there = inr (refl, other_at-new _ c.args.cut.now c.in_ok-key_of.ensures c.args.index c.args.others.now.entries c.insert.new.self.entries c.in_ok-insert.ensures.entries);
 }
 
 pub returns-in_default-free_place-clause-found : goal.returns-in_default-free_place-clause-found

@@ -19,7 +19,7 @@ inside_cut t u cut e is = subst (λ (v : TableValue). IsCut v.fronts cut) (sym e
 
 pub returns-clause-found : goal.returns-clause-found
 returns-clause-found c =
-    let cut : Cut = (c.args.front, c.args.tail.now) in
+    let cut : Cut = c.args.cut.now in
     let t = c.table.invariant in
     let fronts = c.table.inside.fronts in
     let paths = c.table.inside.paths in

@@ -20,13 +20,13 @@ with_told files one known is = ap (λ (o : Option Entry). if is_none o then file
 
 -- ---- a file that is known
 
-at : (c : goal.After-result-1) → slice_get c.table.inside.paths c.in-Some.index ≡ Some (c.args.front, c.args.tail.now)
-at c = subst (IsPlaceOf c.table.inside.paths (c.args.front, c.args.tail.now)) c.in-Some.is c.in_ok-index.ensures.place
+at : (c : goal.After-result-1) → slice_get c.table.inside.paths c.in-Some.index ≡ Some c.args.cut.now
+at c = subst (IsPlaceOf c.table.inside.paths c.args.cut.now) c.in-Some.is c.in_ok-index.ensures.place
 
-known : (c : goal.After-result-1) → Some (file (path_of_cut c.table.inside.fronts (c.args.front, c.args.tail.now)) c.index.result.now)
-    ≡ file_at (files_in c.table.inside.fronts c.table.inside.paths c.table.inside.owners.items) (path_of_cut c.table.inside.fronts (c.args.front, c.args.tail.now))
+known : (c : goal.After-result-1) → Some (file (path_of_cut c.table.inside.fronts c.args.cut.now) c.index.result.now)
+    ≡ file_at (files_in c.table.inside.fronts c.table.inside.paths c.table.inside.owners.items) (path_of_cut c.table.inside.fronts c.args.cut.now)
 known c =
-    let cut : Cut = (c.args.front, c.args.tail.now) in
+    let cut : Cut = c.args.cut.now in
     let t = c.table.invariant in
     let owners = c.table.inside.owners.items in
     let items = c.in_ok-reserve.ensures.items in
@@ -39,12 +39,12 @@ known c =
 
 pub returns-in-Some-clause-known : goal.returns-in-Some-clause-known
 returns-in-Some-clause-known c =
-    let cut : Cut = (c.args.front, c.args.tail.now) in
+    let cut : Cut = c.args.cut.now in
     subst (λ (t : TableValue). Some (file (path_of_cut t.fronts cut) c.index.result.now) ≡ file_at t.files (path_of_cut t.fronts cut)) c.table.view_is (known c)
 
 pub returns-in-Some-clause-files : goal.returns-in-Some-clause-files
 returns-in-Some-clause-files c =
-    let cut : Cut = (c.args.front, c.args.tail.now) in
+    let cut : Cut = c.args.cut.now in
     let fronts = c.table.inside.fronts in
     let one : Entry = file (path_of_cut fronts cut) c.args.owner in
     let same : c.find_or_push.new.self ≡ c.table.inside.paths = c.in_ok-index.ensures.cuts ∙ ap (with_cut c.table.inside.paths cut) c.in-Some.is in
@@ -55,35 +55,35 @@ returns-in-Some-clause-files c =
 
 -- ---- a new one
 
-is_new : (c : goal.After-push_reserved) → IsNew c.table.inside.paths (c.args.front, c.args.tail.now)
-is_new c = subst (IsPlaceOf c.table.inside.paths (c.args.front, c.args.tail.now)) c.in-None.is c.in_ok-index.ensures.place
+is_new : (c : goal.After-push_reserved) → IsNew c.table.inside.paths c.args.cut.now
+is_new c = subst (IsPlaceOf c.table.inside.paths c.args.cut.now) c.in-None.is c.in_ok-index.ensures.place
 
-more : (c : goal.After-push_reserved) → c.find_or_push.new.self ≡ c.table.inside.paths ++ (c.args.front, c.args.tail.now) ∷ []
-more c = c.in_ok-index.ensures.cuts ∙ ap (with_cut c.table.inside.paths (c.args.front, c.args.tail.now)) c.in-None.is
+more : (c : goal.After-push_reserved) → c.find_or_push.new.self ≡ c.table.inside.paths ++ c.args.cut.now ∷ []
+more c = c.in_ok-index.ensures.cuts ∙ ap (with_cut c.table.inside.paths c.args.cut.now) c.in-None.is
 
 owners : (c : goal.After-push_reserved) → c.push_reserved.new.self.items ≡ c.table.inside.owners.items ++ c.args.owner ∷ []
 owners c = c.push_reserved.ensures.items ∙ ap (λ (l : List Owner). l ++ c.args.owner ∷ []) c.in_ok-reserve.ensures.items
 
-nowhere : (c : goal.After-push_reserved) → None ≡ file_at (files_in c.table.inside.fronts c.table.inside.paths c.table.inside.owners.items) (path_of_cut c.table.inside.fronts (c.args.front, c.args.tail.now))
+nowhere : (c : goal.After-push_reserved) → None ≡ file_at (files_in c.table.inside.fronts c.table.inside.paths c.table.inside.owners.items) (path_of_cut c.table.inside.fronts c.args.cut.now)
 nowhere c =
-    let cut : Cut = (c.args.front, c.args.tail.now) in
+    let cut : Cut = c.args.cut.now in
     let t = c.table.invariant in
     sym (file_at-new c.table.inside.fronts c.table.inside.paths c.table.inside.owners.items cut t.fronts_are t.cut (inside_cut _ _ cut c.table.view_is c.requires) (is_new c))
 
 pub invariant_of-table-in-None : goal.invariant_of-table-in-None
 invariant_of-table-in-None c =
-    let cut : Cut = (c.args.front, c.args.tail.now) in
+    let cut : Cut = c.args.cut.now in
     rw (more c, owners c)
     (table-new c.table.inside.fronts c.table.inside.paths c.table.inside.owners.items cut c.args.owner c.table.invariant (inside_cut _ _ cut c.table.view_is c.requires) (is_new c))
 
 pub returns-in-None-clause-known : goal.returns-in-None-clause-known
 returns-in-None-clause-known c =
-    let cut : Cut = (c.args.front, c.args.tail.now) in
+    let cut : Cut = c.args.cut.now in
     subst (λ (t : TableValue). None ≡ file_at t.files (path_of_cut t.fronts cut)) c.table.view_is (nowhere c)
 
 pub returns-in-None-clause-files : goal.returns-in-None-clause-files
 returns-in-None-clause-files c =
-    let cut : Cut = (c.args.front, c.args.tail.now) in
+    let cut : Cut = c.args.cut.now in
     let fronts = c.table.inside.fronts in
     let one : Entry = file (path_of_cut fronts cut) c.args.owner in
     ap (λ (l : List Cut). files_in fronts l c.push_reserved.new.self.items) (more c)

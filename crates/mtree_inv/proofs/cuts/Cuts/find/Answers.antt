@@ -10,13 +10,13 @@ use Rattle.mtree_inv.proofs.cuts.Cuts.find.Goals.{in-At, in-Free, in-Full}
 
 pub returns-then-len-le-MOST_PROBES-clause-place : goal.returns-then-len-le-MOST_PROBES-clause-place
 returns-then-len-le-MOST_PROBES-clause-place c =
-    subst (λ (l : List Cut). IsNew l (c.args.front, c.args.tail.now)) c.self.view_is
+    subst (λ (l : List Cut). IsNew l c.args.cut.now) c.self.view_is
     (new_without_places c.self.inside.rows c.stop_following.new.places.items c.stop_following.new.others.entries (c.stop_following.ensures.found c.in_ok-stop_following.ensures.stops)
-    (c.args.front, c.args.tail.now) (omega (arith, c.if-len-le-MOST_PROBES.true, c.len.ensures)))
+    c.args.cut.now (omega (arith, c.if-len-le-MOST_PROBES.true, c.len.ensures)))
 
 pub returns-clause-place : goal.returns-clause-place
 returns-clause-place c =
-    let cut : Cut = (c.args.front, c.args.tail.now) in
+    let cut : Cut = c.args.cut.now in
     let rows = c.self.inside.rows in
     let others = c.stop_following.new.others.entries in
     let found : AreFound rows c.deref.result.now others =

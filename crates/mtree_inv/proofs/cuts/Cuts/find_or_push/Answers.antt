@@ -17,10 +17,10 @@ whole : (old new : List Place) (n : ℕ) → length new ≡ n → take n (new ++
 whole old new n e = take_at new (drop (length new) old) n e
 
 -- the cuts that were apart still are, with the new one
-apart : (c : goal.In_ok-push-in-None) → c.find_or_settle.new.are_apart ≡ true → AreApart (c.self.inside.rows ++ (c.args.front, c.args.tail.now) ∷ []) c.find_or_settle.new.others.entries
+apart : (c : goal.In_ok-push-in-None) → c.find_or_settle.new.are_apart ≡ true → AreApart (c.self.inside.rows ++ c.args.cut.now ∷ []) c.find_or_settle.new.others.entries
 apart c stays =
     let rows = c.self.inside.rows in
-    let cut : Cut = (c.args.front, c.args.tail.now) in
+    let cut : Cut = c.args.cut.now in
     let others = c.find_or_settle.new.others.entries in
     let told = c.in_ok-index.ensures.apart stays in
     let before = c.self.invariant.apart told.0 in
@@ -32,7 +32,7 @@ apart c stays =
 pub invariant_of-self-in-None : goal.invariant_of-self-in-None
 invariant_of-self-in-None c =
     let rows = c.self.inside.rows in
-    let cut : Cut = (c.args.front, c.args.tail.now) in
+    let cut : Cut = c.args.cut.now in
     let new = c.find_or_settle.new.places in
     let others = c.find_or_settle.new.others.entries in
     let is_new : IsNew rows cut = subst (IsPlaceOf rows cut) c.in-None.is c.in_ok-index.ensures.place in

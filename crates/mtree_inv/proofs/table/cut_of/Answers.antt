@@ -2,7 +2,7 @@ use Rattle.std.proofs.Common.{◌++◌, List, ℕ, sym, ap, ◌∙◌, subst}
 use Rattle.mtree_inv.specs.Fronts.{AreFronts}
 use Rattle.mtree_inv.specs.Table.{TableValue, files_in, IsTable}
 use Rattle.mtree_inv.proofs.TableLemmas.{table-more, files-more}
-use Rattle.mtree_inv.proofs.table.key_of.Goals as goal
+use Rattle.mtree_inv.proofs.table.cut_of.Goals as goal
 
 pub invariant_of-table : goal.invariant_of-table
 invariant_of-table c =
