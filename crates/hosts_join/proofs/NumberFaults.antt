@@ -374,11 +374,11 @@ Says kind a (PinClash k number first second) = (k ≡ kind) × IsLeastClash (cla
 Says kind a (PoolTooSmall k class names numbers) = (k ≡ kind) × HaveSoMany a (class_served class) names numbers × (numbers < names) × (class ≡ pool.System → IsLargeEnough a Regular)
 Says kind a f = Unit {0}
 
-of_either : {X : Type 0} (P : X → Type 0) (o other : Option X) (x : X) → (o ≡ Some x → P x) → (o ≡ None → other ≡ Some x → P x) → or_else o other ≡ Some x → P x
+pub of_either : {X : Type 0} (P : X → Type 0) (o other : Option X) (x : X) → (o ≡ Some x → P x) → (o ≡ None → other ≡ Some x → P x) → or_else o other ≡ Some x → P x
 of_either P None other x one two h = two refl h
 of_either P (Some y) other x one two h = one h
 
-of_mapped : {X Y : Type 0} (f : X → Y) (o : Option X) (y : Y) (P : Y → Type 0) → ((x : X) → o ≡ Some x → P (f x)) → option_map f o ≡ Some y → P y
+pub of_mapped : {X Y : Type 0} (f : X → Y) (o : Option X) (y : Y) (P : Y → Type 0) → ((x : X) → o ≡ Some x → P (f x)) → option_map f o ≡ Some y → P y
 of_mapped f None y P so h = absurd (cc)
 of_mapped f (Some x) y P so h = let same : f x ≡ y = cc in subst P same (so x refl)
 
@@ -386,7 +386,7 @@ of_first : {X Y : Type 0} (P : Y → Type 0) (f : X → Option Y) (xs : List X) 
 of_first P f [] y so h = absurd (cc)
 of_first P f (x ∷ xs) y so h = of_either P (f x) (first_some f xs) y (so x) (λ none e. of_first P f xs y so e) h
 
-of_test : {X : Type 0} (P : X → Type 0) (b : Bool) (x y : X) → (b ≡ true → P x) → cond b (Some x) None ≡ Some y → P y
+pub of_test : {X : Type 0} (P : X → Type 0) (b : Bool) (x y : X) → (b ≡ true → P x) → cond b (Some x) None ≡ Some y → P y
 of_test P true x y so h = let same : x ≡ y = cc in subst P same (so refl)
 of_test P false x y so h = absurd (cc)
 

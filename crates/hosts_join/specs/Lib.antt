@@ -16,6 +16,10 @@ pub mod PairLines
 pub mod PinPairs
 pub mod PinsText
 pub mod PinsInside
+pub mod BadLines
+pub mod PinLines
+pub mod PinFaults
+pub mod HostFaults
 pub mod Clash
 pub mod PoolInside
 pub mod Lawful

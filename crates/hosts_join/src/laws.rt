@@ -1,9 +1,13 @@
 //! Laws of the join, each the contract of a call that does nothing.
+ghost use Rattle.hosts_join.specs.HostFaults.{AcceptedHostsAreListed, AcceptedUsersHaveGroups};
+ghost use Rattle.hosts_join.specs.HostFaults.{HostFaultsAreThere, PrimaryFaultsAreThere};
 ghost use Rattle.hosts_join.specs.HostNames.{HostNamesAreOneWord, HostNamesAreTheseBytes};
 ghost use Rattle.hosts_join.specs.Laws.{JoinedSitesAreLawful, JoinedSitesKnowTheirHosts};
 ghost use Rattle.hosts_join.specs.Laws.{JoinedSitesLeaveReserved, JoinedSitesLeaveSpared};
 ghost use Rattle.hosts_join.specs.Laws.{NothingReservedChangesNothing};
 ghost use Rattle.hosts_join.specs.NumberFaults.{ClashesAreThere, SmallPoolsAreThere};
+ghost use Rattle.hosts_join.specs.PinFaults.{DisagreeingPinsAreThere, ReservedPinsAreThere};
+ghost use Rattle.hosts_join.specs.PinLines.{AcceptedPinsMayStand, FirstBadPinIsTold, PinsAreListed};
 ghost use Rattle.hosts_join.specs.Standings.{DisagreeingPinsAreRefused, LinesCountTheHosts};
 ghost use Rattle.hosts_join.specs.Standings.{NumbersStandWhereTheyMay};
 ghost use Rattle.hosts_join.specs.Standings.{NumbersThatMayStandAreOffered};
@@ -50,6 +54,21 @@ pub fn read_pins_reserve_nothing()
     ensures { ReadPinsReserveNothing }
 {}
 
+/// The pins that a text gives are exactly those of its lines: of users those of each line of
+/// `user`, a space, a lawful name, a space and an id; of groups those of each line of `group` and
+/// the like.
+pub fn pins_are_listed()
+    ensures { PinsAreListed }
+{}
+
+/// Each line of a pins text that is accepted says nothing, or gives a name and a number of which no
+/// earlier line of its kind gives either; and there are at most 1,048,576 lines. Of any other text
+/// the first line that is no such line is told, counted from 1.
+pub fn bad_pins_are_told()
+    ensures accepted { AcceptedPinsMayStand }
+    ensures refused { FirstBadPinIsTold }
+{}
+
 /// A host's name is 1 to 64 ASCII letters, digits, full stops, hyphens and underscores, begun by
 /// neither a full stop nor a hyphen, and any such text is one; so it is one word of a line, and one
 /// part of a path.
@@ -89,4 +108,24 @@ pub fn lines_count_the_hosts()
 pub fn number_faults_are_there()
     ensures clashes { ClashesAreThere }
     ensures pools { SmallPoolsAreThere }
+{}
+
+/// Where a name is told as pinned to two numbers, it is a name of the site, the first place that is
+/// told is the first that pins it, and the second the first that pins it to another number. Where a
+/// pin is told as reserved, its name is the first that is given a reserved number, and the range
+/// that is told is the first that has that number.
+pub fn pin_faults_are_there()
+    ensures disagree { DisagreeingPinsAreThere }
+    ensures reserved { ReservedPinsAreThere }
+{}
+
+/// A list of hosts is accepted only where there are 1 to 64 of them, with lawful names that differ;
+/// else the number of hosts is told, or the first name that is not lawful or that an earlier host
+/// has. The users of a host are accepted only where each has a primary group; else the first that
+/// has none is told.
+pub fn host_faults_are_there()
+    ensures hosts { AcceptedHostsAreListed }
+    ensures host { HostFaultsAreThere }
+    ensures users { AcceptedUsersHaveGroups }
+    ensures user { PrimaryFaultsAreThere }
 {}

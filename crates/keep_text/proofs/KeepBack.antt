@@ -33,12 +33,12 @@ use Rattle.keep_text.proofs.KeepLoop.{line_more}
 -- ---- one line
 
 -- its name is lawful, its range is of ids and not empty
-abbrev IsSound : Said → Type 0
+abbrev pub IsSound : Said → Type 0
 IsSound (Name name) = is_lawful_name name ≡ true
 IsSound (Range range) = (range.low ≤ range.high) × (range.high ≤ greatest_id)
 IsSound Unowned = Unit {0}
 
-abbrev IsSoundLine : KeepLine → Type 0
+abbrev pub IsSoundLine : KeepLine → Type 0
 IsSoundLine Skipped = Unit {0}
 IsSoundLine Wrong = Unit {0}
 IsSoundLine (Given which said) = IsSound said
@@ -63,7 +63,7 @@ ranged-sound : (which : Which) (ends : Option (List ℕ × List ℕ)) → IsSoun
 ranged-sound which None = tt
 ranged-sound which (Some ends) = between-sound which (id_of ends.0) (id_of ends.1) (numeral-id 10 ends.1)
 
-line-sound : (line : List ℕ) → IsSoundLine (keep_line_of line)
+pub line-sound : (line : List ℕ) → IsSoundLine (keep_line_of line)
 unfolding keep_line_of
 line-sound line =
     either (is_skipped line) Skipped _ tt

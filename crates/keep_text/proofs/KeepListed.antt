@@ -1,9 +1,8 @@
 -- Which names and which numbers a keep text lists, and whether numbers without an account stay.
-use Rattle.std.proofs.Common.{◌≡◌, ◌≤◌, ℕ, zero, suc, Bool, true, false, cond, List, [], ◌∷◌, ◌++◌, length, Option, Some, None, Ok, refl, sym, ap, ◌∙◌, subst, append_assoc, arith, take, drop, inl, inr, bytes_eq}
+use Rattle.std.proofs.Common.{◌≡◌, ◌≤◌, ℕ, zero, suc, Bool, true, false, cond, List, [], ◌∷◌, ◌++◌, Option, Some, None, Ok, refl, sym, ap, ◌∙◌, subst, append_assoc, arith, drop, inl, inr, bytes_eq}
 use Rattle.std.specs.Prelude.{◌⊎◌, ◌↔◌, if◌then◌else◌, nat_le, codes}
 use Rattle.std.specs.List.{Contains, flat_map, list_any}
 use Rattle.std.proofs.lemmas.Bool.{and_from, and_parts, le-leb, leb-true, true≢false}
-use Rattle.std.proofs.lemmas.List.{take-append-drop}
 use Rattle.std.proofs.lemmas.List.Folds.{Any-from_list_any, list_any-from_Any}
 use Rattle.std.proofs.lemmas.Slice.Eq.{bytes_eq-Decides}
 use Rattle.idtext.specs.First.{first_fault}
@@ -27,47 +26,45 @@ use Rattle.keep_text.specs.KeepLaws.{ListsNumber, NamesAreListed, UnownedIsSaid}
 use Rattle.keep_text.specs.KeepLines.{between, keep_line_of, named, ranged}
 use Rattle.keep_text.specs.KeepTexts.{is_unowned, keep_fault, keep_of, kept_on, may_stand, name_said, of_groups, of_users, range_said}
 use Rattle.keep_text.proofs.KeepBack.{passed}
-use Rattle.keep_text.proofs.LastSpace.{cut_before_id, cut_says}
-use Rattle.keep_text.proofs.Members.{IsGiven, from-flat_map, in-flat_map}
+use Rattle.hosts_join.proofs.LastSpace.{cut_before_id, cut_says}
+use Rattle.hosts_join.proofs.MadeLists.{IsGiven, from-flat_map, in-flat_map}
+use Rattle.hosts_join.proofs.PinLines.{word-and-rest}
 
 -- ---- a line, by what it is read as
 
-abbrev name_word : Which → List ℕ
+abbrev pub name_word : Which → List ℕ
 name_word User = codes "user "
 name_word Group = codes "group "
 
-abbrev range_word : Which → List ℕ
+abbrev pub range_word : Which → List ℕ
 range_word User = codes "users "
 range_word Group = codes "groups "
 
-abbrev unowned_line : Which → List ℕ
+abbrev pub unowned_line : Which → List ℕ
 unowned_line User = codes "unowned users"
 unowned_line Group = codes "unowned groups"
 
 -- the ends of a range, as a line has them
-record HasEnds (line word : List ℕ) (range : IdRange) : Type 0 where
+pub record HasEnds (line word : List ℕ) (range : IdRange) : Type 0 where
   pub low : List ℕ
   pub high : List ℕ
   pub whole : line ≡ word ++ (low ++ 32 ∷ high)
   pub begins : id_of low ≡ Some range.low
   pub ends : id_of high ≡ Some range.high
 
-abbrev IsSaidBy : List ℕ → Which → Said → Type 0
+abbrev pub IsSaidBy : List ℕ → Which → Said → Type 0
 IsSaidBy line which (Name name) = line ≡ name_word which ++ name
 IsSaidBy line which (Range range) = HasEnds line (range_word which) range
 IsSaidBy line which Unowned = line ≡ unowned_line which
 
-abbrev IsToldBy : List ℕ → KeepLine → Type 0
-IsToldBy line Skipped = Unit {0}
+abbrev pub IsToldBy : List ℕ → KeepLine → Type 0
+IsToldBy line Skipped = is_skipped line ≡ true
 IsToldBy line Wrong = Unit {0}
 IsToldBy line (Given which said) = IsSaidBy line which said
 
 chosen : (line : List ℕ) (b : Bool) (x y : KeepLine) → (b ≡ true → IsToldBy line x) → IsToldBy line y → IsToldBy line (if b then x else y)
 chosen line true x y p q = p refl
 chosen line false x y p q = q
-
-word_and_rest : (word line : List ℕ) → begins_with word line ≡ true → line ≡ word ++ drop (length word) line
-word_and_rest word line h = sym (take-append-drop (length word) line) ∙ ap (λ w. w ++ drop (length word) line) ((bytes_eq-Decides (take (length word) line) word).0 h)
 
 named-told : (line : List ℕ) (which : Which) (name : List ℕ) → line ≡ name_word which ++ name → IsToldBy line (named which name)
 named-told line which name is = chosen line (is_lawful_name name) (Given which (Name name)) Wrong (λ lawful. is) tt
@@ -83,14 +80,14 @@ ranged-told line which text whole None cut = tt
 ranged-told line which text whole (Some ends) cut =
     between-told line which ends.0 ends.1 (whole ∙ ap (λ t. range_word which ++ t) (cut_says text ends cut)) (id_of ends.0) (id_of ends.1) refl refl
 
-line-told : (line : List ℕ) → IsToldBy line (keep_line_of line)
+pub line-told : (line : List ℕ) → IsToldBy line (keep_line_of line)
 unfolding keep_line_of
 line-told line =
-    chosen line (is_skipped line) Skipped _ (λ b. tt)
-    (chosen line (begins_with (codes "user ") line) (named User (drop 5 line)) _ (λ b. named-told line User (drop 5 line) (word_and_rest (codes "user ") line b))
-    (chosen line (begins_with (codes "group ") line) (named Group (drop 6 line)) _ (λ b. named-told line Group (drop 6 line) (word_and_rest (codes "group ") line b))
-    (chosen line (begins_with (codes "users ") line) _ _ (λ b. ranged-told line _ (drop 6 line) (word_and_rest (codes "users ") line b) (cut_at_last_space (drop 6 line)) refl)
-    (chosen line (begins_with (codes "groups ") line) _ _ (λ b. ranged-told line _ (drop 7 line) (word_and_rest (codes "groups ") line b) (cut_at_last_space (drop 7 line)) refl)
+    chosen line (is_skipped line) Skipped _ (λ b. b)
+    (chosen line (begins_with (codes "user ") line) (named User (drop 5 line)) _ (λ b. named-told line User (drop 5 line) (word-and-rest (codes "user ") line b))
+    (chosen line (begins_with (codes "group ") line) (named Group (drop 6 line)) _ (λ b. named-told line Group (drop 6 line) (word-and-rest (codes "group ") line b))
+    (chosen line (begins_with (codes "users ") line) _ _ (λ b. ranged-told line _ (drop 6 line) (word-and-rest (codes "users ") line b) (cut_at_last_space (drop 6 line)) refl)
+    (chosen line (begins_with (codes "groups ") line) _ _ (λ b. ranged-told line _ (drop 7 line) (word-and-rest (codes "groups ") line b) (cut_at_last_space (drop 7 line)) refl)
     (chosen line (bytes_eq line (codes "unowned users")) (Given User Unowned) _ (λ b. (bytes_eq-Decides line (codes "unowned users")).0 b)
     (chosen line (bytes_eq line (codes "unowned groups")) (Given Group Unowned) Wrong (λ b. (bytes_eq-Decides line (codes "unowned groups")).0 b) tt))))))
 
@@ -112,7 +109,7 @@ given true x differs = refl
 given false x differs = absurd (differs refl)
 
 -- how the lines are read
-name_read : (which : Which) (name : List ℕ) → keep_line_of (name_word which ++ name) ≡ named which name
+pub name_read : (which : Which) (name : List ℕ) → keep_line_of (name_word which ++ name) ≡ named which name
 unfolding keep_line_of
 name_read User name = refl
 name_read Group name = refl
@@ -122,7 +119,7 @@ unfolding keep_line_of
 range_read User numbers = refl
 range_read Group numbers = refl
 
-ends_read : (which : Which) (low high : List ℕ) (from to : ℕ) → id_of low ≡ Some from → id_of high ≡ Some to → from ≤ to → keep_line_of (range_word which ++ (low ++ 32 ∷ high)) ≡ Given which (Range (record { low = from; high = to }))
+pub ends_read : (which : Which) (low high : List ℕ) (from to : ℕ) → id_of low ≡ Some from → id_of high ≡ Some to → from ≤ to → keep_line_of (range_word which ++ (low ++ 32 ∷ high)) ≡ Given which (Range (record { low = from; high = to }))
 ends_read which low high from to begins ends le =
     range_read which (low ++ 32 ∷ high)
     ∙ ap (ranged which) (cut_before_id low high to ends)
@@ -130,20 +127,20 @@ ends_read which low high from to begins ends le =
     ∙ ap (between which (Some from)) ends
     ∙ ap (λ b. cond b (Given which (Range (record { low = from; high = to }))) Wrong) (le-leb from to le)
 
-unowned_read : (which : Which) → keep_line_of (unowned_line which) ≡ Given which Unowned
+pub unowned_read : (which : Which) → keep_line_of (unowned_line which) ≡ Given which Unowned
 unfolding keep_line_of
 unowned_read User = refl
 unowned_read Group = refl
 
 -- ---- lines of another kind say nothing of this one
 
-other_than_users : (line : KeepLine) → (of_users line ≡ []) ⊎ ((said : Said) × (line ≡ Given User said))
+pub other_than_users : (line : KeepLine) → (of_users line ≡ []) ⊎ ((said : Said) × (line ≡ Given User said))
 other_than_users Skipped = inl refl
 other_than_users Wrong = inl refl
 other_than_users (Given User said) = inr (said, refl)
 other_than_users (Given Group said) = inl refl
 
-other_than_groups : (line : KeepLine) → (of_groups line ≡ []) ⊎ ((said : Said) × (line ≡ Given Group said))
+pub other_than_groups : (line : KeepLine) → (of_groups line ≡ []) ⊎ ((said : Said) × (line ≡ Given Group said))
 other_than_groups Skipped = inl refl
 other_than_groups Wrong = inl refl
 other_than_groups (Given User said) = inl refl
@@ -234,7 +231,7 @@ module _ (which : Which) (of : KeepLine → List Said) (gives : (said : Said) �
           let among = in-flat_map range_said (flat_map on lines) (Range range) range said (zero, omega arith, refl) in
           list_any-from_Any (λ (r : IdRange). in_range r number) (flat_map range_said (flat_map on lines)) (among.0, range, among.1, among.2, and_from (nat_le l.from number) (nat_le number l.to) (le-leb l.from number l.has.0) (le-leb number l.to l.has.1))
 
-  module _ (lines : List (List ℕ)) (fine : first_fault keep_fault [] lines ≡ None) where
+  module _ (lines : List (List ℕ)) where
     -- the line that says it is there
     there : (said : Said) (line : List ℕ) → Contains (flat_map on lines) said → ((l : List ℕ) → IsSaidBy l which said → l ≡ line) → Contains lines line
     there said line among is =
@@ -243,20 +240,23 @@ module _ (which : Which) (of : KeepLine → List Said) (gives : (said : Said) �
         let told = subst (λ (k : KeepLine). IsToldBy from.item k) read (line-told from.item) in
         subst (λ (l : List ℕ). Contains lines l) (is from.item told) from.among
 
-    pub names_are : (name : List ℕ) → Contains (flat_map name_said (flat_map on lines)) name ↔ Contains lines (name_word which ++ name)
-    names_are name = (forth, back)
-      where
-        forth : Contains (flat_map name_said (flat_map on lines)) name → Contains lines (name_word which ++ name)
-        forth among =
-            let from = from-flat_map name_said (flat_map on lines) name among in
-            let said = subst (λ (s : Said). Contains (flat_map on lines) s) (one_name from.item name from.gives) from.among in
-            there (Name name) (name_word which ++ name) said (λ l told. told)
+    pub from-name : (name : List ℕ) → Contains (flat_map name_said (flat_map on lines)) name → Contains lines (name_word which ++ name)
+    from-name name among =
+        let from = from-flat_map name_said (flat_map on lines) name among in
+        let said = subst (λ (s : Said). Contains (flat_map on lines) s) (one_name from.item name from.gives) from.among in
+        there (Name name) (name_word which ++ name) said (λ l told. told)
 
+    pub to-name : (name : List ℕ) → named which name ≡ Given which (Name name) → Contains lines (name_word which ++ name) → Contains (flat_map name_said (flat_map on lines)) name
+    to-name name lawful line =
+        let said = says (name_word which ++ name) (Name name) (name_read which name ∙ lawful) in
+        in-flat_map name_said (flat_map on lines) (Name name) name (in-flat_map on lines (name_word which ++ name) (Name name) line said) (zero, omega arith, refl)
+
+    pub names_are : first_fault keep_fault [] lines ≡ None → (name : List ℕ) → Contains (flat_map name_said (flat_map on lines)) name ↔ Contains lines (name_word which ++ name)
+    names_are fine name = (from-name name, back)
+      where
         back : Contains lines (name_word which ++ name) → Contains (flat_map name_said (flat_map on lines)) name
         back line =
-            let lawful = given (is_lawful_name name) (Given which (Name name)) (λ wrong. none_is_wrong lines [] fine (name_word which ++ name) line (name_read which name ∙ wrong)) in
-            let said = says (name_word which ++ name) (Name name) (name_read which name ∙ lawful) in
-            in-flat_map name_said (flat_map on lines) (Name name) name (in-flat_map on lines (name_word which ++ name) (Name name) line said) (zero, omega arith, refl)
+            to-name name (given (is_lawful_name name) (Given which (Name name)) (λ wrong. none_is_wrong lines [] fine (name_word which ++ name) line (name_read which name ∙ wrong))) line
 
     pub unowned_is : (list_any is_unowned (flat_map on lines) ≡ true) ↔ Contains lines (unowned_line which)
     unowned_is = (forth, back)
@@ -288,7 +288,7 @@ unowned_is_said text keep is =
     let lines = lines_of text in
     let ok = unless_ok (first_fault keep_fault [] lines) (kept_on lines) keep is in
     subst (λ (k : KeepText). ((k.users.unowned ≡ true) ↔ Contains lines (codes "unowned users")) × ((k.groups.unowned ≡ true) ↔ Contains lines (codes "unowned groups"))) ok.1
-    (unowned_is User of_users (λ said. refl) other_than_users lines ok.0, unowned_is Group of_groups (λ said. refl) other_than_groups lines ok.0)
+    (unowned_is User of_users (λ said. refl) other_than_users lines, unowned_is Group of_groups (λ said. refl) other_than_groups lines)
 
 pub ranges_are_listed : (text : List ℕ) (keep : KeepText) (number : ℕ) → keep_of text ≡ Ok keep
     → ((lies_in_some keep.users.ranges number ≡ true) ↔ ListsNumber (range_word User) (lines_of text) number)

@@ -1,5 +1,4 @@
 pub mod KeepLoop
 pub mod KeepBack
-pub mod Members
-pub mod LastSpace
 pub mod KeepListed
+pub mod KeepForms

@@ -1,4 +1,5 @@
 //! What holds of keep texts.
+ghost use Rattle.keep_text.specs.KeepForms.{AcceptedLinesMayStand, FirstBadLineIsTold};
 ghost use Rattle.keep_text.specs.KeepLaws.{NamesAreListed, RangesAreListed};
 ghost use Rattle.keep_text.specs.KeepLaws.{ReadKeepsAreLawful, UnownedIsSaid};
 
@@ -25,4 +26,13 @@ pub fn names_are_listed()
 /// and the same of groups and `unowned groups`.
 pub fn unowned_is_said()
     ensures { UnownedIsSaid }
+{}
+
+/// Each line of a keep text that is accepted says nothing; or is `users` or `groups`, a space, an
+/// id, a space and an id that is not below the first; or is `user` or `group`, a space and a lawful
+/// name, `unowned users` or `unowned groups`, and no earlier line is the same. Of any other text
+/// the first line that is no such line is told, counted from 1.
+pub fn bad_lines_are_told()
+    ensures accepted { AcceptedLinesMayStand }
+    ensures refused { FirstBadLineIsTold }
 {}
