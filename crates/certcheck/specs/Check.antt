@@ -20,7 +20,8 @@ use Rattle.hosts_join.specs.Rules.{class_at, in_pool, is_free_class, is_name, fi
 use Rattle.hosts_join.specs.Site.{Joined}
 use Rattle.ownership.specs.Costs.{site_cost}
 use Rattle.ownership.specs.Files.{Added, by_group, by_user}
-use Rattle.ownership.specs.Mappings.{Mappings, number_at}
+use Rattle.ownership.specs.Mappings.{number_at}
+use Rattle.ownership.specs.declared.mapping.Mappings.{Mappings}
 use Rattle.ownership.specs.Potentials.{potential_sum, value_at}
 use Rattle.ownership.specs.Sums.{sum_below}
 use Rattle.ownership.specs.Weights.{weight}

@@ -11,7 +11,7 @@ use Rattle.accounts.proofs.AcceptedLemmas.{group_accepted}
 use Rattle.hosts_join.specs.declared.host.Host.{Host}
 use Rattle.hosts_join.specs.Kinds.{group_at}
 use Rattle.hosts_join.specs.Site.{Joined}
-use Rattle.ownership.specs.Mappings.{Mappings}
+use Rattle.ownership.specs.declared.mapping.Mappings.{Mappings}
 use Rattle.mergedfiles.specs.FullTables.{FullGroupReadsBack, IsFullFile, IsFullGroup, IsRenumbered, IsNumberedHost}
 use Rattle.mergedfiles.specs.HostFiles.{host_groups, new_number, number_field, renumbered_line, renumbered_group}
 use Rattle.mergedfiles.specs.HostReadBack.{HostGroupReadsBack, IsRenumberedGroup}

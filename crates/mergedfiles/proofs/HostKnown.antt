@@ -14,7 +14,8 @@ use Rattle.hosts_join.specs.Laws.{IsOwnedAsTold, KnowsHost}
 use Rattle.hosts_join.specs.Rules.{is_name}
 use Rattle.hosts_join.specs.Site.{Joined}
 use Rattle.hosts_join.proofs.Knowing.{host-known}
-use Rattle.ownership.specs.Mappings.{Mappings, number_under}
+use Rattle.ownership.specs.Mappings.{number_under}
+use Rattle.ownership.specs.declared.mapping.Mappings.{Mappings}
 use Rattle.mergedfiles.specs.FullTables.{HostsJoinInFull, IsNumberedHost}
 use Rattle.mergedfiles.specs.HostReadBack.{IsRenumberedUser, IsRenumberedGroup}
 use Rattle.mergedfiles.specs.InPart.{AllIsInPart, WasReadInPart}

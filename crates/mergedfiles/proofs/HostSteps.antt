@@ -8,6 +8,7 @@ use Rattle.idtext.specs.Pieces.{fields_of, pieces}
 use Rattle.idtext.proofs.PieceLemmas.{pieces-length}
 use Rattle.hosts_join.specs.Site.{Joined}
 use Rattle.hosts_join.specs.declared.host.Host.{Host}
+use Rattle.ownership.specs.declared.mapping.Mappings.{Mappings}
 use Rattle.mergedfiles.specs.HostFiles.{new_number, new_primary, number_field, renumbered_user, renumbered_group, renumbered_line, renumbered_text}
 use Rattle.mergedfiles.specs.Texts.{field}
 
@@ -82,8 +83,8 @@ ended-group (Err x) new old one two three a b g rest out e p q s is = tt
 
 -- ---- a line of passwd
 
-module _ (host : Host) (site : Joined) (m gids : List ℕ) where
-  few-of-user : (fs : List (List ℕ)) → length fs < 5 → renumbered_user host site m gids fs ≡ fs
+module _ (host : Host) (site : Joined) (m : Mappings) where
+  few-of-user : (fs : List (List ℕ)) → length fs < 5 → renumbered_user host site m fs ≡ fs
   few-of-user [] few = refl
   few-of-user (a ∷ []) few = refl
   few-of-user (a ∷ b ∷ []) few = refl
@@ -91,24 +92,24 @@ module _ (host : Host) (site : Joined) (m gids : List ℕ) where
   few-of-user (a ∷ b ∷ c ∷ d ∷ []) few = refl
   few-of-user (a ∷ b ∷ c ∷ d ∷ e ∷ more) few = absurd (omega (arith, few))
 
-  pub user-stays : (line : List ℕ) → is_skipped line ≡ false → length (fields_of line) < 5 → renumbered_line (renumbered_user host site m gids) line ≡ line
-  user-stays line kept few = line-stays (renumbered_user host site m gids) line kept (few-of-user (fields_of line) few)
+  pub user-stays : (line : List ℕ) → is_skipped line ≡ false → length (fields_of line) < 5 → renumbered_line (renumbered_user host site m) line ≡ line
+  user-stays line kept few = line-stays (renumbered_user host site m) line kept (few-of-user (fields_of line) few)
 
   user-fields : (name password uid gid : List ℕ) (fs : List (List ℕ)) → 1 ≤ length fs
-      → renumbered_user host site m gids (name ∷ password ∷ uid ∷ gid ∷ fs) ≡ name ∷ password ∷ number_field (new_number site.users m name) uid ∷ number_field (new_primary host site.groups gids gid) gid ∷ fs
+      → renumbered_user host site m (name ∷ password ∷ uid ∷ gid ∷ fs) ≡ name ∷ password ∷ number_field (new_number site.users m.users name) uid ∷ number_field (new_primary host site.groups m.groups gid) gid ∷ fs
   user-fields name password uid gid [] h = absurd (omega (arith, h))
   user-fields name password uid gid (f ∷ fs) h = refl
 
   pub user-line : (line name password uid gid rest : List ℕ) (user group : Option ℕ) → is_skipped line ≡ false → fields_of line ≡ name ∷ password ∷ uid ∷ gid ∷ fields_of rest
-      → user ≡ new_number site.users m name → group ≡ new_primary host site.groups gids gid
-      → renumbered_line (renumbered_user host site m gids) line ≡ field name ++ (field password ++ (field (number_field user uid) ++ (field (number_field group gid) ++ rest)))
+      → user ≡ new_number site.users m.users name → group ≡ new_primary host site.groups m.groups gid
+      → renumbered_line (renumbered_user host site m) line ≡ field name ++ (field password ++ (field (number_field user uid) ++ (field (number_field group gid) ++ rest)))
   user-line line name password uid gid rest user group kept is user_is group_is =
       let u = number_field user uid in
       let g = number_field group gid in
-      line-kept (renumbered_user host site m gids) line kept
-      ∙ ap (λ fs. join_with_byte 58 (renumbered_user host site m gids fs)) is
+      line-kept (renumbered_user host site m) line kept
+      ∙ ap (λ fs. join_with_byte 58 (renumbered_user host site m fs)) is
       ∙ ap (join_with_byte 58) (user-fields name password uid gid (fields_of rest) (pieces-length 58 rest))
-      ∙ ap (λ o. join_with_byte 58 (name ∷ password ∷ number_field o uid ∷ number_field (new_primary host site.groups gids gid) gid ∷ fields_of rest)) (sym user_is)
+      ∙ ap (λ o. join_with_byte 58 (name ∷ password ∷ number_field o uid ∷ number_field (new_primary host site.groups m.groups gid) gid ∷ fields_of rest)) (sym user_is)
       ∙ ap (λ o. join_with_byte 58 (name ∷ password ∷ u ∷ number_field o gid ∷ fields_of rest)) (sym group_is)
       ∙ join-field name password (u ∷ g ∷ fields_of rest)
       ∙ ap (λ t. field name ++ t) (join-field password u (g ∷ fields_of rest)

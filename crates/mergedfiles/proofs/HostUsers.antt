@@ -14,7 +14,8 @@ use Rattle.hosts_join.specs.Accounts.{place_of}
 use Rattle.hosts_join.specs.Kinds.{user_at, group_at}
 use Rattle.hosts_join.specs.Rules.{is_name}
 use Rattle.hosts_join.specs.Site.{Joined}
-use Rattle.ownership.specs.Mappings.{Mappings, number_under}
+use Rattle.ownership.specs.Mappings.{number_under}
+use Rattle.ownership.specs.declared.mapping.Mappings.{Mappings}
 use Rattle.mergedfiles.specs.FullTables.{FullPasswdReadsBack, IsFullFile, IsFullUser, IsRenumbered, IsNumberedHost}
 use Rattle.mergedfiles.specs.HostFiles.{host_users, new_number, new_primary, number_field, renumbered_line, renumbered_user}
 use Rattle.mergedfiles.specs.HostReadBack.{HostPasswdReadsBack, IsRenumberedUser}
@@ -47,7 +48,7 @@ module _ (site : Joined) (m : Mappings) (full host : Host) (is : IsNumberedHost 
   new = new_user site m host
 
   abbrev renumbered : List (List ℕ) → List (List ℕ)
-  renumbered = renumbered_user host site m.users m.groups
+  renumbered = renumbered_user host site m
 
   made : (n : ℕ) (line : List ℕ) (row : Passwd) → Lacks 10 line → IsRowLine passwd_from n line row → IsRowLine passwd_from n (renumbered_line renumbered line) (new row) × Lacks 10 (renumbered_line renumbered line)
   made n line row lacks was =
@@ -65,7 +66,7 @@ module _ (site : Joined) (m : Mappings) (full host : Host) (is : IsNumberedHost 
 
   -- what is told of the text, where this is told of each row
   pub users-back : (Becomes : Passwd → Passwd → Type 0) → AllByRecursion (λ row. Becomes row (new row)) full.users → (text : List ℕ) → passwd_table text ≡ Ok full.users
-      → IsFullFile passwd_from passwd_table user_at Becomes site.users m.users full.users host.users text (host_users host site m.users m.groups text)
+      → IsFullFile passwd_from passwd_table user_at Becomes site.users m.users full.users host.users text (host_users host site m text)
   users-back Becomes becomes text read =
       full-file passwd_from passwd_line user_name user_number renumbered new told made passes Becomes passwd_table passwd_accepted site.users m.users (λ row. refl) (λ row. refl) full.users host.users text is.users becomes read
 

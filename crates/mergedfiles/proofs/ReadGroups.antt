@@ -16,7 +16,7 @@ use Rattle.hosts_join.specs.declared.host.Host.{Host}
 use Rattle.hosts_join.specs.Accounts.{nobody}
 use Rattle.hosts_join.specs.Rules.{account}
 use Rattle.hosts_join.specs.Site.{Joined}
-use Rattle.ownership.specs.Mappings.{Mappings}
+use Rattle.ownership.specs.declared.mapping.Mappings.{Mappings}
 use Rattle.mergedfiles.specs.InPart.{GroupInPartReadsBack, IsNumberedInPart, WasReadInPart}
 use Rattle.mergedfiles.specs.Order.{by_number}
 use Rattle.mergedfiles.specs.ReadBack.{IsRowLine, IsMergedGroup, MergedGroupReadsBack}

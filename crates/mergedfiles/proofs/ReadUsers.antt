@@ -17,7 +17,7 @@ use Rattle.hosts_join.specs.Accounts.{nobody}
 use Rattle.hosts_join.specs.Kinds.{group_at}
 use Rattle.hosts_join.specs.Rules.{account}
 use Rattle.hosts_join.specs.Site.{Joined}
-use Rattle.ownership.specs.Mappings.{Mappings}
+use Rattle.ownership.specs.declared.mapping.Mappings.{Mappings}
 use Rattle.mergedfiles.specs.InPart.{IsMergedUserInPart, IsNumberedInPart, PasswdInPartReadsBack, WasReadInPart}
 use Rattle.mergedfiles.specs.Order.{by_number}
 use Rattle.mergedfiles.specs.ReadBack.{HasNumber, IsRowLine, IsNumbered, IsMergedUser, MergedPasswdReadsBack, WasRead}

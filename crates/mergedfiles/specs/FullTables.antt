@@ -14,7 +14,8 @@ use Rattle.hosts_join.specs.Laws.{KnowsHost}
 use Rattle.hosts_join.specs.Rules.{is_name}
 use Rattle.hosts_join.specs.Site.{Joined}
 use Rattle.hosts_join.specs.declared.host.Host.{Host}
-use Rattle.ownership.specs.Mappings.{IsMapping, Mappings}
+use Rattle.ownership.specs.Mappings.{IsMapping}
+use Rattle.ownership.specs.declared.mapping.Mappings.{Mappings}
 use Rattle.mergedfiles.specs.HostFiles.{host_users, host_groups}
 use Rattle.mergedfiles.specs.HostReadBack.{AreLinesRenumbered, NamesAreKept}
 use Rattle.mergedfiles.specs.ReadBack.{HasNumber, IsGivenToNone, IsNumbered, KeepsLimits}
@@ -98,7 +99,7 @@ IsFullPasswd site m full host = IsFullFile passwd_from passwd_table user_at
 abbrev pub FullPasswdReadsBack : Type 0
 FullPasswdReadsBack = (site : Joined) (m : Mappings) (full host : Host) (text : List ℕ)
     → IsNumberedHost site m full host → passwd_table text ≡ Ok full.users
-    → IsFullPasswd site m full host text (host_users host site m.users m.groups text)
+    → IsFullPasswd site m full host text (host_users host site m text)
 
 -- ---- a host's group
 
@@ -131,6 +132,6 @@ FullNamesAreKept = (site : Joined) (m : Mappings) (h : ℕ) (full host : Host)
     (passwd group : List ℕ) (users : List Passwd) (groups : List Group)
     → IsNumberedHost site m full host → KnowsHost site h host
     → passwd_table passwd ≡ Ok full.users → group_table group ≡ Ok full.groups
-    → passwd_table (host_users host site m.users m.groups passwd) ≡ Ok users
+    → passwd_table (host_users host site m passwd) ≡ Ok users
     → group_table (host_groups site m.groups group) ≡ Ok groups
     → NamesAreKept site m h full users groups

@@ -7,6 +7,7 @@ use Rattle.logindefs.specs.declared.ranges.HostRanges.{HostRanges}
 use Rattle.hosts_join.specs.Accounts.{Accounts}
 use Rattle.hosts_join.specs.Site.{Joined}
 use Rattle.hosts_join.specs.declared.host.Host.{Host}
+use Rattle.ownership.specs.declared.mapping.Mappings.{Mappings}
 use Rattle.mergedfiles.specs.HostFiles.{host_users, host_groups}
 
 -- a line with its newline
@@ -43,6 +44,9 @@ host name ranges = record {
   spared_groups = [];
 }
 
+abbrev pub mappings : Mappings
+mappings = record { users = 8 ∷ 7 ∷ []; groups = 200 ∷ 100 ∷ [] }
+
 -- a comment, an empty line, numbers with leading zeros, two users who are kept, one of them in a
 -- group that is kept, and a last line without a newline
 abbrev pub old_passwd : List ℕ
@@ -59,7 +63,7 @@ new_passwd =
 
 abbrev pub ExampleOfPasswd : Type 0
 ExampleOfPasswd = (name : List ℕ) (ranges : HostRanges)
-    → host_users (host name ranges) site (8 ∷ 7 ∷ []) (200 ∷ 100 ∷ []) old_passwd ≡ new_passwd
+    → host_users (host name ranges) site mappings old_passwd ≡ new_passwd
 
 abbrev pub old_group : List ℕ
 old_group =
@@ -72,4 +76,4 @@ new_group =
     ++ ended (codes "wine:x:0300:ann")
 
 abbrev pub ExampleOfGroup : Type 0
-ExampleOfGroup = host_groups site (200 ∷ 100 ∷ []) old_group ≡ new_group
+ExampleOfGroup = host_groups site mappings.groups old_group ≡ new_group

@@ -14,6 +14,7 @@ use Rattle.hosts_join.specs.Kinds.{group_at}
 use Rattle.hosts_join.specs.Site.{Joined}
 use Rattle.hosts_join.specs.declared.host.Host.{Host}
 use Rattle.ownership.specs.Mappings.{number_at}
+use Rattle.ownership.specs.declared.mapping.Mappings.{Mappings}
 
 -- the new number of a name, where it is a name of the site
 abbrev pub new_number : Accounts → List ℕ → List ℕ → Option ℕ
@@ -30,13 +31,13 @@ number_field None field = field
 number_field (Some number) field = decimal number
 
 -- the fields of a user: the third holds its new number, the fourth that of its primary group
-abbrev pub renumbered_user : Host → Joined → List ℕ → List ℕ → List (List ℕ) → List (List ℕ)
-renumbered_user host site m gids (name ∷ password ∷ uid ∷ gid ∷ comment ∷ more) =
+abbrev pub renumbered_user : Host → Joined → Mappings → List (List ℕ) → List (List ℕ)
+renumbered_user host site m (name ∷ password ∷ uid ∷ gid ∷ comment ∷ more) =
     name ∷ password
-    ∷ number_field (new_number site.users m name) uid
-    ∷ number_field (new_primary host site.groups gids gid) gid
+    ∷ number_field (new_number site.users m.users name) uid
+    ∷ number_field (new_primary host site.groups m.groups gid) gid
     ∷ comment ∷ more
-renumbered_user host site m gids fields = fields
+renumbered_user host site m fields = fields
 
 -- the fields of a group: the third holds its new number
 abbrev pub renumbered_group : Joined → List ℕ → List (List ℕ) → List (List ℕ)
@@ -54,9 +55,9 @@ unfoldable pub renumbered_text : (List (List ℕ) → List (List ℕ)) → List 
 renumbered_text renumbered text =
     join_with_byte 10 (map (renumbered_line renumbered) (pieces 10 text))
 
--- the host's passwd, by the mapping of users and that of groups
-abbrev pub host_users : Host → Joined → List ℕ → List ℕ → List ℕ → List ℕ
-host_users host site m gids text = renumbered_text (renumbered_user host site m gids) text
+-- the host's passwd, by mappings of users and of groups
+abbrev pub host_users : Host → Joined → Mappings → List ℕ → List ℕ
+host_users host site m text = renumbered_text (renumbered_user host site m) text
 
 -- the host's group, by the mapping of groups
 abbrev pub host_groups : Joined → List ℕ → List ℕ → List ℕ

@@ -15,7 +15,8 @@ use Rattle.hosts_join.specs.Accounts.{owner}
 use Rattle.hosts_join.specs.Kinds.{user_at, group_at}
 use Rattle.hosts_join.specs.Site.{Joined}
 use Rattle.hosts_join.specs.declared.host.Host.{Host}
-use Rattle.ownership.specs.Mappings.{Mappings, number_under}
+use Rattle.ownership.specs.Mappings.{number_under}
+use Rattle.ownership.specs.declared.mapping.Mappings.{Mappings}
 use Rattle.mergedfiles.specs.HostFiles.{host_users, host_groups}
 use Rattle.mergedfiles.specs.ReadBack.{HasNumber, IsGivenToNone, IsNumbered, IsRowLine}
 use Rattle.mergedfiles.specs.ReadBack.{KeepsLimits}
@@ -84,7 +85,7 @@ abbrev pub HostPasswdReadsBack : Type 0
 HostPasswdReadsBack = (hosts : List Host) (site : Joined) (m : Mappings) (h : ℕ) (host : Host)
     (text : List ℕ) → IsNumbered hosts site m → slice_get hosts h ≡ Some host
     → passwd_table text ≡ Ok host.users
-    → IsHostPasswd host site m text (host_users host site m.users m.groups text)
+    → IsHostPasswd host site m text (host_users host site m text)
 
 -- ---- a host's group
 
@@ -144,6 +145,6 @@ HostNamesAreKept = (hosts : List Host) (site : Joined) (m : Mappings) (h : ℕ) 
     (passwd group : List ℕ) (users : List Passwd) (groups : List Group)
     → IsNumbered hosts site m → slice_get hosts h ≡ Some host
     → passwd_table passwd ≡ Ok host.users → group_table group ≡ Ok host.groups
-    → passwd_table (host_users host site m.users m.groups passwd) ≡ Ok users
+    → passwd_table (host_users host site m passwd) ≡ Ok users
     → group_table (host_groups site m.groups group) ≡ Ok groups
     → NamesAreKept site m h host users groups

@@ -9,7 +9,8 @@ use Rattle.hosts_join.specs.Kinds.{group_at}
 use Rattle.hosts_join.specs.Laws.{HasLawfulAccounts, KnowsItsHosts}
 use Rattle.hosts_join.specs.Site.{Joined}
 use Rattle.hosts_join.specs.declared.host.Host.{Host}
-use Rattle.ownership.specs.Mappings.{IsMapping, Mappings}
+use Rattle.ownership.specs.Mappings.{IsMapping}
+use Rattle.ownership.specs.declared.mapping.Mappings.{Mappings}
 use Rattle.mergedfiles.specs.ReadBack.{AreMergedUsers, HasNumber, IsMergedGroupFile, IsNumbered}
 use Rattle.mergedfiles.specs.ReadBack.{ReadsAs}
 use Rattle.mergedfiles.specs.Rows.{UserRow, users_named, first_of}
@@ -68,7 +69,7 @@ pub record IsMergedPasswdInPart (hosts : List Host) (site : Joined) (m : Mapping
 abbrev pub PasswdInPartReadsBack : Type 0
 PasswdInPartReadsBack = (hosts : List Host) (site : Joined) (m : Mappings)
     → IsNumberedInPart hosts site m
-    → IsMergedPasswdInPart hosts site m (merged_users hosts site m.users m.groups)
+    → IsMergedPasswdInPart hosts site m (merged_users hosts site m)
 
 -- the merged group is as where all was joined
 abbrev pub GroupInPartReadsBack : Type 0

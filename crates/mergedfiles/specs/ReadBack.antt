@@ -18,7 +18,8 @@ use Rattle.hosts_join.specs.Kinds.{user_at, group_at}
 use Rattle.hosts_join.specs.Laws.{HasLawfulAccounts}
 use Rattle.hosts_join.specs.Site.{Joined}
 use Rattle.hosts_join.specs.declared.host.Host.{Host}
-use Rattle.ownership.specs.Mappings.{IsMapping, Mappings, number_at}
+use Rattle.ownership.specs.Mappings.{IsMapping, number_at}
+use Rattle.ownership.specs.declared.mapping.Mappings.{Mappings}
 use Rattle.mergedfiles.specs.Rows.{UserRow, GroupRow, users_named, groups_named, first_of}
 use Rattle.mergedfiles.specs.Rows.{joined_users}
 use Rattle.mergedfiles.specs.Texts.{merged_users, merged_groups}
@@ -122,7 +123,7 @@ pub record IsMergedPasswd (hosts : List Host) (site : Joined) (m : Mappings)
 abbrev pub MergedPasswdReadsBack : Type 0
 MergedPasswdReadsBack =
     (hosts : List Host) (site : Joined) (m : Mappings) → IsNumbered hosts site m
-    → IsMergedPasswd hosts site m (merged_users hosts site m.users m.groups)
+    → IsMergedPasswd hosts site m (merged_users hosts site m)
 
 -- ---- the merged group
 

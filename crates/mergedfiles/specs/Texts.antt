@@ -9,6 +9,7 @@ use Rattle.hosts_join.specs.Rules.{account}
 use Rattle.hosts_join.specs.Site.{Joined}
 use Rattle.hosts_join.specs.declared.host.Host.{Host}
 use Rattle.ownership.specs.Mappings.{number_under}
+use Rattle.ownership.specs.declared.mapping.Mappings.{Mappings}
 use Rattle.mergedfiles.specs.Order.{by_number}
 use Rattle.mergedfiles.specs.Rows.{UserRow, GroupRow, groups_named, users_named, first_of}
 use Rattle.mergedfiles.specs.Rows.{joined_users}
@@ -56,8 +57,8 @@ abbrev pub merged_groups : List Host → Joined → List ℕ → List ℕ
 merged_groups hosts site m =
     flat_map (λ p. merged_group hosts (account site.groups p.0).name p.1) (by_number m)
 
--- the merged passwd, by the mapping of users and that of groups
-abbrev pub merged_users : List Host → Joined → List ℕ → List ℕ → List ℕ
-merged_users hosts site m gids =
-    flat_map (λ p. merged_user site.groups gids hosts (account site.users p.0).name p.1)
-    (by_number m)
+-- the merged passwd, by mappings of users and of groups
+abbrev pub merged_users : List Host → Joined → Mappings → List ℕ
+merged_users hosts site m =
+    flat_map (λ p. merged_user site.groups m.groups hosts (account site.users p.0).name p.1)
+    (by_number m.users)

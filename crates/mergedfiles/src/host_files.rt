@@ -3,6 +3,7 @@ ghost use Rattle.std.specs.Prelude.{◌≡◌, ◌<◌, ◌∷◌, ◌++◌, len
 ghost use Rattle.std.specs.List.{All};
 ghost use Rattle.idtext.specs.Pieces.{fields_of};
 ghost use Rattle.hosts_join.specs.Laws.{KnowsHost};
+ghost use Rattle.ownership.specs.Mappings.{AreForSite};
 ghost use Rattle.mergedfiles.specs.HostFiles as spec;
 ghost use Rattle.mergedfiles.specs.HostFiles.{host_groups, host_users, number_field};
 ghost use Rattle.mergedfiles.specs.Coming.{IsPlaced, IsPrimary, IsUnderWay};
@@ -13,7 +14,7 @@ use crate::group::{push_field, push_number_field};
 use accounts::PasswdRow;
 use hosts_join::{Host, Names, Site};
 use idtext::{cut, decimal, is_skipped};
-use ownership::Mapping;
+use ownership::{Mapping, Mappings};
 use std::alloc::{AllocError, Global};
 
 /// The new number of a name, where it is a name of the site.
@@ -191,17 +192,17 @@ fn next_numbers<'t>(
     fields: &UserFields<'t>,
     host: &Host<'_>,
     site: &Site<'_>,
-    users: &Mapping,
-    groups: &Mapping,
+    mappings: &Mappings,
 ) -> NewNumbers
-    requires for_users { length users.now ≡ length site.now.users.names }
-    requires for_groups { length groups.now ≡ length site.now.groups.names }
-    requires coming { IsUnderWay host.now site.now groups.now coming.old }
-    ensures uid { result.uid ≡ spec.new_number site.now.users users.now fields.now.name.now }
+    requires for_site { AreForSite site.now mappings.now }
+    requires coming { IsUnderWay host.now site.now mappings.now.groups coming.old }
+    ensures uid { result.uid
+        ≡ spec.new_number site.now.users mappings.now.users fields.now.name.now }
     ensures gid { result.gid
-        ≡ spec.new_primary host.now site.now.groups groups.now fields.now.gid.now }
-    ensures coming { IsUnderWay host.now site.now groups.now coming.new }
+        ≡ spec.new_primary host.now site.now.groups mappings.now.groups fields.now.gid.now }
+    ensures coming { IsUnderWay host.now site.now mappings.now.groups coming.new }
 {
+    let Mappings { users, groups } = mappings;
     let user = next_user(coming.users, fields.name, coming.index, site.users(), users);
     let primary = next_primary(coming.primary, fields.gid, host, site.groups(), groups);
     *coming = Coming {
@@ -222,17 +223,14 @@ fn push_user_line<'t>(
     line: &'t [u8],
     host: &Host<'_>,
     site: &Site<'_>,
-    users: &Mapping,
-    groups: &Mapping,
+    mappings: &Mappings,
     coming: &mut Coming<'t, '_, '_>,
 ) -> Result<(), AllocError>
-    requires for_users { length users.now ≡ length site.now.users.names }
-    requires for_groups { length groups.now ≡ length site.now.groups.names }
-    requires coming { IsUnderWay host.now site.now groups.now coming.old }
+    requires for_site { AreForSite site.now mappings.now }
+    requires coming { IsUnderWay host.now site.now mappings.now.groups coming.old }
     ensures text { OnOk result (text.new.items ≡ text.old.items
-        ++ renumbered_line (renumbered_user host.now site.now users.now groups.now)
-        line.entry.now) }
-    ensures coming { IsUnderWay host.now site.now groups.now coming.new }
+        ++ renumbered_line (renumbered_user host.now site.now mappings.now) line.entry.now) }
+    ensures coming { IsUnderWay host.now site.now mappings.now.groups coming.new }
 {
     if is_skipped(line) {
         return text.extend_from_slice(line);
@@ -240,7 +238,7 @@ fn push_user_line<'t>(
     let Some(fields) = user_fields(line) else {
         return text.extend_from_slice(line);
     };
-    let new = next_numbers(coming, &fields, host, site, users, groups);
+    let new = next_numbers(coming, &fields, host, site, mappings);
     push_field(text, fields.name)?;
     push_field(text, fields.password)?;
     push_new_field(text, new.uid, fields.uid)?;
@@ -270,14 +268,12 @@ pub fn host_passwd_text(
     index: u32,
     host: &Host<'_>,
     site: &Site<'_>,
-    users: &Mapping,
-    groups: &Mapping,
+    mappings: &Mappings,
 ) -> Result<Vec<u8>, AllocError>
     requires known { KnowsHost site.now index host.now }
-    requires for_users { length users.now ≡ length site.now.users.names }
-    requires for_groups { length groups.now ≡ length site.now.groups.names }
+    requires for_site { AreForSite site.now mappings.now }
     ensures { IfOk result
-        (λ new. new.items ≡ host_users host.now site.now users.now groups.now text.now) }
+        (λ new. new.items ≡ host_users host.now site.now mappings.now text.now) }
 {
     let mut new = Vec::new(alloc);
     let mut rest = text;
@@ -293,11 +289,11 @@ pub fn host_passwd_text(
         },
     };
     while let Some((line, more)) = cut(b'\n', rest) {
-        push_user_line(&mut new, line, host, site, users, groups, &mut coming)?;
+        push_user_line(&mut new, line, host, site, mappings, &mut coming)?;
         new.push(b'\n')?;
         rest = more;
     }
-    push_user_line(&mut new, rest, host, site, users, groups, &mut coming)?;
+    push_user_line(&mut new, rest, host, site, mappings, &mut coming)?;
     Ok(new)
 }
 

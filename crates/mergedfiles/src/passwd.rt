@@ -1,19 +1,21 @@
 //! The merged passwd file, after passwd(5).
-ghost use Rattle.std.specs.Prelude.{◌≡◌, ◌++◌, length, IfOk, OnOk, Some};
+ghost use Rattle.std.specs.Prelude.{◌≡◌, ◌<◌, ◌++◌, length, IfOk, OnOk, Some};
 ghost use Rattle.std.specs.List.{All};
 ghost use Rattle.hosts_join.specs.Hosts.{IsLawfulHost};
+ghost use Rattle.hosts_join.specs.Rules.{account};
+ghost use Rattle.ownership.specs.Mappings.{AreForSite};
 ghost use Rattle.mergedfiles.specs.Rows.{first_of};
 ghost use Rattle.mergedfiles.specs.Seen.{user_seen, user_told};
 ghost use Rattle.mergedfiles.specs.Spots as spots;
 ghost use Rattle.mergedfiles.specs.Texts as texts;
-ghost use Rattle.mergedfiles.specs.Texts.{user_line, merged_users};
+ghost use Rattle.mergedfiles.specs.Texts.{user_line, merged_user, merged_users};
 ghost use Rattle.mergedfiles.specs.Together.{AreJoined};
 
 use crate::group::{push_field, push_number_field};
 use crate::order::by_number;
 use crate::rows::{UserOn, user_at};
 use hosts_join::{Host, Names, Site, Spot};
-use ownership::Mapping;
+use ownership::{Mapping, Mappings};
 use std::alloc::{AllocError, Global};
 
 /// The first row of a user on the hosts of spots.
@@ -68,24 +70,28 @@ fn push_line(
     Ok(())
 }
 
-/// Appends the line of a user that stands on the hosts of spots.
+/// Appends the line of the user at an index.
 fn push_user(
     text: &mut Vec<u8>,
     hosts: &[Host<'_>],
-    name: &[u8],
+    site: &Site<'_>,
+    index: u32,
     number: u32,
-    among: &[Spot],
-    groups: &Names<'_>,
     gids: &Mapping,
 ) -> Result<(), AllocError>
-    requires { length gids.now ≡ length groups.now.names }
+    requires joined { AreJoined hosts.now site.now }
+    requires lawful { All IsLawfulHost hosts.now }
+    requires within { index < length site.now.users.names }
+    requires for_groups { length gids.now ≡ length site.now.groups.names }
     ensures { OnOk result
         (text.new.items ≡ text.old.items
-        ++ user_line groups.now gids.now name.now number
-        (first_of (spots.users_at hosts.now name.now among.now))) }
+        ++ merged_user site.now.groups gids.now hosts.now (account site.now.users index).name
+        number) }
 {
-    match first_user(hosts, name, among) {
-        Some(first) => push_line(text, name, number, &first, groups, gids),
+    let names = site.users();
+    let name = names.name(index);
+    match first_user(hosts, name, names.spots(index)) {
+        Some(first) => push_line(text, name, number, &first, site.groups(), gids),
         None => Ok(()),
     }
 }
@@ -106,30 +112,18 @@ pub fn passwd_text(
     alloc: Global,
     hosts: &[Host<'_>],
     site: &Site<'_>,
-    users: &Mapping,
-    groups: &Mapping,
+    mappings: &Mappings,
 ) -> Result<Vec<u8>, AllocError>
     requires joined { AreJoined hosts.now site.now }
     requires lawful { All IsLawfulHost hosts.now }
-    requires for_users { length users.now ≡ length site.now.users.names }
-    requires for_groups { length groups.now ≡ length site.now.groups.names }
-    ensures { IfOk result
-        (λ text. text.items ≡ merged_users hosts.now site.now users.now groups.now) }
+    requires for_site { AreForSite site.now mappings.now }
+    ensures { IfOk result (λ text. text.items ≡ merged_users hosts.now site.now mappings.now) }
 {
-    let names = site.users();
-    let order = by_number(alloc, names.len(), users)?;
+    let order = by_number(alloc, site.users().len(), &mappings.users)?;
     let mut text = Vec::new(alloc);
     for account in &order {
         let (index, number) = *account;
-        push_user(
-            &mut text,
-            hosts,
-            names.name(index),
-            number,
-            names.spots(index),
-            site.groups(),
-            groups,
-        )?;
+        push_user(&mut text, hosts, site, index, number, &mappings.groups)?;
     }
     Ok(text)
 }

@@ -6,7 +6,8 @@ use Rattle.hosts_join.specs.Accounts.{Accounts, owner}
 use Rattle.hosts_join.specs.Rules.{account}
 use Rattle.hosts_join.specs.Site.{Joined}
 use Rattle.ownership.specs.Files.{File, Added, by_user, by_group}
-use Rattle.ownership.specs.Mappings.{number_at, IsAdmissible, Mappings, AreAdmissible}
+use Rattle.ownership.specs.Mappings.{number_at, IsAdmissible, AreAdmissible}
+use Rattle.ownership.specs.declared.mapping.Mappings.{Mappings}
 use Rattle.ownership.specs.Sums.{sum_below}
 
 -- a file with this number changes: the mapping gives its owner another number

@@ -1,6 +1,6 @@
 //! Mappings: a number for each name.
 ghost use Rattle.std.specs.Prelude.{◌≡◌, ◌<◌, length};
-ghost use Rattle.ownership.specs.Mappings.{IsMapping, number_at};
+ghost use Rattle.ownership.specs.Mapping.{IsMapping, number_at};
 
 use std::marker::Model;
 
@@ -13,7 +13,7 @@ pub struct Mapping {
 
 impl Model for Mapping {
     ghost use Rattle.std.specs.Prelude.{ℕ, List};
-    ghost use Rattle.ownership.specs.Mappings.{IsMapping};
+    ghost use Rattle.ownership.specs.Mapping.{IsMapping};
 
     ghost Value = { List ℕ };
 
@@ -53,4 +53,13 @@ impl Mapping {
     {
         self.numbers.as_slice()
     }
+}
+
+/// The numbers of the names of both kinds: a mapping of a site's users, and one of its groups.
+#[derive(Drop)]
+pub struct Mappings {
+    /// The numbers of the users.
+    pub users: Mapping,
+    /// The numbers of the groups.
+    pub groups: Mapping,
 }

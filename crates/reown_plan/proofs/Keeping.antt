@@ -9,6 +9,7 @@ use Rattle.hosts_join.specs.Site.{Joined}
 use Rattle.hosts_join.proofs.Grouping.{bytes_same, bytes_refl}
 use Rattle.mtree_inv.specs.Files.{HaveDistinctFiles}
 use Rattle.mtree_inv.specs.declared.entry.Entry.{Entry}
+use Rattle.ownership.specs.declared.mapping.Mappings.{Mappings}
 use Rattle.reown_plan.specs.declared.plan.Owner.{Owner}
 use Rattle.reown_plan.specs.Owners.{owner_of, owner_eq}
 use Rattle.reown_plan.specs.Target.{records_to, owner_after, renumbered, target, plan_of}
@@ -63,10 +64,10 @@ owner_after-target to (f ∷ files) apart =
 keeps-name : (a : Accounts) (m : List ℕ) (host old new : ℕ) → new ≡ renumbered a m host old → KeepsName a m host old new
 keeps-name a m host old new e = λ i has. rw has at e
 
-pub keeps-names : (site : Joined) (users groups : List ℕ) (host : ℕ) (files : List Entry) → HaveDistinctFiles files → All (λ f. KeepsNames site users groups host f (owner_after (plan_of site users groups host files) f)) files
-keeps-names site users groups host files apart = λ k d h.
-    let e = owner_after-target (target site users groups host) files apart k d h in
+pub keeps-names : (site : Joined) (m : Mappings) (host : ℕ) (files : List Entry) → HaveDistinctFiles files → All (λ f. KeepsNames site m host f (owner_after (plan_of site m host files) f)) files
+keeps-names site m host files apart = λ k d h.
+    let e = owner_after-target (target site m host) files apart k d h in
     record {
-      user = keeps-name site.users users host _ _ (ap (λ (o : Owner). o.uid) e);
-      group = keeps-name site.groups groups host _ _ (ap (λ (o : Owner). o.gid) e);
+      user = keeps-name site.users m.users host _ _ (ap (λ (o : Owner). o.uid) e);
+      group = keeps-name site.groups m.groups host _ _ (ap (λ (o : Owner). o.gid) e);
     }

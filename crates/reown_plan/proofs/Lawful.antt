@@ -11,6 +11,7 @@ use Rattle.hosts_join.specs.declared.host.Host.{Host}
 use Rattle.mtree_inv.specs.Files.{IsLawfulFile, AreFiles, HaveDistinctFiles}
 use Rattle.mtree_inv.specs.declared.entry.Entry.{Entry}
 use Rattle.ownership.specs.Mappings.{IsMapping, number_under, number_at}
+use Rattle.ownership.specs.declared.mapping.Mappings.{Mappings}
 use Rattle.reown_plan.specs.declared.plan.Owner.{Owner}
 use Rattle.reown_plan.specs.PlanData.{PlanRecord, HaveDistinctPaths}
 use Rattle.reown_plan.specs.Owners.{owner_of, owner_eq}
@@ -27,8 +28,8 @@ under-id : (m : List ℕ) → IsMapping m → (v : ℕ) → v ≤ 4294967294 →
 under-id m lawful v id None = id
 under-id m lawful v id (Some i) = number_at-id m lawful i
 
-target-owner : (site : Joined) (users groups : List ℕ) (host : ℕ) → IsMapping users → IsMapping groups → (f : Entry) → IsLawfulFile f → IsOwner (target site users groups host f)
-target-owner site users groups host by_user by_group f lawful = (under-id users by_user f.uid lawful.uid (owner site.users.names host f.uid), under-id groups by_group f.gid lawful.gid (owner site.groups.names host f.gid))
+target-owner : (site : Joined) (m : Mappings) (host : ℕ) → IsMapping m.users → IsMapping m.groups → (f : Entry) → IsLawfulFile f → IsOwner (target site m host f)
+target-owner site m host by_user by_group f lawful = (under-id m.users by_user f.uid lawful.uid (owner site.users.names host f.uid), under-id m.groups by_group f.gid lawful.gid (owner site.groups.names host f.gid))
 
 owner_eq-refl : (a : Owner) → owner_eq a a ≡ true
 owner_eq-refl a = rw (eq-eqb a.uid a.uid refl, eq-eqb a.gid a.gid refl) refl
@@ -59,11 +60,11 @@ module _ (to : Entry → Owner) where
         | inr n ↦ rw n (AllPairs-cons (λ (a b : PlanRecord). a.path ≢ b.path) (record_to to f) (records_to to files) head rest)
       ]
 
-pub plan-lawful : (hosts : List Host) (site : Joined) (users groups : List ℕ) (host : ℕ) (files : List Entry) → IsHostName (name_at hosts host) → IsMapping users → IsMapping groups → AreFiles files → IsLawful (host_plan hosts site users groups host files)
-plan-lawful hosts site users groups host files name by_user by_group lawful =
-    let to = target site users groups host in
+pub plan-lawful : (hosts : List Host) (site : Joined) (m : Mappings) (host : ℕ) (files : List Entry) → IsHostName (name_at hosts host) → IsMapping m.users → IsMapping m.groups → AreFiles files → IsLawful (host_plan hosts site m host files)
+plan-lawful hosts site m host files name by_user by_group lawful =
+    let to = target site m host in
     record {
       host = name;
-      records = lawful_records to files lawful.lawful (λ k d within. target-owner site users groups host by_user by_group _ (lawful.lawful k d within));
+      records = lawful_records to files lawful.lawful (λ k d within. target-owner site m host by_user by_group _ (lawful.lawful k d within));
       distinct = distinct_records to files lawful.distinct;
     }

@@ -7,6 +7,7 @@ pub mod Owners
 pub mod Target
 pub mod Keeps
 pub mod OwnerChange
+pub mod NewOwners
 pub mod Numbers
 pub mod Places
 pub mod Fronts

@@ -1,7 +1,8 @@
 -- What the files of one owner get.
 -- Source: this project's own rule.
-use Rattle.std.specs.Prelude.{◌≡◌, ℕ, List}
+use Rattle.std.specs.Prelude.{◌≡◌, ℕ}
 use Rattle.hosts_join.specs.Site.{Joined}
+use Rattle.ownership.specs.declared.mapping.Mappings.{Mappings}
 use Rattle.reown_plan.specs.declared.plan.Owner.{Owner}
 use Rattle.reown_plan.specs.Target.{renumbered}
 
@@ -11,10 +12,10 @@ pub record OwnerChange : Type 0 where
   pub after : Owner
 
 -- it is what the mappings give on the host
-abbrev pub IsChange : Joined → List ℕ → List ℕ → ℕ → OwnerChange → Type 0
-IsChange site users groups host change =
+abbrev pub IsChange : Joined → Mappings → ℕ → OwnerChange → Type 0
+IsChange site m host change =
     change.after
     ≡ record {
-      uid = renumbered site.users users host change.before.uid;
-      gid = renumbered site.groups groups host change.before.gid;
+      uid = renumbered site.users m.users host change.before.uid;
+      gid = renumbered site.groups m.groups host change.before.gid;
     }

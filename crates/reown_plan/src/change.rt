@@ -1,17 +1,29 @@
 //! What the files of one owner get.
 ghost use Rattle.std.specs.Prelude.{◌≡◌, ◌++◌, false, not, length, if◌then◌else◌, IfOk};
 ghost use Rattle.std.specs.Result.{result_unwrap_or};
-ghost use Rattle.reown_plan.specs.OwnerChange.{IsChange};
+ghost use Rattle.reown_plan.specs.NewOwners.{HasNumbers, IsChangeOf};
 ghost use Rattle.reown_plan.specs.Owners.{owner_eq};
 ghost use Rattle.reown_plan.specs.Spelling.{line};
-ghost use Rattle.reown_plan.specs.Target.{renumbered, AreForSite};
+ghost use Rattle.reown_plan.specs.Target.{renumbered};
 
 use crate::Owner;
 use crate::numbers::PrintedNumbers;
 use hosts_join::{Names, Site};
-use ownership::Mapping;
+use ownership::{Mapping, Mappings};
 use std::alloc::AllocError;
 use std::marker::Model;
+
+/// Which owners the files of a host get: a name of the site that has a number on the host has
+/// another under the mappings.
+#[derive(Clone, Copy)]
+pub struct NewOwners<'a, 's> {
+    /// The host's index.
+    pub host: u32,
+    /// The site whose host it is.
+    pub site: &'a Site<'s>,
+    /// The new numbers of the site's names.
+    pub mappings: &'a Mappings,
+}
 
 /// What `push_plan_entry` keeps of a file for the next one, which mostly has the same owner: this
 /// owner, what its files get on the host, and, where that is another owner, the numbers of their
@@ -59,23 +71,26 @@ fn renumber(names: &Names<'_>, mapping: &Mapping, host: u32, number: u32, row: u
 }
 
 impl OwnerChange {
-    // What the files of an owner get on the host at an index: two look-ups by hash, where its rows
-    // are not known.
-    pub(crate) fn new(
-        host: u32,
-        site: &Site<'_>,
-        users: &Mapping,
-        groups: &Mapping,
-        before: Owner,
-        rows: OwnerRows,
-    ) -> OwnerChange
-        requires { AreForSite site.now users.now groups.now }
+    // What the files of an owner get: two look-ups by hash, where its rows are not known.
+    pub(crate) fn new(owners: &NewOwners<'_, '_>, before: Owner, rows: OwnerRows) -> OwnerChange
+        requires { HasNumbers owners.now }
         ensures owner { result.before ≡ before }
-        ensures change { IsChange site.now users.now groups.now host result }
+        ensures change { IsChangeOf owners.now result }
     {
+        let NewOwners {
+            host,
+            site,
+            mappings,
+        } = *owners;
         let after = Owner {
-            uid: renumber(site.users(), users, host, before.uid, rows.user),
-            gid: renumber(site.groups(), groups, host, before.gid, rows.group),
+            uid: renumber(site.users(), &mappings.users, host, before.uid, rows.user),
+            gid: renumber(
+                site.groups(),
+                &mappings.groups,
+                host,
+                before.gid,
+                rows.group,
+            ),
         };
         let numbers = if before == after {
             None

@@ -1,6 +1,7 @@
 //! What holds of plans and their texts.
 ghost use Rattle.std.specs.Prelude.{◌≡◌, ◌↔◌, ◌++◌, ℕ, List, [], All, Result, Ok, true};
 ghost use Rattle.ownership.specs.Mappings.{IsMapping};
+ghost use Rattle.ownership.specs.declared.mapping.Mappings.{Mappings};
 ghost use Rattle.hosts_join.specs.Site.{Joined};
 ghost use Rattle.hosts_join.specs.declared.host.Host.{Host};
 ghost use Rattle.mtree_inv.specs.Files.{AreFiles, HaveDistinctFiles};
@@ -30,25 +31,21 @@ pub fn one_reading()
 /// The plan that is written for a host is read back, where its name is lawful, its files are those
 /// of an inventory, and the mappings give numbers that an account may have.
 pub fn plans_read_back()
-    ensures { (hosts : List Host) (site : Joined) (users groups : List ℕ) (host : ℕ)
-        (files : List Entry) → IsHostName (name_at hosts host) → IsMapping users → IsMapping groups
-        → AreFiles files
-        → ReadsAs (spelling (host_plan hosts site users groups host files))
-        (Ok (host_plan hosts site users groups host files)) }
+    ensures { (hosts : List Host) (site : Joined) (m : Mappings) (host : ℕ) (files : List Entry)
+        → IsHostName (name_at hosts host) → IsMapping m.users → IsMapping m.groups → AreFiles files
+        → ReadsAs (spelling (host_plan hosts site m host files))
+        (Ok (host_plan hosts site m host files)) }
 {}
 
 /// After a host's plan each file has its target, and so, under the mappings, the user name and the
 /// group name that it had, where its numbers had names on the host.
 pub fn plans_keep_names()
-    ensures targets { (site : Joined) (users groups : List ℕ) (host : ℕ) (files : List Entry)
+    ensures targets { (site : Joined) (m : Mappings) (host : ℕ) (files : List Entry)
         → HaveDistinctFiles files
-        → All (λ f. owner_after (plan_of site users groups host files) f
-        ≡ target site users groups host f) files }
-    ensures names { (site : Joined) (users groups : List ℕ) (host : ℕ) (files : List Entry)
+        → All (λ f. owner_after (plan_of site m host files) f ≡ target site m host f) files }
+    ensures names { (site : Joined) (m : Mappings) (host : ℕ) (files : List Entry)
         → HaveDistinctFiles files
-        → All
-        (λ f. KeepsNames site users groups host f
-        (owner_after (plan_of site users groups host files) f)) files }
+        → All (λ f. KeepsNames site m host f (owner_after (plan_of site m host files) f)) files }
 {}
 
 /// Marks are compared field by field, and plans of one mark are of one host. That such plans have

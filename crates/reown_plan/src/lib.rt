@@ -12,7 +12,7 @@ mod records;
 mod spell;
 mod write;
 
-pub use change::{OwnerChange, OwnerRows};
+pub use change::{NewOwners, OwnerChange, OwnerRows};
 pub use laws::{
     columns_of_plans, marks_tell_plans, one_reading, one_spelling, plans_keep_names,
     plans_read_back,

@@ -9,6 +9,7 @@ use Rattle.hosts_join.specs.Site.{Joined}
 use Rattle.hosts_join.proofs.Grouping.{bytes_same, bytes_refl}
 use Rattle.mtree_inv.specs.Files.{HaveDistinctFiles}
 use Rattle.mtree_inv.specs.declared.entry.Entry.{Entry}
+use Rattle.ownership.specs.declared.mapping.Mappings.{Mappings}
 use Rattle.reown_plan.specs.declared.plan.Owner.{Owner}
 use Rattle.reown_plan.specs.declared.plan.Record.{Record}
 use Rattle.reown_plan.specs.Records.{record_of}
@@ -121,9 +122,9 @@ module _ (to : Entry → Owner) where
       All-cons (λ (g : Entry). left (f ∷ files) g ≡ owner_of g) f files (first-reverse f files later)
       (λ k d h. other-reverse f _ files (λ e. later k d h (sym e)) ∙ rest k d h)
 
-pub takes-back : (site : Joined) (users groups : List ℕ) (host : ℕ) (files : List Entry) → HaveDistinctFiles files
-    → All (λ f. owner_after (reversed_records (plan_of site users groups host files)) (at_owner (owner_after (plan_of site users groups host files) f) f) ≡ owner_of f) files
-takes-back site users groups host files apart = λ k d h.
-    let to = target site users groups host in
+pub takes-back : (site : Joined) (m : Mappings) (host : ℕ) (files : List Entry) → HaveDistinctFiles files
+    → All (λ f. owner_after (reversed_records (plan_of site m host files)) (at_owner (owner_after (plan_of site m host files) f) f) ≡ owner_of f) files
+takes-back site m host files apart = λ k d h.
+    let to = target site m host in
     let f = get_or files k d in
-    ap (λ (o : Owner). owner_after (reversed_records (plan_of site users groups host files)) (at_owner o f)) (owner_after-target to files apart k d h) ∙ each-back to files apart k d h
+    ap (λ (o : Owner). owner_after (reversed_records (plan_of site m host files)) (at_owner o f)) (owner_after-target to files apart k d h) ∙ each-back to files apart k d h

@@ -3,6 +3,7 @@ ghost use Rattle.std.specs.Prelude.{◌≡◌, ℕ, List, All};
 ghost use Rattle.hosts_join.specs.Site.{Joined};
 ghost use Rattle.mtree_inv.specs.Files.{HaveDistinctFiles};
 ghost use Rattle.mtree_inv.specs.declared.entry.Entry.{Entry};
+ghost use Rattle.ownership.specs.declared.mapping.Mappings.{Mappings};
 ghost use Rattle.reown_plan.specs.Owners.{owner_of};
 ghost use Rattle.reown_plan.specs.PlanData.{PlanData};
 ghost use Rattle.reown_plan.specs.Spelling.{IsLawful};
@@ -14,9 +15,8 @@ ghost use Rattle.reown_reverse.specs.Reverse.{reversed, reversed_records, at_own
 pub fn reverses_take_back()
     ensures twice { (plan : PlanData) → reversed (reversed plan) ≡ plan }
     ensures lawful { (plan : PlanData) → IsLawful plan → IsLawful (reversed plan) }
-    ensures back { (site : Joined) (users groups : List ℕ) (host : ℕ) (files : List Entry)
+    ensures back { (site : Joined) (m : Mappings) (host : ℕ) (files : List Entry)
         → HaveDistinctFiles files
-        → All
-        (λ f. owner_after (reversed_records (plan_of site users groups host files))
-        (at_owner (owner_after (plan_of site users groups host files) f) f) ≡ owner_of f) files }
+        → All (λ f. owner_after (reversed_records (plan_of site m host files))
+        (at_owner (owner_after (plan_of site m host files) f) f) ≡ owner_of f) files }
 {}

@@ -14,7 +14,7 @@ returns-clause-coming c =
     let primary = c.next_primary-primary in record {
       primary =
           primary.ensures.number
-          ∙ ap (λ (a : Accounts). new_primary c.args.host.now a c.args.groups.now c.args.fields.now.gid.now) c.groups.ensures
-          ∙ ap (new_primary c.args.host.now c.args.site.now.groups c.args.groups.now) (sym primary.ensures.gid);
+          ∙ ap (λ (a : Accounts). new_primary c.args.host.now a c.args.mappings.now.groups c.args.fields.now.gid.now) c.groups.ensures
+          ∙ ap (new_primary c.args.host.now c.args.site.now.groups c.args.mappings.now.groups) (sym primary.ensures.gid);
       placed = subst (λ (a : Accounts). All (IsPlaced a c.args.coming.now.index) c.next_user-user.result.coming.rows.now) c.users.ensures c.next_user-user.ensures.placed;
     }

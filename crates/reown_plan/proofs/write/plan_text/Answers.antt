@@ -1,6 +1,7 @@
 use Rattle.std.proofs.Common.{◌<◌, length, rules}
+use Rattle.reown_plan.specs.NewOwners.{target_of}
 use Rattle.reown_plan.specs.Spelling.{head}
-use Rattle.reown_plan.specs.Target.{target, name_at}
+use Rattle.reown_plan.specs.Target.{name_at}
 use Rattle.reown_plan.proofs.Writing.{text_more}
 use Rattle.reown_plan.proofs.write.plan_text.Goals as goal
 
@@ -8,6 +9,6 @@ pub loop-entry-preserved : goal.loop-entry-preserved
 loop-entry-preserved c =
     let within : c.loop-entry.entry-index < length c.entries-entry-items.result.now = search rules in
     record {
-      planned = text_more (target c.args.site.now c.args.users.now c.args.groups.now c.args.host) (head (name_at c.args.hosts.now c.args.host)) c.loop-entry.text.items _ _ c.loop-entry.entry-index c.entry-item.result c.in_ok-push_plan_entry.field-0 within c.entry-item.is c.in_ok-push_plan_entry.ensures.appended c.loop-entry.invariant.planned c.in_ok-push_plan_entry.ensures.text;
+      planned = text_more (target_of c.args.owners.now) (head (name_at c.args.hosts.now c.args.owners.now.host)) c.loop-entry.text.items _ _ c.loop-entry.entry-index c.entry-item.result c.in_ok-push_plan_entry.field-0 within c.entry-item.is c.in_ok-push_plan_entry.ensures.appended c.loop-entry.invariant.planned c.in_ok-push_plan_entry.ensures.text;
       last = c.push_plan_entry.ensures.last;
     }
