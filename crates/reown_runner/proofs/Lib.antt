@@ -13,3 +13,4 @@ pub mod Finishing
 pub mod Moments
 pub mod Interleaved
 pub mod Halves
+pub mod TurnLaws

@@ -14,3 +14,4 @@ pub mod Campaign
 pub mod Interleaved
 pub mod Finished
 pub mod Halfway
+pub mod TurnLaws

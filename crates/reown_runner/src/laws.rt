@@ -1,6 +1,6 @@
 //! What holds of safe trees, of runs, and of plans that are done.
-ghost use Rattle.std.specs.Prelude.{◌≡◌, ◌↔◌, ◌+◌, ◌++◌, ◌≤◌, ℕ, true, false, List, Option, None};
-ghost use Rattle.std.specs.Prelude.{IfSome, length, replicate};
+ghost use Rattle.std.specs.Prelude.{◌≡◌, ◌↔◌, ◌+◌, ◌++◌, ◌≤◌, ℕ, Bool, true, false, List, Option};
+ghost use Rattle.std.specs.Prelude.{None, Some, IfSome, length, replicate, slice_get};
 ghost use Rattle.reown_plan.specs.declared.mark.PlanMark.{PlanMark};
 ghost use Rattle.reown_plan.specs.declared.plan.Owner.{Owner};
 ghost use Rattle.reown_plan.specs.PlanData.{PlanRecord, HaveDistinctPaths};
@@ -16,6 +16,7 @@ ghost use Rattle.reown_runner.specs.Finished.{HasSafeLists};
 ghost use Rattle.reown_runner.specs.declared.campaign.Event.{Event};
 ghost use Rattle.reown_runner.specs.Interleaved.{AllHappen, HappensHostByHost, one_by_one};
 ghost use Rattle.reown_runner.specs.Run.{Host, HostEvent, Advances, IsRun, AreRuns};
+ghost use Rattle.reown_runner.specs.TurnLaws.{OldFilesAreWritten, MarksAreLookedInto, IsToldTruly};
 
 /// A tree that is as its inventory, and not marked for the plan, is safe and in step at the start
 /// of a plan whose paths are there at their old owners; so is a world without a history. Such a
@@ -145,4 +146,15 @@ pub fn worlds_stay_safe()
         → (host : ℕ) → AreOld (inventory host) (plans host)
         → (image : Image) → IsImage (cells_at (new host).state) image → (path : List ℕ)
         → IsOldOrNew (inventory host) (plans host) image path }
+{}
+
+/// Whatever the files of a tree are: a turn writes over none but one that reads as at the old owner
+/// of its record, a mark is believed only where each file reads as at its new owner, and what is
+/// told of a file is so.
+pub fn turns_look_first()
+    ensures written { OldFilesAreWritten }
+    ensures marked { MarksAreLookedInto }
+    ensures told { (records : List PlanRecord) (place : Place) (owner : List ℕ → Option Owner)
+        (mark : Bool) (i : ℕ) (planned : PlanRecord) → slice_get records i ≡ Some planned
+        → IsToldTruly records place owner mark i planned }
 {}
