@@ -6,6 +6,7 @@ pub mod Totals
 pub mod MapLines
 pub mod ReportLemmas
 pub mod MapBack
+pub mod MapForms
 pub mod MapNames
 pub mod MapPins
 pub mod ReservedLemmas

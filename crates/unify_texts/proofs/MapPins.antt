@@ -18,7 +18,8 @@ use Rattle.hosts_join.specs.declared.Which.{Which}
 use Rattle.hosts_join.specs.declared.Which.TheVariants.{User, Group}
 use Rattle.hosts_join.specs.declared.pair_lines.PairLine.TheVariants.{Given}
 use Rattle.hosts_join.proofs.Grouping.{bytes_refl}
-use Rattle.ownership.specs.Mappings.{Mappings, number_at, number_under}
+use Rattle.ownership.specs.Mappings.{number_at, number_under}
+use Rattle.ownership.specs.declared.mapping.Mappings.{Mappings}
 use Rattle.hosts_join.specs.Site.{Joined}
 use Rattle.mergedfiles.specs.Order.{by_bytes}
 use Rattle.unify_texts.specs.declared.map_text.MapText.{MapText}

@@ -6,7 +6,7 @@ use Rattle.mergedfiles.specs.declared.Difference.{Difference}
 use Rattle.mergedfiles.specs.Differences.{site_differences}
 use Rattle.ownership.specs.Counts.{Counted, StandsFor, CountFiles}
 use Rattle.ownership.specs.Files.{File, Added, by_user, by_group, owned_files}
-use Rattle.ownership.specs.Mappings.{Mappings}
+use Rattle.ownership.specs.declared.mapping.Mappings.{Mappings}
 use Rattle.unify_texts.specs.Figures.{figures_of}
 use Rattle.unify_texts.specs.Report.{report_lines, report_of}
 use Rattle.unify_texts.specs.declared.figures.Figures.{Figures}

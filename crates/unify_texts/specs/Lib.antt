@@ -5,6 +5,7 @@ pub mod Faults
 pub mod FaultExamples
 pub mod Maps
 pub mod WrittenMap
+pub mod MapForms
 pub mod Figures
 pub mod Staying
 pub mod ReservedLines

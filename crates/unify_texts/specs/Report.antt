@@ -9,7 +9,7 @@ use Rattle.mergedfiles.specs.declared.Difference.{Difference}
 use Rattle.mergedfiles.specs.declared.Field.{Field}
 use Rattle.mergedfiles.specs.declared.Field.TheVariants as field
 use Rattle.ownership.specs.Files.{Added, by_user, by_group}
-use Rattle.ownership.specs.Mappings.{Mappings}
+use Rattle.ownership.specs.declared.mapping.Mappings.{Mappings}
 use Rattle.unify_texts.specs.Figures.{figures_of}
 use Rattle.unify_texts.specs.ReservedLines.{reserved_lines}
 use Rattle.unify_texts.specs.Words.{line, shown, which_word}

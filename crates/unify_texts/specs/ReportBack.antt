@@ -13,7 +13,7 @@ use Rattle.hosts_join.specs.Site.{Joined}
 use Rattle.hosts_join.specs.declared.host.Host.{Host}
 use Rattle.ownership.specs.Costs.{cost_of, changed_rows}
 use Rattle.ownership.specs.Files.{File, Added, by_user, by_group, owned_files}
-use Rattle.ownership.specs.Mappings.{Mappings}
+use Rattle.ownership.specs.declared.mapping.Mappings.{Mappings}
 use Rattle.unify_texts.specs.Figures.{pinned_names, kept_names, fresh_names}
 use Rattle.unify_texts.specs.Report.{report_of}
 

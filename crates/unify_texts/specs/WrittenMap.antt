@@ -12,7 +12,8 @@ use Rattle.hosts_join.specs.Rules.{account, is_name}
 use Rattle.hosts_join.specs.Site.{Joined}
 use Rattle.hosts_join.specs.declared.Which.{Which}
 use Rattle.hosts_join.specs.declared.Which.TheVariants.{User, Group}
-use Rattle.ownership.specs.Mappings.{IsMapping, number_under, Mappings, number_at}
+use Rattle.ownership.specs.Mappings.{IsMapping, number_under, number_at}
+use Rattle.ownership.specs.declared.mapping.Mappings.{Mappings}
 use Rattle.mergedfiles.specs.Order.{by_bytes}
 use Rattle.unify_texts.specs.declared.map_text.MapText.{MapText}
 use Rattle.unify_texts.specs.Maps.{map_of}

@@ -6,6 +6,8 @@ ghost use Rattle.unify_texts.specs.BundleWords.{WordsAreRead};
 ghost use Rattle.unify_texts.specs.FaultExamples as example;
 ghost use Rattle.unify_texts.specs.FaultExamples.{AreTold, StatusesGoByFaults};
 ghost use Rattle.unify_texts.specs.KeptNames.{KeptNamesAreSeen};
+ghost use Rattle.unify_texts.specs.MapForms.{AcceptedMapsMayStand, FirstBadMapLineIsTold};
+ghost use Rattle.unify_texts.specs.MapForms.{MapsAreListed};
 ghost use Rattle.unify_texts.specs.ReportBack.{ReportsReadBack};
 ghost use Rattle.unify_texts.specs.ReportExample.{ExampleOfDiffering, ExampleOfPlain};
 ghost use Rattle.unify_texts.specs.ReportExample.{ExampleOfUsers};
@@ -24,6 +26,21 @@ pub fn bundles_are_spelled()
 /// and the bar before a line of a file.
 pub fn bundle_words_are_read()
     ensures { WordsAreRead }
+{}
+
+/// In a map that is accepted, whoever wrote it, the names of users have exactly the numbers that its
+/// lines of `user`, a space, a lawful name, a space and an id give them; and the same of groups and
+/// `group`.
+pub fn maps_are_listed()
+    ensures { MapsAreListed }
+{}
+
+/// Each line of a map that is accepted says nothing, or gives a number to a name to which no earlier
+/// line of its kind gives one. Of any other text the first line that is no such line is told,
+/// counted from 1.
+pub fn bad_map_lines_are_told()
+    ensures accepted { AcceptedMapsMayStand }
+    ensures refused { FirstBadMapLineIsTold }
 {}
 
 /// The map text that is written for mappings of a site is read as a map in which each name has its

@@ -21,9 +21,9 @@ pub use fault::Fault;
 pub use fault_text::push_fault;
 pub use figures::{Figures, figures_under};
 pub use laws::{
-    bundle_words_are_read, bundles_are_spelled, fault_lines_by_example, kept_names_are_seen,
-    reports_by_example, reports_read_back, reserved_lines_read_back, statuses_go_by_faults,
-    written_maps_are_pins, written_maps_read_back,
+    bad_map_lines_are_told, bundle_words_are_read, bundles_are_spelled, fault_lines_by_example,
+    kept_names_are_seen, maps_are_listed, reports_by_example, reports_read_back,
+    reserved_lines_read_back, statuses_go_by_faults, written_maps_are_pins, written_maps_read_back,
 };
 pub use map_text::{MapText, push_map, read_map};
 pub use place_list::PlaceList;

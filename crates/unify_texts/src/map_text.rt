@@ -5,6 +5,7 @@ ghost use Rattle.idtext.specs.First.{Gives};
 ghost use Rattle.unify_texts.specs.WrittenMap.{numbered, map_line, map_text};
 ghost use Rattle.unify_texts.specs.Told.{told};
 ghost use Rattle.hosts_join.specs.Lawful.{AreLawfulAccounts};
+ghost use Rattle.ownership.specs.Mappings.{AreForSite};
 ghost use Rattle.hosts_join.specs.PairLines.{user_pair, group_pair};
 ghost use Rattle.unify_texts.specs.Maps.{map_of, is_good_after};
 
@@ -12,7 +13,7 @@ use crate::fault::Fault;
 use crate::words::{Word, kind_word, push_line};
 use hosts_join::{Names, PairLine, PairTable, Site, Which, pair_line};
 use idtext::Lines;
-use ownership::Mapping;
+use ownership::{Mapping, Mappings};
 use std::alloc::{AllocError, Global};
 
 /// How many bytes are set aside for a line of a map text.
@@ -99,22 +100,14 @@ fn push_numbers(
 }
 
 /// The text of a map.
-fn map_lines(
-    alloc: Global,
-    site: &Site<'_>,
-    users: &Mapping,
-    groups: &Mapping,
-) -> Result<Vec<u8>, AllocError>
-    requires users { length users.now ≡ length site.now.users.names }
-    requires groups { length groups.now ≡ length site.now.groups.names }
-    ensures { IfOk result
-        (λ text. text.items ≡ map_text site.now
-        (record { users = users.now; groups = groups.now })) }
+fn map_lines(alloc: Global, site: &Site<'_>, mappings: &Mappings) -> Result<Vec<u8>, AllocError>
+    requires { AreForSite site.now mappings.now }
+    ensures { IfOk result (λ text. text.items ≡ map_text site.now mappings.now) }
 {
     let lines = site.users().len() as usize + site.groups().len() as usize;
     let mut text = Vec::with_capacity(alloc, LINE_BYTES * lines)?;
-    push_numbers(&mut text, Which::User, site.users(), users)?;
-    push_numbers(&mut text, Which::Group, site.groups(), groups)?;
+    push_numbers(&mut text, Which::User, site.users(), &mappings.users)?;
+    push_numbers(&mut text, Which::Group, site.groups(), &mappings.groups)?;
     Ok(text)
 }
 
@@ -129,16 +122,12 @@ pub fn push_map(
     alloc: Global,
     out: &mut Vec<u8>,
     site: &Site<'_>,
-    users: &Mapping,
-    groups: &Mapping,
+    mappings: &Mappings,
 ) -> Result<(), AllocError>
-    requires users { length users.now ≡ length site.now.users.names }
-    requires groups { length groups.now ≡ length site.now.groups.names }
-    ensures ok { OnOk result
-        (out.new.items ≡ out.old.items
-        ++ map_text site.now (record { users = users.now; groups = groups.now })) }
+    requires { AreForSite site.now mappings.now }
+    ensures ok { OnOk result (out.new.items ≡ out.old.items ++ map_text site.now mappings.now) }
     ensures err { OnErr result (out.new.items ≡ out.old.items) }
 {
-    let text = map_lines(alloc, site, users, groups)?;
+    let text = map_lines(alloc, site, mappings)?;
     out.extend_from_slice(&text)
 }

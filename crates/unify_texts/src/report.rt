@@ -1,10 +1,11 @@
 //! The report.
 
-ghost use Rattle.std.specs.Prelude.{◌≡◌, ◌++◌, List, length, flat_map, IfOk, OnOk, All};
+ghost use Rattle.std.specs.Prelude.{◌≡◌, ◌++◌, List, flat_map, IfOk, OnOk, All};
 ghost use Rattle.hosts_join.specs.Hosts.{IsLawfulHost};
 ghost use Rattle.mergedfiles.specs.Together.{AreJoined};
 ghost use Rattle.ownership.specs.Counts.{IsMadeFor, StandsFor};
 ghost use Rattle.ownership.specs.Files.{Added};
+ghost use Rattle.ownership.specs.Mappings.{AreForSite};
 ghost use Rattle.unify_texts.specs.Report as report;
 
 use crate::figures::{Figures, figures_under};
@@ -12,7 +13,7 @@ use crate::reserved::push_reserved_lines;
 use crate::words::{Word, kind_word, push_line};
 use hosts_join::{Host, Reserved, Site};
 use mergedfiles::{Difference, Field, differences};
-use ownership::{Counts, Mapping};
+use ownership::{Counts, Mappings};
 use std::alloc::{AllocError, Global};
 
 fn field_word(field: Field) -> &'static str
@@ -144,18 +145,16 @@ pub fn report_text(
     hosts: &[Host<'_>],
     site: &Site<'_>,
     counts: &Counts,
-    users: &Mapping,
-    groups: &Mapping,
+    mappings: &Mappings,
 ) -> Result<Vec<u8>, AllocError>
     requires lawful { All IsLawfulHost hosts.now }
     requires joined { AreJoined hosts.now site.now }
     requires made { IsMadeFor site.now counts.now }
-    requires users { length users.now ≡ length site.now.users.names }
-    requires groups { length groups.now ≡ length site.now.groups.names }
+    requires for_site { AreForSite site.now mappings.now }
     ensures { IfOk result (λ text. (files : List Added) → StandsFor site.now counts.now files
-        → text.items ≡ report.report_of hosts.now site.now files
-        (record { users = users.now; groups = groups.now })) }
+        → text.items ≡ report.report_of hosts.now site.now files mappings.now) }
 {
+    let Mappings { users, groups } = mappings;
     let user_figures = figures_under(site.users(), counts.users(), counts.user_files(), users);
     let group_figures = figures_under(site.groups(), counts.groups(), counts.group_files(), groups);
     let told = differences(alloc, hosts, site)?;
