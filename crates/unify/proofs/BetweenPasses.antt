@@ -136,7 +136,7 @@ solving_from p joined merged turn inv whole over are first =
     record {
       behind = record {
         whole = whole;
-        for_site = record { users_len = is.answered.least.admissible.users.len; groups_len = is.answered.least.admissible.groups.len };
+        for_site = record { users = is.answered.least.admissible.users.len; groups = is.answered.least.admissible.groups.len };
         one_each = omega (arith, inv.ended_are, over);
         counting = inv;
       };

@@ -1,5 +1,5 @@
 -- Which file of a host is told, and why.
-use Rattle.std.proofs.Common.{◌≡◌, ◌≤◌, ◌⊎◌, ℕ, Bool, true, false, cond, List, [], get_or, Option, None, Some, Result, Ok, Err, All, inl, inr, refl, sym, ap, ap₂, ◌∙◌, subst}
+use Rattle.std.proofs.Common.{◌≡◌, ◌≤◌, ◌⊎◌, ℕ, Bool, true, false, cond, List, [], ◌∷◌, ◌++◌, get_or, Option, None, Some, Result, Ok, Err, All, inl, inr, refl, sym, ap, ap₂, ◌∙◌, subst}
 use Rattle.std.specs.Prelude.{Decides, ◌==◌, nat_le}
 use Rattle.std.proofs.lemmas.Bool.{le-leb, leb-true}
 use Rattle.std.proofs.lemmas.Bool.Decides.{Decides-and, Decides-eqb, Decides-like, Decides-or, not_from_Decides}
@@ -25,7 +25,7 @@ use Rattle.unify_texts.specs.declared.bundle_line.FileName.TheVariants as file
 use Rattle.unify_texts.specs.declared.fault.Fault.{Fault}
 use Rattle.unify_texts.specs.declared.fault.Fault.TheVariants.{Line, UnownedUid, UnownedGid}
 use Rattle.unify.proofs.AnyDecides.{any_decides, look_up_decides}
-use Rattle.unify.proofs.FirstFaults.{FirstFault, first_fails, unless_err}
+use Rattle.unify.proofs.FirstFaults.{FirstFault, first_fails, first_told, unless_err}
 use Rattle.unify.proofs.Owners.{allowed, file_ok}
 use Rattle.unify.specs.FaultLaws.{FirstUnowned, GidsAreOfTheirFile, LiesInOne, LinesAreOfTheirFile, MayHaveGid, MayHaveUid, RefusesFile, UidsAreOfTheirFile}
 use Rattle.unify.specs.Hosts.{files_of, host_of, owner_fault, sparing_none}
@@ -36,11 +36,11 @@ bound_err : {B F : Type 0} (g e : F) → ◌≡◌ {A = Result B F} (Err g) (Err
 bound_err g e h = cc
 
 -- a step was refused, or else the step after it was
-bind_err : {A B F : Type 0} (r : Result A F) (f : A → Result B F) (e : F) → (r >>= f) ≡ Err e → (r ≡ Err e) ⊎ ((x : A) × (r ≡ Ok x) × (f x ≡ Err e))
+pub bind_err : {A B F : Type 0} (r : Result A F) (f : A → Result B F) (e : F) → (r >>= f) ≡ Err e → (r ≡ Err e) ⊎ ((x : A) × (r ≡ Ok x) × (f x ≡ Err e))
 bind_err (Ok x) f e h = inr (x, refl, h)
 bind_err {B = B} (Err g) f e h = inl (ap (λ x. Err x) (bound_err {B = B} g e h))
 
-never_err : {A F Q : Type 0} (x : A) (e : F) → ◌≡◌ {A = Result A F} (Ok x) (Err e) → Q
+pub never_err : {A F Q : Type 0} (x : A) (e : F) → ◌≡◌ {A = Result A F} (Ok x) (Err e) → Q
 never_err x e h = absurd (cc)
 
 -- ---- lines
@@ -57,10 +57,10 @@ line_code h g m n c d l k e = cc
 line_number : (h g : List ℕ) (m n : FileName) (c d : TextCode) (l k : ℕ) → Line h m c l ≡ Line g n d k → l ≡ k
 line_number h g m n c d l k e = cc
 
-err_same : {A : Type 0} (a b : Fault) → ◌≡◌ {A = Result A Fault} (Err a) (Err b) → a ≡ b
+pub err_same : {A : Type 0} (a b : Fault) → ◌≡◌ {A = Result A Fault} (Err a) (Err b) → a ≡ b
 err_same a b e = cc
 
-file_err : {A : Type 0} (host : List ℕ) (name : FileName) (r : Result A TextFault) (h : List ℕ) (n : FileName) (code : TextCode) (line : ℕ) → in_file host name r ≡ Err (Line h n code line)
+pub file_err : {A : Type 0} (host : List ℕ) (name : FileName) (r : Result A TextFault) (h : List ℕ) (n : FileName) (code : TextCode) (line : ℕ) → in_file host name r ≡ Err (Line h n code line)
     → (h ≡ host) × (n ≡ name) × (r ≡ Err (record { code = code; line = line }))
 file_err host name (Ok x) h n code line e = never_err x (Line h n code line) e
 file_err {A = A} host name (Err t) h n code line e =
@@ -137,9 +137,28 @@ module _ (text : HostText) (h : List ℕ) (n : FileName) (code : TextCode) (line
       by_passwd passed.0 (file_ok text.name file.LoginDefs (ranges_of text.logindefs) passed.0 passed.1)
       (bind_err (in_file text.name file.Passwd (passwd_table text.passwd)) (λ users. in_file text.name file.Group (group_table text.group) >>= λ groups. made passed.0 users groups) (Line h n code line) passed.2)
 
-pub lines_are : LinesAreOfTheirFile
+lines_there : (text : HostText) (h : List ℕ) (n : FileName) (code : TextCode) (line : ℕ) → host_of text ≡ Err (Line h n code line) → Told text h n code line
 unfolding host_of
-lines_are text h n code line e = by_ranges text h n code line (bind_err (in_file text.name file.LoginDefs (ranges_of text.logindefs)) (with_ranges text h n code line) (Line h n code line) e)
+lines_there text h n code line e = by_ranges text h n code line (bind_err (in_file text.name file.LoginDefs (ranges_of text.logindefs)) (with_ranges text h n code line) (Line h n code line) e)
+
+-- and so it is told
+lines_back : (text : HostText) (n : FileName) (code : TextCode) (line : ℕ) → RefusesFile text (record { code = code; line = line }) n → host_of text ≡ Err (Line text.name n code line)
+unfolding host_of
+lines_back text file.LoginDefs code line refused = rw refused refl
+lines_back text file.Passwd code line (ranged, refused) = rw (ranged.1, refused) refl
+lines_back text file.Group code line (ranged, listed, refused) = rw (ranged.1, listed.1, refused) refl
+lines_back text file.Map code line refused = absurd refused
+lines_back text file.Certificate code line refused = absurd refused
+lines_back text file.Plan code line refused = absurd refused
+lines_back text file.Pins code line refused = absurd refused
+lines_back text file.Keep code line refused = absurd refused
+lines_back text file.Mtree code line refused = absurd refused
+
+pub lines_are : LinesAreOfTheirFile
+lines_are text h n code line = (
+  lines_there text h n code line,
+  λ is. lines_back text n code line is.1 ∙ ap (λ g. Err (Line g n code line)) (sym is.0),
+)
 
 -- ---- owners
 
@@ -151,15 +170,15 @@ lies ranges number =
     within : (a b : ℕ) → Decides (nat_le a b) (a ≤ b)
     within a b = (leb-true a b, le-leb a b)
 
-same_number : (number other : ℕ) → Decides (number == other) (other ≡ number)
+pub same_number : (number other : ℕ) → Decides (number == other) (other ≡ number)
 same_number number other = Decides-like (number == other) (λ e. sym e) (λ e. sym e) (Decides-eqb number other)
 
-may_uid : (host : Host) (uid : ℕ) → Decides (allows_uid host uid) (MayHaveUid host uid)
+pub may_uid : (host : Host) (uid : ℕ) → Decides (allows_uid host uid) (MayHaveUid host uid)
 may_uid host uid =
     Decides-or _ (spares_user host uid) (look_up_decides (λ (row : Passwd). uid == row.uid) (λ row. row.uid ≡ uid) (λ row. same_number uid row.uid) (λ row. row.name) host.users)
     (lies host.spared_users uid)
 
-may_gid : (host : Host) (gid : ℕ) → Decides (allows_gid host gid) (MayHaveGid host gid)
+pub may_gid : (host : Host) (gid : ℕ) → Decides (allows_gid host gid) (MayHaveGid host gid)
 may_gid host gid =
     Decides-or _ (spares_group host gid) (look_up_decides (λ (row : Group). gid == row.gid) (λ row. row.gid ≡ gid) (λ row. same_number gid row.gid) (λ row. row.name) host.groups)
     (lies host.spared_groups gid)
@@ -198,11 +217,15 @@ module _ (loaded : Loaded) where
   unfolding files_of
   told_by f other e = by_inventory f other (bind_err (in_file loaded.host.name file.Mtree (inventory 16777216 loaded.mtree)) checked f e)
 
-  all_allowed : (files : List Entry) → All (λ f. judge f ≡ None) files → All (λ f. MayHaveUid loaded.host f.uid × MayHaveGid loaded.host f.gid) files
+  pub all_allowed : (files : List Entry) → All (λ f. judge f ≡ None) files → All (λ f. MayHaveUid loaded.host f.uid × MayHaveGid loaded.host f.gid) files
   all_allowed files none k d lt =
       let f = get_or files k d in
       let both = allowed loaded.host f (none k d lt) in
       ((may_uid loaded.host f.uid).0 both.user, (may_gid loaded.host f.gid).0 both.group)
+
+not_so : (b : Bool) → (b ≡ true → ⊥) → b ≡ false
+not_so true h = absurd (h refl)
+not_so false h = refl
 
 uid_told : (user group : Bool) (h n : List ℕ) (u v w : ℕ) (p q : List ℕ) → cond user (cond group None (Some (UnownedGid h w p))) (Some (UnownedUid h u p)) ≡ Some (UnownedUid n v q)
     → (user ≡ false) × (n ≡ h) × (u ≡ v) × (p ≡ q)
@@ -258,8 +281,51 @@ module _ (loaded : Loaded) (name : List ℕ) (number : ℕ) (path : List ℕ) wh
         },
       )
 
+-- ---- and so it is told
+
+module _ (loaded : Loaded) where
+  none_of : (user group : Bool) (u g : Fault) → user ≡ true → group ≡ true → cond user (cond group None (Some g)) (Some u) ≡ None
+  none_of user group u g is_user is_group = ap₂ (λ a b. cond a (cond b None (Some g)) (Some u)) is_user is_group
+
+  pub none_judged : (files : List Entry) → All (λ f. MayHaveUid loaded.host f.uid × MayHaveGid loaded.host f.gid) files → All (λ f. judge loaded f ≡ None) files
+  none_judged files may k d lt =
+      let f = get_or files k d in
+      let both = may k d lt in
+      none_of (allows_uid loaded.host f.uid) (allows_gid loaded.host f.gid) _ _ ((may_uid loaded.host f.uid).1 both.0) ((may_gid loaded.host f.gid).1 both.1)
+
+  told_back : (earlier : List Entry) (f : Entry) (later : List Entry) (e : Fault) → inventory 16777216 loaded.mtree ≡ Ok (earlier ++ f ∷ later) → All (λ x. judge loaded x ≡ None) earlier → judge loaded f ≡ Some e → files_of loaded ≡ Err e
+  unfolding files_of
+  told_back earlier f later e read passed told =
+      ap (λ r. in_file loaded.host.name file.Mtree r >>= checked loaded) read
+      ∙ ap (λ o. unless o (tt {0}) >>= λ owned. Ok (earlier ++ f ∷ later)) (first_told (judge loaded) [] earlier f later e passed told)
+
+module _ (loaded : Loaded) (uid : ℕ) (path : List ℕ) where
+  uid_back : FirstUnowned loaded path (λ f. (f.uid ≡ uid) × (MayHaveUid loaded.host uid → ⊥)) → files_of loaded ≡ Err (UnownedUid loaded.host.name uid path)
+  uid_back it =
+      let f = it.unowned in
+      let none : allows_uid loaded.host f.uid ≡ false = not_so (allows_uid loaded.host f.uid) (λ t. it.holds.1 (subst (MayHaveUid loaded.host) it.holds.0 ((may_uid loaded.host f.uid).0 t))) in
+      told_back loaded it.earlier f it.later (UnownedUid loaded.host.name uid path) it.read (none_judged loaded it.earlier it.allowed)
+      (ap (λ b. cond b (cond (allows_gid loaded.host f.gid) None (Some (UnownedGid loaded.host.name f.gid f.path))) (Some (UnownedUid loaded.host.name f.uid f.path))) none
+      ∙ ap₂ (λ n p. Some (UnownedUid loaded.host.name n p)) it.holds.0 it.named)
+
+module _ (loaded : Loaded) (gid : ℕ) (path : List ℕ) where
+  gid_back : FirstUnowned loaded path (λ f. MayHaveUid loaded.host f.uid × (f.gid ≡ gid) × (MayHaveGid loaded.host gid → ⊥)) → files_of loaded ≡ Err (UnownedGid loaded.host.name gid path)
+  gid_back it =
+      let f = it.unowned in
+      let some : allows_uid loaded.host f.uid ≡ true = (may_uid loaded.host f.uid).1 it.holds.0 in
+      let none : allows_gid loaded.host f.gid ≡ false = not_so (allows_gid loaded.host f.gid) (λ t. it.holds.2 (subst (MayHaveGid loaded.host) it.holds.1 ((may_gid loaded.host f.gid).0 t))) in
+      told_back loaded it.earlier f it.later (UnownedGid loaded.host.name gid path) it.read (none_judged loaded it.earlier it.allowed)
+      (ap₂ (λ a b. cond a (cond b None (Some (UnownedGid loaded.host.name f.gid f.path))) (Some (UnownedUid loaded.host.name f.uid f.path))) some none
+      ∙ ap₂ (λ n p. Some (UnownedGid loaded.host.name n p)) it.holds.1 it.named)
+
 pub uids_are : UidsAreOfTheirFile
-uids_are loaded host uid path e = uid_of_file loaded host uid path (told_by loaded (UnownedUid host uid path) (no_uid_line host uid path) e)
+uids_are loaded host uid path = (
+  λ e. uid_of_file loaded host uid path (told_by loaded (UnownedUid host uid path) (no_uid_line host uid path) e),
+  λ is. uid_back loaded uid path is.1 ∙ ap (λ h. Err (UnownedUid h uid path)) (sym is.0),
+)
 
 pub gids_are : GidsAreOfTheirFile
-gids_are loaded host gid path e = gid_of_file loaded host gid path (told_by loaded (UnownedGid host gid path) (no_gid_line host gid path) e)
+gids_are loaded host gid path = (
+  λ e. gid_of_file loaded host gid path (told_by loaded (UnownedGid host gid path) (no_gid_line host gid path) e),
+  λ is. gid_back loaded gid path is.1 ∙ ap (λ h. Err (UnownedGid h gid path)) (sym is.0),
+)

@@ -44,6 +44,23 @@ module _ {A F : Type 0} (judge : A → Option F) where
       none_before (judge x) (first_fault (λ seen y. judge y) (before ++ x ∷ []) xs) (All-head (λ y. judge y ≡ None) x xs h)
       (all_pass (before ++ x ∷ []) xs (All-tail (λ y. judge y ≡ None) x xs h))
 
+module _ {A F : Type 0} (judge : A → Option F) where
+  passed_over : (o later : Option F) (f : F) → o ≡ None → later ≡ Some f → or_else o later ≡ Some f
+  passed_over None later f none h = h
+  passed_over (Some g) later f none h = absurd (cc)
+
+  told_here : (o later : Option F) (f : F) → o ≡ Some f → or_else o later ≡ Some f
+  told_here None later f h = absurd (cc)
+  told_here (Some g) later f h = h
+
+  -- the fault of the first item that has one
+  pub first_told : (before earlier : List A) (x : A) (later : List A) (f : F) → All (λ y. judge y ≡ None) earlier → judge x ≡ Some f → first_fault (λ seen y. judge y) before (earlier ++ x ∷ later) ≡ Some f
+  unfolding first_fault
+  first_told before [] x later f passed told = told_here (judge x) (first_fault (λ seen y. judge y) (before ++ x ∷ []) later) f told
+  first_told before (y ∷ earlier) x later f passed told =
+      passed_over (judge y) (first_fault (λ seen z. judge z) (before ++ y ∷ []) (earlier ++ x ∷ later)) f (All-head (λ z. judge z ≡ None) y earlier passed)
+      (first_told (before ++ y ∷ []) earlier x later f (All-tail (λ z. judge z ≡ None) y earlier passed) told)
+
 err_same : {B F : Type 0} (a b : F) → ◌≡◌ {A = Result B F} (Err a) (Err b) → a ≡ b
 err_same a b e = cc
 

@@ -3,7 +3,8 @@ use Rattle.std.proofs.Common.{◌≡◌, ℕ, List, sym, ap, subst, ◌∙◌, a
 use Rattle.hosts_join.specs.Accounts.{Accounts}
 use Rattle.ownership.specs.Costs.{IsOptimal}
 use Rattle.ownership.specs.Files.{File}
-use Rattle.ownership.specs.Mappings.{IsAdmissible, Mappings}
+use Rattle.ownership.specs.Mappings.{IsAdmissible}
+use Rattle.ownership.specs.declared.mapping.Mappings.{Mappings}
 use Rattle.ownership.specs.Potentials.{AreCertifying}
 use Rattle.ownership.specs.Weights.{IsFilled, IsFresh}
 use Rattle.certcheck.specs.Certificate.{Side, IsSide}

@@ -22,6 +22,7 @@ use Rattle.mtree_inv.proofs.LawfulLemmas.{reader-files}
 use Rattle.mtree_inv.proofs.ReadLemmas.{Grows, grows-twice}
 use Rattle.hosts_join.specs.Site.{Joined}
 use Rattle.hosts_join.specs.declared.host.Host.{Host}
+use Rattle.ownership.specs.declared.mapping.Mappings.{Mappings}
 use Rattle.reown_plan.specs.declared.plan.Owner.{Owner}
 use Rattle.reown_plan.specs.Owners.{owner_of, owner_eq}
 use Rattle.reown_plan.specs.Spelling.{head, line, lines}
@@ -69,17 +70,17 @@ records_both to files more =
     ap (map (record_to to)) (filter-append (λ (f : Entry). not (owner_eq (owner_of f) (to f))) files more)
     ∙ map-append (record_to to) (filter (λ (f : Entry). not (owner_eq (owner_of f) (to f))) files) (filter (λ (f : Entry). not (owner_eq (owner_of f) (to f))) more)
 
-pub lines_both : (joined : Joined) (users groups : List ℕ) (index : ℕ) (files more : List Entry)
-    → lines (plan_of joined users groups index (files ++ more)) ≡ lines (plan_of joined users groups index files) ++ lines (plan_of joined users groups index more)
-lines_both joined users groups index files more =
-    let to = target joined users groups index in
+pub lines_both : (joined : Joined) (m : Mappings) (index : ℕ) (files more : List Entry)
+    → lines (plan_of joined m index (files ++ more)) ≡ lines (plan_of joined m index files) ++ lines (plan_of joined m index more)
+lines_both joined m index files more =
+    let to = target joined m index in
     ap lines (records_both to files more) ∙ flat_map-append line (records_to to files) (records_to to more)
 
 plan_more : (host : Host) (joined : Joined) (merged : Merged) (index : ℕ) (files more : List Entry)
-    → plan_before_end host joined merged index files ++ lines (plan_of joined merged.users merged.groups index more) ≡ plan_before_end host joined merged index (files ++ more)
+    → plan_before_end host joined merged index files ++ lines (plan_of joined merged.mappings index more) ≡ plan_before_end host joined merged index (files ++ more)
 plan_more host joined merged index files more =
-    append_assoc (head host.name) (lines (plan_of joined merged.users merged.groups index files)) (lines (plan_of joined merged.users merged.groups index more))
-    ∙ ap (λ t. head host.name ++ t) (sym (lines_both joined merged.users merged.groups index files more))
+    append_assoc (head host.name) (lines (plan_of joined merged.mappings index files)) (lines (plan_of joined merged.mappings index more))
+    ∙ ap (λ t. head host.name ++ t) (sym (lines_both joined merged.mappings index files more))
 
 -- ---- the header
 
@@ -230,16 +231,16 @@ module _ (host : Host) (joined : Joined) (merged : Merged) (index : ℕ) (turn :
       (turn.reader.files, more.turns.rows, omega (arith, most, ap length files_more, length-append turn.reader.files after.waiting))
 
   -- the plan with some of them
-  planned_more : (done : List Entry) → planned ++ lines (plan_of joined merged.users merged.groups index done) ≡ plan_before_end host joined merged index (turn.reader.files ++ done)
+  planned_more : (done : List Entry) → planned ++ lines (plan_of joined merged.mappings index done) ≡ plan_before_end host joined merged index (turn.reader.files ++ done)
   planned_more done =
       let is : planned ≡ plan_before_end host joined merged index turn.reader.files = more.turns.planned_is ∙ ap (λ b. planned_so_far host joined merged index b turn.reader.files) more.begun in
-      ap (λ t. t ++ lines (plan_of joined merged.users merged.groups index done)) is ∙ plan_more host joined merged index turn.reader.files done
+      ap (λ t. t ++ lines (plan_of joined merged.mappings index done)) is ∙ plan_more host joined merged index turn.reader.files done
 
-  planned_all : planned ++ lines (plan_of joined merged.users merged.groups index after.waiting) ≡ plan_before_end host joined merged index after.files
+  planned_all : planned ++ lines (plan_of joined merged.mappings index after.waiting) ≡ plan_before_end host joined merged index after.files
   planned_all = planned_more after.waiting ∙ ap (plan_before_end host joined merged index) (sym files_more)
 
   -- the plan for some of them is not finished
-  pub unfinished_more : (done left : List Entry) → after.waiting ≡ done ++ left → after.fault ≡ None → IsUnfinished host joined merged index fed (planned ++ lines (plan_of joined merged.users merged.groups index done))
+  pub unfinished_more : (done left : List Entry) → after.waiting ≡ done ++ left → after.fault ≡ None → IsUnfinished host joined merged index fed (planned ++ lines (plan_of joined merged.mappings index done))
   unfinished_more done left split sound =
       let parts : after.files ≡ (turn.reader.files ++ done) ++ left = files_more ∙ ap (λ ws. turn.reader.files ++ ws) split ∙ sym (append_assoc turn.reader.files done left) in
       let first = grows-twice (turn.reader.files ++ done) after.files (standing.files_before_fault 16777216 fed) (left, parts) (files_so_far after fed (more.most ∙ more.turns.most) sound more.stands) in
@@ -266,7 +267,7 @@ module _ (host : Host) (joined : Joined) (merged : Merged) (index : ℕ) (turn :
 
   -- the turn when all of them were appended
   turn_more : (new : PlanTurn) → new ≡ record turn { reader = record after { waiting = [] }; rows = new.rows; known = new.known } → AreKnown host joined merged index new.known.items → after.is_finished ≡ false → after.fault ≡ None → standing.StandsFor new.reader fed → All (λ f. owner_fault host [] f ≡ None) after.waiting
-      → ((files : List Entry) → turn.rows ≡ row_files host files → new.rows ≡ row_files host (files ++ after.waiting)) → TurnsFor host joined merged index new fed (planned ++ lines (plan_of joined merged.users merged.groups index after.waiting))
+      → ((files : List Entry) → turn.rows ≡ row_files host files → new.rows ≡ row_files host (files ++ after.waiting)) → TurnsFor host joined merged index new fed (planned ++ lines (plan_of joined merged.mappings index after.waiting))
   turn_more new is known going sound stands owned counted =
       let begun : new.is_begun ≡ true = ap (λ (t : PlanTurn). t.is_begun) is ∙ more.begun in
       let files : new.reader.files ≡ after.files = ap (λ (t : PlanTurn). t.reader.files) is in
@@ -285,7 +286,7 @@ module _ (host : Host) (joined : Joined) (merged : Merged) (index : ℕ) (turn :
       }
 
   -- the plan for all of them
-  pub planned_done : (done left : List Entry) → after.waiting ≡ done ++ left → left ≡ [] → planned ++ lines (plan_of joined merged.users merged.groups index done) ≡ plan_before_end host joined merged index after.files
+  pub planned_done : (done left : List Entry) → after.waiting ≡ done ++ left → left ≡ [] → planned ++ lines (plan_of joined merged.mappings index done) ≡ plan_before_end host joined merged index after.files
   planned_done done left split none =
       let whole : after.waiting ≡ done = split ∙ ap (λ ws. done ++ ws) none ∙ append-nil done in
       planned_more done ∙ ap (plan_before_end host joined merged index) (ap (λ ws. turn.reader.files ++ ws) (sym whole) ∙ sym files_more)
@@ -302,8 +303,8 @@ module _ (host : Host) (joined : Joined) (merged : Merged) (index : ℕ) (turn :
   -- and how the turn and the plan go on
   pub stands_more : (r : Result (Unit {0}) Stop) (new : PlanTurn) (done left : List Entry) → after.waiting ≡ done ++ left → OnOk r (left ≡ []) → OnOk r (new ≡ record turn { reader = record after { waiting = [] }; rows = new.rows; known = new.known }) → OnOk r (AreKnown host joined merged index new.known.items) → after.is_finished ≡ false → after.fault ≡ None
       → OnOk r (standing.StandsFor new.reader fed) → OnOk r (All (λ f. owner_fault host [] f ≡ None) after.waiting) → OnOk r ((files : List Entry) → turn.rows ≡ row_files host files → new.rows ≡ row_files host (files ++ after.waiting))
-      → GoesOn host joined merged index new fed r (planned ++ lines (plan_of joined merged.users merged.groups index done))
+      → GoesOn host joined merged index new fed r (planned ++ lines (plan_of joined merged.mappings index done))
   stands_more (Ok u) new done left split none is known going sound stands owned counted =
       let whole : after.waiting ≡ done = split ∙ ap (λ ws. done ++ ws) none ∙ append-nil done in
-      subst (λ ws. TurnsFor host joined merged index new fed (planned ++ lines (plan_of joined merged.users merged.groups index ws))) whole (turn_more new is known going sound stands owned counted)
+      subst (λ ws. TurnsFor host joined merged index new fed (planned ++ lines (plan_of joined merged.mappings index ws))) whole (turn_more new is known going sound stands owned counted)
   stands_more (Err s) new done left split none is known going sound stands owned counted = unfinished_more done left split sound

@@ -60,7 +60,7 @@ unfolding ranges_of
 ranges-law text ranges h = let step = bind_ok _ apart ranges h in apart-ok step.0 ranges step.2
 
 -- what is known of a host that was loaded, by its texts
-record IsOfTexts (text : HostText) (loaded : Loaded) : Type 0 where
+pub record IsReadFrom (text : HostText) (loaded : Loaded) : Type 0 where
   pub ranges : ranges_of text.logindefs ≡ Ok loaded.host.ranges
   pub users : passwd_table text.passwd ≡ Ok loaded.host.users
   pub groups : group_table text.group ≡ Ok loaded.host.groups
@@ -69,7 +69,7 @@ record IsOfTexts (text : HostText) (loaded : Loaded) : Type 0 where
   pub inventory : text.mtree ≡ loaded.mtree
   pub unsparing : SparesNothing loaded.host
 
-of-texts : (text : HostText) (loaded : Loaded) → host_of text ≡ Ok loaded → IsOfTexts text loaded
+pub of-texts : (text : HostText) (loaded : Loaded) → host_of text ≡ Ok loaded → IsReadFrom text loaded
 unfolding host_of
 of-texts text loaded h =
     let ranges = bind_ok (in_file text.name file.LoginDefs (ranges_of text.logindefs)) _ loaded h in
@@ -77,7 +77,7 @@ of-texts text loaded h =
     let groups = bind_ok (in_file text.name file.Group (group_table text.group)) _ loaded users.2 in
     let made : Host = sparing_none text.name ranges.0 users.0 groups.0 in
     let primary = bind_ok (in_site (primary_checked made)) _ loaded groups.2 in
-    subst (IsOfTexts text) (ok_same (record { host = made; mtree = text.mtree }) loaded primary.2)
+    subst (IsReadFrom text) (ok_same (record { host = made; mtree = text.mtree }) loaded primary.2)
     (record {
       ranges = file_ok text.name file.LoginDefs (ranges_of text.logindefs) ranges.0 ranges.1;
       users = file_ok text.name file.Passwd (passwd_table text.passwd) users.0 users.1;
@@ -129,7 +129,7 @@ all-at P xs k x all h = All-contains P xs x all (k, slice_get_within xs k x h, g
 
 -- ---- the hosts that were loaded
 
-loaded-all : (P : Host → Type 0) (texts : List HostText) (loaded : List Loaded) → each host_of texts ≡ Ok loaded → ((k : ℕ) (text : HostText) (l : Loaded) → slice_get texts k ≡ Some text → IsOfTexts text l → P l.host) → All P (map (λ l. l.host) loaded)
+loaded-all : (P : Host → Type 0) (texts : List HostText) (loaded : List Loaded) → each host_of texts ≡ Ok loaded → ((k : ℕ) (text : HostText) (l : Loaded) → slice_get texts k ≡ Some text → IsReadFrom text l → P l.host) → All P (map (λ l. l.host) loaded)
 loaded-all P texts loaded h says =
     All-map P (λ (l : Loaded). l.host) loaded
     (λ k d m.

@@ -2,7 +2,7 @@
 -- owner.
 -- Source: passwd(5), group(5), login.defs(5) of the shadow suite and mtree(5); which fault is told
 -- first is this project's own rule.
-use Rattle.std.specs.Prelude.{◌≡◌, ◌≤◌, ◌⊎◌, ℕ, List, ◌∷◌, ◌++◌, Result, Ok, Err}
+use Rattle.std.specs.Prelude.{◌≡◌, ◌≤◌, ◌⊎◌, ◌↔◌, ℕ, List, ◌∷◌, ◌++◌, Result, Ok, Err}
 use Rattle.std.specs.Prelude.{All, Any}
 use Rattle.accounts.specs.Tables.{passwd_table, group_table}
 use Rattle.idtext.specs.declared.faults.TextCode.{TextCode}
@@ -34,12 +34,12 @@ RefusesFile text fault file.Group =
     × (group_table text.group ≡ Err fault)
 RefusesFile text fault _ = ⊥
 
--- a line that is told is of this host, and its reader refuses the file so
+-- a line is told exactly where it is of this host, and its reader refuses the file so
 abbrev pub LinesAreOfTheirFile : Type 0
 LinesAreOfTheirFile =
     (text : HostText) (host : List ℕ) (name : FileName) (code : TextCode) (line : ℕ)
-    → host_of text ≡ Err (Line host name code line)
-    → (host ≡ text.name) × RefusesFile text (record { code = code; line = line }) name
+    → (host_of text ≡ Err (Line host name code line))
+    ↔ ((host ≡ text.name) × RefusesFile text (record { code = code; line = line }) name)
 
 -- the number lies in one of the ranges
 abbrev pub LiesInOne : List IdRange → ℕ → Type 0
@@ -64,17 +64,17 @@ pub record FirstUnowned (loaded : Loaded) (path : List ℕ) (Holds : Entry → T
   pub named : unowned.path ≡ path
   pub holds : Holds unowned
 
--- the file has this uid, which no file of the host may have
+-- a file is told exactly where it has this uid, which no file of the host may have
 abbrev pub UidsAreOfTheirFile : Type 0
 UidsAreOfTheirFile = (loaded : Loaded) (host : List ℕ) (uid : ℕ) (path : List ℕ)
-    → files_of loaded ≡ Err (UnownedUid host uid path)
-    → (host ≡ loaded.host.name)
-    × FirstUnowned loaded path (λ f. (f.uid ≡ uid) × (MayHaveUid loaded.host uid → ⊥))
+    → (files_of loaded ≡ Err (UnownedUid host uid path))
+    ↔ ((host ≡ loaded.host.name)
+    × FirstUnowned loaded path (λ f. (f.uid ≡ uid) × (MayHaveUid loaded.host uid → ⊥)))
 
--- the file has a uid that it may have, and this gid, which no file of the host may have
+-- or has a uid that it may have, and this gid, which no file of the host may have
 abbrev pub GidsAreOfTheirFile : Type 0
 GidsAreOfTheirFile = (loaded : Loaded) (host : List ℕ) (gid : ℕ) (path : List ℕ)
-    → files_of loaded ≡ Err (UnownedGid host gid path)
-    → (host ≡ loaded.host.name)
+    → (files_of loaded ≡ Err (UnownedGid host gid path))
+    ↔ ((host ≡ loaded.host.name)
     × FirstUnowned loaded path (λ f. MayHaveUid loaded.host f.uid × (f.gid ≡ gid)
-    × (MayHaveGid loaded.host gid → ⊥))
+    × (MayHaveGid loaded.host gid → ⊥)))

@@ -21,7 +21,7 @@ pub record NoneIsKnown (owners : List KnownOwner) : Type 0 where
 pub record IsKnown (host : Host) (joined : Joined) (merged : Merged) (index : ℕ)
     (owner : KnownOwner) : Type 0 where
   pub places : IfSome owner.places (ArePlaces host)
-  pub change : IfSome owner.change (IsChange joined merged.users merged.groups index)
+  pub change : IfSome owner.change (IsChange joined merged.mappings index)
 
 pub record AreKnown (host : Host) (joined : Joined) (merged : Merged) (index : ℕ)
     (owners : List KnownOwner) : Type 0 where

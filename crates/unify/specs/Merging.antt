@@ -7,7 +7,7 @@ use Rattle.hosts_join.specs.declared.host.Host.{Host}
 use Rattle.hosts_join.specs.Site.{Joined}
 use Rattle.mergedfiles.specs.Together.{AreJoined}
 use Rattle.ownership.specs.Counts.{Counted, IsMadeFor, StandsFor}
-use Rattle.ownership.specs.Mappings.{Mappings}
+use Rattle.ownership.specs.declared.mapping.Mappings.{Mappings}
 use Rattle.certcheck.specs.declared.certificate.Certificate.{Certificate}
 use Rattle.unify.specs.declared.merging.Merged.{Merged}
 use Rattle.unify.specs.declared.outcome.Outcome.{Outcome}
@@ -26,7 +26,7 @@ pub record HoldsCounted (site : WholeSite) (hosts : List Host) (joined : Joined)
   pub lawful : All IsLawfulHost hosts
 
 abbrev pub mappings_in : Merged → Mappings
-mappings_in merged = record { users = merged.users; groups = merged.groups }
+mappings_in merged = merged.mappings
 
 -- the texts tell the mappings and the certificate as soon as the plans are there, of which there is
 -- none as yet
@@ -38,5 +38,5 @@ pub record IsPrintedButPlans (site : WholeSite) (m : Mappings) (c : Certificate)
 -- what a merge may give for a site before its plans are written
 pub record IsMerged (site : WholeSite) (merged : Merged) : Type 0 where
   pub certificate : Certificate
-  pub answered : AreAnswered site (mappings_in merged) certificate
-  pub printed : IsPrintedButPlans site (mappings_in merged) certificate merged.outcome
+  pub answered : AreAnswered site merged.mappings certificate
+  pub printed : IsPrintedButPlans site merged.mappings certificate merged.outcome

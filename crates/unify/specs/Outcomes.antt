@@ -6,7 +6,7 @@ use Rattle.hosts_join.specs.Site.{Joined}
 use Rattle.hosts_join.specs.declared.host.Host.{Host}
 use Rattle.ownership.specs.Costs.{AreLeast, ChangesFewestRows, cost_of}
 use Rattle.ownership.specs.Files.{File, by_user, by_group}
-use Rattle.ownership.specs.Mappings.{Mappings}
+use Rattle.ownership.specs.declared.mapping.Mappings.{Mappings}
 use Rattle.ownership.specs.Weights.{IsFilled, IsFresh}
 use Rattle.certcheck.specs.Certificate.{IsSide}
 use Rattle.certcheck.specs.Certified.{AreCertified}
@@ -46,7 +46,7 @@ cost_in site m =
 abbrev pub plan_texts_from : List Host → Joined → Mappings → ℕ → List (List Entry) → List (List ℕ)
 plan_texts_from hosts site m index [] = []
 plan_texts_from hosts site m index (files ∷ more) =
-    plan.spelling (host_plan hosts site m.users m.groups index files)
+    plan.spelling (host_plan hosts site m index files)
     ∷ plan_texts_from hosts site m (index + 1) more
 
 abbrev pub plan_texts : WholeSite → Mappings → List (List ℕ)
@@ -72,7 +72,7 @@ pub record AreAnswered (site : WholeSite) (m : Mappings) (c : Certificate) : Typ
 -- stand for the other names alone.
 pub record IsPrinted (site : WholeSite) (m : Mappings) (c : Certificate) (outcome : Outcome) : Type
     0 where
-  pub passwd : outcome.passwd ≡ merged_users (hosts_in site) site.joined m.users m.groups
+  pub passwd : outcome.passwd ≡ merged_users (hosts_in site) site.joined m
   pub group : outcome.group ≡ merged_groups (hosts_in site) site.joined m.groups
   pub keeps : outcome.keeps_names ≡ keeps_a_name site.joined
   pub map_is : outcome.map ≡ map_text site.joined m

@@ -9,7 +9,7 @@ use Rattle.mtree_inv.specs.declared.entry.Entry.{Entry}
 use Rattle.mtree_inv.specs.Standing as reader
 use Rattle.hosts_join.specs.Site.{Joined}
 use Rattle.hosts_join.specs.declared.host.Host.{Host}
-use Rattle.reown_plan.specs.Target.{AreForSite}
+use Rattle.ownership.specs.Mappings.{AreForSite}
 use Rattle.unify_texts.specs.declared.fault.Fault.{Fault}
 use Rattle.unify_texts.specs.declared.fault.Fault.TheVariants.{InventoryChanged, Memory}
 use Rattle.unify.specs.declared.merging.Merged.{Merged}
@@ -160,7 +160,7 @@ seen p = record {
 pub record IsBehindFirst (hosts : List Host) (joined : Joined) (merged : Merged)
     (first : List (List ℕ)) (passed : List RowFiles) : Type 0 where
   pub whole : AreTogether hosts joined
-  pub for_site : AreForSite joined merged.users merged.groups
+  pub for_site : AreForSite joined merged.mappings
   pub one_each : length passed ≡ length hosts
   pub counting : AreCounting hosts first passed
 

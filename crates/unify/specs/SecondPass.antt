@@ -50,7 +50,7 @@ HaveSameCounts host files others = row_files host files ≡ row_files host other
 -- the plan of a host for these of its files, without the `end` line
 abbrev pub plan_before_end : Host → Joined → Merged → ℕ → List Entry → List ℕ
 plan_before_end host joined merged index files =
-    head host.name ++ lines (plan_of joined merged.users merged.groups index files)
+    head host.name ++ lines (plan_of joined merged.mappings index files)
 
 -- a prefix of a plan without its `end` line: nothing as yet, or the plan for the first of the files
 -- that the text has before its first fault
@@ -66,7 +66,7 @@ abbrev pub whole_plan : Host → Joined → Merged → ℕ → List Entry → Li
 whole_plan host joined merged index files =
     spelling (record {
       host = host.name;
-      records = plan_of joined merged.users merged.groups index files;
+      records = plan_of joined merged.mappings index files;
     })
 
 -- ---- the second pass

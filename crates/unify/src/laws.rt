@@ -1,8 +1,14 @@
-//! Laws of the passes, each the contract of a call that does nothing: which fault is told.
+//! Laws of the passes, each the contract of a call that does nothing: what is read of the texts,
+//! and which fault is told.
 ghost use Rattle.unify.specs.FaultLaws.{GidsAreOfTheirFile, LinesAreOfTheirFile};
 ghost use Rattle.unify.specs.FaultLaws.{UidsAreOfTheirFile};
+ghost use Rattle.unify.specs.FileLaws.{FilesAreOfInventories, InventoryLinesAreTold};
 ghost use Rattle.unify.specs.MapLaws.{CountedMapsAreWhole};
 ghost use Rattle.unify.specs.RehearsalLaws.{RehearsalsTellFiles};
+ghost use Rattle.unify.specs.SurveyLaws.{SurveysFindUnowned};
+ghost use Rattle.unify.specs.TextLaws.{BegunCountsAreOfTexts, BegunSitesAreOfTexts};
+ghost use Rattle.unify.specs.TextLaws.{HostsAreOfTheirTexts};
+ghost use Rattle.unify.specs.ToldLaws.{PartsTellTheirFaults};
 
 /// A rehearsal of a plan on an inventory that is read answers how many records the plan has, where
 /// one of the files has the path of each with its old owner or its new. Else it tells the first
@@ -19,12 +25,54 @@ pub fn counted_maps_are_whole()
     ensures { CountedMapsAreWhole }
 {}
 
-/// A line of login.defs, passwd or group that is told is of that host and that file: its reader
-/// refuses its text with this code at this line, and those of the files before take theirs. A file
-/// that is told as unowned is in the inventory with this path and number, which no account of the
-/// host has and the host does not spare, and each file before it is allowed.
+/// A line of login.defs, passwd or group is told exactly where it is of that host and that file:
+/// its reader refuses its text with this code at this line, and those of the files before take
+/// theirs. A file is told as unowned exactly where it is in the inventory with this path and
+/// number, which no account of the host has and the host does not spare, and each file before it is
+/// allowed.
 pub fn faults_name_their_file()
     ensures line { LinesAreOfTheirFile }
     ensures uid { UidsAreOfTheirFile }
     ensures gid { GidsAreOfTheirFile }
+{}
+
+/// A host has these files exactly where its inventory is read as them and each is allowed: it has a
+/// uid that a user of the host has or the host spares, and a gid that a group has or the host
+/// spares. No file is left out. A line is told exactly where the reader refuses the inventory so,
+/// of this host and of no other file; and nothing but a line and an unowned file is told.
+pub fn files_are_of_inventories()
+    ensures files { FilesAreOfInventories }
+    ensures lines { InventoryLinesAreTold }
+{}
+
+/// The texts of a host are accepted exactly where the host has its name, its login.defs is read as
+/// its ranges, its passwd and its group as its tables, and each user's gid is that of a group.
+pub fn hosts_are_of_their_texts()
+    ensures { HostsAreOfTheirTexts }
+{}
+
+/// What a merge and a check start from is what the texts say. Each host has its name, the ranges of
+/// its login.defs, and the rows of its passwd and its group whose names do not stay as they are by
+/// the keep text; it spares exactly the numbers that stay on it. The accounts are the join of these
+/// hosts by the pins of the pins text, whatever stays. Their names are exactly the names of the
+/// hosts that do not stay, and the numbers that stay on some host, and no others, are reserved. A
+/// count starts from the same hosts, with a map that the map text is read as and that has exactly
+/// their names.
+pub fn begun_sites_are_of_texts()
+    ensures sites { BegunSitesAreOfTexts }
+    ensures counts { BegunCountsAreOfTexts }
+{}
+
+/// A survey finds a number of a kind exactly where some file of a host has it, no account of the
+/// host's passwd, or group, has it, and it lies in no range that the keep text lists of the kind.
+/// Where the text does not say `unowned`, it finds none.
+pub fn surveys_find_unowned()
+    ensures { SurveysFindUnowned }
+{}
+
+/// What a part gives goes on as it is, and each of its faults is told by its own number, name and
+/// details, in this order: those of the host list, the tables, the join, the pins text, the keep
+/// text, a certificate and its check, and a plan. None is told as another, or as want of memory.
+pub fn parts_tell_their_faults()
+    ensures { PartsTellTheirFaults }
 {}

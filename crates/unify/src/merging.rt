@@ -1,10 +1,11 @@
 //! From a site whose files were counted to one passwd and group, a map, a certificate and a report.
 
-ghost use Rattle.std.specs.Prelude.{◌≡◌, [], List, length, All, IfOk, OnOk};
+ghost use Rattle.std.specs.Prelude.{◌≡◌, [], List, All, IfOk, OnOk};
 ghost use Rattle.hosts_join.specs.Hosts.{IsLawfulHost};
 ghost use Rattle.ownership.specs.Costs.{cost_of};
 ghost use Rattle.ownership.specs.Counts.{IsMadeFor, StandsFor};
 ghost use Rattle.ownership.specs.Files.{Added, by_user, by_group};
+ghost use Rattle.ownership.specs.Mappings.{AreForSite};
 ghost use Rattle.certcheck.specs.Spelling.{spelling};
 ghost use Rattle.mergedfiles.specs.Texts.{merged_users, merged_groups};
 ghost use Rattle.mergedfiles.specs.Together.{AreJoined};
@@ -23,7 +24,7 @@ use certcheck::{Certificate, write_certificate};
 use hosts_join::{Host, Site};
 use idtext::ByteString;
 use mergedfiles::{group_text, passwd_text};
-use ownership::{Counts, Mapping};
+use ownership::{Counts, Mappings};
 use std::alloc::{AllocError, Global};
 use unify_texts::{figures_under, keeps_a_name, push_map, report_text};
 
@@ -32,30 +33,28 @@ use unify_texts::{figures_under, keeps_a_name, push_map, report_text};
 pub struct Merged {
     /// Its list of plans is empty.
     pub outcome: Outcome,
-    pub users: Mapping,
-    pub groups: Mapping,
+    pub mappings: Mappings,
 }
 
-// Mappings of the names of both kinds, and the certificate of both.
+// Mappings, and their certificate.
 #[derive(Drop)]
 struct CertifiedMappings<'a> {
-    users: Mapping,
-    groups: Mapping,
+    mappings: Mappings,
     certificate: Certificate<'a>,
 }
 
 // How many owner and group fields mappings change.
-fn cost_under(site: &Site<'_>, counts: &Counts, users: &Mapping, groups: &Mapping) -> Cost
+fn cost_under(site: &Site<'_>, counts: &Counts, mappings: &Mappings) -> Cost
     requires made { IsMadeFor site.now counts.now }
-    requires users { length users.now ≡ length site.now.users.names }
-    requires groups { length groups.now ≡ length site.now.groups.names }
+    requires for_site { AreForSite site.now mappings.now }
     ensures { (files : List Added) → StandsFor site.now counts.now files
         → result
         ≡ record {
-          users = cost_of site.now.users (by_user files) users.now;
-          groups = cost_of site.now.groups (by_group files) groups.now;
+          users = cost_of site.now.users (by_user files) mappings.now.users;
+          groups = cost_of site.now.groups (by_group files) mappings.now.groups;
         } }
 {
+    let Mappings { users, groups } = mappings;
     let user_figures = figures_under(site.users(), counts.users(), counts.user_files(), users);
     let group_figures = figures_under(site.groups(), counts.groups(), counts.group_files(), groups);
     Cost {
@@ -65,19 +64,12 @@ fn cost_under(site: &Site<'_>, counts: &Counts, users: &Mapping, groups: &Mappin
 }
 
 // The text of the map.
-fn map_of(
-    alloc: Global,
-    site: &Site<'_>,
-    users: &Mapping,
-    groups: &Mapping,
-) -> Result<ByteString, AllocError>
-    requires users { length users.now ≡ length site.now.users.names }
-    requires groups { length groups.now ≡ length site.now.groups.names }
-    ensures { IfOk result
-        (λ text. text ≡ map_text site.now (record { users = users.now; groups = groups.now })) }
+fn map_of(alloc: Global, site: &Site<'_>, mappings: &Mappings) -> Result<ByteString, AllocError>
+    requires { AreForSite site.now mappings.now }
+    ensures { IfOk result (λ text. text ≡ map_text site.now mappings.now) }
 {
     let mut text = Vec::new(alloc);
-    push_map(alloc, &mut text, site, users, groups)?;
+    push_map(alloc, &mut text, site, mappings)?;
     Ok(ByteString::from_vec(text))
 }
 
@@ -88,13 +80,11 @@ fn solve_site<'a>(
     counts: &Counts,
 ) -> Result<CertifiedMappings<'a>, AllocError>
     requires { IsMadeFor site.now counts.now }
-    ensures users { IfOk result (λ found. length found.users ≡ length site.now.users.names) }
-    ensures groups { IfOk result (λ found. length found.groups ≡ length site.now.groups.names) }
+    ensures for_site { IfOk result (λ found. AreForSite site.now found.mappings) }
     ensures answered { IfOk result
         (λ found. (whole : WholeSite) → site.now ≡ whole.joined
         → StandsFor whole.joined counts.now (files_of_site whole)
-        → AreAnswered whole (record { users = found.users; groups = found.groups })
-        found.certificate) }
+        → AreAnswered whole found.mappings found.certificate) }
 {
     let Ok(users) = solve_names(alloc, site.users(), counts.users()) else {
         return Err(AllocError);
@@ -103,8 +93,10 @@ fn solve_site<'a>(
         return Err(AllocError);
     };
     Ok(CertifiedMappings {
-        users: users.mapping,
-        groups: groups.mapping,
+        mappings: Mappings {
+            users: users.mapping,
+            groups: groups.mapping,
+        },
         certificate: Certificate {
             users: users.side,
             groups: groups.side,
@@ -141,20 +133,18 @@ fn write_accounts(
 ) -> Result<(), AllocError>
     requires joined { AreJoined hosts.now site.now }
     requires lawful { All IsLawfulHost hosts.now }
-    requires users { length certified.now.users ≡ length site.now.users.names }
-    requires groups { length certified.now.groups ≡ length site.now.groups.names }
+    requires for_site { AreForSite site.now certified.now.mappings }
     ensures { OnOk result
         (outcome.new
         ≡ record outcome.old {
-          passwd =
-              merged_users hosts.now site.now certified.now.users certified.now.groups;
-          group = merged_groups hosts.now site.now certified.now.groups;
+          passwd = merged_users hosts.now site.now certified.now.mappings;
+          group = merged_groups hosts.now site.now certified.now.mappings.groups;
           keeps_names = reserved.keeps_a_name site.now;
         }) }
 {
-    let passwd = passwd_text(alloc, hosts, site, &certified.users, &certified.groups)?;
+    let passwd = passwd_text(alloc, hosts, site, &certified.mappings)?;
     outcome.passwd = ByteString::from_vec(passwd);
-    let group = group_text(alloc, hosts, site, &certified.groups)?;
+    let group = group_text(alloc, hosts, site, &certified.mappings.groups)?;
     outcome.group = ByteString::from_vec(group);
     outcome.keeps_names = keeps_a_name(site);
     Ok(())
@@ -167,17 +157,15 @@ fn write_numbers(
     certified: &CertifiedMappings<'_>,
     outcome: &mut Outcome,
 ) -> Result<(), AllocError>
-    requires users { length certified.now.users ≡ length site.now.users.names }
-    requires groups { length certified.now.groups ≡ length site.now.groups.names }
+    requires for_site { AreForSite site.now certified.now.mappings }
     ensures { OnOk result
         (outcome.new
         ≡ record outcome.old {
-          map = map_text site.now
-              (record { users = certified.now.users; groups = certified.now.groups });
+          map = map_text site.now certified.now.mappings;
           certificate = spelling certified.now.certificate;
         }) }
 {
-    outcome.map = map_of(alloc, site, &certified.users, &certified.groups)?;
+    outcome.map = map_of(alloc, site, &certified.mappings)?;
     let certificate = write_certificate(alloc, &certified.certificate)?;
     outcome.certificate = ByteString::from_vec(certificate);
     Ok(())
@@ -195,31 +183,21 @@ fn write_changes(
     requires joined { AreJoined hosts.now site.now }
     requires lawful { All IsLawfulHost hosts.now }
     requires made { IsMadeFor site.now counts.now }
-    requires users { length certified.now.users ≡ length site.now.users.names }
-    requires groups { length certified.now.groups ≡ length site.now.groups.names }
+    requires for_site { AreForSite site.now certified.now.mappings }
     ensures { OnOk result ((files : List Added) → StandsFor site.now counts.now files
         → outcome.new
         ≡ record outcome.old {
-          report =
-              report_of hosts.now site.now files
-              (record { users = certified.now.users; groups = certified.now.groups });
+          report = report_of hosts.now site.now files certified.now.mappings;
           cost =
               record {
-                users = cost_of site.now.users (by_user files) certified.now.users;
-                groups = cost_of site.now.groups (by_group files) certified.now.groups;
+                users = cost_of site.now.users (by_user files) certified.now.mappings.users;
+                groups = cost_of site.now.groups (by_group files) certified.now.mappings.groups;
               };
         }) }
 {
-    let report = report_text(
-        alloc,
-        hosts,
-        site,
-        counts,
-        &certified.users,
-        &certified.groups,
-    )?;
+    let report = report_text(alloc, hosts, site, counts, &certified.mappings)?;
     outcome.report = ByteString::from_vec(report);
-    outcome.cost = cost_under(site, counts, &certified.users, &certified.groups);
+    outcome.cost = cost_under(site, counts, &certified.mappings);
     Ok(())
 }
 
@@ -233,13 +211,10 @@ fn texts_of(
     certified: &CertifiedMappings<'_>,
 ) -> Result<Outcome, AllocError>
     requires holds { (whole : WholeSite) × HoldsCounted whole hosts.now site.now counts.now }
-    requires users { length certified.now.users ≡ length site.now.users.names }
-    requires groups { length certified.now.groups ≡ length site.now.groups.names }
+    requires for_site { AreForSite site.now certified.now.mappings }
     ensures { IfOk result (λ outcome. (whole : WholeSite)
         → HoldsCounted whole hosts.now site.now counts.now
-        → IsPrintedButPlans whole
-        (record { users = certified.now.users; groups = certified.now.groups })
-        certified.now.certificate outcome) }
+        → IsPrintedButPlans whole certified.now.mappings certified.now.certificate outcome) }
 {
     let mut outcome = nothing_written(alloc);
     write_accounts(alloc, hosts, site, certified, &mut outcome)?;
@@ -265,7 +240,6 @@ pub fn merge_counted(
     let outcome = texts_of(alloc, hosts, site, counts, &certified)?;
     Ok(Merged {
         outcome,
-        users: certified.users,
-        groups: certified.groups,
+        mappings: certified.mappings,
     })
 }

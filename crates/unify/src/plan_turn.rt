@@ -5,17 +5,15 @@ ghost use Rattle.std.specs.Prelude.{if◌then◌else◌, is_ok, slice_get, Some,
 ghost use Rattle.std.specs.Prelude.{IfErr, IfOk, OnOk, OnErr};
 ghost use Rattle.mtree_inv.specs.Standing as standing;
 ghost use Rattle.mtree_inv.specs.declared.entry.Entry.{Entry};
-ghost use Rattle.hosts_join.specs.Laws.{KnowsHost};
 ghost use Rattle.hosts_join.specs.declared.host.Host.{Host};
 ghost use Rattle.idtext.specs.First.{first_fault};
 ghost use Rattle.reown_plan.specs.Spelling.{head, lines, end};
-ghost use Rattle.reown_plan.specs.Target.{AreForSite, plan_of};
 ghost use Rattle.unify_texts.specs.declared.fault.Fault.{Fault};
 ghost use Rattle.unify.specs.declared.plan_turn.Stop.TheVariants as stop;
 ghost use Rattle.unify.specs.Hosts.{owner_fault};
-ghost use Rattle.unify.specs.KnownOwners.{AreKnown, IsKnown};
-ghost use Rattle.unify.specs.PlanTurns.{IsFreshTurn, TurnsFor, stop_of};
-ghost use Rattle.unify.specs.PlanTurns.{GoesOn, Ends, TellsLines, TellsFiles};
+ghost use Rattle.unify.specs.PlanTurns.{IsFreshTurn, TellsFiles, TellsLines, stop_of};
+ghost use Rattle.unify.specs.PlannedHosts.{AreKnownOf, EndsOf, GoesOnOf, IsKnownOf, IsOfSite};
+ghost use Rattle.unify.specs.PlannedHosts.{TurnsOf, plan_for};
 ghost use Rattle.unify.specs.RowFiles.{row_files};
 
 use crate::host::MOST_FILES;
@@ -26,7 +24,7 @@ use crate::turn::begin_next;
 use hosts_join::{Host, Site};
 use idtext::ReadError;
 use mtree_inv::{Entry, Reader};
-use reown_plan::{push_plan_end, push_plan_entry, push_plan_head};
+use reown_plan::{NewOwners, push_plan_end, push_plan_entry, push_plan_head};
 use std::alloc::{AllocError, Global};
 
 /// Why a second reading ended early.
@@ -67,6 +65,17 @@ pub struct PlanTurn {
     pub known: Vec<KnownOwner>,
     pub is_begun: bool,
     pub stop: Option<Stop>,
+}
+
+/// The host whose plan is appended, and what it goes by.
+#[derive(Clone, Copy)]
+pub struct PlannedHost<'a, 's> {
+    pub host: &'a Host<'s>,
+    /// Its index in the site.
+    pub index: u32,
+    pub site: &'a Site<'s>,
+    /// The files get owners by its mappings.
+    pub merged: &'a Merged,
 }
 
 /// The turn of a host of whose second inventory nothing has come. Memory for what is found of
@@ -110,48 +119,40 @@ fn begin_plan(turn: &mut PlanTurn, host: &Host<'_>, plan: &mut Vec<u8>) -> Resul
     Ok(())
 }
 
-// Counts a file of the host with the index, and appends its record.
+// Counts a file of the host, and appends its record.
 fn plan_file(
     rows: &mut RowFiles,
     known: &mut KnownOwner,
-    site: &Site<'_>,
-    merged: &Merged,
-    index: u32,
-    host: &Host<'_>,
+    whose: &PlannedHost<'_, '_>,
     file: &Entry,
     plan: &mut Vec<u8>,
 ) -> Result<(), Stop>
-    requires room { (files : List Entry) × (rows.old ≡ row_files host.now files)
+    requires room { (files : List Entry) × (rows.old ≡ row_files whose.now.host.now files)
         × (length files ≤ 2147483648) }
-    requires owner { IsKnown host.now site.now merged.now index known.old }
-    requires known { KnowsHost site.now index host.now }
-    requires for_site { AreForSite site.now merged.now.users merged.now.groups }
-    ensures owner { IsKnown host.now site.now merged.now index known.new }
-    ensures owned { OnOk result (owner_fault host.now [] file.now ≡ None) }
+    requires owner { IsKnownOf whose.now known.old }
+    requires of_site { IsOfSite whose.now }
+    ensures owner { IsKnownOf whose.now known.new }
+    ensures owned { OnOk result (owner_fault whose.now.host.now [] file.now ≡ None) }
     ensures counted { OnOk result
-        ((files : List Entry) → rows.old ≡ row_files host.now files
-        → rows.new ≡ row_files host.now (files ++ file.now ∷ [])) }
+        ((files : List Entry) → rows.old ≡ row_files whose.now.host.now files
+        → rows.new ≡ row_files whose.now.host.now (files ++ file.now ∷ [])) }
     ensures plan { plan.new.items
         ≡ (if is_ok result then plan.old.items
-        ++ lines (plan_of site.now merged.now.users merged.now.groups index (file.now ∷ []))
+        ++ lines (plan_for whose.now (file.now ∷ []))
         else plan.old.items) }
     ensures changed { result ≡ Err stop.Changed → (fault : Fault)
-        × (owner_fault host.now [] file.now ≡ Some fault) }
+        × (owner_fault whose.now.host.now [] file.now ≡ Some fault) }
 {
-    if !count_file(rows, &mut known.places, host, file) {
+    if !count_file(rows, &mut known.places, whose.host, file) {
         return Err(Stop::Changed);
     }
     let rows = known.rows();
-    push_plan_entry(
-        plan,
-        &mut known.change,
-        rows,
-        index,
-        site,
-        &merged.users,
-        &merged.groups,
-        file,
-    )?;
+    let owners = NewOwners {
+        host: whose.index,
+        site: whose.site,
+        mappings: &whose.merged.mappings,
+    };
+    push_plan_entry(plan, &mut known.change, rows, &owners, file)?;
     Ok(())
 }
 
@@ -159,17 +160,13 @@ fn plan_file(
 // allow.
 fn plan_waiting(
     turn: &mut PlanTurn,
-    site: &Site<'_>,
-    merged: &Merged,
-    index: u32,
-    host: &Host<'_>,
+    whose: &PlannedHost<'_, '_>,
     plan: &mut Vec<u8>,
 ) -> Result<(), Stop>
-    requires room { (files : List Entry) × (turn.old.rows ≡ row_files host.now files)
+    requires room { (files : List Entry) × (turn.old.rows ≡ row_files whose.now.host.now files)
         × (length files + length turn.old.reader.waiting ≤ 2147483648) }
-    requires owners { AreKnown host.now site.now merged.now index turn.old.known.items }
-    requires known { KnowsHost site.now index host.now }
-    requires for_site { AreForSite site.now merged.now.users merged.now.groups }
+    requires owners { AreKnownOf whose.now turn.old.known.items }
+    requires of_site { IsOfSite whose.now }
     ensures turn { OnOk result
         (turn.new
         ≡ record turn.old {
@@ -177,32 +174,28 @@ fn plan_waiting(
           rows = turn.new.rows;
           known = turn.new.known;
         }) }
-    ensures owners { OnOk result
-        (AreKnown host.now site.now merged.now index turn.new.known.items) }
+    ensures owners { OnOk result (AreKnownOf whose.now turn.new.known.items) }
     ensures stands { OnOk result
         ((text : List ℕ) → standing.StandsFor turn.old.reader text
         → standing.StandsFor turn.new.reader text) }
     ensures owned { OnOk result
-        (All (λ f. owner_fault host.now [] f ≡ None) turn.old.reader.waiting) }
+        (All (λ f. owner_fault whose.now.host.now [] f ≡ None) turn.old.reader.waiting) }
     ensures counted { OnOk result
-        ((files : List Entry) → turn.old.rows ≡ row_files host.now files
-        → turn.new.rows ≡ row_files host.now (files ++ turn.old.reader.waiting)) }
+        ((files : List Entry) → turn.old.rows ≡ row_files whose.now.host.now files
+        → turn.new.rows ≡ row_files whose.now.host.now (files ++ turn.old.reader.waiting)) }
     ensures planned { (done : List Entry) × (left : List Entry)
         × (turn.old.reader.waiting ≡ done ++ left)
         × (plan.new.items ≡ plan.old.items
-        ++ lines (plan_of site.now merged.now.users merged.now.groups index done))
+        ++ lines (plan_for whose.now done))
         × OnOk result (left ≡ []) }
     ensures changed { result ≡ Err stop.Changed → (fault : Fault)
-        × (first_fault (owner_fault host.now) [] turn.old.reader.waiting ≡ Some fault) }
+        × (first_fault (owner_fault whose.now.host.now) [] turn.old.reader.waiting ≡ Some fault) }
 {
     while let Some(file) = turn.reader.next_entry() {
         plan_file(
             &mut turn.rows,
             &mut turn.known[place_of(&file)],
-            site,
-            merged,
-            index,
-            host,
+            whose,
             &file,
             plan,
         )?;
@@ -213,33 +206,28 @@ fn plan_waiting(
 // Reads the next piece after what was read.
 fn read_on(
     turn: &mut PlanTurn,
-    site: &Site<'_>,
-    merged: &Merged,
-    index: u32,
-    host: &Host<'_>,
+    whose: &PlannedHost<'_, '_>,
     bytes: &[u8],
     plan: &mut Vec<u8>,
 ) -> Result<(), Stop>
     requires goes { (text : List ℕ) × (planned : List ℕ)
-        × TurnsFor host.now site.now merged.now index turn.old text planned }
-    requires known { KnowsHost site.now index host.now }
-    requires for_site { AreForSite site.now merged.now.users merged.now.groups }
-    ensures told { (text planned : List ℕ)
-        → TurnsFor host.now site.now merged.now index turn.old text planned
-        → TellsLines host.now (text ++ bytes.now) result }
-    ensures stands { (text planned : List ℕ)
-        → TurnsFor host.now site.now merged.now index turn.old text planned → (more : List ℕ)
+        × TurnsOf whose.now turn.old text planned }
+    requires of_site { IsOfSite whose.now }
+    ensures told { (text planned : List ℕ) → TurnsOf whose.now turn.old text planned
+        → TellsLines whose.now.host.now (text ++ bytes.now) result }
+    ensures stands { (text planned : List ℕ) → TurnsOf whose.now turn.old text planned
+        → (more : List ℕ)
         × (plan.new.items ≡ plan.old.items ++ more)
-        × GoesOn host.now site.now merged.now index turn.new (text ++ bytes.now) result
+        × GoesOnOf whose.now turn.new (text ++ bytes.now) result
         (planned ++ more) }
     ensures begun { OnOk result (turn.new.is_begun ≡ true) }
 {
-    begin_plan(turn, host, plan)?;
+    begin_plan(turn, whose.host, plan)?;
     turn.reader.feed(bytes)?;
-    plan_waiting(turn, site, merged, index, host, plan)
+    plan_waiting(turn, whose, plan)
 }
 
-/// Takes the next piece of the second inventory of the host with the index, and appends to the
+/// Takes the next piece of the second inventory of the host, and appends to the
 /// host's plan. `Stop::Changed` is answered exactly where the whole lines so far have a fault, or a
 /// file that the host does not allow. After it stopped it always answers the same, and nothing
 /// changes. What is appended until then is a prefix of a plan without its `end` line. After the
@@ -249,24 +237,19 @@ fn read_on(
 /// known.
 pub fn feed_plan(
     turn: &mut PlanTurn,
-    site: &Site<'_>,
-    merged: &Merged,
-    index: u32,
-    host: &Host<'_>,
+    whose: &PlannedHost<'_, '_>,
     bytes: &[u8],
     plan: &mut Vec<u8>,
 ) -> Result<(), Stop>
     requires goes { turn.old.stop ≡ None → (text : List ℕ) × (planned : List ℕ)
-        × TurnsFor host.now site.now merged.now index turn.old text planned }
-    requires known { KnowsHost site.now index host.now }
-    requires for_site { AreForSite site.now merged.now.users merged.now.groups }
-    ensures told { (text planned : List ℕ)
-        → TurnsFor host.now site.now merged.now index turn.old text planned
-        → TellsLines host.now (text ++ bytes.now) result }
-    ensures stands { (text planned : List ℕ)
-        → TurnsFor host.now site.now merged.now index turn.old text planned → (more : List ℕ)
+        × TurnsOf whose.now turn.old text planned }
+    requires of_site { IsOfSite whose.now }
+    ensures told { (text planned : List ℕ) → TurnsOf whose.now turn.old text planned
+        → TellsLines whose.now.host.now (text ++ bytes.now) result }
+    ensures stands { (text planned : List ℕ) → TurnsOf whose.now turn.old text planned
+        → (more : List ℕ)
         × (plan.new.items ≡ plan.old.items ++ more)
-        × GoesOn host.now site.now merged.now index turn.new (text ++ bytes.now) result
+        × GoesOnOf whose.now turn.new (text ++ bytes.now) result
         (planned ++ more) }
     ensures begun { OnOk result (turn.new.is_begun ≡ true) }
     ensures stopped { IfErr result (λ s. turn.new.stop ≡ Some s) }
@@ -276,7 +259,7 @@ pub fn feed_plan(
     if let Some(stop) = turn.stop {
         return Err(stop);
     }
-    let read = read_on(turn, site, merged, index, host, bytes, plan);
+    let read = read_on(turn, whose, bytes, plan);
     if let Err(stop) = read {
         turn.stop = Some(stop);
     }
@@ -287,28 +270,25 @@ pub fn feed_plan(
 // pass.
 fn read_end(
     turn: &mut PlanTurn,
-    site: &Site<'_>,
-    merged: &Merged,
-    index: u32,
-    host: &Host<'_>,
+    whose: &PlannedHost<'_, '_>,
     first: &RowFiles,
     plan: &mut Vec<u8>,
 ) -> Result<(), Stop>
     requires goes { (text : List ℕ) × (planned : List ℕ)
-        × TurnsFor host.now site.now merged.now index turn.old text planned }
-    requires known { KnowsHost site.now index host.now }
-    requires for_site { AreForSite site.now merged.now.users merged.now.groups }
+        × TurnsOf whose.now turn.old text planned }
+    requires of_site { IsOfSite whose.now }
     ensures told { (text planned : List ℕ) (were : List Entry)
-        → TurnsFor host.now site.now merged.now index turn.old text planned
-        → first.now ≡ row_files host.now were → TellsFiles host.now were text result }
-    ensures stands { (text planned : List ℕ)
-        → TurnsFor host.now site.now merged.now index turn.old text planned → (more : List ℕ)
+        → TurnsOf whose.now turn.old text planned
+        → first.now ≡ row_files whose.now.host.now were
+        → TellsFiles whose.now.host.now were text result }
+    ensures stands { (text planned : List ℕ) → TurnsOf whose.now turn.old text planned
+        → (more : List ℕ)
         × (plan.new.items ≡ plan.old.items ++ more)
-        × Ends host.now site.now merged.now index text result (planned ++ more) }
+        × EndsOf whose.now text result (planned ++ more) }
 {
-    begin_plan(turn, host, plan)?;
+    begin_plan(turn, whose.host, plan)?;
     turn.reader.finish()?;
-    plan_waiting(turn, site, merged, index, host, plan)?;
+    plan_waiting(turn, whose, plan)?;
     if are_same(first, &turn.rows) {
         Ok(())
     } else {
@@ -316,31 +296,28 @@ fn read_end(
     }
 }
 
-/// Takes the end of the second inventory of the host with the index, and appends what is left of
+/// Takes the end of the second inventory of the host, and appends what is left of
 /// the host's plan but its `end` line. `Stop::Changed` is answered exactly where the whole text has
 /// a fault, or a file that the host does not allow, or counts that are not those of the first pass.
 /// After it stopped it always answers the same, and nothing changes. What is appended until then is
 /// a prefix of a plan without its `end` line.
 pub fn finish_plan(
     turn: &mut PlanTurn,
-    site: &Site<'_>,
-    merged: &Merged,
-    index: u32,
-    host: &Host<'_>,
+    whose: &PlannedHost<'_, '_>,
     first: &RowFiles,
     plan: &mut Vec<u8>,
 ) -> Result<(), Stop>
     requires goes { turn.old.stop ≡ None → (text : List ℕ) × (planned : List ℕ)
-        × TurnsFor host.now site.now merged.now index turn.old text planned }
-    requires known { KnowsHost site.now index host.now }
-    requires for_site { AreForSite site.now merged.now.users merged.now.groups }
+        × TurnsOf whose.now turn.old text planned }
+    requires of_site { IsOfSite whose.now }
     ensures told { (text planned : List ℕ) (were : List Entry)
-        → TurnsFor host.now site.now merged.now index turn.old text planned
-        → first.now ≡ row_files host.now were → TellsFiles host.now were text result }
-    ensures stands { (text planned : List ℕ)
-        → TurnsFor host.now site.now merged.now index turn.old text planned → (more : List ℕ)
+        → TurnsOf whose.now turn.old text planned
+        → first.now ≡ row_files whose.now.host.now were
+        → TellsFiles whose.now.host.now were text result }
+    ensures stands { (text planned : List ℕ) → TurnsOf whose.now turn.old text planned
+        → (more : List ℕ)
         × (plan.new.items ≡ plan.old.items ++ more)
-        × Ends host.now site.now merged.now index text result (planned ++ more) }
+        × EndsOf whose.now text result (planned ++ more) }
     ensures stopped { IfErr result (λ s. turn.new.stop ≡ Some s) }
     ensures again { IfSome turn.old.stop
         (λ s. (result ≡ Err s) × (turn.new ≡ turn.old) × (plan.new ≡ plan.old)) }
@@ -348,7 +325,7 @@ pub fn finish_plan(
     if let Some(stop) = turn.stop {
         return Err(stop);
     }
-    let read = read_end(turn, site, merged, index, host, first, plan);
+    let read = read_end(turn, whose, first, plan);
     if let Err(stop) = read {
         turn.stop = Some(stop);
     }

@@ -5,7 +5,7 @@ ghost use Rattle.unify.specs.PlanTurns.{stop_told};
 
 use crate::merging::Merged;
 use crate::outcome::Outcome;
-use crate::plan_turn::{PlanTurn, Stop, feed_plan, finish_plan, next_turn};
+use crate::plan_turn::{PlanTurn, PlannedHost, Stop, feed_plan, finish_plan, next_turn};
 use crate::row_files::RowFiles;
 use crate::text_log::{Call, TextLog};
 use hosts_join::{Host, Site};
@@ -116,16 +116,14 @@ impl<'a> Solved<'a> {
             (λ f. (result ≡ Err f) × (self.new ≡ self.old) × (plan.new ≡ plan.old)) }
     {
         let host = &self.hosts[self.ended];
-        let before = plan.len();
-        if let Err(stop) = feed_plan(
-            &mut self.turn,
-            &self.site,
-            &self.merged,
-            self.ended as u32,
+        let whose = PlannedHost {
             host,
-            bytes,
-            plan,
-        ) {
+            index: self.ended as u32,
+            site: &self.site,
+            merged: &self.merged,
+        };
+        let before = plan.len();
+        if let Err(stop) = feed_plan(&mut self.turn, &whose, bytes, plan) {
             return Err(stopped(host, stop));
         }
         self.log.note(&Call::Planned(bytes, before, plan));
@@ -171,15 +169,14 @@ impl<'a> Solved<'a> {
             (λ f. (result ≡ Err f) × (self.new ≡ self.old) × (plan.new ≡ plan.old)) }
     {
         let host = &self.hosts[self.ended];
-        if let Err(stop) = finish_plan(
-            &mut self.turn,
-            &self.site,
-            &self.merged,
-            self.ended as u32,
+        let whose = PlannedHost {
             host,
-            &self.passed[self.ended],
-            plan,
-        ) {
+            index: self.ended as u32,
+            site: &self.site,
+            merged: &self.merged,
+        };
+        let first = &self.passed[self.ended];
+        if let Err(stop) = finish_plan(&mut self.turn, &whose, first, plan) {
             return Err(stopped(host, stop));
         }
         let next = self.ended + 1;
@@ -215,8 +212,7 @@ impl<'a> Solved<'a> {
         requires within { index < length self.now.hosts }
         ensures { IfOk result
             (λ new. (host : Host) → slice_get self.now.hosts index ≡ Some host
-            → new.items ≡ host_users host self.now.joined self.now.merged.users
-            self.now.merged.groups text.now) }
+            → new.items ≡ host_users host self.now.joined self.now.merged.mappings text.now) }
     {
         host_passwd_text(
             self.alloc,
@@ -224,8 +220,7 @@ impl<'a> Solved<'a> {
             index as u32,
             &self.hosts[index],
             &self.site,
-            &self.merged.users,
-            &self.merged.groups,
+            &self.merged.mappings,
         )
     }
 
@@ -241,9 +236,10 @@ impl<'a> Solved<'a> {
     /// `AllocError` where memory is refused.
     pub fn host_group(&self, text: &[u8]) -> Result<Vec<u8>, AllocError>
         ensures { IfOk result
-            (λ new. new.items ≡ host_groups self.now.joined self.now.merged.groups text.now) }
+            (λ new. new.items
+            ≡ host_groups self.now.joined self.now.merged.mappings.groups text.now) }
     {
-        host_group_text(self.alloc, text, &self.site, &self.merged.groups)
+        host_group_text(self.alloc, text, &self.site, &self.merged.mappings.groups)
     }
 
     /// How many hosts' inventories have not been ended a second time. No cost.

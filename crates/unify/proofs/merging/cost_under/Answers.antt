@@ -13,4 +13,4 @@ returns c = λ files stands.
     let site = c.args.site.now in
     let users = (rw (c.users.ensures, c.users-2.ensures.users, c.user_files.ensures.files) at c.figures_under-user_figures.ensures) (by_user files) stands.users stands.user_files in
     let groups = (rw (c.groups.ensures, c.groups-2.ensures.groups, c.group_files.ensures.files) at c.figures_under-group_figures.ensures) (by_group files) stands.groups stands.group_files in
-    ap (λ f. cost_by f c.figures_under-group_figures.result) users ∙ ap (λ f. cost_by (figures_of site.users (by_user files) c.args.users.now) f) groups
+    ap (λ f. cost_by f c.figures_under-group_figures.result) users ∙ ap (λ f. cost_by (figures_of site.users (by_user files) c.args.mappings.now.users) f) groups

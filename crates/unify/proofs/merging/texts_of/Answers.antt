@@ -2,7 +2,7 @@ use Rattle.std.proofs.Common.{◌≡◌, refl, ap, ◌∙◌}
 use Rattle.hosts_join.specs.Site.{Joined}
 use Rattle.ownership.specs.Counts.{StandsFor}
 use Rattle.ownership.specs.Costs.{cost_of}
-use Rattle.ownership.specs.Mappings.{Mappings}
+use Rattle.ownership.specs.declared.mapping.Mappings.{Mappings}
 use Rattle.mergedfiles.specs.Texts.{merged_users, merged_groups}
 use Rattle.unify_texts.specs.Report.{report_of}
 use Rattle.unify_texts.specs.ReservedLines.{keeps_a_name}
@@ -15,7 +15,7 @@ use Rattle.unify.proofs.merging.texts_of.Goals as goal
 
 pub returns : goal.returns
 returns c = λ whole holds.
-    let m : Mappings = record { users = c.args.certified.now.users; groups = c.args.certified.now.groups } in
+    let m : Mappings = c.args.certified.now.mappings in
     let hosts : c.args.hosts.now ≡ hosts_in whole = holds.hosts_are in
     let joined : c.args.site.now ≡ whole.joined = holds.joined_is in
     let stands : StandsFor c.args.site.now c.args.counts.now (files_of_site whole) = rw joined holds.counted_are in
@@ -28,7 +28,7 @@ returns c = λ whole holds.
       printed = record {
         passwd =
             ap (λ (o : Outcome). o.passwd) changes ∙ ap (λ (o : Outcome). o.passwd) numbers ∙ ap (λ (o : Outcome). o.passwd) accounts
-            ∙ ap (λ hs. merged_users hs c.args.site.now m.users m.groups) hosts ∙ ap (λ s. merged_users (hosts_in whole) s m.users m.groups) joined;
+            ∙ ap (λ hs. merged_users hs c.args.site.now m) hosts ∙ ap (λ s. merged_users (hosts_in whole) s m) joined;
         group =
             ap (λ (o : Outcome). o.group) changes ∙ ap (λ (o : Outcome). o.group) numbers ∙ ap (λ (o : Outcome). o.group) accounts
             ∙ ap (λ hs. merged_groups hs c.args.site.now m.groups) hosts ∙ ap (λ s. merged_groups (hosts_in whole) s m.groups) joined;

@@ -7,7 +7,7 @@ use Rattle.unify.proofs.plan_turn.plan_file.Goals as goal
 
 pub returns-then-not-count_file-clause-changed : goal.returns-then-not-count_file-clause-changed
 returns-then-not-count_file-clause-changed c = λ changed.
-    unowned_some (owner_fault c.args.host.now [] c.args.file.now) c.count_file.result c.count_file.ensures.owned c.if-not-count_file.true
+    unowned_some (owner_fault c.args.whose.now.host.now [] c.args.file.now) c.count_file.result c.count_file.ensures.owned c.if-not-count_file.true
 
 pub returns-in_err-push_plan_entry-clause-changed : goal.returns-in_err-push_plan_entry-clause-changed
 returns-in_err-push_plan_entry-clause-changed c = λ changed.
@@ -15,4 +15,4 @@ returns-in_err-push_plan_entry-clause-changed c = λ changed.
     absurd (never-changed c.from_residual.result p.0 p.1 p.2 changed)
 
 pub returns-clause-owned : goal.returns-clause-owned
-returns-clause-owned c = is_owned_none (owner_fault c.args.host.now [] c.args.file.now) c.count_file.result c.count_file.ensures.owned c.if-not-count_file.false
+returns-clause-owned c = is_owned_none (owner_fault c.args.whose.now.host.now [] c.args.file.now) c.count_file.result c.count_file.ensures.owned c.if-not-count_file.false

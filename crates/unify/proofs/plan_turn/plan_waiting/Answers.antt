@@ -30,10 +30,10 @@ loop-file-preserved c =
     let inv = c.loop-file.invariant in
     let file = c.in-Some.file in
     let left = c.next_entry.new.self.waiting in
-    let host = c.args.host.now in
-    let site = c.args.site.now in
-    let merged = c.args.merged.now in
-    let index = c.args.index in
+    let host = c.args.whose.now.host.now in
+    let site = c.args.whose.now.site.now in
+    let merged = c.args.whose.now.merged.now in
+    let index = c.args.whose.now.index in
     let start = c.args.plan.now.items in
     record {
       stays = next_stays c.args.turn.now c.loop-file.turn c.next_entry.new.self c.plan_file.new.rows _ inv.stays c.in-Some.ensures.stays;
@@ -47,16 +47,16 @@ loop-file-preserved c =
         each = All-set (IsKnown host site merged index) _ _ _ c.plan_file.ensures.owner inv.owners.each;
       };
       planned = c.in_ok-plan_file.ensures.plan
-          ∙ ap (λ t. t ++ lines (plan_of site merged.users merged.groups index (file ∷ []))) inv.planned
-          ∙ append_assoc start (lines (plan_of site merged.users merged.groups index inv.done)) (lines (plan_of site merged.users merged.groups index (file ∷ [])))
-          ∙ ap (λ t. start ++ t) (sym (lines_both site merged.users merged.groups index inv.done (file ∷ [])));
+          ∙ ap (λ t. t ++ lines (plan_of site merged.mappings index (file ∷ []))) inv.planned
+          ∙ append_assoc start (lines (plan_of site merged.mappings index inv.done)) (lines (plan_of site merged.mappings index (file ∷ [])))
+          ∙ ap (λ t. start ++ t) (sym (lines_both site merged.mappings index inv.done (file ∷ [])));
     }
 
 pub returns-in_err-plan_file-clause-changed : goal.returns-in_err-plan_file-clause-changed
 returns-in_err-plan_file-clause-changed c = λ changed.
     let inv = c.loop-file.invariant in
     let file = c.in-Some.file in
-    let host = c.args.host.now in
+    let host = c.args.whose.now.host.now in
     let p = err_from_is_err_and c.from_residual.result c.from_residual.ensures.1 in
     let found = c.in_err-plan_file.ensures.changed (ap (λ s. Err s) (sym p.2) ∙ sym p.1 ∙ changed) in
     let whole = inv.so_far ∙ ap (λ ws. inv.done ++ ws) c.in-Some.ensures.next in

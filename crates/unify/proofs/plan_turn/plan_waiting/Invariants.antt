@@ -16,10 +16,10 @@ invariant-loop-file l = record {
   stands : (text : List ℕ) → standing.StandsFor l.initial.turn.reader text → standing.StandsFor l.turn.reader text;
   done : List Entry;
   so_far : l.initial.turn.reader.waiting ≡ done ++ l.turn.reader.waiting;
-  owned : All (λ f. owner_fault l.host [] f ≡ None) done;
-  counted : (files : List Entry) → l.initial.turn.rows ≡ row_files l.host files → l.turn.rows ≡ row_files l.host (files ++ done);
-  owners : AreKnown l.host l.site l.merged l.index l.turn.known.items;
-  planned : l.plan.items ≡ l.initial.plan.items ++ lines (plan_of l.site l.merged.users l.merged.groups l.index done);
+  owned : All (λ f. owner_fault l.whose.host.now [] f ≡ None) done;
+  counted : (files : List Entry) → l.initial.turn.rows ≡ row_files l.whose.host.now files → l.turn.rows ≡ row_files l.whose.host.now (files ++ done);
+  owners : AreKnown l.whose.host.now l.whose.site.now l.whose.merged.now l.whose.index l.turn.known.items;
+  planned : l.plan.items ≡ l.initial.plan.items ++ lines (plan_of l.whose.site.now l.whose.merged.now.mappings l.whose.index done);
 }
 
 abbrev pub decreases-loop-file : goal.decreases-loop-file

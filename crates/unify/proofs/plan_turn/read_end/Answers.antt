@@ -20,41 +20,41 @@ returns-in_err-begin_plan c =
       stands = λ text planned turns. (
         [],
         c.in_err-begin_plan.ensures.plan ∙ sym (append-nil c.args.plan.now.items),
-        rw p.1 (unfinished_still c.args.host.now c.args.site.now c.args.merged.now c.args.index c.args.turn.now text [] text planned (append-nil text) turns),
+        rw p.1 (unfinished_still c.args.whose.now.host.now c.args.whose.now.site.now c.args.whose.now.merged.now c.args.whose.now.index c.args.turn.now text [] text planned (append-nil text) turns),
       );
     }
 
 pub returns-in_err-finish : goal.returns-in_err-finish
 returns-in_err-finish c =
     let p = err_from_is_err_and c.from_residual-in_err-finish.result c.from_residual-in_err-finish.ensures.1 in
-    let host = c.args.host.now in
-    let site = c.args.site.now in
-    let merged = c.args.merged.now in
+    let host = c.args.whose.now.host.now in
+    let site = c.args.whose.now.site.now in
+    let merged = c.args.whose.now.merged.now in
     let old = c.args.turn.now in
     let turn = c.begin_plan.new.turn in
     let heading = head_left host old.is_begun in
     record {
       told = λ text planned were turns stood.
-          let begun = begun_turn host site merged c.args.index old turn text planned turns c.in_ok-begin_plan.ensures.turn in
+          let begun = begun_turn host site merged c.args.whose.now.index old turn text planned turns c.in_ok-begin_plan.ensures.turn in
           let told = at_none _ begun.sound (c.in_err-finish.ensures.told text begun.reading) in
           rw (p.1, p.2) (λ changed files is same. not_both (second_files host text) files (InventoryChanged host.name) (second_changed host turn.reader.most text c.in_err-finish.field-0.0 begun.most told changed) is);
       stands = λ text planned turns.
-          let begun = begun_turn host site merged c.args.index old turn text planned turns c.in_ok-begin_plan.ensures.turn in (
+          let begun = begun_turn host site merged c.args.whose.now.index old turn text planned turns c.in_ok-begin_plan.ensures.turn in (
             heading,
             c.in_ok-begin_plan.ensures.plan ∙ head_more host old.is_begun c.args.plan.now.items,
-            rw p.1 (unfinished_turn host site merged c.args.index turn text [] text (planned ++ heading) (append-nil text) begun),
+            rw p.1 (unfinished_turn host site merged c.args.whose.now.index turn text [] text (planned ++ heading) (append-nil text) begun),
           );
     }
 
 -- what the reader took with the end
-more : (c : In_ok-finish) (text planned : List ℕ) → TurnsFor c.args.host.now c.args.site.now c.args.merged.now c.args.index c.args.turn.now text planned
-    → HasMore c.args.host.now c.args.site.now c.args.merged.now c.args.index c.begin_plan.new.turn c.finish.new.self text text (planned ++ head_left c.args.host.now c.args.turn.now.is_begun)
-more c text planned turns = more_after c.args.host.now c.args.site.now c.args.merged.now c.args.index c.args.turn.now c.begin_plan.new.turn c.finish.new.self text text planned turns c.in_ok-begin_plan.ensures.turn c.in_ok-finish.ensures.most c.in_ok-finish.ensures.grow (c.in_ok-finish.ensures.stands text)
+more : (c : In_ok-finish) (text planned : List ℕ) → TurnsFor c.args.whose.now.host.now c.args.whose.now.site.now c.args.whose.now.merged.now c.args.whose.now.index c.args.turn.now text planned
+    → HasMore c.args.whose.now.host.now c.args.whose.now.site.now c.args.whose.now.merged.now c.args.whose.now.index c.begin_plan.new.turn c.finish.new.self text text (planned ++ head_left c.args.whose.now.host.now c.args.turn.now.is_begun)
+more c text planned turns = more_after c.args.whose.now.host.now c.args.whose.now.site.now c.args.whose.now.merged.now c.args.whose.now.index c.args.turn.now c.begin_plan.new.turn c.finish.new.self text text planned turns c.in_ok-begin_plan.ensures.turn c.in_ok-finish.ensures.most c.in_ok-finish.ensures.grow (c.in_ok-finish.ensures.stands text)
 
 pub plan_waiting-requires-clause-room : goal.plan_waiting-requires-clause-room
 plan_waiting-requires-clause-room c =
     let goes = c.requires.goes in
-    room_more c.args.host.now c.args.site.now c.args.merged.now c.args.index c.begin_plan.new.turn c.finish.new.self goes.0 goes.0 _ (more (goal.at.plan_waiting-requires-clause-room c).In_ok-finish goes.0 goes.1 goes.2)
+    room_more c.args.whose.now.host.now c.args.whose.now.site.now c.args.whose.now.merged.now c.args.whose.now.index c.begin_plan.new.turn c.finish.new.self goes.0 goes.0 _ (more (goal.at.plan_waiting-requires-clause-room c).In_ok-finish goes.0 goes.1 goes.2)
 
 pub plan_waiting-requires-clause-owners : goal.plan_waiting-requires-clause-owners
 plan_waiting-requires-clause-owners c = let goes = c.requires.goes in (more (goal.at.plan_waiting-requires-clause-owners c).In_ok-finish goes.0 goes.1 goes.2).turns.known
@@ -63,16 +63,16 @@ pub returns-in_err-plan_waiting : goal.returns-in_err-plan_waiting
 returns-in_err-plan_waiting c =
     let at = (goal.at.returns-in_err-plan_waiting c).In_ok-finish in
     let p = err_from_is_err_and c.from_residual-in_err-plan_waiting.result c.from_residual-in_err-plan_waiting.ensures.1 in
-    let host = c.args.host.now in
-    let site = c.args.site.now in
-    let merged = c.args.merged.now in
-    let index = c.args.index in
+    let host = c.args.whose.now.host.now in
+    let site = c.args.whose.now.site.now in
+    let merged = c.args.whose.now.merged.now in
+    let index = c.args.whose.now.index in
     let turn = c.begin_plan.new.turn in
     let after = c.finish.new.self in
     let begun = c.args.turn.now.is_begun in
     let heading = head_left host begun in
     let done = c.in_err-plan_waiting.ensures.planned in
-    let added = lines (plan_of site merged.users merged.groups index done.0) in
+    let added = lines (plan_of site merged.mappings index done.0) in
     record {
       told = λ text planned were turns stood.
           let took = more at text planned turns in
@@ -92,24 +92,24 @@ returns-in_err-plan_waiting c =
     }
 
 -- the files of the whole text
-whole : (c : In_ok-plan_waiting) (text planned : List ℕ) → HasMore c.args.host.now c.args.site.now c.args.merged.now c.args.index c.begin_plan.new.turn c.finish.new.self text text planned → second_files c.args.host.now text ≡ Ok c.finish.new.self.files
+whole : (c : In_ok-plan_waiting) (text planned : List ℕ) → HasMore c.args.whose.now.host.now c.args.whose.now.site.now c.args.whose.now.merged.now c.args.whose.now.index c.begin_plan.new.turn c.finish.new.self text text planned → second_files c.args.whose.now.host.now text ≡ Ok c.finish.new.self.files
 whole c text planned took =
-    second_owned c.args.host.now c.begin_plan.new.turn.reader.most text c.finish.new.self.files took.turns.most (at_none _ took.turns.sound (c.in_ok-finish.ensures.told text took.turns.reading))
-    (owned_more c.args.host.now c.args.site.now c.args.merged.now c.args.index c.begin_plan.new.turn c.finish.new.self text text planned took c.in_ok-plan_waiting.ensures.owned)
+    second_owned c.args.whose.now.host.now c.begin_plan.new.turn.reader.most text c.finish.new.self.files took.turns.most (at_none _ took.turns.sound (c.in_ok-finish.ensures.told text took.turns.reading))
+    (owned_more c.args.whose.now.host.now c.args.whose.now.site.now c.args.whose.now.merged.now c.args.whose.now.index c.begin_plan.new.turn c.finish.new.self text text planned took c.in_ok-plan_waiting.ensures.owned)
 
 pub returns-then-are_same : goal.returns-then-are_same
 returns-then-are_same c =
     let at = goal.at.returns-then-are_same c in
-    let host = c.args.host.now in
-    let site = c.args.site.now in
-    let merged = c.args.merged.now in
-    let index = c.args.index in
+    let host = c.args.whose.now.host.now in
+    let site = c.args.whose.now.site.now in
+    let merged = c.args.whose.now.merged.now in
+    let index = c.args.whose.now.index in
     let turn = c.begin_plan.new.turn in
     let after = c.finish.new.self in
     let begun = c.args.turn.now.is_begun in
     let heading = head_left host begun in
     let done = c.in_ok-plan_waiting.ensures.planned in
-    let added = lines (plan_of site merged.users merged.groups index done.0) in
+    let added = lines (plan_of site merged.mappings index done.0) in
     record {
       told = λ text planned were turns stood.
           let took = more at.In_ok-finish text planned turns in
@@ -130,16 +130,16 @@ returns-then-are_same c =
 pub returns-else-are_same : goal.returns-else-are_same
 returns-else-are_same c =
     let at = goal.at.returns-else-are_same c in
-    let host = c.args.host.now in
-    let site = c.args.site.now in
-    let merged = c.args.merged.now in
-    let index = c.args.index in
+    let host = c.args.whose.now.host.now in
+    let site = c.args.whose.now.site.now in
+    let merged = c.args.whose.now.merged.now in
+    let index = c.args.whose.now.index in
     let turn = c.begin_plan.new.turn in
     let after = c.finish.new.self in
     let begun = c.args.turn.now.is_begun in
     let heading = head_left host begun in
     let done = c.in_ok-plan_waiting.ensures.planned in
-    let added = lines (plan_of site merged.users merged.groups index done.0) in
+    let added = lines (plan_of site merged.mappings index done.0) in
     record {
       told = λ text planned were turns stood changed files is same.
           let took = more at.In_ok-finish text planned turns in

@@ -24,10 +24,10 @@ finish_plan-requires-clause-goes c =
     let is = turn_is (goal.at.finish_plan-requires-clause-goes c).After-index-host in
     λ none. (taken.text, taken.planned, is.inv.turns c.index-host.result.now is.here none)
 
-pub finish_plan-requires-clause-known : goal.finish_plan-requires-clause-known
-finish_plan-requires-clause-known c =
-    let is = turn_is (goal.at.finish_plan-requires-clause-known c).After-index-host in
-    is.inv.behind.whole.known c.self.inside.ended c.index-host.result.now is.here
+pub finish_plan-requires-clause-of_site : goal.finish_plan-requires-clause-of_site
+finish_plan-requires-clause-of_site c =
+    let is = turn_is (goal.at.finish_plan-requires-clause-of_site c).After-index-host in
+    record { known = is.inv.behind.whole.known c.self.inside.ended c.index-host.result.now is.here; for_site = is.inv.behind.for_site }
 
 pub returns-in-Err : goal.returns-in-Err
 returns-in-Err c =
@@ -40,7 +40,7 @@ returns-in-Err c =
     record {
       told = rw (← c.self.view_is) (λ other were next. for_next is (λ h. WereFirst (seen p) h were → IfSome (told c.stopped.result) (λ f. (f ≡ InventoryChanged h.name) × Differ h were))
           (λ turns first. changed_told host c.in-Err.stop c.stopped.result (Differ host were) c.stopped.ensures
-          (c.in-Err.ensures.told p.taken.text p.taken.planned were turns (first_rows is c.index.result.now were c.index.ensures first))) other next);
+          (c.in-Err.ensures.told p.taken.text p.taken.planned were turns (first_rows is c.index-first.result.now were c.index-first.ensures first))) other next);
       planned = rw (← c.self.view_is) (for_next is (Appended (length p.taken.ended))
           (λ turns. subst (λ k. Appended k host) (sym c.self.invariant.ended_are) (c.in-Err.ensures.stands p.taken.text p.taken.planned turns)));
       ended = tt;
@@ -95,7 +95,7 @@ returns c =
     × ((files : List Entry) × (second_files h p.taken.text ≡ Ok files) × (p.taken.planned ++ more ≡ whole_plan h p.joined p.merged k files)) in
     record {
       told = rw (← c.self.view_is) (λ other were next. for_next is (λ h. WereFirst (seen p) h were → (files : List Entry) × (second_files h p.taken.text ≡ Ok files) × HaveSameCounts h were files)
-          (λ turns first. c.in_default.ensures.told p.taken.text p.taken.planned were turns (first_rows is c.index.result.now were c.index.ensures first)) other next);
+          (λ turns first. c.in_default.ensures.told p.taken.text p.taken.planned were turns (first_rows is c.index-first.result.now were c.index-first.ensures first)) other next);
       planned = rw (← c.self.view_is) (for_next is (Appended (length p.taken.ended))
           (λ turns. subst (λ k. Appended k host) (sym c.self.invariant.ended_are)
           (let so_far = c.in_default.ensures.stands p.taken.text p.taken.planned turns in

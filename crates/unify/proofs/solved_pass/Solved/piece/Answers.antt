@@ -19,10 +19,10 @@ feed_plan-requires-clause-goes c =
     let is = turn_is (goal.at.feed_plan-requires-clause-goes c).After-index-host in
     λ none. (taken.text, taken.planned, is.inv.turns c.index-host.result.now is.here none)
 
-pub feed_plan-requires-clause-known : goal.feed_plan-requires-clause-known
-feed_plan-requires-clause-known c =
-    let is = turn_is (goal.at.feed_plan-requires-clause-known c).After-index-host in
-    is.inv.behind.whole.known c.self.inside.ended c.index-host.result.now is.here
+pub feed_plan-requires-clause-of_site : goal.feed_plan-requires-clause-of_site
+feed_plan-requires-clause-of_site c =
+    let is = turn_is (goal.at.feed_plan-requires-clause-of_site c).After-index-host in
+    record { known = is.inv.behind.whole.known c.self.inside.ended c.index-host.result.now is.here; for_site = is.inv.behind.for_site }
 
 pub returns-in-Err : goal.returns-in-Err
 returns-in-Err c =

@@ -1,0 +1,71 @@
+-- Which numbers a survey finds, in words of the texts.
+-- Sources: mtree(5), passwd(5) and group(5); which numbers stay is this project's own rule.
+use Rattle.std.specs.Prelude.{◌≡◌, ◌⊎◌, ◌↔◌, ℕ, true, false, List, Some, Ok, Any, slice_get}
+use Rattle.std.specs.List.{Contains}
+use Rattle.accounts.specs.Rows.{Passwd, Group}
+use Rattle.accounts.specs.Tables.{passwd_table, group_table}
+use Rattle.mtree_inv.specs.Inventory.{inventory}
+use Rattle.mtree_inv.specs.declared.entry.Entry.{Entry}
+use Rattle.hosts_join.specs.declared.host.Host.{Host}
+use Rattle.hosts_join.specs.declared.texts.HostText.{HostText}
+use Rattle.keep_text.specs.KeepTexts.{keep_of}
+use Rattle.keep_text.specs.declared.keep_text.KeepText.{KeepText}
+use Rattle.kept_accounts.specs.Reserving.{UnownedNumbers, no_numbers}
+use Rattle.kept_accounts.specs.declared.reserving.UnownedNumber.{UnownedNumber}
+use Rattle.unify.specs.FaultLaws.{LiesInOne}
+use Rattle.unify.specs.Hosts.{most_files}
+use Rattle.unify.specs.Others.{keep_read}
+use Rattle.unify.specs.Survey.{found_on, surveyed_hosts}
+
+-- some file of the inventory of the host has the uid, no user of its passwd has, and no range that
+-- is listed for users
+pub record IsUnownedUid (keep : KeepText) (text : HostText) (mtree : List ℕ)
+    (found : UnownedNumber) : Type 0 where
+  pub on_host : found.host ≡ text.name
+  pub files : List Entry
+  pub read : inventory most_files mtree ≡ Ok files
+  pub of_a_file : Any (λ file. file.uid ≡ found.number) files
+  pub users : List Passwd
+  pub told : passwd_table text.passwd ≡ Ok users
+  pub of_no_user : Any (λ row. row.uid ≡ found.number) users → ⊥
+  pub not_listed : LiesInOne keep.users.ranges found.number → ⊥
+
+-- and the same of a gid
+pub record IsUnownedGid (keep : KeepText) (text : HostText) (mtree : List ℕ)
+    (found : UnownedNumber) : Type 0 where
+  pub on_host : found.host ≡ text.name
+  pub files : List Entry
+  pub read : inventory most_files mtree ≡ Ok files
+  pub of_a_file : Any (λ file. file.gid ≡ found.number) files
+  pub groups : List Group
+  pub told : group_table text.group ≡ Ok groups
+  pub of_no_group : Any (λ row. row.gid ≡ found.number) groups → ⊥
+  pub not_listed : LiesInOne keep.groups.ranges found.number → ⊥
+
+-- so it is on some host, with its inventory, which stands at the same index
+abbrev pub IsOnSome : (HostText → List ℕ → Type 0) → List HostText → List (List ℕ) → Type 0
+IsOnSome Is texts mtrees =
+    (h : ℕ) × (text : HostText) × (mtree : List ℕ)
+    × (slice_get texts h ≡ Some text) × (slice_get mtrees h ≡ Some mtree) × Is text mtree
+
+-- exactly these numbers are found
+pub record AreUnowned (keep : KeepText) (texts : List HostText) (mtrees : List (List ℕ))
+    (found : UnownedNumbers) : Type 0 where
+  pub users : (u : UnownedNumber) → Contains found.users u
+      ↔ IsOnSome (λ text mtree. IsUnownedUid keep text mtree u) texts mtrees
+  pub groups : (u : UnownedNumber) → Contains found.groups u
+      ↔ IsOnSome (λ text mtree. IsUnownedGid keep text mtree u) texts mtrees
+
+-- So it is where the keep text says `unowned` of either kind; where it does not, none is found.
+pub record FindsUnowned (keep : KeepText) (texts : List HostText) (mtrees : List (List ℕ))
+    (found : UnownedNumbers) : Type 0 where
+  pub said : (keep.users.unowned ≡ true) ⊎ (keep.groups.unowned ≡ true)
+      → AreUnowned keep texts mtrees found
+  pub not_said : keep.users.unowned ≡ false → keep.groups.unowned ≡ false → found ≡ no_numbers
+
+abbrev pub SurveysFindUnowned : Type 0
+SurveysFindUnowned =
+    (texts : List HostText) (keep_text : List ℕ) (keep : KeepText) (hosts : List Host)
+    (mtrees : List (List ℕ)) (found : UnownedNumbers) → keep_of keep_text ≡ Ok keep
+    → surveyed_hosts texts (keep_read keep_text) ≡ Ok hosts → found_on hosts mtrees ≡ Ok found
+    → FindsUnowned keep texts mtrees found
