@@ -11,7 +11,8 @@ use Rattle.hosts_join.specs.Rules.{account}
 use Rattle.hosts_join.specs.Site.{Joined}
 use Rattle.hosts_join.specs.declared.host.Host.{Host}
 use Rattle.mtree_inv.specs.declared.entry.Entry.{Entry}
-use Rattle.ownership.specs.Mappings.{IsAdmissible, Mappings}
+use Rattle.ownership.specs.Mappings.{IsAdmissible}
+use Rattle.ownership.specs.declared.mapping.Mappings.{Mappings}
 use Rattle.certcheck.specs.Reading.{certificate_in}
 use Rattle.certcheck.proofs.Spelled.{spelled_is_read}
 use Rattle.reown_plan.specs.Owners.{owner_of}
@@ -59,15 +60,15 @@ one_number_each a m pairs ok say = record {
 
 -- the text at an index is that of the plan of the host there
 text_at : (hosts : List Host) (site : Joined) (m : Mappings) (all : List (Host × List Entry)) (start k : ℕ) (host : Host) (files : List Entry) → slice_get all k ≡ Some (host, files)
-    → slice_get (plan_texts_from hosts site m start (map (λ h. h.1) all)) k ≡ Some (plan.spelling (host_plan hosts site m.users m.groups (start + k) files))
+    → slice_get (plan_texts_from hosts site m start (map (λ h. h.1) all)) k ≡ Some (plan.spelling (host_plan hosts site m (start + k) files))
 text_at hosts site m [] start k host files here = absurd (cc)
 text_at hosts site m (h ∷ hs) start zero host files here =
     let same : h ≡ (host, files) = same_Some h (host, files) here in
     let index : start ≡ start + 0 = omega arith in
-    ap (λ (x : Host × List Entry). Some (plan.spelling (host_plan hosts site m.users m.groups start x.1))) same ∙ ap (λ i. Some (plan.spelling (host_plan hosts site m.users m.groups i files))) index
+    ap (λ (x : Host × List Entry). Some (plan.spelling (host_plan hosts site m start x.1))) same ∙ ap (λ i. Some (plan.spelling (host_plan hosts site m i files))) index
 text_at hosts site m (h ∷ hs) start (suc k) host files here =
     let index : (start + 1) + k ≡ start + suc k = omega arith in
-    text_at hosts site m hs (start + 1) k host files here ∙ ap (λ i. Some (plan.spelling (host_plan hosts site m.users m.groups i files))) index
+    text_at hosts site m hs (start + 1) k host files here ∙ ap (λ i. Some (plan.spelling (host_plan hosts site m i files))) index
 
 -- the name at an index is that of the host there
 pub name_is : (site : WholeSite) (h : ℕ) (host : Host) (files : List Entry) → slice_get site.hosts h ≡ Some (host, files) → name_at (hosts_in site) h ≡ host.name
@@ -80,19 +81,19 @@ plan_keeps : (site : WholeSite) (outcome : Outcome) → IsWhole site → (o : Is
 plan_keeps site outcome whole o printed are_pairs installed h host files here =
     let m = o.mappings in
     let is = whole.each_host h host files here in
-    let records = plan_of site.joined m.users m.groups h files in
+    let records = plan_of site.joined m h files in
     let made : PlanData = record { host = host.name; records = records } in
     let from_zero : 0 + h ≡ h = omega arith in
     let name = name_is site h host files here in
-    let same : host_plan (hosts_in site) site.joined m.users m.groups h files ≡ made = ap (λ (n : List ℕ). record { host = n; records = records }) name in
+    let same : host_plan (hosts_in site) site.joined m h files ≡ made = ap (λ (n : List ℕ). record { host = n; records = records }) name in
     let ok = o.answered.least.admissible in
-    let lawful = plan-lawful (hosts_in site) site.joined m.users m.groups h files (subst plan.IsHostName (sym name) is.named) (is_mapping site.joined.users m.users whole.lawful.users ok.users).numbers (is_mapping site.joined.groups m.groups whole.lawful.groups ok.groups).numbers is.files_are in
-    let old = plan_is_old site.joined m.users m.groups h files is.files_are.distinct in
+    let lawful = plan-lawful (hosts_in site) site.joined m h files (subst plan.IsHostName (sym name) is.named) (is_mapping site.joined.users m.users whole.lawful.users ok.users).numbers (is_mapping site.joined.groups m.groups whole.lawful.groups ok.groups).numbers is.files_are in
+    let old = plan_is_old site.joined m h files is.files_are.distinct in
     let at_first : Image = record { owner = owner_in files; mark = false } in
     let start = fresh_safe (owner_in files) records (cells_at (fresh at_first)) (fresh_history (owner_in files) at_first (λ path. refl) refl) old in
     record {
       plan = plan.spelling made;
-      printed = ap (λ texts. slice_get texts h) o.printed.plans ∙ text_at (hosts_in site) site.joined m site.hosts 0 h host files here ∙ ap (λ i. Some (plan.spelling (host_plan (hosts_in site) site.joined m.users m.groups i files))) from_zero ∙ ap (λ p. Some (plan.spelling p)) same;
+      printed = ap (λ texts. slice_get texts h) o.printed.plans ∙ text_at (hosts_in site) site.joined m site.hosts 0 h host files here ∙ ap (λ i. Some (plan.spelling (host_plan (hosts_in site) site.joined m i files))) from_zero ∙ ap (λ p. Some (plan.spelling p)) same;
       records = records;
       read = (subst plan.IsLawful same lawful, refl);
       begins = old;

@@ -26,7 +26,7 @@ use Rattle.unify_laws.specs.Laws.{CostsAgree}
 
 -- ---- a field of a file
 
-same_number : (n v : ℕ) → (if n == v then 0 else 1) ≡ cond {A = ℕ} (not (v == n)) 1 0
+pub same_number : (n v : ℕ) → (if n == v then 0 else 1) ≡ cond {A = ℕ} (not (v == n)) 1 0
 same_number n v = elim (cases_eq n v) [
   | inl e ↦
       let left : (if n == v then 0 else 1) ≡ 0 = ap (λ (b : Bool). cond {A = ℕ} b 0 1) (eq-eqb n v e) in

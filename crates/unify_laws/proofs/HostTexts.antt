@@ -16,7 +16,7 @@ use Rattle.hosts_join.specs.declared.host.Host.{Host}
 use Rattle.hosts_join.specs.declared.texts.HostText.{HostText}
 use Rattle.kept_accounts.specs.Reserving.{reserved_groups, reserved_users}
 use Rattle.mergedfiles.specs.FullTables.{AreNumberedRows, IsFullGroupFile, IsFullPasswd, IsNumberedHost, IsRenumbered}
-use Rattle.ownership.specs.Mappings.{Mappings}
+use Rattle.ownership.specs.declared.mapping.Mappings.{Mappings}
 use Rattle.mergedfiles.proofs.HostUsers.{full_passwd_back}
 use Rattle.mergedfiles.proofs.HostGroups.{full_group_back}
 use Rattle.reown_plan.specs.declared.plan.Owner.{Owner}

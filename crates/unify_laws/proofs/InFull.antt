@@ -15,7 +15,8 @@ use Rattle.hosts_join.specs.Lawful.{AreLawfulAccounts}
 use Rattle.hosts_join.specs.Rules.{is_name, is_reserved}
 use Rattle.hosts_join.specs.Site.{Joined}
 use Rattle.hosts_join.specs.declared.host.Host.{Host}
-use Rattle.ownership.specs.Mappings.{IsAdmissible, Mappings, number_under}
+use Rattle.ownership.specs.Mappings.{IsAdmissible, number_under}
+use Rattle.ownership.specs.declared.mapping.Mappings.{Mappings}
 use Rattle.mergedfiles.specs.FullTables.{AreNumberedRows, IsFullGroupFile, IsFullPasswd, IsFullUser, IsNumberedHost, IsRenumbered}
 use Rattle.mergedfiles.specs.HostFiles.{host_users, host_groups}
 use Rattle.mergedfiles.specs.HostReadBack.{IsHostGroup, IsHostPasswd, IsRenumberedGroup, IsRenumberedUser, KeepsPrimary}
@@ -121,7 +122,7 @@ module _ (site : Joined) (m : Mappings) (h : ℕ) (host : Host) (lawful : IsLawf
         shell = refl;
       }
 
-  pub own_passwd_in_full : IsNumberedHost site m host host → WasRead host → (text : List ℕ) → passwd_table text ≡ Ok host.users → IsHostPasswd host site m text (host_users host site m.users m.groups text)
+  pub own_passwd_in_full : IsNumberedHost site m host host → WasRead host → (text : List ℕ) → passwd_table text ≡ Ok host.users → IsHostPasswd host site m text (host_users host site m text)
   own_passwd_in_full is was text read =
       let of_site = users_of_site site h host lawful known in
       let all = all-says (λ (row : Passwd). IsOfSite user_name site.users row × HasGroup row) (λ row. IsRenumberedUser host site m row (new_user site m host row)) user_is host.users

@@ -17,7 +17,8 @@ use Rattle.hosts_join.specs.Rules.{account}
 use Rattle.hosts_join.specs.declared.host.Host.{Host}
 use Rattle.hosts_join.proofs.Grouping.{bytes_same}
 use Rattle.hosts_join.proofs.Pairing.{place-holds}
-use Rattle.ownership.specs.Mappings.{IsAdmissible, Mappings, number_at}
+use Rattle.ownership.specs.Mappings.{IsAdmissible, number_at}
+use Rattle.ownership.specs.declared.mapping.Mappings.{Mappings}
 use Rattle.mergedfiles.specs.InPart.{IsMergedPasswdInPart, IsMergedUserInPart, IsNumberedInPart, WasReadInPart}
 use Rattle.mergedfiles.specs.ReadBack.{WasRead, IsNumbered, HasNumber, IsMergedGroup, IsMergedPasswd, IsMergedGroupFile}
 use Rattle.mergedfiles.proofs.Places.{name-place}

@@ -19,7 +19,8 @@ use Rattle.hosts_join.proofs.Grouping.{bytes_same, bytes_refl}
 use Rattle.hosts_join.proofs.Pairing.{place-holds}
 use Rattle.mtree_inv.specs.Files.{HaveDistinctFiles}
 use Rattle.mtree_inv.specs.declared.entry.Entry.{Entry}
-use Rattle.ownership.specs.Mappings.{AreAdmissible, IsAdmissible, Mappings, number_under}
+use Rattle.ownership.specs.Mappings.{AreAdmissible, IsAdmissible, number_under}
+use Rattle.ownership.specs.declared.mapping.Mappings.{Mappings}
 use Rattle.assignment.proofs.Filled.{number_is_id}
 use Rattle.certcheck.proofs.Spots.{find_here}
 use Rattle.reown_plan.specs.declared.plan.Owner.{Owner}
@@ -88,9 +89,9 @@ inventory_has files distinct = λ k d l.
     ap (option_map owner_of) found
 
 -- the files of a plan's records are there at their old owners
-pub plan_is_old : (site : Joined) (users groups : List ℕ) (h : ℕ) (files : List Entry) → HaveDistinctFiles files → AreOld (owner_in files) (plan_of site users groups h files)
-plan_is_old site users groups h files distinct =
-    let to = target.target site users groups h in
+pub plan_is_old : (site : Joined) (m : Mappings) (h : ℕ) (files : List Entry) → HaveDistinctFiles files → AreOld (owner_in files) (plan_of site m h files)
+plan_is_old site m h files distinct =
+    let to = target.target site m h in
     let changed = λ (f : Entry). not (owner_eq (owner_of f) (to f)) in
     All-map (λ (r : PlanRecord). owner_in files r.path ≡ Some r.before) (record_to to) (filter changed files) (All-filter changed (λ (f : Entry). owner_in files f.path ≡ Some (owner_of f)) files (inventory_has files distinct))
 
@@ -108,14 +109,14 @@ at_target to files distinct = λ k d l.
 -- a file that has its owner after the plan keeps its names
 keeps_name : (site : Joined) (m : Mappings) (printed : MapText) → ArePairsOf site m printed
     → (h : ℕ) (host : Host) (files : List Entry) → IsReadHost site h host files
-    → (owner : List ℕ → Option Owner) (k : ℕ) (d : Entry) → k < length files → owner (get_or files k d).path ≡ owner_after_plan (owner_in files) (plan_of site m.users m.groups h files) (get_or files k d).path
+    → (owner : List ℕ → Option Owner) (k : ℕ) (d : Entry) → k < length files → owner (get_or files k d).path ≡ owner_after_plan (owner_in files) (plan_of site m h files) (get_or files k d).path
     → KeepsItsNames printed host owner (get_or files k d)
 keeps_name site m printed are h host files is owner k d l after =
     let f = get_or files k d in
     let allowed = is.allowed k d l in
     record {
-      now = target.target site m.users m.groups h f;
-      here = after ∙ at_target (target.target site m.users m.groups h) files is.files_are.distinct k d l;
+      now = target.target site m h f;
+      here = after ∙ at_target (target.target site m h) files is.files_are.distinct k d l;
       user = new_number site.users m.users printed.users are.users are.admissible.users are.leaves.users h f.uid (user_at host.users f.uid) (spares_user host f.uid) (is.known.users f.uid) (is.spares.users f.uid) allowed.user;
       group = new_number site.groups m.groups printed.groups are.groups are.admissible.groups are.leaves.groups h f.gid (group_at host.groups f.gid) (spares_group host f.gid) (is.known.groups f.gid) (is.spares.groups f.gid) allowed.group;
     }
@@ -123,13 +124,13 @@ keeps_name site m printed are h host files is owner k d l after =
 -- a host whose files have their owners after the plan keeps the names of its files
 pub keeps_names : (site : Joined) (m : Mappings) (printed : MapText) → ArePairsOf site m printed
     → (h : ℕ) (host : Host) (files : List Entry) → IsReadHost site h host files
-    → (owner : List ℕ → Option Owner) → ((path : List ℕ) → owner path ≡ owner_after_plan (owner_in files) (plan_of site m.users m.groups h files) path) → All (KeepsItsNames printed host owner) files
+    → (owner : List ℕ → Option Owner) → ((path : List ℕ) → owner path ≡ owner_after_plan (owner_in files) (plan_of site m h files) path) → All (KeepsItsNames printed host owner) files
 keeps_names site m printed are h host files is owner after = λ k d l. keeps_name site m printed are h host files is owner k d l (after (get_or files k d).path)
 
 -- where each path has its old or its new owner, each file is at its old one or keeps its names
 pub old_or_kept : (site : Joined) (m : Mappings) (printed : MapText) → ArePairsOf site m printed
     → (h : ℕ) (host : Host) (files : List Entry) → IsReadHost site h host files
-    → (image : Image) → ((path : List ℕ) → IsOldOrNew (owner_in files) (plan_of site m.users m.groups h files) image path) → All (λ f. (image.owner f.path ≡ Some (owner_of f)) ⊎ KeepsItsNames printed host image.owner f) files
+    → (image : Image) → ((path : List ℕ) → IsOldOrNew (owner_in files) (plan_of site m h files) image path) → All (λ f. (image.owner f.path ≡ Some (owner_of f)) ⊎ KeepsItsNames printed host image.owner f) files
 old_or_kept site m printed are h host files is image each = λ k d l.
     elim (each (get_or files k d).path) [
       | inl old ↦ inl (old ∙ inventory_has files is.files_are.distinct k d l)

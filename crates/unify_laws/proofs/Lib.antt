@@ -23,3 +23,5 @@ pub mod HostTexts
 pub mod RowBytes
 pub mod Tellable
 pub mod KeptNumbers
+pub mod RowCosts
+pub mod SiteTexts

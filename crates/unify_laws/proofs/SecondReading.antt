@@ -16,7 +16,8 @@ use Rattle.hosts_join.specs.declared.host.Host.{Host}
 use Rattle.hosts_join.proofs.Refusals.{count_by-of-map}
 use Rattle.ownership.specs.Costs.{AreLeast, ChangesFewestRows, changes, cost_of}
 use Rattle.ownership.specs.Files.{Added, File, has_there, is_place, owned_files, owns}
-use Rattle.ownership.specs.Mappings.{Mappings, number_at}
+use Rattle.ownership.specs.Mappings.{number_at}
+use Rattle.ownership.specs.declared.mapping.Mappings.{Mappings}
 use Rattle.ownership.specs.Sums.{sum_below}
 use Rattle.ownership.specs.Weights.{IsFilled, IsFresh, file_weight, free_weight, weight}
 use Rattle.ownership.specs.Potentials.{potential_at, value_at}
@@ -32,7 +33,7 @@ use Rattle.unify_texts.specs.declared.fault.Fault.{Fault}
 use Rattle.unify.specs.declared.merging.Merged.{Merged}
 use Rattle.unify.specs.Hosts.{files_of}
 use Rattle.unify.specs.Whole.{IsReadHost, IsWhole}
-use Rattle.unify.specs.Merging.{IsMerged, mappings_in}
+use Rattle.unify.specs.Merging.{IsMerged}
 use Rattle.unify.specs.Outcomes.{cost_in, group_files, hosts_in, user_files}
 use Rattle.unify.specs.Reading.{WholeSite, files_of_site, added_on, added_from}
 use Rattle.unify.specs.RowFiles.{RowFiles}
@@ -235,7 +236,7 @@ module _ (first : WholeSite) (whole : IsWhole first) (hosts : List (Host × List
 
   still_merged : (merged : Merged) → IsMerged first merged → IsMerged last merged
   still_merged merged is =
-      let m = mappings_in merged in
+      let m = merged.mappings in
       let c = is.certificate in
       let users = first.joined.users in
       let groups = first.joined.groups in
@@ -267,7 +268,7 @@ module _ (first : WholeSite) (whole : IsWhole first) (hosts : List (Host × List
         printed = record {
           no_plans = is.printed.no_plans;
           printed = record {
-            passwd = told.passwd ∙ ap (λ hs. merged_users hs first.joined m.users m.groups) same_hosts;
+            passwd = told.passwd ∙ ap (λ hs. merged_users hs first.joined m) same_hosts;
             group = told.group ∙ ap (λ hs. merged_groups hs first.joined m.groups) same_hosts;
             keeps = told.keeps;
             map_is = told.map_is;

@@ -8,7 +8,7 @@ use Rattle.std.proofs.lemmas.Option.{same_Some, slice_get-map}
 use Rattle.idtext.proofs.OkLemmas.{ok_same}
 use Rattle.mtree_inv.specs.declared.entry.Entry.{Entry}
 use Rattle.hosts_join.specs.declared.host.Host.{Host}
-use Rattle.ownership.specs.Mappings.{Mappings}
+use Rattle.ownership.specs.declared.mapping.Mappings.{Mappings}
 use Rattle.reown_plan.specs.Owners.{owner_of}
 use Rattle.reown_plan.specs.declared.mark.PlanMark.{PlanMark}
 use Rattle.reown_plan.specs.Target.{plan_of, host_plan}
@@ -42,7 +42,7 @@ use Rattle.unify_laws.proofs.Installed.{are_installed, named_as_before, old_or_n
 use Rattle.unify_laws.proofs.Keeping.{ArePairsOf, map_says_mappings, plan_is_old, keeps_names, old_or_kept}
 
 abbrev start_of : WholeSite → Mappings → ℕ → List Entry → RunnerData
-start_of site m h files = starting (host_plan (hosts_in site) site.joined m.users m.groups h files)
+start_of site m h files = starting (host_plan (hosts_in site) site.joined m h files)
 
 runner_at : (site : WholeSite) (m : Mappings) (hosts : List (Host × List Entry)) (start k : ℕ) (host : Host) (files : List Entry) → slice_get hosts k ≡ Some (host, files) → slice_get (runners_from site m start hosts) k ≡ Some (start_of site m (start + k) files)
 runner_at site m [] start k host files here = absurd (cc)
@@ -91,22 +91,22 @@ installed_by site outcome whole merged printed read = let say = says site outcom
 
 module _ (site : WholeSite) (outcome : Outcome) (whole : IsWhole site) (merged : IsOutcome site outcome) (printed : MapText) (read : map_of outcome.map ≡ Ok printed) (mappings : Mappings) (installed : AreInstalled site outcome mappings printed) where
   done_keeps : (h : ℕ) (host : Host) (files : List Entry) → slice_get site.hosts h ≡ Some (host, files)
-      → (plan : PlanMark) (tree : TreeData) → IsSafeInStep (owner_in files) (plan_of site.joined merged.mappings.users merged.mappings.groups h files) Done (cells_of plan tree)
+      → (plan : PlanMark) (tree : TreeData) → IsSafeInStep (owner_in files) (plan_of site.joined merged.mappings h files) Done (cells_of plan tree)
       → (image : Image) → IsImage (cells_of plan tree) image → All (IsNamedAsBefore printed installed.passwd.rows installed.group.rows host host image.owner) files
   done_keeps h host files here plan tree finished image is_image =
       let say = says site outcome whole merged printed read in
-      let after = (done_image (owner_in files) (plan_of site.joined merged.mappings.users merged.mappings.groups h files) (cells_of plan tree) finished image is_image).1 in
+      let after = (done_image (owner_in files) (plan_of site.joined merged.mappings h files) (cells_of plan tree) finished image is_image).1 in
       All-weaker (KeepsItsNames printed host image.owner) (IsNamedAsBefore printed installed.passwd.rows installed.group.rows host host image.owner) (named_as_before site outcome mappings printed installed host image.owner) files
       (keeps_names site.joined merged.mappings printed say h host files (whole.each_host h host files here) image.owner after)
 
   -- a host's runner and tree, as far as the events lead: safe and in step
   host_went : (keep : Keep) (events : List Event) (refused : ℕ → Option RunFault) (runners : List RunnerData) (trees : List Mem) → EachGoes known_mem (new_world keep site merged.mappings) events refused (record { runners = runners; trees = trees })
       → (h : ℕ) (host : Host) (files : List Entry) (tree : Mem) → slice_get site.hosts h ≡ Some (host, files) → slice_get trees h ≡ Some tree
-      → (runner : RunnerData) × (slice_get runners h ≡ Some runner) × IsSafeInStep (owner_in files) (plan_of site.joined merged.mappings.users merged.mappings.groups h files) runner.place (cells_of (start_of site merged.mappings h files).mark (known_mem tree))
+      → (runner : RunnerData) × (slice_get runners h ≡ Some runner) × IsSafeInStep (owner_in files) (plan_of site.joined merged.mappings h files) runner.place (cells_of (start_of site merged.mappings h files).mark (known_mem tree))
   host_went keep events refused runners trees goes h host files tree here at =
       let m = merged.mappings in
       let is = whole.each_host h host files here in
-      let records = plan_of site.joined m.users m.groups h files in
+      let records = plan_of site.joined m h files in
       let from_zero : 0 + h ≡ h = omega arith in
       let first : Hosted Mem = record { runner = start_of site m h files; tree = tree_of keep (host, files) } in
       let first_is : IsHostOf (new_world keep site m) h first = record {
@@ -116,7 +116,7 @@ module _ (site : WholeSite) (outcome : Outcome) (whole : IsWhole site) (merged :
       let went = goes h first first_is in
       let last = went.0 in
       let mark = (start_of site m h files).mark in
-      let start = fresh_safe (owner_in files) records (cells_of mark (known_mem (tree_of keep (host, files)))) (new_fresh files mark) (plan_is_old site.joined m.users m.groups h files is.files_are.distinct) in
+      let start = fresh_safe (owner_in files) records (cells_of mark (known_mem (tree_of keep (host, files)))) (new_fresh files mark) (plan_is_old site.joined m h files is.files_are.distinct) in
       let safe = went.2.safe (owner_in files) start in
       let same_tree : last.tree ≡ tree = same_Some last.tree tree (sym went.1.tree ∙ at) in
       (last.runner, went.1.runner, subst (λ t. IsSafeInStep (owner_in files) records last.runner.place (cells_of mark (known_mem t))) same_tree safe)
@@ -126,18 +126,18 @@ module _ (site : WholeSite) (outcome : Outcome) (whole : IsWhole site) (merged :
   runs_stay keep events refused runners trees goes h host files tree here at plan image is_image =
       let m = merged.mappings in
       let is = whole.each_host h host files here in
-      let records = plan_of site.joined m.users m.groups h files in
+      let records = plan_of site.joined m h files in
       let say = says site outcome whole merged printed read in
       let mark = (start_of site m h files).mark in
       let went = host_went keep events refused runners trees goes h host files tree here at in
       All-weaker (λ f. (image.owner f.path ≡ Some (owner_of f)) ⊎ KeepsItsNames printed host image.owner f) (IsOldOrNamed printed installed.passwd.rows installed.group.rows host host image.owner) (old_or_named site outcome mappings printed installed host image.owner) files
-      (old_or_kept site.joined m printed say h host files is (seen_by mark tree image) (old_or_new (owner_in files) records (seen_by mark tree image) (plan_is_old site.joined m.users m.groups h files is.files_are.distinct) (went.2.safe (seen_by mark tree image) (is_seen plan mark tree image is_image))))
+      (old_or_kept site.joined m printed say h host files is (seen_by mark tree image) (old_or_new (owner_in files) records (seen_by mark tree image) (plan_is_old site.joined m h files is.files_are.distinct) (went.2.safe (seen_by mark tree image) (is_seen plan mark tree image is_image))))
 
   pub runs_keep : (keep : Keep) (events : List Event) (refused : ℕ → Option RunFault) (runners : List RunnerData) (trees : List Mem) → EachGoes known_mem (new_world keep site merged.mappings) events refused (record { runners = runners; trees = trees })
       → DoneKeepsNames site printed installed.passwd.rows installed.group.rows (map (λ runner. is_done runner.place) runners) trees
   runs_keep keep events refused runners trees goes h host files tree here done at plan image is_image =
       let m = merged.mappings in
-      let records = plan_of site.joined m.users m.groups h files in
+      let records = plan_of site.joined m h files in
       let went = host_went keep events refused runners trees goes h host files tree here at in
       let told : Some (is_done went.0.place) ≡ Some true = sym (slice_get-map (λ (r : RunnerData). is_done r.place) runners h ∙ ap (option_map (λ (r : RunnerData). is_done r.place)) went.1) ∙ done in
       let at_done : went.0.place ≡ Done = is_at_done went.0.place (same_Some (is_done went.0.place) true told) in

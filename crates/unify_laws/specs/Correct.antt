@@ -62,7 +62,7 @@ DoneKeepsPrintedNames =
     → (h : ℕ) (host : Host) (files : List Entry) → slice_get site.hosts h ≡ Some (host, files)
     → (plan : PlanMark) (tree : TreeData)
     → IsSafeInStep (owner_in files)
-    (plan_of site.joined merged.mappings.users merged.mappings.groups h files) Done
+    (plan_of site.joined merged.mappings h files) Done
     (cells_of plan tree)
     → (image : Image) → IsImage (cells_of plan tree) image
     → (installed : AreInstalled site outcome merged.mappings printed)

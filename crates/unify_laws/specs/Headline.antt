@@ -10,7 +10,8 @@ use Rattle.hosts_join.specs.Kinds.{user_at, group_at}
 use Rattle.hosts_join.specs.Pairs.{number_of}
 use Rattle.hosts_join.specs.declared.host.Host.{Host}
 use Rattle.ownership.specs.Costs.{AreLeast}
-use Rattle.ownership.specs.Mappings.{IsAdmissible, Mappings}
+use Rattle.ownership.specs.Mappings.{IsAdmissible}
+use Rattle.ownership.specs.declared.mapping.Mappings.{Mappings}
 use Rattle.certcheck.specs.Certified.{AreCertified}
 use Rattle.certcheck.specs.Check.{mappings_of}
 use Rattle.certcheck.specs.Reading.{certificate_in}

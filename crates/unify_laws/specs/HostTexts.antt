@@ -10,7 +10,7 @@ use Rattle.hosts_join.specs.Site.{Joined}
 use Rattle.hosts_join.specs.declared.host.Host.{Host}
 use Rattle.hosts_join.specs.declared.texts.HostText.{HostText}
 use Rattle.mtree_inv.specs.declared.entry.Entry.{Entry}
-use Rattle.ownership.specs.Mappings.{Mappings}
+use Rattle.ownership.specs.declared.mapping.Mappings.{Mappings}
 use Rattle.mergedfiles.specs.FullTables.{IsFullPasswd, IsFullGroupFile}
 use Rattle.mergedfiles.specs.HostFiles.{host_users, host_groups}
 use Rattle.mergedfiles.specs.HostReadBack.{IsHostPasswd, IsHostGroup, KeepsPrimary}
@@ -31,7 +31,7 @@ use Rattle.unify_laws.specs.Headline.{Headline, PlanKeepsNames}
 
 -- the host's own passwd, with only its numbers replaced
 abbrev pub own_passwd : Host → Joined → Mappings → HostText → List ℕ
-own_passwd host site m text = host_users host site m.users m.groups text.passwd
+own_passwd host site m text = host_users host site m text.passwd
 
 -- its own group
 abbrev pub own_group : Joined → Mappings → HostText → List ℕ

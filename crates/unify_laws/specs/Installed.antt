@@ -3,7 +3,7 @@
 use Rattle.std.specs.Prelude.{◌≡◌, ◌↔◌, ℕ, List, Some, All}
 use Rattle.hosts_join.specs.Kinds.{user_at, group_at}
 use Rattle.hosts_join.specs.Pairs.{number_of}
-use Rattle.ownership.specs.Mappings.{Mappings}
+use Rattle.ownership.specs.declared.mapping.Mappings.{Mappings}
 use Rattle.mergedfiles.specs.InPart.{IsMergedPasswdInPart}
 use Rattle.mergedfiles.specs.ReadBack.{IsMergedPasswd, IsMergedGroupFile, WasRead}
 use Rattle.unify_texts.specs.declared.map_text.MapText.{MapText}

@@ -14,7 +14,7 @@ use Rattle.keep_text.specs.KeepTexts.{keep_of}
 use Rattle.keep_text.specs.declared.keep_text.KeepText.{KeepText}
 use Rattle.kept_accounts.specs.Keeping.{is_kept_group, is_kept_user}
 use Rattle.kept_accounts.specs.Laws.{HasNumber}
-use Rattle.ownership.specs.Mappings.{Mappings}
+use Rattle.ownership.specs.declared.mapping.Mappings.{Mappings}
 use Rattle.unify_texts.specs.declared.map_text.MapText.{MapText}
 use Rattle.unify.specs.declared.host.Loaded.{Loaded}
 use Rattle.unify.specs.declared.rules.SiteRules.{SiteRules}

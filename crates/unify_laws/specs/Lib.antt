@@ -9,3 +9,5 @@ pub mod Texts
 pub mod Agreeing
 pub mod Reserved
 pub mod KeptNumbers
+pub mod RowCosts
+pub mod SiteTexts

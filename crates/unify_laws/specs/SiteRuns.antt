@@ -4,7 +4,7 @@ use Rattle.std.specs.Prelude.{◌≡◌, ℕ, ◌+◌, Bool, true, List, [], ◌
 use Rattle.accounts.specs.Rows.{Passwd, Group}
 use Rattle.mtree_inv.specs.declared.entry.Entry.{Entry}
 use Rattle.hosts_join.specs.declared.host.Host.{Host}
-use Rattle.ownership.specs.Mappings.{Mappings}
+use Rattle.ownership.specs.declared.mapping.Mappings.{Mappings}
 use Rattle.reown_plan.specs.declared.mark.PlanMark.{PlanMark}
 use Rattle.reown_plan.specs.Target.{host_plan}
 use Rattle.reown_runner.specs.declared.memory.Keep.{Keep}
@@ -21,7 +21,7 @@ use Rattle.unify_laws.specs.Headline.{IsNamedAsBefore, IsOldOrNamed}
 abbrev pub runners_from : WholeSite → Mappings → ℕ → List (Host × List Entry) → List RunnerData
 runners_from site m h [] = []
 runners_from site m h (here ∷ more) =
-    starting (host_plan (hosts_in site) site.joined m.users m.groups h here.1)
+    starting (host_plan (hosts_in site) site.joined m h here.1)
     ∷ runners_from site m (h + 1) more
 
 -- trees in memory as the inventories tell them

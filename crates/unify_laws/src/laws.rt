@@ -14,6 +14,8 @@ ghost use Rattle.unify_laws.specs.HostTexts.{TablesAreOfTexts};
 ghost use Rattle.unify_laws.specs.KeptNumbers.{NoKeptNumberIsGiven, NoSurveyedNumberIsGiven};
 ghost use Rattle.unify_laws.specs.KeptNumbers.{NoUnownedNumberIsGiven};
 ghost use Rattle.unify_laws.specs.Reserved.{ReservedNumbersAreTellable};
+ghost use Rattle.unify_laws.specs.RowCosts.{ChangedRowsAgree, NoMapChangesFewerRows};
+ghost use Rattle.unify_laws.specs.SiteTexts.{NumbersStandByTexts, ReadSitesAreOfTexts};
 ghost use Rattle.unify_laws.specs.Agreeing.{PrintedCertificatesAreAccepted, PrintedMapsAreCounted};
 ghost use Rattle.unify_laws.specs.Agreeing.{NoMapRewritesFewer, PrintedPlansAreRehearsed};
 
@@ -33,6 +35,19 @@ pub fn a_read_site_is_whole()
 pub fn nothing_spared_all_owned()
     ensures owned { NothingSparedAllOwned }
     ensures read { ReadHostsSpareNothing }
+{}
+
+/// A site that was read is what its texts say: its hosts and its accounts as
+/// `unify::begun_sites_are_of_texts` has them, and of each host exactly the files of its inventory.
+pub fn read_sites_are_of_texts()
+    ensures { ReadSitesAreOfTexts }
+{}
+
+/// Each name of a site may have exactly the numbers at which it may stand by the texts, but for
+/// those that are reserved: by each host's passwd, or group, and its login.defs, whatever of them
+/// stays as it is, and by the pins text, whatever the keep text says.
+pub fn numbers_stand_by_texts()
+    ensures { NumbersStandByTexts }
 {}
 
 /// A file has its owners among the accounts over all hosts exactly where it has them by its host's
@@ -109,11 +124,11 @@ pub fn second_reading_is_correct()
 
 /// Where what was merged has the headline, each host's own passwd and group with their new numbers
 /// are, line by line, those of the host except for the numbers of what was joined of it; each user
-/// has the primary group that it had; and what the headline says of the host's plan holds with these
-/// two in place of the merged ones, by the names that the host has in full. The texts are those
-/// that the tables of the hosts were read from, each at the index of its host. Where no name is
-/// kept, as with an empty keep text, all rows of each host were joined, and so every line has the
-/// new numbers of its names.
+/// has the primary group that it had; and what the headline says of the host's plan holds with
+/// these two in place of the merged ones, by the names that the host has in full. The texts are
+/// those that the tables of the hosts were read from, each at the index of its host. Where no name
+/// is kept, as with an empty keep text, all rows of each host were joined, and so every line has
+/// the new numbers of its names.
 pub fn hosts_keep_own_files()
     ensures keep { HostsKeepOwnFiles }
     ensures texts { TablesAreOfTexts }
@@ -151,6 +166,15 @@ pub fn reserved_numbers_are_tellable()
 /// mappings by the accounts over all hosts, which a merge and a check of a certificate answer.
 pub fn costs_agree()
     ensures { CostsAgree }
+{}
+
+/// The account rows that the mappings of a site change are, by the map that says these, the rows of
+/// each host's own passwd, or group, whose number the map changes. And of the maps that give each
+/// name one distinct number, in its pool or at its pin, none that rewrites as many fields of a kind
+/// as that of a merge changes fewer of these rows.
+pub fn changed_rows_agree()
+    ensures agree { ChangedRowsAgree }
+    ensures fewest { NoMapChangesFewerRows }
 {}
 
 /// A check of the same texts accepts the certificate that a merge prints, and answers the cost that

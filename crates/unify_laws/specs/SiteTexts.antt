@@ -1,0 +1,44 @@
+-- What a site that was read is, and where its names may stand, in words of the texts.
+-- Source: passwd(5), group(5) and login.defs(5) of the shadow suite and mtree(5); what stays, and
+-- where a name may stand, is this project's own rule.
+use Rattle.std.specs.Prelude.{◌≡◌, ℕ, List, Some, Ok, slice_get}
+use Rattle.mtree_inv.specs.declared.entry.Entry.{Entry}
+use Rattle.hosts_join.specs.Standings.{AreAllOffered, StandWhereTheyMay, of_groups, of_users}
+use Rattle.hosts_join.specs.declared.host.Host.{Host}
+use Rattle.hosts_join.specs.declared.texts.HostText.{HostText}
+use Rattle.unify.specs.FileLaws.{AreItsFiles}
+use Rattle.unify.specs.Outcomes.{hosts_in}
+use Rattle.unify.specs.Passes.{BegunSite, site_begun}
+use Rattle.unify.specs.Reading.{WholeSite, site_read}
+use Rattle.unify.specs.TextLaws.{IsOfTexts}
+use Rattle.unify.specs.declared.rules.SiteRules.{SiteRules}
+
+-- Its hosts and its accounts are what the texts say before the inventories, and each host has
+-- exactly the files of its inventory.
+pub record IsReadFromTexts (texts : List HostText) (rules : SiteRules) (site : WholeSite) : Type 0
+  where
+    pub begun : IsOfTexts texts rules (record { hosts = hosts_in site; joined = site.joined })
+    pub files : (h : ℕ) (host : Host) (files : List Entry) (text : HostText)
+        → slice_get site.hosts h ≡ Some (host, files) → slice_get texts h ≡ Some text
+        → AreItsFiles (record { host = host; mtree = text.mtree }) files
+
+abbrev pub ReadSitesAreOfTexts : Type 0
+ReadSitesAreOfTexts = (texts : List HostText) (rules : SiteRules) (site : WholeSite)
+    → site_read texts rules ≡ Ok site → IsReadFromTexts texts rules site
+
+-- Each name of the site may have exactly the numbers at which it may stand: by the tables and the
+-- ranges of the hosts in full, as their passwd, group and login.defs tell them, whatever stays of
+-- them, and by the pins of the pins text; but none that is reserved.
+pub record StandByTexts (texts : List HostText) (rules : SiteRules) (begun : BegunSite) : Type 0
+  where
+    pub of : IsOfTexts texts rules begun
+    pub users : StandWhereTheyMay of_users of.hosts.full of.pins.users begun.joined.users
+    pub groups : StandWhereTheyMay of_groups of.hosts.full of.pins.groups begun.joined.groups
+    pub all_users : AreAllOffered of_users of.hosts.full of.pins.users begun.joined.users.reserved
+        begun.joined.users
+    pub all_groups : AreAllOffered of_groups of.hosts.full of.pins.groups
+        begun.joined.groups.reserved begun.joined.groups
+
+abbrev pub NumbersStandByTexts : Type 0
+NumbersStandByTexts = (texts : List HostText) (rules : SiteRules) (begun : BegunSite)
+    → site_begun texts rules ≡ Ok begun → StandByTexts texts rules begun
