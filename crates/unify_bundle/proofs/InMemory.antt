@@ -1,5 +1,5 @@
 -- Inventories among texts, and files in memory.
-use Rattle.std.proofs.Common.{◌≡◌, ℕ, ◌+◌, List, [], ◌∷◌, ◌++◌, length, zero, suc, take, Bool, ◌≤◌, Option, Some, None, refl, sym, ap, subst, ◌∙◌, arith, append_assoc, append-nil}
+use Rattle.std.proofs.Common.{◌≡◌, ℕ, ◌+◌, List, [], ◌∷◌, ◌++◌, length, zero, suc, take, ◌≤◌, Option, Some, None, refl, sym, ap, subst, ◌∙◌, arith, append_assoc, append-nil}
 use Rattle.std.specs.List.{All, slice_get}
 use Rattle.std.proofs.lemmas.List.{take_all}
 use Rattle.std.proofs.lemmas.List.Elements.{All-nil, All-cons, All-head, All-tail, All-append}
@@ -7,6 +7,7 @@ use Rattle.std.proofs.lemmas.Option.{same_Some}
 use Rattle.unify.specs.declared.site_files.NamedText.{NamedText}
 use Rattle.unify_merge.specs.Ledger.{Ledger, Reading, read_on, with_piece}
 use Rattle.unify_merge.specs.FirstReading.{readings_from}
+use Rattle.unify_merge.specs.declared.files.CallFailed.{CallFailed}
 use Rattle.unify_bundle.specs.TextFiles.{Holds, IsFrontOf, IsOf, ReadsTexts, ledger_of}
 
 pub none : (xs : List ℕ) → length xs ≡ 0 → xs ≡ []
@@ -57,8 +58,8 @@ first_texts (t ∷ texts) start all at =
     let next : (start + 1) + k ≡ start + suc k = omega arith in
     ap (slice_get all) next ∙ at (suc k) text there))
 
-pub reads_texts : (texts : List (List ℕ)) (left : List ℕ) (files : List NamedText) (writing : Option NamedText) (l : Ledger) (failed : Bool) → Holds texts left files writing l → ReadsTexts texts (ledger_of (record { texts = texts; done = l; failed = failed }))
-reads_texts texts left files writing l failed h = record {
+pub reads_texts : (texts : List (List ℕ)) (left : List ℕ) (files : List NamedText) (writing : Option NamedText) (l : Ledger) (failure : Option CallFailed) → Holds texts left files writing l → ReadsTexts texts (ledger_of (record { texts = texts; done = l; failure = failure }))
+reads_texts texts left files writing l failure h = record {
   whole = All-append (IsOf texts) (readings_from 0 texts) l.read (first_texts texts 0 texts (λ k text here.
       let same : 0 + k ≡ k = omega arith in
       ap (slice_get texts) same ∙ here)) h.read;

@@ -12,7 +12,7 @@ use Rattle.hosts_join.specs.declared.host.Host.{Host}
 use Rattle.hosts_join.specs.declared.texts.HostText.{HostText}
 use Rattle.keep_text.specs.declared.keep_text.KeepText.{KeepText}
 use Rattle.kept_accounts.specs.Reserving.{UnownedNumbers, no_numbers}
-use Rattle.ownership.specs.Mappings.{Mappings}
+use Rattle.ownership.specs.declared.mapping.Mappings.{Mappings}
 use Rattle.unify_texts.specs.Told.{told}
 use Rattle.unify_texts.specs.declared.fault.Fault.{Fault}
 use Rattle.unify_texts.specs.declared.fault.Fault.TheVariants.{Memory}
@@ -90,15 +90,15 @@ plans_each hosts site m index (here ∷ files) = ap suc (plans_each hosts site m
 
 -- ---- commands
 
-module _ (hosts : List HostText) (all : List (List ℕ)) (new : Ledger) (own : ReadsTexts all new) (failed : Bool) where
+module _ (hosts : List HostText) (all : List (List ℕ)) (new : Ledger) (own : ReadsTexts all new) where
   -- ---- a count
 
-  pub counted : (keep : KeepRules) (said : List ℕ) (result : Result Cost MergeFault) → IfOk result (HasCounted hosts keep said (at_start hosts) new) → IfErr result (StopsCount hosts keep said (at_start hosts) new failed)
+  pub counted : (keep : KeepRules) (said : List ℕ) (result : Result Cost MergeFault) → IfOk result (HasCounted hosts keep said (at_start hosts) new) → IfErr result (StopsCount hosts keep said (at_start hosts) new)
       → Gives (λ cost. cost) told (in_memory result) (count_of hosts keep said)
   counted keep said (Ok cost) h stops =
       let is = same.once hosts all new own h.texts h.were_read.readings h.were_read.one_each in
       ap (λ hs. count_of hs keep said) (sym (own_inventories hosts)) ∙ ap (λ ts. count_of (with_inventories hosts ts) keep said) (sym is) ∙ h.answer
-  counted keep said (Err Failed) h stops = tt
+  counted keep said (Err (Failed e)) h stops = tt
   counted keep said (Err TooLarge) h stops = tt
   counted keep said (Err (Refused e)) h stops = if_told (told e) _ _ by stops
     where
@@ -112,13 +112,13 @@ module _ (hosts : List HostText) (all : List (List ℕ)) (new : Ledger) (own : R
   at_checked : (rules : SiteRules) (certificate : List ℕ) (texts : List (List ℕ)) → WereEachRead hosts texts (at_start hosts) new → with_inventories hosts texts ≡ hosts
   at_checked rules certificate texts read = ap (with_inventories hosts) (same.once hosts all new own texts read.readings read.one_each) ∙ own_inventories hosts
 
-  pub checked : (rules : SiteRules) (certificate : List ℕ) (result : Result ℕ MergeFault) → IfOk result (HasChecked hosts rules certificate (at_start hosts) new) → IfErr result (StopsCheck hosts rules certificate (at_start hosts) new failed)
+  pub checked : (rules : SiteRules) (certificate : List ℕ) (result : Result ℕ MergeFault) → IfOk result (HasChecked hosts rules certificate (at_start hosts) new) → IfErr result (StopsCheck hosts rules certificate (at_start hosts) new)
       → Gives (λ cost. cost) told (in_memory result) (check_of hosts rules certificate) × IfOk (in_memory result) (IsChecked hosts rules certificate)
   unfolding check_of
   checked rules certificate (Ok cost) h stops =
       let is = at_checked rules certificate h.texts h.were_read in
       (ap (λ hs. check_of hs rules certificate) (sym is) ∙ h.answer, subst (λ hs. IsChecked hs rules certificate cost) is h.means)
-  checked rules certificate (Err Failed) h stops = (tt, tt)
+  checked rules certificate (Err (Failed e)) h stops = (tt, tt)
   checked rules certificate (Err TooLarge) h stops = (tt, tt)
   checked rules certificate (Err (Refused e)) h stops = (if_told (told e) _ _ by stops, tt)
     where
@@ -133,13 +133,13 @@ module _ (hosts : List HostText) (all : List (List ℕ)) (new : Ledger) (own : R
 
   -- ---- a survey
 
-  pub found : (keep : List ℕ) (result : Result UnownedNumbers MergeFault) → IfOk result (WereFound hosts keep (at_start hosts) new) → IfErr result (StopsFinding hosts keep (at_start hosts) new failed)
+  pub found : (keep : List ℕ) (result : Result UnownedNumbers MergeFault) → IfOk result (WereFound hosts keep (at_start hosts) new) → IfErr result (StopsFinding hosts keep (at_start hosts) new)
       → Gives (λ found. found) told (in_memory result) (surveyed hosts keep)
   found keep (Ok unowned) h stops =
       let is = same.surveyed_once hosts all new own h.surveying (surveyed_few hosts (keep_read keep) h.surveying h.surveying_are) h.texts h.one_each h.readings in
       survey_behind hosts keep h.surveying h.surveying_are
       ∙ ap (λ ls. each listed_of ls >>= λ listed. Ok (unowned_over no_numbers listed)) (sym (as_many_texts h.surveying (mtrees hosts)) ∙ ap (loaded_from h.surveying) (sym is)) ∙ h.found
-  found keep (Err Failed) h stops = tt
+  found keep (Err (Failed e)) h stops = tt
   found keep (Err TooLarge) h stops = tt
   found keep (Err (Refused e)) h stops = if_told (told e) _ _ by stops
     where
@@ -150,9 +150,9 @@ module _ (hosts : List HostText) (all : List (List ℕ)) (new : Ledger) (own : R
 
   -- ---- a merge
 
-  pub merge_refused : (rules : SiteRules) (result : Result Outcome MergeFault) (e : Fault) → in_memory result ≡ Err e → IfErr result (StopsMerge hosts rules (at_start hosts) new failed) → IfSome (told e) (λ f. site_read hosts rules ≡ Err f)
+  pub merge_refused : (rules : SiteRules) (result : Result Outcome MergeFault) (e : Fault) → in_memory result ≡ Err e → IfErr result (StopsMerge hosts rules (at_start hosts) new) → IfSome (told e) (λ f. site_read hosts rules ≡ Err f)
   merge_refused rules (Ok made) e is stops = absurd (cc)
-  merge_refused rules (Err Failed) e is stops = let same_fault : Memory ≡ e = (cc) in subst (λ (x : Fault). IfSome (told x) (λ f. site_read hosts rules ≡ Err f)) same_fault tt
+  merge_refused rules (Err (Failed call)) e is stops = let same_fault : Memory ≡ e = (cc) in subst (λ (x : Fault). IfSome (told x) (λ f. site_read hosts rules ≡ Err f)) same_fault tt
   merge_refused rules (Err TooLarge) e is stops = let same_fault : Memory ≡ e = (cc) in subst (λ (x : Fault). IfSome (told x) (λ f. site_read hosts rules ≡ Err f)) same_fault tt
   merge_refused rules (Err (Refused x)) e is stops =
       let same_fault : x ≡ e = (cc) in
@@ -224,6 +224,6 @@ module _ (hosts : List HostText) (all : List (List ℕ)) (new : Ledger) (own : R
 
 pub answered_ok : {X : Type 0} (P : X → Type 0) (result : Result X MergeFault) (x : X) → in_memory result ≡ Ok x → IfOk result P → P x
 answered_ok P (Ok y) x is p = subst P (ok_same y x is) p
-answered_ok P (Err Failed) x is p = absurd (cc)
+answered_ok P (Err (Failed e)) x is p = absurd (cc)
 answered_ok P (Err TooLarge) x is p = absurd (cc)
 answered_ok P (Err (Refused e)) x is p = absurd (cc)

@@ -12,7 +12,8 @@ use Rattle.mtree_inv.specs.declared.entry.Entry.{Entry}
 use Rattle.hosts_join.specs.Site.{Joined}
 use Rattle.hosts_join.specs.declared.host.Host.{Host}
 use Rattle.hosts_join.specs.declared.texts.HostText.{HostText}
-use Rattle.ownership.specs.Mappings.{IsMapping, Mappings}
+use Rattle.ownership.specs.Mappings.{IsMapping}
+use Rattle.ownership.specs.declared.mapping.Mappings.{Mappings}
 use Rattle.reown_plan.specs.PlanData.{PlanData}
 use Rattle.reown_plan.specs.Spelling.{spelling, IsHostName, IsLawful}
 use Rattle.reown_plan.specs.Target.{host_plan, name_at}
@@ -54,16 +55,16 @@ one_further start k = omega arith
 -- the plans of hosts, where the first stands at the index
 abbrev pub plans_from : List Host → Joined → Mappings → ℕ → List (List Entry) → List PlanData
 plans_from hosts site m index [] = []
-plans_from hosts site m index (files ∷ more) = host_plan hosts site m.users m.groups index files ∷ plans_from hosts site m (index + 1) more
+plans_from hosts site m index (files ∷ more) = host_plan hosts site m index files ∷ plans_from hosts site m (index + 1) more
 
 texts_spell : (hosts : List Host) (site : Joined) (m : Mappings) (index : ℕ) (files : List (List Entry)) → plan_texts_from hosts site m index files ≡ map spelling (plans_from hosts site m index files)
 texts_spell hosts site m index [] = refl
-texts_spell hosts site m index (files ∷ more) = ap (λ (ts : List (List ℕ)). spelling (host_plan hosts site m.users m.groups index files) ∷ ts) (texts_spell hosts site m (index + 1) more)
+texts_spell hosts site m index (files ∷ more) = ap (λ (ts : List (List ℕ)). spelling (host_plan hosts site m index files) ∷ ts) (texts_spell hosts site m (index + 1) more)
 
 runners_start : (site : WholeSite) (m : Mappings) (start : ℕ) (all : List (Host × List Entry)) → at_start (plans_from (hosts_in site) site.joined m start (map (λ h. h.1) all)) ≡ runners_from site m start all
 runners_start site m start [] = refl
 runners_start site m start (here ∷ more) =
-    let first : PlanData = host_plan (hosts_in site) site.joined m.users m.groups start here.1 in
+    let first : PlanData = host_plan (hosts_in site) site.joined m start here.1 in
     ap (λ (rs : List RunnerData). starting first ∷ rs) (runners_start site m (start + 1) more)
 
 trees_start : (keep : Keep) (all : List (Host × List Entry)) → map (new_tree_of keep) (map (λ h. h.1) all) ≡ map (λ here. new_tree_of keep here.1) all
@@ -84,18 +85,18 @@ module _ (hosts : List Host) (site : Joined) (m : Mappings) where
   plans_lawful users groups start [] are = All-nil IsLawful
   plans_lawful users groups start (here ∷ more) are =
       let first : IsNamed hosts start here.1 = subst (λ n. IsNamed hosts n here.1) (no_more start) (are 0 here.0 here.1 refl) in
-      All-cons IsLawful (host_plan hosts site m.users m.groups start here.1) (plans_from hosts site m (start + 1) (map (λ h. h.1) more)) (plan-lawful hosts site m.users m.groups start here.1 first.0 users groups first.1)
+      All-cons IsLawful (host_plan hosts site m start here.1) (plans_from hosts site m (start + 1) (map (λ h. h.1) more)) (plan-lawful hosts site m start here.1 first.0 users groups first.1)
       (plans_lawful users groups (start + 1) more (λ k host files at. subst (λ n. IsNamed hosts n files) (one_further start k) (are (suc k) host files at)))
 
-  plan_ready : (keep : Keep) (start : ℕ) (files : List Entry) → HaveDistinctFiles files → IsReady (host_plan hosts site m.users m.groups start files) (new_tree_of keep files)
-  plan_ready keep start files distinct = record { inventory = owner_in files; fresh = new_fresh files; old = plan_is_old site m.users m.groups start files distinct }
+  plan_ready : (keep : Keep) (start : ℕ) (files : List Entry) → HaveDistinctFiles files → IsReady (host_plan hosts site m start files) (new_tree_of keep files)
+  plan_ready keep start files distinct = record { inventory = owner_in files; fresh = new_fresh files; old = plan_is_old site m start files distinct }
 
   plans_ready : (keep : Keep) (start : ℕ) (all : List (Host × List Entry)) → ((k : ℕ) (host : Host) (files : List Entry) → slice_get all k ≡ Some (host, files) → HaveDistinctFiles files)
       → (h : ℕ) (plan : PlanData) (tree : Mem) → slice_get (plans_from hosts site m start (map (λ h. h.1) all)) h ≡ Some plan → slice_get (map (new_tree_of keep) (map (λ h. h.1) all)) h ≡ Some tree → IsReady plan tree
   plans_ready keep start [] distinct h plan tree plan_at tree_at = absurd (cc)
   plans_ready keep start (here ∷ more) distinct zero plan tree plan_at tree_at =
       subst (IsReady plan) (same_Some (new_tree_of keep here.1) tree tree_at)
-      (subst (λ p. IsReady p (new_tree_of keep here.1)) (same_Some (host_plan hosts site m.users m.groups start here.1) plan plan_at) (plan_ready keep start here.1 (distinct 0 here.0 here.1 refl)))
+      (subst (λ p. IsReady p (new_tree_of keep here.1)) (same_Some (host_plan hosts site m start here.1) plan plan_at) (plan_ready keep start here.1 (distinct 0 here.0 here.1 refl)))
   plans_ready keep start (here ∷ more) distinct (suc h) plan tree plan_at tree_at = plans_ready keep (start + 1) more (λ k host files at. distinct (suc k) host files at) h plan tree plan_at tree_at
 
 -- the plans of a site

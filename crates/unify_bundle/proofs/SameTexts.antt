@@ -1,5 +1,5 @@
 -- What was read is the texts, and so what is said of it is said of them.
-use Rattle.std.proofs.Common.{◌≡◌, ℕ, ◌≤◌, List, [], ◌∷◌, ◌++◌, length, take, false, Some, None, Result, Ok, Err, refl, sym, ap, subst, ◌∙◌, arith, inl, inr, append-nil}
+use Rattle.std.proofs.Common.{◌≡◌, ℕ, ◌≤◌, List, [], ◌∷◌, ◌++◌, length, take, Some, None, Result, Ok, Err, refl, sym, ap, subst, ◌∙◌, arith, inl, inr, append-nil}
 use Rattle.std.specs.List.{All, slice_get}
 use Rattle.std.proofs.lemmas.List.{length-map}
 use Rattle.std.proofs.lemmas.List.Elements.{All-head}
@@ -101,7 +101,7 @@ own_inventories (h ∷ hosts) = ap (λ hs. h ∷ hs) (own_inventories hosts)
 
 -- the ledger before anything is done
 abbrev pub at_start : List HostText → Ledger
-at_start hosts = ledger_of (record { texts = mtrees hosts; done = nothing; failed = false })
+at_start hosts = ledger_of (record { texts = mtrees hosts; done = nothing; failure = None })
 
 module _ (hosts : List HostText) (all : List (List ℕ)) where
   abbrev mine : List (List ℕ)

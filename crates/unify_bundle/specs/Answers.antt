@@ -10,5 +10,5 @@ use Rattle.unify_merge.specs.declared.fault.MergeFault.TheVariants.{Failed, TooL
 abbrev pub in_memory : {X : Type 0} → Result X MergeFault → Result X Fault
 in_memory (Ok x) = Ok x
 in_memory (Err (Refused f)) = Err f
-in_memory (Err Failed) = Err Memory
+in_memory (Err (Failed e)) = Err Memory
 in_memory (Err TooLarge) = Err Memory

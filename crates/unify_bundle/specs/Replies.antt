@@ -26,7 +26,7 @@ fault_reply None = Err none.Memory
 
 -- the reply to an early end of a command on files
 abbrev pub refusal : MergeFault → Result Answer NoReply
-refusal Failed = Err none.Failed
+refusal (Failed e) = Err (none.Failed e)
 refusal TooLarge = Err none.TooLarge
 refusal (Refused e) = fault_reply (told e)
 

@@ -6,13 +6,14 @@ use Rattle.std.specs.List.{All}
 use Rattle.unify.specs.declared.site_files.NamedText.{NamedText}
 use Rattle.unify_merge.specs.Ledger.{Ledger, Reading}
 use Rattle.unify_merge.specs.FirstReading.{readings_from}
+use Rattle.unify_merge.specs.declared.files.CallFailed.{CallFailed}
 
 -- what contracts see of them: the texts of the inventories, host by host; what was read and written
--- by the calls that succeeded; and whether a call has failed
+-- by the calls that succeeded; and what the last call that failed answered, if one has failed
 pub record TextFilesValue : Type 0 where
   pub texts : List (List ℕ)
   pub done : Ledger
-  pub failed : Bool
+  pub failure : Option CallFailed
 
 -- all that was read and written: first each inventory, as its text came to memory, and then what
 -- the calls did

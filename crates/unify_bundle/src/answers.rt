@@ -2,6 +2,7 @@
 
 ghost use Rattle.std.specs.Prelude.{◌≡◌, IfErr, IfOk, OnErr};
 ghost use Rattle.idtext.specs.First.{Gives};
+ghost use Rattle.unify_merge.specs.Failures.{failure_after};
 ghost use Rattle.unify_merge.specs.FirstReading.{ReadsOnly};
 ghost use Rattle.unify_merge.specs.Rehearse.{HasRehearsed, StopsRehearsal};
 ghost use Rattle.unify_merge.specs.Surveyed.{HasCheckedFiles, HasCountedFiles, HasMergedFiles};
@@ -17,14 +18,15 @@ use hosts_join::HostText;
 use std::alloc::{AllocError, Global};
 use unify::Cost;
 use unify_merge::{
-    MergeFault, MergeFiles, ReadFiles, check_files, count_files, merge_files, rehearse_files,
+    CallFailed, MergeFault, MergeFiles, ReadFiles, check_files, count_files, merge_files,
+    rehearse_files,
 };
 
 /// Why what a command found has no reply.
 #[derive(Clone, Copy, Debug, PartialEq, Eq)]
 pub enum NoReply {
-    /// A call on the files failed.
-    Failed,
+    /// This call on the files failed.
+    Failed(CallFailed),
     /// The inventory that was read last has more than 4,294,967,295 bytes.
     TooLarge,
     /// A growth was refused.
@@ -53,7 +55,7 @@ fn refusal_reply(alloc: Global, fault: &MergeFault<'_>) -> Result<Reply, NoReply
     match fault {
         MergeFault::Refused(fault) => Ok(refused(alloc, fault)?),
         MergeFault::TooLarge => Err(NoReply::TooLarge),
-        MergeFault::Failed => Err(NoReply::Failed),
+        MergeFault::Failed(failed) => Err(NoReply::Failed(*failed)),
     }
 }
 
@@ -100,8 +102,8 @@ pub fn merge_answer<'a, F: MergeFiles>(
     ensures merged { IfOk result.found
         (HasMergedFiles hosts.now pins.now keep.now (F.ledger files.old) (F.ledger files.new)) }
     ensures stopped { IfErr result.found
-        (StopsMergeFiles hosts.now pins.now keep.now (F.ledger files.old) (F.ledger files.new)
-        (F.has_failed files.new)) }
+        (StopsMergeFiles hosts.now pins.now keep.now (F.ledger files.old) (F.ledger files.new)) }
+    ensures calls { F.failure files.new ≡ failure_after result.found (F.failure files.old) }
     ensures left { OnErr result.found
         (LeavesFiles hosts.now pins.now keep.now (F.ledger files.old) (F.ledger files.new)) }
     ensures told { Gives reply_of cause result.reply (reply_to cost_lines result.found) }
@@ -123,8 +125,8 @@ pub fn count_answer<'a, F: ReadFiles>(
     ensures counted { IfOk result.found
         (HasCountedFiles hosts.now keep.now map.now (F.ledger files.old) (F.ledger files.new)) }
     ensures stopped { IfErr result.found
-        (StopsCountFiles hosts.now keep.now map.now (F.ledger files.old) (F.ledger files.new)
-        (F.has_failed files.new)) }
+        (StopsCountFiles hosts.now keep.now map.now (F.ledger files.old) (F.ledger files.new)) }
+    ensures calls { F.failure files.new ≡ failure_after result.found (F.failure files.old) }
     ensures reads { ReadsOnly (F.ledger files.old) (F.ledger files.new) }
     ensures told { Gives reply_of cause result.reply (reply_to cost_lines result.found) }
 {
@@ -148,7 +150,8 @@ pub fn check_answer<'a, F: ReadFiles>(
         (F.ledger files.new)) }
     ensures stopped { IfErr result.found
         (StopsCheckFiles hosts.now pins.now keep.now certificate.now (F.ledger files.old)
-        (F.ledger files.new) (F.has_failed files.new)) }
+        (F.ledger files.new)) }
+    ensures calls { F.failure files.new ≡ failure_after result.found (F.failure files.old) }
     ensures reads { ReadsOnly (F.ledger files.old) (F.ledger files.new) }
     ensures told { Gives reply_of cause result.reply (reply_to accepted_line result.found) }
 {
@@ -168,8 +171,8 @@ pub fn rehearse_answer<'a, F: ReadFiles>(
     ensures rehearsed { IfOk result.found
         (HasRehearsed plan.now (F.ledger files.old) (F.ledger files.new)) }
     ensures stopped { IfErr result.found
-        (StopsRehearsal plan.now (F.ledger files.old) (F.ledger files.new)
-        (F.has_failed files.new)) }
+        (StopsRehearsal plan.now (F.ledger files.old) (F.ledger files.new)) }
+    ensures calls { F.failure files.new ≡ failure_after result.found (F.failure files.old) }
     ensures reads { ReadsOnly (F.ledger files.old) (F.ledger files.new) }
     ensures told { Gives reply_of cause result.reply (reply_to records_lines result.found) }
 {

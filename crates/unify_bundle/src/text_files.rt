@@ -15,6 +15,9 @@ use unify_texts::Fault;
 // The most bytes of an inventory that are handed out at once.
 const MOST_PIECE: usize = 65536;
 
+// What a call answers that fails, with the exit status of want of memory.
+const REFUSED: CallFailed = CallFailed { status: 3 };
+
 /// The inventories among texts, and the files that are written for them, all in memory. A call
 /// fails where memory is refused, or where no host has the index. It takes time linear in the bytes
 /// that it hands out or writes.
@@ -30,7 +33,8 @@ pub struct TextFiles<'a> {
     is_writing: bool,
     name: Vec<u8>,
     text: Vec<u8>,
-    has_failed: bool,
+    // What the last call that failed answered, if one has failed.
+    failure: Option<CallFailed>,
     log: Log,
 }
 
@@ -43,7 +47,7 @@ impl<'a> Model for TextFiles<'a> {
     ghost view = { λ f. record {
       texts = mtrees f.hosts.now;
       done = f.log.ledger;
-      failed = f.has_failed;
+      failure = f.failure;
     } };
 
     ghost invariant = { λ f. Holds (mtrees f.hosts.now) f.left.now f.files.items
@@ -58,7 +62,7 @@ fn in_memory<'a, T>(answer: Result<T, MergeFault<'a>>) -> Result<T, Fault<'a>>
     match answer {
         Ok(answer) => Ok(answer),
         Err(MergeFault::Refused(fault)) => Err(fault),
-        Err(MergeFault::Failed | MergeFault::TooLarge) => Err(Fault::Memory),
+        Err(MergeFault::Failed(_) | MergeFault::TooLarge) => Err(Fault::Memory),
     }
 }
 
@@ -89,7 +93,7 @@ fn push_file(alloc: Global, name: &mut Vec<u8>, text: &mut Vec<u8>, files: &mut 
 }
 
 impl<'a> TextFiles<'a> {
-    ghost use Rattle.std.specs.Prelude.{◌≡◌, false};
+    ghost use Rattle.std.specs.Prelude.{◌≡◌, None};
     ghost use Rattle.unify_merge.specs.Ledger.{nothing};
     ghost use Rattle.unify_bundle.specs.TextFiles.{ReadsTexts, ledger_of};
     ghost use Rattle.unify_bundle.specs.Answers as spec;
@@ -97,7 +101,7 @@ impl<'a> TextFiles<'a> {
 
     /// Nothing is written as yet. No cost.
     pub fn new(alloc: Global, hosts: &'a [HostText]) -> TextFiles<'a>
-        ensures { result ≡ record { texts = mtrees hosts.now; done = nothing; failed = false } }
+        ensures { result ≡ record { texts = mtrees hosts.now; done = nothing; failure = None } }
     {
         TextFiles {
             alloc,
@@ -107,7 +111,7 @@ impl<'a> TextFiles<'a> {
             is_writing: false,
             name: Vec::new(alloc),
             text: Vec::new(alloc),
-            has_failed: false,
+            failure: None,
             log: Log::new(),
         }
     }
@@ -136,12 +140,12 @@ impl ReadFiles for TextFiles<'_> {
 
     ghost ledger = { ledger_of };
 
-    ghost has_failed = { λ files. files.failed };
+    ghost failure = { λ files. files.failure };
 
     fn open(&mut self, host: usize) -> Result<(), CallFailed> {
         let Some(text) = self.hosts.get(host) else {
-            self.has_failed = true;
-            return Err(CallFailed);
+            self.failure = Some(REFUSED);
+            return Err(REFUSED);
         };
         self.left = text.mtree.bytes();
         self.log.note(&Call::Open(host));
@@ -152,8 +156,8 @@ impl ReadFiles for TextFiles<'_> {
         let (next, rest) = self.left.split_at(self.left.len().min(MOST_PIECE));
         bytes.clear();
         if bytes.extend_from_slice(next).is_err() {
-            self.has_failed = true;
-            return Err(CallFailed);
+            self.failure = Some(REFUSED);
+            return Err(REFUSED);
         }
         self.left = rest;
         self.log.note(&Call::Piece(bytes));
@@ -171,8 +175,8 @@ impl MergeFiles for TextFiles<'_> {
 
     fn begin(&mut self, name: &[u8]) -> Result<(), CallFailed> {
         let Ok(copy) = Vec::from_slice(self.alloc, name) else {
-            self.has_failed = true;
-            return Err(CallFailed);
+            self.failure = Some(REFUSED);
+            return Err(REFUSED);
         };
         self.is_writing = true;
         self.name = copy;
@@ -183,8 +187,8 @@ impl MergeFiles for TextFiles<'_> {
 
     fn append(&mut self, bytes: &[u8]) -> Result<(), CallFailed> {
         if self.text.extend_from_slice(bytes).is_err() {
-            self.has_failed = true;
-            return Err(CallFailed);
+            self.failure = Some(REFUSED);
+            return Err(REFUSED);
         }
         self.log.note(&Call::Append(bytes));
         Ok(())
@@ -192,8 +196,8 @@ impl MergeFiles for TextFiles<'_> {
 
     fn finish(&mut self) -> Result<(), CallFailed> {
         if self.files.reserve(1).is_err() {
-            self.has_failed = true;
-            return Err(CallFailed);
+            self.failure = Some(REFUSED);
+            return Err(REFUSED);
         }
         if self.is_writing {
             push_file(self.alloc, &mut self.name, &mut self.text, &mut self.files);
@@ -205,12 +209,12 @@ impl MergeFiles for TextFiles<'_> {
 
     fn seal(&mut self, name: &[u8], text: &[u8]) -> Result<(), CallFailed> {
         let Ok(file) = file_of(self.alloc, name, text) else {
-            self.has_failed = true;
-            return Err(CallFailed);
+            self.failure = Some(REFUSED);
+            return Err(REFUSED);
         };
         if self.files.push(file).is_err() {
-            self.has_failed = true;
-            return Err(CallFailed);
+            self.failure = Some(REFUSED);
+            return Err(REFUSED);
         }
         self.is_writing = false;
         self.log.note(&Call::Seal(name, text));

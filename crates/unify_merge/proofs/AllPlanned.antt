@@ -1,5 +1,5 @@
 -- The turn of each host, and the plans of all.
-use Rattle.std.proofs.Common.{◌≡◌, ◌<◌, ◌++◌, ◌∷◌, [], ℕ, zero, suc, Bool, List, length, map, Some, Ok, sym, ap, subst, ◌∙◌, arith}
+use Rattle.std.proofs.Common.{◌≡◌, ◌<◌, ◌++◌, ◌∷◌, [], ℕ, zero, suc, List, length, map, Some, Ok, sym, ap, subst, ◌∙◌, arith}
 use Rattle.std.specs.List.{slice_get}
 use Rattle.std.proofs.lemmas.List.{length-map}
 use Rattle.std.proofs.lemmas.Option.{same_Some, slice_get_within}
@@ -51,9 +51,9 @@ turn_of s now read index host were site ended was at fresh = record {
 }
 
 -- the reading of one inventory ended early, and so did that of all
-pub planning_stopped : (names : List HostText) (s : SolvedValue) (read : List (Host × List Entry)) (index : ℕ) (host : Host) (were : List Entry) (old mid new : Ledger) (failed : Bool) (fault : MergeFault) → PlannedSoFar names s read index old mid
-    → WereRead s read → slice_get read index ≡ Some (host, were) → StopsSecond host were index mid.read new failed fault → StopsPlanning read old new failed fault
-planning_stopped names s read index host were old mid new failed fault so_far was at stops = stops_map _ _ new failed fault (λ f is. record {
+pub planning_stopped : (names : List HostText) (s : SolvedValue) (read : List (Host × List Entry)) (index : ℕ) (host : Host) (were : List Entry) (old mid new : Ledger) (fault : MergeFault) → PlannedSoFar names s read index old mid
+    → WereRead s read → slice_get read index ≡ Some (host, were) → StopsSecond host were index mid.read new fault → StopsPlanning read old new fault
+planning_stopped names s read index host were old mid new fault so_far was at stops = stops_map _ _ new fault (λ f is. record {
   texts = so_far.site.texts;
   again = so_far.site.again;
   accepted = subst (λ (hs : List Host). each site_of (loaded_from hs so_far.site.texts) ≡ Ok so_far.site.again) (sym was.hosts) so_far.site.accepted;

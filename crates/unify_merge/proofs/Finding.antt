@@ -1,5 +1,5 @@
 -- A survey of the inventories of hosts, as a command has it made.
-use Rattle.std.proofs.Common.{◌≡◌, ℕ, Bool, List, Ok, sym, ap, ◌∙◌, inr}
+use Rattle.std.proofs.Common.{◌≡◌, ℕ, List, Ok, sym, ap, ◌∙◌, inr}
 use Rattle.idtext.specs.First.{◌>>=◌}
 use Rattle.mtree_inv.specs.declared.entry.Entry.{Entry}
 use Rattle.hosts_join.specs.declared.host.Host.{Host}
@@ -29,5 +29,5 @@ module _ (hosts : List HostText) (keep : List ℕ) (surveying : List Host) (are 
     reads = reads;
   }
 
-  pub finding_stopped : (failed : Bool) (fault : MergeFault) → StopsSurvey surveying old new failed fault → StopsFinding hosts keep old new failed fault
-  finding_stopped failed fault = stops_map _ _ new failed fault (λ f refused. inr (surveying, are, refused))
+  pub finding_stopped : (fault : MergeFault) → StopsSurvey surveying old new fault → StopsFinding hosts keep old new fault
+  finding_stopped fault = stops_map _ _ new fault (λ f refused. inr (surveying, are, refused))

@@ -6,7 +6,7 @@ use Rattle.std.proofs.lemmas.Option.{same_Some}
 use Rattle.hosts_join.specs.Site.{Joined}
 use Rattle.hosts_join.specs.declared.host.Host.{Host}
 use Rattle.hosts_join.specs.declared.texts.HostText.{HostText}
-use Rattle.ownership.specs.Mappings.{Mappings}
+use Rattle.ownership.specs.declared.mapping.Mappings.{Mappings}
 use Rattle.unify.specs.declared.site_files.NamedText.{NamedText}
 use Rattle.unify_laws.specs.HostTexts.{group_file, host_files, passwd_file}
 use Rattle.unify_merge.specs.Merge.{account_files, first_files, merged_files, report_file}

@@ -6,7 +6,7 @@ use Rattle.idtext.proofs.OkLemmas.{ok_same}
 use Rattle.hosts_join.specs.Site.{Joined}
 use Rattle.hosts_join.specs.declared.host.Host.{Host}
 use Rattle.hosts_join.specs.declared.texts.HostText.{HostText}
-use Rattle.ownership.specs.Mappings.{Mappings}
+use Rattle.ownership.specs.declared.mapping.Mappings.{Mappings}
 use Rattle.certcheck.specs.Check.{mappings_of}
 use Rattle.certcheck.specs.Reading.{certificate_in}
 use Rattle.certcheck.proofs.Spelled.{spelled_is_read}

@@ -1,5 +1,5 @@
 -- Readings one after the other.
-use Rattle.std.proofs.Common.{◌≡◌, ◌+◌, ◌++◌, ◌∷◌, [], ℕ, Bool, List, length, Ok, Err, Some, sym, ap, subst, ◌∙◌, arith, Result, append_assoc}
+use Rattle.std.proofs.Common.{◌≡◌, ◌+◌, ◌++◌, ◌∷◌, [], ℕ, List, length, Ok, Err, Some, sym, ap, subst, ◌∙◌, arith, Result, append_assoc}
 use Rattle.std.specs.Prelude.{IfErr, OnOk}
 use Rattle.std.specs.List.{slice_get}
 use Rattle.idtext.specs.First.{each}
@@ -37,14 +37,14 @@ pub reads_on : (old mid new : Ledger) → ReadsOnly old mid → ReadsOnly mid ne
 reads_on old mid new one two = two ∙ ap (λ (l : Ledger). record l { read = new.read; reading = new.reading }) one
 
 -- the same reading, told by other words
-pub first_same : (host : Host) (i j : ℕ) (before other : List Reading) (l : Ledger) (failed : Bool) (fault : MergeFault) → i ≡ j → before ≡ other → StopsFirst host i before l failed fault → StopsFirst host j other l failed fault
-first_same host i j before other l failed fault same equal stops =
-    subst (λ b. StopsFirst host j b l failed fault) equal (subst (λ k. StopsFirst host k before l failed fault) same stops)
+pub first_same : (host : Host) (i j : ℕ) (before other : List Reading) (l : Ledger) (fault : MergeFault) → i ≡ j → before ≡ other → StopsFirst host i before l fault → StopsFirst host j other l fault
+first_same host i j before other l fault same equal stops =
+    subst (λ b. StopsFirst host j b l fault) equal (subst (λ k. StopsFirst host k before l fault) same stops)
 
 -- the reading of one inventory ended early, and so did that of all
-pub counting_stopped : (hosts : List Host) (texts : List (List ℕ)) (read : List (Host × List Entry)) (host : Host) (old mid new : Ledger) (failed : Bool) (fault : MergeFault) → each site_of (loaded_from hosts texts) ≡ Ok read
-    → slice_get hosts (length texts) ≡ Some host → mid.read ≡ old.read ++ readings_from 0 texts → StopsFirst host (length texts) mid.read new failed fault → StopsCounting hosts old new failed fault
-counting_stopped hosts texts read host old mid new failed fault accepted here readings stops = stops_map _ _ new failed fault (λ f is. record {
+pub counting_stopped : (hosts : List Host) (texts : List (List ℕ)) (read : List (Host × List Entry)) (host : Host) (old mid new : Ledger) (fault : MergeFault) → each site_of (loaded_from hosts texts) ≡ Ok read
+    → slice_get hosts (length texts) ≡ Some host → mid.read ≡ old.read ++ readings_from 0 texts → StopsFirst host (length texts) mid.read new fault → StopsCounting hosts old new fault
+counting_stopped hosts texts read host old mid new fault accepted here readings stops = stops_map _ _ new fault (λ f is. record {
   texts = texts;
   read = read;
   accepted = accepted;

@@ -1,5 +1,5 @@
 -- Why a rehearsal ended early.
-use Rattle.std.proofs.Common.{ℕ, Bool, List, Ok, IfSome, inl, inr}
+use Rattle.std.proofs.Common.{ℕ, List, Ok, IfSome, inl, inr}
 use Rattle.reown_plan.specs.PlanData.{PlanData}
 use Rattle.reown_plan.specs.Reading.{ReadsAs}
 use Rattle.unify_texts.specs.Told.{told}
@@ -13,9 +13,9 @@ use Rattle.unify_merge.specs.declared.fault.MergeFault.TheVariants.{Refused}
 use Rattle.unify_merge.proofs.Stops.{if_told, stops_map}
 
 -- what came is refused
-pub piece_refused : (plan : PlanData) (text : List ℕ) (before : List Reading) (l : Ledger) (failed : Bool) (e : Fault) → IsReading before 0 text l → IfSome (told e) (IsRefusedBy plan text) → StopsCarrying plan before l failed (Refused e)
-piece_refused plan text before l failed e reading fault = if_told (told e) _ _ (λ f is. (text, inl (reading, is))) fault
+pub piece_refused : (plan : PlanData) (text : List ℕ) (before : List Reading) (l : Ledger) (e : Fault) → IsReading before 0 text l → IfSome (told e) (IsRefusedBy plan text) → StopsCarrying plan before l (Refused e)
+piece_refused plan text before l e reading fault = if_told (told e) _ _ (λ f is. (text, inl (reading, is))) fault
 
 -- with the text of the plan
-pub rehearsal_stopped : (text : List ℕ) (plan : PlanData) (old new : Ledger) (failed : Bool) (fault : MergeFault) → ReadsAs text (Ok plan) → StopsCarrying plan old.read new failed fault → StopsRehearsal text old new failed fault
-rehearsal_stopped text plan old new failed fault reads = stops_map _ _ new failed fault (λ f is. inr (plan, reads, is))
+pub rehearsal_stopped : (text : List ℕ) (plan : PlanData) (old new : Ledger) (fault : MergeFault) → ReadsAs text (Ok plan) → StopsCarrying plan old.read new fault → StopsRehearsal text old new fault
+rehearsal_stopped text plan old new fault reads = stops_map _ _ new fault (λ f is. inr (plan, reads, is))

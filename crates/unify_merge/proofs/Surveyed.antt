@@ -1,5 +1,5 @@
 -- Why a survey of inventories ended early, and one host more.
-use Rattle.std.proofs.Common.{◌≡◌, ◌+◌, ◌<◌, ◌++◌, ◌∷◌, [], ℕ, Bool, List, length, get_or, Ok, Err, Some, sym, ap, subst, ◌∙◌, inl, inr}
+use Rattle.std.proofs.Common.{◌≡◌, ◌+◌, ◌<◌, ◌++◌, ◌∷◌, [], ℕ, List, length, get_or, Ok, Err, Some, sym, ap, subst, ◌∙◌, inl, inr}
 use Rattle.std.specs.Prelude.{IfSome}
 use Rattle.std.specs.List.{slice_get}
 use Rattle.std.proofs.lemmas.List.Sums.{fold-append}
@@ -26,21 +26,21 @@ use Rattle.unify_merge.proofs.Stops.{if_told, stops_map}
 -- ---- one inventory
 
 -- its lines have a fault
-pub lines_refused : (host : Host) (index : ℕ) (text : List ℕ) (before : List Reading) (l : Ledger) (failed : Bool) (e : Fault) → IsReading before index text l → IfSome (told e) (λ f. is_read (lines_of host text) ≡ Err f) → StopsReading host index before l failed (Refused e)
-lines_refused host index text before l failed e reading fault = if_told (told e) _ _ (λ f is. (text, inl (reading, is))) fault
+pub lines_refused : (host : Host) (index : ℕ) (text : List ℕ) (before : List Reading) (l : Ledger) (e : Fault) → IsReading before index text l → IfSome (told e) (λ f. is_read (lines_of host text) ≡ Err f) → StopsReading host index before l (Refused e)
+lines_refused host index text before l e reading fault = if_told (told e) _ _ (λ f is. (text, inl (reading, is))) fault
 
 -- the whole of it has
-pub whole_refused : (host : Host) (index : ℕ) (text : List ℕ) (before : List Reading) (l : Ledger) (failed : Bool) (e : Fault) → HasRead before index text l → IfSome (told e) (λ f. is_read (inventory_of host text) ≡ Err f) → StopsReading host index before l failed (Refused e)
-whole_refused host index text before l failed e read fault = if_told (told e) _ _ (λ f is. (text, inr (read, is))) fault
+pub whole_refused : (host : Host) (index : ℕ) (text : List ℕ) (before : List Reading) (l : Ledger) (e : Fault) → HasRead before index text l → IfSome (told e) (λ f. is_read (inventory_of host text) ≡ Err f) → StopsReading host index before l (Refused e)
+whole_refused host index text before l e read fault = if_told (told e) _ _ (λ f is. (text, inr (read, is))) fault
 
 -- ---- those of all hosts
 
 -- the reading of one ended early, and so did the survey
-pub survey_stopped : (hosts : List Host) (texts : List (List ℕ)) (listed : List (Host × List Entry)) (host : Host) (index : ℕ) (old mid new : Ledger) (failed : Bool) (fault : MergeFault) → each listed_of (loaded_from hosts texts) ≡ Ok listed
-    → length texts ≡ index → index < length hosts → host ≡ get_or hosts index host → mid.read ≡ old.read ++ readings_from 0 texts → StopsReading host index mid.read new failed fault → StopsSurvey hosts old new failed fault
-survey_stopped hosts texts listed host index old mid new failed fault are at within is readings stops =
+pub survey_stopped : (hosts : List Host) (texts : List (List ℕ)) (listed : List (Host × List Entry)) (host : Host) (index : ℕ) (old mid new : Ledger) (fault : MergeFault) → each listed_of (loaded_from hosts texts) ≡ Ok listed
+    → length texts ≡ index → index < length hosts → host ≡ get_or hosts index host → mid.read ≡ old.read ++ readings_from 0 texts → StopsReading host index mid.read new fault → StopsSurvey hosts old new fault
+survey_stopped hosts texts listed host index old mid new fault are at within is readings stops =
     let here : slice_get hosts index ≡ Some host = slice_get-get_or hosts index host within ∙ ap (λ (h : Host). Some h) (sym is) in
-    stops_map _ _ new failed fault (λ f refused. record {
+    stops_map _ _ new fault (λ f refused. record {
       texts = texts;
       listed = listed;
       are_listed = are;

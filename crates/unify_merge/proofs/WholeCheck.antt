@@ -1,5 +1,5 @@
 -- What a check answers, and what it stops for.
-use Rattle.std.proofs.Common.{◌≡◌, ◌++◌, ℕ, Bool, List, length, Ok, Err, sym, ap, subst, ◌∙◌, inl, inr}
+use Rattle.std.proofs.Common.{◌≡◌, ◌++◌, ℕ, List, length, Ok, Err, sym, ap, subst, ◌∙◌, inl, inr}
 use Rattle.std.specs.Prelude.{IfSome}
 use Rattle.idtext.specs.First.{each}
 use Rattle.certcheck.specs.Reading.{certificate_in}
@@ -26,10 +26,10 @@ use Rattle.unify_merge.proofs.Inventories.{read-with}
 use Rattle.unify_merge.proofs.Stops.{if_told, stops_map}
 
 -- the reading of the inventories ended early, and so did the check
-pub check_counted_stopped : (texts : List HostText) (rules : SiteRules) (certificate : List ℕ) (begun : BegunSite) (hosts : List Host) (old new : Ledger) (failed : Bool) (fault : MergeFault) → site_begun texts rules ≡ Ok begun → hosts ≡ begun.hosts
-    → StopsCounting hosts old new failed fault → StopsCheck texts rules certificate old new failed fault
-check_counted_stopped texts rules certificate begun hosts old new failed fault is same stops =
-    stops_map _ _ new failed fault (λ f found. inr (inl (begun, is, subst (λ (hs : List Host). IsInventoryFault hs old new f) same found))) stops
+pub check_counted_stopped : (texts : List HostText) (rules : SiteRules) (certificate : List ℕ) (begun : BegunSite) (hosts : List Host) (old new : Ledger) (fault : MergeFault) → site_begun texts rules ≡ Ok begun → hosts ≡ begun.hosts
+    → StopsCounting hosts old new fault → StopsCheck texts rules certificate old new fault
+check_counted_stopped texts rules certificate begun hosts old new fault is same stops =
+    stops_map _ _ new fault (λ f found. inr (inl (begun, is, subst (λ (hs : List Host). IsInventoryFault hs old new f) same found))) stops
 
 -- The inventories of hosts were read as these texts.
 pub record IsReadSite (hosts : List HostText) (rules : SiteRules) (old new : Ledger) (joined : Joined) (texts : List (List ℕ)) (read : List (Host × List Entry)) : Type 0 where
@@ -57,5 +57,5 @@ module _ (hosts : List HostText) (rules : SiteRules) (certificate : List ℕ) (o
   }
 
   -- and so is the fault
-  pub check_refused : (failed : Bool) (e : Fault) → IfSome (told e) (λ f. checked whole (in_certificate (certificate_in certificate)) ≡ Err f) → StopsCheck hosts rules certificate old new failed (Refused e)
-  check_refused failed e fault = if_told (told e) _ _ (λ f is. inr (inr (texts, site.were_read, answer_of_site (with_inventories hosts texts) rules certificate whole site.is ∙ is))) fault
+  pub check_refused : (e : Fault) → IfSome (told e) (λ f. checked whole (in_certificate (certificate_in certificate)) ≡ Err f) → StopsCheck hosts rules certificate old new (Refused e)
+  check_refused e fault = if_told (told e) _ _ (λ f is. inr (inr (texts, site.were_read, answer_of_site (with_inventories hosts texts) rules certificate whole site.is ∙ is))) fault

@@ -1,5 +1,5 @@
 -- What a count of a map answers, and what it stops for.
-use Rattle.std.proofs.Common.{◌≡◌, ◌++◌, ℕ, Bool, List, length, Ok, sym, ap, subst, ◌∙◌, inr}
+use Rattle.std.proofs.Common.{◌≡◌, ◌++◌, ℕ, List, length, Ok, sym, ap, subst, ◌∙◌, inr}
 use Rattle.idtext.specs.First.{each}
 use Rattle.hosts_join.specs.declared.host.Host.{Host}
 use Rattle.hosts_join.specs.declared.texts.HostText.{HostText}
@@ -19,10 +19,10 @@ use Rattle.unify_merge.proofs.Inventories.{cost_begun-with, mtrees-with}
 use Rattle.unify_merge.proofs.Stops.{stops_map}
 
 -- the reading of the inventories ended early, and so did the count
-pub count_stopped : (texts : List HostText) (keep : KeepRules) (map_text : List ℕ) (begun : BegunCost) (hosts : List Host) (old new : Ledger) (failed : Bool) (fault : MergeFault) → cost_begun texts keep map_text ≡ Ok begun → hosts ≡ begun.hosts
-    → StopsCounting hosts old new failed fault → StopsCount texts keep map_text old new failed fault
-count_stopped texts keep map_text begun hosts old new failed fault is same stops =
-    stops_map _ _ new failed fault (λ f found. inr (begun, is, subst (λ (hs : List Host). IsInventoryFault hs old new f) same found)) stops
+pub count_stopped : (texts : List HostText) (keep : KeepRules) (map_text : List ℕ) (begun : BegunCost) (hosts : List Host) (old new : Ledger) (fault : MergeFault) → cost_begun texts keep map_text ≡ Ok begun → hosts ≡ begun.hosts
+    → StopsCounting hosts old new fault → StopsCount texts keep map_text old new fault
+count_stopped texts keep map_text begun hosts old new fault is same stops =
+    stops_map _ _ new fault (λ f found. inr (begun, is, subst (λ (hs : List Host). IsInventoryFault hs old new f) same found)) stops
 
 -- the inventories were read, and this is the cost
 pub has_counted : (hosts : List HostText) (keep : KeepRules) (map_text : List ℕ) (begun : BegunCost) (over : InventoriesValue) (names : MapText) (old new : Ledger) (texts : List (List ℕ)) (cost : Cost) → over ≡ behind begun.hosts texts → cost_begun hosts keep map_text ≡ Ok begun → names ≡ begun.names

@@ -1,5 +1,5 @@
 -- The files of a merge, and what it stops for.
-use Rattle.std.proofs.Common.{◌≡◌, ◌++◌, ◌∷◌, [], ℕ, Bool, List, length, map, Some, Result, Ok, Err, refl, sym, ap, subst, ◌∙◌, inl, inr}
+use Rattle.std.proofs.Common.{◌≡◌, ◌++◌, ◌∷◌, [], ℕ, List, length, map, Some, Result, Ok, Err, refl, sym, ap, subst, ◌∙◌, inl, inr}
 use Rattle.std.specs.Prelude.{IfOk}
 use Rattle.std.specs.List.{slice_get}
 use Rattle.std.specs.Option.{option_map}
@@ -9,7 +9,7 @@ use Rattle.mtree_inv.specs.declared.entry.Entry.{Entry}
 use Rattle.hosts_join.specs.Site.{Joined}
 use Rattle.hosts_join.specs.declared.host.Host.{Host}
 use Rattle.hosts_join.specs.declared.texts.HostText.{HostText}
-use Rattle.ownership.specs.Mappings.{Mappings}
+use Rattle.ownership.specs.declared.mapping.Mappings.{Mappings}
 use Rattle.unify_texts.specs.declared.fault.Fault.{Fault}
 use Rattle.unify.specs.declared.counting.Cost.{Cost}
 use Rattle.unify.specs.declared.outcome.Outcome.{Outcome}
@@ -41,8 +41,8 @@ use Rattle.unify_merge.proofs.Planned.{files_more}
 use Rattle.unify_merge.proofs.Stops.{stops_map}
 
 -- the same readings before
-pub planning_same : (read : List (Host × List Entry)) (old other new : Ledger) (failed : Bool) (fault : MergeFault) → other.read ≡ old.read → StopsPlanning read other new failed fault → StopsPlanning read old new failed fault
-planning_same read old other new failed fault same stops = stops_map _ _ new failed fault (λ f is. record {
+pub planning_same : (read : List (Host × List Entry)) (old other new : Ledger) (fault : MergeFault) → other.read ≡ old.read → StopsPlanning read other new fault → StopsPlanning read old new fault
+planning_same read old other new fault same stops = stops_map _ _ new fault (λ f is. record {
   texts = is.texts;
   again = is.again;
   accepted = is.accepted;
@@ -54,10 +54,10 @@ planning_same read old other new failed fault same stops = stops_map _ _ new fai
 }) stops
 
 -- the files of a host were not written, and so the merge ended early
-pub writing_stopped : (read : List (Host × List Entry)) (old new : Ledger) (failed : Bool) (fault : MergeFault) → StopsWriting failed fault → StopsPlanning read old new failed fault
-writing_stopped read old new failed Failed stops = stops
-writing_stopped read old new failed TooLarge stops = absurd stops
-writing_stopped read old new failed (Refused e) stops = subst (λ (x : Fault). StopsPlanning read old new failed (Refused x)) (sym stops) tt
+pub writing_stopped : (read : List (Host × List Entry)) (old new : Ledger) (fault : MergeFault) → StopsWriting fault → StopsPlanning read old new fault
+writing_stopped read old new (Failed e) stops = stops
+writing_stopped read old new TooLarge stops = absurd stops
+writing_stopped read old new (Refused e) stops = subst (λ (x : Fault). StopsPlanning read old new (Refused x)) (sym stops) tt
 
 -- the first files, the plans, those of each host, and the report
 pub merged_all : (texts : List HostText) (begun : BegunSite) (m : Mappings) (outcome : Outcome) (plans : List (List ℕ)) (old first mid own new : Ledger) → first ≡ after_files (first_files outcome) (cleared old)
@@ -82,16 +82,16 @@ if_ok (Ok x) P Q goes p = goes x p
 if_ok (Err e) P Q goes p = tt
 
 -- the first reading ended early, and so did the merge
-pub counted_stopped : (texts : List HostText) (rules : SiteRules) (begun : BegunSite) (hosts : List Host) (old new : Ledger) (failed : Bool) (fault : MergeFault) → site_begun texts rules ≡ Ok begun → hosts ≡ begun.hosts → ReadsOnly old new
-    → StopsCounting hosts old new failed fault → StopsMerge texts rules old new failed fault
-counted_stopped texts rules begun hosts old new failed fault is same reads stops =
-    stops_map _ _ new failed fault (λ f found. inr (inl (begun, is, subst (λ (hs : List Host). IsInventoryFault hs old new f) same found, reads))) stops
+pub counted_stopped : (texts : List HostText) (rules : SiteRules) (begun : BegunSite) (hosts : List Host) (old new : Ledger) (fault : MergeFault) → site_begun texts rules ≡ Ok begun → hosts ≡ begun.hosts → ReadsOnly old new
+    → StopsCounting hosts old new fault → StopsMerge texts rules old new fault
+counted_stopped texts rules begun hosts old new fault is same reads stops =
+    stops_map _ _ new fault (λ f found. inr (inl (begun, is, subst (λ (hs : List Host). IsInventoryFault hs old new f) same found, reads))) stops
 
 -- the second did, and so did the merge
-pub written_stopped : (texts : List HostText) (rules : SiteRules) (old mid new : Ledger) (s : SolvedValue) (failed : Bool) (fault : MergeFault) (h : HasSolved texts rules old mid s) → StopsPlanning h.were mid new failed fault → StopsMerge texts rules old new failed fault
-written_stopped texts rules old mid new s failed fault h stops =
-    let from = planning_same h.were (record old { read = old.read ++ readings_from 0 h.first }) mid new failed fault h.readings stops in
-    stops_map _ _ new failed fault (λ f is. inr (inr (record { begun = h.begun; begun_is = h.begun_is; first = h.first; were = h.were; first_read = h.first_read; change = is }))) from
+pub written_stopped : (texts : List HostText) (rules : SiteRules) (old mid new : Ledger) (s : SolvedValue) (fault : MergeFault) (h : HasSolved texts rules old mid s) → StopsPlanning h.were mid new fault → StopsMerge texts rules old new fault
+written_stopped texts rules old mid new s fault h stops =
+    let from = planning_same h.were (record old { read = old.read ++ readings_from 0 h.first }) mid new fault h.readings stops in
+    stops_map _ _ new fault (λ f is. inr (inr (record { begun = h.begun; begun_is = h.begun_is; first = h.first; were = h.were; first_read = h.first_read; change = is }))) from
 
 -- the first pass is over, and the second is at its start
 pub has_solved : (texts : List HostText) (rules : SiteRules) (begun : BegunSite) (over : InventoriesValue) (site : Joined) (s : SolvedValue) (old new : Ledger) (first : List (List ℕ)) (read : List (Host × List Entry)) → over ≡ behind begun.hosts first → read_in over ≡ Ok read → site_begun texts rules ≡ Ok begun

@@ -1,6 +1,6 @@
 -- What a check of a certificate does, from the bytes that it reads to its answer.
 -- Source: this project's own rule.
-use Rattle.std.specs.Prelude.{◌≡◌, ℕ, ◌⊎◌, Bool, List, Ok, Err}
+use Rattle.std.specs.Prelude.{◌≡◌, ℕ, ◌⊎◌, List, Ok, Err}
 use Rattle.hosts_join.specs.declared.texts.HostText.{HostText}
 use Rattle.unify_texts.specs.declared.fault.Fault.{Fault}
 use Rattle.unify.specs.declared.rules.SiteRules.{SiteRules}
@@ -31,7 +31,6 @@ IsCheckFault hosts rules certificate old new f =
     × (check_of (with_inventories hosts texts) rules certificate ≡ Err f)))
 
 -- why a check ended early
-abbrev pub StopsCheck : List HostText → SiteRules → List ℕ → Ledger → Ledger → Bool → MergeFault
-    → Type 0
+abbrev pub StopsCheck : List HostText → SiteRules → List ℕ → Ledger → Ledger → MergeFault → Type 0
 StopsCheck hosts rules certificate old new =
     StopsFor (IsCheckFault hosts rules certificate old new) new

@@ -1,6 +1,6 @@
 -- What a count of a map does, from the bytes that it reads to its answer.
 -- Source: this project's own rule.
-use Rattle.std.specs.Prelude.{◌≡◌, ℕ, ◌⊎◌, Bool, List, Ok, Err}
+use Rattle.std.specs.Prelude.{◌≡◌, ℕ, ◌⊎◌, List, Ok, Err}
 use Rattle.hosts_join.specs.declared.texts.HostText.{HostText}
 use Rattle.unify_texts.specs.declared.fault.Fault.{Fault}
 use Rattle.unify.specs.declared.counting.Cost.{Cost}
@@ -27,6 +27,5 @@ IsCountFault hosts keep map_text old new f =
     × IsInventoryFault begun.hosts old new f)
 
 -- why a count ended early
-abbrev pub StopsCount : List HostText → KeepRules → List ℕ → Ledger → Ledger → Bool → MergeFault
-    → Type 0
+abbrev pub StopsCount : List HostText → KeepRules → List ℕ → Ledger → Ledger → MergeFault → Type 0
 StopsCount hosts keep map_text old new = StopsFor (IsCountFault hosts keep map_text old new) new

@@ -1,6 +1,6 @@
 -- The inventories as they are read the first time, and counted.
 -- Source: this project's own rule.
-use Rattle.std.specs.Prelude.{◌≡◌, ℕ, ◌+◌, ◌<◌, ◌≤◌, ◌⊎◌, Bool, true, List}
+use Rattle.std.specs.Prelude.{◌≡◌, ℕ, ◌+◌, ◌<◌, ◌≤◌, ◌⊎◌, ⊤, List}
 use Rattle.std.specs.Prelude.{[], ◌∷◌, ◌++◌, length, Some, Ok, Err, IfSome, slice_get}
 use Rattle.std.specs.List.{All}
 use Rattle.idtext.specs.First.{each}
@@ -52,12 +52,12 @@ IsTooLarge l =
     (host : ℕ) × (text : List ℕ) × (l.reading ≡ Some (record { host = host; text = text }))
     × (most_inventory_bytes < length text)
 
--- Why a command ended early: a call failed; the inventory that is read is too large; or what was
--- read has one of these faults, or memory was wanting.
-abbrev pub StopsFor : (Fault → Type 0) → Ledger → Bool → MergeFault → Type 0
-StopsFor IsFault l failed Failed = failed ≡ true
-StopsFor IsFault l failed TooLarge = IsTooLarge l
-StopsFor IsFault l failed (Refused e) = IfSome (told e) IsFault
+-- Why a command ended early: a call failed, of which Failures.antt tells; the inventory that is read
+-- is too large; or what was read has one of these faults, or memory was wanting.
+abbrev pub StopsFor : (Fault → Type 0) → Ledger → MergeFault → Type 0
+StopsFor IsFault l (Failed e) = ⊤
+StopsFor IsFault l TooLarge = IsTooLarge l
+StopsFor IsFault l (Refused e) = IfSome (told e) IsFault
 
 -- nothing was written in between
 abbrev pub ReadsOnly : Ledger → Ledger → Type 0
@@ -75,7 +75,7 @@ IsFirstFault host index before l f = (text : List ℕ)
     × (is_read (files_of (record { host = host; mtree = text })) ≡ Err f)))
 
 -- why it ended early
-abbrev pub StopsFirst : Host → ℕ → List Reading → Ledger → Bool → MergeFault → Type 0
+abbrev pub StopsFirst : Host → ℕ → List Reading → Ledger → MergeFault → Type 0
 StopsFirst host index before l = StopsFor (IsFirstFault host index before l) l
 
 -- ---- those of all inventories
@@ -91,7 +91,7 @@ pub record IsInventoryFault (hosts : List Host) (old new : Ledger) (f : Fault) :
   pub fault : IsFirstFault host (length texts) (old.read ++ readings_from 0 texts) new f
 
 -- why they ended early
-abbrev pub StopsCounting : List Host → Ledger → Ledger → Bool → MergeFault → Type 0
+abbrev pub StopsCounting : List Host → Ledger → Ledger → MergeFault → Type 0
 StopsCounting hosts old new = StopsFor (IsInventoryFault hosts old new) new
 
 -- ---- inventories that were read

@@ -2,6 +2,7 @@ pub mod Ledger
 pub mod LedgerCode
 pub mod Noted
 pub mod Pieces
+pub mod Failures
 pub mod FirstReading
 pub mod Survey
 pub mod SecondReading

@@ -1,13 +1,13 @@
 -- What a merge does, from the bytes that it reads to the bytes of each file.
 -- Source: this project's own rule.
-use Rattle.std.specs.Prelude.{◌≡◌, ◌<◌, ◌≤◌, ◌+◌, ◌⊎◌, ℕ, Bool, false}
+use Rattle.std.specs.Prelude.{◌≡◌, ◌<◌, ◌≤◌, ◌+◌, ◌⊎◌, ℕ, false}
 use Rattle.std.specs.Prelude.{List, [], ◌∷◌, ◌++◌}
 use Rattle.std.specs.Prelude.{length, map, drop, if◌then◌else◌, codes, Ok, Err}
 use Rattle.idtext.specs.First.{each}
 use Rattle.mtree_inv.specs.declared.entry.Entry.{Entry}
 use Rattle.hosts_join.specs.declared.host.Host.{Host}
 use Rattle.hosts_join.specs.declared.texts.HostText.{HostText}
-use Rattle.ownership.specs.Mappings.{Mappings}
+use Rattle.ownership.specs.declared.mapping.Mappings.{Mappings}
 use Rattle.unify_texts.specs.ReservedLines.{keeps_a_name}
 use Rattle.unify_texts.specs.declared.fault.Fault.{Fault}
 use Rattle.unify.specs.declared.counting.Cost.{Cost}
@@ -166,7 +166,7 @@ IsMergeFault texts rules old new f =
     ⊎ IsSecondFault texts rules old new f)
 
 -- why a merge ended early
-abbrev pub StopsMerge : List HostText → SiteRules → Ledger → Ledger → Bool → MergeFault → Type 0
+abbrev pub StopsMerge : List HostText → SiteRules → Ledger → Ledger → MergeFault → Type 0
 StopsMerge texts rules old new = StopsFor (IsMergeFault texts rules old new) new
 
 -- ---- what an early end leaves

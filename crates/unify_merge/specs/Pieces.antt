@@ -14,8 +14,8 @@ GoesOn r bytes left less old new true =
 GoesOn r bytes left less old new false = new ≡ after_reading r.host r.text old
 
 -- the call failed, or more bytes came than may come
-abbrev pub EndsEarly : Reading → List ℕ → ℕ → Ledger → Ledger → Bool → MergeFault → Type 0
-EndsEarly r bytes left old new failed Failed = (failed ≡ true) × (new ≡ old)
-EndsEarly r bytes left old new failed TooLarge =
+abbrev pub EndsEarly : Reading → List ℕ → ℕ → Ledger → Ledger → MergeFault → Type 0
+EndsEarly r bytes left old new (Failed e) = new ≡ old
+EndsEarly r bytes left old new TooLarge =
     (new ≡ reading_so_far r.host (r.text ++ bytes) old) × (left < length bytes)
-EndsEarly r bytes left old new failed (Refused e) = ⊥
+EndsEarly r bytes left old new (Refused e) = ⊥

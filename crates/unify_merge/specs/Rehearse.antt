@@ -1,7 +1,7 @@
 -- What a rehearsal of a plan does, from the bytes that it reads to its answer. Of the files it
 -- reads the first inventory.
 -- Source: this project's own rule.
-use Rattle.std.specs.Prelude.{◌≡◌, ℕ, ◌⊎◌, Bool, List, Ok, Err}
+use Rattle.std.specs.Prelude.{◌≡◌, ℕ, ◌⊎◌, List, Ok, Err}
 use Rattle.reown_plan.specs.PlanData.{PlanData}
 use Rattle.reown_plan.specs.Reading.{ReadsAs}
 use Rattle.unify_texts.specs.declared.fault.Fault.{Fault}
@@ -27,7 +27,7 @@ IsCarryingFault plan before l f = (text : List ℕ)
     ⊎ (HasRead before 0 text l × (rehearsed (Ok plan) text ≡ Err f)))
 
 -- why it ended early
-abbrev pub StopsCarrying : PlanData → List Reading → Ledger → Bool → MergeFault → Type 0
+abbrev pub StopsCarrying : PlanData → List Reading → Ledger → MergeFault → Type 0
 StopsCarrying plan before l = StopsFor (IsCarryingFault plan before l) l
 
 -- ---- with the text of the plan
@@ -42,5 +42,5 @@ IsRehearsalFault text old new f =
     ((offset : ℕ) × ReadsAs text (Err offset) × (f ≡ BadPlan offset) × (new ≡ old))
     ⊎ ((plan : PlanData) × ReadsAs text (Ok plan) × IsCarryingFault plan old.read new f)
 
-abbrev pub StopsRehearsal : List ℕ → Ledger → Ledger → Bool → MergeFault → Type 0
+abbrev pub StopsRehearsal : List ℕ → Ledger → Ledger → MergeFault → Type 0
 StopsRehearsal text old new = StopsFor (IsRehearsalFault text old new) new

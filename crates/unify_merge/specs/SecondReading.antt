@@ -1,6 +1,6 @@
 -- The inventories as they are read the second time, while plans are written.
 -- Source: this project's own rule.
-use Rattle.std.specs.Prelude.{◌≡◌, ◌≤◌, ◌<◌, ◌+◌, ℕ, ◌⊎◌, Bool, true, List, [], ◌∷◌, ◌++◌, length}
+use Rattle.std.specs.Prelude.{◌≡◌, ◌≤◌, ◌<◌, ◌+◌, ℕ, ◌⊎◌, ⊤, List, [], ◌∷◌, ◌++◌, length}
 use Rattle.std.specs.Prelude.{map, codes, Some, Ok, Err, IfSome, slice_get}
 use Rattle.idtext.specs.First.{each}
 use Rattle.mtree_inv.specs.declared.entry.Entry.{Entry}
@@ -47,23 +47,23 @@ IsChangeFault host were index before l f =
     (f ≡ InventoryChanged host.name) × IsChange host were index before l
 
 -- why a piece of it, after which this much had come, or its end was refused
-abbrev pub StopsPiece : Host → List ℕ → Bool → MergeFault → Type 0
-StopsPiece host text failed Failed = failed ≡ true
-StopsPiece host text failed TooLarge = ⊥
-StopsPiece host text failed (Refused e) =
+abbrev pub StopsPiece : Host → List ℕ → MergeFault → Type 0
+StopsPiece host text (Failed e) = ⊤
+StopsPiece host text TooLarge = ⊥
+StopsPiece host text (Refused e) =
     IfSome (told e) (λ f. (f ≡ InventoryChanged host.name) × (g : Fault)
     × (is_read (second_lines host text) ≡ Err g))
 
-abbrev pub StopsEnd : Host → List Entry → List ℕ → Bool → MergeFault → Type 0
-StopsEnd host were text failed Failed = failed ≡ true
-StopsEnd host were text failed TooLarge = ⊥
-StopsEnd host were text failed (Refused e) =
+abbrev pub StopsEnd : Host → List Entry → List ℕ → MergeFault → Type 0
+StopsEnd host were text (Failed e) = ⊤
+StopsEnd host were text TooLarge = ⊥
+StopsEnd host were text (Refused e) =
     IfSome (told e) (λ f. (f ≡ InventoryChanged host.name)
     × ((files : List Entry) → second_files host text ≡ Ok files → HaveSameCounts host were files
     → ⊥))
 
 -- why it ended early
-abbrev pub StopsSecond : Host → List Entry → ℕ → List Reading → Ledger → Bool → MergeFault → Type 0
+abbrev pub StopsSecond : Host → List Entry → ℕ → List Reading → Ledger → MergeFault → Type 0
 StopsSecond host were index before l = StopsFor (IsChangeFault host were index before l) l
 
 -- only the file that is written has changed
@@ -236,5 +236,5 @@ pub record IsSiteChange (read : List (Host × List Entry)) (old new : Ledger) (f
     pub change : IsChangeFault host were (length texts) (old.read ++ readings_from 0 texts) new f
 
 -- why they ended early
-abbrev pub StopsPlanning : List (Host × List Entry) → Ledger → Ledger → Bool → MergeFault → Type 0
+abbrev pub StopsPlanning : List (Host × List Entry) → Ledger → Ledger → MergeFault → Type 0
 StopsPlanning read old new = StopsFor (IsSiteChange read old new) new

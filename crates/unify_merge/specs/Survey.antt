@@ -1,7 +1,7 @@
 -- The inventories as they are read for the numbers that their files have and no account of their
 -- host has.
 -- Source: this project's own rule.
-use Rattle.std.specs.Prelude.{◌≡◌, ℕ, ◌⊎◌, Bool, List, ◌++◌, length, Some, Ok, Err}
+use Rattle.std.specs.Prelude.{◌≡◌, ℕ, ◌⊎◌, List, ◌++◌, length, Some, Ok, Err}
 use Rattle.std.specs.Prelude.{slice_get}
 use Rattle.idtext.specs.First.{each}
 use Rattle.mtree_inv.specs.declared.entry.Entry.{Entry}
@@ -41,7 +41,7 @@ IsReadFault host index before l f = (text : List ℕ)
     ⊎ (HasRead before index text l × (is_read (inventory_of host text) ≡ Err f)))
 
 -- why its reading ended early
-abbrev pub StopsReading : Host → ℕ → List Reading → Ledger → Bool → MergeFault → Type 0
+abbrev pub StopsReading : Host → ℕ → List Reading → Ledger → MergeFault → Type 0
 StopsReading host index before l = StopsFor (IsReadFault host index before l) l
 
 -- ---- those of all hosts
@@ -73,5 +73,5 @@ pub record IsSurveyFault (hosts : List Host) (old new : Ledger) (f : Fault) : Ty
   pub fault : IsReadFault host (length texts) (old.read ++ readings_from 0 texts) new f
 
 -- why a survey ended early
-abbrev pub StopsSurvey : List Host → Ledger → Ledger → Bool → MergeFault → Type 0
+abbrev pub StopsSurvey : List Host → Ledger → Ledger → MergeFault → Type 0
 StopsSurvey hosts old new = StopsFor (IsSurveyFault hosts old new) new

@@ -1,7 +1,7 @@
 -- What a command does that first finds the numbers without an account, where its keep text keeps
 -- them: the inventories are read once for that.
 -- Source: this project's own rule.
-use Rattle.std.specs.Prelude.{◌≡◌, ℕ, ◌⊎◌, Bool, List, ◌++◌, length, Ok, Err}
+use Rattle.std.specs.Prelude.{◌≡◌, ℕ, ◌⊎◌, List, ◌++◌, length, Ok, Err}
 use Rattle.hosts_join.specs.declared.host.Host.{Host}
 use Rattle.hosts_join.specs.declared.texts.HostText.{HostText}
 use Rattle.kept_accounts.specs.Reserving.{UnownedNumbers}
@@ -41,7 +41,7 @@ IsFindingFault hosts keep old new f =
     × IsSurveyFault surveying old new f)
 
 -- why it ended early
-abbrev pub StopsFinding : List HostText → List ℕ → Ledger → Ledger → Bool → MergeFault → Type 0
+abbrev pub StopsFinding : List HostText → List ℕ → Ledger → Ledger → MergeFault → Type 0
 StopsFinding hosts keep old new = StopsFor (IsFindingFault hosts keep old new) new
 
 -- ---- after it
@@ -58,12 +58,11 @@ abbrev pub HasMergedFiles : List HostText → List ℕ → List ℕ → Ledger �
 HasMergedFiles hosts pins keep old new cost = Behind hosts keep old
     (λ unowned middle. HasMerged hosts (rules_by pins keep unowned) middle new cost)
 
-abbrev pub StopsMergeFiles : List HostText → List ℕ → List ℕ → Ledger → Ledger → Bool → MergeFault
-    → Type 0
-StopsMergeFiles hosts pins keep old new failed fault =
-    StopsFinding hosts keep old new failed fault
+abbrev pub StopsMergeFiles : List HostText → List ℕ → List ℕ → Ledger → Ledger → MergeFault → Type 0
+StopsMergeFiles hosts pins keep old new fault =
+    StopsFinding hosts keep old new fault
     ⊎ Behind hosts keep old
-    (λ unowned middle. StopsMerge hosts (rules_by pins keep unowned) middle new failed fault)
+    (λ unowned middle. StopsMerge hosts (rules_by pins keep unowned) middle new fault)
 
 -- nothing was written or cleared away; or after the survey the writing broke off
 abbrev pub LeavesFiles : List HostText → List ℕ → List ℕ → Ledger → Ledger → Type 0
@@ -77,23 +76,22 @@ abbrev pub HasCheckedFiles : List HostText → List ℕ → List ℕ → List �
 HasCheckedFiles hosts pins keep certificate old new cost = Behind hosts keep old
     (λ unowned middle. HasChecked hosts (rules_by pins keep unowned) certificate middle new cost)
 
-abbrev pub StopsCheckFiles : List HostText → List ℕ → List ℕ → List ℕ → Ledger → Ledger → Bool
+abbrev pub StopsCheckFiles : List HostText → List ℕ → List ℕ → List ℕ → Ledger → Ledger
     → MergeFault → Type 0
-StopsCheckFiles hosts pins keep certificate old new failed fault =
-    StopsFinding hosts keep old new failed fault
+StopsCheckFiles hosts pins keep certificate old new fault =
+    StopsFinding hosts keep old new fault
     ⊎ Behind hosts keep old
     (λ unowned middle.
-    StopsCheck hosts (rules_by pins keep unowned) certificate middle new failed fault)
+    StopsCheck hosts (rules_by pins keep unowned) certificate middle new fault)
 
 abbrev pub HasCountedFiles : List HostText → List ℕ → List ℕ → Ledger → Ledger → Cost → Type 0
 HasCountedFiles hosts keep map old new cost = Behind hosts keep old
     (λ unowned middle.
     HasCounted hosts (record { text = keep; unowned = unowned }) map middle new cost)
 
-abbrev pub StopsCountFiles : List HostText → List ℕ → List ℕ → Ledger → Ledger → Bool → MergeFault
-    → Type 0
-StopsCountFiles hosts keep map old new failed fault =
-    StopsFinding hosts keep old new failed fault
+abbrev pub StopsCountFiles : List HostText → List ℕ → List ℕ → Ledger → Ledger → MergeFault → Type 0
+StopsCountFiles hosts keep map old new fault =
+    StopsFinding hosts keep old new fault
     ⊎ Behind hosts keep old
     (λ unowned middle.
-    StopsCount hosts (record { text = keep; unowned = unowned }) map middle new failed fault)
+    StopsCount hosts (record { text = keep; unowned = unowned }) map middle new fault)

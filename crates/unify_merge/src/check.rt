@@ -1,6 +1,7 @@
 //! A check of a certificate, from the bytes that it reads.
 
-ghost use Rattle.std.specs.Prelude.{IfOk, IfErr};
+ghost use Rattle.std.specs.Prelude.{◌≡◌, IfOk, IfErr};
+ghost use Rattle.unify_merge.specs.Failures.{failure_after};
 ghost use Rattle.unify_merge.specs.Check.{HasChecked, StopsCheck};
 ghost use Rattle.unify_merge.specs.FirstReading.{ReadsOnly};
 ghost use Rattle.unify_merge.specs.Surveyed.{HasCheckedFiles, StopsCheckFiles};
@@ -35,8 +36,8 @@ pub fn check_by<'a, F: ReadFiles>(
     ensures checked { IfOk result
         (HasChecked hosts.now rules.now certificate.now (F.ledger files.old) (F.ledger files.new)) }
     ensures stopped { IfErr result
-        (StopsCheck hosts.now rules.now certificate.now (F.ledger files.old) (F.ledger files.new)
-        (F.has_failed files.new)) }
+        (StopsCheck hosts.now rules.now certificate.now (F.ledger files.old) (F.ledger files.new)) }
+    ensures calls { F.failure files.new ≡ failure_after result (F.failure files.old) }
     ensures reads { ReadsOnly (F.ledger files.old) (F.ledger files.new) }
 {
     let mut begun = begin_site(alloc, hosts, rules)?;
@@ -63,7 +64,8 @@ pub fn check_files<'a, F: ReadFiles>(
         (F.ledger files.new)) }
     ensures stopped { IfErr result
         (StopsCheckFiles hosts.now pins.now keep.now certificate.now (F.ledger files.old)
-        (F.ledger files.new) (F.has_failed files.new)) }
+        (F.ledger files.new)) }
+    ensures calls { F.failure files.new ≡ failure_after result (F.failure files.old) }
     ensures reads { ReadsOnly (F.ledger files.old) (F.ledger files.new) }
 {
     let unowned = survey_files(alloc, files, hosts, keep)?;

@@ -1,6 +1,7 @@
 //! A count of a map, from the bytes that it reads.
 
-ghost use Rattle.std.specs.Prelude.{IfOk, IfErr};
+ghost use Rattle.std.specs.Prelude.{◌≡◌, IfOk, IfErr};
+ghost use Rattle.unify_merge.specs.Failures.{failure_after};
 ghost use Rattle.unify_merge.specs.Count.{HasCounted, StopsCount};
 ghost use Rattle.unify_merge.specs.FirstReading.{ReadsOnly};
 ghost use Rattle.unify_merge.specs.Surveyed.{HasCountedFiles, StopsCountFiles};
@@ -36,8 +37,8 @@ pub fn count_by<'a, F: ReadFiles>(
     ensures counted { IfOk result
         (HasCounted hosts.now keep.now map.now (F.ledger files.old) (F.ledger files.new)) }
     ensures stopped { IfErr result
-        (StopsCount hosts.now keep.now map.now (F.ledger files.old) (F.ledger files.new)
-        (F.has_failed files.new)) }
+        (StopsCount hosts.now keep.now map.now (F.ledger files.old) (F.ledger files.new)) }
+    ensures calls { F.failure files.new ≡ failure_after result (F.failure files.old) }
     ensures reads { ReadsOnly (F.ledger files.old) (F.ledger files.new) }
 {
     let mut begun = begin_count(alloc, hosts, keep, map)?;
@@ -61,8 +62,8 @@ pub fn count_files<'a, F: ReadFiles>(
     ensures counted { IfOk result
         (HasCountedFiles hosts.now keep.now map.now (F.ledger files.old) (F.ledger files.new)) }
     ensures stopped { IfErr result
-        (StopsCountFiles hosts.now keep.now map.now (F.ledger files.old) (F.ledger files.new)
-        (F.has_failed files.new)) }
+        (StopsCountFiles hosts.now keep.now map.now (F.ledger files.old) (F.ledger files.new)) }
+    ensures calls { F.failure files.new ≡ failure_after result (F.failure files.old) }
     ensures reads { ReadsOnly (F.ledger files.old) (F.ledger files.new) }
 {
     let unowned = survey_files(alloc, files, hosts, keep)?;

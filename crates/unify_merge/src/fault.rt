@@ -11,8 +11,8 @@ use unify_texts::Fault;
 /// Why a merge ended early.
 #[derive(Drop)]
 pub enum MergeFault<'a> {
-    /// A call on the files failed.
-    Failed,
+    /// This call on the files failed.
+    Failed(CallFailed),
     /// The inventory that was read last has more than 4,294,967,295 bytes.
     TooLarge,
     /// What was read is refused, or a growth was.
@@ -20,10 +20,10 @@ pub enum MergeFault<'a> {
 }
 
 impl<'a> From<CallFailed> for MergeFault<'a> {
-    ghost from_gives = { λ _ e. e ≡ Failed };
+    ghost from_gives = { λ failed e. e ≡ Failed failed };
 
-    fn from(_failed: CallFailed) -> MergeFault<'a> {
-        MergeFault::Failed
+    fn from(failed: CallFailed) -> MergeFault<'a> {
+        MergeFault::Failed(failed)
     }
 }
 

@@ -5,6 +5,7 @@ ghost use Rattle.std.specs.Prelude.{OnOk, IfErr};
 ghost use Rattle.mtree_inv.specs.declared.entry.Entry.{Entry};
 ghost use Rattle.hosts_join.specs.declared.host.Host.{Host};
 ghost use Rattle.unify.specs.Passes.{at_start, behind, ended_in, read_in};
+ghost use Rattle.unify_merge.specs.Failures.{failure_after};
 ghost use Rattle.unify_merge.specs.FirstReading.{AreWithinLimit, HasRead, IsWithinLimit};
 ghost use Rattle.unify_merge.specs.FirstReading.{ReadsOnly, StopsCounting, StopsFirst};
 ghost use Rattle.unify_merge.specs.FirstReading.{readings_from};
@@ -35,7 +36,8 @@ fn count_reading<'a, F: ReadFiles>(
         (λ fault. (host : Host)
         → slice_get inventories.old.hosts (ended_in inventories.old) ≡ Some host
         → StopsFirst host (ended_in inventories.old) (F.ledger files.old).read (F.ledger files.new)
-        (F.has_failed files.new) fault) }
+        fault) }
+    ensures calls { F.failure files.new ≡ failure_after result (F.failure files.old) }
     ensures reads { ReadsOnly (F.ledger files.old) (F.ledger files.new) }
 {
     let mut left = MOST_INVENTORY_BYTES;
@@ -65,7 +67,8 @@ fn count_host<'a, F: ReadFiles>(
     ensures stopped { IfErr result
         (λ fault. (host : Host) → slice_get inventories.old.hosts index ≡ Some host
         → StopsFirst host index (F.ledger files.old).read (F.ledger files.new)
-        (F.has_failed files.new) fault) }
+        fault) }
+    ensures calls { F.failure files.new ≡ failure_after result (F.failure files.old) }
     ensures reads { ReadsOnly (F.ledger files.old) (F.ledger files.new) }
 {
     files.open(index)?;
@@ -87,8 +90,8 @@ pub fn count_hosts<'a, F: ReadFiles>(
     ensures accepted { OnOk result
         ((read : List (Host × List Entry)) × (read_in inventories.new ≡ Ok read)) }
     ensures stopped { IfErr result
-        (λ fault. StopsCounting inventories.old.hosts (F.ledger files.old) (F.ledger files.new)
-        (F.has_failed files.new) fault) }
+        (StopsCounting inventories.old.hosts (F.ledger files.old) (F.ledger files.new)) }
+    ensures calls { F.failure files.new ≡ failure_after result (F.failure files.old) }
     ensures reads { ReadsOnly (F.ledger files.old) (F.ledger files.new) }
 {
     let mut bytes = Vec::new(alloc);

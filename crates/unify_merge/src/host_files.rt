@@ -5,6 +5,7 @@ ghost use Rattle.std.specs.Prelude.{OnOk, IfErr, OnErr};
 ghost use Rattle.hosts_join.specs.declared.host.Host.{Host};
 ghost use Rattle.unify.specs.Merging.{mappings_in};
 ghost use Rattle.unify_laws.specs.HostTexts.{group_file, host_files, passwd_file};
+ghost use Rattle.unify_merge.specs.Failures.{failure_after};
 ghost use Rattle.unify_merge.specs.Ledger.{BrokeOff, after_files};
 ghost use Rattle.unify_merge.specs.HostFiles.{HasFiles, StopsWriting};
 
@@ -28,7 +29,8 @@ fn write_text<'a, F: MergeFiles>(
         (F.ledger files.new
         ≡ after_files (record { name = start.now ++ host.now.name; text = text.now } ∷ [])
         (F.ledger files.old)) }
-    ensures stopped { IfErr result (StopsWriting (F.has_failed files.new)) }
+    ensures stopped { IfErr result StopsWriting }
+    ensures calls { F.failure files.new ≡ failure_after result (F.failure files.old) }
     ensures left { OnErr result
         (BrokeOff (record { name = start.now ++ host.now.name; text = text.now } ∷ [])
         (F.ledger files.old) (F.ledger files.new)) }
@@ -54,7 +56,8 @@ fn write_passwd<'a, F: MergeFiles>(
         ≡ after_files
         (passwd_file here solved.now.joined (mappings_in solved.now.merged) host.now ∷ [])
         (F.ledger files.old)) }
-    ensures stopped { IfErr result (StopsWriting (F.has_failed files.new)) }
+    ensures stopped { IfErr result StopsWriting }
+    ensures calls { F.failure files.new ≡ failure_after result (F.failure files.old) }
     ensures left { OnErr result
         ((here : Host) → slice_get solved.now.hosts index ≡ Some here
         → BrokeOff
@@ -77,7 +80,8 @@ fn write_group<'a, F: MergeFiles>(
         (F.ledger files.new
         ≡ after_files (group_file solved.now.joined (mappings_in solved.now.merged) host.now ∷ [])
         (F.ledger files.old)) }
-    ensures stopped { IfErr result (StopsWriting (F.has_failed files.new)) }
+    ensures stopped { IfErr result StopsWriting }
+    ensures calls { F.failure files.new ≡ failure_after result (F.failure files.old) }
     ensures left { OnErr result
         (BrokeOff (group_file solved.now.joined (mappings_in solved.now.merged) host.now ∷ [])
         (F.ledger files.old) (F.ledger files.new)) }
@@ -103,7 +107,8 @@ fn write_host<'a, F: MergeFiles>(
         (passwd_file here solved.now.joined (mappings_in solved.now.merged) host.now
         ∷ group_file solved.now.joined (mappings_in solved.now.merged) host.now ∷ [])
         (F.ledger files.old)) }
-    ensures stopped { IfErr result (StopsWriting (F.has_failed files.new)) }
+    ensures stopped { IfErr result StopsWriting }
+    ensures calls { F.failure files.new ≡ failure_after result (F.failure files.old) }
     ensures left { OnErr result
         ((here : Host) → slice_get solved.now.hosts index ≡ Some here
         → BrokeOff
@@ -128,7 +133,8 @@ pub fn write_hosts<'a, F: MergeFiles>(
         (HasFiles
         (host_files solved.now.joined (mappings_in solved.now.merged) hosts.now solved.now.hosts)
         (F.ledger files.old) (F.ledger files.new)) }
-    ensures stopped { IfErr result (StopsWriting (F.has_failed files.new)) }
+    ensures stopped { IfErr result StopsWriting }
+    ensures calls { F.failure files.new ≡ failure_after result (F.failure files.old) }
     ensures left { OnErr result
         (BrokeOff
         (host_files solved.now.joined (mappings_in solved.now.merged) hosts.now solved.now.hosts)

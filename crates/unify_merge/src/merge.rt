@@ -1,11 +1,12 @@
 //! A merge, from the bytes that it reads to the bytes of each file.
 
-ghost use Rattle.std.specs.Prelude.{◌≡◌, ◌⊎◌, List, length, true, IfOk, OnOk, IfErr, OnErr};
+ghost use Rattle.std.specs.Prelude.{◌≡◌, ◌⊎◌, List, length, true, Some, IfOk, OnOk, IfErr, OnErr};
 ghost use Rattle.mtree_inv.specs.declared.entry.Entry.{Entry};
 ghost use Rattle.hosts_join.specs.declared.host.Host.{Host};
 ghost use Rattle.unify_texts.specs.declared.fault.Fault.TheVariants.{Memory};
 ghost use Rattle.unify.specs.Passes.{AreTogether, ended_in};
 ghost use Rattle.unify.specs.SecondPass.{IsFresh, IsSolvedFrom, ended_in as ended_again};
+ghost use Rattle.unify_merge.specs.Failures.{failure_after};
 ghost use Rattle.unify_merge.specs.Ledger.{BrokeOff, after_files};
 ghost use Rattle.unify_merge.specs.FirstReading.{ReadsOnly};
 ghost use Rattle.unify_merge.specs.HostFiles.{HasFiles};
@@ -32,7 +33,8 @@ fn write_accounts<F: MergeFiles>(files: &mut F, outcome: &Outcome) -> Result<(),
     requires clear { (F.ledger files.old).is_clear ≡ true }
     ensures written { OnOk result
         (HasFiles (account_files outcome.now) (F.ledger files.old) (F.ledger files.new)) }
-    ensures failed { OnErr result (F.has_failed files.new ≡ true) }
+    ensures ok { OnOk result (F.failure files.new ≡ F.failure files.old) }
+    ensures failed { IfErr result (λ e. F.failure files.new ≡ Some e) }
     ensures left { OnErr result
         (BrokeOff (account_files outcome.now) (F.ledger files.old) (F.ledger files.new)) }
 {
@@ -48,7 +50,8 @@ fn write_first<F: MergeFiles>(files: &mut F, outcome: &Outcome) -> Result<(), Ca
     requires clear { (F.ledger files.old).is_clear ≡ true }
     ensures written { OnOk result
         (F.ledger files.new ≡ after_files (first_files outcome.now) (F.ledger files.old)) }
-    ensures failed { OnErr result (F.has_failed files.new ≡ true) }
+    ensures ok { OnOk result (F.failure files.new ≡ F.failure files.old) }
+    ensures failed { IfErr result (λ e. F.failure files.new ≡ Some e) }
     ensures left { OnErr result
         (BrokeOff (first_files outcome.now) (F.ledger files.old) (F.ledger files.new)) }
 {
@@ -80,8 +83,8 @@ fn solve_hosts<'a, F: MergeFiles>(
     ensures solved { IfOk result
         (HasSolved hosts.now rules.now (F.ledger files.old) (F.ledger files.new)) }
     ensures stopped { IfErr result
-        (StopsMerge hosts.now rules.now (F.ledger files.old) (F.ledger files.new)
-        (F.has_failed files.new)) }
+        (StopsMerge hosts.now rules.now (F.ledger files.old) (F.ledger files.new)) }
+    ensures calls { F.failure files.new ≡ failure_after result (F.failure files.old) }
     ensures reads { ReadsOnly (F.ledger files.old) (F.ledger files.new) }
 {
     let mut begun = begin_site(alloc, hosts, rules)?;
@@ -106,8 +109,9 @@ fn write_merged<'a, F: MergeFiles>(
         → HasWritten hosts.now solved.old read (F.ledger files.old) (F.ledger files.new) cost) }
     ensures stopped { IfErr result
         (λ fault. (read : List (Host × List Entry)) → WereRead solved.old read
-        → StopsPlanning read (F.ledger files.old) (F.ledger files.new) (F.has_failed files.new)
+        → StopsPlanning read (F.ledger files.old) (F.ledger files.new)
         fault) }
+    ensures calls { F.failure files.new ≡ failure_after result (F.failure files.old) }
     ensures left { OnErr result
         ((read : List (Host × List Entry)) → WereRead solved.old read
         → ReadsOnly (F.ledger files.old) (F.ledger files.new)
@@ -149,8 +153,8 @@ pub fn merge_outcome<'a, F: MergeFiles>(
     ensures merged { IfOk result
         (HasMade hosts.now rules.now (F.ledger files.old) (F.ledger files.new)) }
     ensures stopped { IfErr result
-        (StopsMerge hosts.now rules.now (F.ledger files.old) (F.ledger files.new)
-        (F.has_failed files.new)) }
+        (StopsMerge hosts.now rules.now (F.ledger files.old) (F.ledger files.new)) }
+    ensures calls { F.failure files.new ≡ failure_after result (F.failure files.old) }
     ensures left { OnErr result
         (Leaves hosts.now rules.now (F.ledger files.old) (F.ledger files.new)) }
 {
@@ -170,8 +174,8 @@ pub fn merge_by<'a, F: MergeFiles>(
     ensures merged { IfOk result
         (HasMerged hosts.now rules.now (F.ledger files.old) (F.ledger files.new)) }
     ensures stopped { IfErr result
-        (StopsMerge hosts.now rules.now (F.ledger files.old) (F.ledger files.new)
-        (F.has_failed files.new)) }
+        (StopsMerge hosts.now rules.now (F.ledger files.old) (F.ledger files.new)) }
+    ensures calls { F.failure files.new ≡ failure_after result (F.failure files.old) }
     ensures left { OnErr result
         (Leaves hosts.now rules.now (F.ledger files.old) (F.ledger files.new)) }
 {
@@ -195,8 +199,8 @@ pub fn merge_files<'a, F: MergeFiles>(
     ensures merged { IfOk result
         (HasMergedFiles hosts.now pins.now keep.now (F.ledger files.old) (F.ledger files.new)) }
     ensures stopped { IfErr result
-        (StopsMergeFiles hosts.now pins.now keep.now (F.ledger files.old) (F.ledger files.new)
-        (F.has_failed files.new)) }
+        (StopsMergeFiles hosts.now pins.now keep.now (F.ledger files.old) (F.ledger files.new)) }
+    ensures calls { F.failure files.new ≡ failure_after result (F.failure files.old) }
     ensures left { OnErr result
         (LeavesFiles hosts.now pins.now keep.now (F.ledger files.old) (F.ledger files.new)) }
 {

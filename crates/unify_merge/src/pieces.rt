@@ -1,6 +1,7 @@
 //! A reading of an inventory, piece by piece.
 
 ghost use Rattle.std.specs.Prelude.{◌≡◌, Some, IfOk, IfErr};
+ghost use Rattle.unify_merge.specs.Failures.{failure_after};
 ghost use Rattle.unify_merge.specs.Ledger.{Reading};
 ghost use Rattle.unify_merge.specs.Pieces.{EndsEarly, GoesOn};
 
@@ -24,8 +25,8 @@ pub fn next_piece<'a, F: ReadFiles>(
         is_more) }
     ensures stopped { IfErr result
         (λ fault. (r : Reading) → (F.ledger files.old).reading ≡ Some r
-        → EndsEarly r bytes.new.items left.old (F.ledger files.old) (F.ledger files.new)
-        (F.has_failed files.new) fault) }
+        → EndsEarly r bytes.new.items left.old (F.ledger files.old) (F.ledger files.new) fault) }
+    ensures calls { F.failure files.new ≡ failure_after result (F.failure files.old) }
 {
     files.piece(bytes)?;
     let count = bytes.len() as u64;

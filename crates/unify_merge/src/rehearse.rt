@@ -1,8 +1,9 @@
 //! A rehearsal of a plan, from the bytes that it reads.
 
-ghost use Rattle.std.specs.Prelude.{[], IfErr, IfOk};
+ghost use Rattle.std.specs.Prelude.{◌≡◌, [], IfErr, IfOk};
 ghost use Rattle.reown_plan.specs.PlanData.{PlanData};
 ghost use Rattle.unify.specs.PlanRehearsal.{StandsFor};
+ghost use Rattle.unify_merge.specs.Failures.{failure_after};
 ghost use Rattle.unify_merge.specs.FirstReading.{ReadsOnly};
 ghost use Rattle.unify_merge.specs.Rehearse.{HasCarriedOut, StopsCarrying};
 ghost use Rattle.unify_merge.specs.Rehearse.{HasRehearsed, StopsRehearsal};
@@ -27,8 +28,8 @@ fn read_and_end<'a, F: ReadFiles>(
         → HasCarriedOut plan (F.ledger files.old).read (F.ledger files.new) n) }
     ensures stopped { IfErr result
         (λ fault. (plan : PlanData) → StandsFor rehearsal.old plan []
-        → StopsCarrying plan (F.ledger files.old).read (F.ledger files.new)
-        (F.has_failed files.new) fault) }
+        → StopsCarrying plan (F.ledger files.old).read (F.ledger files.new) fault) }
+    ensures calls { F.failure files.new ≡ failure_after result (F.failure files.old) }
     ensures reads { ReadsOnly (F.ledger files.old) (F.ledger files.new) }
 {
     files.open(0)?;
@@ -49,8 +50,8 @@ fn rehearse_plan<'a, F: ReadFiles>(
     ensures carried { IfOk result
         (HasCarriedOut plan.now (F.ledger files.old).read (F.ledger files.new)) }
     ensures stopped { IfErr result
-        (StopsCarrying plan.now (F.ledger files.old).read (F.ledger files.new)
-        (F.has_failed files.new)) }
+        (StopsCarrying plan.now (F.ledger files.old).read (F.ledger files.new)) }
+    ensures calls { F.failure files.new ≡ failure_after result (F.failure files.old) }
     ensures reads { ReadsOnly (F.ledger files.old) (F.ledger files.new) }
 {
     let mut rehearsal = Rehearsal::new(alloc, plan)?;
@@ -76,8 +77,8 @@ pub fn rehearse_files<'a, F: ReadFiles>(
     ensures rehearsed { IfOk result
         (HasRehearsed plan.now (F.ledger files.old) (F.ledger files.new)) }
     ensures stopped { IfErr result
-        (StopsRehearsal plan.now (F.ledger files.old) (F.ledger files.new)
-        (F.has_failed files.new)) }
+        (StopsRehearsal plan.now (F.ledger files.old) (F.ledger files.new)) }
+    ensures calls { F.failure files.new ≡ failure_after result (F.failure files.old) }
     ensures reads { ReadsOnly (F.ledger files.old) (F.ledger files.new) }
 {
     let plan = plan_at(alloc, plan)?;

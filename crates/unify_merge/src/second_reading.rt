@@ -6,6 +6,7 @@ ghost use Rattle.mtree_inv.specs.declared.entry.Entry.{Entry};
 ghost use Rattle.hosts_join.specs.declared.host.Host.{Host};
 ghost use Rattle.unify.specs.SecondPass.{IsFresh, IsNext, IsOfSameSite, WereFirst, ended_in};
 ghost use Rattle.unify.specs.SecondPass.{whole_plan};
+ghost use Rattle.unify_merge.specs.Failures.{failure_after};
 ghost use Rattle.unify_merge.specs.Ledger.{HasBegun, with_bytes};
 ghost use Rattle.unify_merge.specs.SecondReading.{ArePlanned, HasPlan, IsPlanned, IsReadAgain};
 ghost use Rattle.unify_merge.specs.SecondReading.{IsTurnOf, IsWithinFile, StopsEnd, StopsPiece};
@@ -37,7 +38,8 @@ fn plan_piece<'a, F: MergeFiles>(
     requires left { ended_in solved.old < length solved.old.hosts }
     ensures told { IfErr result
         (λ fault. (host : Host) → IsNext solved.old host
-        → StopsPiece host (solved.old.text ++ bytes.now) (F.has_failed files.new) fault) }
+        → StopsPiece host (solved.old.text ++ bytes.now) fault) }
+    ensures calls { F.failure files.new ≡ failure_after result (F.failure files.old) }
     ensures planned { OnOk result
         ((host : Host) → IsNext solved.old host → (more : List ℕ)
         × (F.ledger files.new ≡ with_bytes more (F.ledger files.old))
@@ -65,7 +67,8 @@ fn end_plan<'a, F: MergeFiles>(
     ensures told { IfErr result
         (λ fault. (host : Host) (were : List Entry) → IsNext solved.old host
         → WereFirst solved.old host were
-        → StopsEnd host were solved.old.text (F.has_failed files.new) fault) }
+        → StopsEnd host were solved.old.text fault) }
+    ensures calls { F.failure files.new ≡ failure_after result (F.failure files.old) }
     ensures planned { OnOk result
         ((host : Host) (were : List Entry) → IsNext solved.old host
         → WereFirst solved.old host were → (more : List ℕ)
@@ -104,7 +107,8 @@ fn plan_reading<'a, F: MergeFiles>(
     ensures stopped { IfErr result
         (λ fault. (host : Host) (were : List Entry) → IsTurnOf solved.old host were
         → StopsSecond host were (ended_in solved.old) (F.ledger files.old).read (F.ledger files.new)
-        (F.has_failed files.new) fault) }
+        fault) }
+    ensures calls { F.failure files.new ≡ failure_after result (F.failure files.old) }
     ensures kept { IsWithinFile (F.ledger files.old) (F.ledger files.new) }
     ensures reads { HasReadOneAtMost (F.ledger files.old).read (F.ledger files.new) }
     ensures fresh { OnOk result (IsFresh solved.new) }
@@ -137,7 +141,8 @@ fn plan_host<'a, F: MergeFiles>(
     ensures stopped { IfErr result
         (λ fault. (host : Host) (were : List Entry) → IsTurnOf solved.old host were
         → StopsSecond host were index (F.ledger files.old).read (F.ledger files.new)
-        (F.has_failed files.new) fault) }
+        fault) }
+    ensures calls { F.failure files.new ≡ failure_after result (F.failure files.old) }
     ensures clear { OnOk result ((F.ledger files.new).is_clear ≡ true) }
     ensures begun { OnErr result
         (HasBegun (name.now ∷ []) (F.ledger files.old) (F.ledger files.new)) }
@@ -173,7 +178,8 @@ fn plan_named<'a, F: MergeFiles>(
     ensures stopped { IfErr result
         (λ fault. (here : Host) (were : List Entry) → IsTurnOf solved.old here were
         → StopsSecond here were index (F.ledger files.old).read (F.ledger files.new)
-        (F.has_failed files.new) fault) }
+        fault) }
+    ensures calls { F.failure files.new ≡ failure_after result (F.failure files.old) }
     ensures clear { OnOk result ((F.ledger files.new).is_clear ≡ true) }
     ensures begun { OnErr result
         (HasBegun (plan_name host.now ∷ []) (F.ledger files.old) (F.ledger files.new)) }
@@ -202,8 +208,9 @@ pub fn plan_hosts<'a, F: MergeFiles>(
         → ArePlanned hosts.now solved.old read (F.ledger files.old) (F.ledger files.new)) }
     ensures stopped { IfErr result
         (λ fault. (read : List (Host × List Entry)) → WereRead solved.old read
-        → StopsPlanning read (F.ledger files.old) (F.ledger files.new) (F.has_failed files.new)
+        → StopsPlanning read (F.ledger files.old) (F.ledger files.new)
         fault) }
+    ensures calls { F.failure files.new ≡ failure_after result (F.failure files.old) }
     ensures clear { OnOk result ((F.ledger files.new).is_clear ≡ true) }
     ensures left { OnErr result
         ((read : List (Host × List Entry)) → WereRead solved.old read

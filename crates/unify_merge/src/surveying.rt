@@ -5,6 +5,7 @@ ghost use Rattle.std.specs.Prelude.{◌≡◌, ◌++◌, ℕ, List, [], Err, IfE
 ghost use Rattle.survey.specs.Surveying.{StandsFor};
 ghost use Rattle.unify_texts.specs.Told.{told};
 ghost use Rattle.unify.specs.Passes.{is_read, lines_of};
+ghost use Rattle.unify_merge.specs.Failures.{failure_after};
 ghost use Rattle.unify_merge.specs.FirstReading.{HasRead, IsWithinLimit, ReadsOnly};
 ghost use Rattle.unify_merge.specs.Surveyed.{StopsFinding, WereFound};
 ghost use Rattle.unify_merge.specs.Survey.{AddsNumbers, HasAdded, HasSurveyed, IsSurveyOf};
@@ -67,8 +68,8 @@ fn read_host<'a, F: ReadFiles>(
         ((text : List ℕ) × HasRead (F.ledger files.old).read index text (F.ledger files.new)
         × IsSurveyOf host.now text survey.new × IsWithinLimit text) }
     ensures stopped { IfErr result
-        (StopsReading host.now index (F.ledger files.old).read (F.ledger files.new)
-        (F.has_failed files.new)) }
+        (StopsReading host.now index (F.ledger files.old).read (F.ledger files.new)) }
+    ensures calls { F.failure files.new ≡ failure_after result (F.failure files.old) }
     ensures reads { ReadsOnly (F.ledger files.old) (F.ledger files.new) }
 {
     files.open(index)?;
@@ -93,8 +94,8 @@ fn survey_host<'a, F: ReadFiles>(
         ((text : List ℕ) × HasRead (F.ledger files.old).read index text (F.ledger files.new)
         × AddsNumbers host.now text found.old found.new × IsWithinLimit text) }
     ensures stopped { IfErr result
-        (StopsReading host.now index (F.ledger files.old).read (F.ledger files.new)
-        (F.has_failed files.new)) }
+        (StopsReading host.now index (F.ledger files.old).read (F.ledger files.new)) }
+    ensures calls { F.failure files.new ≡ failure_after result (F.failure files.old) }
     ensures reads { ReadsOnly (F.ledger files.old) (F.ledger files.new) }
 {
     let mut survey = HostSurvey::new(alloc, MOST_FILES);
@@ -113,7 +114,8 @@ fn add_hosts<'a, F: ReadFiles>(
     ensures added { OnOk result
         (HasAdded hosts.now (F.ledger files.old) (F.ledger files.new) found.old found.new) }
     ensures stopped { IfErr result
-        (StopsSurvey hosts.now (F.ledger files.old) (F.ledger files.new) (F.has_failed files.new)) }
+        (StopsSurvey hosts.now (F.ledger files.old) (F.ledger files.new)) }
+    ensures calls { F.failure files.new ≡ failure_after result (F.failure files.old) }
     ensures reads { ReadsOnly (F.ledger files.old) (F.ledger files.new) }
 {
     let mut bytes = Vec::new(alloc);
@@ -142,7 +144,8 @@ pub fn survey_hosts<'a, F: ReadFiles>(
     ensures found { IfOk result
         (HasSurveyed hosts.now (F.ledger files.old) (F.ledger files.new)) }
     ensures stopped { IfErr result
-        (StopsSurvey hosts.now (F.ledger files.old) (F.ledger files.new) (F.has_failed files.new)) }
+        (StopsSurvey hosts.now (F.ledger files.old) (F.ledger files.new)) }
+    ensures calls { F.failure files.new ≡ failure_after result (F.failure files.old) }
     ensures reads { ReadsOnly (F.ledger files.old) (F.ledger files.new) }
 {
     let mut found = UnownedNumbers::none(alloc);
@@ -165,8 +168,8 @@ pub fn survey_files<'a, F: ReadFiles>(
     ensures found { IfOk result
         (WereFound hosts.now keep.now (F.ledger files.old) (F.ledger files.new)) }
     ensures stopped { IfErr result
-        (StopsFinding hosts.now keep.now (F.ledger files.old) (F.ledger files.new)
-        (F.has_failed files.new)) }
+        (StopsFinding hosts.now keep.now (F.ledger files.old) (F.ledger files.new)) }
+    ensures calls { F.failure files.new ≡ failure_after result (F.failure files.old) }
     ensures reads { ReadsOnly (F.ledger files.old) (F.ledger files.new) }
 {
     let surveying = begin_survey(alloc, hosts, keep)?;

@@ -16,9 +16,9 @@ returns-clause-exact c =
     let new = c.check_by-cost.new.files in
     let result = c.check_by-cost.result in
     subst (λ r. Gives (λ cost. cost) told r (check_of hosts rules certificate)) (sym c.answer.ensures.told)
-    (checked hosts new.texts (ledger_of new) c.answer.ensures.read new.failed rules certificate result
+    (checked hosts new.texts (ledger_of new) c.answer.ensures.read rules certificate result
     (subst (λ (v : TextFilesValue). IfOk result (HasChecked hosts rules certificate (ledger_of v) (ledger_of new))) c.new-files.ensures c.check_by-cost.ensures.checked)
-    (subst (λ (v : TextFilesValue). IfErr result (StopsCheck hosts rules certificate (ledger_of v) (ledger_of new) new.failed)) c.new-files.ensures c.check_by-cost.ensures.stopped)).0
+    (subst (λ (v : TextFilesValue). IfErr result (StopsCheck hosts rules certificate (ledger_of v) (ledger_of new))) c.new-files.ensures c.check_by-cost.ensures.stopped)).0
 
 pub returns-clause-proved : goal.returns-clause-proved
 returns-clause-proved c =
@@ -28,6 +28,6 @@ returns-clause-proved c =
     let new = c.check_by-cost.new.files in
     let result = c.check_by-cost.result in
     subst (λ r. IfOk r (IsChecked hosts rules certificate)) (sym c.answer.ensures.told)
-    (checked hosts new.texts (ledger_of new) c.answer.ensures.read new.failed rules certificate result
+    (checked hosts new.texts (ledger_of new) c.answer.ensures.read rules certificate result
     (subst (λ (v : TextFilesValue). IfOk result (HasChecked hosts rules certificate (ledger_of v) (ledger_of new))) c.new-files.ensures c.check_by-cost.ensures.checked)
-    (subst (λ (v : TextFilesValue). IfErr result (StopsCheck hosts rules certificate (ledger_of v) (ledger_of new) new.failed)) c.new-files.ensures c.check_by-cost.ensures.stopped)).1
+    (subst (λ (v : TextFilesValue). IfErr result (StopsCheck hosts rules certificate (ledger_of v) (ledger_of new))) c.new-files.ensures c.check_by-cost.ensures.stopped)).1

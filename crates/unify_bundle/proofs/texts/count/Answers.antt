@@ -16,6 +16,6 @@ returns c =
     let new = c.count_by-cost.new.files in
     let result = c.count_by-cost.result in
     subst (λ r. Gives (λ cost. cost) told r (count_of hosts keep said)) (sym c.answer.ensures.told)
-    (counted hosts new.texts (ledger_of new) c.answer.ensures.read new.failed keep said result
+    (counted hosts new.texts (ledger_of new) c.answer.ensures.read keep said result
     (subst (λ (v : TextFilesValue). IfOk result (HasCounted hosts keep said (ledger_of v) (ledger_of new))) c.new-files.ensures c.count_by-cost.ensures.counted)
-    (subst (λ (v : TextFilesValue). IfErr result (StopsCount hosts keep said (ledger_of v) (ledger_of new) new.failed)) c.new-files.ensures c.count_by-cost.ensures.stopped))
+    (subst (λ (v : TextFilesValue). IfErr result (StopsCount hosts keep said (ledger_of v) (ledger_of new))) c.new-files.ensures c.count_by-cost.ensures.stopped))

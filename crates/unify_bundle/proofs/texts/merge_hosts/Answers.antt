@@ -15,8 +15,8 @@ returns-in_err-outcome c =
     let new = c.merge_outcome-merged.new.files in
     let result = c.merge_outcome-merged.result in
     rw (p.1, p.2)
-    (merge_refused hosts new.texts (ledger_of new) c.in_err-outcome.ensures.read new.failed rules result c.in_err-outcome.field-0.0 (sym c.in_err-outcome.ensures.told)
-    (subst (λ (v : TextFilesValue). IfErr result (StopsMerge hosts rules (ledger_of v) (ledger_of new) new.failed)) c.new-files.ensures c.merge_outcome-merged.ensures.stopped))
+    (merge_refused hosts new.texts (ledger_of new) c.in_err-outcome.ensures.read rules result c.in_err-outcome.field-0.0 (sym c.in_err-outcome.ensures.told)
+    (subst (λ (v : TextFilesValue). IfErr result (StopsMerge hosts rules (ledger_of v) (ledger_of new))) c.new-files.ensures c.merge_outcome-merged.ensures.stopped))
 
 pub with_files-requires : goal.with_files-requires
 with_files-requires c =
@@ -28,8 +28,8 @@ with_files-requires c =
     let h = answered_ok (HasMade hosts rules (at_start hosts) (ledger_of new)) result made (sym c.in_ok-outcome.ensures.told)
     (subst (λ (v : TextFilesValue). IfOk result (HasMade hosts rules (ledger_of v) (ledger_of new))) c.new-files.ensures c.merge_outcome-merged.ensures.merged) in (
       h.merged.outcome.plans,
-      own_files hosts new.texts (ledger_of new) c.in_ok-outcome.ensures.read new.failed rules made.cost h.merged,
-      made_parted hosts new.texts (ledger_of new) c.in_ok-outcome.ensures.read new.failed rules made h c.into_files.result.items c.into_files.ensures,
+      own_files hosts new.texts (ledger_of new) c.in_ok-outcome.ensures.read rules made.cost h.merged,
+      made_parted hosts new.texts (ledger_of new) c.in_ok-outcome.ensures.read rules made h c.into_files.result.items c.into_files.ensures,
     )
 
 pub returns : goal.returns
@@ -42,6 +42,6 @@ returns c =
     let own = c.in_ok-outcome.ensures.read in
     let h = answered_ok (HasMade hosts rules (at_start hosts) (ledger_of new)) result made (sym c.in_ok-outcome.ensures.told)
     (subst (λ (v : TextFilesValue). IfOk result (HasMade hosts rules (ledger_of v) (ledger_of new))) c.new-files.ensures c.merge_outcome-merged.ensures.merged) in
-    let all = own_files hosts new.texts (ledger_of new) own new.failed rules made.cost h.merged in
-    let parts = c.in_ok-site.ensures h.merged.outcome.plans all (made_parted hosts new.texts (ledger_of new) own new.failed rules made h c.into_files.result.items c.into_files.ensures) in
-    made_site hosts new.texts (ledger_of new) own new.failed rules made h c.in_ok-site.site parts.0 parts.1
+    let all = own_files hosts new.texts (ledger_of new) own rules made.cost h.merged in
+    let parts = c.in_ok-site.ensures h.merged.outcome.plans all (made_parted hosts new.texts (ledger_of new) own rules made h c.into_files.result.items c.into_files.ensures) in
+    made_site hosts new.texts (ledger_of new) own rules made h c.in_ok-site.site parts.0 parts.1

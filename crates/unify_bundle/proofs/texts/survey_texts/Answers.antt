@@ -15,6 +15,6 @@ returns c =
     let new = c.survey_files-found.new.files in
     let result = c.survey_files-found.result in
     subst (λ r. Gives (λ found. found) told r (surveyed hosts keep)) (sym c.answer.ensures.told)
-    (found hosts new.texts (ledger_of new) c.answer.ensures.read new.failed keep result
+    (found hosts new.texts (ledger_of new) c.answer.ensures.read keep result
     (subst (λ (v : TextFilesValue). IfOk result (WereFound hosts keep (ledger_of v) (ledger_of new))) c.new-files.ensures c.survey_files-found.ensures.found)
-    (subst (λ (v : TextFilesValue). IfErr result (StopsFinding hosts keep (ledger_of v) (ledger_of new) new.failed)) c.new-files.ensures c.survey_files-found.ensures.stopped))
+    (subst (λ (v : TextFilesValue). IfErr result (StopsFinding hosts keep (ledger_of v) (ledger_of new))) c.new-files.ensures c.survey_files-found.ensures.stopped))

@@ -11,7 +11,7 @@ returns-in_err-count_hosts-clause-stopped g c =
     let begun = c.in_ok-begun.ensures.begun in
     let now = c.count_hosts.new.files in
     rw (p.1, p.2)
-    (check_counted_stopped c.args.hosts.now c.args.rules.now c.args.certificate.now begun.0 c.in_ok-begun.begun.inventories.hosts (g.F.ReadFiles.ledger c.args.files.now) (g.F.ReadFiles.ledger now) (g.F.ReadFiles.has_failed now) c.in_err-count_hosts.field-0.0 begun.1
+    (check_counted_stopped c.args.hosts.now c.args.rules.now c.args.certificate.now begun.0 c.in_ok-begun.begun.inventories.hosts (g.F.ReadFiles.ledger c.args.files.now) (g.F.ReadFiles.ledger now) c.in_err-count_hosts.field-0.0 begun.1
     (ap (λ (v : InventoriesValue). v.hosts) begun.2.start) c.in_err-count_hosts.ensures.stopped)
 
 pub count_hosts-requires : goal.count_hosts-requires
@@ -45,7 +45,7 @@ returns-in_err-check-clause-stopped g c =
     let new = g.F.ReadFiles.ledger c.count_hosts.new.files in
     let site = read_site c.args.hosts.now c.args.rules.now begun.0 joined old new counted.0 accepted.0 begun.1 begun.2.joined (counted.2 ∙ c.in_ok-begun.ensures.hosts) (sym (ap read_in over) ∙ accepted.1) counted.3 counted.4 in
     rw (p.1, p.2)
-    (check_refused c.args.hosts.now c.args.rules.now c.args.certificate.now old new joined counted.0 accepted.0 site (g.F.ReadFiles.has_failed c.count_hosts.new.files) c.in_err-check.field-0.0 (c.in_err-check.ensures accepted.0 accepted.1))
+    (check_refused c.args.hosts.now c.args.rules.now c.args.certificate.now old new joined counted.0 accepted.0 site c.in_err-check.field-0.0 (c.in_err-check.ensures accepted.0 accepted.1))
 
 pub returns-clause-checked : goal.returns-clause-checked
 returns-clause-checked g c =
@@ -59,3 +59,8 @@ returns-clause-checked g c =
     let new = g.F.ReadFiles.ledger c.count_hosts.new.files in
     let site = read_site c.args.hosts.now c.args.rules.now begun.0 joined old new counted.0 accepted.0 begun.1 begun.2.joined (counted.2 ∙ c.in_ok-begun.ensures.hosts) (sym (ap read_in over) ∙ accepted.1) counted.3 counted.4 in
     has_checked c.args.hosts.now c.args.rules.now c.args.certificate.now old new joined counted.0 accepted.0 site _ (c.in_ok-check.ensures accepted.0 accepted.1)
+
+pub returns-in_err-check-clause-calls : goal.returns-in_err-check-clause-calls
+returns-in_err-check-clause-calls g c =
+    let p = err_from_is_err_and c.from_residual-in_err-check.result c.from_residual-in_err-check.ensures.1 in
+    rw (p.1, p.2) c.in_ok-count_hosts.ensures.calls

@@ -10,7 +10,7 @@ returns-in_err-count_hosts-clause-stopped g c =
     let begun = c.in_ok-begun.ensures.begun in
     let now = c.count_hosts.new.files in
     rw (p.1, p.2)
-    (count_stopped c.args.hosts.now c.args.keep.now c.args.map.now begun.0 c.in_ok-begun.begun.inventories.hosts (g.F.ReadFiles.ledger c.args.files.now) (g.F.ReadFiles.ledger now) (g.F.ReadFiles.has_failed now) c.in_err-count_hosts.field-0.0 begun.1
+    (count_stopped c.args.hosts.now c.args.keep.now c.args.map.now begun.0 c.in_ok-begun.begun.inventories.hosts (g.F.ReadFiles.ledger c.args.files.now) (g.F.ReadFiles.ledger now) c.in_err-count_hosts.field-0.0 begun.1
     (ap (λ (v : InventoriesValue). v.hosts) begun.2.start) c.in_err-count_hosts.ensures.stopped)
 
 pub count_hosts-requires : goal.count_hosts-requires

@@ -12,5 +12,5 @@ pub returns-clause-stopped : goal.returns-clause-stopped
 returns-clause-stopped g c =
     let opened = ap (λ (l : Ledger). l.read) c.in_ok-open.ensures.opened in
     if_err c.count_reading.result _ _ (λ fault stopped host here.
-    first_same host _ _ _ _ (g.F.ReadFiles.ledger c.count_reading.new.files) _ fault (sym c.requires.next) opened (stopped host (rw c.requires.next at here)))
+    first_same host _ _ _ _ (g.F.ReadFiles.ledger c.count_reading.new.files) fault (sym c.requires.next) opened (stopped host (rw c.requires.next at here)))
     c.count_reading.ensures.stopped

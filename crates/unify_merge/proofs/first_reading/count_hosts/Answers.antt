@@ -20,6 +20,7 @@ loop-index-init g c = record {
   accepted = ap read_in c.requires.start ∙ none_read c.args.inventories.now.hosts;
   read = sym (append-nil (g.F.ReadFiles.ledger c.args.files.now).read);
   only = refl;
+  calls = refl;
 }
 
 pub count_host-requires-clause-next : goal.count_host-requires-clause-next
@@ -47,10 +48,9 @@ returns-in_err-count_host-clause-stopped g c =
     let old = g.F.ReadFiles.ledger c.args.files.now in
     let mid = g.F.ReadFiles.ledger c.loop-index.files in
     let new = g.F.ReadFiles.ledger c.count_host.new.files in
-    let failed = g.F.ReadFiles.has_failed c.count_host.new.files in
     let fault = c.in_err-count_host.field-0.0 in
     rw (p.1, p.2)
-    (counting_stopped hosts inv.texts inv.files at.0 old mid new failed fault accepted here inv.read (first_same at.0 _ _ mid.read _ new failed fault so_far refl (c.in_err-count_host.ensures.stopped at.0 there)))
+    (counting_stopped hosts inv.texts inv.files at.0 old mid new fault accepted here inv.read (first_same at.0 _ _ mid.read _ new fault so_far refl (c.in_err-count_host.ensures.stopped at.0 there)))
 
 pub loop-index-preserved : goal.loop-index-preserved
 loop-index-preserved g c =
@@ -66,4 +66,5 @@ loop-index-preserved g c =
       accepted = accepted.1;
       read = read_more _ _ (g.F.ReadFiles.ledger c.count_host.new.files).read c.loop-index.index inv.texts it.0 (sym inv.so_far) inv.read it.2;
       only = reads_on (g.F.ReadFiles.ledger c.args.files.now) (g.F.ReadFiles.ledger c.loop-index.files) (g.F.ReadFiles.ledger c.count_host.new.files) inv.only c.in_ok-count_host.ensures.reads;
+      calls = c.in_ok-count_host.ensures.calls ∙ inv.calls;
     }

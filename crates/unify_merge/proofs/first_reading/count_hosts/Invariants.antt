@@ -16,4 +16,5 @@ invariant-loop-index g l = record {
   accepted : read_in l.inventories ≡ Ok files;
   read : (g.F.ReadFiles.ledger l.files).read ≡ (g.F.ReadFiles.ledger l.initial.files).read ++ readings_from 0 texts;
   only : ReadsOnly (g.F.ReadFiles.ledger l.initial.files) (g.F.ReadFiles.ledger l.files);
+  calls : g.F.ReadFiles.failure l.files ≡ g.F.ReadFiles.failure l.initial.files;
 }

@@ -12,6 +12,7 @@ invariant-loop-inventories g l = record {
   only : ReadsOnly (g.F.ReadFiles.ledger l.initial.files) (g.F.ReadFiles.ledger l.files);
   may : l.left + length text ≡ most_inventory_bytes;
   come : l.inventories ≡ record (behind l.initial.inventories.hosts l.initial.inventories.ended) { text = text };
+  calls : g.F.ReadFiles.failure l.files ≡ g.F.ReadFiles.failure l.initial.files;
 }
 
 abbrev pub decreases-loop-inventories : goal.decreases-loop-inventories

@@ -21,6 +21,7 @@ loop-index-init g c =
     record {
       clear = c.requires.clear;
       written = subst (λ fs. HasFiles fs old old) (sym (no_hosts v.joined (mappings_in v.merged) v.hosts c.args.hosts.now)) (none_written old);
+      calls = refl;
     }
 
 pub loop-index-preserved : goal.loop-index-preserved
@@ -43,6 +44,7 @@ loop-index-preserved g c =
     record {
       clear = ap (λ (l : Ledger). l.is_clear) written ∙ inv.clear;
       written = subst (λ fs. HasFiles fs old new) files (more_written (host_files v.joined m (take index texts) v.hosts) both old mid new inv.written written);
+      calls = c.in_ok-write_host.ensures.calls ∙ inv.calls;
     }
 
 pub returns-clause-written : goal.returns-clause-written

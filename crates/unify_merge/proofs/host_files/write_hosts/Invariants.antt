@@ -8,4 +8,5 @@ abbrev pub invariant-loop-index : goal.invariant-loop-index
 invariant-loop-index g l = record {
   clear : (g.F.ReadFiles.ledger l.files).is_clear ≡ true;
   written : HasFiles (host_files l.solved.joined (mappings_in l.solved.merged) (take l.index l.hosts) l.solved.hosts) (g.F.ReadFiles.ledger l.initial.files) (g.F.ReadFiles.ledger l.files);
+  calls : g.F.ReadFiles.failure l.files ≡ g.F.ReadFiles.failure l.initial.files;
 }

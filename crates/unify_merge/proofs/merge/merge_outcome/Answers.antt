@@ -1,6 +1,7 @@
 use Rattle.std.proofs.Common.{ap, ◌∙◌, inl}
 use Rattle.std.proofs.lemmas.Result.{err_from_is_err_and}
 use Rattle.unify.specs.declared.merging.Merged.{Merged}
+use Rattle.unify_merge.specs.Failures.{failure_told}
 use Rattle.unify_merge.specs.Merge.{Leaves}
 use Rattle.unify_merge.proofs.BreakingOff.{on_err}
 use Rattle.unify_merge.proofs.Leaving.{merge_leaves}
@@ -21,7 +22,7 @@ returns-in_err-write_merged-clause-stopped g c =
     let h = c.in_ok-solved.ensures.solved in
     let now = c.write_merged.new.files in
     rw (p.1, p.2)
-    (written_stopped c.args.hosts.now c.args.rules.now (g.F.ReadFiles.ledger c.args.files.now) (g.F.ReadFiles.ledger c.solve_hosts.new.files) (g.F.ReadFiles.ledger now) c.in_ok-solved.solved (g.F.ReadFiles.has_failed now) c.in_err-write_merged.field-0.0 h
+    (written_stopped c.args.hosts.now c.args.rules.now (g.F.ReadFiles.ledger c.args.files.now) (g.F.ReadFiles.ledger c.solve_hosts.new.files) (g.F.ReadFiles.ledger now) c.in_ok-solved.solved c.in_err-write_merged.field-0.0 h
     (c.in_err-write_merged.ensures.stopped h.were h.was_read))
 
 pub returns-in_err-solved-clause-left : goal.returns-in_err-solved-clause-left
@@ -38,3 +39,8 @@ returns-in_err-write_merged-clause-left g c =
     let new = g.F.ReadFiles.ledger c.write_merged.new.files in
     on_err c.from_residual-in_err-write_merged.result (Leaves texts rules old new)
     (merge_leaves texts rules c.in_ok-solved.solved old mid new h c.in_ok-solved.ensures.reads (c.in_err-write_merged.ensures.left h.were h.was_read))
+
+pub returns-in_err-write_merged-clause-calls : goal.returns-in_err-write_merged-clause-calls
+returns-in_err-write_merged-clause-calls g c =
+    let p = err_from_is_err_and c.from_residual-in_err-write_merged.result c.from_residual-in_err-write_merged.ensures.1 in
+    rw (p.1, p.2) (c.in_err-write_merged.ensures.calls ∙ ap (failure_told c.in_err-write_merged.field-0.0) c.in_ok-solved.ensures.calls)

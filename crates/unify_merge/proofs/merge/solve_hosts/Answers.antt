@@ -17,7 +17,7 @@ returns-in_err-count_hosts-clause-stopped g c =
     let start = c.expect_second_reading.ensures ∙ begun.2.start in
     let now = c.count_hosts.new.files in
     rw (p.1, p.2)
-    (counted_stopped c.args.hosts.now c.args.rules.now begun.0 c.expect_second_reading.new.self.hosts (g.F.ReadFiles.ledger c.args.files.now) (g.F.ReadFiles.ledger now) (g.F.ReadFiles.has_failed now) c.in_err-count_hosts.field-0.0 begun.1 (ap (λ (v : InventoriesValue). v.hosts) start)
+    (counted_stopped c.args.hosts.now c.args.rules.now begun.0 c.expect_second_reading.new.self.hosts (g.F.ReadFiles.ledger c.args.files.now) (g.F.ReadFiles.ledger now) c.in_err-count_hosts.field-0.0 begun.1 (ap (λ (v : InventoriesValue). v.hosts) start)
     c.in_err-count_hosts.ensures.reads c.in_err-count_hosts.ensures.stopped)
 
 pub solve-requires-clause-together : goal.solve-requires-clause-together

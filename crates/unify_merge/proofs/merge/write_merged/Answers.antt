@@ -23,13 +23,13 @@ returns-in_err-plan_hosts-clause-stopped g c =
     let now = c.plan_hosts.new.files in
     let before = ap (λ (l : Ledger). l.read) c.in_ok-write_first.ensures.written ∙ ap (λ (l : Ledger). l.read) c.in_ok-clear.ensures.clear in
     rw (p.1, p.2) (λ read was.
-    planning_same read (g.F.ReadFiles.ledger c.args.files.now) (g.F.ReadFiles.ledger c.write_first.new.files) (g.F.ReadFiles.ledger now) (g.F.ReadFiles.has_failed now) c.in_err-plan_hosts.field-0.0 before (c.in_err-plan_hosts.ensures.stopped read was))
+    planning_same read (g.F.ReadFiles.ledger c.args.files.now) (g.F.ReadFiles.ledger c.write_first.new.files) (g.F.ReadFiles.ledger now) c.in_err-plan_hosts.field-0.0 before (c.in_err-plan_hosts.ensures.stopped read was))
 
 pub returns-in_err-write_hosts-clause-stopped : goal.returns-in_err-write_hosts-clause-stopped
 returns-in_err-write_hosts-clause-stopped g c =
     let p = err_from_is_err_and c.from_residual-in_err-write_hosts.result c.from_residual-in_err-write_hosts.ensures.1 in
     let now = c.write_hosts.new.files in
-    rw (p.1, p.2) (λ read was. writing_stopped read (g.F.ReadFiles.ledger c.args.files.now) (g.F.ReadFiles.ledger now) (g.F.ReadFiles.has_failed now) c.in_err-write_hosts.field-0.0 c.in_err-write_hosts.ensures.stopped)
+    rw (p.1, p.2) (λ read was. writing_stopped read (g.F.ReadFiles.ledger c.args.files.now) (g.F.ReadFiles.ledger now) c.in_err-write_hosts.field-0.0 c.in_err-write_hosts.ensures.stopped)
 
 pub returns-clause-written : goal.returns-clause-written
 returns-clause-written g c = λ read was.

@@ -18,7 +18,7 @@ returns-in_err-next_piece-clause-stopped g c =
     let inv = c.loop-rehearsal.invariant in
     let p = err_from_is_err_and c.from_residual-in_err-next_piece.result c.from_residual-in_err-next_piece.ensures.1 in
     let r : Reading = record { host = 0; text = inv.text } in
-    rw (p.1, p.2) (λ plan s. piece_ended _ r.host _ inv.text _ _ _ _ _ inv.may (c.in_err-next_piece.ensures.stopped r inv.reading))
+    rw (p.1, p.2) (λ plan s. piece_ended _ r.host _ inv.text _ _ _ _ inv.may (c.in_err-next_piece.ensures.stopped r inv.reading))
 
 pub loop-rehearsal-preserved : goal.loop-rehearsal-preserved
 loop-rehearsal-preserved g c =
@@ -36,6 +36,7 @@ loop-rehearsal-preserved g c =
       only = reads_on old mid new inv.only (goes.0 ∙ sym (ap (λ (l : Ledger). record mid { read = l.read; reading = l.reading }) goes.0));
       may = omega (arith, goes.1, inv.may, length-append inv.text bytes);
       stands = λ plan s. rw c.deref.ensures.value at c.in_ok-piece.ensures.stands plan inv.text (inv.stands plan s);
+      calls = c.in_ok-next_piece.ensures.calls ∙ inv.calls;
     }
 
 pub returns-in_err-piece-clause-stopped : goal.returns-in_err-piece-clause-stopped
@@ -46,7 +47,7 @@ returns-in_err-piece-clause-stopped g c =
     let goes = rw c.if-branch.true at c.in_ok-next_piece.ensures.read r inv.reading in
     let now = c.next_piece.new.files in
     rw (p.1, p.2) (λ plan s.
-    piece_refused plan _ _ (g.F.ReadFiles.ledger now) (g.F.ReadFiles.has_failed now) _ (ap (λ (l : Ledger). l.read) goes.0 ∙ inv.read, ap (λ (l : Ledger). l.reading) goes.0)
+    piece_refused plan _ _ (g.F.ReadFiles.ledger now) _ (ap (λ (l : Ledger). l.read) goes.0 ∙ inv.read, ap (λ (l : Ledger). l.reading) goes.0)
     (rw c.deref.ensures.value at c.in_err-piece.ensures.refused plan inv.text (inv.stands plan s)))
 
 pub returns-clause-carried : goal.returns-clause-carried

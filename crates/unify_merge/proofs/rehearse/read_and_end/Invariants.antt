@@ -13,6 +13,7 @@ invariant-loop-rehearsal g l = record {
   only : ReadsOnly (g.F.ReadFiles.ledger l.fn.files) (g.F.ReadFiles.ledger l.files);
   may : l.left + length text ≡ most_inventory_bytes;
   stands : (plan : PlanData) → StandsFor l.fn.rehearsal plan [] → StandsFor l.rehearsal plan text;
+  calls : g.F.ReadFiles.failure l.files ≡ g.F.ReadFiles.failure l.fn.files;
 }
 
 abbrev pub decreases-loop-rehearsal : goal.decreases-loop-rehearsal

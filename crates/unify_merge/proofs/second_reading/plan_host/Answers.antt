@@ -88,4 +88,4 @@ returns-in_err-plan_reading-clause-stopped g c =
     let read = ap (λ (x : Ledger). x.read) c.in_ok-open.ensures.opened ∙ ap (λ (x : Ledger). x.read) c.in_ok-begin.ensures.begun in
     let fault = c.in_err-plan_reading.field-0.0 in
     rw (p.1, p.2) (λ host were turn.
-    second_same host were _ _ _ _ (g.F.ReadFiles.ledger now) (g.F.ReadFiles.has_failed now) fault (sym c.requires.next) read (c.in_err-plan_reading.ensures.stopped host were turn))
+    second_same host were _ _ _ _ (g.F.ReadFiles.ledger now) fault (sym c.requires.next) read (c.in_err-plan_reading.ensures.stopped host were turn))

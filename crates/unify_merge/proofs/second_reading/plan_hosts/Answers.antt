@@ -15,6 +15,7 @@ loop-index-init g c = record {
   site = refl;
   fresh = c.requires.fresh;
   so_far = λ read was. none_planned c.args.hosts.now c.args.solved.now read (g.F.ReadFiles.ledger c.args.files.now);
+  calls = refl;
 }
 
 pub returns-in_err-plan_named-clause-stopped : goal.returns-in_err-plan_named-clause-stopped
@@ -26,7 +27,7 @@ returns-in_err-plan_named-clause-stopped g c =
     let now = c.plan_named.new.files in
     rw (p.1, p.2) (λ read was.
     let here = item_at read index (omega (arith, c.loop-index-test.true, c.requires.each, read_len solved read was)) in
-    planning_stopped c.args.hosts.now solved read index here.0.0 here.0.1 (g.F.ReadFiles.ledger c.args.files.now) (g.F.ReadFiles.ledger c.loop-index.files) (g.F.ReadFiles.ledger now) (g.F.ReadFiles.has_failed now) c.in_err-plan_named.field-0.0
+    planning_stopped c.args.hosts.now solved read index here.0.0 here.0.1 (g.F.ReadFiles.ledger c.args.files.now) (g.F.ReadFiles.ledger c.loop-index.files) (g.F.ReadFiles.ledger now) c.in_err-plan_named.field-0.0
     (inv.so_far read was) was here.1
     (c.in_err-plan_named.ensures.stopped here.0.0 here.0.1 (turn_of solved c.loop-index.solved read index here.0.0 here.0.1 inv.site inv.ended was here.1 inv.fresh)))
 
@@ -47,6 +48,7 @@ loop-index-preserved g c =
           let turn = turn_of solved c.loop-index.solved read index here.0.0 here.0.1 inv.site inv.ended was here.1 inv.fresh in
           one_planned names solved c.loop-index.solved read index c.index-hosts-index.result here.0.0 here.0.1 (g.F.ReadFiles.ledger c.args.files.now) (g.F.ReadFiles.ledger c.loop-index.files) (g.F.ReadFiles.ledger c.plan_named.new.files) (inv.so_far read was)
           inv.site inv.ended named (host_at solved read index here.0.0 here.0.1 was here.1) here.1 (c.in_ok-plan_named.ensures.planned here.0.0 here.0.1 turn);
+      calls = c.in_ok-plan_named.ensures.calls ∙ inv.calls;
     }
 
 pub returns-clause-planned : goal.returns-clause-planned

@@ -12,4 +12,5 @@ invariant-loop-index g l = record {
   site : IsOfSameSite l.initial.solved l.solved;
   fresh : IsFresh l.solved;
   so_far : (read : List (Host × List Entry)) → WereRead l.initial.solved read → PlannedSoFar l.hosts l.initial.solved read l.index (g.F.ReadFiles.ledger l.initial.files) (g.F.ReadFiles.ledger l.files);
+  calls : g.F.ReadFiles.failure l.files ≡ g.F.ReadFiles.failure l.initial.files;
 }

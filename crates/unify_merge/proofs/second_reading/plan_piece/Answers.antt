@@ -8,7 +8,7 @@ pub returns-in_err-piece-clause-told : goal.returns-in_err-piece-clause-told
 returns-in_err-piece-clause-told g c =
     let p = err_from_is_err_and c.from_residual.result c.from_residual.ensures.1 in
     rw (p.1, p.2) (λ host next.
-    piece_stopped host (c.args.solved.now.text ++ c.args.bytes.now) (g.F.ReadFiles.has_failed c.args.files.now) c.in_err-piece.field-0.0 (c.in_err-piece.ensures.told host next))
+    piece_stopped host (c.args.solved.now.text ++ c.args.bytes.now) c.in_err-piece.field-0.0 (c.in_err-piece.ensures.told host next))
 
 pub returns-clause-planned : goal.returns-clause-planned
 returns-clause-planned g c = λ host next.

@@ -24,7 +24,7 @@ returns-in_err-next_piece-clause-stopped g c =
     let r : Reading = record { host = ended_in c.args.solved.now; text = inv.text } in
     let now = c.next_piece.new.files in
     rw (p.1, p.2) (λ host were turn.
-    piece_ended _ r.host c.loop-files.left inv.text c.next_piece.new.bytes.items (g.F.ReadFiles.ledger c.loop-files.files) (g.F.ReadFiles.ledger now) (g.F.ReadFiles.has_failed now) c.in_err-next_piece.field-0.0 inv.may (c.in_err-next_piece.ensures.stopped r inv.reading))
+    piece_ended _ r.host c.loop-files.left inv.text c.next_piece.new.bytes.items (g.F.ReadFiles.ledger c.loop-files.files) (g.F.ReadFiles.ledger now) c.in_err-next_piece.field-0.0 inv.may (c.in_err-next_piece.ensures.stopped r inv.reading))
 
 pub loop-files-init : goal.loop-files-init
 loop-files-init g c =
@@ -40,6 +40,7 @@ loop-files-init g c =
       was = c.requires.file.1;
       writing = c.requires.file.1;
       come = λ j. record c.args.solved.now { text = fresh.none j; planned = fresh.unplanned j };
+      calls = refl;
     }
 
 pub loop-files-preserved : goal.loop-files-preserved
@@ -70,6 +71,7 @@ loop-files-preserved g c =
       was = inv.was;
       writing = ap (λ (l : Ledger). l.writing) p.1 ∙ written_more mid inv.name inv.planned p.0 (ap (λ (l : Ledger). l.writing) goes.0 ∙ inv.writing);
       come = p.2 ∙ ap (λ (v : SolvedValue). record v { text = v.text ++ bytes; planned = v.planned ++ p.0 }) inv.come;
+      calls = c.in_ok-plan_piece.ensures.calls ∙ c.in_ok-next_piece.ensures.calls ∙ inv.calls;
     }
 
 pub returns-in_err-plan_piece-clause-stopped : goal.returns-in_err-plan_piece-clause-stopped
@@ -81,14 +83,13 @@ returns-in_err-plan_piece-clause-stopped g c =
     let goes = rw c.if-branch.true at c.in_ok-next_piece.ensures.read r inv.reading in
     let writes = c.in_err-plan_piece.ensures.writes in
     let now = c.plan_piece.new.files in
-    let failed = g.F.ReadFiles.has_failed now in
     let fault = c.in_err-plan_piece.field-0.0 in
     let bytes = c.next_piece.new.bytes.items in
     let told = rw c.deref.ensures.value at c.in_err-plan_piece.ensures.told in
     rw (p.1, p.2) (λ host were turn.
-    second_lines_stop host were r.host (inv.text ++ bytes) before (g.F.ReadFiles.ledger now) failed fault
+    second_lines_stop host were r.host (inv.text ++ bytes) before (g.F.ReadFiles.ledger now) fault
     (ap (λ (l : Ledger). l.read) writes ∙ ap (λ (l : Ledger). l.read) goes.0 ∙ inv.read, ap (λ (l : Ledger). l.reading) writes ∙ ap (λ (l : Ledger). l.reading) goes.0)
-    (subst (λ (v : SolvedValue). IsNext v host → StopsPiece host (v.text ++ bytes) failed fault) inv.come (told host) (turn.here, turn.fresh.unmet)))
+    (subst (λ (v : SolvedValue). IsNext v host → StopsPiece host (v.text ++ bytes) fault) inv.come (told host) (turn.here, turn.fresh.unmet)))
 
 pub returns-clause-planned : goal.returns-clause-planned
 returns-clause-planned g c =
@@ -124,11 +125,10 @@ returns-clause-stopped g c =
     let goes = rw c.if-branch.false at c.in_ok-next_piece.ensures.read r inv.reading in
     let writes = c.end_plan.ensures.writes in
     let now = c.end_plan.new.files in
-    let failed = g.F.ReadFiles.has_failed now in
     if_err c.end_plan.result _ _ (λ fault stops host were turn.
-    second_whole_stop host were r.host inv.text before (g.F.ReadFiles.ledger now) failed fault
+    second_whole_stop host were r.host inv.text before (g.F.ReadFiles.ledger now) fault
     (ap (λ (l : Ledger). l.read) writes ∙ ap (λ (l : Ledger). l.read) goes ∙ ap (λ rs. rs ++ r ∷ []) inv.read)
-    (subst (λ (v : SolvedValue). IsNext v host → WereFirst v host were → StopsEnd host were v.text failed fault) inv.come (stops host were) (turn.here, turn.fresh.unmet) turn.first))
+    (subst (λ (v : SolvedValue). IsNext v host → WereFirst v host were → StopsEnd host were v.text fault) inv.come (stops host were) (turn.here, turn.fresh.unmet) turn.first))
     c.end_plan.ensures.told
 
 pub returns-clause-fresh : goal.returns-clause-fresh
@@ -152,7 +152,7 @@ returns-in_err-next_piece-clause-reads g c =
     let mid = g.F.ReadFiles.ledger c.loop-files.files in
     let new = g.F.ReadFiles.ledger c.next_piece.new.files in
     has_read_none old.read new
-    (early_read r c.next_piece.new.bytes.items c.loop-files.left mid new (g.F.ReadFiles.has_failed c.next_piece.new.files) c.in_err-next_piece.field-0.0 (c.in_err-next_piece.ensures.stopped r inv.reading) ∙ inv.read)
+    (early_read r c.next_piece.new.bytes.items c.loop-files.left mid new c.in_err-next_piece.field-0.0 (c.in_err-next_piece.ensures.stopped r inv.reading) ∙ inv.read)
 
 pub returns-in_err-plan_piece-clause-reads : goal.returns-in_err-plan_piece-clause-reads
 returns-in_err-plan_piece-clause-reads g c =

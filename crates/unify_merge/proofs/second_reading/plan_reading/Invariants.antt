@@ -17,6 +17,7 @@ invariant-loop-files g l = record {
   was : (g.F.ReadFiles.ledger l.initial.files).writing ≡ Some (record { name = name; text = [] });
   writing : (g.F.ReadFiles.ledger l.files).writing ≡ Some (record { name = name; text = planned });
   come : l.solved ≡ record l.initial.solved { text = text; planned = planned };
+  calls : g.F.ReadFiles.failure l.files ≡ g.F.ReadFiles.failure l.initial.files;
 }
 
 abbrev pub decreases-loop-files : goal.decreases-loop-files

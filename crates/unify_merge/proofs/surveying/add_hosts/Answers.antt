@@ -1,4 +1,4 @@
-use Rattle.std.proofs.Common.{◌<◌, ◌++◌, ◌∷◌, [], length, refl, sym, ap, arith, append-nil, length-append}
+use Rattle.std.proofs.Common.{◌<◌, ◌++◌, ◌∷◌, [], length, refl, sym, ap, ◌∙◌, arith, append-nil, length-append}
 use Rattle.std.proofs.lemmas.List.Elements.{All-nil, All-push}
 use Rattle.std.proofs.lemmas.Result.{err_from_is_err_and}
 use Rattle.idtext.specs.First.{each}
@@ -20,6 +20,7 @@ loop-index-init g c = record {
   are_listed = ap (each listed_of) (loaded_none c.args.hosts.now);
   numbers = refl;
   only = refl;
+  calls = refl;
 }
 
 pub returns-in_err-survey_host-clause-stopped : goal.returns-in_err-survey_host-clause-stopped
@@ -29,7 +30,7 @@ returns-in_err-survey_host-clause-stopped g c =
     let within : c.loop-index.index < length c.args.hosts.now = omega (arith, c.loop-index-test.true) in
     rw (p.1, p.2)
     (survey_stopped c.args.hosts.now inv.texts inv.listed c.index-hosts-index.result c.loop-index.index (g.F.ReadFiles.ledger c.args.files.now) (g.F.ReadFiles.ledger c.loop-index.files) (g.F.ReadFiles.ledger c.survey_host.new.files)
-    (g.F.ReadFiles.has_failed c.survey_host.new.files) c.in_err-survey_host.field-0.0 inv.are_listed inv.one_each within c.index-hosts-index.is inv.read c.in_err-survey_host.ensures.stopped)
+    c.in_err-survey_host.field-0.0 inv.are_listed inv.one_each within c.index-hosts-index.is inv.read c.in_err-survey_host.ensures.stopped)
 
 pub loop-index-preserved : goal.loop-index-preserved
 loop-index-preserved g c =
@@ -46,4 +47,5 @@ loop-index-preserved g c =
       are_listed = listed_more c.args.hosts.now inv.texts inv.listed host c.loop-index.index it.0 it.2.0 inv.are_listed inv.one_each within c.index-hosts-index.is it.2.1;
       numbers = numbers_more c.args.found.now c.loop-index.found c.survey_host.new.found inv.listed host it.2.0 inv.numbers it.2.2;
       only = reads_on (g.F.ReadFiles.ledger c.args.files.now) (g.F.ReadFiles.ledger c.loop-index.files) (g.F.ReadFiles.ledger c.survey_host.new.files) inv.only c.in_ok-survey_host.ensures.reads;
+      calls = c.in_ok-survey_host.ensures.calls ∙ inv.calls;
     }

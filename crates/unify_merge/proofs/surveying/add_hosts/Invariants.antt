@@ -18,4 +18,5 @@ invariant-loop-index g l = record {
   are_listed : each listed_of (loaded_from l.hosts texts) ≡ Ok listed;
   numbers : l.found ≡ unowned_over l.initial.found listed;
   only : ReadsOnly (g.F.ReadFiles.ledger l.initial.files) (g.F.ReadFiles.ledger l.files);
+  calls : g.F.ReadFiles.failure l.files ≡ g.F.ReadFiles.failure l.initial.files;
 }

@@ -10,7 +10,7 @@ returns-in_err-next_piece-clause-stopped g c =
     let inv = c.loop-survey.invariant in
     let p = err_from_is_err_and c.from_residual-in_err-next_piece.result c.from_residual-in_err-next_piece.ensures.1 in
     let r : Reading = record { host = c.args.index; text = inv.text } in
-    rw (p.1, p.2) (piece_ended _ r.host _ inv.text _ _ _ _ _ inv.may (c.in_err-next_piece.ensures.stopped r inv.reading))
+    rw (p.1, p.2) (piece_ended _ r.host _ inv.text _ _ _ _ inv.may (c.in_err-next_piece.ensures.stopped r inv.reading))
 
 pub returns-clause-read : goal.returns-clause-read
 returns-clause-read g c =

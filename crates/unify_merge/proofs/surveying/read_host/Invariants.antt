@@ -12,6 +12,7 @@ invariant-loop-survey g l = record {
   only : ReadsOnly (g.F.ReadFiles.ledger l.fn.files) (g.F.ReadFiles.ledger l.files);
   may : l.left + length text ≡ most_inventory_bytes;
   stands : StandsFor 16777216 l.host l.survey text;
+  calls : g.F.ReadFiles.failure l.files ≡ g.F.ReadFiles.failure l.fn.files;
 }
 
 abbrev pub decreases-loop-survey : goal.decreases-loop-survey

@@ -24,5 +24,4 @@ returns-clause-stopped g c =
     let are : surveyed_hosts hosts (keep_read keep) ≡ Ok surveying = c.in_ok-surveying.ensures.read ∙ ap (λ hs. Ok hs) (sym c.deref.ensures.value) in
     let old = g.F.ReadFiles.ledger c.args.files.now in
     let new = g.F.ReadFiles.ledger c.survey_hosts.new.files in
-    let failed = g.F.ReadFiles.has_failed c.survey_hosts.new.files in
-    if_err c.survey_hosts.result _ _ (λ fault stops. finding_stopped hosts keep surveying are old new failed fault stops) c.survey_hosts.ensures.stopped
+    if_err c.survey_hosts.result _ _ (λ fault stops. finding_stopped hosts keep surveying are old new fault stops) c.survey_hosts.ensures.stopped

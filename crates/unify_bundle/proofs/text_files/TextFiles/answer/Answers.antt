@@ -8,4 +8,4 @@ pub returns-clause-read : goal.returns-clause-read
 returns-clause-read g c =
     let f = c.self.inside in
     subst (λ (v : TextFilesValue). ReadsTexts v.texts (ledger_of v)) c.self.view_is
-    (reads_texts (mtrees f.hosts.now) f.left.now f.files.items (open_file f.is_writing f.name.items f.text.items) f.log.ledger f.has_failed c.self.invariant)
+    (reads_texts (mtrees f.hosts.now) f.left.now f.files.items (open_file f.is_writing f.name.items f.text.items) f.log.ledger f.failure c.self.invariant)
