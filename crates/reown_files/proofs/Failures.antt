@@ -1,10 +1,10 @@
 -- Why calls have failed.
 use Rattle.std.proofs.Common.{◌≡◌, inl, inr, true, false, List, [], ◌∷◌, Option, None, Some, Result, Ok, Err, IfErr, OnErr, refl, sym, subst}
 use Rattle.std.specs.Result.{is_ok}
-use Rattle.reown_files.specs.declared.answers.Stop.{Stop}
+use Rattle.reown_files.specs.declared.answers.Failure.{Failure}
 use Rattle.reown_files.specs.Calls.{Called}
 use Rattle.reown_files.specs.Failed.{Last, AskedLast, FailsToSettle}
-use Rattle.reown_files.specs.Real.{RealData, StopsAt, StopsSync, WasNotKept}
+use Rattle.reown_files.specs.Real.{RealData, FailsAt, FailsToSync, WasNotKept}
 
 -- what follows where a call failed
 pub failed_as : {T E P : Type 0} (r : Result T E) → (is_ok r ≡ false → P) → OnErr r P
@@ -27,10 +27,10 @@ asked_once Is old new call e is = ([], call, e, is)
 
 -- ---- syncs
 
-pub stopped_sync : (old new : RealData) (stop : Option Stop) → old.is_stopped ≡ true → StopsAt None stop → StopsSync old new stop
+pub stopped_sync : (old new : RealData) (failure : Option Failure) → old.is_stopped ≡ true → FailsAt None failure → FailsToSync old new failure
 stopped_sync old new None stopped at = at
-stopped_sync old new (Some stop) stopped at = inl (stopped, at)
+stopped_sync old new (Some failure) stopped at = inl (stopped, at)
 
-pub unsettled_sync : (old new : RealData) (stop : Option Stop) → Last FailsToSettle new.calls → StopsAt None stop → StopsSync old new stop
+pub unsettled_sync : (old new : RealData) (failure : Option Failure) → Last FailsToSettle new.calls → FailsAt None failure → FailsToSync old new failure
 unsettled_sync old new None last at = at
-unsettled_sync old new (Some stop) last at = inr (subst (WasNotKept old.records new.calls) (sym at) last)
+unsettled_sync old new (Some failure) last at = inr (subst (WasNotKept old.records new.calls) (sym at) last)

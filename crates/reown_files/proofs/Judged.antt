@@ -1,5 +1,5 @@
 -- Which owners go with which stage of a plan, and that a plan counts as begun once a file was changed.
-use Rattle.std.proofs.Common.{◌≡◌, ◌≢◌, ◌⊎◌, inl, inr, ℕ, ◌==◌, Bool, true, false, ◌&&◌, not, List, [], ◌∷◌, Option, None, Some, refl, sym, ◌∙◌, ap, arith}
+use Rattle.std.proofs.Common.{◌≡◌, ◌≢◌, ◌⊎◌, inl, inr, ℕ, ◌==◌, true, false, ◌&&◌, not, List, [], ◌∷◌, Option, None, Some, refl, sym, ◌∙◌, ap, arith}
 use Rattle.std.specs.List.{list_any}
 use Rattle.std.proofs.lemmas.Bool.Decides.{nat_tests}
 use Rattle.reown_plan.specs.declared.mark.PlanMark.{PlanMark}
@@ -9,7 +9,7 @@ use Rattle.reown_plan.specs.Owners.{owner_eq}
 use Rattle.reown_plan.specs.PlanData.{PlanRecord}
 use Rattle.reown_runner.proofs.Cellwise.{either}
 use Rattle.reown_files.specs.Calls.{Called, Looked, Met, MetMark, Saw, SawMark, NotSeen, MarkNotSeen, CheckedLinks, Gave, SetMode, Kept, Settled, PutMark, KeptMark, ReadModes, LostMode, PutModes}
-use Rattle.reown_files.specs.Lawful.{is_lawful, is_begun, is_unchanged, begins_first, all_asked, is_met, all_met, all_checked, all_modes_kept, were_read, is_settled, is_given}
+use Rattle.reown_files.specs.Lawful.{is_begun, is_unchanged, begins_first, all_asked, is_met, all_met, all_checked, all_modes_kept, were_read, is_settled, is_given}
 use Rattle.reown_files.specs.Laws.{OwnersGoByStage, IsFit, HasOneFault, FilesAreJudged, ChangedPlansAreBegun}
 use Rattle.reown_files.specs.Opening.{IsUnfit}
 use Rattle.reown_files.specs.declared.answers.OpenFault.{OpenFault}

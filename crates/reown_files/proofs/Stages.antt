@@ -1,5 +1,5 @@
 -- The stage of a plan, as calls have told it.
-use Rattle.std.proofs.Common.{◌≡◌, ◌∙◌, ◌||◌, Bool, Some, None, cond, ap, sym, subst, List, ℕ}
+use Rattle.std.proofs.Common.{◌≡◌, ◌∙◌, ◌||◌, Bool, Some, None, cond, ap, sym, List}
 use Rattle.reown_plan.specs.declared.mark.PlanMark.{PlanMark}
 use Rattle.reown_plan.specs.Mark.{is_marked_for}
 use Rattle.reown_plan.specs.PlanData.{PlanRecord}

@@ -1,8 +1,7 @@
 -- A count of files by example.
 -- Source: this project's own rule; chown(2) for owners.
-use Rattle.std.specs.Prelude.{◌≡◌, Bool, true, false, List, [], ◌∷◌, Option, None, Some}
+use Rattle.std.specs.Prelude.{◌≡◌, Bool, true, false, List, [], ◌∷◌, None, Some}
 use Rattle.reown_plan.specs.declared.plan.Owner.{Owner}
-use Rattle.reown_files.specs.declared.answers.Seen.{Seen}
 use Rattle.reown_files.specs.Counting.{Look, counts_of}
 use Rattle.reown_files.specs.Runs.{old, new, foreign, note}
 

@@ -14,3 +14,8 @@ pub mod Runs
 pub mod CountExample
 pub mod ModesNoted
 pub mod OneFile
+pub mod Looks
+pub mod Asked
+pub mod AskedCode
+pub mod Trees
+pub mod RootData

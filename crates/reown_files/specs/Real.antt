@@ -14,7 +14,7 @@ use Rattle.reown_runner.specs.Tree.{TreeData, IsReadable, cells_of}
 use Rattle.reown_runner.specs.Memory.{Mem, known_mem}
 use Rattle.reown_runner.specs.MemoryReads.{readable_mem}
 use Rattle.reown_files.specs.Calls.{Called, Kept}
-use Rattle.reown_files.specs.declared.answers.Stop.{Stop}
+use Rattle.reown_files.specs.declared.answers.Failure.{Failure}
 use Rattle.reown_files.specs.Failed.{Last, AskedLast, FailsToGive, FailsToPut, FailsToSettle}
 use Rattle.reown_files.specs.Lawful.{is_of}
 use Rattle.reown_files.specs.Replay.{replay}
@@ -30,7 +30,7 @@ pub record RealData : Type 0 where
   pub is_kept : Bool
   pub is_stopped : Bool
   pub faults : ℕ
-  pub stop : Option Stop
+  pub failure : Option Failure
   pub asked : ℕ
   pub calls : List Called
 
@@ -91,12 +91,12 @@ later_goes_on a b c x y =
 
 -- nothing is new but what was asked of the disk, and where a call failed
 abbrev pub AsksMore : RealData → RealData → Type 0
-AsksMore old new = new ≡ record old { stop = new.stop; calls = new.calls }
+AsksMore old new = new ≡ record old { failure = new.failure; calls = new.calls }
 
 -- nor but whether each file is kept
 abbrev pub KeepsMore : RealData → RealData → Type 0
 KeepsMore old new =
-    new ≡ record old { is_kept = new.is_kept; stop = new.stop; calls = new.calls }
+    new ≡ record old { is_kept = new.is_kept; failure = new.failure; calls = new.calls }
 
 -- nor but what is held, and whether the tree is stopped
 abbrev pub GivesMore : RealData → RealData → Type 0
@@ -106,13 +106,13 @@ GivesMore old new =
       tree = new.tree;
       is_kept = new.is_kept;
       is_stopped = new.is_stopped;
-      stop = new.stop;
+      failure = new.failure;
       calls = new.calls;
     }
 
 -- nothing is new but what is held, what was asked of the disk, and where a call failed
 abbrev pub PutsMore : RealData → RealData → Type 0
-PutsMore old new = new ≡ record old { tree = new.tree; stop = new.stop; calls = new.calls }
+PutsMore old new = new ≡ record old { tree = new.tree; failure = new.failure; calls = new.calls }
 
 -- ---- where a call failed
 
@@ -121,9 +121,9 @@ abbrev pub place_of : List PlanRecord → List ℕ → Option ℕ
 place_of records path = position (bytes_eq path) (map (λ r. r.path) records)
 
 -- a call failed, and this is the place that is told
-abbrev pub StopsAt : Option ℕ → Option Stop → Type 0
-StopsAt place None = ⊥
-StopsAt place (Some stop) = stop.place ≡ place
+abbrev pub FailsAt : Option ℕ → Option Failure → Type 0
+FailsAt place None = ⊥
+FailsAt place (Some failure) = failure.place ≡ place
 
 -- the file of the record at this place was to be kept by the last call, which failed; or that was
 -- the sync of all or of the mark, which is told as none's
@@ -134,10 +134,11 @@ WasNotKept records calls (Some i) =
     × ((before : List Called) × (calls ≡ Kept r.path r.after false ∷ before))
 
 -- a sync failed: so, or since the tree had been stopped
-abbrev pub StopsSync : RealData → RealData → Option Stop → Type 0
-StopsSync old new None = ⊥
-StopsSync old new (Some stop) =
-    ((old.is_stopped ≡ true) × (stop.place ≡ None)) ⊎ WasNotKept old.records new.calls stop.place
+abbrev pub FailsToSync : RealData → RealData → Option Failure → Type 0
+FailsToSync old new None = ⊥
+FailsToSync old new (Some failure) =
+    ((old.is_stopped ≡ true) × (failure.place ≡ None))
+    ⊎ WasNotKept old.records new.calls failure.place
 
 -- ---- why it failed
 

@@ -1,9 +1,8 @@
 -- Runs of a plan, call by call, the first call first, and whether they are lawful.
 -- Sources: chown(2), by which a change of its owner clears the set-user-ID bit of a program. The
 -- calls and their order are this project's own rule.
-use Rattle.std.specs.Prelude.{ℕ, Bool, true, false, List, [], ◌∷◌, ◌++◌, Option, None, Some}
+use Rattle.std.specs.Prelude.{ℕ, Bool, true, false, List, [], ◌∷◌, ◌++◌, None, Some}
 use Rattle.std.specs.Prelude.{codes, reverse}
-use Rattle.reown_plan.specs.declared.mark.PlanMark.{PlanMark}
 use Rattle.reown_plan.specs.declared.plan.Owner.{Owner}
 use Rattle.reown_plan.specs.PlanData.{PlanRecord}
 use Rattle.reown_files.specs.Calls.{Called, Met, MetMark, CheckedLinks, Gave, SetMode, Kept}

@@ -1,4 +1,5 @@
 //! What calls on a disk answer.
+ghost use Rattle.std.specs.Prelude.{◌≡◌};
 
 use reown_plan::Owner;
 use std::alloc::{AllocError, AllocFailed};
@@ -26,7 +27,8 @@ pub enum Trouble {
     LinkedElsewhere,
     /// The file has two names in the plan, with two new owners.
     LinkedOtherwise,
-    /// The call was made, and what was wanted is not there.
+    /// What was asked for was not done, and no call of the system says why: it is not there
+    /// afterwards, the plan has no such change, or the tree was stopped before.
     NotDone,
     /// The directory is none.
     NotDirectory,
@@ -64,7 +66,7 @@ pub struct Seen {
 
 /// Where the last call on a tree failed, and why.
 #[derive(Clone, Copy, Debug, PartialEq, Eq)]
-pub struct Stop {
+pub struct Failure {
     /// The record whose file it was, if it was one's; records count from 0.
     pub place: Option<usize>,
     /// Why it failed.
@@ -94,24 +96,40 @@ pub enum OpenFault {
 }
 
 impl From<AllocError> for OpenFault {
+    ghost use Rattle.reown_files.specs.declared.answers.OpenFault.TheVariants.{Memory};
+
+    ghost from_gives = { λ _ fault. fault ≡ Memory };
+
     fn from(_: AllocError) -> Self {
         OpenFault::Memory
     }
 }
 
 impl<T: Drop> From<AllocFailed<T>> for OpenFault {
+    ghost use Rattle.reown_files.specs.declared.answers.OpenFault.TheVariants.{Memory};
+
+    ghost from_gives = { λ _ fault. fault ≡ Memory };
+
     fn from(_: AllocFailed<T>) -> Self {
         OpenFault::Memory
     }
 }
 
 impl<T: Drop> From<AllocFailed<T>> for Trouble {
+    ghost use Rattle.reown_files.specs.declared.answers.Trouble.TheVariants.{Memory};
+
+    ghost from_gives = { λ _ trouble. trouble ≡ Memory };
+
     fn from(_: AllocFailed<T>) -> Self {
         Trouble::Memory
     }
 }
 
 impl From<AllocError> for Trouble {
+    ghost use Rattle.reown_files.specs.declared.answers.Trouble.TheVariants.{Memory};
+
+    ghost from_gives = { λ _ trouble. trouble ≡ Memory };
+
     fn from(_: AllocError) -> Self {
         Trouble::Memory
     }

@@ -19,8 +19,8 @@ use reown_runner::{RunFault, Runner, done_means_done};
 /// # Errors
 ///
 /// `Device`: a call on the disk failed, or found a file otherwise than it was left.
-/// `RealTree::stop` tells where and why. Each file is then at its old or its new owner, and a tree
-/// that is opened anew goes on from there.
+/// `RealTree::failure` tells where and why. Each file is then at its old or its new owner, and a
+/// tree that is opened anew goes on from there.
 pub fn apply<'p, 'a, D: Disk>(
     plan: &'p Plan<'a>,
     tree: &mut RealTree<'p, 'a, D>,

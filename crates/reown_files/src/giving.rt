@@ -10,7 +10,7 @@ ghost use Rattle.reown_files.specs.Failed.{AskedLast, FailsToGive};
 ghost use Rattle.reown_files.specs.Replay.{replay, with_owner};
 ghost use Rattle.reown_files.specs.Real.{Grows, WasNotKept};
 
-use crate::{Disk, Stop, Trouble};
+use crate::{Disk, Failure, Trouble};
 use reown_plan::{Owner, Record};
 
 // Whether this change is that of a record.
@@ -85,9 +85,9 @@ pub fn give_file<D: Disk>(disk: &mut D, path: &[u8], before: Owner, after: Owner
 
 // Sees that each record's file has its new owner, and syncs it, where it is not for the sync of
 // all.
-fn keep_all<D: Disk>(disk: &mut D, records: &[Record]) -> Result<(), Stop>
-    ensures stop { IfErr result
-        (λ stop. WasNotKept (map record_of records.now) (D.calls disk.new) stop.place) }
+fn keep_all<D: Disk>(disk: &mut D, records: &[Record]) -> Result<(), Failure>
+    ensures failure { IfErr result
+        (λ failure. WasNotKept (map record_of records.now) (D.calls disk.new) failure.place) }
     ensures kept { OnOk result (all_kept (map record_of records.now) (D.calls disk.new) ≡ true) }
     ensures modes { no_mode_failed (D.calls disk.new) ≡ no_mode_failed (D.calls disk.old) }
     ensures lawful { (mark : PlanMark) (plan : List PlanRecord)
@@ -102,7 +102,7 @@ fn keep_all<D: Disk>(disk: &mut D, records: &[Record]) -> Result<(), Stop>
         match disk.keep(planned.path, planned.after) {
             Ok(()) => {}
             Err(trouble) => {
-                return Err(Stop {
+                return Err(Failure {
                     place: Some(i),
                     trouble,
                 });
@@ -113,9 +113,9 @@ fn keep_all<D: Disk>(disk: &mut D, records: &[Record]) -> Result<(), Stop>
 }
 
 /// Sees that each record's file has its new owner, and that a stop of the machine leaves it so.
-pub fn sync_all<D: Disk>(disk: &mut D, records: &[Record]) -> Result<(), Stop>
-    ensures stop { IfErr result
-        (λ stop. WasNotKept (map record_of records.now) (D.calls disk.new) stop.place) }
+pub fn sync_all<D: Disk>(disk: &mut D, records: &[Record]) -> Result<(), Failure>
+    ensures failure { IfErr result
+        (λ failure. WasNotKept (map record_of records.now) (D.calls disk.new) failure.place) }
     ensures synced { OnOk result (is_synced (map record_of records.now) (D.calls disk.new) ≡ true) }
     ensures modes { no_mode_failed (D.calls disk.new) ≡ no_mode_failed (D.calls disk.old) }
     ensures lawful { (mark : PlanMark) (plan : List PlanRecord)
@@ -129,7 +129,7 @@ pub fn sync_all<D: Disk>(disk: &mut D, records: &[Record]) -> Result<(), Stop>
     keep_all(disk, records)?;
     match disk.settle() {
         Ok(()) => Ok(()),
-        Err(trouble) => Err(Stop {
+        Err(trouble) => Err(Failure {
             place: None,
             trouble,
         }),

@@ -3,15 +3,19 @@
 
 mod answers;
 mod applying;
+mod asked;
+mod below;
 mod by_example;
 mod comparing;
 mod counting;
 mod disk;
+mod files;
 mod giving;
 mod log;
 mod looking;
 mod mark_file;
 mod modes_file;
+mod names;
 mod opening;
 mod read_back;
 mod real_tree;
@@ -22,7 +26,7 @@ mod walk;
 mod way;
 mod whole_file;
 
-pub use answers::{Modes, OpenFault, Seen, Stop, Trouble};
+pub use answers::{Failure, Modes, OpenFault, Seen, Trouble};
 pub use applying::apply;
 pub use by_example::{counts_by_example, lawful_calls_by_example};
 pub use counting::{Count, OwnerCounts, Unfit, count_owners};
@@ -31,5 +35,5 @@ pub use log::{Call, Log};
 pub use modes_file::MODES_BEHIND;
 pub use read_back::{marks_and_modes_by_example, marks_are_read_back, modes_are_read_back};
 pub use real_tree::{RealTree, Refused};
-pub use root::Root;
+pub use root::{Root, RootFault};
 pub use stage::owners_go_by_stage;

@@ -75,23 +75,14 @@ pub fn look_at_all<D: Disk>(
     ensures refused { IfErr result
         (IsRefusal stage (map record_of records.now) (D.calls disk.new)) }
 {
-    let mut owners = match Vec::with_capacity(alloc, records.len()) {
-        Ok(owners) => owners,
-        Err(_) => return Err(OpenFault::Memory),
-    };
+    let mut owners = Vec::with_capacity(alloc, records.len())?;
     for (i, planned) in records.iter().enumerate() {
         let found = match disk.meet(planned.path, planned.after) {
             Ok(found) => found,
             Err(trouble) => return Err(OpenFault::File(i, trouble)),
         };
-        let owner = match check_left(i, planned, found, stage) {
-            Ok(owner) => owner,
-            Err(fault) => return Err(fault),
-        };
-        match owners.push(owner) {
-            Ok(()) => {}
-            Err(_) => return Err(OpenFault::Memory),
-        }
+        let owner = check_left(i, planned, found, stage)?;
+        owners.push(owner)?;
     }
     Ok(owners)
 }

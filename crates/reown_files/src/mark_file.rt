@@ -4,7 +4,7 @@ ghost use Rattle.reown_files.specs.declared.answers.Trouble.TheVariants.{Memory,
 ghost use Rattle.reown_files.specs.MarkText as spec;
 
 use crate::Trouble;
-use crate::whole_file::{keep_name, put_whole, read_whole};
+use crate::whole_file::{put_whole, read_whole, sync_name};
 use idtext::push_number;
 use reown_plan::PlanMark;
 use std::alloc::{AllocError, Global};
@@ -81,10 +81,7 @@ fn read_mark(alloc: Global, plan: &PlanMark, text: &[u8]) -> Result<bool, Troubl
     if !text.starts_with(HEAD) {
         return Err(Trouble::NotMark);
     }
-    let own = match mark_text(alloc, plan) {
-        Ok(own) => own,
-        Err(_) => return Err(Trouble::Memory),
-    };
+    let own = mark_text(alloc, plan)?;
     Ok(text == own.as_slice())
 }
 
@@ -122,7 +119,7 @@ impl<'w> MarkFile<'w> {
     }
 
     /// Waits until its name has reached the device.
-    pub fn keep(&self) -> Result<(), Trouble> {
-        keep_name(self.rt, self.path.as_str())
+    pub fn sync(&self) -> Result<(), Trouble> {
+        sync_name(self.rt, self.path.as_str())
     }
 }

@@ -3,9 +3,11 @@
 //! this is for a stop between the two. It is there, with or without modes, from before the first
 //! change until the mark is synced, so that a plan which was begun is known by it.
 ghost use Rattle.std.specs.Prelude.{◌≡◌, ◌<◌, ◌+◌, ◌++◌, ◌↔◌, Some, IfOk, IfSome, IsTrue, OnOk};
+ghost use Rattle.std.specs.Prelude.{[], if◌then◌else◌};
 ghost use Rattle.std.specs.Prelude.{IfErr, None, Ok, Err, false, map};
 ghost use Rattle.std.specs.Option.{option_copied};
 ghost use Rattle.reown_files.specs.declared.answers.Trouble.TheVariants.{NotModes};
+ghost use Rattle.reown_files.specs.Looks as looks;
 ghost use Rattle.reown_files.specs.OneFile.{HasLost};
 ghost use Rattle.idtext.specs.Escapes.{unescaped, has_bad_escape};
 ghost use Rattle.idtext.specs.Pieces.{lines as lines_of_text};
@@ -14,8 +16,8 @@ ghost use Rattle.reown_files.specs.ModesNoted.{entry_of};
 
 use crate::Trouble;
 use crate::mark_file::{HEAD as MARK_HEAD, MarkFile, push_plan};
-use crate::walk::{Found, Kind, SET_ID, done};
-use crate::whole_file::{keep_name, path_with, put_whole, read_whole};
+use crate::walk::{Found, Kind, SET_ID, if_there};
+use crate::whole_file::{path_with, put_whole, read_whole, sync_name};
 use idtext::{Character, Lines, first_character, push_escaped};
 use reown_plan::PlanMark;
 use std::alloc::{AllocError, Global};
@@ -34,7 +36,9 @@ const END: &[u8] = b"end\n";
 const MOST_BYTES: u64 = 1_073_741_824;
 
 /// Whether a file is a regular one that has such a bit.
-pub fn has_set_id(found: &Found) -> bool {
+pub fn has_set_id(found: &Found) -> bool
+    ensures { result ≡ looks.has_set_id found.now }
+{
     found.kind == Kind::Regular && found.mode & SET_ID != 0
 }
 
@@ -177,9 +181,7 @@ fn tree_of(alloc: Global, all: Vec<Noted>) -> Result<BTreeMap<Vec<u8>, u32>, Tro
     let mut modes = BTreeMap::new(alloc);
     for noted in all {
         let Noted { path, mode } = noted;
-        if modes.insert(path, mode).is_err() {
-            return Err(Trouble::Memory);
-        }
+        modes.insert(path, mode)?;
     }
     Ok(modes)
 }
@@ -245,14 +247,16 @@ pub struct ModesFile<'w> {
     noted: BTreeMap<Vec<u8>, u32>,
     // Whether the mark of this run's plan was there, which has nothing to change then.
     is_over: bool,
-    // The lines of the files that this run may lose modes of.
-    lines: Vec<u8>,
+    /// The lines of the files that this run may lose modes of.
+    pub lines: Vec<u8>,
     is_put: bool,
 }
 
 impl<'w> ModesFile<'w> {
     /// The file beside a mark.
-    pub fn beside(rt: &'w HostRuntime, mark: &str) -> Result<ModesFile<'w>, Trouble> {
+    pub fn beside(rt: &'w HostRuntime, mark: &str) -> Result<ModesFile<'w>, Trouble>
+        ensures { IfOk result (λ modes. modes.lines.items ≡ []) }
+    {
         Ok(ModesFile {
             rt,
             path: path_with(rt, mark, MODES_BEHIND)?,
@@ -264,9 +268,13 @@ impl<'w> ModesFile<'w> {
         })
     }
 
-    /// Notes the mode of a file that is to be given an owner, where it is a regular one with a bit
+    /// Adds the line of a file that is to be given an owner, where it is a regular one with a bit
     /// that this clears.
-    pub fn meet(&mut self, path: &[u8], found: &Found) -> Result<(), Trouble> {
+    pub fn add(&mut self, path: &[u8], found: &Found) -> Result<(), Trouble>
+        ensures { OnOk result (self.new.lines.items ≡ self.old.lines.items
+            ++ (if looks.has_set_id found.now
+            then spec.line_text path.now found.now.mode else [])) }
+    {
         if has_set_id(found) {
             push_line(&mut self.lines, path, found.mode)?;
         }
@@ -319,10 +327,8 @@ impl<'w> ModesFile<'w> {
 
     // Removes the file, if it is there.
     fn remove(&self) -> Result<(), Trouble> {
-        match done(fs::remove_file(self.rt, self.path.as_str())) {
-            Err(Trouble::Gone) => Ok(()),
-            told => told,
-        }
+        if_there(fs::remove_file(self.rt, self.path.as_str()).map_err(Trouble::from))?;
+        Ok(())
     }
 
     /// Puts there what this run of the plan may lose, be it nothing, whole and synced. Where its
@@ -334,7 +340,7 @@ impl<'w> ModesFile<'w> {
         let text = modes_text(self.rt.alloc(), plan, &self.lines)?;
         self.is_put = true;
         put_whole(self.rt, self.path.as_str(), &text)?;
-        keep_name(self.rt, self.path.as_str())
+        sync_name(self.rt, self.path.as_str())
     }
 
     /// Removes what this run has put there.

@@ -83,8 +83,6 @@ pub fn begun_tree<D: Disk>(
     let owners = look_at_all(alloc, disk, records, stage)?;
     check_all_links(disk, records)?;
     begin(disk, plan, records)?;
-    match held_tree(alloc, records, &owners, is_marked, *plan) {
-        Ok(held) => Ok(held),
-        Err(_) => Err(OpenFault::Memory),
-    }
+    let held = held_tree(alloc, records, &owners, is_marked, *plan)?;
+    Ok(held)
 }

@@ -6,7 +6,7 @@ ghost use Rattle.std.specs.Prelude.{IfOk, IfErr, OnOk, OnErr, IsSome, Contains};
 use crate::comparing::{check_mark, check_owner};
 use crate::giving::{give_file, has_change, sync_all};
 use crate::opening::begun_tree;
-use crate::{Disk, OpenFault, Stop, Trouble};
+use crate::{Disk, Failure, OpenFault, Trouble};
 use reown_plan::{Owner, Plan, PlanMark, Record};
 use reown_runner::{DeviceFault, MemTree, Tree};
 use std::alloc::Global;
@@ -29,7 +29,7 @@ pub struct RealTree<'p, 'a, D: Disk> {
     is_stopped: bool,
     faults: u64,
     asked: u64,
-    stop: Option<Stop>,
+    failure: Option<Failure>,
 }
 
 /// A disk whose files a tree was not opened on, and why.
@@ -54,7 +54,7 @@ impl<'p, 'a, D: Disk> Model for RealTree<'p, 'a, D> {
       is_kept = r.is_kept;
       is_stopped = r.is_stopped;
       faults = r.faults;
-      stop = r.stop;
+      failure = r.failure;
       asked = r.asked;
       calls = D.calls r.disk;
     } };
@@ -74,7 +74,7 @@ ghost use Rattle.reown_files.specs.Replay.{replay};
 ghost use Rattle.reown_files.specs.Stages.{stage_in};
 ghost use Rattle.reown_files.specs.Real.{RealData, HoldsReplay, known_real, readable_real};
 ghost use Rattle.reown_files.specs.Real.{Grows, IsLater, later_rests, later_goes_on, place_of};
-ghost use Rattle.reown_files.specs.Real.{StopsAt, StopsSync, AsksMore, KeepsMore, GivesMore};
+ghost use Rattle.reown_files.specs.Real.{FailsAt, FailsToSync, AsksMore, KeepsMore, GivesMore};
 ghost use Rattle.reown_files.specs.Real.{PutsMore, FailsBy, IsOutside, IsNotGiven, IsNotPut};
 ghost use Rattle.reown_files.specs.Failed.{Last, AskedLast, SeesOtherwise, SeesMarkOtherwise};
 ghost use Rattle.reown_files.specs.Failed.{FailsToGive, FailsToSettle};
@@ -115,7 +115,7 @@ impl<'p, 'a, D: Disk> RealTree<'p, 'a, D> {
             (stage_in was_begun (mark_of plan.now) (replay tree.calls))
             plan.now.records tree.calls) }
         ensures none_failed { IfOk result
-            (λ tree. (tree.faults ≡ 0) × (tree.stop ≡ None) × (tree.asked ≡ 0)) }
+            (λ tree. (tree.faults ≡ 0) × (tree.failure ≡ None) × (tree.asked ≡ 0)) }
         ensures unchanged { IfErr result (λ refused. is_unchanged (D.calls refused.disk) ≡ true) }
         ensures lawful { IfErr result (λ refused.
             is_lawful (mark_of plan.now) plan.now.records (D.calls refused.disk) ≡ true) }
@@ -135,7 +135,7 @@ impl<'p, 'a, D: Disk> RealTree<'p, 'a, D> {
                 is_stopped: false,
                 faults: 0,
                 asked: 0,
-                stop: None,
+                failure: None,
             }),
             Err(fault) => Err(Refused { fault, disk }),
         }
@@ -152,10 +152,10 @@ impl<'p, 'a, D: Disk> RealTree<'p, 'a, D> {
     }
 
     /// Where a call has failed last, and why, as far as the disk told. Constant time.
-    pub fn stop(&self) -> Option<Stop>
-        ensures { result ≡ self.now.stop }
+    pub fn failure(&self) -> Option<Failure>
+        ensures { result ≡ self.now.failure }
     {
-        self.stop
+        self.failure
     }
 }
 
@@ -233,7 +233,8 @@ impl<'p, 'a, D: Disk> RealTree<'p, 'a, D> {
     // The disk has this owner, or none, for the file.
     fn sees(&mut self, path: &[u8], held: Option<Owner>) -> bool
         ensures saw { result ≡ true → self.new.calls ≡ Saw path.now held ∷ self.old.calls }
-        ensures stop { result ≡ false → StopsAt (place_of self.old.records path.now) self.new.stop }
+        ensures failure { result ≡ false
+            → FailsAt (place_of self.old.records path.now) self.new.failure }
         ensures rest { AsksMore self.old self.new }
         ensures grows { Grows self.old.calls self.new.calls }
         ensures failed { result ≡ false → FailsBy (SeesOtherwise path.now held) self.old self.new }
@@ -308,7 +309,8 @@ impl<'p, 'a, D: Disk> RealTree<'p, 'a, D> {
             (known_mem self.old.tree) (known_mem self.new.tree) }
         ensures failed { result ≡ false → ForEachPlan (MayDo (Write path.now after))
             (known_mem self.old.tree) (known_mem self.new.tree) }
-        ensures stop { result ≡ false → StopsAt (place_of self.old.records path.now) self.new.stop }
+        ensures failure { result ≡ false
+            → FailsAt (place_of self.old.records path.now) self.new.failure }
         ensures rest { GivesMore self.old self.new }
         ensures grows { Grows self.old.calls self.new.calls }
         ensures why { result ≡ false → IsNotGiven path.now after self.old self.new }
@@ -322,7 +324,7 @@ impl<'p, 'a, D: Disk> RealTree<'p, 'a, D> {
     // it is held.
     fn keeps(&mut self, mark: bool) -> bool
         ensures kept { result ≡ true → mark ≡ true → is_mark_kept self.new.calls ≡ true }
-        ensures stop { result ≡ false → StopsSync self.old self.new self.new.stop }
+        ensures failure { result ≡ false → FailsToSync self.old self.new self.new.failure }
         ensures rest { KeepsMore self.old self.new }
         ensures grows { Grows self.old.calls self.new.calls }
     {
@@ -330,7 +332,7 @@ impl<'p, 'a, D: Disk> RealTree<'p, 'a, D> {
     }
 
     fn keeps_files(&mut self) -> bool
-        ensures stop { result ≡ false → StopsSync self.old self.new self.new.stop }
+        ensures failure { result ≡ false → FailsToSync self.old self.new self.new.failure }
         ensures rest { KeepsMore self.old self.new }
         ensures grows { Grows self.old.calls self.new.calls }
     {
@@ -341,7 +343,7 @@ impl<'p, 'a, D: Disk> RealTree<'p, 'a, D> {
     }
 
     fn keeps_each(&mut self) -> bool
-        ensures stop { result ≡ false → StopsSync self.old self.new self.new.stop }
+        ensures failure { result ≡ false → FailsToSync self.old self.new self.new.failure }
         ensures rest { KeepsMore self.old self.new }
         ensures grows { Grows self.old.calls self.new.calls }
     {
@@ -351,8 +353,8 @@ impl<'p, 'a, D: Disk> RealTree<'p, 'a, D> {
                 self.is_kept = true;
                 true
             }
-            Err(stop) => {
-                self.stop = Some(stop);
+            Err(failure) => {
+                self.failure = Some(failure);
                 false
             }
         }
@@ -375,7 +377,7 @@ impl<'p, 'a, D: Disk> RealTree<'p, 'a, D> {
     // The disk has the mark of the plan, or does not have it.
     fn sees_mark(&mut self, plan: &PlanMark, held: bool) -> bool
         ensures saw { result ≡ true → self.new.calls ≡ SawMark plan.now held ∷ self.old.calls }
-        ensures stop { result ≡ false → StopsAt None self.new.stop }
+        ensures failure { result ≡ false → FailsAt None self.new.failure }
         ensures rest { AsksMore self.old self.new }
         ensures grows { Grows self.old.calls self.new.calls }
         ensures failed { result ≡ false
@@ -410,19 +412,15 @@ impl<'p, 'a, D: Disk> RealTree<'p, 'a, D> {
         if !self.is_own(plan) {
             return Err(Trouble::NotDone);
         }
-        match self.disk.put_mark(plan) {
-            Ok(()) => {
-                self.held.set_mark(plan).unwrap();
-                Ok(())
-            }
-            Err(trouble) => Err(trouble),
-        }
+        self.disk.put_mark(plan)?;
+        self.held.set_mark(plan).unwrap();
+        Ok(())
     }
 
     fn puts_mark(&mut self, plan: &PlanMark) -> bool
         ensures marked { result ≡ true → self.new.tree ≡ marked plan.now self.old.tree }
         ensures failed { result ≡ false → self.new.tree ≡ self.old.tree }
-        ensures stop { result ≡ false → StopsAt None self.new.stop }
+        ensures failure { result ≡ false → FailsAt None self.new.failure }
         ensures rest { PutsMore self.old self.new }
         ensures grows { Grows self.old.calls self.new.calls }
         ensures why { result ≡ false → IsNotPut plan.now self.old self.new }
@@ -433,7 +431,7 @@ impl<'p, 'a, D: Disk> RealTree<'p, 'a, D> {
 
     fn keeps_mark(&mut self, held: bool) -> bool
         ensures kept { result ≡ true → held ≡ true → is_mark_kept self.new.calls ≡ true }
-        ensures stop { result ≡ false → StopsAt None self.new.stop }
+        ensures failure { result ≡ false → FailsAt None self.new.failure }
         ensures failed { result ≡ false → Last FailsToSettle self.new.calls }
         ensures rest { AsksMore self.old self.new }
         ensures grows { Grows self.old.calls self.new.calls }
@@ -459,8 +457,8 @@ impl<'p, 'a, D: Disk> Tree for RealTree<'p, 'a, D> {
         ensures faults { IsCounted
             (known_real self.old).faults (known_real self.new).faults result }
         ensures asked { (known_real self.new).asked ≡ (known_real self.old).asked }
-        ensures stop { OnErr result
-            (StopsAt (place_of self.old.records path.now) self.new.stop) }
+        ensures failure { OnErr result
+            (FailsAt (place_of self.old.records path.now) self.new.failure) }
         ensures why { OnErr result (FailsBy
             (SeesOtherwise path.now ((known_real self.old).owner path.now)) self.old self.new) }
         ensures later { IsLater self.old self.new }
@@ -484,8 +482,8 @@ impl<'p, 'a, D: Disk> Tree for RealTree<'p, 'a, D> {
         ensures faults { IsCounted
             (known_real self.old).faults (known_real self.new).faults result }
         ensures asked { (known_real self.new).asked ≡ counted (known_real self.old).asked }
-        ensures stop { OnErr result
-            (StopsAt (place_of self.old.records path.now) self.new.stop) }
+        ensures failure { OnErr result
+            (FailsAt (place_of self.old.records path.now) self.new.failure) }
         ensures why { OnErr result (IsNotGiven path.now owner self.old self.new) }
         ensures later { IsLater self.old self.new }
     {
@@ -510,7 +508,7 @@ impl<'p, 'a, D: Disk> Tree for RealTree<'p, 'a, D> {
         ensures faults { IsCounted
             (known_real self.old).faults (known_real self.new).faults result }
         ensures asked { (known_real self.new).asked ≡ (known_real self.old).asked }
-        ensures stop { OnErr result (StopsAt None self.new.stop) }
+        ensures failure { OnErr result (FailsAt None self.new.failure) }
         ensures why { OnErr result (FailsBy (SeesMarkOtherwise plan.now
             (is_marked_for plan.now (known_real self.old).mark)) self.old self.new) }
         ensures later { IsLater self.old self.new }
@@ -536,7 +534,7 @@ impl<'p, 'a, D: Disk> Tree for RealTree<'p, 'a, D> {
         ensures faults { IsCounted
             (known_real self.old).faults (known_real self.new).faults result }
         ensures asked { (known_real self.new).asked ≡ counted (known_real self.old).asked }
-        ensures stop { OnErr result (StopsAt None self.new.stop) }
+        ensures failure { OnErr result (FailsAt None self.new.failure) }
         ensures why { OnErr result (IsNotPut plan.now self.old self.new) }
         ensures later { IsLater self.old self.new }
     {
@@ -561,7 +559,7 @@ impl<'p, 'a, D: Disk> Tree for RealTree<'p, 'a, D> {
         ensures faults { IsCounted
             (known_real self.old).faults (known_real self.new).faults result }
         ensures asked { (known_real self.new).asked ≡ counted (known_real self.old).asked }
-        ensures stop { OnErr result (StopsSync self.old self.new self.new.stop) }
+        ensures failure { OnErr result (FailsToSync self.old self.new self.new.failure) }
         ensures later { IsLater self.old self.new }
     {
         self.count();

@@ -38,17 +38,12 @@ fn set_back<D: Disk>(disk: &mut D, plan: &PlanMark, planned: &Record) -> Result<
         → is_lawful plan.now records (D.calls disk.new) ≡ true }
     ensures replayed { replay (D.calls disk.new) ≡ replay (D.calls disk.old) }
 {
-    let lost = match disk.lost_mode(plan, planned.path, planned.after) {
-        Ok(lost) => lost,
-        Err(trouble) => return Err(trouble),
-    };
+    let lost = disk.lost_mode(plan, planned.path, planned.after)?;
     let Some(mode) = lost else {
         return Ok(());
     };
-    match disk.set_mode(planned.path, planned.after, mode) {
-        Ok(()) => disk.keep(planned.path, planned.after),
-        Err(trouble) => Err(trouble),
-    }
+    disk.set_mode(planned.path, planned.after, mode)?;
+    disk.keep(planned.path, planned.after)
 }
 
 // Sets back each mode that an earlier run had lost.

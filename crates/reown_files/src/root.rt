@@ -1,208 +1,19 @@
-//! The files below a directory.
-ghost use Rattle.std.specs.Prelude.{◌≡◌, ◌≢◌, ◌<◌, ◌↔◌, [], IfOk, IsTrue};
-ghost use Rattle.reown_files.specs.declared.walk.Kind.TheVariants as kinds;
+//! The files below a directory of the system, as a disk.
+ghost use Rattle.std.specs.Prelude.{◌≡◌, [], ◌∷◌, true, false, None, Some};
+ghost use Rattle.std.specs.Prelude.{IfOk, IfErr, IfSome, OnOk, OnErr, is_ok};
+ghost use Rattle.reown_files.specs.Asked.{HasNamesMet, LacksNames, IsGiven, IsModeSet, IsKept};
+ghost use Rattle.reown_files.specs.Calls.{Looked, Met, CheckedLinks, Saw, NotSeen, Gave, SetMode};
+ghost use Rattle.reown_files.specs.Calls.{Kept, LostMode};
+ghost use Rattle.reown_files.specs.RootData.{IsSeen, IsSeenAt, IsMet, HasLostAt};
 
+use crate::below::Below;
 use crate::mark_file::MarkFile;
-use crate::modes_file::{ModesFile, has_lost, has_set_id};
-use crate::walk::{Directory, Found, Kind, find, give_by_name, open};
-use crate::way::Way;
+use crate::modes_file::{ModesFile, has_lost};
+use crate::walk::{Directory, if_there};
 use crate::whole_file::path_from;
 use crate::{Call, Disk, Log, Modes, Seen, Trouble};
 use reown_plan::{Owner, PlanMark};
-use std::collections::{BTreeMap, BTreeSet};
-
-// The names of a file that has several.
-#[derive(Clone, Copy)]
-struct Names {
-    // How many are in the plan.
-    met: u64,
-    // How many of those were to be given their new owner.
-    given: u64,
-    // The new owner, which is that of each of them.
-    after: Owner,
-}
-
-// The files below a directory.
-#[derive(Drop)]
-struct Below<'w> {
-    rt: &'w HostRuntime,
-    way: Way<'w>,
-    // Whether a sync of the root keeps all that was changed before.
-    has_one_journal: bool,
-    // The files that have several names, by device and inode.
-    names: BTreeMap<(u64, u64), Names>,
-    // The paths of these files.
-    linked: BTreeSet<Vec<u8>>,
-}
-
-// Whether a file may have several names that are given.
-fn has_several_names(found: &Found) -> bool
-    ensures { IsTrue result ↔ ((found.now.kind ≢ kinds.Directory) × (1 < found.now.links)) }
-{
-    found.kind != Kind::Directory && found.links > 1
-}
-
-impl<'w> Below<'w> {
-    // What a name in the working directory stands for, on the root's file system.
-    fn find(&self, name: &[u8]) -> Result<Found, Trouble> {
-        let found = find(self.rt, name)?;
-        if found.device != self.way.root().found().device {
-            return Err(Trouble::OtherMount);
-        }
-        Ok(found)
-    }
-
-    // The same, where it has this owner.
-    fn expect(&self, name: &[u8], owner: Owner) -> Result<Found, Trouble>
-        ensures { IfOk result (λ found. found.owner ≡ owner) }
-    {
-        let found = self.find(name)?;
-        if found.owner != owner {
-            return Err(Trouble::Foreign(found.owner));
-        }
-        Ok(found)
-    }
-
-    // What is at a path.
-    fn look(&mut self, path: &[u8]) -> Result<Found, Trouble> {
-        let name = self.way.enter(path)?;
-        self.find(name)
-    }
-
-    // What is told of it.
-    fn see(&mut self, path: &[u8]) -> Result<Seen, Trouble> {
-        let found = self.look(path)?;
-        Ok(seen_in(&found))
-    }
-
-    // Its owner.
-    fn owner(&mut self, path: &[u8]) -> Result<Owner, Trouble> {
-        let found = self.look(path)?;
-        Ok(found.owner)
-    }
-
-    // Counts a name of a file that has several.
-    fn count_name(&mut self, path: &[u8], found: &Found, after: Owner) -> Result<(), Trouble> {
-        if !has_several_names(found) {
-            return Ok(());
-        }
-        if self.linked.insert(path.to_vec(self.rt.alloc())?).is_err() {
-            return Err(Trouble::Memory);
-        }
-        let key = (found.device, found.inode);
-        let met = match self.names.get(&key).copied() {
-            Some(names) if names.after != after => return Err(Trouble::LinkedOtherwise),
-            Some(names) => names.met.saturating_add(1),
-            None => 1,
-        };
-        let names = Names {
-            met,
-            given: 0,
-            after,
-        };
-        match self.names.insert(key, names) {
-            Ok(_) => Ok(()),
-            Err(_) => Err(Trouble::Memory),
-        }
-    }
-
-    // A file with several names is given its owner once, with the last of them: until then none of
-    // them has it.
-    fn waits_for_names(&mut self, found: &Found) -> bool {
-        if !has_several_names(found) {
-            return false;
-        }
-        match self.names.get_mut(&(found.device, found.inode)) {
-            Some(names) => {
-                names.given = names.given.saturating_add(1);
-                names.given < names.met
-            }
-            None => false,
-        }
-    }
-
-    // Waits until what a name stands for has reached its device. Links and the like wait for
-    // `settle`, and all files where there is one journal.
-    fn sync(&self, name: &[u8], found: &Found) -> Result<(), Trouble> {
-        if self.has_one_journal || found.kind == Kind::Other {
-            return Ok(());
-        }
-        open(self.rt, name, found)?.sync()
-    }
-
-    // Gives what a name stands for another owner. A regular file or a directory is looked at again
-    // when it is open.
-    fn give_found(&self, name: &[u8], found: &Found, after: Owner) -> Result<(), Trouble> {
-        if found.kind == Kind::Other {
-            return give_by_name(self.rt, name, after);
-        }
-        open(self.rt, name, found)?.give(after)
-    }
-}
-
-// The calls of a disk.
-impl<'w> Below<'w> {
-    fn meet(&mut self, path: &[u8], after: Owner) -> Result<Found, Trouble> {
-        let name = self.way.enter(path)?;
-        let found = self.find(name)?;
-        self.count_name(path, &found, after)?;
-        if found.owner == after {
-            self.sync(name, &found)?;
-        }
-        Ok(found)
-    }
-
-    fn check_links(&mut self, path: &[u8]) -> Result<(), Trouble> {
-        if !self.linked.contains(path) {
-            return Ok(());
-        }
-        let found = self.look(path)?;
-        match self.names.get(&(found.device, found.inode)) {
-            Some(names) if names.met != found.links => Err(Trouble::LinkedElsewhere),
-            _ => Ok(()),
-        }
-    }
-
-    fn give(&mut self, path: &[u8], before: Owner, after: Owner) -> Result<Modes, Trouble> {
-        let name = self.way.enter(path)?;
-        let found = self.expect(name, before)?;
-        if self.waits_for_names(&found) {
-            return Ok(Modes {
-                before: found.mode,
-                after: found.mode,
-            });
-        }
-        self.give_found(name, &found, after)?;
-        let now = self.expect(name, after)?;
-        if !now.is_same_file(&found) {
-            return Err(Trouble::Exchanged);
-        }
-        Ok(Modes {
-            before: found.mode,
-            after: now.mode,
-        })
-    }
-
-    fn set_mode(&mut self, path: &[u8], owner: Owner, mode: u32) -> Result<(), Trouble> {
-        let name = self.way.enter(path)?;
-        let found = self.expect(name, owner)?;
-        if found.kind == Kind::Other {
-            return Err(Trouble::NotDone);
-        }
-        let file = open(self.rt, name, &found)?;
-        file.set_mode(mode)?;
-        if file.itself()?.mode != mode {
-            return Err(Trouble::NotDone);
-        }
-        Ok(())
-    }
-
-    fn keep(&mut self, path: &[u8], owner: Owner) -> Result<(), Trouble> {
-        let name = self.way.enter(path)?;
-        let found = self.expect(name, owner)?;
-        self.sync(name, &found)
-    }
-}
+use std::marker::Model;
 
 /// The files below a directory of the system, with the mark in a file of its own. A path goes down
 /// from the directory part by part, with the working directory of the process: no link is followed,
@@ -216,13 +27,56 @@ impl<'w> Below<'w> {
 #[derive(Drop)]
 pub struct Root<'w> {
     below: Below<'w>,
-    // The directory that was the working directory, which the path of the mark begins at.
-    _home: Directory,
+    // The directory that was the working directory, where the path of the mark begins at it.
+    _home: Option<Directory>,
     mark: MarkFile<'w>,
     modes: ModesFile<'w>,
     // Whether the mark was put.
     is_put: bool,
     log: Log,
+}
+
+impl<'w> Model for Root<'w> {
+    ghost use Rattle.reown_files.specs.RootData.{RootData};
+
+    ghost Value = { RootData };
+
+    ghost view = { λ r. record {
+      has_one_journal = r.below.has_one_journal;
+      files = r.below.files;
+      lines = r.modes.lines.items;
+      calls = r.log.calls;
+    } };
+}
+
+/// Why a directory is not worked below.
+#[derive(Clone, Copy, Debug, PartialEq, Eq)]
+pub enum RootFault {
+    /// What is in the way at the directory itself.
+    Root(Trouble),
+    /// The working directory, where the path of the mark begins, could not be opened.
+    Home(Trouble),
+}
+
+impl From<Trouble> for RootFault {
+    ghost use Rattle.reown_files.specs.declared.root.RootFault.TheVariants as faults;
+
+    ghost from_gives = { λ trouble fault. fault ≡ faults.Root trouble };
+
+    fn from(trouble: Trouble) -> Self {
+        RootFault::Root(trouble)
+    }
+}
+
+// The working directory, where a path begins at it.
+fn home_of(rt: &HostRuntime, path: &str) -> Result<Option<Directory>, RootFault> {
+    if path.starts_with("/") {
+        return Ok(None);
+    }
+    match Directory::at(rt, ".") {
+        Ok(home) => Ok(Some(home)),
+        Err(trouble) => Err(RootFault::Home(trouble)),
+    }
 }
 
 impl<'w> Root<'w> {
@@ -232,23 +86,18 @@ impl<'w> Root<'w> {
     /// # Errors
     ///
     /// What is in the way: a directory that is none or cannot be opened, or is another process's;
-    /// or no /proc.
-    pub fn open(rt: &'w HostRuntime, path: &str, mark: &str) -> Result<Root<'w>, Trouble>
-        ensures { IfOk result (λ root. root.log.calls ≡ []) }
+    /// no /proc; or a working directory that cannot be opened, where the mark's path begins at it.
+    pub fn open(rt: &'w HostRuntime, path: &str, mark: &str) -> Result<Root<'w>, RootFault>
+        ensures fresh { IfOk result
+            (λ root. (root.calls ≡ []) × (root.files ≡ []) × (root.lines ≡ [])) }
+        ensures journals { IfOk result (λ root. root.has_one_journal ≡ false) }
     {
         let root = Directory::at(rt, path)?;
         root.lock()?;
-        let home = Directory::at(rt, ".")?;
-        let mark = path_from(rt, &home, mark)?;
-        let below = Below {
-            rt,
-            way: Way::from(rt, root)?,
-            has_one_journal: false,
-            names: BTreeMap::new(rt.alloc()),
-            linked: BTreeSet::new(rt.alloc()),
-        };
+        let home = home_of(rt, mark)?;
+        let mark = path_from(rt, home.as_ref(), mark)?;
         Ok(Root {
-            below,
+            below: Below::of(rt, root)?,
             modes: ModesFile::beside(rt, mark.as_str())?,
             mark: MarkFile::at(rt, mark),
             _home: home,
@@ -260,38 +109,42 @@ impl<'w> Root<'w> {
     /// Leaves it to `settle` to see that changes have reached the device: for a file system with
     /// one journal, on which a sync of one file keeps all that was changed before.
     pub fn trust_one_journal(&mut self)
-        ensures { self.new.log.calls ≡ self.old.log.calls }
+        ensures { self.new ≡ record self.old { has_one_journal = true } }
     {
         self.below.has_one_journal = true;
     }
 
     // The owner of a file that is met. Its mode is noted where it does not have its new owner.
     fn met(&mut self, path: &[u8], after: Owner) -> Result<Option<Owner>, Trouble>
-        ensures { self.new.log.calls ≡ self.old.log.calls }
+        ensures met { IfOk result (λ seen. IfSome seen
+            (λ owner. IsMet path.now after owner self.old self.new)) }
+        ensures calls { self.new.calls ≡ self.old.calls }
     {
         let Some(found) = if_there(self.below.meet(path, after))? else {
             return Ok(None);
         };
         if found.owner != after {
-            self.modes.meet(path, &found)?;
+            self.modes.add(path, &found)?;
         }
         Ok(Some(found.owner))
     }
 
     // Whether the mark is there. One that is, is synced.
     fn met_mark(&mut self, plan: &PlanMark) -> Result<bool, Trouble>
-        ensures { self.new.log.calls ≡ self.old.log.calls }
+        ensures { self.new ≡ self.old }
     {
         let is_there = self.mark.is_there(plan)?;
         if is_there {
-            self.mark.keep()?;
+            self.mark.sync()?;
         }
         Ok(is_there)
     }
 
     // The mode that was noted for a file of a plan, where the file has this owner and has lost it.
     fn lost(&mut self, plan: &PlanMark, path: &[u8], owner: Owner) -> Result<Option<u32>, Trouble>
-        ensures { self.new.log.calls ≡ self.old.log.calls }
+        ensures lost { IfOk result (λ lost. IfSome lost
+            (λ mode. HasLostAt path.now owner mode self.old self.new)) }
+        ensures calls { self.new.calls ≡ self.old.calls }
     {
         let Some(mode) = self.modes.noted(plan, path) else {
             return Ok(None);
@@ -306,9 +159,9 @@ impl<'w> Root<'w> {
 
     // Syncs the mark, and forgets the modes that this run wrote down where it has put the mark.
     fn finish(&mut self) -> Result<(), Trouble>
-        ensures { self.new.log.calls ≡ self.old.log.calls }
+        ensures { self.new.calls ≡ self.old.calls }
     {
-        self.mark.keep()?;
+        self.mark.sync()?;
         if self.is_put {
             self.modes.forget()?;
         }
@@ -316,32 +169,17 @@ impl<'w> Root<'w> {
     }
 }
 
-ghost use Rattle.reown_files.specs.OneFile.{seen_if_there};
-
-// What is told of a file.
-fn seen_in(found: &Found) -> Seen {
-    Seen {
-        owner: found.owner,
-        has_set_id: has_set_id(found),
-        has_several_names: has_several_names(found),
-    }
-}
-
-// A file that may not be there.
-fn if_there<T: Drop>(looked: Result<T, Trouble>) -> Result<Option<T>, Trouble>
-    ensures { result ≡ seen_if_there looked }
-{
-    match looked {
-        Ok(found) => Ok(Some(found)),
-        Err(Trouble::Gone) => Ok(None),
-        Err(trouble) => Err(trouble),
-    }
-}
-
 impl<'w> Disk for Root<'w> {
-    ghost calls = { λ root. root.log.calls };
+    ghost calls = { λ root. root.calls };
 
-    fn look(&mut self, path: &[u8]) -> Result<Option<Seen>, Trouble> {
+    fn look(&mut self, path: &[u8]) -> Result<Option<Seen>, Trouble>
+        ensures looked { IfOk result
+            (λ seen. self.new.calls ≡ Looked path.now seen ∷ self.old.calls) }
+        ensures told { IfOk result (λ seen. IfSome seen
+            (λ seen. IsSeen path.now seen self.old self.new)) }
+        ensures failed { IfErr result
+            (λ trouble. self.new.calls ≡ NotSeen path.now trouble ∷ self.old.calls) }
+    {
         let told = if_there(self.below.see(path));
         self.log.note(&match told {
             Ok(seen) => Call::Looked(path, seen),
@@ -350,7 +188,14 @@ impl<'w> Disk for Root<'w> {
         told
     }
 
-    fn meet(&mut self, path: &[u8], after: Owner) -> Result<Option<Owner>, Trouble> {
+    fn meet(&mut self, path: &[u8], after: Owner) -> Result<Option<Owner>, Trouble>
+        ensures met { IfOk result
+            (λ found. self.new.calls ≡ Met path.now after found ∷ self.old.calls) }
+        ensures told { IfOk result (λ found. IfSome found
+            (λ owner. IsMet path.now after owner self.old self.new)) }
+        ensures failed { IfErr result
+            (λ trouble. self.new.calls ≡ NotSeen path.now trouble ∷ self.old.calls) }
+    {
         let told = self.met(path, after);
         self.log.note(&match told {
             Ok(found) => Call::Met(path, after, found),
@@ -368,13 +213,24 @@ impl<'w> Disk for Root<'w> {
         told
     }
 
-    fn check_links(&mut self, path: &[u8]) -> Result<(), Trouble> {
+    fn check_links(&mut self, path: &[u8]) -> Result<(), Trouble>
+        ensures noted { self.new.calls ≡ CheckedLinks path.now (is_ok result) ∷ self.old.calls }
+        ensures checked { OnOk result (HasNamesMet path.now self.old.files self.new.files) }
+        ensures refused { IfErr result
+            (λ trouble. LacksNames path.now trouble self.old.files self.new.files) }
+    {
         let told = self.below.check_links(path);
         self.log.note(&Call::CheckedLinks(path, told.is_ok()));
         told
     }
 
-    fn owner(&mut self, path: &[u8]) -> Result<Option<Owner>, Trouble> {
+    fn owner(&mut self, path: &[u8]) -> Result<Option<Owner>, Trouble>
+        ensures saw { IfOk result (λ found. self.new.calls ≡ Saw path.now found ∷ self.old.calls) }
+        ensures told { IfOk result (λ found. IfSome found
+            (λ owner. IsSeenAt path.now owner self.old self.new)) }
+        ensures failed { IfErr result
+            (λ trouble. self.new.calls ≡ NotSeen path.now trouble ∷ self.old.calls) }
+    {
         let told = if_there(self.below.owner(path));
         self.log.note(&match told {
             Ok(found) => Call::Saw(path, found),
@@ -383,7 +239,14 @@ impl<'w> Disk for Root<'w> {
         told
     }
 
-    fn give(&mut self, path: &[u8], before: Owner, after: Owner) -> Result<Modes, Trouble> {
+    fn give(&mut self, path: &[u8], before: Owner, after: Owner) -> Result<Modes, Trouble>
+        ensures gave { IfOk result (λ modes.
+            self.new.calls ≡ Gave path.now before after (Some modes) ∷ self.old.calls) }
+        ensures told { IfOk result (λ modes.
+            IsGiven path.now before after modes self.old.files self.new.files) }
+        ensures failed { OnErr result
+            (self.new.calls ≡ Gave path.now before after None ∷ self.old.calls) }
+    {
         match self.below.give(path, before, after) {
             Ok(modes) => {
                 self.log.note(&Call::Gave(path, before, after, Some(modes)));
@@ -396,21 +259,29 @@ impl<'w> Disk for Root<'w> {
         }
     }
 
-    fn set_mode(&mut self, path: &[u8], owner: Owner, mode: u32) -> Result<(), Trouble> {
+    fn set_mode(&mut self, path: &[u8], owner: Owner, mode: u32) -> Result<(), Trouble>
+        ensures noted { self.new.calls
+            ≡ SetMode path.now owner mode (is_ok result) ∷ self.old.calls }
+        ensures set { OnOk result (IsModeSet path.now owner mode self.old.files self.new.files) }
+    {
         let told = self.below.set_mode(path, owner, mode);
         self.log
             .note(&Call::SetMode(path, owner, mode, told.is_ok()));
         told
     }
 
-    fn keep(&mut self, path: &[u8], owner: Owner) -> Result<(), Trouble> {
+    fn keep(&mut self, path: &[u8], owner: Owner) -> Result<(), Trouble>
+        ensures noted { self.new.calls ≡ Kept path.now owner (is_ok result) ∷ self.old.calls }
+        ensures kept { OnOk result
+            (IsKept self.old.has_one_journal path.now owner self.old.files self.new.files) }
+    {
         let told = self.below.keep(path, owner);
         self.log.note(&Call::Kept(path, owner, told.is_ok()));
         told
     }
 
     fn settle(&mut self) -> Result<(), Trouble> {
-        let told = self.below.way.root().settle();
+        let told = self.below.root().settle();
         self.log.note(&Call::Settled(told.is_ok()));
         told
     }
@@ -445,7 +316,14 @@ impl<'w> Disk for Root<'w> {
         plan: &PlanMark,
         path: &[u8],
         owner: Owner,
-    ) -> Result<Option<u32>, Trouble> {
+    ) -> Result<Option<u32>, Trouble>
+        ensures told { IfOk result
+            (λ mode. self.new.calls ≡ LostMode plan.now path.now owner mode ∷ self.old.calls) }
+        ensures lost { IfOk result (λ mode. IfSome mode
+            (λ mode. HasLostAt path.now owner mode self.old self.new)) }
+        ensures failed { IfErr result
+            (λ trouble. self.new.calls ≡ NotSeen path.now trouble ∷ self.old.calls) }
+    {
         let told = self.lost(plan, path, owner);
         self.log.note(&match told {
             Ok(lost) => Call::LostMode(plan, path, owner, lost),

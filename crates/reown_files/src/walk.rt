@@ -1,13 +1,15 @@
 //! Directories and files that are open, and what a name in the working directory stands for.
 
-ghost use Rattle.std.specs.Prelude.{◌↔◌, IsTrue};
-ghost use Rattle.reown_files.specs.OneFile.{AreOneFile};
+ghost use Rattle.std.specs.Prelude.{◌≡◌, ◌↔◌, IsTrue};
+ghost use Rattle.reown_files.specs.OneFile.{AreOneFile, seen_if_there};
 
 use crate::Trouble;
 use crate::whole_file::path_with;
 use reown_plan::Owner;
+use std::alloc::Global;
 use std::env::set_current_dir;
 use std::fs::{File, Metadata, Permissions, TryLockError};
+use std::io::Read;
 use std::os::fd::AsRawFd;
 use std::os::unix::fs::{MetadataExt, PermissionsExt, fchown, lchown};
 use std::path::Path;
@@ -88,30 +90,27 @@ impl Found {
     }
 }
 
-/// What the system said, as trouble.
-pub fn trouble_of(error: &io::Error) -> Trouble {
-    match error.raw_os_error() {
-        Some(ENOENT | ENOTDIR | ELOOP) => Trouble::Gone,
-        Some(ENAMETOOLONG) => Trouble::BadPath,
-        Some(ENOMEM) => Trouble::Memory,
-        Some(number) => Trouble::System(number),
-        None => Trouble::NotDone,
+// What the system said.
+impl From<io::Error> for Trouble {
+    fn from(error: io::Error) -> Self {
+        match error.raw_os_error() {
+            Some(ENOENT | ENOTDIR | ELOOP) => Trouble::Gone,
+            Some(ENAMETOOLONG) => Trouble::BadPath,
+            Some(ENOMEM) => Trouble::Memory,
+            Some(number) => Trouble::System(number),
+            None => Trouble::NotDone,
+        }
     }
 }
 
-/// The answer of a call that answers nothing.
-pub fn done(answer: io::Result<()>) -> Result<(), Trouble> {
-    match answer {
-        Ok(()) => Ok(()),
-        Err(error) => Err(trouble_of(&error)),
-    }
-}
-
-// What the system tells of a file.
-fn found_in(answer: io::Result<Metadata>) -> Result<Found, Trouble> {
-    match answer {
-        Ok(metadata) => Ok(Found::of(&metadata)),
-        Err(error) => Err(trouble_of(&error)),
+/// A file that may not be there.
+pub fn if_there<T: Drop>(looked: Result<T, Trouble>) -> Result<Option<T>, Trouble>
+    ensures { result ≡ seen_if_there looked }
+{
+    match looked {
+        Ok(found) => Ok(Some(found)),
+        Err(Trouble::Gone) => Ok(None),
+        Err(trouble) => Err(trouble),
     }
 }
 
@@ -124,31 +123,48 @@ pub struct OpenFile {
 impl OpenFile {
     /// What it is.
     pub fn itself(&self) -> Result<Found, Trouble> {
-        found_in(self.file.metadata())
+        Ok(Found::of(&self.file.metadata()?))
+    }
+
+    // The same, where it is the file that was seen.
+    fn same_as(&self, seen: &Found) -> Result<Found, Trouble> {
+        let now = self.itself()?;
+        if !now.is_same_file(seen) {
+            return Err(Trouble::Exchanged);
+        }
+        Ok(now)
+    }
+
+    /// Its bytes, or as many of them as this.
+    pub fn read(self, alloc: Global, most: u64) -> Result<Vec<u8>, Trouble> {
+        let mut bytes = Vec::new(alloc);
+        self.file.take(most).read_to_end(&mut bytes)?;
+        Ok(bytes)
     }
 
     /// Gives it an owner.
     pub fn give(&self, owner: Owner) -> Result<(), Trouble> {
-        done(fchown(&self.file, Some(owner.uid), Some(owner.gid)))
+        fchown(&self.file, Some(owner.uid), Some(owner.gid))?;
+        Ok(())
     }
 
     /// Sets the bits of its mode.
     pub fn set_mode(&self, mode: u32) -> Result<(), Trouble> {
-        done(self.file.set_permissions(Permissions::from_mode(mode)))
+        self.file.set_permissions(Permissions::from_mode(mode))?;
+        Ok(())
     }
 
     /// Waits until it has reached its device.
     pub fn sync(&self) -> Result<(), Trouble> {
-        done(self.file.sync_all())
+        self.file.sync_all()?;
+        Ok(())
     }
 }
 
 // Opens what a path leads to, for reading.
 fn open_at(rt: &HostRuntime, path: &str) -> Result<OpenFile, Trouble> {
-    match File::open(rt, path) {
-        Ok(file) => Ok(OpenFile { file }),
-        Err(error) => Err(trouble_of(&error)),
-    }
+    let file = File::open(rt, path)?;
+    Ok(OpenFile { file })
 }
 
 // The same, where it is to be a directory.
@@ -156,7 +172,7 @@ fn open_inside(rt: &HostRuntime, path: &str) -> Result<OpenFile, Trouble> {
     match File::open(rt, path) {
         Ok(file) => Ok(OpenFile { file }),
         Err(error) if error.raw_os_error() == Some(ENOTDIR) => Err(Trouble::NotDirectory),
-        Err(error) => Err(trouble_of(&error)),
+        Err(error) => Err(Trouble::from(error)),
     }
 }
 
@@ -194,15 +210,12 @@ impl Directory {
     /// The path by which it is reached wherever it is moved, by its descriptor (proc(5)).
     pub fn way_to(&self, rt: &HostRuntime) -> Result<String, Trouble> {
         let descriptor = self.file.file.as_raw_fd();
-        match format!(in rt.alloc(); "/proc/self/fd/{descriptor}") {
-            Ok(path) => Ok(path),
-            Err(_) => Err(Trouble::Memory),
-        }
+        Ok(format!(in rt.alloc(); "/proc/self/fd/{descriptor}")?)
     }
 
     /// Whether this path leads to it.
     pub fn is_at(&self, rt: &HostRuntime, path: &str) -> bool {
-        match found_in(fs::metadata(rt, path)) {
+        match look_through(rt, path) {
             Ok(found) => found.is_same_file(&self.found),
             Err(_) => false,
         }
@@ -213,7 +226,7 @@ impl Directory {
         match self.file.file.try_lock() {
             Ok(()) => Ok(()),
             Err(TryLockError::WouldBlock) => Err(Trouble::Busy),
-            Err(TryLockError::Error(error)) => Err(trouble_of(&error)),
+            Err(TryLockError::Error(error)) => Err(Trouble::from(error)),
         }
     }
 
@@ -221,7 +234,7 @@ impl Directory {
     /// that was changed before. Its time of change is set first, so that there is something to wait
     /// for.
     pub fn settle(&self) -> Result<(), Trouble> {
-        done(fchown(&self.file.file, None, None))?;
+        fchown(&self.file.file, None, None)?;
         self.file.sync()
     }
 
@@ -229,6 +242,22 @@ impl Directory {
     pub fn sync(&self) -> Result<(), Trouble> {
         self.file.sync()
     }
+}
+
+// ---- paths
+
+/// What a path leads to.
+pub fn look_through(rt: &HostRuntime, path: &str) -> Result<Found, Trouble> {
+    let metadata = fs::metadata(rt, path)?;
+    Ok(Found::of(&metadata))
+}
+
+/// Opens the file that was seen at a path, for reading. What came in between is refused, once it
+/// was opened.
+pub fn open_seen(rt: &HostRuntime, path: &str, seen: &Found) -> Result<OpenFile, Trouble> {
+    let file = open_at(rt, path)?;
+    file.same_as(seen)?;
+    Ok(file)
 }
 
 // ---- names in the working directory, which have no slash
@@ -243,12 +272,13 @@ fn text_of(name: &[u8]) -> Result<&str, Trouble> {
 
 /// What a name stands for. A link is not followed.
 pub fn find(rt: &HostRuntime, name: &[u8]) -> Result<Found, Trouble> {
-    found_in(fs::symlink_metadata(rt, text_of(name)?))
+    let metadata = fs::symlink_metadata(rt, text_of(name)?)?;
+    Ok(Found::of(&metadata))
 }
 
 /// Makes the directory at a path the working directory.
 pub fn go_to(rt: &HostRuntime, path: &str, wanted: &Found) -> Result<(), Trouble> {
-    done(set_current_dir(rt, path))?;
+    set_current_dir(rt, path)?;
     if !find(rt, b".")?.is_same_file(wanted) {
         return Err(Trouble::Exchanged);
     }
@@ -281,10 +311,7 @@ fn open_as(rt: &HostRuntime, name: &str, kind: Kind) -> Result<OpenFile, Trouble
 /// the owner that was seen. A link that came in between is followed, and then told and refused.
 pub fn open(rt: &HostRuntime, name: &[u8], seen: &Found) -> Result<OpenFile, Trouble> {
     let file = open_as(rt, text_of(name)?, seen.kind)?;
-    let now = file.itself()?;
-    if !now.is_same_file(seen) {
-        return Err(Trouble::Exchanged);
-    }
+    let now = file.same_as(seen)?;
     if now.owner != seen.owner {
         return Err(Trouble::Foreign(now.owner));
     }
@@ -293,6 +320,6 @@ pub fn open(rt: &HostRuntime, name: &[u8], seen: &Found) -> Result<OpenFile, Tro
 
 /// Gives what has a name an owner. A link is not followed.
 pub fn give_by_name(rt: &HostRuntime, name: &[u8], owner: Owner) -> Result<(), Trouble> {
-    let name = text_of(name)?;
-    done(lchown(rt, name, Some(owner.uid), Some(owner.gid)))
+    lchown(rt, text_of(name)?, Some(owner.uid), Some(owner.gid))?;
+    Ok(())
 }

@@ -1,38 +1,14 @@
 //! Files that are there whole or not at all.
 
 use crate::Trouble;
-use crate::walk::{Directory, done, trouble_of};
+use crate::walk::{Directory, Kind, if_there, look_through, open_seen};
 use std::fs::File;
-use std::io::{Read, Write};
+use std::io::Write;
 use std::path::Path;
 use std::{fs, io};
 
 // What is after its name while it is written.
 const NEW: &str = ".new";
-
-// The bytes of a file that is there, or as many of them as this.
-fn read(rt: &HostRuntime, path: &str, most: u64) -> io::Result<Vec<u8>> {
-    let file = File::open(rt, path)?;
-    let mut bytes = Vec::new(rt.alloc());
-    file.take(most).read_to_end(&mut bytes)?;
-    Ok(bytes)
-}
-
-// Whether a path leads to a regular file.
-fn is_regular(rt: &HostRuntime, path: &str) -> io::Result<bool> {
-    Ok(fs::metadata(rt, path)?.is_file())
-}
-
-// What an answer tells of a file that may not be there.
-fn if_found<T: Drop>(answer: io::Result<T>) -> Result<Option<T>, Trouble> {
-    match answer {
-        Ok(found) => Ok(Some(found)),
-        Err(error) => match trouble_of(&error) {
-            Trouble::Gone => Ok(None),
-            trouble => Err(trouble),
-        },
-    }
-}
 
 /// The bytes of a regular file, or as many of them as this, if it is there. What is none, as a pipe
 /// that would make the opening wait, is not opened but refused with this.
@@ -42,11 +18,16 @@ pub fn read_whole(
     most: u64,
     refused: Trouble,
 ) -> Result<Option<Vec<u8>>, Trouble> {
-    match if_found(is_regular(rt, path))? {
-        Some(true) => if_found(read(rt, path, most)),
-        Some(false) => Err(refused),
-        None => Ok(None),
+    let Some(seen) = if_there(look_through(rt, path))? else {
+        return Ok(None);
+    };
+    if seen.kind != Kind::Regular {
+        return Err(refused);
     }
+    let Some(file) = if_there(open_seen(rt, path, &seen))? else {
+        return Ok(None);
+    };
+    Ok(Some(file.read(rt.alloc(), most)?))
 }
 
 // Writes a new file, synced.
@@ -57,19 +38,27 @@ fn write(rt: &HostRuntime, new: &str, text: &[u8]) -> io::Result<()> {
     file.sync_all()
 }
 
-/// A path with more after it.
-pub fn path_with(rt: &HostRuntime, path: &str, behind: &str) -> Result<String, Trouble> {
-    match format!(in rt.alloc(); "{path}{behind}") {
-        Ok(path) => Ok(path),
-        Err(_) => Err(Trouble::Memory),
-    }
+// Puts a text at a path, by way of a new file.
+fn write_over(rt: &HostRuntime, new: &str, path: &str, text: &[u8]) -> io::Result<()> {
+    write(rt, new, text)?;
+    fs::rename(rt, new, path)
 }
 
-/// A path that leads from anywhere to where another leads from a directory.
-pub fn path_from(rt: &HostRuntime, from: &Directory, path: &str) -> Result<String, Trouble> {
-    if path.starts_with("/") {
+/// A path with more after it.
+pub fn path_with(rt: &HostRuntime, path: &str, behind: &str) -> Result<String, Trouble> {
+    Ok(format!(in rt.alloc(); "{path}{behind}")?)
+}
+
+/// A path that leads from anywhere to where another leads from a directory; the same path where it
+/// begins at none.
+pub fn path_from(
+    rt: &HostRuntime,
+    from: Option<&Directory>,
+    path: &str,
+) -> Result<String, Trouble> {
+    let Some(from) = from else {
         return path_with(rt, path, "");
-    }
+    };
     let mut whole = from.way_to(rt)?;
     whole.push_str("/")?;
     whole.push_str(path)?;
@@ -80,18 +69,16 @@ pub fn path_from(rt: &HostRuntime, from: &Directory, path: &str) -> Result<Strin
 /// renamed. What was written is removed where that fails.
 pub fn put_whole(rt: &HostRuntime, path: &str, text: &[u8]) -> Result<(), Trouble> {
     let new = path_with(rt, path, NEW)?;
-    let put = match done(write(rt, new.as_str(), text)) {
-        Ok(()) => done(fs::rename(rt, new.as_str(), path)),
-        Err(trouble) => Err(trouble),
-    };
+    let put = write_over(rt, new.as_str(), path, text);
     if put.is_err() {
         let _ = fs::remove_file(rt, new.as_str());
     }
-    put
+    put?;
+    Ok(())
 }
 
 /// Waits until the name of a file has reached the device.
-pub fn keep_name(rt: &HostRuntime, path: &str) -> Result<(), Trouble> {
+pub fn sync_name(rt: &HostRuntime, path: &str) -> Result<(), Trouble> {
     let parent = match Path::new(path).parent() {
         Some(parent) if !parent.as_str().is_empty() => parent.as_str(),
         _ => ".",

@@ -45,7 +45,7 @@ fn carry_out<'w>(
     was_begun: bool,
     root: Root<'w>,
 ) -> Result<(), FileFault>
-    requires { root.log.calls ≡ [] }
+    requires { root.calls ≡ [] }
 {
     let disk = Telling::of(rt, progress, plan.records().len(), root);
     let found = RealTree::open(rt.alloc(), plan, was_begun, disk);
@@ -58,7 +58,7 @@ fn carry_out<'w>(
     progress.clear(rt);
     match done {
         Ok(()) => Ok(()),
-        Err(_) => Err(stopped(rt, place, plan.records(), tree.stop())),
+        Err(_) => Err(stopped(rt, place, plan.records(), tree.failure())),
     }
 }
 
@@ -68,7 +68,7 @@ fn opened<'w>(
     place: Place<'w>,
     has_one_journal: bool,
 ) -> Result<Root<'w>, FileFault>
-    ensures { IfOk result (λ root. root.log.calls ≡ []) }
+    ensures { IfOk result (λ root. root.calls ≡ []) }
 {
     match Root::open(rt, place.root, place.mark) {
         Ok(mut root) => {
@@ -77,7 +77,7 @@ fn opened<'w>(
             }
             Ok(root)
         }
-        Err(trouble) => Err(root_refused(rt, place, trouble)),
+        Err(fault) => Err(root_refused(rt, place, fault)),
     }
 }
 

@@ -64,7 +64,7 @@ pub fn check_below(
 ) -> Result<u8, FileFault> {
     let root = match Root::open(rt, place.root, place.mark) {
         Ok(root) => root,
-        Err(trouble) => return Err(root_refused(rt, place, trouble)),
+        Err(fault) => return Err(root_refused(rt, place, fault)),
     };
     let mounts = count_mounts(rt, place.root, quiet)?;
     let mut disk = Telling::of(rt, progress, plan.records().len(), root);

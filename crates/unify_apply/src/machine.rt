@@ -5,12 +5,9 @@ ghost use Rattle.unify_apply.specs.Machine.{tells_root, is_of_root};
 
 use idtext::{Lines, Words};
 use std::alloc::AllocError;
-use unify_io::{FileFault, Part, read_file, tell_of, warn};
+use unify_io::{FileFault, MACHINE_NAME, Part, read_file, tell_of, warn};
 
-// Where the system tells the name of the machine (proc(5)).
-const NAME: &str = "/proc/sys/kernel/hostname";
-
-// Where it tells of this process.
+// Where the system tells of this process (proc(5)).
 const STATUS: &str = "/proc/self/status";
 
 // The name of a machine, as a text of the system tells it.
@@ -82,7 +79,7 @@ pub fn see_host(
     named: Option<&str>,
     quiet: bool,
 ) -> Result<(), FileFault> {
-    let text = read_file(rt, NAME)?;
+    let text = read_file(rt, MACHINE_NAME)?;
     let machine = machine_name(text.bytes());
     let named = named.map(|name| name.as_bytes());
     match host_fit(host, named, machine) {

@@ -4,7 +4,7 @@ ghost use Rattle.std.specs.Prelude.{◌≡◌};
 ghost use Rattle.unify_apply.specs.Told.{path_of_record, status_of};
 
 use idtext::ByteString;
-use reown_files::{MODES_BEHIND, OpenFault, Stop, Trouble};
+use reown_files::{Failure, MODES_BEHIND, OpenFault, RootFault, Trouble};
 use reown_plan::Record;
 use std::alloc::AllocError;
 use std::io::{IsTerminal, Write};
@@ -158,11 +158,14 @@ pub fn file_refused(rt: &HostRuntime, path: &[u8], trouble: Trouble) -> FileFaul
 }
 
 /// Tells why a directory is not worked below.
-pub fn root_refused(rt: &HostRuntime, place: Place<'_>, trouble: Trouble) -> FileFault {
-    if trouble == Trouble::Memory {
-        return FileFault::Memory;
+pub fn root_refused(rt: &HostRuntime, place: Place<'_>, fault: RootFault) -> FileFault {
+    match fault {
+        RootFault::Root(Trouble::Memory) => FileFault::Memory,
+        RootFault::Root(trouble) => {
+            tell_of(rt, "root", place.root.as_bytes(), &[part_of(trouble)], 2)
+        }
+        RootFault::Home(trouble) => file_refused(rt, b".", trouble),
     }
-    tell_of(rt, "root", place.root.as_bytes(), &[part_of(trouble)], 2)
 }
 
 // What stands after the reason of a stop. Some file systems report an error of the disk only once,
@@ -218,13 +221,14 @@ pub fn stopped(
     rt: &HostRuntime,
     place: Place<'_>,
     records: &[Record<'_>],
-    stop: Option<Stop>,
+    failure: Option<Failure>,
 ) -> FileFault {
-    let (path, trouble) = match stop {
-        Some(stop) => (
-            stop.place
+    let (path, trouble) = match failure {
+        Some(failure) => (
+            failure
+                .place
                 .map_or(place.mark.as_bytes(), |i| path_at(records, i)),
-            stop.trouble,
+            failure.trouble,
         ),
         None => (place.mark.as_bytes(), Trouble::NotDone),
     };

@@ -1,11 +1,11 @@
 //! Where and how often calls of a tree of real files have failed, and how many writes and syncs
 //! were asked of it.
 ghost use Rattle.std.specs.Prelude.{◌≡◌, ◌+◌, ◌^◌, ◌<◌, ◌≤◌, true, false, is_ok};
-ghost use Rattle.reown_files.specs.Real.{StopsAt};
+ghost use Rattle.reown_files.specs.Real.{FailsAt};
 ghost use Rattle.reown_runner.specs.Tree.{counted};
 
 use super::RealTree;
-use crate::{Disk, Stop, Trouble};
+use crate::{Disk, Failure, Trouble};
 use reown_runner::DeviceFault;
 
 impl<'p, 'a, D: Disk> RealTree<'p, 'a, D> {
@@ -35,14 +35,14 @@ impl<'p, 'a, D: Disk> RealTree<'p, 'a, D> {
 
     // Whether this was done; where it was not, that it failed at this place, and why.
     pub(super) fn note(&mut self, place: Option<usize>, told: Result<(), Trouble>) -> bool
-        ensures rest { self.new ≡ record self.old { stop = self.new.stop } }
+        ensures rest { self.new ≡ record self.old { failure = self.new.failure } }
         ensures told { result ≡ is_ok told }
-        ensures stop { result ≡ false → StopsAt place self.new.stop }
+        ensures failure { result ≡ false → FailsAt place self.new.failure }
     {
         match told {
             Ok(()) => true,
             Err(trouble) => {
-                self.stop = Some(Stop { place, trouble });
+                self.failure = Some(Failure { place, trouble });
                 false
             }
         }

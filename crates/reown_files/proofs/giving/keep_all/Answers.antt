@@ -45,8 +45,8 @@ returns-in-Err-clause-grows g c = one_more_call (g.D.Disk.calls c.args.disk.now)
 pub loop-i-init : goal.loop-i-init
 loop-i-init g c = record { kept = refl; modes = refl; lawful = λ mark plan h. h; begun = λ plan h. h; replayed = refl; grows = ([], refl) }
 
-pub returns-in-Err-clause-stop : goal.returns-in-Err-clause-stop
-returns-in-Err-clause-stop g c =
+pub returns-in-Err-clause-failure : goal.returns-in-Err-clause-failure
+returns-in-Err-clause-failure g c =
     let rs = c.args.records.now in
     let i = c.loop-i.i in
     let below : i < length rs = omega arith in

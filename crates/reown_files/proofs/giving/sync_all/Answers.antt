@@ -12,5 +12,5 @@ pub returns-in-Err-clause-grows : goal.returns-in-Err-clause-grows
 returns-in-Err-clause-grows g c =
     one_more_call (g.D.Disk.calls c.args.disk.now) (g.D.Disk.calls c.keep_all.new.disk) (g.D.Disk.calls c.settle.new.self) _ c.keep_all.ensures.grows c.settle.ensures
 
-pub returns-in-Err-clause-stop : goal.returns-in-Err-clause-stop
-returns-in-Err-clause-stop g c = subst (Last FailsToSettle) (sym c.settle.ensures) (ap is_ok c.in-Err.is)
+pub returns-in-Err-clause-failure : goal.returns-in-Err-clause-failure
+returns-in-Err-clause-failure g c = subst (Last FailsToSettle) (sym c.settle.ensures) (ap is_ok c.in-Err.is)

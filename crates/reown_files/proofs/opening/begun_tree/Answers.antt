@@ -14,8 +14,8 @@ use Rattle.reown_files.proofs.Replays.{found_held}
 use Rattle.reown_files.proofs.Stages.{stage_told, fit_stays}
 use Rattle.reown_files.proofs.opening.begun_tree.Goals as goal
 
-pub returns-in-Ok-held_tree-clause-replayed : goal.returns-in-Ok-held_tree-clause-replayed
-returns-in-Ok-held_tree-clause-replayed g c =
+pub returns-clause-replayed : goal.returns-clause-replayed
+returns-clause-replayed g c =
     let mark = c.args.plan.now in
     let records = map record_of c.args.records.now in
     let owners = c.deref.result.now in
@@ -23,11 +23,11 @@ returns-in-Ok-held_tree-clause-replayed g c =
     let chain = c.begin.ensures.replayed ∙ c.check_all_links.ensures.replayed in
     record {
       owner = λ path.
-          ap (λ (m : Mem). (known_mem m).owner path) c.in-Ok-held_tree.ensures.starts
+          ap (λ (m : Mem). (known_mem m).owner path) c.in_ok-held.ensures.starts
           ∙ found_held records owners (cond c.in-Ok.is_marked (Some mark) None) path (ap (λ (os : List Owner). length os) same ∙ c.in_ok-owners.ensures.as_many ∙ sym (length-map c.args.records.now record_of))
           ∙ ap (λ (os : List Owner). found_of records os path) same ∙ sym (c.in_ok-owners.ensures.met path) ∙ sym (ap (λ (k : Held). k.owner path) chain);
       mark =
-          ap (λ (m : Mem). m.mark_now) c.in-Ok-held_tree.ensures.starts
+          ap (λ (m : Mem). m.mark_now) c.in_ok-held.ensures.starts
           ∙ sym (ap (λ (k : Held). k.mark) chain ∙ c.look_at_all.ensures.mark ∙ ap (λ (cs : List Called). (replay cs).mark) c.in-Ok-read_modes.ensures.told ∙ ap (λ (cs : List Called). (replay cs).mark) c.in-Ok.ensures.met);
     }
 
@@ -39,8 +39,8 @@ held_tree-requires-clause-halfway g c =
     subst (λ (os : List Owner). AreHalfway records os marked) (sym c.deref.ensures.value)
     (all_half marked begun records c.in_ok-owners.owners.items (subst (λ (s : Stage). AreAllowed s records c.in_ok-owners.owners.items) c.of-stage.ensures c.in_ok-owners.ensures.allowed))
 
-pub returns-in-Ok-held_tree-clause-fit : goal.returns-in-Ok-held_tree-clause-fit
-returns-in-Ok-held_tree-clause-fit g c =
+pub returns-clause-fit : goal.returns-clause-fit
+returns-clause-fit g c =
     let plan = c.args.plan.now in
     let records = map record_of c.args.records.now in
     let calls = g.D.Disk.calls c.begin.new.disk in

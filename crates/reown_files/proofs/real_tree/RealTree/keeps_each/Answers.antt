@@ -13,6 +13,6 @@ pub invariant_of-self-in-Err : goal.invariant_of-self-in-Err
 invariant_of-self-in-Err g c =
     (c.self.invariant.0, c.sync_all.ensures.lawful c.self.inside.mark (map record_of c.self.inside.records.now) c.self.invariant.1, λ e. absurd (let h : false ≡ true = e in cc), c.sync_all.ensures.begun (map record_of c.self.inside.records.now) c.self.invariant.3, λ h. same_replay (g.D.Disk.calls c.self.inside.disk) (g.D.Disk.calls c.sync_all.new.disk) c.self.inside.held c.sync_all.ensures.replayed (c.self.invariant.4 h), λ runs. c.sync_all.ensures.modes ∙ c.self.invariant.5 runs)
 
-pub returns-in-Err-clause-stop : goal.returns-in-Err-clause-stop
-returns-in-Err-clause-stop g c = λ e.
-    inr (subst (λ (rs : List PlanRecord). WasNotKept rs (g.D.Disk.calls c.sync_all.new.disk) c.in-Err.stop.place) (ap (λ (r : RealData). r.records) c.self.view_is) c.in-Err.ensures.stop)
+pub returns-in-Err-clause-failure : goal.returns-in-Err-clause-failure
+returns-in-Err-clause-failure g c = λ e.
+    inr (subst (λ (rs : List PlanRecord). WasNotKept rs (g.D.Disk.calls c.sync_all.new.disk) c.in-Err.failure.place) (ap (λ (r : RealData). r.records) c.self.view_is) c.in-Err.ensures.failure)
