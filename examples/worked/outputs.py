@@ -83,6 +83,7 @@ def in_room(program, test):
 
 HOSTS_FILE = "holds {}, as the directory of a host does".format
 FOREIGN = "holds {}, and no report of an earlier merge".format
+DIRECTORY = "holds {}, which is a directory".format
 
 # Directories that are refused: how the room is changed, the words, and what is told.
 REFUSED = [
@@ -105,7 +106,11 @@ REFUSED = [
     ("somebody's plan", "echo plan > out/plan.md", "out a b", "out: " + FOREIGN("plan.md")),
     ("somebody's old passwd", "touch out/passwd.old", "out a b", "out: " + FOREIGN("passwd.old")),
     ("somebody's old group", "ln -s nowhere out/group.old", "out a b", "out: " + FOREIGN("group.old")),
-    ("a folder as report", "mkdir out/report", "out a b", "out: " + FOREIGN("report")),
+    ("a folder as report", "mkdir out/report", "out a b", "out: " + DIRECTORY("report")),
+    ("a folder as mark", f"mkdir out/{MARK}", "out a b", "out: " + DIRECTORY(MARK)),
+    ("a folder as mark beside a report", f"mkdir out/{MARK}; echo 'unify report 2' > out/report", "out a b", "out: " + DIRECTORY(MARK)),
+    ("a folder as map beside a report", "mkdir out/map; echo 'unify report 2' > out/report", "out a b", "out: " + DIRECTORY("map")),
+    ("a folder at a temporary name", f"mkdir out/{TEMPORARY}map", "out a b", "out: " + DIRECTORY(TEMPORARY + "map")),
     ("an empty word", "", " a b", "-: an empty word"),
     ("an empty word behind -o", "", "-o  a b", "-: an empty word"),
     ("OUT is not there", "", "none a b", "none: No such file or directory"),

@@ -6,10 +6,7 @@ use crate::output::Output;
 use crate::roots::{NamedRoot, named_roots};
 use crate::telling::{RootFault, root_refused};
 use clap::ArgMatches;
-use unify_io::{FileFault, read_file};
-
-// Where the system tells the name of the host (proc(5)).
-const HOST_NAME: &str = "/proc/sys/kernel/hostname";
+use unify_io::{FileFault, MACHINE_NAME, read_file};
 
 // The bytes before the first newline.
 fn first_line(text: &[u8]) -> &[u8] {
@@ -25,7 +22,7 @@ fn write_head(
     output: &mut Output<'_>,
     roots: &[NamedRoot<'_>],
 ) -> Result<(), FileFault> {
-    let host = read_file(rt, HOST_NAME)?;
+    let host = read_file(rt, MACHINE_NAME)?;
     let time = time_text(rt)?;
     if output.head(first_line(host.bytes()), time.as_bytes(), roots)? {
         return Ok(());

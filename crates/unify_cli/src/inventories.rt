@@ -1,18 +1,22 @@
 //! The inventories of hosts, as a command reads them one after the other.
 
-ghost use Rattle.std.specs.Prelude.{◌≡◌, true, is_some, OnOk, OnErr};
+ghost use Rattle.std.specs.Prelude.{◌≡◌, Some, IfErr, OnOk, OnErr};
 ghost use Rattle.unify_merge.specs.Noted.{noted};
 
-use unify_io::{FileFault, InventoryFile, host_name, no_host, warn_of_inventory};
+use unify_io::{
+    FileFault, InventoryFile, file_fault_told, host_name, internal_error, warn_of_inventory,
+};
 use unify_merge::{Call, CallFailed, Log, ReadFiles};
 
-/// Files that know why a command on them ended early.
-pub trait KnowsWhy {
-    /// Why a call failed.
-    fn fault(&self) -> FileFault;
-
-    /// Tells that the inventory that was read last has too many bytes.
+/// Files of which inventories are read.
+pub trait LastInventory {
+    /// Tells that the one that was read last has too many bytes.
     fn too_large(&self) -> FileFault;
+}
+
+// No call has begun the reading that this one goes on with.
+fn not_open(rt: &HostRuntime) -> FileFault {
+    internal_error(rt, "no inventory is open")
 }
 
 /// The inventories of the hosts that words name.
@@ -44,7 +48,7 @@ impl<'w> Inventories<'w> {
     /// Opens the inventory of the host with the index.
     pub fn open(&mut self, host: usize) -> Result<(), FileFault> {
         let Some(word) = self.words.get(host) else {
-            return Err(no_host(self.rt));
+            return Err(internal_error(self.rt, "no argument names this host"));
         };
         let mut inventory = InventoryFile::open(self.rt, *word)?;
         if self.opened < self.words.len() {
@@ -59,7 +63,7 @@ impl<'w> Inventories<'w> {
     fn read_on(&mut self, bytes: &mut Vec<u8>) -> Result<(), FileFault> {
         match &mut self.inventory {
             Some(inventory) => inventory.next_piece(self.rt, bytes),
-            None => Err(no_host(self.rt)),
+            None => Err(not_open(self.rt)),
         }
     }
 
@@ -99,33 +103,36 @@ impl<'w> Inventories<'w> {
     pub fn too_large(&self) -> FileFault {
         match &self.inventory {
             Some(inventory) => inventory.too_large(self.rt),
-            None => FileFault::Told(3),
+            None => not_open(self.rt),
         }
     }
 }
 
-/// The calls that were made on files, and why one failed.
+/// The calls that were made on files.
 #[derive(Drop)]
-pub struct Calls {
-    pub fault: Option<FileFault>,
+pub struct Calls<'w> {
+    rt: &'w HostRuntime,
+    // What the last call that failed answered, if one has failed: for contracts alone.
+    pub failure: Option<CallFailed>,
     pub log: Log,
 }
 
-impl Calls {
+impl<'w> Calls<'w> {
     /// None was made as yet.
-    pub fn new() -> Calls {
+    pub fn new(rt: &'w HostRuntime) -> Calls<'w> {
         Calls {
-            fault: None,
+            rt,
+            failure: None,
             log: Log::new(),
         }
     }
 
-    /// Notes a call that was made, or why it failed.
+    /// Notes a call that was made, or tells why it failed, if that was not told.
     pub fn note(&mut self, done: Result<(), FileFault>, call: &Call<'_>) -> Result<(), CallFailed>
         ensures noted { OnOk result (self.new.log.ledger ≡ noted call.now self.old.log.ledger) }
         ensures none { OnErr result (self.new.log.ledger ≡ self.old.log.ledger) }
-        ensures ok { OnOk result (self.new.fault ≡ self.old.fault) }
-        ensures failed { OnErr result (is_some self.new.fault ≡ true) }
+        ensures ok { OnOk result (self.new.failure ≡ self.old.failure) }
+        ensures failed { IfErr result (λ e. self.new.failure ≡ Some e) }
     {
         match done {
             Ok(()) => {
@@ -133,15 +140,13 @@ impl Calls {
                 Ok(())
             }
             Err(fault) => {
-                self.fault = Some(fault);
-                Err(CallFailed)
+                let failed = CallFailed {
+                    status: file_fault_told(self.rt, fault),
+                };
+                self.failure = Some(failed);
+                Err(failed)
             }
         }
-    }
-
-    /// Why a call failed.
-    pub fn fault(&self) -> FileFault {
-        self.fault.unwrap_or(FileFault::Told(3))
     }
 }
 
@@ -149,7 +154,7 @@ impl Calls {
 #[derive(Drop)]
 pub struct HostFiles<'w> {
     inventories: Inventories<'w>,
-    pub(crate) calls: Calls,
+    pub(crate) calls: Calls<'w>,
 }
 
 impl<'w> HostFiles<'w> {
@@ -157,7 +162,7 @@ impl<'w> HostFiles<'w> {
     pub fn new(rt: &'w HostRuntime, words: &'w [&'w str], is_quiet: bool) -> HostFiles<'w> {
         HostFiles {
             inventories: Inventories::new(rt, words, is_quiet),
-            calls: Calls::new(),
+            calls: Calls::new(rt),
         }
     }
 
@@ -167,11 +172,7 @@ impl<'w> HostFiles<'w> {
     }
 }
 
-impl KnowsWhy for HostFiles<'_> {
-    fn fault(&self) -> FileFault {
-        self.calls.fault()
-    }
-
+impl LastInventory for HostFiles<'_> {
     fn too_large(&self) -> FileFault {
         self.inventories.too_large()
     }
@@ -180,7 +181,7 @@ impl KnowsWhy for HostFiles<'_> {
 impl ReadFiles for HostFiles<'_> {
     ghost ledger = { λ files. files.calls.log.ledger };
 
-    ghost has_failed = { λ files. is_some files.calls.fault };
+    ghost failure = { λ files. files.calls.failure };
 
     fn open(&mut self, host: usize) -> Result<(), CallFailed> {
         let done = self.inventories.open(host);
@@ -223,7 +224,7 @@ impl OpenInventory<'_> {
 #[derive(Drop)]
 pub struct InventoryAt<'w> {
     open: OpenInventory<'w>,
-    calls: Calls,
+    calls: Calls<'w>,
 }
 
 impl<'w> InventoryAt<'w> {
@@ -237,16 +238,12 @@ impl<'w> InventoryAt<'w> {
                 inventory,
                 is_begun: false,
             },
-            calls: Calls::new(),
+            calls: Calls::new(rt),
         })
     }
 }
 
-impl KnowsWhy for InventoryAt<'_> {
-    fn fault(&self) -> FileFault {
-        self.calls.fault()
-    }
-
+impl LastInventory for InventoryAt<'_> {
     fn too_large(&self) -> FileFault {
         self.open.inventory.too_large(self.open.rt)
     }
@@ -255,7 +252,7 @@ impl KnowsWhy for InventoryAt<'_> {
 impl ReadFiles for InventoryAt<'_> {
     ghost ledger = { λ files. files.calls.log.ledger };
 
-    ghost has_failed = { λ files. is_some files.calls.fault };
+    ghost failure = { λ files. files.calls.failure };
 
     fn open(&mut self, host: usize) -> Result<(), CallFailed> {
         let done = self.open.begin();

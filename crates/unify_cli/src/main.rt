@@ -1,5 +1,5 @@
-//! The program `unify`. Without words it answers the bundle on standard input, or tells its help
-//! where that is a terminal; with words it reads files.
+//! The program `unify`. Without arguments it answers the bundle on standard input, or tells its
+//! help where that is a terminal; with arguments it reads files.
 #![tactic(auto)]
 
 mod inventories;
@@ -47,13 +47,7 @@ fn run_args(rt: &HostRuntime) -> u8 {
     };
     match args.collect::<Vec<String>>(rt.alloc()) {
         Err(_) => memory_refused(rt),
-        Ok(words) => {
-            if words.len() <= 1 {
-                2
-            } else {
-                run_words(rt, &words[1..])
-            }
-        }
+        Ok(words) => run_words(rt, words.get(1..).unwrap_or(&[])),
     }
 }
 

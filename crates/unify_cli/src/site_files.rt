@@ -1,10 +1,8 @@
 //! The files of a merge: the inventories of hosts, and the directory that is written into.
 
-ghost use Rattle.std.specs.Prelude.{is_some};
-
-use crate::inventories::{HostFiles, KnowsWhy};
+use crate::inventories::{HostFiles, LastInventory};
 use std::str;
-use unify_io::{FileFault, NewFile, begin_output, finish_output, no_host};
+use unify_io::{FileFault, NewFile, begin_output, finish_output, internal_error};
 use unify_merge::{Call, CallFailed, MergeFiles, ReadFiles};
 
 // The directory that is written into.
@@ -19,6 +17,11 @@ struct Output<'w> {
 }
 
 impl Output<'_> {
+    // No call has begun the file that this one goes on with.
+    fn not_begun(&self) -> FileFault {
+        internal_error(self.rt, "no file is begun")
+    }
+
     // Begins a file.
     fn begin(&mut self, name: &[u8]) -> Result<(), FileFault> {
         let name = str::from_utf8(name).unwrap_or("");
@@ -30,7 +33,7 @@ impl Output<'_> {
     fn append(&mut self, bytes: &[u8]) -> Result<(), FileFault> {
         match &mut self.file {
             Some(file) => file.write(self.rt, bytes),
-            None => Err(no_host(self.rt)),
+            None => Err(self.not_begun()),
         }
     }
 
@@ -38,7 +41,7 @@ impl Output<'_> {
     fn finish(&mut self) -> Result<(), FileFault> {
         match &mut self.file {
             Some(file) => file.keep(self.rt)?,
-            None => return Err(no_host(self.rt)),
+            None => return Err(self.not_begun()),
         }
         self.file = None;
         Ok(())
@@ -84,11 +87,7 @@ impl<'w> SiteFiles<'w> {
     }
 }
 
-impl KnowsWhy for SiteFiles<'_> {
-    fn fault(&self) -> FileFault {
-        self.read.fault()
-    }
-
+impl LastInventory for SiteFiles<'_> {
     fn too_large(&self) -> FileFault {
         self.read.too_large()
     }
@@ -97,7 +96,7 @@ impl KnowsWhy for SiteFiles<'_> {
 impl ReadFiles for SiteFiles<'_> {
     ghost ledger = { λ files. files.read.calls.log.ledger };
 
-    ghost has_failed = { λ files. is_some files.read.calls.fault };
+    ghost failure = { λ files. files.read.calls.failure };
 
     fn open(&mut self, host: usize) -> Result<(), CallFailed> {
         self.read.open(host)

@@ -1,6 +1,6 @@
 //! Commands given in words.
 
-use crate::inventories::{HostFiles, InventoryAt, KnowsWhy};
+use crate::inventories::{HostFiles, InventoryAt, LastInventory};
 use crate::site_files::SiteFiles;
 use clap::error::ErrorKind;
 use clap::{ArgMatches, Error};
@@ -13,16 +13,16 @@ use unify_bundle::{
     FilesAnswer, NoReply, check_answer, count_answer, merge_answer, rehearse_answer,
 };
 use unify_io::{
-    FileFault, command_line, file_fault_told, memory_refused, no_host, open_output, print_answer,
-    read_file, read_hosts_tables, read_named, tell_of_keep, warn_of_hosts_tables, warn_of_merge,
-    warn_of_text, write_failed, wrong_words,
+    FileFault, command_line, file_fault_told, internal_error, memory_refused, no_host, open_output,
+    print_answer, read_file, read_hosts_tables, read_named, tell_of_keep, warn_of_hosts_tables,
+    warn_of_merge, warn_of_text, write_failed, wrong_words,
 };
 use unify_merge::MergeFault;
 use verify_files::run_verify;
 
 // Prints what a command on files answers, and hands out the exit status. Unless it is to be quiet
 // it tells of keep texts, where one may help and somebody looks on.
-fn print_reply<T, F: KnowsWhy>(
+fn print_reply<T, F: LastInventory>(
     rt: &HostRuntime,
     files: &F,
     answer: &FilesAnswer<'_, T>,
@@ -30,7 +30,7 @@ fn print_reply<T, F: KnowsWhy>(
 ) -> Result<u8, FileFault> {
     let reply = match &answer.reply {
         Ok(reply) => reply,
-        Err(NoReply::Failed) => return Err(files.fault()),
+        Err(NoReply::Failed(failed)) => return Ok(failed.status),
         Err(NoReply::TooLarge) => return Err(files.too_large()),
         Err(NoReply::Memory) => return Err(FileFault::Memory),
     };
@@ -250,16 +250,17 @@ fn run_subcommand(rt: &HostRuntime, name: &str, matches: &ArgMatches<'_>) -> Res
         "inventory" => run_inventory(rt, matches),
         "apply" => run_apply(rt, matches),
         "verify" => run_verify(rt, matches),
-        _ => Ok(2),
+        _ => Err(internal_error(rt, "no such command")),
     }
 }
 
 // Runs the command that the words name.
 fn run_command(rt: &HostRuntime, matches: &ArgMatches<'_>) -> u8 {
-    let Some((name, matches)) = matches.subcommand() else {
-        return 2;
+    let ran = match matches.subcommand() {
+        Some((name, matches)) => run_subcommand(rt, name, matches),
+        None => Err(internal_error(rt, "no command")),
     };
-    match run_subcommand(rt, name, matches) {
+    match ran {
         Ok(status) => status,
         Err(fault) => file_fault_told(rt, fault),
     }

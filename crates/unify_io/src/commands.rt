@@ -124,7 +124,7 @@ const MERGE: Subcommand = Subcommand {
     about: "Merges the accounts of hosts so that as few owner and group fields as possible change",
     usage: Some(
         "unify merge [--quiet] [--pins FILE] [--keep FILE] OUT HOST...\n       \
-        unify merge [--quiet] [--pins FILE] [--keep FILE] -o DIR HOST...",
+        unify merge [--quiet] [--pins FILE] [--keep FILE] -o OUT HOST...",
     ),
     arguments: &[
         QUIET,
@@ -132,9 +132,9 @@ const MERGE: Subcommand = Subcommand {
         KEEP,
         Argument {
             name: "output",
-            form: Form::Value("DIR"),
+            form: Form::Value("OUT"),
             letter: Some('o'),
-            help: "the directory OUT; each other word names a host then",
+            help: "the directory to write into; each other argument is a HOST then",
             ..FLAG
         },
         Argument {
@@ -222,7 +222,7 @@ const APPLY: Subcommand = Subcommand {
         },
         Argument {
             name: "progress",
-            help: "tells how far it is where standard error is no terminal too",
+            help: "tells how far it is, also where standard error is no terminal",
             ..FLAG
         },
         Argument {
@@ -244,8 +244,7 @@ const APPLY: Subcommand = Subcommand {
         Argument {
             name: "mark",
             form: Form::Value("FILE"),
-            help: "what tells that the plan was carried out; \
-            PLAN with .done behind it if not named",
+            help: "the file that marks the plan as done [default: PLAN.done]",
             ..FLAG
         },
         Argument {
@@ -385,13 +384,16 @@ fn program<'a>(alloc: Global) -> Command<'a> {
         .version(VERSION)
         .about("One numbering for the accounts of many hosts")
         .after_help(
-            "Without words a bundle, one command and its files in one text, \
-            is read from standard input.",
+            "Without arguments unify reads a bundle from standard input: one command and its files \
+            in one text.\n\n\
+            Exit status: 0 done, 1 refused or differences found, 2 wrong arguments, 3 memory or a \
+            file, 4 certificate rejected.\n\
+            How to renumber a site is told in OPERATIONS.md, among the documents of unify.",
         )
         .subcommand_required(true)
 }
 
-/// The command line with words.
+/// The command line with arguments.
 pub fn command_line<'a>(alloc: Global) -> Result<Command<'a>, AllocError> {
     let commands = commands_of(alloc, &COMMANDS)?;
     program(alloc).subcommands(commands)

@@ -7,16 +7,19 @@ use clap::ArgMatches;
 use hosts_join::HostText;
 use idtext::ByteString;
 use std::alloc::{AllocError, AllocFailed};
-use std::fs::File;
+use std::fs::{File, Metadata};
 use std::io::Read;
 use std::path::Path;
 use std::{fs, io};
 
+/// Where the system tells the name of this machine (proc(5)).
+pub const MACHINE_NAME: &str = "/proc/sys/kernel/hostname";
+
 // The most bytes that an input file may have.
 const MOST_BYTES: u64 = 4294967295;
 
-/// Why a command with words has no answer. It owns nothing, so that a function that can fail lets
-/// nothing go with it.
+/// Why a command with arguments has no answer. It owns nothing, so that a function that can fail
+/// lets nothing go with it.
 #[derive(Clone, Copy)]
 pub enum FileFault {
     /// A growth was refused, which is still to be told.
@@ -90,19 +93,32 @@ pub fn read_file_in(
     read_file(rt, path.as_str())
 }
 
-// Whether a path leads to anything, be it a link that leads nowhere.
-fn is_there(rt: &HostRuntime, path: &str) -> Result<bool, FileFault> {
+// What stands at a path, if anything does. A link is not followed.
+fn found_at(rt: &HostRuntime, path: &str) -> Result<Option<Metadata>, FileFault> {
     match fs::symlink_metadata(rt, path) {
-        Ok(_) => Ok(true),
-        Err(error) if error.kind() == io::ErrorKind::NotFound => Ok(false),
+        Ok(found) => Ok(Some(found)),
+        Err(error) if error.kind() == io::ErrorKind::NotFound => Ok(None),
         Err(error) => Err(file_failed(rt, path, &error)),
     }
 }
 
+// What a name of a directory stands for, if it is there.
+fn found_in(rt: &HostRuntime, directory: &str, name: &str) -> Result<Option<Metadata>, FileFault> {
+    let path = Path::new(directory).join(rt.alloc(), name)?;
+    found_at(rt, path.as_str())
+}
+
 /// Whether a name stands in a directory, be it that of a link that leads nowhere.
 pub fn holds(rt: &HostRuntime, directory: &str, name: &str) -> Result<bool, FileFault> {
-    let path = Path::new(directory).join(rt.alloc(), name)?;
-    is_there(rt, path.as_str())
+    Ok(found_in(rt, directory, name)?.is_some())
+}
+
+/// Whether a name of a directory is that of another directory, and of no link to one.
+pub fn holds_directory(rt: &HostRuntime, directory: &str, name: &str) -> Result<bool, FileFault> {
+    match found_in(rt, directory, name)? {
+        Some(found) => Ok(found.is_dir()),
+        None => Ok(false),
+    }
 }
 
 // The text of a host's login.defs, which may be absent.

@@ -20,14 +20,14 @@ mod warnings;
 mod writing;
 
 pub use commands::command_line;
-pub use files::{FileFault, host_name, read_file, read_hosts_tables, read_named};
+pub use files::{FileFault, MACHINE_NAME, host_name, read_file, read_hosts_tables, read_named};
 pub use inventory::InventoryFile;
 pub use merge_warnings::warn_of_merge;
 pub use message::Part;
 pub use output::open_output;
 pub use report::{
-    bundle_memory_refused, file_failed, file_fault_told, memory_refused, no_host, print_answer,
-    tell_of, tell_of_keep, write_failed, wrong_words,
+    bundle_memory_refused, file_failed, file_fault_told, internal_error, memory_refused, no_host,
+    print_answer, tell_of, tell_of_keep, write_failed, wrong_words,
 };
 pub use warnings::{MOST_LINES, warn, warn_of_hosts_tables, warn_of_inventory, warn_of_text};
 pub use writing::{NewFile, begin_output, finish_output};

@@ -9,9 +9,10 @@ use crate::message::{MOST_NAMES, Part};
 use crate::pin_warnings::warn_of_pins;
 use crate::warnings::{MOST_LINES, only_memory, warn, warn_of_more};
 use accounts::{GroupRow, GroupTable, PasswdRow, PasswdTable, read_group, read_passwd};
-use hosts_join::{HostText, PairTable};
+use hosts_join::HostText;
 use idtext::{Lines, Pieces};
 use std::alloc::AllocError;
+use std::collections::HashSet;
 use std::str;
 
 /// How many groups of a user an NFS request carries (AUTH_SYS, RFC 5531).
@@ -49,36 +50,36 @@ fn warn_of_paths(rt: &HostRuntime, report: &[u8], file_lines: u64) -> Result<(),
     )
 }
 
-// The members of a group, as a table to look them up in. What stands between two commas may be
+// The members of a group, to be looked up. What stands between two commas may be
 // empty: that is nobody's name.
-fn members_in<'a>(rt: &HostRuntime, row: &GroupLine<'a>) -> Result<PairTable<'a>, AllocError> {
-    let mut members = PairTable::new(rt.alloc());
+fn members_in<'a>(rt: &HostRuntime, row: &GroupLine<'a>) -> Result<HashSet<&'a [u8]>, AllocError> {
+    let mut members = HashSet::new(rt.alloc());
     for member in Pieces::new(b',', row.members) {
-        members.add(member, row.gid)?;
+        members.insert(member)?;
     }
     Ok(members)
 }
 
-// The first members of a group that are in a table, or that are not; one more than are told.
+// The first members of a group that are in a set, or that are not; one more than are told.
 fn first_members<'a>(
     rt: &HostRuntime,
     group: &GroupRow<'a>,
-    table: &PairTable<'_>,
+    set: &HashSet<&[u8]>,
     are_in: bool,
 ) -> Result<Vec<&'a [u8]>, AllocError> {
     let mut first = Vec::new(rt.alloc());
     for member in group.members() {
-        if table.number(member).is_some() == are_in && first.len() <= MOST_NAMES {
+        if set.contains(member) == are_in && first.len() <= MOST_NAMES {
             first.push(member)?;
         }
     }
     Ok(first)
 }
 
-// Whether all members of a group are in a table.
-fn are_all_in(group: &GroupRow<'_>, table: &PairTable<'_>) -> bool {
+// Whether all members of a group are in a set.
+fn are_all_in(group: &GroupRow<'_>, set: &HashSet<&[u8]>) -> bool {
     for member in group.members() {
-        if table.number(member).is_none() {
+        if !set.contains(member) {
             return false;
         }
     }
@@ -113,12 +114,12 @@ fn warn_of_group<'a>(
     )
 }
 
-// Warns of a merged group that gets members on a host, where its members are those of a table.
+// Warns of a merged group that gets members on a host, where its members are those of a set.
 fn warn_of_new_members(
     rt: &HostRuntime,
     host: &[u8],
     merged: &GroupRow<'_>,
-    members: &PairTable<'_>,
+    members: &HashSet<&[u8]>,
 ) -> Result<(), AllocError> {
     let had = first_members(rt, merged, members, true)?;
     let new = first_members(rt, merged, members, false)?;
@@ -131,7 +132,7 @@ struct SeenGroups<'t> {
     // How many get members on a host.
     gaining: usize,
     // Those whose number was another group's.
-    taken: PairTable<'t>,
+    taken: HashSet<&'t [u8]>,
 }
 
 // Looks at whether a merged group gets members on a host that has the row. That is warned of, if
@@ -161,13 +162,13 @@ fn see_members(
 
 // Notes the group whose number was another group's on a host that has the row.
 fn note_taken<'t>(
-    taken: &mut PairTable<'t>,
+    taken: &mut HashSet<&'t [u8]>,
     row: &GroupLine<'_>,
     groups: &GroupTable<'t>,
 ) -> Result<(), AllocError> {
     if let Some(other) = groups.by_number(row.gid) {
         if other.name != row.name {
-            taken.add(other.name, other.gid)?;
+            taken.insert(other.name)?;
         }
     }
     Ok(())
@@ -217,7 +218,7 @@ fn see_groups(
 ) -> Result<GroupCounts, AllocError> {
     let mut seen = SeenGroups {
         gaining: 0,
-        taken: PairTable::new(rt.alloc()),
+        taken: HashSet::new(rt.alloc()),
     };
     for host in hosts {
         see_host(rt, host, groups, &mut seen)?;
@@ -314,13 +315,13 @@ fn renumbered_user<'u, 't>(line: &[u8], users: &'u PasswdTable<'t>) -> Option<&'
 
 // Adds the users whose number was another user's on a host.
 fn add_users_of<'t>(
-    taken: &mut PairTable<'t>,
+    taken: &mut HashSet<&'t [u8]>,
     host: &HostText,
     users: &PasswdTable<'t>,
 ) -> Result<(), AllocError> {
     for line in Lines::new(host.passwd.bytes()) {
         if let Some(user) = renumbered_user(line, users) {
-            taken.add(user.name, user.uid)?;
+            taken.insert(user.name)?;
         }
     }
     Ok(())
@@ -347,7 +348,7 @@ fn warn_of_user_numbers(
     hosts: &[HostText],
     users: &PasswdTable<'_>,
 ) -> Result<(), AllocError> {
-    let mut taken = PairTable::new(rt.alloc());
+    let mut taken = HashSet::new(rt.alloc());
     for host in hosts {
         add_users_of(&mut taken, host, users)?;
     }

@@ -1,6 +1,8 @@
 //! The directory that a merge writes into, as it is found before anything is read.
 
-use crate::files::{FileFault, holds, host_directory, host_name, or_told, read_start};
+use crate::files::{
+    FileFault, holds, holds_directory, host_directory, host_name, or_told, read_start,
+};
 use crate::report::output_refused;
 use std::alloc::AllocError;
 use std::fs::{DirEntry, File, Metadata, TryLockError};
@@ -34,6 +36,8 @@ pub enum OutputFault<'a> {
     Busy,
     /// It holds a file of that name, as the directory of a host does.
     HostFile(&'a str),
+    /// It holds a directory of that name, where a merge has a file.
+    Directory(&'a str),
     /// It holds something of that name that no merge wrote.
     Foreign(&'a str),
 }
@@ -175,11 +179,33 @@ fn refuse_foreign(rt: &HostRuntime, directory: &str) -> Result<(), FileFault> {
     Ok(())
 }
 
+// Refuses a directory in which that name is of another directory.
+fn refuse_directory(rt: &HostRuntime, directory: &str, name: &str) -> Result<(), FileFault> {
+    if holds_directory(rt, directory, name)? {
+        Err(output_refused(rt, directory, OutputFault::Directory(name)))
+    } else {
+        Ok(())
+    }
+}
+
+// Refuses a directory in which a name of a merge's own is of another directory.
+fn refuse_directories(rt: &HostRuntime, directory: &str) -> Result<(), FileFault> {
+    refuse_directory(rt, directory, MARK)?;
+    for name in &MERGED_FILES {
+        refuse_directory(rt, directory, *name)?;
+    }
+    for name in &names_with(rt, directory, TEMPORARY)? {
+        refuse_directory(rt, directory, name.as_str())?;
+    }
+    Ok(())
+}
+
 // Refuses a directory that holds what no merge may change.
 fn refuse_held(rt: &HostRuntime, directory: &str) -> Result<(), FileFault> {
     if let Some(name) = first_held(rt, directory, &HOST_FILES)? {
         return Err(output_refused(rt, directory, OutputFault::HostFile(name)));
     }
+    refuse_directories(rt, directory)?;
     if was_merged_into(rt, directory)? {
         Ok(())
     } else {
@@ -230,7 +256,8 @@ fn lock_output(
 /// Opens the directory that the hosts which words name are to be merged into. It is locked: no
 /// other merge is made into it until it is closed, which the end of the process does too. It is
 /// refused where it is not there, where it is or looks like the directory of a host, where another
-/// merge has it, and where it holds what a merge would write and no merge wrote.
+/// merge has it, where it holds a directory that has the name of a merge's file, and where it holds
+/// what a merge would write and no merge wrote.
 pub fn open_output(rt: &HostRuntime, directory: &str, words: &[&str]) -> Result<File, FileFault> {
     if directory.is_empty() {
         return Err(output_refused(rt, directory, OutputFault::EmptyWord));

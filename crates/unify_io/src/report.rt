@@ -18,7 +18,7 @@ pub fn bundle_memory_refused(rt: &HostRuntime) -> u8 {
     3
 }
 
-/// A growth was refused in a command with words.
+/// A growth was refused in a command with arguments.
 pub fn memory_refused(rt: &HostRuntime) -> u8 {
     let _ = rt.eprintln("unify: memory");
     3
@@ -111,6 +111,11 @@ fn parts_of(fault: OutputFault<'_>) -> [Part<'_>; 3] {
             Part::Name(name.as_bytes()),
             Part::Text(", as the directory of a host does"),
         ],
+        OutputFault::Directory(name) => [
+            Part::Text("holds "),
+            Part::Name(name.as_bytes()),
+            Part::Text(", which is a directory"),
+        ],
         OutputFault::Foreign(name) => [
             Part::Text("holds "),
             Part::Name(name.as_bytes()),
@@ -151,6 +156,23 @@ pub fn tell_of_keep(rt: &HostRuntime, fault: &Fault<'_>) {
 /// No word names a host.
 pub fn no_host(rt: &HostRuntime) -> FileFault {
     tell(rt, b"unify: no HOST\n", 2)
+}
+
+// Appends the line of a fault of the program itself.
+fn push_internal(line: &mut Vec<u8>, what: &str) -> Result<(), AllocError> {
+    line.extend_from_slice(b"unify: internal error: ")?;
+    line.extend_from_slice(what.as_bytes())?;
+    line.extend_from_slice(b"\n")
+}
+
+/// Tells what is so and never should be, whatever the words and the files are: a fault of the
+/// program itself.
+pub fn internal_error(rt: &HostRuntime, what: &str) -> FileFault {
+    let mut line = Vec::new(rt.alloc());
+    match push_internal(&mut line, what) {
+        Ok(()) => tell(rt, &line, 3),
+        Err(_) => FileFault::Memory,
+    }
 }
 
 /// Tells a fault that is still to be told, and hands out the status.
