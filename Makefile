@@ -5,18 +5,19 @@
 #   make program           proves the program and links it, which takes a while; make demo-proved runs the demo with it
 #   make demo-apply        as root, after make program: makes trees of two hosts, merges, carries the plans out, verifies and
 #                          takes them back
-#   make install PREFIX=.. puts the proved program into PREFIX/bin
+#   make install PREFIX=.. puts the proved program into PREFIX/bin, the documents and keep files into PREFIX/share/doc/unify
 #   make quick             for daily work: formats and proves the crates that changed, and runs the worked examples unproved
-#   make test              the gate: proves every crate, tries the must-fail edits, runs the tests and the program, and
-#                          ends with make compare
+#   make test              the first half of the gate: looks at the documents' names, proves every crate, tries the must-fail
+#                          edits, runs the tests and the program, and ends with make compare
 #   make compare           compares what the program that was built last makes of examples/office, examples/mixed and
 #                          examples/worked, what it answers to other words and what it leaves in OUT, with what is committed
-#   make wrong-bodies      the other half of the gate: tries all other wrong bodies; CRATE='idtext ..' those of some crates
+#   make wrong-bodies      the second half: tries all other wrong bodies; CRATE='idtext ..' those of some crates
 #   make refused           refuses one growth of memory after another, to the program, by bundle and with words, and to the
 #                          readers' tests
 #   make clean             removes what was built
 
 PREFIX ?= /usr/local
+DOCUMENTS = $(PREFIX)/share/doc/unify
 PROGRAM = crates/unify_cli/out/unify_cli
 OFFICE = amber=examples/office/amber basalt=examples/office/basalt
 BUNDLES = count/swap-counted check/swap-checked merge/two-hosts-swap merge/keep-unowned merge-hosts/swap-with-hosts rehearse/swap-rehearsed
@@ -55,6 +56,7 @@ demo-apply:
 	@examples/trees/demo.py $(PROGRAM) build/trees
 
 test:
+	@gate/documents.py
 	RT_JOBS=$(LANES) rt ci
 	@gate/wrong_bodies.py --passed
 	@$(MAKE) --no-print-directory compare
@@ -119,8 +121,11 @@ refused: program
 	@bench/refused.py tests 1 4 layer_tests::tests::readers
 
 install: program
-	install -d $(DESTDIR)$(PREFIX)/bin
+	install -d $(DESTDIR)$(PREFIX)/bin $(addprefix $(DESTDIR)$(DOCUMENTS)/,docs examples/keep)
 	install -m 755 $(PROGRAM) $(DESTDIR)$(PREFIX)/bin/unify
+	install -m 644 README.md $(DESTDIR)$(DOCUMENTS)
+	install -m 644 docs/*.md $(DESTDIR)$(DOCUMENTS)/docs
+	install -m 644 examples/keep/* $(DESTDIR)$(DOCUMENTS)/examples/keep
 
 clean:
 	rm -rf crates/*/out build bench/work

@@ -5,7 +5,7 @@
 
 `count` reads the accounts, and reads and counts the files; it makes no join. `check` joins the accounts too, and checks the
 certificate. `merge` reads the inventories twice, and also joins, solves and writes. What these two take is also told as a ratio to
-`count`, of the seconds that go by, in which a merge waits for the disk, and of those of a processor, the least of three runs each.
+`count`, of the seconds that go by, in which a merge waits for the disk, and of those of a processor, the least of seven runs each, in turn.
 The parts are differences between such runs, on the site and on the same hosts with one file of fifty, where joining and solving
 are as hard and the inventories take a fiftieth. Run `make program` first. The site is made below bench/work, which git does not see.
 """
@@ -83,7 +83,7 @@ def main():
     print(f"{hosts} hosts, {users} users and {files} files a host: {size / 1e6:.1f} MB of inventories", flush=True)
     whole = run(folder, words, hosts * files)
     print_ratios(whole, "seconds")
-    print_ratios(least_processor_seconds(commands_of(folder, words), rounds=3)[0], "seconds of a processor")
+    print_ratios(least_processor_seconds(commands_of(folder, words), rounds=7)[0], "seconds of a processor")
     name, directory = words[0].split("=")
     seconds, peak, printed = timed([UNIFY, "rehearse", f"{folder}/out/plan.{name}", f"{directory}/mtree"])
     print(f"unify rehearse {name}: {seconds:.2f} s, peak {peak:,.0f} MiB; {' '.join(printed.split())}")
