@@ -12,7 +12,7 @@ use Rattle.logindefs.specs.Ranges.{in_range, AreApart}
 use Rattle.logindefs.specs.declared.ranges.IdRange.{IdRange}
 use Rattle.logindefs.specs.declared.ranges.HostRanges.{HostRanges}
 use Rattle.idtext.specs.Names.{is_lawful_name}
-use Rattle.hosts_join.specs.Accounts.{Account, Accounts, Pair, Row, grouped, first_appearances, spot_of, spots_of, nobody, all_lines, AreNamedApart, IsOnceEach, IsSpotAmong}
+use Rattle.hosts_join.specs.Accounts.{Account, Accounts, Pair, Row, grouped, first_appearances, spot_of, spots_of, no_account, all_lines, AreNamedApart, IsOnceEach, IsSpotAmong}
 use Rattle.hosts_join.specs.Rules.{sources, sources_among, class_by, is_pinning, is_regular, joined, refusal, Clash, repeats, repeat_of, least, clash_of, claims, pinned_names, pinned_to, absent_pins, class_of, account}
 use Rattle.hosts_join.specs.Lawful.{AreLawfulAccounts}
 use Rattle.idtext.specs.First.{Gives, unless}
@@ -87,12 +87,12 @@ module _ (pins : List Pair) (v : ℕ) where
   count-one : (c : Class) (n : List ℕ) → c ≡ Pinned v → count v (pinned_to c n) ≡ 1
   count-one c n e = rw (e, eq-eqb v v refl) refl
 
-  pub count-there : (ns : List Account) (i : ℕ) → i < length ns → class_of pins (get_or ns i nobody) ≡ Pinned v → 1 ≤ count v (pinned_names pins ns)
+  pub count-there : (ns : List Account) (i : ℕ) → i < length ns → class_of pins (get_or ns i no_account) ≡ Pinned v → 1 ≤ count v (pinned_names pins ns)
   count-there [] i h e = absurd (omega arith)
   count-there (n ∷ ns) zero h e = omega (arith, count-names n ns, count-one (class_of pins n) n.name e)
   count-there (n ∷ ns) (suc i) h e = omega (arith, count-names n ns, count-there ns i (omega arith) e)
 
-  pub pins-once : (ns : List Account) (i j : ℕ) → count v (pinned_names pins ns) ≤ 1 → i < length ns → j < length ns → class_of pins (get_or ns i nobody) ≡ Pinned v → class_of pins (get_or ns j nobody) ≡ Pinned v → i ≡ j
+  pub pins-once : (ns : List Account) (i j : ℕ) → count v (pinned_names pins ns) ≤ 1 → i < length ns → j < length ns → class_of pins (get_or ns i no_account) ≡ Pinned v → class_of pins (get_or ns j no_account) ≡ Pinned v → i ≡ j
   pins-once [] i j few hi hj ei ej = absurd (omega arith)
   pins-once (n ∷ ns) zero zero few hi hj ei ej = refl
   pins-once (n ∷ ns) zero (suc j) few hi hj ei ej = absurd (omega (arith, count-names n ns, count-one (class_of pins n) n.name ei, count-there ns j (omega arith) ej))
@@ -115,15 +115,15 @@ names-once (n ∷ ns) zero (suc j) a hi hj e = absurd (not-there n ns j a.0 (ome
 names-once (n ∷ ns) (suc i) zero a hi hj e = absurd (not-there n ns i a.0 (omega arith) (sym e))
 names-once (n ∷ ns) (suc i) (suc j) a hi hj e = ap suc (names-once ns i j a.1 (omega arith) (omega arith) e)
 
-grouped-differ : (rows : List Row) (i j : ℕ) → i < length (grouped rows) → j < length (grouped rows) → (get_or (grouped rows) i nobody).name ≡ (get_or (grouped rows) j nobody).name → i ≡ j
+grouped-differ : (rows : List Row) (i j : ℕ) → i < length (grouped rows) → j < length (grouped rows) → (get_or (grouped rows) i no_account).name ≡ (get_or (grouped rows) j no_account).name → i ≡ j
 unfolding grouped
 grouped-differ rows i j hi hj e =
     let ns = first_appearances (map (λ (r : Row). r.name) rows) in
     let f : List ℕ → Account = λ n. record { name = n; spots = spots_of rows n } in
     let li : i < length ns = omega (arith, length-map ns f) in
     let lj : j < length ns = omega (arith, length-map ns f) in
-    let at_i = ap (λ (a : Account). a.name) (get_or-map f ns i [] nobody li) in
-    let at_j = ap (λ (a : Account). a.name) (get_or-map f ns j [] nobody lj) in
+    let at_i = ap (λ (a : Account). a.name) (get_or-map f ns i [] no_account li) in
+    let at_j = ap (λ (a : Account). a.name) (get_or-map f ns j [] no_account lj) in
     names-once ns i j (AreNames-first_appearances (map (λ (r : Row). r.name) rows)) li lj (sym at_i ∙ e ∙ at_j)
 
 -- ---- names stay lawful
@@ -191,7 +191,7 @@ module _ (a : Accounts) (rows : List Row) (e : a.names ≡ grouped rows) where
         lawful = rw e (grouped-lawful rows names);
         few_names = omega (arith, ap length e, length-grouped rows);
         few_rows = omega (arith, lines);
-        names_differ = λ i j hi hj s. grouped-differ rows i j (omega (arith, ap length e)) (omega (arith, ap length e)) (ap (λ (ns : List Account). (get_or ns i nobody).name) (sym e) ∙ s ∙ ap (λ (ns : List Account). (get_or ns j nobody).name) e);
+        names_differ = λ i j hi hj s. grouped-differ rows i j (omega (arith, ap length e)) (omega (arith, ap length e)) (ap (λ (ns : List Account). (get_or ns i no_account).name) (sym e) ∙ s ∙ ap (λ (ns : List Account). (get_or ns j no_account).name) e);
         spots_among = spots;
         once = of-rows IsOnceEach tt (λ n. IsOnceEach-spots_of n rows named);
         few_spots = of-rows (λ ss. length ss ≤ 64) (omega arith) few;

@@ -7,9 +7,10 @@ use Rattle.std.proofs.lemmas.Bool.{cases_Bool, cases_lt, cases_eq, eqb-true, eq-
 use Rattle.std.proofs.lemmas.List.{get_or_default, get_or-map, length-map, append-nil, append_assoc}
 use Rattle.std.proofs.lemmas.List.Sums.{sum_by-cons}
 use Rattle.hosts_join.proofs.Refusals.{is-enough}
-use Rattle.hosts_join.specs.Accounts.{Accounts, Pair, nobody}
+use Rattle.hosts_join.specs.Accounts.{Accounts, Pair, no_account}
 use Rattle.accounts.specs.Laws.{AreDistinct}
 use Rattle.idtext.specs.First.{or_else, unless}
+use Rattle.idtext.proofs.FirstLemmas.{none_of_both}
 use Rattle.hosts_join.specs.Count.{count_below}
 use Rattle.hosts_join.specs.declared.Class.{Class}
 use Rattle.hosts_join.specs.declared.Class.TheVariants.{Pinned, Regular, System}
@@ -18,8 +19,11 @@ use Rattle.hosts_join.specs.declared.fault.PoolClass.{PoolClass}
 use Rattle.hosts_join.specs.declared.fault.PoolClass.TheVariants as pool
 use Rattle.hosts_join.specs.declared.fault.SiteFault.{SiteFault}
 use Rattle.hosts_join.specs.declared.fault.SiteFault.TheVariants.{PinClash, PoolTooSmall}
-use Rattle.hosts_join.specs.NumberFaults.{AreSoMany, ClashesAreThere, IsLeastClash, IsLargeEnough, HaveSoMany, SmallPoolsAreThere, StandsAt}
+use Rattle.hosts_join.specs.NumberFaults.{AreSoMany, ClashesAreThere, IsLeastClash, IsLargeEnough, HaveSoMany, NoneTwice, SmallPoolsAreThere}
+use Rattle.hosts_join.specs.PinFaults.{NoneApart, NoneReserved, StandsAt}
 use Rattle.hosts_join.specs.Rules.{Clash, claim_fault, claims, clash, clash_of, class_at, class_of, class_served, disagreement, disagrees, first_some, in_pool, least, lesser, names_in, pin_reserved, pool_size, refusal, repeats, reserver, same_class, sources, too_small}
+use Rattle.hosts_join.proofs.NoPinFaults.{none-apart, none-reserved}
+use Rattle.hosts_join.proofs.Sources.{none-mapped}
 use Rattle.hosts_join.proofs.Repeats.{clash_of-again, clash_of-apart, first_name, lesser_last}
 
 -- ---- the place of a name in a list with one more
@@ -111,9 +115,6 @@ first-has (p ∷ ps) v n e = by (p.number == v) refl (λ f. first-has ps v n f) 
         record { place = suc more.place; there = more.there; none_before = before more is }
 
 -- ---- one more name with a number
-
-abbrev NoneTwice : List Pair → Type 0
-NoneTwice ps = (i j v : ℕ) (n m : List ℕ) → i < j → StandsAt ps i n v → StandsAt ps j m v → ⊥
 
 abbrev IsTold : List Pair → Option Clash → Type 0
 IsTold ps o = MatchOption o (NoneTwice ps) (λ c. IsLeastClash ps c.number c.first c.second)
@@ -359,9 +360,9 @@ pool-small a pool.System v h = let id = leb-true v 4294967294 (and_parts _ _ (an
 
 have-many : (a : Accounts) (c : PoolClass) → HaveSoMany a (class_served c) (names_in a (class_served c)) (pool_size a (class_served c))
 have-many a c = record {
-  of_class = many-such (Passes (λ n. same_class (class_served c) (class_of a.pins n)) a.names nobody) _ _ _
+  of_class = many-such (Passes (λ n. same_class (class_served c) (class_of a.pins n)) a.names no_account) _ _ _
       (λ i h. (h.0, class-same c (class_at a i) h.1)) (λ i h. (h.0, same-class c (class_at a i) h.1)) refl
-      (passing-many (λ n. same_class (class_served c) (class_of a.pins n)) a.names nobody);
+      (passing-many (λ n. same_class (class_served c) (class_of a.pins n)) a.names no_account);
   in_its_pool = many-such (λ v. (v < 2 ^ 32) × (in_pool a (class_served c) v ≡ true)) _ _ _ (λ v h. h.1) (λ v h. (pool-small a c v h, h)) refl
       (below-many (in_pool a (class_served c)) (2 ^ 32));
 }
@@ -370,8 +371,10 @@ have-many a c = record {
 
 -- what a fault of numbers says
 abbrev Says : Which → Accounts → SiteFault → Type 0
-Says kind a (PinClash k number first second) = (k ≡ kind) × IsLeastClash (claims a) number first second
-Says kind a (PoolTooSmall k class names numbers) = (k ≡ kind) × HaveSoMany a (class_served class) names numbers × (numbers < names) × (class ≡ pool.System → IsLargeEnough a Regular)
+Says kind a (PinClash k number first second) = (k ≡ kind) × IsLeastClash (claims a) number first second × NoneApart a × NoneReserved a
+Says kind a (PoolTooSmall k class names numbers) =
+    (k ≡ kind) × HaveSoMany a (class_served class) names numbers × (numbers < names) × (class ≡ pool.System → IsLargeEnough a Regular)
+    × NoneApart a × NoneReserved a × NoneTwice (claims a)
 Says kind a f = Unit {0}
 
 pub of_either : {X : Type 0} (P : X → Type 0) (o other : Option X) (x : X) → (o ≡ Some x → P x) → (o ≡ None → other ≡ Some x → P x) → or_else o other ≡ Some x → P x
@@ -391,11 +394,21 @@ of_test P true x y so h = let same : x ≡ y = cc in subst P same (so refl)
 of_test P false x y so h = absurd (cc)
 
 module _ (kind : Which) (a : Accounts) where
-  of_clash : (f : SiteFault) → clash kind (claims a) ≡ Some f → Says kind a f
-  of_clash f h = of_mapped (λ (d : Clash). PinClash kind d.number d.first d.second) (clash_of (claims a)) f (Says kind a) (λ d e. (refl, subst (IsTold (claims a)) e (clash-told (claims a)))) h
+  of_clash : (f : SiteFault) → NoneApart a → NoneReserved a → clash kind (claims a) ≡ Some f → Says kind a f
+  of_clash f agreed unreserved h =
+      of_mapped (λ (d : Clash). PinClash kind d.number d.first d.second) (clash_of (claims a)) f (Says kind a)
+      (λ d e. (refl, subst (IsTold (claims a)) e (clash-told (claims a)), agreed, unreserved)) h
 
-  of_pool : (c : PoolClass) (f : SiteFault) → (c ≡ pool.System → IsLargeEnough a Regular) → too_small kind a c ≡ Some f → Says kind a f
-  of_pool c f after h = of_test (Says kind a) (nat_lt (pool_size a (class_served c)) (names_in a (class_served c))) (PoolTooSmall kind c (names_in a (class_served c)) (pool_size a (class_served c))) f (λ less. (refl, have-many a c, ltb-true _ _ less, after)) h
+  none-twice : clash kind (claims a) ≡ None → NoneTwice (claims a)
+  none-twice h =
+      let none = none-mapped (λ (d : Clash). PinClash kind d.number d.first d.second) (clash_of (claims a)) h in
+      subst (IsTold (claims a)) none (clash-told (claims a))
+
+  of_pool : (c : PoolClass) (f : SiteFault) → (c ≡ pool.System → IsLargeEnough a Regular) → NoneApart a → claim_fault kind a.reserved (claims a) ≡ None → too_small kind a c ≡ Some f → Says kind a f
+  of_pool c f after agreed good h =
+      let both = none_of_both (first_some (pin_reserved kind a.reserved) (claims a)) (clash kind (claims a)) good in
+      of_test (Says kind a) (nat_lt (pool_size a (class_served c)) (names_in a (class_served c))) (PoolTooSmall kind c (names_in a (class_served c)) (pool_size a (class_served c))) f
+      (λ less. (refl, have-many a c, ltb-true _ _ less, after, agreed, none-reserved kind a both.0, none-twice both.1)) h
 
   large : too_small kind a pool.Regular ≡ None → IsLargeEnough a Regular
   large h = (names_in a Regular, pool_size a Regular, have-many a pool.Regular, is-enough kind a pool.Regular h)
@@ -407,10 +420,10 @@ module _ (kind : Which) (a : Accounts) where
       (λ none. of_either (Says kind a) (claim_fault kind a.reserved (claims a)) _ f
       (of_either (Says kind a) (first_some (pin_reserved kind a.reserved) (claims a)) (clash kind (claims a)) f
       (of_first (Says kind a) (pin_reserved kind a.reserved) (claims a) f (λ p. of_mapped _ (reserver a.reserved p.number) f (Says kind a) (λ r e. tt)))
-      (λ other. of_clash f))
-      (λ other. of_either (Says kind a) (too_small kind a pool.Regular) (too_small kind a pool.System) f
-      (of_pool pool.Regular f (λ e. absurd (cc)))
-      (λ enough. of_pool pool.System f (λ e. large enough))))
+      (λ other. of_clash f (none-apart kind a none) (none-reserved kind a other)))
+      (λ good. of_either (Says kind a) (too_small kind a pool.Regular) (too_small kind a pool.System) f
+      (of_pool pool.Regular f (λ e. absurd (cc)) (none-apart kind a none) good)
+      (λ enough. of_pool pool.System f (λ e. large enough) (none-apart kind a none) good)))
 
 told : (o : Option SiteFault) (a : Accounts) (f : SiteFault) → unless o a ≡ Err f → o ≡ Some f
 told None a f h = absurd (cc)

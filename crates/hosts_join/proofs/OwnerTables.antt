@@ -3,7 +3,7 @@ use Rattle.std.proofs.Common.{◌≡◌, ℕ, zero, suc, ◌<◌, ◌&&◌, ◌=
 use Rattle.std.specs.List.{slice_get}
 use Rattle.std.specs.Option.{option_and_then, IfSome}
 use Rattle.std.proofs.Math.Dec.{eqb-suc-zero, eqb-zero-suc, eqb-suc-suc}
-use Rattle.hosts_join.specs.Accounts.{Account, owner, number_on, has_number, nobody, IsOnceEach}
+use Rattle.hosts_join.specs.Accounts.{Account, owner, number_on, has_number, no_account, IsOnceEach}
 use Rattle.hosts_join.proofs.Once.{number-once}
 use Rattle.hosts_join.proofs.Pairing.{place-holds}
 
@@ -33,10 +33,10 @@ module _ {M : Type 0} (look : M → ℕ → Option ℕ) where
   one-more (t ∷ ts) (suc k) d m number place less more (suc h) v = rw (eqb-suc-suc h k) (one-more ts k d m number place (omega arith) more h v)
 
 -- an owner has the number on the host, and is a name
-pub owner-tied : (names : List Account) (h v : ℕ) (o : Option ℕ) → o ≡ owner names h v → ((i : ℕ) → IsOnceEach (get_or names i nobody).spots) → IfSome o (λ i. number_on (get_or names i nobody) h ≡ Some v)
+pub owner-tied : (names : List Account) (h v : ℕ) (o : Option ℕ) → o ≡ owner names h v → ((i : ℕ) → IsOnceEach (get_or names i no_account).spots) → IfSome o (λ i. number_on (get_or names i no_account) h ≡ Some v)
 owner-tied names h v None e once = tt
-owner-tied names h v (Some i) e once = number-once h v (get_or names i nobody).spots (once i) (place-holds (has_number h v) names i nobody (sym e)).1
+owner-tied names h v (Some i) e once = number-once h v (get_or names i no_account).spots (once i) (place-holds (has_number h v) names i no_account (sym e)).1
 
 pub owner-within : (names : List Account) (h v : ℕ) (o : Option ℕ) → o ≡ owner names h v → IfSome o (λ i. i < length names)
 owner-within names h v None e = tt
-owner-within names h v (Some i) e = (place-holds (has_number h v) names i nobody (sym e)).0
+owner-within names h v (Some i) e = (place-holds (has_number h v) names i no_account (sym e)).0

@@ -1,15 +1,15 @@
 -- What the two faults of pins say.
 use Rattle.std.proofs.Common.{◌≡◌, ℕ, zero, suc, ◌<◌, ◌≤◌, ◌==◌, Bool, true, false, cond, not, List, [], ◌∷◌, map, Option, Some, None, refl, sym, ap, ◌∙◌, subst, arith, inl, inr}
-use Rattle.std.specs.Prelude.{◌≢◌, slice_get, nat_le}
+use Rattle.std.specs.Prelude.{◌≢◌, slice_get}
 use Rattle.std.specs.List.{filter, find}
 use Rattle.std.specs.Option.{option_map}
-use Rattle.std.proofs.lemmas.Bool.{and_from, and_parts, cases_Bool, cases_eq, cases_lt, eq-eqb, eqb-true, false≢true, le-leb, leb-true, not-true, true≢false}
+use Rattle.std.proofs.lemmas.Bool.{cases_Bool, cases_eq, cases_lt, eq-eqb, eqb-true, false≢true, not-true, true≢false}
 use Rattle.std.proofs.lemmas.Option.{same_Some}
 use Rattle.idtext.specs.First.{or_else}
 use Rattle.logindefs.specs.Ranges.{in_range}
 use Rattle.hosts_join.specs.Accounts.{Account, Accounts, Pair}
 use Rattle.hosts_join.specs.Pairs.{number_of}
-use Rattle.hosts_join.specs.PinFaults.{ArePinsApart, DisagreeingPinsAreThere, IsReservedPin, LiesIn, PinsAt, ReservedPinsAreThere}
+use Rattle.hosts_join.specs.PinFaults.{ArePinsApart, DisagreeingPinsAreThere, IsReservedPin, NoneApart, NoneApartBefore, PinsAt, ReservedPinsAreThere}
 use Rattle.hosts_join.specs.Rules.{claim_fault, claims, clash, clash_of, disagreement, disagrees, first_some, host_name, is_pinning, pin_reserved, refusal, reserver, sources, sources_among, too_small, Clash}
 use Rattle.hosts_join.specs.declared.Source.{Source}
 use Rattle.hosts_join.specs.declared.Spot.{Spot}
@@ -22,8 +22,9 @@ use Rattle.hosts_join.specs.declared.fault.SiteFault.{SiteFault}
 use Rattle.hosts_join.specs.declared.fault.SiteFault.TheVariants.{PinClash, PinDisagrees, PinReserved}
 use Rattle.hosts_join.specs.declared.reserving.Reserved.{Reserved}
 use Rattle.hosts_join.proofs.BadLines.{faulty}
+use Rattle.hosts_join.proofs.NoPinFaults.{is-pinning, lies, lies-not, none-apart, not-apart, unreserved}
 use Rattle.hosts_join.proofs.NumberFaults.{of_either, of_mapped, of_test}
-use Rattle.hosts_join.proofs.Sources.{none-mapped, source_of}
+use Rattle.hosts_join.proofs.Sources.{source_of}
 
 -- ---- the first item that passes
 
@@ -79,9 +80,6 @@ pinning-is : (s : Standing) → is_pinning s ≡ true → s ≡ on.Pinning
 pinning-is on.Pinning h = refl
 pinning-is on.Regular h = absurd (false≢true h)
 pinning-is on.System h = absurd (false≢true h)
-
-is-pinning : (s : Standing) → s ≡ on.Pinning → is_pinning s ≡ true
-is-pinning s e = ap is_pinning e
 
 abbrev pinning_among : List Spot → List Source
 pinning_among spots = map source_of (filter (λ s. is_pinning s.standing) spots)
@@ -238,37 +236,13 @@ module _ (a : Accounts) (n : Account) where
           let rest : find (λ (r : Source). not (r.number == w)) (pinning_among n.spots) ≡ Some q = rw same at found in
           subst (λ (s : Source). ArePinsApart a n (host_name a.hosts s) (host_name a.hosts q)) is (by-text w q pin rest)
 
--- ---- a reserved number
-
-lies : (r : Reserved) (v : ℕ) → in_range r.numbers v ≡ true → LiesIn r v
-lies r v h =
-    let both = and_parts (nat_le r.numbers.low v) (nat_le v r.numbers.high) h in
-    (leb-true r.numbers.low v both.0, leb-true v r.numbers.high both.1)
-
-within : (r : Reserved) (v : ℕ) → LiesIn r v → in_range r.numbers v ≡ true
-within r v h = and_from (nat_le r.numbers.low v) (nat_le v r.numbers.high) (le-leb r.numbers.low v h.0) (le-leb v r.numbers.high h.1)
-
-lies-not : (r : Reserved) (v : ℕ) → in_range r.numbers v ≡ false → ¬ LiesIn r v
-lies-not r v fails h = true≢false (sym (within r v h) ∙ fails)
-
-none-found : {X : Type 0} (P : X → Bool) (xs : List X) (j : ℕ) (x : X) → find P xs ≡ None → slice_get xs j ≡ Some x → P x ≡ false
-none-found P [] j x h e = absurd (cc)
-none-found P (y ∷ xs) zero x h e = elim (cases_Bool (P y)) [
-  | inl it ↦ let h' = rw it at h in absurd (cc)
-  | inr fails ↦ ap P (sym (same_Some y x e)) ∙ fails
-]
-none-found P (y ∷ xs) (suc j) x h e = elim (cases_Bool (P y)) [
-  | inl it ↦ let h' = rw it at h in absurd (cc)
-  | inr fails ↦ none-found P xs j x (rw fails at h) e
-]
-
 -- ---- the faults of a join
 
 -- what a fault of pins says
 abbrev Says : Which → Accounts → SiteFault → Type 0
 Says kind a (PinDisagrees k name first second) =
-    (k ≡ kind) × (i : ℕ) × (account : Account) × (slice_get a.names i ≡ Some account) × (account.name ≡ name) × ArePinsApart a account first second
-Says kind a (PinReserved k number name by) = (k ≡ kind) × IsReservedPin a number name by
+    (k ≡ kind) × (i : ℕ) × (account : Account) × (slice_get a.names i ≡ Some account) × (account.name ≡ name) × ArePinsApart a account first second × NoneApartBefore a i
+Says kind a (PinReserved k number name by) = (k ≡ kind) × IsReservedPin a number name by × NoneApart a
 Says kind a other = Unit {0}
 
 module _ (kind : Which) (a : Accounts) where
@@ -277,7 +251,10 @@ module _ (kind : Which) (a : Accounts) where
       let it = first-told (disagrees kind a.hosts a.pins) a.names f h in
       let n = it.item in
       of_mapped (λ (d : Source × Source). PinDisagrees kind n.name (host_name a.hosts d.0) (host_name a.hosts d.1)) (disagreement (sources a.pins n)) f (Says kind a)
-      (λ d e. (refl, it.place, n, it.there, refl, apart-told a n (number_of a.pins n.name) d.0 d.1 refl e)) it.tells
+      (λ d e. (refl, it.place, n, it.there, refl, apart-told a n (number_of a.pins n.name) d.0 d.1 refl e, before it)) it.tells
+    where
+      before : (it : IsFirstTold (disagrees kind a.hosts a.pins) a.names f) → NoneApartBefore a it.place
+      before it j other first second lt at = not-apart kind a other first second (it.before j other lt at)
 
   reserved-pin : (f : SiteFault) → (it : IsFirstTold (pin_reserved kind a.reserved) (claims a) f) → (r : Reserved) → reserver a.reserved it.item.number ≡ Some r → IsReservedPin a it.item.number it.item.name r
   reserved-pin f it r e =
@@ -291,14 +268,13 @@ module _ (kind : Which) (a : Accounts) where
         first = λ j s lt at. lies-not s it.item.number (found.before j s lt at);
         free_before = λ i j v n s lt stands at.
             let p : Pair = record { name = n; number = v } in
-            let none = none-mapped (λ (s : Reserved). PinReserved kind v n s) (reserver a.reserved v) (it.before i p lt stands) in
-            lies-not s v (none-found (λ (s : Reserved). in_range s.numbers v) a.reserved j s none at);
+            unreserved kind a.reserved p j s (it.before i p lt stands) at;
       }
 
-  reserved : (f : SiteFault) → first_some (pin_reserved kind a.reserved) (claims a) ≡ Some f → Says kind a f
-  reserved f h =
+  reserved : (f : SiteFault) → NoneApart a → first_some (pin_reserved kind a.reserved) (claims a) ≡ Some f → Says kind a f
+  reserved f agreed h =
       let it = first-told (pin_reserved kind a.reserved) (claims a) f h in
-      of_mapped (λ (r : Reserved). PinReserved kind it.item.number it.item.name r) (reserver a.reserved it.item.number) f (Says kind a) (λ r e. (refl, reserved-pin f it r e)) it.tells
+      of_mapped (λ (r : Reserved). PinReserved kind it.item.number it.item.name r) (reserver a.reserved it.item.number) f (Says kind a) (λ r e. (refl, reserved-pin f it r e, agreed)) it.tells
 
   small : (c : PoolClass) (f : SiteFault) → too_small kind a c ≡ Some f → Says kind a f
   small c f h = of_test (Says kind a) _ _ f (λ less. tt) h
@@ -307,7 +283,7 @@ module _ (kind : Which) (a : Accounts) where
   said f =
       of_either (Says kind a) (first_some (disagrees kind a.hosts a.pins) a.names) _ f (disagreeing f)
       (λ none. of_either (Says kind a) (claim_fault kind a.reserved (claims a)) _ f
-      (of_either (Says kind a) (first_some (pin_reserved kind a.reserved) (claims a)) (clash kind (claims a)) f (reserved f)
+      (of_either (Says kind a) (first_some (pin_reserved kind a.reserved) (claims a)) (clash kind (claims a)) f (reserved f (none-apart kind a none))
       (λ other. of_mapped (λ (d : Clash). PinClash kind d.number d.first d.second) (clash_of (claims a)) f (Says kind a) (λ d e. tt)))
       (λ other. of_either (Says kind a) (too_small kind a pool.Regular) (too_small kind a pool.System) f (small pool.Regular f) (λ enough. small pool.System f)))
 

@@ -8,7 +8,7 @@ use Rattle.idtext.specs.First.{first_fault, or_else}
 use Rattle.idtext.specs.Pieces.{lines}
 use Rattle.idtext.proofs.FirstLemmas.{none_of_both}
 use Rattle.idtext.proofs.OkLemmas.{unless_ok, bind_ok}
-use Rattle.hosts_join.specs.Accounts.{Account, Accounts, Pair, nobody}
+use Rattle.hosts_join.specs.Accounts.{Account, Accounts, Pair, no_account}
 use Rattle.hosts_join.specs.Hosts.{SparesReserved, spares_user, spares_group}
 use Rattle.hosts_join.specs.Laws.{JoinedSitesLeaveReserved, JoinedSitesLeaveSpared, LeavesOut, LeavesSpared, NothingReservedChangesNothing, ReadPinsReserveNothing}
 use Rattle.hosts_join.specs.PinPairs.{PinPairs}
@@ -24,7 +24,7 @@ use Rattle.hosts_join.proofs.Knowing.{site-is}
 use Rattle.hosts_join.proofs.ReservedLemmas.{all-unreserved, taken-unreserved}
 
 -- the number of a pinned name is taken
-pub pin-among : (pins : List Pair) (ns : List Account) (j v : ℕ) → j < length ns → class_of pins (get_or ns j nobody) ≡ Pinned v → is_taken (pinned_names pins ns) v ≡ true
+pub pin-among : (pins : List Pair) (ns : List Account) (j v : ℕ) → j < length ns → class_of pins (get_or ns j no_account) ≡ Pinned v → is_taken (pinned_names pins ns) v ≡ true
 pin-among pins [] j v h e = absurd (omega arith)
 pin-among pins (n ∷ ns) zero v h e = list_any-append (λ (p : Pair). p.number == v) (pinned_to (class_of pins n) n.name) (pinned_names pins ns) ∙ ap (λ b. b || is_taken (pinned_names pins ns) v) (one (class_of pins n) e)
   where
@@ -32,7 +32,7 @@ pin-among pins (n ∷ ns) zero v h e = list_any-append (λ (p : Pair). p.number 
     one c e = rw (e, eq-eqb v v refl) refl
 pin-among pins (n ∷ ns) (suc j) v h e = list_any-append (λ (p : Pair). p.number == v) (pinned_to (class_of pins n) n.name) (pinned_names pins ns) ∙ ap (λ b. is_taken (pinned_to (class_of pins n) n.name) v || b) (pin-among pins ns j v (omega arith) e) ∙ or-true _
 
-pub pin-taken : (a : Accounts) (j v : ℕ) → j < length a.names → class_of a.pins (get_or a.names j nobody) ≡ Pinned v → is_taken (claims a) v ≡ true
+pub pin-taken : (a : Accounts) (j v : ℕ) → j < length a.names → class_of a.pins (get_or a.names j no_account) ≡ Pinned v → is_taken (claims a) v ≡ true
 pin-taken a j v h e = list_any-append (λ (p : Pair). p.number == v) (pinned_names a.pins a.names) (absent_pins a.names a.pins) ∙ ap (λ b. b || is_taken (absent_pins a.names a.pins) v) (pin-among a.pins a.names j v h e)
 
 pool-unreserved : (a : Accounts) (c : Class) (v : ℕ) → in_pool a c v ≡ true → is_reserved a.reserved v ≡ false

@@ -9,7 +9,7 @@ use Rattle.idtext.specs.Names.{is_lawful_name}
 use Rattle.accounts.specs.Laws.{IsTable}
 use Rattle.logindefs.specs.declared.ranges.IdRange.{IdRange}
 use Rattle.hosts_join.specs.declared.Spot.{Spot}
-use Rattle.hosts_join.specs.Accounts.{Row, spot_of, spots_of, grouped, first_appearances, IsOnceEach, IsSpotAmong, host_rows, rows_from, nobody}
+use Rattle.hosts_join.specs.Accounts.{Row, spot_of, spots_of, grouped, first_appearances, IsOnceEach, IsSpotAmong, host_rows, rows_from, no_account}
 use Rattle.hosts_join.proofs.Once.{IsOnceEach-spots_of, account_with, host_rows-named}
 
 -- what holds of the rows holds of the spots
@@ -18,11 +18,11 @@ unfolding spots_of
 spots_of-all P rows n all = All-map P spot_of (filter (λ (r : Row). bytes_eq n r.name) rows) (All-filter (λ (r : Row). bytes_eq n r.name) (λ r. P (spot_of r)) rows all)
 
 -- what holds of the spots of each name holds of each account
-pub grouped-spots : (P : List Spot → Type 0) (rows : List Row) → P [] → ((n : List ℕ) → P (spots_of rows n)) → (i : ℕ) → P (get_or (grouped rows) i nobody).spots
+pub grouped-spots : (P : List Spot → Type 0) (rows : List Row) → P [] → ((n : List ℕ) → P (spots_of rows n)) → (i : ℕ) → P (get_or (grouped rows) i no_account).spots
 unfolding grouped
 grouped-spots P rows none each i = among (first_appearances (map (λ (r : Row). r.name) rows)) i
   where
-    among : (ns : List (List ℕ)) (i : ℕ) → P (get_or (map (λ n. account_with n (spots_of rows n)) ns) i nobody).spots
+    among : (ns : List (List ℕ)) (i : ℕ) → P (get_or (map (λ n. account_with n (spots_of rows n)) ns) i no_account).spots
     among [] i = none
     among (n ∷ ns) zero = each n
     among (n ∷ ns) (suc i) = among ns i

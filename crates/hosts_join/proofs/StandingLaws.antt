@@ -1,12 +1,11 @@
 -- Which numbers the names of a joined site may have.
 use Rattle.std.proofs.Common.{◌≡◌, ℕ, zero, suc, ◌<◌, ◌≤◌, ◌==◌, ◌&&◌, ◌||◌, ◌⊎◌, Bool, true, false, not, cond, List, [], ◌∷◌, length, map, get_or, Option, Some, None, Ok, refl, sym, ◌∙◌, ap, subst, arith, inl, inr}
-use Rattle.std.specs.List.{All, Contains, list_any, list_all, find, filter}
-use Rattle.std.specs.Option.{option_to_list}
+use Rattle.std.specs.List.{All, Contains, list_any, list_all, filter}
 use Rattle.std.specs.Str.{bytes_eq}
 use Rattle.std.specs.Prelude.{nat_le}
-use Rattle.std.proofs.lemmas.Bool.{cases_Bool, both_ways, or_right, or_parts, and_parts, not-true, le-leb, or_from, eq-eqb, eqb-true, false≢true, true≢false, false_from_ne_true}
+use Rattle.std.proofs.lemmas.Bool.{cases_Bool, both_ways, or_right, or_parts, and_parts, not-true, le-leb, or_from, eq-eqb, eqb-true, false≢true, false_from_ne_true}
 use Rattle.std.proofs.lemmas.List.{get_or-map, length-map}
-use Rattle.std.proofs.lemmas.List.Elements.{All-nil, All-cons, All-head, All-tail, All-weaker, All-contains, Contains-append_right, Contains-get_or}
+use Rattle.std.proofs.lemmas.List.Elements.{All-nil, All-cons, All-head, All-tail, All-weaker, All-contains, Contains-get_or}
 use Rattle.std.proofs.lemmas.List.Folds.{list_any-append, list_any_none}
 use Rattle.std.proofs.lemmas.List.Sums.{sum_by-cons}
 use Rattle.std.proofs.lemmas.Option.{same_Some}
@@ -18,7 +17,7 @@ use Rattle.accounts.specs.Rows as row
 use Rattle.logindefs.specs.Ranges.{in_range}
 use Rattle.logindefs.specs.declared.ranges.IdRange.{IdRange}
 use Rattle.logindefs.specs.declared.ranges.HostRanges.{HostRanges}
-use Rattle.hosts_join.specs.Accounts.{Account, Accounts, HostEntry, Pair, Row, rows_from, spot_of, spots_of, standing_on, nobody}
+use Rattle.hosts_join.specs.Accounts.{Account, Accounts, HostEntry, Pair, Row, rows_from, spot_of, spots_of, standing_on, no_account}
 use Rattle.hosts_join.specs.Hosts.{IsLawfulHost}
 use Rattle.hosts_join.specs.Kinds.{user_at, group_at, user_rows, group_rows, user_rows-table, group_rows-table}
 use Rattle.hosts_join.specs.Pairs.{number_of}
@@ -38,10 +37,11 @@ use Rattle.hosts_join.specs.declared.reserving.Reserved.{Reserved}
 use Rattle.hosts_join.proofs.Grouping.{bytes_refl, bytes_same}
 use Rattle.hosts_join.proofs.Knowing.{site-is, told-by}
 use Rattle.hosts_join.proofs.Lawful.{claims-apart, claims-once, count, count-there, pins-once}
+use Rattle.hosts_join.proofs.PinnedBy.{pin-class, pinning-class, some-none}
 use Rattle.hosts_join.proofs.Refusals.{not-clashing}
 use Rattle.hosts_join.proofs.ReservedLaws.{pin-taken}
 use Rattle.hosts_join.proofs.Sources.{none-mapped, source_of}
-use Rattle.hosts_join.proofs.StandingRows.{account-spots, account-there, any-there, contains-any, contains-filter, contains-map, name_in, row-among, row-there, row_on, rows-all, rows-named, spot-there, spots-named}
+use Rattle.hosts_join.proofs.StandingRows.{account-spots, account-there, any-there, contains-any, contains-filter, name_in, row-among, row-there, row_on, rows-all, rows-named, spot-there, spots-named}
 
 -- ---- what a number is on a host
 
@@ -63,50 +63,9 @@ regular-in false false e = absurd (false≢true e)
 
 -- ---- the class of a name
 
-some-none : {X : Type 0} (x : X) → Some x ≡ None → ⊥
-some-none x e = cc
-
-find-none : {X : Type 0} (p : X → Bool) (xs : List X) (x : X) → find p xs ≡ None → Contains xs x → p x ≡ false
-find-none p [] x e c = let lt = c.1 in absurd (omega (arith, lt))
-find-none p (y ∷ xs) x e (zero, lt, same) = elim (cases_Bool (p y)) [
-  | inl it ↦ let e' = rw it at e in absurd (some-none y e')
-  | inr away ↦ ap p (sym same) ∙ away
-]
-find-none p (y ∷ xs) x e (suc i, lt, same) = elim (cases_Bool (p y)) [
-  | inl it ↦ let e' = rw it at e in absurd (some-none y e')
-  | inr away ↦ find-none p xs x (rw away at e) (i, omega arith, same)
-]
-
-from-not : (b : Bool) → not b ≡ false → b ≡ true
-from-not true e = refl
-from-not false e = absurd (true≢false e)
-
--- where no sources disagree, a name is pinned by each
-source-class : (ps : List Source) (spots : List Spot) (q : Source) → disagreement ps ≡ None → Contains ps q → class_by ps spots ≡ Pinned q.number
-source-class [] spots q d c = let lt = c.1 in absurd (omega (arith, lt))
-source-class (p ∷ ps) spots q d (zero, lt, e) = ap (λ (p : Source). Pinned p.number) e
-source-class (p ∷ ps) spots q d (suc i, lt, e) =
-    let others = λ (q : Source). not (q.number == p.number) in
-    let none = none-mapped (λ (q : Source). (p, q)) (find others ps) d in
-    let same : not (q.number == p.number) ≡ false = find-none others ps q none (i, omega arith, e) in
-    ap Pinned (sym (eqb-true q.number p.number (from-not (q.number == p.number) same)))
-
 -- a spot that stands for a place that is too high
 abbrev no_spot : Spot
 no_spot = record { host = 0; number = 0; standing = on.Pinning }
-
-abbrev text_source : ℕ → Source
-text_source v = record { host = None; number = v }
-
-pinning-class : (pin : Option ℕ) (spots : List Spot) (s : Spot) → disagreement (sources_among pin spots) ≡ None → Contains spots s → is_pinning s.standing ≡ true → class_by (sources_among pin spots) spots ≡ Pinned s.number
-pinning-class pin spots s d c t =
-    let pinning = filter (λ (s : Spot). is_pinning s.standing) spots in
-    source-class (sources_among pin spots) spots (source_of s) d
-    (Contains-append_right (map text_source (option_to_list pin)) (map source_of pinning) (source_of s)
-    (contains-map source_of pinning s (contains-filter (λ (s : Spot). is_pinning s.standing) spots s t c)))
-
-pin-class : (pin : Option ℕ) (w : ℕ) (spots : List Spot) → pin ≡ Some w → class_by (sources_among pin spots) spots ≡ Pinned w
-pin-class pin w spots e = ap (λ pin. class_by (sources_among pin spots) spots) e
 
 filter-none : {X : Type 0} (p : X → Bool) (xs : List X) → All (λ x. p x ≡ false) xs → filter p xs ≡ []
 filter-none p [] all = refl
@@ -200,7 +159,7 @@ pinned-class (Pinned u) name v e = elim (cases_Bool (u == v)) [
 pinned-class Regular name v e = absurd (false≢true e)
 pinned-class System name v e = absurd (false≢true e)
 
-pinned-among : (pins : List Pair) (ns : List Account) (v : ℕ) → is_taken (pinned_names pins ns) v ≡ true → (j : ℕ) × (j < length ns) × (class_of pins (get_or ns j nobody) ≡ Pinned v)
+pinned-among : (pins : List Pair) (ns : List Account) (v : ℕ) → is_taken (pinned_names pins ns) v ≡ true → (j : ℕ) × (j < length ns) × (class_of pins (get_or ns j no_account) ≡ Pinned v)
 pinned-among pins [] v e = absurd (false≢true e)
 pinned-among pins (n ∷ ns) v e =
     let here = pinned_to (class_of pins n) n.name in
@@ -339,7 +298,7 @@ module _ (kind : Which) (regular system : HostRanges → IdRange) (listed : Host
   class-is j less = ap (λ ss. class_by (sources_among (number_of pins (account a j).name) ss) ss) (account-spots rows j less)
 
   named-at : (n : List ℕ) → is_name a.names n ≡ true → (j : ℕ) × (j < length a.names) × ((account a j).name ≡ n)
-  named-at n e = let at = any-there (λ (x : Account). bytes_eq n x.name) a.names nobody e in (at.0, at.1, sym (bytes_same n (account a at.0).name at.2))
+  named-at n e = let at = any-there (λ (x : Account). bytes_eq n x.name) a.names no_account e in (at.0, at.1, sym (bytes_same n (account a at.0).name at.2))
 
   outside-named : (n : List ℕ) (w : ℕ) → IsOutside tells hosts n w → is_name a.names n ≡ true
   outside-named n w out = let at = told-row out.host n w out.there out.has in account-there rows (row_at at.0 out.host n w) at.1
@@ -356,7 +315,7 @@ module _ (kind : Which) (regular system : HostRanges → IdRange) (listed : Host
     agreed j less =
         let n = account a j in
         ap (λ ss. disagreement (sources_among (number_of pins n.name) ss)) (sym (account-spots rows j less))
-        ∙ none-mapped (λ (d : Source × Source). PinDisagrees kind n.name (host_name a.hosts d.0) (host_name a.hosts d.1)) (disagreement (sources pins n)) (first-none (disagrees kind a.hosts a.pins) a.names j nobody unrefused.0 less)
+        ∙ none-mapped (λ (d : Source × Source). PinDisagrees kind n.name (host_name a.hosts d.0) (host_name a.hosts d.1)) (disagreement (sources pins n)) (first-none (disagrees kind a.hosts a.pins) a.names j no_account unrefused.0 less)
 
     outside-class : (j w : ℕ) → j < length a.names → IsOutside tells hosts (account a j).name w → class_at a j ≡ Pinned w
     outside-class j w less out =

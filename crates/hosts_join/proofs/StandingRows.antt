@@ -11,7 +11,7 @@ use Rattle.accounts.specs.Laws.{AreDistinct}
 use Rattle.accounts.proofs.ListLemmas.{list_any-map}
 use Rattle.logindefs.specs.declared.ranges.IdRange.{IdRange}
 use Rattle.hosts_join.specs.declared.Spot.{Spot}
-use Rattle.hosts_join.specs.Accounts.{Account, Row, host_rows, rows_from, first_appearances, spot_of, spots_of, grouped, standing_on, nobody}
+use Rattle.hosts_join.specs.Accounts.{Account, Row, host_rows, rows_from, first_appearances, spot_of, spots_of, grouped, standing_on, no_account}
 use Rattle.hosts_join.proofs.Grouping.{bytes_same, bytes_refl, any-first_appearances}
 use Rattle.hosts_join.proofs.KindLemmas.{AreDistinct-tail}
 use Rattle.hosts_join.proofs.Knowing.{twice}
@@ -116,12 +116,12 @@ spots-named P (r ∷ rows) n all =
     ]
 
 -- an account has the spots of its name
-pub account-spots : (rows : List Row) (i : ℕ) → i < length (grouped rows) → (get_or (grouped rows) i nobody).spots ≡ spots_of rows (get_or (grouped rows) i nobody).name
+pub account-spots : (rows : List Row) (i : ℕ) → i < length (grouped rows) → (get_or (grouped rows) i no_account).spots ≡ spots_of rows (get_or (grouped rows) i no_account).name
 unfolding grouped
 account-spots rows i less =
     let ns = first_appearances (map (λ (r : Row). r.name) rows) in
     let f : List ℕ → Account = λ n. record { name = n; spots = spots_of rows n } in
-    let at = get_or-map f ns i [] nobody (omega (arith, length-map ns f)) in
+    let at = get_or-map f ns i [] no_account (omega (arith, length-map ns f)) in
     ap (λ (a : Account). a.spots) at ∙ ap (spots_of rows) (sym (ap (λ (a : Account). a.name) at))
 
 -- the name of a row is that of an account

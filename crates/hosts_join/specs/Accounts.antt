@@ -120,8 +120,8 @@ all_lines [] = 0
 all_lines (a ∷ names) = length a.spots + all_lines names
 
 -- an account without a host, which stands for an index that is too high
-abbrev pub nobody : Account
-nobody = record { name = []; spots = [] }
+abbrev pub no_account : Account
+no_account = record { name = []; spots = [] }
 
 -- no two rows of one host have one number
 unfoldable pub AreNumberedApart : List Row → Type 0

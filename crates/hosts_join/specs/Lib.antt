@@ -34,3 +34,5 @@ pub mod Laws
 pub mod Standings
 pub mod HostNames
 pub mod NumberFaults
+pub mod FaultOrder
+pub mod ClaimsExample

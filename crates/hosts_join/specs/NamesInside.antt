@@ -1,7 +1,7 @@
 -- What the tables of names stand for.
 -- Words of the code and not of the subject: only private contracts, views and invariants cite them.
 use Rattle.std.specs.Prelude.{◌≡◌, ℕ, ◌<◌, ◌≤◌, ◌^◌, false, map, length, slice_index_or}
-use Rattle.hosts_join.specs.Accounts.{Accounts, all_lines, IsOnceEach, nobody}
+use Rattle.hosts_join.specs.Accounts.{Accounts, all_lines, IsOnceEach, no_account}
 use Rattle.hosts_join.specs.Index.{accounts_in, IsIndex}
 use Rattle.hosts_join.specs.Lawful.{AreLawfulAccounts}
 use Rattle.hosts_join.specs.Order.{AreInByteOrder}
@@ -22,7 +22,7 @@ accounts_of n = record {
 pub record IsNames (n : Inside) : Type 0 where
   pub index : IsIndex n.index
   pub few : length (accounts_in n.index) < 2 ^ 32
-  pub once : (i : ℕ) → IsOnceEach (slice_index_or (accounts_in n.index) i nobody).spots
+  pub once : (i : ℕ) → IsOnceEach (slice_index_or (accounts_in n.index) i no_account).spots
   pub lines : n.all_lines ≡ all_lines (accounts_in n.index)
   pub few_lines : n.all_lines ≤ 4194304
   pub classes : n.classes.items ≡ map (class_of (pairs_of n.given.pins.items)) (accounts_in n.index)

@@ -12,7 +12,7 @@ use Rattle.idtext.specs.First.{or_else, unless}
 use Rattle.logindefs.specs.Ranges.{in_range}
 use Rattle.hosts_join.specs.declared.Spot.{Spot}
 use Rattle.hosts_join.specs.Pairs.{number_of}
-use Rattle.hosts_join.specs.Accounts.{Account, Accounts, Pair, HostEntry, nobody}
+use Rattle.hosts_join.specs.Accounts.{Account, Accounts, Pair, HostEntry, no_account}
 use Rattle.hosts_join.specs.Count.{count_below}
 use Rattle.hosts_join.specs.declared.fault.PoolClass.{PoolClass}
 use Rattle.hosts_join.specs.declared.fault.PoolClass.TheVariants as pool
@@ -228,7 +228,7 @@ joined kind a = unless (refusal kind a) a
 
 -- the account at a place
 abbrev pub account : Accounts → ℕ → Account
-account a i = slice_index_or a.names i nobody
+account a i = slice_index_or a.names i no_account
 
 -- its class
 abbrev pub class_at : Accounts → ℕ → Class

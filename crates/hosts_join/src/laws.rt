@@ -1,4 +1,6 @@
 //! Laws of the join, each the contract of a call that does nothing.
+ghost use Rattle.hosts_join.specs.ClaimsExample.{ExampleOfClaims};
+ghost use Rattle.hosts_join.specs.FaultOrder.{UsersAreToldFirst};
 ghost use Rattle.hosts_join.specs.HostFaults.{AcceptedHostsAreListed, AcceptedUsersHaveGroups};
 ghost use Rattle.hosts_join.specs.HostFaults.{HostFaultsAreThere, PrimaryFaultsAreThere};
 ghost use Rattle.hosts_join.specs.HostNames.{HostNamesAreOneWord, HostNamesAreTheseBytes};
@@ -103,20 +105,36 @@ pub fn lines_count_the_hosts()
 
 /// Where two names with one number are told, they are the first two that are given that number, and
 /// no lesser number is given to two. Where a pool is told as too small, the site has as many names
-/// of its class as are told, and the pool as many numbers, which are fewer; and the pool of system
-/// names is told only where that of regular names is large enough.
+/// of its class as are told, and the pool as many numbers, which are fewer; the pool of system
+/// names is told only where that of regular names is large enough, and a pool only where no number
+/// is given to two names. Neither fault is told where a name is pinned to two numbers, or is given
+/// a reserved one.
 pub fn number_faults_are_there()
     ensures clashes { ClashesAreThere }
     ensures pools { SmallPoolsAreThere }
 {}
 
-/// Where a name is told as pinned to two numbers, it is a name of the site, the first place that is
-/// told is the first that pins it, and the second the first that pins it to another number. Where a
-/// pin is told as reserved, its name is the first that is given a reserved number, and the range
-/// that is told is the first that has that number.
+/// Where a name is told as pinned to two numbers, it is the first name of the site that is, the
+/// first place that is told is the first that pins it, and the second the first that pins it to
+/// another number. Where a pin is told as reserved, no name is pinned to two numbers, its name is
+/// the first that is given a reserved number, and the range that is told is the first that has that
+/// number.
 pub fn pin_faults_are_there()
     ensures disagree { DisagreeingPinsAreThere }
     ensures reserved { ReservedPinsAreThere }
+{}
+
+/// Where hosts are not joined, the fault that is told is that of their users, or, where the users
+/// are joined, that of their groups.
+pub fn users_are_told_first()
+    ensures { UsersAreToldFirst }
+{}
+
+/// An example of the names that are given a number before all others, in the order in which faults
+/// are told of them: the pinned names of the site, as they appear on the hosts, and then those that
+/// no host has, as their lines stand in the pins text.
+pub fn claims_by_example()
+    ensures { ExampleOfClaims }
 {}
 
 /// A list of hosts is accepted only where there are 1 to 64 of them, with lawful names that differ;

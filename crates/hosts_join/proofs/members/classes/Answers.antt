@@ -1,7 +1,7 @@
 use Rattle.std.proofs.Common.{◌≡◌, ◌<◌, List, [], ◌∷◌, ◌++◌, length, map, take, get_or, sym, ◌∙◌, ap, arith, refl, Some, None}
 use Rattle.std.specs.Option.{option_map}
 use Rattle.std.proofs.lemmas.List.{take_more, map-append}
-use Rattle.hosts_join.specs.Accounts.{nobody}
+use Rattle.hosts_join.specs.Accounts.{no_account}
 use Rattle.hosts_join.specs.declared.Source.{Source}
 use Rattle.hosts_join.specs.declared.Class.{Class}
 use Rattle.hosts_join.specs.declared.fault.SiteFault.TheVariants.{PinDisagrees}
@@ -16,22 +16,22 @@ pub returns-in-Err-clause-disagreed : goal.returns-in-Err-clause-disagreed
 returns-in-Err-clause-disagreed c =
     let names = accounts_in c.args.index.now in
     let k = c.loop-place.place in
-    let n = get_or names k nobody in
+    let n = get_or names k no_account in
     let kind = c.args.kind in
     let hosts = map entry_of c.args.hosts.now in
     let same : rules.sources_among c.number.result c.spots.result.now ≡ rules.sources c.args.pins.now n = rw (c.number.ensures, c.spots.ensures, c.name-name.ensures) refl in
     let d : rules.disagreement (rules.sources c.args.pins.now n) ≡ Some (c.in-Err.first, c.in-Err.second) = ap rules.disagreement (sym same) ∙ c.in-Err.ensures.disagreed in
     let told : rules.disagrees kind hosts c.args.pins.now n ≡ Some (PinDisagrees kind n.name (rules.host_name hosts c.in-Err.first) (rules.host_name hosts c.in-Err.second)) = ap (option_map (λ (d : Source × Source). PinDisagrees kind n.name (rules.host_name hosts d.0) (rules.host_name hosts d.1))) d in
-    rw (c.new.ensures, c.name-name.ensures, c.host_name.ensures, c.host_name-in-Err.ensures) (first_some-at (rules.disagrees kind hosts c.args.pins.now) names k nobody _ (omega (arith, c.len-place-end.ensures, c.loop-place-test.true)) c.loop-place.invariant.agreed told)
+    rw (c.new.ensures, c.name-name.ensures, c.host_name.ensures, c.host_name-in-Err.ensures) (first_some-at (rules.disagrees kind hosts c.args.pins.now) names k no_account _ (omega (arith, c.len-place-end.ensures, c.loop-place-test.true)) c.loop-place.invariant.agreed told)
 
 pub loop-place-preserved : goal.loop-place-preserved
 loop-place-preserved c =
     let names = accounts_in c.args.index.now in
     let k = c.loop-place.place in
-    let n = get_or names k nobody in
+    let n = get_or names k no_account in
     let hosts = map entry_of c.args.hosts.now in
     let here : k < length names = omega (arith, c.len-place-end.ensures, c.loop-place-test.true) in
-    let more = take_more names k nobody here in
+    let more = take_more names k no_account here in
     let same : rules.sources_among c.number.result c.spots.result.now ≡ rules.sources c.args.pins.now n = rw (c.number.ensures, c.spots.ensures, c.name-name.ensures) refl in
     let class : c.in-Ok.class ≡ rules.class_of c.args.pins.now n = c.in-Ok.ensures.class ∙ (rw (same, c.spots.ensures) refl) in
     let agrees : rules.disagreement (rules.sources c.args.pins.now n) ≡ None = ap rules.disagreement (sym same) ∙ c.in-Ok.ensures.agreed in

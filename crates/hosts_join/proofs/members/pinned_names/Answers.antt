@@ -1,7 +1,7 @@
 use Rattle.std.proofs.Common.{◌≡◌, ℕ, ◌<◌, List, [], ◌∷◌, ◌++◌, length, take, get_or, sym, ◌∙◌, ap, arith, refl}
 use Rattle.std.proofs.lemmas.List.{map-append, append-nil, get_or-map, length-map}
 use Rattle.hosts_join.specs.Accounts as spec
-use Rattle.hosts_join.specs.Accounts.{nobody}
+use Rattle.hosts_join.specs.Accounts.{no_account}
 use Rattle.hosts_join.specs.declared.Class.{Class}
 use Rattle.hosts_join.specs.declared.Class.TheVariants.{Regular, System, Pinned}
 use Rattle.hosts_join.proofs.members.pinned_names.Goals.{in-Pinned+in_ok-push, in_default}
@@ -22,9 +22,9 @@ loop-place-preserved c =
     let pins = c.args.pins.now in
     let k = c.loop-place.place in
     let here : k < length names = omega (arith, c.loop-place-test.true, ap length c.requires.classes, length-map names (rules.class_of pins)) in
-    let n = get_or names k nobody in
-    let more = flat_map-more (λ n. rules.pinned_to (rules.class_of pins n) n.name) names k nobody here in
-    let class : get_or c.args.classes.now k (Pinned 0) ≡ rules.class_of pins n = ap (λ (cs : List Class). get_or cs k (Pinned 0)) c.requires.classes ∙ get_or-map (rules.class_of pins) names k nobody (Pinned 0) here in
+    let n = get_or names k no_account in
+    let more = flat_map-more (λ n. rules.pinned_to (rules.class_of pins n) n.name) names k no_account here in
+    let class : get_or c.args.classes.now k (Pinned 0) ≡ rules.class_of pins n = ap (λ (cs : List Class). get_or cs k (Pinned 0)) c.requires.classes ∙ get_or-map (rules.class_of pins) names k no_account (Pinned 0) here in
     rw more (elim c.match-classes-place.branch [
       | in-Pinned+in_ok-push w ↦
           let class' = sym class ∙ w.in-Pinned.is in
