@@ -1,7 +1,7 @@
 -- When an account file is accepted: a law over all its lines at once, where the table asks line by
 -- line.
 -- Sources: passwd(5) and group(5) (one account a line); that neither a name nor a number stands
--- twice is a rule of this product.
+-- twice is this project's own rule.
 use Rattle.std.specs.Prelude.{◌≡◌, ◌↔◌, ℕ, ◌+◌, ◌<◌, List, [], length, map, slice_index_or, Option}
 use Rattle.std.specs.Prelude.{Result, Ok}
 use Rattle.std.specs.Result.{IsOk}

@@ -1,7 +1,7 @@
 -- The rows of passwd and of group, each as its line gives it.
 -- Sources: passwd(5), DESCRIPTION (name, password, UID, GID, comment, home directory, shell,
 -- between colons); group(5), DESCRIPTION (name, password, GID, user list, between colons, the users
--- between commas). The order of checks is a rule of this product.
+-- between commas). The order of checks is this project's own rule.
 use Rattle.std.specs.Prelude.{ℕ, List, [], ◌∷◌, Option, Some, None, Result, Ok, not, if◌then◌else◌}
 use Rattle.std.specs.Prelude.{filter, length, ◌==◌}
 use Rattle.idtext.specs.declared.faults.TextCode.TheVariants.{BadFields, BadName, BadNumber}

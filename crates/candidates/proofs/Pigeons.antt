@@ -5,7 +5,7 @@ use Rattle.std.proofs.Math.Bool.{and-false, and-true}
 use Rattle.std.proofs.lemmas.Bool.{cases_Bool, cases_lt, cases_eq, ne_eqb, and_parts, false≢true, true≢false, both_ways, not-true, leb-true}
 use Rattle.std.proofs.lemmas.List.Sums.{sum_by-cons}
 use Rattle.logindefs.specs.declared.ranges.IdRange.{IdRange}
-use Rattle.hosts_join.specs.Accounts.{Accounts, Account, nobody}
+use Rattle.hosts_join.specs.Accounts.{Accounts, Account, no_account}
 use Rattle.hosts_join.specs.Count.{count_below}
 use Rattle.hosts_join.specs.Lawful.{AreLawfulAccounts}
 use Rattle.hosts_join.specs.RangeLists.{lies_in_some}
@@ -177,7 +177,7 @@ module _ (a : Accounts) (start : List (Option ℕ)) (ws : List ℕ) (k : ℕ) (n
         let long : length numbers ≡ length a.names = s.len ∙ st.len in
         let many = pigeons (in_pool a c) (2 ^ 32) numbers (λ v l t. elim (cases_Bool (is_had numbers v)) [ inl y ↦ y | inr f ↦ absurd (let no' = all v l in let no'' = rw (t, f) at no' in true≢false no'') ]) in
         let none' : passes (in_pool a c) (gift numbers i) ≡ false = ap (passes (in_pool a c)) none in
-        let few = count-less (passes (in_pool a c)) (λ (n : Account). same_class c (class_of a.pins n)) None nobody numbers a.names i long (λ j l t. passed c j (omega (arith, long)) (gift numbers j) refl t) (omega (arith, long)) none' free in
+        let few = count-less (passes (in_pool a c)) (λ (n : Account). same_class c (class_of a.pins n)) None no_account numbers a.names i long (λ j l t. passed c j (omega (arith, long)) (gift numbers j) refl t) (omega (arith, long)) none' free in
         omega (arith, many, few, enough))
   ]
     where

@@ -6,7 +6,7 @@ use Rattle.std.proofs.lemmas.Bool.{cases_Bool, cases_lt, cases_eq, eqb-true, eq-
 use Rattle.std.proofs.lemmas.List.Elements.{All-nil, All-head, All-tail, All-push}
 use Rattle.candidates.specs.declared.Candidate.{Candidate}
 use Rattle.std.proofs.lemmas.List.Folds.{list_any_more}
-use Rattle.hosts_join.specs.Accounts.{Accounts, Account, lines, all_lines, nobody}
+use Rattle.hosts_join.specs.Accounts.{Accounts, Account, lines, all_lines, no_account}
 use Rattle.hosts_join.specs.Rules.{account, in_pool, is_free_class, class_at}
 use Rattle.hosts_join.specs.declared.Class.{Class}
 use Rattle.hosts_join.specs.declared.Class.TheVariants.{Pinned, Regular, System}
@@ -110,7 +110,7 @@ lines-none a v e = among a.spots e
       | inr f ↦ let e' = rw f at e in omega (arith, among ss e', sum_by-cons (λ (s : Spot). cond (s.number == v) 1 0) s ss, ap (λ b. cond {A = ℕ} b 1 0) f)
     ]
 
-pub lines-few : (names : List Account) (i v : ℕ) → lines (get_or names i nobody) v ≤ all_lines names
+pub lines-few : (names : List Account) (i v : ℕ) → lines (get_or names i no_account) v ≤ all_lines names
 lines-few [] i v = omega arith
 lines-few (a ∷ names) zero v = omega (arith, count_by-le-length (λ (s : Spot). s.number == v) a.spots)
 lines-few (a ∷ names) (suc i) v = omega (arith, lines-few names i v)

@@ -11,7 +11,7 @@ use Rattle.idtext.specs.First.{or_else}
 use Rattle.hosts_join.specs.declared.Which.{Which}
 use Rattle.hosts_join.specs.declared.Class.{Class}
 use Rattle.hosts_join.specs.declared.Class.TheVariants.{Pinned, Regular, System}
-use Rattle.hosts_join.specs.Accounts.{Account, Accounts, place_of, nobody}
+use Rattle.hosts_join.specs.Accounts.{Account, Accounts, place_of, no_account}
 use Rattle.hosts_join.specs.Rules.{is_name, in_pool, first_some}
 use Rattle.hosts_join.specs.Rules.{account, class_at}
 use Rattle.hosts_join.specs.Lawful.{AreLawfulAccounts}
@@ -75,8 +75,8 @@ names_exact a rows h m =
     ⊎_elim
     (λ (e : is_name a.names m ≡ true).
     let there : Passing (λ (x : Account). bytes_eq m x.name) a.names = passing_any (λ (x : Account). bytes_eq m x.name) a.names e in
-    let same : m ≡ (get_or a.names there.0 nobody).name = same_names m _ (there.2 nobody) in
-    let at : get_or (map (λ (x : Account). x.name) a.names) there.0 [] ≡ (get_or a.names there.0 nobody).name = get_or-map (λ (x : Account). x.name) a.names there.0 nobody [] there.1 in
+    let same : m ≡ (get_or a.names there.0 no_account).name = same_names m _ (there.2 no_account) in
+    let at : get_or (map (λ (x : Account). x.name) a.names) there.0 [] ≡ (get_or a.names there.0 no_account).name = get_or-map (λ (x : Account). x.name) a.names there.0 no_account [] there.1 in
     let listed = not-false _ (two there.0 [] (rw (length-map a.names (λ (x : Account). x.name)) there.1)) in
     e ∙ sym (ap (is_listed rows) (same ∙ sym at) ∙ listed))
     (λ (e : is_name a.names m ≡ false).
@@ -100,9 +100,9 @@ none_missing a rows exact =
     ap unknown at ∙ ap not (exact m ∙ any_from (λ (r : Row). bytes_eq m r.name) rows i blank l' (eq_itself m))) in
     let two : filter unlisted (map (λ (x : Account). x.name) a.names) ≡ [] = keeps_none unlisted (map (λ (x : Account). x.name) a.names) (λ i d l.
     let l' : i < length a.names = rw (← length-map a.names (λ (x : Account). x.name)) l in
-    let at = get_or-map (λ (x : Account). x.name) a.names i nobody d l' in
+    let at = get_or-map (λ (x : Account). x.name) a.names i no_account d l' in
     let m = (account a i).name in
-    ap unlisted at ∙ ap not (sym (exact m) ∙ any_from (λ (x : Account). bytes_eq m x.name) a.names i nobody l' (eq_itself m))) in
+    ap unlisted at ∙ ap not (sym (exact m) ∙ any_from (λ (x : Account). bytes_eq m x.name) a.names i no_account l' (eq_itself m))) in
     ap (λ ns. least_name (ns ++ filter unlisted (map (λ (x : Account). x.name) a.names))) one ∙ ap (λ ns. least_name ns) two
 
 -- 2. Pools and pins

@@ -9,7 +9,7 @@ use Rattle.std.proofs.lemmas.List.Elements.{Contains-append_left, Contains-appen
 use Rattle.idtext.specs.First.{or_else}
 use Rattle.hosts_join.specs.declared.Which.{Which}
 use Rattle.hosts_join.specs.declared.Which.TheVariants.{User, Group}
-use Rattle.hosts_join.specs.Accounts.{Account, Accounts, nobody, place_of}
+use Rattle.hosts_join.specs.Accounts.{Account, Accounts, no_account, place_of}
 use Rattle.hosts_join.specs.Lawful.{AreLawfulAccounts}
 use Rattle.hosts_join.specs.Rules.{account, class_at, first_some, in_pool, is_name}
 use Rattle.ownership.specs.Files.{File, by_group, by_user}
@@ -164,7 +164,7 @@ not_listed s name none = false_from_ne_true (is_listed s.rows name) (λ e.
 not_of_site : (a : Accounts) (name : List ℕ) → ¬ IsOfSite a name → is_name a.names name ≡ false
 not_of_site a name none = false_from_ne_true (is_name a.names name) (λ e.
     let there = passing_any (λ (x : Account). bytes_eq name x.name) a.names e in
-    none (there.0, (there.1, sym (same_names name (account a there.0).name (there.2 nobody)))))
+    none (there.0, (there.1, sym (same_names name (account a there.0).name (there.2 no_account)))))
 
 -- ---- what each search finds, where a fault of its sort is there
 
@@ -176,7 +176,7 @@ module _ (kind : Which) (a : Accounts) (files : List File) (s : Side) (lawful : 
       by (inl one) =
           let i = one.0.0 in
           Contains-append_right _ _ n (in_filter (λ (m : List ℕ). not (is_listed s.rows m)) _ n
-          (in_map (λ (x : Account). x.name) a.names (account a i) n (at_index a.names i nobody one.0.1.0) one.0.1.1)
+          (in_map (λ (x : Account). x.name) a.names (account a i) n (at_index a.names i no_account one.0.1.0) one.0.1.1)
           (ap not (not_listed s n one.1)))
       by (inr one) =
           let at = row_at s n one.0.0 one.0.1.0 one.0.1.1 in

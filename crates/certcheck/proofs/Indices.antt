@@ -5,7 +5,7 @@ use Rattle.std.specs.List.{find, list_any}
 use Rattle.std.specs.Str.{bytes_eq}
 use Rattle.std.proofs.lemmas.Slice.Eq.{bytes_eq-Decides}
 use Rattle.std.proofs.lemmas.Bool.{cases_Bool, cond-true, cond-false, or_left, or_right, false_from_ne_true}
-use Rattle.hosts_join.specs.Accounts.{Account, Accounts, place, place_of, nobody}
+use Rattle.hosts_join.specs.Accounts.{Account, Accounts, place, place_of, no_account}
 use Rattle.hosts_join.specs.Rules.{is_name}
 use Rattle.hosts_join.specs.Rules.{account}
 use Rattle.hosts_join.specs.Lawful.{AreLawfulAccounts}
@@ -37,7 +37,7 @@ same_names n m h = (bytes_eq-Decides n m).0 h
 -- the index of a name of the site
 pub index_found : (a : Accounts) (n : ℕ) (m : List ℕ) → AreLawfulAccounts a → n < length a.names → (account a n).name ≡ m → place_of a.names m ≡ Some n
 index_found a n m are l same =
-    place_here (λ (x : Account). bytes_eq m x.name) a.names n nobody l
+    place_here (λ (x : Account). bytes_eq m x.name) a.names n no_account l
     (λ k h. false_from_ne_true _ (λ e. let at = are.names_differ k n (omega (arith, h, l)) l (sym (same_names m (account a k).name e) ∙ sym same) in absurd (omega (arith, at, h))))
     ((bytes_eq-Decides m (account a n).name).1 (sym same))
 
@@ -59,7 +59,7 @@ pub record HasRow (a : Accounts) (rows : List Row) (n : ℕ) : Type 0 where
 pub row_at_index : (a : Accounts) (rows : List Row) (n : ℕ) → AreAscending rows → ((m : List ℕ) → is_name a.names m ≡ is_listed rows m) → n < length a.names → HasRow a rows n
 row_at_index a rows n up exact l =
     let m = (account a n).name in
-    let known : is_name a.names m ≡ true = any_from (λ (x : Account). bytes_eq m x.name) a.names n nobody l (eq_itself m) in
+    let known : is_name a.names m ≡ true = any_from (λ (x : Account). bytes_eq m x.name) a.names n no_account l (eq_itself m) in
     let there : Passing (λ (r : Row). bytes_eq m r.name) rows = passing_any (λ (r : Row). bytes_eq m r.name) rows (sym (exact m) ∙ known) in
     let same : (row rows there.0).name ≡ m = sym (same_names m (row rows there.0).name (there.2 blank)) in
     let found = row_found rows there.0 m up there.1 same in
@@ -85,7 +85,7 @@ index_of_row a rows i are up exact l =
     let m = (row rows i).name in
     let listed : is_listed rows m ≡ true = any_from (λ (r : Row). bytes_eq m r.name) rows i blank l (eq_itself m) in
     let there : Passing (λ (x : Account). bytes_eq m x.name) a.names = passing_any (λ (x : Account). bytes_eq m x.name) a.names (exact m ∙ listed) in
-    let same : (account a there.0).name ≡ m = sym (same_names m (account a there.0).name (there.2 nobody)) in
+    let same : (account a there.0).name ≡ m = sym (same_names m (account a there.0).name (there.2 no_account)) in
     let found = row_found rows i m up l refl in
     let name : row_named rows (account a there.0).name ≡ Some (row rows i) = ap (row_named rows) same ∙ found in
     record {

@@ -13,7 +13,7 @@ use Rattle.std.proofs.lemmas.List.FromFn.{get_or-map-range_with_len, length-map-
 use Rattle.std.proofs.lemmas.List.Sorted.{ranks_by, sorted_far, IsPermutation-map, All-permutation, list_any-IsPermutation, sum_by-IsPermutation}
 use Rattle.std.proofs.lemmas.Bool.{false≢true}
 use Rattle.idtext.specs.Names.{is_lawful_name}
-use Rattle.hosts_join.specs.Accounts.{Account, Accounts, nobody}
+use Rattle.hosts_join.specs.Accounts.{Account, Accounts, no_account}
 use Rattle.hosts_join.specs.Order.{name_at}
 use Rattle.hosts_join.specs.Rules.{account, is_name}
 use Rattle.hosts_join.specs.Lawful.{AreLawfulAccounts}
@@ -69,7 +69,7 @@ all_rows a mapping ys zs us are sol of = λ k d l.
     let id : get_or mapping k 0 ≤ 4294967294 = sol.ids k 0 (omega (arith, in', sol.numbers)) in
     let fits : get_or ys k 0 < 2 ^ 64 = sol.fits k 0 (omega (arith, in', sol.ys)) in
     record {
-      lawful = ap is_lawful_name (of.names k d in') ∙ are.lawful k nobody in';
+      lawful = ap is_lawful_name (of.names k d in') ∙ are.lawful k no_account in';
       number = omega (arith, id, of.numbers k d in');
       y = omega (arith, fits, of.ys k d in');
     }
@@ -83,7 +83,7 @@ same_listed : (a : Accounts) (mapping ys : List ℕ) (us : List Row) (m : List �
 same_listed a mapping ys us m of =
     let lists : map (λ (x : Account). x.name) a.names ≡ map (λ (r : Row). r.name) us = same_lists _ _ (length-map a.names (λ (x : Account). x.name) ∙ sym of.len ∙ sym (length-map us (λ (r : Row). r.name))) (λ k d l.
     let in' : k < length a.names = rw (← length-map a.names (λ (x : Account). x.name)) l in
-    get_or-map (λ (x : Account). x.name) a.names k nobody d in' ∙ sym (of.names k blank in') ∙ sym (get_or-map (λ (r : Row). r.name) us k blank d (omega (arith, in', of.len)))) in
+    get_or-map (λ (x : Account). x.name) a.names k no_account d in' ∙ sym (of.names k blank in') ∙ sym (get_or-map (λ (r : Row). r.name) us k blank d (omega (arith, in', of.len)))) in
     any-map (bytes_eq m) (λ (x : Account). x.name) a.names ∙ ap (list_any (bytes_eq m)) lists ∙ sym (any-map (bytes_eq m) (λ (r : Row). r.name) us)
 
 -- no two rows of the solution have one name

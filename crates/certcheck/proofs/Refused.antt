@@ -10,7 +10,7 @@ use Rattle.hosts_join.specs.declared.Which.{Which}
 use Rattle.hosts_join.specs.declared.Which.TheVariants.{User, Group}
 use Rattle.hosts_join.specs.declared.Class.{Class}
 use Rattle.hosts_join.specs.declared.Class.TheVariants.{Pinned, Regular, System}
-use Rattle.hosts_join.specs.Accounts.{Account, Accounts, nobody, place_of}
+use Rattle.hosts_join.specs.Accounts.{Account, Accounts, no_account, place_of}
 use Rattle.hosts_join.specs.Rules.{account, class_at, in_pool, is_free_class, is_name}
 use Rattle.ownership.specs.Files.{File, by_group, by_user}
 use Rattle.ownership.specs.Potentials.{potential_sum, value_at}
@@ -37,10 +37,10 @@ given : (s : Side) (r : Row) (number : ℕ) → Contains s.rows r → r.number �
 given s r number there e = let P : ℕ → Type 0 = λ v. HasNumber s r.name v in subst P e (r.y, there)
 
 account_there : (a : Accounts) (x : Account) (name : List ℕ) → Contains a.names x → x.name ≡ name → IsOfSite a name
-account_there a x name there e = (there.0, (there.1, ap (λ (y : Account). y.name) (get_or_default a.names there.0 nobody x there.1 ∙ there.2) ∙ e))
+account_there a x name there e = (there.0, (there.1, ap (λ (y : Account). y.name) (get_or_default a.names there.0 no_account x there.1 ∙ there.2) ∙ e))
 
 not_of_site : (a : Accounts) (name : List ℕ) → is_name a.names name ≡ false → IsOfSite a name → ⊥
-not_of_site a name none at = false≢true (sym none ∙ any_from (λ (x : Account). bytes_eq name x.name) a.names at.0 nobody at.1.0 ((bytes_eq-Decides name (account a at.0).name).1 (sym at.1.1)))
+not_of_site a name none at = false≢true (sym none ∙ any_from (λ (x : Account). bytes_eq name x.name) a.names at.0 no_account at.1.0 ((bytes_eq-Decides name (account a at.0).name).1 (sym at.1.1)))
 
 not_of_certificate : (s : Side) (name : List ℕ) → is_listed s.rows name ≡ false → IsOfCertificate s name → ⊥
 not_of_certificate s name none has =
@@ -51,7 +51,7 @@ not_of_certificate s name none has =
 -- the index of a name
 name_at : (a : Accounts) (name : List ℕ) (i : ℕ) → place_of a.names name ≡ Some i → IsNameAt a i name
 name_at a name i e =
-    let it = from_place (λ (x : Account). bytes_eq name x.name) a.names i nobody e in
+    let it = from_place (λ (x : Account). bytes_eq name x.name) a.names i no_account e in
     (it.0, sym (same_names name (account a i).name it.1))
 
 -- ---- what each step finds

@@ -2,7 +2,7 @@
 use Rattle.std.proofs.Common.{◌≡◌, ℕ, zero, suc, ◌+◌, ◌-◌, ◌<◌, ◌≤◌, true, false, cond, List, [], ◌∷◌, length, get_or, sym, ap, ◌∙◌, arith}
 use Rattle.std.proofs.lemmas.List.{get_or-map}
 use Rattle.std.proofs.lemmas.Bool.{cond-true, cond-false}
-use Rattle.hosts_join.specs.Accounts.{Account, Accounts, nobody}
+use Rattle.hosts_join.specs.Accounts.{Account, Accounts, no_account}
 use Rattle.hosts_join.specs.Rules.{account, class_at, is_free_class}
 use Rattle.ownership.specs.Counts.{Tally, told_kept, told_total}
 use Rattle.ownership.specs.Mappings.{number_at}
@@ -14,10 +14,10 @@ use Rattle.certcheck.specs.Certificate.{Row, AreAllZ}
 use Rattle.certcheck.specs.Check.{number_named, y_named, mapping_of, potentials_of}
 
 pub mapping_at : (a : Accounts) (rows : List Row) (i : ℕ) → i < length a.names → number_at (mapping_of a rows) i ≡ number_named rows (account a i).name
-mapping_at a rows i l = get_or-map (λ (x : Account). number_named rows x.name) a.names i nobody 0 l
+mapping_at a rows i l = get_or-map (λ (x : Account). number_named rows x.name) a.names i no_account 0 l
 
 pub y_at : (a : Accounts) (rows : List Row) (i : ℕ) → i < length a.names → potential_at (potentials_of a rows) i ≡ y_named rows (account a i).name
-y_at a rows i l = get_or-map (λ (x : Account). y_named rows x.name) a.names i nobody 0 l
+y_at a rows i l = get_or-map (λ (x : Account). y_named rows x.name) a.names i no_account 0 l
 
 -- what the free names' numbers weigh
 abbrev pub weighing : Accounts → List Tally → List Row → ℕ → ℕ

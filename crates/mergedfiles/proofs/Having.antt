@@ -8,7 +8,7 @@ use Rattle.std.proofs.lemmas.List.{map-append, length-map, get_or-map}
 use Rattle.accounts.specs.Rows.{Passwd, Group}
 use Rattle.logindefs.specs.declared.ranges.IdRange.{IdRange}
 use Rattle.hosts_join.specs.declared.host.Host.{Host}
-use Rattle.hosts_join.specs.Accounts.{Account, Accounts, Row, host_rows, rows_from, spots_of, grouped, first_appearances, nobody}
+use Rattle.hosts_join.specs.Accounts.{Account, Accounts, Row, host_rows, rows_from, spots_of, grouped, first_appearances, no_account}
 use Rattle.hosts_join.specs.Kinds.{user_rows, group_rows}
 use Rattle.hosts_join.specs.Rules.{account}
 use Rattle.hosts_join.specs.Site.{Joined}
@@ -36,13 +36,13 @@ any-at (n ∷ ns) (suc i) d h = elim (cases_Bool (bytes_eq (get_or ns i d) n)) [
 ]
 
 -- an account's name is that of a row
-named : (rows : List Row) (i : ℕ) → i < length (grouped rows) → list_any (bytes_eq (get_or (grouped rows) i nobody).name) (row_names rows) ≡ true
+named : (rows : List Row) (i : ℕ) → i < length (grouped rows) → list_any (bytes_eq (get_or (grouped rows) i no_account).name) (row_names rows) ≡ true
 unfolding grouped
 named rows i h =
     let ns = first_appearances (row_names rows) in
     let with-spots : List ℕ → Account = λ n. record { name = n; spots = spots_of rows n } in
     let h' : i < length ns = omega (arith, length-map ns with-spots) in
-    rw (get_or-map with-spots ns i [] nobody h', ← any-first_appearances (get_or ns i []) (row_names rows)) (any-at ns i [] h')
+    rw (get_or-map with-spots ns i [] no_account h', ← any-first_appearances (get_or ns i []) (row_names rows)) (any-at ns i [] h')
 
 module _ {R V : Type 0} (name : R → List ℕ) (number : R → ℕ) (table : Host → List R) (regular system : Host → IdRange) (on : List ℕ → Host → Option V)
     (missing : (n : List ℕ) (h : Host) → on n h ≡ None → find (λ x. bytes_eq n (name x)) (table h) ≡ None) where

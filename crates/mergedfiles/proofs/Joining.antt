@@ -11,7 +11,7 @@ use Rattle.accounts.specs.Laws.{AreDistinct}
 use Rattle.logindefs.specs.declared.ranges.IdRange.{IdRange}
 use Rattle.hosts_join.specs.declared.Spot.{Spot}
 use Rattle.hosts_join.specs.declared.host.Host.{Host}
-use Rattle.hosts_join.specs.Accounts.{Account, Row, standing_on, host_rows, rows_from, spots_of, spot_of, grouped, first_appearances, nobody}
+use Rattle.hosts_join.specs.Accounts.{Account, Row, standing_on, host_rows, rows_from, spots_of, spot_of, grouped, first_appearances, no_account}
 use Rattle.hosts_join.specs.Accounts.{Accounts}
 use Rattle.hosts_join.specs.Hosts.{IsLawfulHost}
 use Rattle.hosts_join.specs.Kinds.{user_rows, group_rows}
@@ -117,12 +117,12 @@ module _ {R : Type 0} (name : R → List ℕ) (number : R → ℕ) where
         ∙ ap (λ t. t ++ filter_map f (spots_of later n)) (one-host (front ++ h ∷ hs) n (length front) h (All-head IsLawfulHost h hs lawful) (slice_get-front front h hs))
         ∙ ap (λ t. filter_map (on n) (h ∷ []) ++ t) rest' ∙ sym (filter_map-append (on n) (h ∷ []) hs)
 
-among : (rows : List Row) (ns : List (List ℕ)) (i : ℕ) → i < length (map (λ n. account_with n (spots_of rows n)) ns) → (get_or (map (λ n. account_with n (spots_of rows n)) ns) i nobody).spots ≡ spots_of rows (get_or (map (λ n. account_with n (spots_of rows n)) ns) i nobody).name
+among : (rows : List Row) (ns : List (List ℕ)) (i : ℕ) → i < length (map (λ n. account_with n (spots_of rows n)) ns) → (get_or (map (λ n. account_with n (spots_of rows n)) ns) i no_account).spots ≡ spots_of rows (get_or (map (λ n. account_with n (spots_of rows n)) ns) i no_account).name
 among rows [] i h = absurd (omega arith)
 among rows (n ∷ ns) zero h = refl
 among rows (n ∷ ns) (suc i) h = among rows ns i (omega arith)
 
-spots-grouped : (rows : List Row) (i : ℕ) → i < length (grouped rows) → (get_or (grouped rows) i nobody).spots ≡ spots_of rows (get_or (grouped rows) i nobody).name
+spots-grouped : (rows : List Row) (i : ℕ) → i < length (grouped rows) → (get_or (grouped rows) i no_account).spots ≡ spots_of rows (get_or (grouped rows) i no_account).name
 unfolding grouped
 spots-grouped rows i h = among rows (first_appearances (map (λ (r : Row). r.name) rows)) i h
 

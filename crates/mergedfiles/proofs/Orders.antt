@@ -15,7 +15,7 @@ use Rattle.std.proofs.lemmas.List.FromFn.{fill_by_all, get_or-enumerate_from, le
 use Rattle.std.proofs.lemmas.List.Sorted.{IsPermutation-map}
 use Rattle.std.proofs.lemmas.Map.Keys.{IsDistinct-from_apart}
 use Rattle.std.proofs.lemmas.Map.Text.{is_eq-slice_cmp}
-use Rattle.hosts_join.specs.Accounts.{Account, Accounts, nobody}
+use Rattle.hosts_join.specs.Accounts.{Account, Accounts, no_account}
 use Rattle.hosts_join.specs.Order.{name_at, AreInByteOrder}
 use Rattle.hosts_join.specs.Lawful.{AreLawfulAccounts}
 use Rattle.hosts_join.specs.Rules.{account}
@@ -57,14 +57,14 @@ names-differ : (a : Accounts) → AreLawfulAccounts a → IsDistinct (λ (n o : 
 names-differ a lawful = IsDistinct-from_apart (λ (n o : List ℕ). is_eq (slice_cmp nat_cmp n o)) (map (λ (x : Account). x.name) a.names) (λ i j d low high.
     let high' : j < length a.names = omega (arith, length-map a.names (λ (x : Account). x.name)) in
     let low' : i < length a.names = omega arith in
-    rw (get_or-map (λ (x : Account). x.name) a.names i nobody d low', get_or-map (λ (x : Account). x.name) a.names j nobody d high', is_eq-slice_cmp (account a i).name (account a j).name) (not-tied (bytes_eq (account a i).name (account a j).name) (λ e.
+    rw (get_or-map (λ (x : Account). x.name) a.names i no_account d low', get_or-map (λ (x : Account). x.name) a.names j no_account d high', is_eq-slice_cmp (account a i).name (account a j).name) (not-tied (bytes_eq (account a i).name (account a j).name) (λ e.
     let same : i ≡ j = lawful.names_differ i j low' high' (bytes_same (account a i).name (account a j).name e) in omega arith)))
 
 name-order : (a : Accounts) (ns : List (List ℕ)) → AreLawfulAccounts a → IsPermutation (map (λ (x : Account). x.name) a.names) ns → IsSorted (slice_cmp nat_cmp) ns → ns ≡ by_bytes a
 name-order a ns lawful perm sorted = in-order nat_list_cmp_total (λ (n : List ℕ). n) (map (λ (x : Account). x.name) a.names) ns perm sorted (names-differ a lawful)
 
 all-names : (names : List Account) → map (name_at names) (range_with_len 0 (length names)) ≡ map (λ (x : Account). x.name) names
-all-names names = sym (fill_by_all (name_at names) (map (λ (x : Account). x.name) names) (length names) [] (length-map names (λ (x : Account). x.name)) (λ k low. get_or-map (λ (x : Account). x.name) names k nobody [] low))
+all-names names = sym (fill_by_all (name_at names) (map (λ (x : Account). x.name) names) (length names) [] (length-map names (λ (x : Account). x.name)) (λ k low. get_or-map (λ (x : Account). x.name) names k no_account [] low))
 
 -- the names at places in byte order
 pub in-byte-order : (a : Accounts) (order : List ℕ) → AreLawfulAccounts a → AreInByteOrder a.names order → map (name_at a.names) order ≡ by_bytes a

@@ -13,7 +13,7 @@ use Rattle.accounts.specs.Rows as row
 use Rattle.accounts.specs.Tables.{group_table}
 use Rattle.accounts.proofs.AcceptedLemmas.{group_accepted}
 use Rattle.hosts_join.specs.declared.host.Host.{Host}
-use Rattle.hosts_join.specs.Accounts.{nobody}
+use Rattle.hosts_join.specs.Accounts.{no_account}
 use Rattle.hosts_join.specs.Rules.{account}
 use Rattle.hosts_join.specs.Site.{Joined}
 use Rattle.ownership.specs.declared.mapping.Mappings.{Mappings}
@@ -81,7 +81,7 @@ module _ (hosts : List Host) (site : Joined) (m : Mappings) (is : IsNumberedInPa
       let members = joined-are (groups_named name hosts) (all-members-plain name hosts (recursion_from_All WasReadInPart hosts is.read)) in
       let users = join_with_byte 44 (joined_users (groups_named name hosts)) in
       let between : IsPlain users = members-plain (joined_users (groups_named name hosts)) members in
-      let lawful : is_lawful_name name ≡ true = is.lawful.groups.lawful p.0 nobody within in
+      let lawful : is_lawful_name name ≡ true = is.lawful.groups.lawful p.0 no_account within in
       let number : p.1 ≤ 4294967294 = omega (arith, at.1, is.groups.ids p.0 0 at.0) in
       record {
         line = bare name group.password p.1 users;

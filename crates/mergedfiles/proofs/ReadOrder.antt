@@ -14,7 +14,7 @@ use Rattle.std.proofs.lemmas.List.Elements.{All-from_recursion}
 use Rattle.std.proofs.lemmas.List.FromFn.{get_or-enumerate_from, length-enumerate_from}
 use Rattle.std.proofs.lemmas.Option.{same_Some}
 use Rattle.accounts.specs.Laws.{AreDistinct}
-use Rattle.hosts_join.specs.Accounts.{Account, Accounts, nobody, place, place_of}
+use Rattle.hosts_join.specs.Accounts.{Account, Accounts, no_account, place, place_of}
 use Rattle.hosts_join.specs.Lawful.{AreLawfulAccounts}
 use Rattle.hosts_join.specs.Rules.{account}
 use Rattle.hosts_join.proofs.Grouping.{bytes_same, bytes_refl}
@@ -38,13 +38,13 @@ place_first p (x ∷ xs) (suc i) d h hit before =
     rw (before zero (omega arith), rest) refl
 
 pub place-named : (a : Accounts) (i : ℕ) → AreLawfulAccounts a → i < length a.names → place_of a.names (account a i).name ≡ Some i
-place-named a i lawful h = place_first (λ (x : Account). bytes_eq (account a i).name x.name) a.names i nobody h (bytes_refl (account a i).name) (λ j l. elim (cases_Bool (bytes_eq (account a i).name (account a j).name)) [
+place-named a i lawful h = place_first (λ (x : Account). bytes_eq (account a i).name x.name) a.names i no_account h (bytes_refl (account a i).name) (λ j l. elim (cases_Bool (bytes_eq (account a i).name (account a j).name)) [
   | inl t ↦ let same : i ≡ j = lawful.names_differ i j h (omega (arith, h, l)) (bytes_same (account a i).name (account a j).name t) in absurd (omega (arith, l, same))
   | inr f ↦ f
 ])
 
 pub place-name : (a : Accounts) (name : List ℕ) (i : ℕ) → place_of a.names name ≡ Some i → (account a i).name ≡ name
-place-name a name i e = sym (bytes_same name (account a i).name (place-holds (λ (x : Account). bytes_eq name x.name) a.names i nobody e).1)
+place-name a name i e = sym (bytes_same name (account a i).name (place-holds (λ (x : Account). bytes_eq name x.name) a.names i no_account e).1)
 
 -- ---- the names by number
 

@@ -13,7 +13,7 @@ use Rattle.accounts.specs.Rows.{Passwd, Group, passwd_from, passwd_line}
 use Rattle.accounts.specs.Tables.{passwd_table}
 use Rattle.accounts.proofs.AcceptedLemmas.{passwd_accepted}
 use Rattle.hosts_join.specs.declared.host.Host.{Host}
-use Rattle.hosts_join.specs.Accounts.{nobody}
+use Rattle.hosts_join.specs.Accounts.{no_account}
 use Rattle.hosts_join.specs.Kinds.{group_at}
 use Rattle.hosts_join.specs.Rules.{account}
 use Rattle.hosts_join.specs.Site.{Joined}
@@ -87,7 +87,7 @@ module _ (hosts : List Host) (site : Joined) (m : Mappings) (is : IsNumberedInPa
       let plain = user-plain host name row (host-holds WasReadInPart hosts h host is.read here) found in
       let primary = primary-of site m.groups is.groups is.for_groups h host (is.knows h host here) row plain.gid in
       let gid = new_gid site.groups m.groups host row.gid in
-      let lawful : is_lawful_name name ≡ true = is.lawful.users.lawful p.0 nobody within in
+      let lawful : is_lawful_name name ≡ true = is.lawful.users.lawful p.0 no_account within in
       let user : p.1 ≤ 4294967294 = omega (arith, at.1, is.users.ids p.0 0 at.0) in
       let group : gid ≤ 4294967294 = primary.small in
       record {
