@@ -6,13 +6,13 @@ use Rattle.std.specs.List.{count_by, sum_by}
 use Rattle.std.proofs.lemmas.List.Elements.{All-head, All-tail}
 use Rattle.std.proofs.lemmas.List.Sums.{sum_by-cons}
 use Rattle.std.proofs.lemmas.Bool.{cases_Bool, eqb-true}
-use Rattle.hosts_join.specs.Accounts.{Account, Accounts, lines, all_lines, nobody, owner, number_on, has_number}
+use Rattle.hosts_join.specs.Accounts.{Account, Accounts, lines, all_lines, no_account, owner, number_on, has_number}
 use Rattle.hosts_join.specs.Rules.{account}
 use Rattle.hosts_join.specs.Lawful.{AreLawfulAccounts}
 use Rattle.hosts_join.proofs.Pairing.{place-holds}
 use Rattle.hosts_join.proofs.Once.{number-once}
 use Rattle.ownership.specs.Sums.{sum_below}
-use Rattle.ownership.specs.Faults.{unowned, uid_fault, gid_fault, OwnedFilesAreAll}
+use Rattle.ownership.specs.Owned.{HaveOwners, OwnedFilesAreAll}
 use Rattle.ownership.specs.Files.{File, by_user, by_group, owned_files, owns, has_there, is_number, is_place, kept, total}
 use Rattle.ownership.specs.Mappings.{number_at}
 use Rattle.ownership.specs.Costs.{changes, cost_of, changed_rows}
@@ -38,7 +38,7 @@ over_indices size t u agree (f ∷ fs) =
 
 -- the owner of a file has the file's number on its host
 pub owner-number : (a : Accounts) (h v k : ℕ) → AreLawfulAccounts a → owner a.names h v ≡ Some k → (k < length a.names) × (number_on (account a k) h ≡ Some v)
-owner-number a h v k lawful is = let there = place-holds (has_number h v) a.names k nobody is in (there.0, number-once h v (account a k).spots (lawful.once k) there.1)
+owner-number a h v k lawful is = let there = place-holds (has_number h v) a.names k no_account is in (there.0, number-once h v (account a k).spots (lawful.once k) there.1)
 
 -- whether a file keeps its number
 abbrev stays : List ℕ → Option ℕ → ℕ → Bool
@@ -159,20 +159,18 @@ rows_and_lines a m =
     let moved = λ (i : ℕ). count_by (λ s. not (s.number == number_at m i)) (account a i).spots in
     let sums = sum_below-add keeps moved (length a.names) in
     let same = sum_below-same (λ i. keeps i + moved i) (λ i. length (account a i).spots) (length a.names) (λ i l. count-both (λ s. s.number == number_at m i) (account a i).spots) in
-    let all = sum_below-places (λ (x : Account). length x.spots) a.names nobody in
+    let all = sum_below-places (λ (x : Account). length x.spots) a.names no_account in
     omega (arith, sums, same, all, all_lines-sum a.names)
 
--- where no file is without an account, each file has an owner of each kind
+-- where each file has a user and a group, those that have one are all of them
 pub all-owned : OwnedFilesAreAll
 all-owned site [] owned = (refl, refl)
 all-owned site (f ∷ fs) owned =
-    let rest = all-owned site fs (All-tail (λ f. unowned site f.host f.uid f.gid ≡ None) f fs owned) in
-    let here = both (owner site.users.names f.host f.uid) (owner site.groups.names f.host f.gid) (All-head (λ f. unowned site f.host f.uid f.gid ≡ None) f fs owned) in
+    let rest = all-owned site fs (All-tail (λ f. HaveOwners site f.host f.uid f.gid) f fs owned) in
+    let here : HaveOwners site f.host f.uid f.gid = All-head (λ f. HaveOwners site f.host f.uid f.gid) f fs owned in
     let users = sum_by-cons (λ (g : File). cond (is_some (owner site.users.names g.host g.number)) 1 0) (record { host = f.host; number = f.uid }) (by_user fs) in
     let groups = sum_by-cons (λ (g : File). cond (is_some (owner site.groups.names g.host g.number)) 1 0) (record { host = f.host; number = f.gid }) (by_group fs) in
-    (omega (arith, users, rest.0, here.0), omega (arith, groups, rest.1, here.1))
+    (omega (arith, users, rest.0, counts here.user), omega (arith, groups, rest.1, counts here.group))
   where
-    both : (u g : Option ℕ) → uid_fault u f.uid (gid_fault g f.gid) ≡ None → (cond {A = ℕ} (is_some u) 1 0 ≡ 1) × (cond {A = ℕ} (is_some g) 1 0 ≡ 1)
-    both None g e = absurd (cc)
-    both (Some i) None e = absurd (cc)
-    both (Some i) (Some j) e = (refl, refl)
+    counts : {b : Bool} → b ≡ true → cond {A = ℕ} b 1 0 ≡ 1
+    counts is = ap (λ b. cond {A = ℕ} b 1 0) is

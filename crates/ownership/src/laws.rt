@@ -1,5 +1,6 @@
 //! Laws of certifying potentials and of owners, each the contract of a call that does nothing.
-ghost use Rattle.ownership.specs.Faults.{OwnedFilesAreAll};
+ghost use Rattle.ownership.specs.FillingExample.{ExampleOfFilling, ExampleOfWeights};
+ghost use Rattle.ownership.specs.Owned.{OwnedFilesAreAll};
 ghost use Rattle.ownership.specs.Potentials.{CertifiedIsOptimal, CertifiedIsTight};
 
 /// An admissible mapping with certifying potentials is optimal, over lawful accounts: no admissible
@@ -20,4 +21,11 @@ pub fn certified_is_tight()
 /// and so are those that have a group.
 pub fn owned_files_are_all()
     ensures { OwnedFilesAreAll }
+{}
+
+/// Weights and a filling by example: of three users who have one number on three hosts, what it
+/// weighs for two; and that the two who do not keep it are served in byte order of their names.
+pub fn filling_by_example()
+    ensures weights { ExampleOfWeights }
+    ensures filling { ExampleOfFilling }
 {}

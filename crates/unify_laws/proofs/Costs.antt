@@ -6,7 +6,7 @@ use Rattle.std.specs.Prelude.{not, ◌==◌, if◌then◌else◌}
 use Rattle.std.proofs.lemmas.Bool.{cases_eq, eq-eqb, ne_eqb}
 use Rattle.std.proofs.lemmas.List.Sums.{sum_by-append, sum_by-cons}
 use Rattle.mtree_inv.specs.declared.entry.Entry.{Entry}
-use Rattle.hosts_join.specs.Accounts.{Account, Accounts, Pair, nobody, owner}
+use Rattle.hosts_join.specs.Accounts.{Account, Accounts, Pair, no_account, owner}
 use Rattle.hosts_join.specs.Kinds.{user_at, group_at}
 use Rattle.hosts_join.specs.Laws.{IsOwnedAsTold}
 use Rattle.hosts_join.specs.Pairs.{number_of}
@@ -42,7 +42,7 @@ same_number n v = elim (cases_eq n v) [
 field_same : (a : Accounts) (m : List ℕ) (pairs : List Pair) → SayMapping a m pairs → (h v : ℕ) (told : Option (List ℕ)) → IsOwnedAsTold a.names h v told → changed pairs told v ≡ cond {A = ℕ} (changes m (owner a.names h v) v) 1 0
 field_same a m pairs say h v None is = ap (λ o. cond {A = ℕ} (changes m o v) 1 0) (sym is)
 field_same a m pairs say h v (Some name) is =
-    let at = place-holds (λ (x : Account). bytes_eq name x.name) a.names is.0 nobody is.2 in
+    let at = place-holds (λ (x : Account). bytes_eq name x.name) a.names is.0 no_account is.2 in
     let numbered : number_of pairs name ≡ Some (number_at m is.0) = ap (number_of pairs) (bytes_same name (account a is.0).name at.1) ∙ say.numbers is.0 at.0 in
     rw numbered (same_number (number_at m is.0) v) ∙ ap (λ o. cond {A = ℕ} (changes m o v) 1 0) (sym is.1)
 

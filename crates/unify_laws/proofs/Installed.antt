@@ -9,7 +9,7 @@ use Rattle.std.proofs.lemmas.List.Elements.{All-head, All-tail, All-map, All-wea
 use Rattle.std.proofs.lemmas.Option.{same_Some, slice_get-get_or, slice_get-map}
 use Rattle.accounts.specs.Rows.{Passwd, Group}
 use Rattle.mtree_inv.specs.declared.entry.Entry.{Entry}
-use Rattle.hosts_join.specs.Accounts.{Account, Accounts, Pair, nobody, place_of}
+use Rattle.hosts_join.specs.Accounts.{Account, Accounts, Pair, no_account, place_of}
 use Rattle.hosts_join.specs.Kinds.{user_at, group_at}
 use Rattle.hosts_join.specs.Laws.{KnowsHost, KnowsItsHosts}
 use Rattle.hosts_join.specs.Pairs.{number_of}
@@ -63,13 +63,13 @@ module _ (a : Accounts) (m : List ℕ) (pairs : List Pair) (say : SayMapping a m
   pub paired : (n : List ℕ) (v : ℕ) → number_of pairs n ≡ Some v → HasNumber a m n v
   paired n v e =
       let at = name-place a.names n (sym (say.names n) ∙ ap is_some e) in
-      let here = place-holds (λ (x : Account). bytes_eq n x.name) a.names at.0 nobody at.1 in
+      let here = place-holds (λ (x : Account). bytes_eq n x.name) a.names at.0 no_account at.1 in
       let same : number_of pairs n ≡ Some (number_at m at.0) = ap (number_of pairs) (bytes_same n (account a at.0).name here.1) ∙ say.numbers at.0 here.0 in
       (at.0, at.1, same_Some (number_at m at.0) v (sym same ∙ e))
 
   pub is-paired : (n : List ℕ) (v : ℕ) → HasNumber a m n v → number_of pairs n ≡ Some v
   is-paired n v has =
-      let here = place-holds (λ (x : Account). bytes_eq n x.name) a.names has.0 nobody has.1 in
+      let here = place-holds (λ (x : Account). bytes_eq n x.name) a.names has.0 no_account has.1 in
       ap (number_of pairs) (bytes_same n (account a has.0).name here.1) ∙ say.numbers has.0 here.0 ∙ ap Some has.2
 
 module _ {Row : Type 0} (name : Row → List ℕ) (number : Row → ℕ) (a : Accounts) (m : List ℕ) (pairs : List Pair) (say : SayMapping a m pairs) where

@@ -6,7 +6,7 @@ use Rattle.std.specs.Prelude.{not, ◌||◌}
 use Rattle.std.specs.Str.{bytes_eq}
 use Rattle.std.proofs.lemmas.Bool.{false_from_ne_true}
 use Rattle.std.proofs.lemmas.List.Elements.{All-map, All-filter, All-from_get_or}
-use Rattle.hosts_join.specs.Accounts.{Account, Accounts, Pair, nobody}
+use Rattle.hosts_join.specs.Accounts.{Account, Accounts, Pair, no_account}
 use Rattle.hosts_join.specs.Hosts.{spares_group, spares_user}
 use Rattle.hosts_join.specs.Kinds.{user_at, group_at}
 use Rattle.hosts_join.specs.Laws.{IsOwnedAsTold, LeavesOut}
@@ -75,7 +75,7 @@ new_number : (a : Accounts) (m : List ℕ) (pairs : List Pair) → SayMapping a 
     → (h v : ℕ) (told : Option (List ℕ)) (spared : Bool) → IsOwnedAsTold a.names h v told → (spared ≡ true → is_reserved a.reserved v ≡ true) → (is_some told || spared) ≡ true
     → IsNewNumber told pairs v (renumbered a m h v)
 new_number a m pairs say ok leaves h v (Some name) spared is reserved allowed =
-    let at = place-holds (λ (x : Account). bytes_eq name x.name) a.names is.0 nobody is.2 in
+    let at = place-holds (λ (x : Account). bytes_eq name x.name) a.names is.0 no_account is.2 in
     ap (number_of pairs) (bytes_same name (account a is.0).name at.1) ∙ say.numbers is.0 at.0 ∙ ap (λ o. Some (number_under m o v)) (sym is.1)
 new_number a m pairs say ok leaves h v None spared is reserved allowed =
     let stays : renumbered a m h v ≡ v = ap (λ o. number_under m o v) is in

@@ -2,7 +2,7 @@
 use Rattle.std.specs.List.{All, slice_get}
 use Rattle.std.specs.Option.{option_map, is_some}
 use Rattle.std.specs.Prelude.{◌||◌}
-use Rattle.std.proofs.Common.{◌≡◌, ℕ, suc, ◌+◌, Bool, true, false, List, [], ◌∷◌, map, get_or, Option, Some, None, refl, ap, subst, ◌∙◌, arith, sym}
+use Rattle.std.proofs.Common.{◌≡◌, ℕ, suc, ◌+◌, Bool, true, false, List, [], ◌∷◌, map, get_or, Some, refl, ap, subst, ◌∙◌, arith, sym}
 use Rattle.std.proofs.lemmas.List.Elements.{All-nil, All-append, All-map}
 use Rattle.std.proofs.lemmas.Option.{slice_get-map}
 use Rattle.logindefs.specs.declared.ranges.IdRange.{IdRange}
@@ -11,10 +11,9 @@ use Rattle.hosts_join.specs.Hosts.{spares_group, spares_user}
 use Rattle.hosts_join.specs.Laws.{KnowsHost}
 use Rattle.hosts_join.specs.Site.{Joined}
 use Rattle.hosts_join.specs.declared.host.Host.{Host}
-use Rattle.hosts_join.specs.Accounts.{owner}
 use Rattle.hosts_join.specs.Kinds.{user_at, group_at}
 use Rattle.hosts_join.specs.RangeLists.{lies_in_some}
-use Rattle.ownership.specs.Faults.{unowned, uid_fault, gid_fault}
+use Rattle.ownership.specs.Owned.{HaveOwners}
 use Rattle.ownership.specs.Files.{Added}
 use Rattle.unify.specs.Outcomes.{hosts_in}
 use Rattle.unify.specs.Reading.{added_on, added_from}
@@ -23,32 +22,20 @@ use Rattle.unify.proofs.Owners.{owner-told}
 use Rattle.unify.proofs.Reading.{all-at}
 use Rattle.unify_laws.specs.Laws.{HaveAccounts, NothingSparedAllOwned, OwnersAgree}
 
-no-fault : (user group : Option ℕ) (uid gid : ℕ) → is_some user ≡ true → is_some group ≡ true → uid_fault user uid (gid_fault group gid) ≡ None
-no-fault None group uid gid u g = absurd (cc)
-no-fault (Some i) None uid gid u g = absurd (cc)
-no-fault (Some i) (Some j) uid gid u g = refl
+pub owned-there : (site : Joined) (h : ℕ) (host : Host) (uid gid : ℕ) → KnowsHost site h host → HaveAccounts host uid gid → HaveOwners site h uid gid
+owned-there site h host uid gid knows has = record {
+  user = owner-told site.users.names h uid (user_at host.users uid) (knows.users uid) ∙ has.user;
+  group = owner-told site.groups.names h gid (group_at host.groups gid) (knows.groups gid) ∙ has.group;
+}
 
-pub both-there : (user group : Option ℕ) (uid gid : ℕ) → uid_fault user uid (gid_fault group gid) ≡ None → (is_some user ≡ true) × (is_some group ≡ true)
-both-there None group uid gid e = absurd (cc)
-both-there (Some i) None uid gid e = absurd (cc)
-both-there (Some i) (Some j) uid gid e = (refl, refl)
-
-pub owned-there : (site : Joined) (h : ℕ) (host : Host) (uid gid : ℕ) → KnowsHost site h host → is_some (user_at host.users uid) ≡ true → is_some (group_at host.groups gid) ≡ true → unowned site h uid gid ≡ None
-owned-there site h host uid gid knows u g =
-    no-fault _ _ uid gid (owner-told site.users.names h uid (user_at host.users uid) (knows.users uid) ∙ u) (owner-told site.groups.names h gid (group_at host.groups gid) (knows.groups gid) ∙ g)
-
-pub owned-here : (site : Joined) (h : ℕ) (host : Host) (uid gid : ℕ) → KnowsHost site h host → unowned site h uid gid ≡ None → (is_some (user_at host.users uid) ≡ true) × (is_some (group_at host.groups gid) ≡ true)
-owned-here site h host uid gid knows e =
-    let both = both-there (owner site.users.names h uid) (owner site.groups.names h gid) uid gid e in (
-      sym (owner-told site.users.names h uid (user_at host.users uid) (knows.users uid)) ∙ both.0,
-      sym (owner-told site.groups.names h gid (group_at host.groups gid) (knows.groups gid)) ∙ both.1,
-    )
+pub owned-here : (site : Joined) (h : ℕ) (host : Host) (uid gid : ℕ) → KnowsHost site h host → HaveOwners site h uid gid → HaveAccounts host uid gid
+owned-here site h host uid gid knows has = record {
+  user = sym (owner-told site.users.names h uid (user_at host.users uid) (knows.users uid)) ∙ has.user;
+  group = sym (owner-told site.groups.names h gid (group_at host.groups gid) (knows.groups gid)) ∙ has.group;
+}
 
 pub owners_agree : OwnersAgree
-owners_agree joined h host uid gid knows = (
-  (λ none. let both = owned-here joined h host uid gid knows none in record { user = both.0; group = both.1 }),
-  (λ has. owned-there joined h host uid gid knows has.user has.group),
-)
+owners_agree joined h host uid gid knows = (owned-here joined h host uid gid knows, owned-there joined h host uid gid knows)
 
 -- ---- hosts that spare nothing
 
@@ -66,22 +53,22 @@ accounts_there host uid gid none are = record {
   group = allowed_there (is_some (group_at host.groups gid)) (spares_group host gid) (no_run host.spared_groups gid none.groups) are.group;
 }
 
-unowned-from : (joined : Joined) (start : ℕ) (hosts : List (Host × List Entry)) → ((h : ℕ) (host : Host) (files : List Entry) → slice_get hosts h ≡ Some (host, files) → All (λ f. unowned joined (start + h) f.uid f.gid ≡ None) files) → All (λ f. unowned joined f.host f.uid f.gid ≡ None) (added_from start hosts)
-unowned-from joined start [] each_host = All-nil (λ (f : Added). unowned joined f.host f.uid f.gid ≡ None)
-unowned-from joined start (here ∷ more) each_host =
-    let first : All (λ f. unowned joined start f.uid f.gid ≡ None) here.1 = subst (λ n. All (λ f. unowned joined n f.uid f.gid ≡ None) here.1) (omega arith) (each_host 0 here.0 here.1 refl) in
-    All-append (λ (f : Added). unowned joined f.host f.uid f.gid ≡ None) (map (added_on start) here.1) (added_from (start + 1) more)
-    (All-map (λ (f : Added). unowned joined f.host f.uid f.gid ≡ None) (added_on start) here.1 first)
-    (unowned-from joined (start + 1) more (λ h host files at. subst (λ n. All (λ f. unowned joined n f.uid f.gid ≡ None) files) (omega arith) (each_host (suc h) host files at)))
+owned-from : (joined : Joined) (start : ℕ) (hosts : List (Host × List Entry)) → ((h : ℕ) (host : Host) (files : List Entry) → slice_get hosts h ≡ Some (host, files) → All (λ f. HaveOwners joined (start + h) f.uid f.gid) files) → All (λ f. HaveOwners joined f.host f.uid f.gid) (added_from start hosts)
+owned-from joined start [] each_host = All-nil (λ (f : Added). HaveOwners joined f.host f.uid f.gid)
+owned-from joined start (here ∷ more) each_host =
+    let first : All (λ f. HaveOwners joined start f.uid f.gid) here.1 = subst (λ n. All (λ f. HaveOwners joined n f.uid f.gid) here.1) (omega arith) (each_host 0 here.0 here.1 refl) in
+    All-append (λ (f : Added). HaveOwners joined f.host f.uid f.gid) (map (added_on start) here.1) (added_from (start + 1) more)
+    (All-map (λ (f : Added). HaveOwners joined f.host f.uid f.gid) (added_on start) here.1 first)
+    (owned-from joined (start + 1) more (λ h host files at. subst (λ n. All (λ f. HaveOwners joined n f.uid f.gid) files) (omega arith) (each_host (suc h) host files at)))
 
 pub nothing_spared_all_owned : NothingSparedAllOwned
 nothing_spared_all_owned site whole none = record {
   by_tables = have;
-  over_all_hosts = unowned-from site.joined 0 site.hosts (λ h host files here k d l.
+  over_all_hosts = owned-from site.joined 0 site.hosts (λ h host files here k d l.
       let f = get_or files k d in
       let has = have h host files here k d l in
       let from_zero : h ≡ 0 + h = omega arith in
-      subst (λ n. unowned site.joined n f.uid f.gid ≡ None) from_zero (owned-there site.joined h host f.uid f.gid (whole.each_host h host files here).known has.user has.group));
+      subst (λ n. HaveOwners site.joined n f.uid f.gid) from_zero (owned-there site.joined h host f.uid f.gid (whole.each_host h host files here).known has));
 }
   where
     have : (h : ℕ) (host : Host) (files : List Entry) → slice_get site.hosts h ≡ Some (host, files) → All (λ f. HaveAccounts host f.uid f.gid) files

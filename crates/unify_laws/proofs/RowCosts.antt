@@ -8,7 +8,7 @@ use Rattle.std.proofs.lemmas.List.{append-nil, append_assoc}
 use Rattle.std.proofs.lemmas.List.Sums.{sum_by-append, sum_by-cons, sum_by_push}
 use Rattle.logindefs.specs.declared.ranges.IdRange.{IdRange}
 use Rattle.accounts.specs.Rows.{Passwd, Group}
-use Rattle.hosts_join.specs.Accounts.{Account, Accounts, Pair, Row, grouped, host_rows, nobody, rows_from, spot_of, standing_on}
+use Rattle.hosts_join.specs.Accounts.{Account, Accounts, Pair, Row, grouped, host_rows, no_account, rows_from, spot_of, standing_on}
 use Rattle.hosts_join.specs.Index.{with_row}
 use Rattle.hosts_join.specs.Rules.{account}
 use Rattle.hosts_join.specs.declared.Spot.{Spot}
@@ -93,7 +93,7 @@ module _ (a : Accounts) (m : List ℕ) (pairs : List Pair) (say : SayMapping a m
   by-names : changed_rows a m ≡ sum_by (of_account by_pairs) a.names
   by-names =
       sum_below-same (λ i. count_by (λ (s : Spot). not (s.number == number_at m i)) (account a i).spots) (λ i. of_account by_pairs (account a i)) (length a.names) at-name
-      ∙ sum_below-places (of_account by_pairs) a.names nobody
+      ∙ sum_below-places (of_account by_pairs) a.names no_account
 
 pub changed_rows_agree : ChangedRowsAgree
 changed_rows_agree site m printed whole users groups =

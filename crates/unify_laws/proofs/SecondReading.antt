@@ -1,15 +1,14 @@
 -- What was merged for one reading of a site's inventories is right for a later one of which each row owns as many files.
 use Rattle.std.specs.List.{count_by, find, slice_get}
 use Rattle.std.specs.Option.{is_some, option_map}
-use Rattle.std.specs.Prelude.{◌&&◌, if◌then◌else◌, nat_eq}
-use Rattle.std.proofs.Common.{◌≡◌, ℕ, ◌+◌, ◌*◌, ◌≤◌, suc, Bool, true, List, [], ◌∷◌, length, map, Option, Some, None, Result, Ok, Err, refl, sym, ap, subst, ◌∙◌, arith, ◌==◌, nat_le, cond}
+use Rattle.std.specs.Prelude.{◌&&◌, if◌then◌else◌}
+use Rattle.std.proofs.Common.{◌≡◌, ℕ, ◌+◌, ◌*◌, ◌≤◌, suc, Bool, true, List, [], ◌∷◌, length, map, Option, Some, None, Result, Ok, Err, refl, sym, ap, subst, ◌∙◌, arith, ◌==◌, cond}
 use Rattle.std.proofs.lemmas.Option.{same_Some, slice_get_within}
 use Rattle.std.proofs.lemmas.List.Sums.{sum_by-append}
 use Rattle.accounts.specs.Laws.{AreDistinct}
 use Rattle.accounts.specs.Rows.{Passwd, Group}
 use Rattle.mtree_inv.specs.declared.entry.Entry.{Entry}
 use Rattle.hosts_join.specs.Accounts.{Account, Accounts, lines, owner}
-use Rattle.hosts_join.specs.Count.{count_below}
 use Rattle.hosts_join.specs.Laws.{IsOwnedAsTold}
 use Rattle.hosts_join.specs.Rules.{account, class_at, is_free_class}
 use Rattle.hosts_join.specs.declared.host.Host.{Host}
@@ -134,12 +133,10 @@ module _ (a : Accounts) (files others : List File) (alike : AreAlike a.names fil
 
   same_figures : (m : List ℕ) → figures_of a files m ≡ figures_of a others m
   same_figures m =
-      let kept_is = ap (λ (w : ℕ → ℕ → ℕ). count_below (λ i. is_free_class (class_at a i) && nat_le 1 (w i (number_at m i))) (length a.names)) same_weights in
-      let fresh_is = ap (λ (w : ℕ → ℕ → ℕ). count_below (λ i. is_free_class (class_at a i) && nat_eq (w i (number_at m i)) 0) (length a.names)) same_weights in
       let files_are : owned_files a.names files ≡ owned_files a.names others = alike (λ f. is_some (owner a.names f.host f.number)) (λ f passes. passes) in
       let cost_is = same_cost m in
       let f = figures_of a files m in
-      λ j. record { names = f.names; pinned = f.pinned; kept = kept_is j; fresh = fresh_is j; files = files_are j; changed_files = cost_is j; rows = f.rows; changed_rows = f.changed_rows }
+      λ j. record { names = f.names; pinned = f.pinned; kept = f.kept; fresh = f.fresh; files = files_are j; changed_files = cost_is j; rows = f.rows; changed_rows = f.changed_rows }
 
 -- ---- the site as it was read last
 

@@ -16,7 +16,7 @@ use Rattle.accounts.proofs.LawLemmas.{group-law, passwd-law}
 use Rattle.logindefs.specs.Ranges.{in_range}
 use Rattle.logindefs.specs.declared.ranges.HostRanges.{HostRanges}
 use Rattle.mtree_inv.specs.declared.entry.Entry.{Entry}
-use Rattle.hosts_join.specs.Accounts.{Account, Accounts, Pair, nobody}
+use Rattle.hosts_join.specs.Accounts.{Account, Accounts, Pair, no_account}
 use Rattle.hosts_join.specs.Hosts.{IsLawfulHost}
 use Rattle.hosts_join.specs.Kinds.{group_rows-table, user_rows-table}
 use Rattle.hosts_join.specs.Laws.{LeavesOut}
@@ -315,7 +315,7 @@ offered-free a leaves i v within (inl pinned) = leaves.pins i v within pinned
 offered-free a leaves i v within (inr pooled) = leaves.pools (class_at a i) v pooled
 
 name-there : (a : Accounts) (i : ℕ) → i < length a.names → is_name a.names (account a i).name ≡ true
-name-there a i within = list_any_at (λ (b : Account). bytes_eq (account a i).name b.name) a.names i nobody within (bytes_refl (account a i).name)
+name-there a i within = list_any_at (λ (b : Account). bytes_eq (account a i).name b.name) a.names i no_account within (bytes_refl (account a i).name)
 
 module _ (texts : List HostText) (rules : SiteRules) (begun : BegunSite) (is : site_begun texts rules ≡ Ok begun) where
   of : IsOfTexts texts rules begun

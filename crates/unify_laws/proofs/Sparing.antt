@@ -3,7 +3,7 @@ use Rattle.std.proofs.Common.{◌≡◌, ℕ, ◌<◌, true, false, List, length
 use Rattle.std.specs.Option.{is_some}
 use Rattle.std.specs.Str.{bytes_eq}
 use Rattle.std.proofs.lemmas.Option.{same_Some}
-use Rattle.hosts_join.specs.Accounts.{Account, Accounts, Pair, nobody}
+use Rattle.hosts_join.specs.Accounts.{Account, Accounts, Pair, no_account}
 use Rattle.hosts_join.specs.Laws.{LeavesOut}
 use Rattle.hosts_join.specs.Pairs.{number_of}
 use Rattle.hosts_join.specs.Rules.{account, class_at, is_name, is_reserved}
@@ -19,7 +19,7 @@ use Rattle.unify_texts.specs.WrittenMap.{SayMapping}
 named_at : (a : Accounts) (n : List ℕ) → is_name a.names n ≡ true → (i : ℕ) × (i < length a.names) × (n ≡ (account a i).name)
 named_at a n h =
     let at = name-place a.names n h in
-    let holds = place-holds (λ (x : Account). bytes_eq n x.name) a.names at.0 nobody at.1 in
+    let holds = place-holds (λ (x : Account). bytes_eq n x.name) a.names at.0 no_account at.1 in
     (at.0, holds.0, bytes_same n (account a at.0).name holds.1)
 
 -- a name that has a number has it by its index

@@ -1,6 +1,6 @@
 -- Laws of every site that was read.
 -- Source: this project's own rule.
-use Rattle.std.specs.Prelude.{◌≡◌, ◌↔◌, ℕ, true, List, [], map, Some, None, Result, Ok}
+use Rattle.std.specs.Prelude.{◌≡◌, ◌↔◌, ℕ, true, List, [], map, Some, Result, Ok}
 use Rattle.std.specs.Prelude.{is_some, slice_get}
 use Rattle.std.specs.List.{All}
 use Rattle.idtext.specs.First.{◌>>=◌, each}
@@ -17,7 +17,7 @@ use Rattle.hosts_join.specs.declared.texts.HostText.{HostText}
 use Rattle.keep_text.specs.KeepTexts.{keep_of}
 use Rattle.keep_text.specs.declared.keep_text.KeepText.{KeepText}
 use Rattle.kept_accounts.specs.Reserving.{UnownedNumbers}
-use Rattle.ownership.specs.Faults.{unowned}
+use Rattle.ownership.specs.Owned.{HaveOwners}
 use Rattle.ownership.specs.declared.mapping.Mappings.{Mappings}
 use Rattle.unify_texts.specs.declared.fault.Fault.{Fault}
 use Rattle.unify_texts.specs.declared.map_text.MapText.{MapText}
@@ -54,7 +54,7 @@ ReadSitesAreWhole =
 abbrev pub OwnersAgree : Type 0
 OwnersAgree =
     (joined : Joined) (h : ℕ) (host : Host) (uid gid : ℕ) → KnowsHost joined h host
-    → (unowned joined h uid gid ≡ None) ↔ HaveAccounts host uid gid
+    → HaveOwners joined h uid gid ↔ HaveAccounts host uid gid
 
 -- each file has a user and a group, by its host's own tables and as well by the accounts over all
 -- hosts
@@ -63,7 +63,7 @@ pub record HasAccountsForAll (site : WholeSite) : Type 0 where
       → slice_get site.hosts h ≡ Some (host, files)
       → All (λ f. HaveAccounts host f.uid f.gid) files
   pub over_all_hosts :
-      All (λ f. unowned site.joined f.host f.uid f.gid ≡ None) (files_of_site site)
+      All (λ f. HaveOwners site.joined f.host f.uid f.gid) (files_of_site site)
 
 -- so it is where no host spares a number
 abbrev pub NothingSparedAllOwned : Type 0
