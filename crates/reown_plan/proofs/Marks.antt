@@ -5,11 +5,12 @@ use Rattle.std.specs.Cmp.Lexicographic.{bytes_decides}
 use Rattle.std.specs.Str.{bytes_eq}
 use Rattle.std.proofs.lemmas.Bool.{eq-eqb, true≢false}
 use Rattle.std.proofs.lemmas.Bool.Decides.{nat_tests}
+use Rattle.sha2.specs.Sha256.{sha256}
 use Rattle.hosts_join.specs.Checks.{is_host_byte, is_host_name}
 use Rattle.reown_plan.specs.declared.mark.PlanMark.{PlanMark}
 use Rattle.reown_plan.specs.Mark.{mark_of, mark_eq}
 use Rattle.reown_plan.specs.PlanData.{PlanData}
-use Rattle.reown_plan.specs.Spelling.{IsHostName}
+use Rattle.reown_plan.specs.Spelling.{IsHostName, spelling}
 
 first_holds : (x y : Bool) → (x && y) ≡ true → x ≡ true
 first_holds true y h = refl
@@ -78,3 +79,7 @@ of_host_bytes name h =
 pub marks_tell_hosts : (a b : PlanData) → IsHostName a.host → IsHostName b.host → mark_of a ≡ mark_of b → a.host ≡ b.host
 marks_tell_hosts a b lawful lawful' same =
     unpadded 64 a.host b.host (short_name a.host lawful) (short_name b.host lawful') (of_host_bytes a.host lawful) (of_host_bytes b.host lawful') (ap (λ (m : PlanMark). m.host) same)
+
+pub marks_tell_texts : (a b : PlanData) → mark_of a ≡ mark_of b
+    → (length (spelling a) ≡ length (spelling b)) × (sha256 (spelling a) ≡ sha256 (spelling b))
+marks_tell_texts a b same = (ap (λ (m : PlanMark). m.length) same, ap (λ (m : PlanMark). m.digest) same)

@@ -1,5 +1,6 @@
 //! What holds of plans and their texts.
-ghost use Rattle.std.specs.Prelude.{◌≡◌, ◌↔◌, ◌++◌, ℕ, List, [], All, Result, Ok, true};
+ghost use Rattle.std.specs.Prelude.{◌≡◌, ◌↔◌, ◌++◌, ℕ, List, [], All, Result, Ok, true, length};
+ghost use Rattle.sha2.specs.Sha256.{sha256};
 ghost use Rattle.ownership.specs.Mappings.{IsMapping};
 ghost use Rattle.ownership.specs.declared.mapping.Mappings.{Mappings};
 ghost use Rattle.hosts_join.specs.Site.{Joined};
@@ -48,12 +49,15 @@ pub fn plans_keep_names()
         → All (λ f. KeepsNames site m host f (owner_after (plan_of site m host files) f)) files }
 {}
 
-/// Marks are compared field by field, and plans of one mark are of one host. That such plans have
-/// one text rests on SHA-256, and is no law.
+/// Marks are compared field by field, and plans of one mark are of one host and have texts of one
+/// length and one digest. That such plans have one text rests on SHA-256, and is no law.
 pub fn marks_tell_plans()
     ensures equal { (a b : PlanMark) → (mark_eq a b ≡ true) ↔ (a ≡ b) }
     ensures hosts { (a b : PlanData) → IsHostName a.host → IsHostName b.host → mark_of a ≡ mark_of b
         → a.host ≡ b.host }
+    ensures texts { (a b : PlanData) → mark_of a ≡ mark_of b
+        → (length (spelling a) ≡ length (spelling b))
+        × (sha256 (spelling a) ≡ sha256 (spelling b)) }
 {}
 
 /// What stands where in a plan: between the spaces of a record's line the old uid and gid, the new
