@@ -87,6 +87,11 @@ abbrev pub IsOtherwise : Owner → Option Names → Type 0
 IsOtherwise after None = ⊥
 IsOtherwise after (Some names) = names.after ≢ after
 
+-- no name of a file that has several was counted with another new owner
+abbrev pub HasOneOwner : Owner → Found → List Asked → Type 0
+HasOneOwner after found asked =
+    has_several_names found ≡ true → ¬ IsOtherwise after (names_of (id_of found) asked)
+
 -- ---- what each call asks for
 
 -- a file is synced by itself, where no sync of all keeps it: that does for links and the like, and

@@ -12,6 +12,7 @@ pub mod Laws
 pub mod Examples
 pub mod Runs
 pub mod CountExample
+pub mod NamesExample
 pub mod ModesNoted
 pub mod OneFile
 pub mod Looks

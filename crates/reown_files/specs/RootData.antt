@@ -4,7 +4,7 @@ use Rattle.std.specs.Prelude.{◌≡◌, ℕ, Bool, List, ◌∷◌, ◌++◌}
 use Rattle.reown_plan.specs.declared.plan.Owner.{Owner}
 use Rattle.reown_files.specs.declared.answers.Seen.{Seen}
 use Rattle.reown_files.specs.declared.walk.Found.{Found}
-use Rattle.reown_files.specs.Asked.{Asked, Told, met, line_of}
+use Rattle.reown_files.specs.Asked.{Asked, Told, met, line_of, HasOneOwner}
 use Rattle.reown_files.specs.Calls.{Called}
 use Rattle.reown_files.specs.Looks.{seen_of}
 use Rattle.reown_files.specs.OneFile.{HasLost}
@@ -27,10 +27,10 @@ abbrev pub IsSeenAt : List ℕ → Owner → RootData → RootData → Type 0
 IsSeenAt path owner old new =
     (found : Found) × (owner ≡ found.owner) × (new.files ≡ Told path found ∷ old.files)
 
--- a file with this owner was met, which is to have that one
+-- a file with this owner was met, which is to have that one by each of its names
 abbrev pub IsMet : List ℕ → Owner → Owner → RootData → RootData → Type 0
 IsMet path after owner old new =
-    (found : Found) × (owner ≡ found.owner)
+    (found : Found) × (owner ≡ found.owner) × HasOneOwner after found old.files
     × (new.files ≡ met old.has_one_journal path after found old.files)
     × (new.lines ≡ old.lines ++ line_of path after found)
 

@@ -2,7 +2,7 @@
 ghost use Rattle.std.specs.Prelude.{◌≡◌, [], ◌∷◌, false, IfOk, IfErr, OnOk, OnErr};
 ghost use Rattle.reown_files.specs.declared.walk.Found.{Found as FoundData};
 ghost use Rattle.reown_files.specs.Asked.{Told, Given, ModeGiven, with_sync, met, HasNamesMet};
-ghost use Rattle.reown_files.specs.Asked.{LacksNames, IsGiven, IsModeSet, IsKept};
+ghost use Rattle.reown_files.specs.Asked.{LacksNames, IsGiven, IsModeSet, IsKept, HasOneOwner};
 ghost use Rattle.reown_files.specs.Looks.{seen_of};
 
 use crate::files::Files;
@@ -168,8 +168,9 @@ impl<'w> Below<'w> {
 
     /// Meets what is at a path, which is to have this owner.
     pub fn meet(&mut self, path: &[u8], after: Owner) -> Result<Found, Trouble>
-        ensures { IfOk result (λ found. self.new.files
+        ensures met { IfOk result (λ found. self.new.files
             ≡ met self.old.has_one_journal path.now after found self.old.files) }
+        ensures one { IfOk result (λ found. HasOneOwner after found self.old.files) }
     {
         let name = self.way.enter(path)?;
         let found = self.find(path, name)?;

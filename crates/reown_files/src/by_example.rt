@@ -1,7 +1,8 @@
-//! Laws over what is asked of a disk, and over a count, by example. Each is the contract of a
-//! function that does nothing.
+//! Laws over what is asked of a disk and of files, and over a count, by example. Each is the
+//! contract of a function that does nothing.
 ghost use Rattle.std.specs.Prelude.{◌≡◌, [], ◌∷◌, true, false};
 ghost use Rattle.reown_files.specs.CountExample.{ExampleOfCounts};
+ghost use Rattle.reown_files.specs.NamesExample.{ExampleOfLooks, ExampleOfMeeting, ExampleOfNames};
 ghost use Rattle.reown_files.specs.Runs.{is_run, note, program, both, run_of_note, run_of_program};
 ghost use Rattle.reown_files.specs.Runs.{unread, unmet, unchecked, unasked, unsettled, unwritten};
 ghost use Rattle.reown_files.specs.Runs.{met_twice, met_for_the_old_owner};
@@ -46,4 +47,12 @@ pub fn lawful_calls_by_example()
 /// A count of ten files by example, in which no two numbers are the same.
 pub fn counts_by_example()
     ensures { ExampleOfCounts }
+{}
+
+/// What looks tell of files of each kind, what is asked when a file is met, and how the names of
+/// one that has several are counted, by example.
+pub fn looks_by_example()
+    ensures looks { ExampleOfLooks }
+    ensures meeting { ExampleOfMeeting }
+    ensures names { ExampleOfNames }
 {}

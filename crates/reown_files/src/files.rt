@@ -5,6 +5,7 @@ ghost use Rattle.reown_files.specs.declared.answers.Trouble.TheVariants.{Memory,
 ghost use Rattle.reown_files.specs.declared.answers.Trouble.TheVariants.{LinkedElsewhere};
 ghost use Rattle.reown_files.specs.Asked.{Told, Counted, Awaited, Given, ModeGiven, Synced};
 ghost use Rattle.reown_files.specs.Asked.{names_of, is_counted, HasAllNames, waits, IsOtherwise};
+ghost use Rattle.reown_files.specs.Asked.{HasOneOwner};
 ghost use Rattle.reown_files.specs.Looks.{id_of as id_in};
 
 use crate::Trouble;
@@ -97,6 +98,7 @@ impl Files {
         after: Owner,
     ) -> Result<(), Trouble>
         ensures counted { OnOk result (self.new ≡ Counted path.now found.now after ∷ self.old) }
+        ensures one { OnOk result (HasOneOwner after found.now self.old) }
         ensures same { OnErr result (self.new ≡ self.old) }
         ensures refused { IfErr result (λ trouble. (trouble ≡ Memory)
             ⊎ ((trouble ≡ LinkedOtherwise)

@@ -28,7 +28,7 @@ mod whole_file;
 
 pub use answers::{Failure, Modes, OpenFault, Seen, Trouble};
 pub use applying::apply;
-pub use by_example::{counts_by_example, lawful_calls_by_example};
+pub use by_example::{counts_by_example, lawful_calls_by_example, looks_by_example};
 pub use counting::{Count, OwnerCounts, Unfit, count_owners};
 pub use disk::Disk;
 pub use log::{Call, Log};

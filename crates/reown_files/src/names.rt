@@ -1,5 +1,5 @@
 //! The names of a file that has several.
-ghost use Rattle.std.specs.Prelude.{◌≡◌, ◌+◌, ◌⊎◌, IfOk, IfErr};
+ghost use Rattle.std.specs.Prelude.{◌≡◌, ◌+◌, ◌⊎◌, IfOk, IfErr, OnOk};
 ghost use Rattle.reown_files.specs.declared.answers.Trouble.TheVariants.{Memory, LinkedOtherwise};
 ghost use Rattle.reown_files.specs.Asked.{with_name, IsOtherwise};
 ghost use Rattle.reown_files.specs.Looks as looks;
@@ -37,6 +37,7 @@ fn one_more(count: u64) -> Result<u64, Trouble>
 /// The names of a file with one more, which is to have this owner.
 pub fn add_name(names: Option<Names>, after: Owner) -> Result<Names, Trouble>
     ensures more { IfOk result (λ more. more ≡ with_name after names) }
+    ensures one { OnOk result (IsOtherwise after names → ⊥) }
     ensures refused { IfErr result
         (λ trouble. (trouble ≡ Memory) ⊎ ((trouble ≡ LinkedOtherwise) × IsOtherwise after names)) }
 {

@@ -1,4 +1,5 @@
 use Rattle.std.proofs.Common.{◌≡◌, ◌⊎◌, Option, Some, true, false, sym, ap, subst, ◌∙◌, rules}
+use Rattle.std.proofs.lemmas.Bool.{true≢false}
 use Rattle.std.specs.BTreeMap.{Updates, is_at}
 use Rattle.std.specs.Map.{lookup}
 use Rattle.reown_files.specs.declared.answers.Trouble.TheVariants.{Memory, LinkedOtherwise}
@@ -18,6 +19,21 @@ returns-in_err-names-clause-refused c =
     c.copied.ensures ∙ c.get.ensures.value ∙ ap (names_at tree) c.id_of-id.ensures ∙ c.self.invariant.0 id ∙ ap (names_of id) c.self.view_is in
     let refused = subst (λ (names : Option Names). (c.in_err-names.field-0.0 ≡ Memory) ⊎ ((c.in_err-names.field-0.0 ≡ LinkedOtherwise) × IsOtherwise c.args.after names)) known c.in_err-names.ensures.refused in
     search (rules, refused)
+
+pub returns-clause-one : goal.returns-clause-one
+returns-clause-one c =
+    let found = c.args.found.now in
+    let id = id_of found in
+    let tree = c.self.inside.names in
+    elim c.if-has_several_names.branch [
+      | then-has_several_names+in_ok-names+in_ok-from_slice+in_ok-insert+in_ok-insert-2 w ↦ λ several otherwise.
+          let known : w.copied.result ≡ names_of id c.args.self.now =
+          w.copied.ensures ∙ w.get.ensures.value ∙ ap (names_at tree) w.id_of-id.ensures ∙ c.self.invariant.0 id ∙ ap (names_of id) c.self.view_is in
+          w.in_ok-names.ensures.one (subst (IsOtherwise c.args.after) (sym known) otherwise)
+      | else-has_several_names w ↦ λ several otherwise.
+          let single : has_several_names found ≡ false = sym c.has_several_names.ensures ∙ w.if-has_several_names.false in
+          absurd (true≢false (sym several ∙ single))
+    ]
 
 pub invariant_of-self-in_err-insert-2 : goal.invariant_of-self-in_err-insert-2
 invariant_of-self-in_err-insert-2 c = (
