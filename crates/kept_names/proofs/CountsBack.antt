@@ -57,17 +57,17 @@ piece-first line rest none = slice_split_at (λ b. b == 10) line 10 rest none re
 line-first : (line rest : List ℕ) → All IsNoEnd line → lines (line ++ 10 ∷ rest) ≡ line ∷ lines rest
 line-first line rest none = lines-cut (line ++ 10 ∷ rest) line rest (piece-first line rest none)
 
-abbrev Row : Type 0
+abbrev pub Row : Type 0
 Row = List ℕ × ℕ
 
-abbrev Fits : Row → Type 0
+abbrev pub Fits : Row → Type 0
 Fits row = row.1 < 2 ^ 64
 
 -- a line without its newline
-abbrev bare : Row → List ℕ
+abbrev pub bare : Row → List ℕ
 bare row = row.0 ++ 32 ∷ decimal row.1
 
-rows-lines : (rows : List Row) → list_all (λ (row : Row). list_all (λ b. not (b == 10)) row.0) rows ≡ true → All Fits rows → lines (flat_map count_line rows) ≡ map bare rows
+pub rows-lines : (rows : List Row) → list_all (λ (row : Row). list_all (λ b. not (b == 10)) row.0) rows ≡ true → All Fits rows → lines (flat_map count_line rows) ≡ map bare rows
 rows-lines [] words small = lines-empty
 rows-lines (row ∷ rows) words small =
     let parts = and_parts (list_all (λ b. not (b == 10)) row.0) (list_all (λ (r : Row). list_all (λ b. not (b == 10)) r.0) rows) words in
@@ -77,7 +77,7 @@ rows-lines (row ∷ rows) words small =
     ap lines (append_assoc (bare row) (10 ∷ []) rest) ∙ line-first (bare row) rest none
     ∙ ap (λ others. bare row ∷ others) (rows-lines rows parts.1 (All-tail Fits row rows small))
 
-rows-said : (rows : List Row) → All Fits rows → filter_map row_of (map bare rows) ≡ rows
+pub rows-said : (rows : List Row) → All Fits rows → filter_map row_of (map bare rows) ≡ rows
 rows-said [] small = refl
 rows-said (row ∷ rows) small =
     let is = decimal_is_IsNumeral row.1 (All-head Fits row rows small) in

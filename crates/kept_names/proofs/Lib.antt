@@ -2,10 +2,12 @@ pub mod AddUp
 pub mod AllTold
 pub mod CountsBack
 pub mod Finds
+pub mod FirstTold
 pub mod InOrder
 pub mod LineWords
 pub mod LinesBack
 pub mod Lost
+pub mod MoreBack
 pub mod Noted
 pub mod Once
 pub mod Tallies

@@ -1,5 +1,6 @@
 -- What `verify` tells of the files of two inventories: how many there are, the lines of those that
--- something is found of, and the exit status (this project's own format).
+-- something is found of, and the exit status.
+-- Source: this project's own formats.
 use Rattle.std.specs.Prelude.{ℕ, ◌-◌, Bool, true, false, List, [], ◌∷◌, ◌++◌, Option, Some, None}
 use Rattle.std.specs.Prelude.{codes, count_by, decimal, flat_map, is_none, nat_lt, if◌then◌else◌}
 use Rattle.std.specs.List.{list_any}
@@ -142,11 +143,14 @@ more_line word number = codes "unify: more " ++ word ++ codes ": " ++ decimal nu
 abbrev pub more_of : ℕ → List ℕ → ℕ → List ℕ
 more_of most word number = if nat_lt most number then more_line word (number - most) else []
 
+-- the lines of all kinds that have more
+abbrev pub more_text : ℕ → List Found → List ℕ
+more_text most found = flat_map (λ word. more_of most word (number_of word found)) kinds
+
 -- all that is told of the findings
 abbrev pub found_text : Renumbering → ℕ → List Found → List ℕ
 found_text renumbering most found =
-    first_lines renumbering most found
-    ++ flat_map (λ word. more_of most word (number_of word found)) kinds
+    first_lines renumbering most found ++ more_text most found
 
 -- ---- the exit status
 

@@ -1,8 +1,9 @@
 -- What the counts, the lines and the exit status of `verify` mean.
 -- Source: this project's own rule and format; chown(2) for what an owner is.
-use Rattle.std.specs.Prelude.{◌≡◌, ◌≢◌, ◌↔◌, ℕ, ◌+◌, ◌<◌, ◌≤◌, ◌^◌}
-use Rattle.std.specs.Prelude.{Bool, List, codes, filter, find, map}
+use Rattle.std.specs.Prelude.{◌≡◌, ◌≢◌, ◌↔◌, ℕ, ◌+◌, ◌-◌, ◌<◌, ◌≤◌, ◌^◌, nat_lt}
+use Rattle.std.specs.Prelude.{Bool, List, ◌++◌, codes, count_by, filter, find, map, take, zip}
 use Rattle.std.specs.Prelude.{length, Option, None, Some, All, filter_map, flat_map, option_map}
+use Rattle.std.specs.Prelude.{is_some, if◌then◌else◌}
 use Rattle.std.specs.Str.{bytes_eq}
 use Rattle.std.specs.Str.Parse.{digits_value}
 use Rattle.hosts_join.specs.Kinds.{user_at, group_at}
@@ -13,9 +14,10 @@ use Rattle.mtree_inv.specs.Files.{HaveDistinctFiles}
 use Rattle.kept_names.specs.Kept.{Found, findings}
 use Rattle.kept_names.specs.Laws.{HasNoFileAt, IsKept, IsLeft}
 use Rattle.kept_names.specs.Telling.{Counts, counts_of, counts_text, found_text}
-use Rattle.kept_names.specs.Telling.{kind_word, line_of, status_of}
+use Rattle.kept_names.specs.Telling.{kind_word, kinds, line_of, more_text, status_of}
 use Rattle.kept_names.specs.declared.names.Accounts.{Accounts}
 use Rattle.kept_names.specs.declared.names.Renumbering.{Renumbering}
+use Rattle.kept_names.specs.declared.finding.What.{What}
 
 -- ---- the counts
 
@@ -62,9 +64,13 @@ CountsAddUp = (renumbering : Renumbering) (before after : List Entry)
 
 -- ---- each finding once
 
+-- the findings of the kind with this word, in their order
+abbrev pub of_kind : List ℕ → List Found → List Found
+of_kind word found = filter (λ f. bytes_eq (kind_word f.what) word) found
+
 -- the files that are told with this word, in the order of what is found
 abbrev pub files_told : List ℕ → List Found → List Entry
-files_told word found = map (λ f. f.file) (filter (λ f. bytes_eq (kind_word f.what) word) found)
+files_told word found = map (λ f. f.file) (of_kind word found)
 
 -- some of these files, each as often as there, and in their order
 abbrev pub AreSomeOf : List Entry → List Entry → Type 0
@@ -101,6 +107,40 @@ EachIsCountedOnce = (renumbering : Renumbering) (before after : List Entry)
 abbrev pub AllAreTold : Type 0
 AllAreTold = (renumbering : Renumbering) (most : ℕ) (found : List Found) → length found ≤ most
     → found_text renumbering most found ≡ flat_map (line_of renumbering) found
+
+-- the findings whose mark is set, in their order
+abbrev pub marked : List Bool → List Found → List Found
+marked marks found = map (λ row. row.1) (filter (λ row. row.0) (zip marks found))
+
+-- Some of the findings have a line each, in their order: of each kind the first, as many as may be
+-- told. After these lines stands how many more there are, and nothing else is told.
+pub record TellsFirst (renumbering : Renumbering) (most : ℕ) (found : List Found) : Type 0 where
+  pub marks : List Bool
+  pub text : found_text renumbering most found
+      ≡ flat_map (line_of renumbering) (marked marks found) ++ more_text most found
+  pub first : (word : List ℕ)
+      → of_kind word (marked marks found) ≡ take most (of_kind word found)
+
+abbrev pub FirstAreTold : Type 0
+FirstAreTold = (renumbering : Renumbering) (most : ℕ) (found : List Found)
+    → TellsFirst renumbering most found
+
+-- how many findings of the kind with this word have no line, if any
+abbrev pub not_told : ℕ → List ℕ → List Found → Option ℕ
+not_told most word found =
+    let number = length (of_kind word found) in
+    if nat_lt most number then Some (number - most) else None
+
+-- each kind that has findings without a line has a line with their number, and there is no other
+pub record TellsMore (most : ℕ) (found : List Found) (text : List ℕ) : Type 0 where
+  pub number : (what : What)
+      → number_told (codes "unify: more " ++ kind_word what ++ codes ":") text
+      ≡ not_told most (kind_word what) found
+  pub no_other : length (lines text) ≡ count_by (λ word. is_some (not_told most word found)) kinds
+
+abbrev pub MoreAreReadBack : Type 0
+MoreAreReadBack = (most : ℕ) (found : List Found) → length found < 2 ^ 64
+    → TellsMore most found (more_text most found)
 
 -- ---- the exit status
 

@@ -4,8 +4,8 @@ ghost use Rattle.kept_names.specs.Laws.{NothingLostIsKept, UnnamedAreTold};
 ghost use Rattle.kept_names.specs.LinesBack.{FindingsAreTellable, LinesAreReadBack};
 ghost use Rattle.kept_names.specs.LinesBack.{TablesAreTellable};
 ghost use Rattle.kept_names.specs.TellingLaws.{AllAreTold, CountsAddUp, CountsAreReadBack};
-ghost use Rattle.kept_names.specs.TellingLaws.{EachIsCountedOnce, EachIsToldOnce};
-ghost use Rattle.kept_names.specs.TellingLaws.{StatusTellsOrder};
+ghost use Rattle.kept_names.specs.TellingLaws.{EachIsCountedOnce, EachIsToldOnce, FirstAreTold};
+ghost use Rattle.kept_names.specs.TellingLaws.{MoreAreReadBack, StatusTellsOrder};
 
 /// No file is found missing or changed exactly where each file of the first inventory is in the
 /// second, with a user and a group that the new account files name as the old ones named those
@@ -57,6 +57,15 @@ pub fn status_tells_order()
 /// in their order, and nothing else is told.
 pub fn all_lines_are_told()
     ensures { AllAreTold }
+{}
+
+/// Of each kind the first findings have a line each, as many as may be told. These lines stand in
+/// the order of what is found. After them each kind that has more findings has a line with the
+/// number of these, and nothing else is told. The number is read back, as long as 64 bits hold that
+/// of all findings.
+pub fn first_lines_are_told()
+    ensures first { FirstAreTold }
+    ensures more { MoreAreReadBack }
 {}
 
 /// Each file of the first inventory is counted once: as kept, missing or changed.

@@ -20,8 +20,9 @@ pub use changes::find_changes;
 pub use finding::{Finding, What};
 pub use laws::{
     all_lines_are_told, changed_files_are_told, counts_add_up, counts_are_read_back,
-    each_finding_is_told_once, left_numbers_are_told, lines_are_read_back, missing_files_are_told,
-    names_are_kept, new_files_are_told, status_tells_order, unnamed_files_are_told,
+    each_finding_is_told_once, first_lines_are_told, left_numbers_are_told, lines_are_read_back,
+    missing_files_are_told, names_are_kept, new_files_are_told, status_tells_order,
+    unnamed_files_are_told,
 };
 pub use names::{Accounts, Renumbering};
 pub use reply::{VerifyReply, verify_reply};

@@ -8,14 +8,18 @@ use accounts::{GroupTable, PasswdTable};
 /// The passwd and the group of a host.
 #[derive(Drop)]
 pub struct Accounts<'a> {
+    /// The users of its passwd.
     pub users: PasswdTable<'a>,
+    /// The groups of its group file.
     pub groups: GroupTable<'a>,
 }
 
 /// The accounts of a host before and after they got new numbers.
 #[derive(Drop)]
 pub struct Renumbering<'a> {
+    /// The accounts that the first inventory was made under.
     pub before: Accounts<'a>,
+    /// The accounts that the second inventory was made under.
     pub after: Accounts<'a>,
 }
 
