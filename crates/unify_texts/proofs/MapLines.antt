@@ -5,7 +5,7 @@ use Rattle.std.proofs.lemmas.Bool.{cases_Bool}
 use Rattle.std.proofs.lemmas.List.{take_more, map_push}
 use Rattle.std.proofs.lemmas.List.Concat.{flat_map-append}
 use Rattle.hosts_join.specs.declared.Which.{Which}
-use Rattle.hosts_join.specs.Accounts.{Account, Accounts, Pair, nobody, place, place_of}
+use Rattle.hosts_join.specs.Accounts.{Account, Accounts, Pair, no_account, place, place_of}
 use Rattle.hosts_join.specs.Lawful.{AreLawfulAccounts}
 use Rattle.hosts_join.specs.Order.{name_at}
 use Rattle.hosts_join.specs.Rules.{account}
@@ -23,7 +23,7 @@ place_first p (x ∷ xs) (suc i) d h hit before =
 
 -- each name of joined accounts is found at its index
 pub place_named : (a : Accounts) (i : ℕ) → AreLawfulAccounts a → i < length a.names → place_of a.names (account a i).name ≡ Some i
-place_named a i lawful h = place_first (λ (x : Account). bytes_eq (account a i).name x.name) a.names i nobody h (bytes_refl (account a i).name) (λ j l. elim (cases_Bool (bytes_eq (account a i).name (account a j).name)) [
+place_named a i lawful h = place_first (λ (x : Account). bytes_eq (account a i).name x.name) a.names i no_account h (bytes_refl (account a i).name) (λ j l. elim (cases_Bool (bytes_eq (account a i).name (account a j).name)) [
   | inl t ↦ let same : i ≡ j = lawful.names_differ i j h (omega (arith, h, l)) (bytes_same (account a i).name (account a j).name t) in absurd (omega (arith, l, same))
   | inr f ↦ f
 ])

@@ -7,7 +7,7 @@ use Rattle.std.proofs.lemmas.List.{get_or_past, map_push}
 use Rattle.std.proofs.lemmas.List.Folds.{list_any-append}
 use Rattle.std.proofs.lemmas.List.Elements.{recursion_from_All}
 use Rattle.idtext.specs.Names.{is_lawful_name}
-use Rattle.hosts_join.specs.Accounts.{Account, Accounts, Pair, nobody, place_of}
+use Rattle.hosts_join.specs.Accounts.{Account, Accounts, Pair, no_account, place_of}
 use Rattle.hosts_join.specs.Pairs.{number_of}
 use Rattle.hosts_join.specs.Rules.{account, is_name}
 use Rattle.hosts_join.proofs.Grouping.{bytes_same, bytes_refl, bytes_sym}
@@ -71,14 +71,14 @@ module _ (before : List ℕ → List ℕ → Bool) where
 abbrev pub names_of : List Account → List (List ℕ)
 names_of xs = map (λ (x : Account). x.name) xs
 
-other_name : (n : List ℕ) (xs : List Account) → ((j : ℕ) → j < length xs → n ≡ (get_or xs j nobody).name → ⊥) → list_any (bytes_eq n) (names_of xs) ≡ false
+other_name : (n : List ℕ) (xs : List Account) → ((j : ℕ) → j < length xs → n ≡ (get_or xs j no_account).name → ⊥) → list_any (bytes_eq n) (names_of xs) ≡ false
 other_name n [] other = refl
 other_name n (x ∷ xs) other = elim (cases_Bool (bytes_eq n x.name)) [
   | inl t ↦ absurd (other zero (omega arith) (bytes_same n x.name t))
   | inr f ↦ rw f (other_name n xs (λ j l e. other (suc j) (omega (arith, l)) e))
 ]
 
-differ_once : (xs : List Account) → ((i j : ℕ) → i < length xs → j < length xs → (get_or xs i nobody).name ≡ (get_or xs j nobody).name → i ≡ j) → NotTwice (names_of xs)
+differ_once : (xs : List Account) → ((i j : ℕ) → i < length xs → j < length xs → (get_or xs i no_account).name ≡ (get_or xs j no_account).name → i ≡ j) → NotTwice (names_of xs)
 differ_once [] differ = tt
 differ_once (x ∷ xs) differ = (
   other_name x.name xs (λ j l e. let same : zero ≡ suc j = differ zero (suc j) (omega arith) (omega (arith, l)) e in absurd (omega (arith, same))),
@@ -93,7 +93,7 @@ all_names : (xs : List Account) → AllByRecursion (λ (x : Account). is_lawful_
 all_names [] all = tt
 all_names (x ∷ xs) all = (all.0, all_names xs all.1)
 
-any_here : (t : Account → Bool) (xs : List Account) (i : ℕ) → i < length xs → t (get_or xs i nobody) ≡ true → list_any t xs ≡ true
+any_here : (t : Account → Bool) (xs : List Account) (i : ℕ) → i < length xs → t (get_or xs i no_account) ≡ true → list_any t xs ≡ true
 any_here t [] i h e = absurd (omega (arith, h))
 any_here t (x ∷ xs) zero h e = rw e refl
 any_here t (x ∷ xs) (suc i) h e = elim (cases_Bool (t x)) [ inl p ↦ rw p refl | inr p ↦ rw p (any_here t xs i (omega (arith, h)) e) ]

@@ -8,7 +8,7 @@ use Rattle.std.proofs.lemmas.List.{length-map}
 use Rattle.idtext.specs.First.{first_fault, unless}
 use Rattle.idtext.specs.Pieces.{lines as lines_of}
 use Rattle.idtext.proofs.FirstLemmas.{judged_next, judged_done}
-use Rattle.hosts_join.specs.Accounts.{Account, Accounts, Pair, nobody, place_of}
+use Rattle.hosts_join.specs.Accounts.{Account, Accounts, Pair, no_account, place_of}
 use Rattle.hosts_join.specs.PairLines.{pair_line_of}
 use Rattle.hosts_join.specs.Pairs.{number_of}
 use Rattle.hosts_join.specs.PinPairs.{PinPairs}
@@ -80,7 +80,7 @@ module _ (a : Accounts) (m : List ℕ) (is : IsMappingOf a m) where
   numbers_new seen [] had all fresh = tt
   numbers_new seen (p ∷ ps) had all fresh = (number_new p seen all.0 had fresh.0, numbers_new (seen ++ p ∷ []) ps (all_push IsOf seen p had all.0) all.1 fresh.1)
 
-  each_named : (xs : List Account) → ((i : ℕ) → i < length xs → IsNamed (get_or xs i nobody).name) → AllByRecursion IsNamed (names_of xs)
+  each_named : (xs : List Account) → ((i : ℕ) → i < length xs → IsNamed (get_or xs i no_account).name) → AllByRecursion IsNamed (names_of xs)
   each_named [] each = tt
   each_named (x ∷ xs) each = (each zero (omega arith), each_named xs (λ i h. each (suc i) (omega (arith, h))))
 

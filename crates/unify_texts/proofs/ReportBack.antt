@@ -25,7 +25,7 @@ use Rattle.unify_texts.specs.Words.{line, spaced}
 use Rattle.unify_texts.specs.declared.figures.Figures.{Figures}
 use Rattle.unify_texts.proofs.MapBack.{Lacks, decimal-lacks_64, lacks-append, one_line}
 use Rattle.unify_texts.proofs.ReservedLemmas.{IsWord, spaced_lacks, words_spaced}
-use Rattle.unify_texts.proofs.Totals.{all_names}
+use Rattle.unify_texts.proofs.Totals.{figures_add_up}
 
 -- ---- a number
 
@@ -209,7 +209,7 @@ cost_within a files m =
 
 held : (a : Accounts) (files : List File) (m : List ℕ) → AreCountable a files → AreHeld (figures_of a files m)
 held a files m few =
-    let all = all_names a files m in
+    let all = figures_add_up a m in
     record {
       names = few.names;
       pinned = omega (arith, all, few.names);

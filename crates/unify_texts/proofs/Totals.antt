@@ -1,25 +1,22 @@
 -- Counts and sums over the names of a kind.
-use Rattle.std.proofs.Common.{◌≡◌, ℕ, zero, suc, ◌+◌, ◌-◌, ◌*◌, ◌≤◌, ◌==◌, ◌&&◌, nat_lt, nat_le, nat_eq, not, Bool, true, false, cond, List, [], ◌∷◌, length, refl, sym, ap, ◌∙◌, add-one, arith, inl, inr}
-use Rattle.std.specs.List.{count_by, find}
-use Rattle.std.specs.Option.{option_map}
-use Rattle.std.proofs.lemmas.Bool.{cases_Bool, cases_lt, lt-ltb, le-ltb, le-leb, lt-leb, eq-eqb, ne_eqb}
-use Rattle.std.proofs.lemmas.List.Sums.{sum_by-cons, count_by-le-length}
+use Rattle.std.proofs.Common.{◌≡◌, ℕ, zero, suc, ◌+◌, ◌-◌, ◌≤◌, ◌==◌, ◌&&◌, nat_lt, nat_eq, not, Bool, true, false, cond, List, length, refl, sym, ap, ◌∙◌, add-one, arith, inl, inr}
+use Rattle.std.proofs.lemmas.Bool.{cases_lt, lt-ltb, le-ltb, eq-eqb, ne_eqb}
+use Rattle.std.proofs.lemmas.List.Sums.{count_by-le-length}
 use Rattle.hosts_join.specs.declared.Spot.{Spot}
 use Rattle.hosts_join.specs.Accounts.{Accounts, lines}
 use Rattle.hosts_join.specs.Count.{count_below}
 use Rattle.hosts_join.specs.Lawful.{AreLawfulAccounts}
 use Rattle.hosts_join.specs.Rules.{account, class_at, is_free_class}
-use Rattle.hosts_join.proofs.Counting.{count_below-suc, count_below-same}
+use Rattle.hosts_join.proofs.Counting.{count_below-suc}
 use Rattle.ownership.specs.Counts.{Tally, CountFiles, told_kept}
 use Rattle.ownership.specs.Costs.{cost_of}
-use Rattle.ownership.specs.Files.{File, kept, owned_files, owns, has_there, is_number}
+use Rattle.ownership.specs.Files.{File, kept, owned_files}
 use Rattle.ownership.specs.Mappings.{number_at}
 use Rattle.ownership.specs.Sums.{sum_below}
-use Rattle.ownership.specs.Weights.{weight, file_weight}
 use Rattle.ownership.proofs.CostLemmas.{cost_and_kept}
 use Rattle.ownership.proofs.SumsBelow.{sum_below_more, sum_below-same}
-use Rattle.unify_texts.specs.Figures.{pinned_names, kept_names, fresh_names}
-use Rattle.unify_texts.specs.Staying.{told_names, told_files}
+use Rattle.unify_texts.specs.Figures.{FiguresAddUp}
+use Rattle.unify_texts.specs.Staying.{told_files}
 
 pub count_more : (p : ℕ → Bool) (n : ℕ) → count_below p (n + 1) ≡ count_below p n + cond (p n) 1 0
 count_more p n = rw add-one (count_below-suc p n)
@@ -38,47 +35,6 @@ sum_start f = refl
 pub lines_within : (a : Accounts) (i v : ℕ) → AreLawfulAccounts a → lines (account a i) v ≤ 64
 lines_within a i v lawful = omega (arith, lawful.few_spots i, count_by-le-length (λ (s : Spot). s.number == v) (account a i).spots)
 
--- a name without the number on any host has it on no host
-absent : (ss : List Spot) (v h : ℕ) → count_by (λ s. s.number == v) ss ≡ 0 → is_number v (option_map (λ s. s.number) (find (λ s. s.host == h) ss)) ≡ false
-absent [] v h none = refl
-absent (s ∷ ss) v h none =
-    let all = sum_by-cons (λ (t : Spot). cond (t.number == v) 1 0) s ss in
-    elim (cases_Bool (s.number == v)) [
-      | inl t ↦ let one : cond {A = ℕ} (s.number == v) 1 0 ≡ 1 = rw t refl in absurd (omega (arith, all, one, none))
-      | inr f ↦
-          let rest : count_by (λ s. s.number == v) ss ≡ 0 = omega (arith, all, none) in
-          elim (cases_Bool (s.host == h)) [ inl t ↦ rw t f | inr g ↦ rw g (absent ss v h rest) ]
-    ]
-
-none_kept : (p q : File → Bool) → ((f : File) → q f ≡ false) → (files : List File) → count_by (λ f. p f && q f) files ≡ 0
-none_kept p q none [] = refl
-none_kept p q none (f ∷ fs) =
-    let all = sum_by-cons (λ g. cond (p g && q g) 1 0) f fs in
-    let first : cond {A = ℕ} (p f && q f) 1 0 ≡ 0 = ap (λ b. cond {A = ℕ} (p f && b) 1 0) (none f) ∙ no (p f) in
-    omega (arith, all, first, none_kept p q none fs)
-  where
-    no : (b : Bool) → ◌≡◌ {A = ℕ} (cond (b && false) 1 0) 0
-    no true = refl
-    no false = refl
-
--- a number weighs something exactly where the name has it on some host
-pub weighs : (a : Accounts) (files : List File) (i v : ℕ) → nat_lt 0 (lines (account a i) v) ≡ nat_le 1 (weight a files i v)
-weighs a files i v =
-    let n = lines (account a i) v in
-    let k = kept a.names files i v in
-    elim (cases_lt 0 n) [
-      | inl l ↦ lt-ltb 0 n l ∙ sym (le-leb 1 (weight a files i v) (omega (arith, l)))
-      | inr l ↦
-          let zero_lines : n ≡ 0 = omega (arith, l) in
-          let none : k ≡ 0 = none_kept (owns a.names i) (λ f. has_there a.names i v f.host) (λ f. absent (account a i).spots v f.host zero_lines) files in
-          let light : weight a files i v ≡ file_weight a * 0 + n = ap (λ m. file_weight a * m + n) none in
-          le-ltb 0 n l ∙ sym (lt-leb 1 (weight a files i v) (omega (arith, light, zero_lines)))
-    ]
-
-pub kept_told : (a : Accounts) (files : List File) (m : List ℕ) → told_names a m ≡ kept_names a files m
-kept_told a files m = count_below-same (λ i. is_free_class (class_at a i) && nat_lt 0 (lines (account a i) (number_at m i))) (λ i. is_free_class (class_at a i) && nat_le 1 (weight a files i (number_at m i))) (length a.names)
-    (λ i h. ap (λ b. is_free_class (class_at a i) && b) (weighs a files i (number_at m i)))
-
 -- a name is pinned, or keeps a number, or has a fresh one
 thirds : (free some none : ℕ → Bool) → ((i : ℕ) → none i ≡ not (some i)) → (n : ℕ) → count_below (λ i. not (free i)) n + count_below (λ i. free i && some i) n + count_below (λ i. free i && none i) n ≡ n
 thirds free some none is zero = omega (arith, count_start (λ i. not (free i)), count_start (λ i. free i && some i), count_start (λ i. free i && none i))
@@ -95,13 +51,13 @@ thirds free some none is (suc n) =
     one true false = refl
     one false s = refl
 
-pub all_names : (a : Accounts) (files : List File) (m : List ℕ) → pinned_names a + kept_names a files m + fresh_names a files m ≡ length a.names
-all_names a files m = thirds (λ i. is_free_class (class_at a i)) (λ i. nat_le 1 (weight a files i (number_at m i))) (λ i. nat_eq (weight a files i (number_at m i)) 0) (λ i. opposite (weight a files i (number_at m i))) (length a.names)
+pub figures_add_up : FiguresAddUp
+figures_add_up a m = thirds (λ i. is_free_class (class_at a i)) (λ i. nat_lt 0 (lines (account a i) (number_at m i))) (λ i. nat_eq (lines (account a i) (number_at m i)) 0) (λ i. opposite (lines (account a i) (number_at m i))) (length a.names)
   where
-    opposite : (w : ℕ) → nat_eq w 0 ≡ not (nat_le 1 w)
-    opposite w = elim (cases_lt 0 w) [
-      | inl l ↦ ne_eqb w 0 (λ e. omega (arith, e, l)) ∙ ap not (sym (le-leb 1 w l))
-      | inr l ↦ eq-eqb w 0 (omega (arith, l)) ∙ ap not (sym (lt-leb 1 w (omega (arith, l))))
+    opposite : (n : ℕ) → nat_eq n 0 ≡ not (nat_lt 0 n)
+    opposite n = elim (cases_lt 0 n) [
+      | inl l ↦ ne_eqb n 0 (λ e. omega (arith, e, l)) ∙ ap not (sym (lt-ltb 0 n l))
+      | inr l ↦ eq-eqb n 0 (omega (arith, l)) ∙ ap not (sym (le-ltb 0 n l))
     ]
 
 -- the cost: the files that have an owner less those that keep their number

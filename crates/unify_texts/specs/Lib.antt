@@ -7,6 +7,7 @@ pub mod Maps
 pub mod WrittenMap
 pub mod MapForms
 pub mod Figures
+pub mod FiguresExample
 pub mod Staying
 pub mod ReservedLines
 pub mod ReservedBack

@@ -47,12 +47,11 @@ number_told text first word = number_in (map words (lines_of text)) first word
 
 -- Of the names of a kind: how many there are, how many are pinned, how many keep a number, and how
 -- many have a fresh one.
-pub record TellsNames (text kinds : List ℕ) (a : Accounts) (files : List File) (m : List ℕ) :
-    Type 0 where
+pub record TellsNames (text kinds : List ℕ) (a : Accounts) (m : List ℕ) : Type 0 where
   pub names : number_told text kinds kinds ≡ Some (length a.names)
   pub pinned : number_told text kinds (codes "pinned") ≡ Some (pinned_names a)
-  pub kept : number_told text kinds (codes "kept") ≡ Some (kept_names a files m)
-  pub fresh : number_told text kinds (codes "fresh") ≡ Some (fresh_names a files m)
+  pub kept : number_told text kinds (codes "kept") ≡ Some (kept_names a m)
+  pub fresh : number_told text kinds (codes "fresh") ≡ Some (fresh_names a m)
 
 -- how many change, and of how many
 pub record TellsChange (text what : List ℕ) (changed all : ℕ) : Type 0 where
@@ -63,8 +62,8 @@ pub record TellsChange (text what : List ℕ) (changed all : ℕ) : Type 0 where
 pub record TellsFigures (text : List ℕ) (hosts : List Host) (site : Joined) (files : List Added)
     (m : Mappings) : Type 0 where
   pub count : number_told text (codes "hosts") (codes "hosts") ≡ Some (length hosts)
-  pub users : TellsNames text (codes "users") site.users (by_user files) m.users
-  pub groups : TellsNames text (codes "groups") site.groups (by_group files) m.groups
+  pub users : TellsNames text (codes "users") site.users m.users
+  pub groups : TellsNames text (codes "groups") site.groups m.groups
   pub user_fields : TellsChange text (codes "user-fields")
       (cost_of site.users (by_user files) m.users) (owned_files site.users.names (by_user files))
   pub group_fields : TellsChange text (codes "group-fields")

@@ -1,18 +1,11 @@
 -- What stays as it is, as names and counters tell it.
 -- Words of the code and not of the subject: only private contracts, views and invariants cite them.
-use Rattle.std.specs.Prelude.{ℕ, ◌&&◌, nat_lt, List, length}
+use Rattle.std.specs.Prelude.{ℕ, List, length}
 use Rattle.hosts_join.specs.Accounts.{Accounts, lines}
-use Rattle.hosts_join.specs.Count.{count_below}
-use Rattle.hosts_join.specs.Rules.{account, class_at, is_free_class}
+use Rattle.hosts_join.specs.Rules.{account}
 use Rattle.ownership.specs.Counts.{Tally, told_kept}
 use Rattle.ownership.specs.Mappings.{number_at}
 use Rattle.ownership.specs.Sums.{sum_below}
-
--- how many free names have a number that they have on some host
-abbrev pub told_names : Accounts → List ℕ → ℕ
-told_names a m =
-    count_below (λ i. is_free_class (class_at a i)
-    && nat_lt 0 (lines (account a i) (number_at m i))) (length a.names)
 
 -- how many files keep their number
 abbrev pub told_files : List Tally → List ℕ → ℕ → ℕ

@@ -4,7 +4,8 @@ ghost use Rattle.std.specs.Prelude.{◌≡◌, List, length};
 ghost use Rattle.ownership.specs.Counts.{AreMadeFor, AreWithin, CountFiles};
 ghost use Rattle.ownership.specs.Files.{File, owned_files};
 ghost use Rattle.unify_texts.specs.Figures.{figures_of, pinned_names as pinned_among};
-ghost use Rattle.unify_texts.specs.Staying.{told_names, told_files, told_rows};
+ghost use Rattle.unify_texts.specs.Figures.{kept_names as kept_among};
+ghost use Rattle.unify_texts.specs.Staying.{told_files, told_rows};
 
 use hosts_join::Names;
 use ownership::{KindCounts, Mapping};
@@ -48,7 +49,7 @@ fn pinned_names(names: &Names<'_>) -> u32
 #[tactic(auto, using(crate::proofs::Totals::count_more, crate::proofs::Totals::count_start))]
 fn kept_names(names: &Names<'_>, mapping: &Mapping) -> u32
     requires { length mapping.now ≡ length names.now.names }
-    ensures { result ≡ told_names names.now mapping.now }
+    ensures { result ≡ kept_among names.now mapping.now }
 {
     let mut kept: u32 = 0;
     for index in 0..names.len() {

@@ -5,6 +5,8 @@ ghost use Rattle.unify_texts.specs.BundleSpelling.{FirstBadIsTold};
 ghost use Rattle.unify_texts.specs.BundleWords.{WordsAreRead};
 ghost use Rattle.unify_texts.specs.FaultExamples as example;
 ghost use Rattle.unify_texts.specs.FaultExamples.{AreTold, StatusesGoByFaults};
+ghost use Rattle.unify_texts.specs.Figures.{FiguresAddUp};
+ghost use Rattle.unify_texts.specs.FiguresExample.{ExampleOfFigures};
 ghost use Rattle.unify_texts.specs.KeptNames.{KeptNamesAreSeen};
 ghost use Rattle.unify_texts.specs.MapForms.{AcceptedMapsMayStand, FirstBadMapLineIsTold};
 ghost use Rattle.unify_texts.specs.MapForms.{MapsAreListed};
@@ -28,16 +30,16 @@ pub fn bundle_words_are_read()
     ensures { WordsAreRead }
 {}
 
-/// In a map that is accepted, whoever wrote it, the names of users have exactly the numbers that its
-/// lines of `user`, a space, a lawful name, a space and an id give them; and the same of groups and
-/// `group`.
+/// In a map that is accepted, whoever wrote it, the names of users have exactly the numbers that
+/// its lines of `user`, a space, a lawful name, a space and an id give them; and the same of groups
+/// and `group`.
 pub fn maps_are_listed()
     ensures { MapsAreListed }
 {}
 
-/// Each line of a map that is accepted says nothing, or gives a number to a name to which no earlier
-/// line of its kind gives one. Of any other text the first line that is no such line is told,
-/// counted from 1.
+/// Each line of a map that is accepted says nothing, or gives a number to a name to which no
+/// earlier line of its kind gives one. Of any other text the first line that is no such line is
+/// told, counted from 1.
 pub fn bad_map_lines_are_told()
     ensures accepted { AcceptedMapsMayStand }
     ensures refused { FirstBadMapLineIsTold }
@@ -76,6 +78,13 @@ pub fn kept_names_are_seen()
 /// there are. Requires that 64 bits hold the numbers of hosts, names, files and account rows.
 pub fn reports_read_back()
     ensures { ReportsReadBack }
+{}
+
+/// Each name is pinned, keeps a number that it has on some host, or has a fresh one; and all
+/// figures of six names with eight rows and seven files, by example.
+pub fn figures_add_up()
+    ensures all { FiguresAddUp }
+    ensures example { ExampleOfFigures }
 {}
 
 /// Reports by example, byte by byte: one where nothing is reserved and nothing differs, one where a

@@ -18,14 +18,14 @@ mod words;
 pub use bundle::{Bundle, read_bundle};
 pub use bundle_line::{Command, FileName};
 pub use fault::Fault;
-pub use fault_text::push_fault;
+pub use fault_text::fault_line;
 pub use figures::{Figures, figures_under};
 pub use laws::{
     bad_map_lines_are_told, bundle_words_are_read, bundles_are_spelled, fault_lines_by_example,
-    kept_names_are_seen, maps_are_listed, reports_by_example, reports_read_back,
+    figures_add_up, kept_names_are_seen, maps_are_listed, reports_by_example, reports_read_back,
     reserved_lines_read_back, statuses_go_by_faults, written_maps_are_pins, written_maps_read_back,
 };
-pub use map_text::{MapText, push_map, read_map};
+pub use map_text::{MapText, read_map, write_map};
 pub use place_list::PlaceList;
 pub use places::{FileList, NamedFile, Place};
 pub use report::report_text;

@@ -1,8 +1,8 @@
 //! The map text. The format is this project's own.
 
-ghost use Rattle.std.specs.Prelude.{◌≡◌, ◌++◌, IfOk, OnOk, OnErr, length, flat_map};
+ghost use Rattle.std.specs.Prelude.{◌≡◌, ◌++◌, IfOk, OnOk, length, flat_map};
 ghost use Rattle.idtext.specs.First.{Gives};
-ghost use Rattle.unify_texts.specs.WrittenMap.{numbered, map_line, map_text};
+ghost use Rattle.unify_texts.specs.WrittenMap as written;
 ghost use Rattle.unify_texts.specs.Told.{told};
 ghost use Rattle.hosts_join.specs.Lawful.{AreLawfulAccounts};
 ghost use Rattle.ownership.specs.Mappings.{AreForSite};
@@ -89,7 +89,7 @@ fn push_numbers(
     requires len { length mapping.now ≡ length names.now.names }
     ensures { OnOk result
         (out.new.items ≡ out.old.items
-        ++ flat_map (map_line kind) (numbered names.now mapping.now)) }
+        ++ flat_map (written.map_line kind) (written.numbered names.now mapping.now)) }
 {
     for index in names.in_byte_order() {
         let name = Word::Raw(names.name(*index));
@@ -99,35 +99,18 @@ fn push_numbers(
     Ok(())
 }
 
-/// The text of a map.
-fn map_lines(alloc: Global, site: &Site<'_>, mappings: &Mappings) -> Result<Vec<u8>, AllocError>
+/// The map text of mappings of a site's users and groups: a line `user NAME NUMBER` for each user,
+/// in byte order of the names, and then a line `group NAME NUMBER` for each group alike. Requires
+/// one number for each name. It is read back by [`read_map`] as these numbers.
+///
+/// Time and memory in the length of the lines. `AllocError` where a growth was refused.
+pub fn write_map(alloc: Global, site: &Site<'_>, mappings: &Mappings) -> Result<Vec<u8>, AllocError>
     requires { AreForSite site.now mappings.now }
-    ensures { IfOk result (λ text. text.items ≡ map_text site.now mappings.now) }
+    ensures { IfOk result (λ text. text.items ≡ written.map_text site.now mappings.now) }
 {
     let lines = site.users().len() as usize + site.groups().len() as usize;
     let mut text = Vec::with_capacity(alloc, LINE_BYTES * lines)?;
     push_numbers(&mut text, Which::User, site.users(), &mappings.users)?;
     push_numbers(&mut text, Which::Group, site.groups(), &mappings.groups)?;
     Ok(text)
-}
-
-/// Appends the map text of mappings of a site's users and groups: a line `user NAME NUMBER` for
-/// each user, in byte order of the names, and then a line `group NAME NUMBER` for each group alike.
-/// Requires one number for each name. What is appended is read back by [`read_map`] as these
-/// numbers.
-///
-/// Time and memory in the length of the lines, of which a copy is made first. `AllocError` where a
-/// growth was refused; then nothing is appended.
-pub fn push_map(
-    alloc: Global,
-    out: &mut Vec<u8>,
-    site: &Site<'_>,
-    mappings: &Mappings,
-) -> Result<(), AllocError>
-    requires { AreForSite site.now mappings.now }
-    ensures ok { OnOk result (out.new.items ≡ out.old.items ++ map_text site.now mappings.now) }
-    ensures err { OnErr result (out.new.items ≡ out.old.items) }
-{
-    let text = map_lines(alloc, site, mappings)?;
-    out.extend_from_slice(&text)
 }
