@@ -23,8 +23,8 @@ use Rattle.unify.specs.FaultLaws.{LiesInOne}
 use Rattle.unify.specs.Hosts.{host_of}
 use Rattle.unify.specs.Loading.{loaded_from}
 use Rattle.unify.specs.Others.{keep_read}
-use Rattle.unify.specs.Survey.{found_on, inventory_of, keeps_unowned, listed_of, sparing_hosts, sparing_ranges, surveyed_hosts, unowned_over}
-use Rattle.unify.specs.SurveyLaws.{AreUnowned, IsOnSome, IsUnownedGid, IsUnownedUid, SurveysFindUnowned}
+use Rattle.unify.specs.Survey.{found_on, inventory_of, keeps_unowned, listed_of, sparing_hosts, sparing_ranges, surveyed, surveyed_hosts, unowned_over}
+use Rattle.unify.specs.SurveyLaws.{AreUnowned, IsOnSome, IsUnownedGid, IsUnownedUid, SurveyedTextsFindUnowned, SurveysFindUnowned}
 use Rattle.unify.specs.Told.{in_keep, in_site}
 use Rattle.unify.specs.declared.host.Loaded.{Loaded}
 use Rattle.unify.proofs.Owners.{file_ok}
@@ -301,3 +301,10 @@ surveys_find_unowned texts keep_text keep hosts mtrees found read surveying find
   said = λ says. where_said texts keep_text keep hosts mtrees found read surveying finding (keeps_either keep.users.unowned keep.groups.unowned says);
   not_said = λ users groups. where_not texts keep_text keep hosts mtrees found read surveying finding ((λ i. users i || groups i));
 }
+
+pub surveyed_texts_find_unowned : SurveyedTextsFindUnowned
+unfolding surveyed
+surveyed_texts_find_unowned texts keep_text keep found read surveying =
+    let mtrees = map (λ (t : HostText). t.mtree) texts in
+    let all = bind_ok (surveyed_hosts texts (keep_read keep_text)) (λ hosts. found_on hosts mtrees) found surveying in
+    surveys_find_unowned texts keep_text keep all.0 mtrees found read all.1 all.2

@@ -25,9 +25,6 @@ pub record HoldsCounted (site : WholeSite) (hosts : List Host) (joined : Joined)
   pub few : length hosts ≤ 64
   pub lawful : All IsLawfulHost hosts
 
-abbrev pub mappings_in : Merged → Mappings
-mappings_in merged = merged.mappings
-
 -- the texts tell the mappings and the certificate as soon as the plans are there, of which there is
 -- none as yet
 pub record IsPrintedButPlans (site : WholeSite) (m : Mappings) (c : Certificate) (outcome : Outcome)

@@ -1,4 +1,5 @@
 -- What a call that succeeded makes of the texts.
+-- Words of the code and not of the subject: only private contracts and invariants cite them.
 use Rattle.std.specs.Prelude.{[], ◌∷◌, ◌++◌, drop}
 use Rattle.unify.specs.Taken.{Taken}
 use Rattle.unify.specs.declared.text_log.Call.{Call}

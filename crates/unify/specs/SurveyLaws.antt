@@ -1,6 +1,6 @@
 -- Which numbers a survey finds, in words of the texts.
 -- Sources: mtree(5), passwd(5) and group(5); which numbers stay is this project's own rule.
-use Rattle.std.specs.Prelude.{◌≡◌, ◌⊎◌, ◌↔◌, ℕ, true, false, List, Some, Ok, Any, slice_get}
+use Rattle.std.specs.Prelude.{◌≡◌, ◌⊎◌, ◌↔◌, ℕ, true, false, List, Some, Ok, Any, map, slice_get}
 use Rattle.std.specs.List.{Contains}
 use Rattle.accounts.specs.Rows.{Passwd, Group}
 use Rattle.accounts.specs.Tables.{passwd_table, group_table}
@@ -15,7 +15,7 @@ use Rattle.kept_accounts.specs.declared.reserving.UnownedNumber.{UnownedNumber}
 use Rattle.unify.specs.FaultLaws.{LiesInOne}
 use Rattle.unify.specs.Hosts.{most_files}
 use Rattle.unify.specs.Others.{keep_read}
-use Rattle.unify.specs.Survey.{found_on, surveyed_hosts}
+use Rattle.unify.specs.Survey.{found_on, surveyed, surveyed_hosts}
 
 -- some file of the inventory of the host has the uid, no user of its passwd has, and no range that
 -- is listed for users
@@ -69,3 +69,10 @@ SurveysFindUnowned =
     (mtrees : List (List ℕ)) (found : UnownedNumbers) → keep_of keep_text ≡ Ok keep
     → surveyed_hosts texts (keep_read keep_text) ≡ Ok hosts → found_on hosts mtrees ≡ Ok found
     → FindsUnowned keep texts mtrees found
+
+-- And so it is of what is found in the inventories of the texts themselves.
+abbrev pub SurveyedTextsFindUnowned : Type 0
+SurveyedTextsFindUnowned =
+    (texts : List HostText) (keep_text : List ℕ) (keep : KeepText) (found : UnownedNumbers)
+    → keep_of keep_text ≡ Ok keep → surveyed texts keep_text ≡ Ok found
+    → FindsUnowned keep texts (map (λ t. t.mtree) texts) found

@@ -19,7 +19,7 @@ pub struct KnownOwner {
 }
 
 impl KnownOwner {
-    // That nothing was found.
+    // Nothing is known yet.
     fn none() -> KnownOwner
         ensures { result ≡ no_owner }
     {
@@ -38,7 +38,7 @@ impl KnownOwner {
     }
 }
 
-/// That nothing was found of any owner. Memory for 8192 of them; `AllocError` where it is refused.
+/// Nothing is known yet of any owner. Memory for 8192 of them; `AllocError` where it is refused.
 pub fn no_owners(alloc: Global) -> Result<Vec<KnownOwner>, AllocError>
     ensures { IfOk result (λ owners. NoneIsKnown owners.items) }
 {

@@ -5,7 +5,7 @@ ghost use Rattle.unify.specs.FaultLaws.{UidsAreOfTheirFile};
 ghost use Rattle.unify.specs.FileLaws.{FilesAreOfInventories, InventoryLinesAreTold};
 ghost use Rattle.unify.specs.MapLaws.{CountedMapsAreWhole};
 ghost use Rattle.unify.specs.RehearsalLaws.{RehearsalsTellFiles};
-ghost use Rattle.unify.specs.SurveyLaws.{SurveysFindUnowned};
+ghost use Rattle.unify.specs.SurveyLaws.{SurveyedTextsFindUnowned, SurveysFindUnowned};
 ghost use Rattle.unify.specs.TextLaws.{BegunCountsAreOfTexts, BegunSitesAreOfTexts};
 ghost use Rattle.unify.specs.TextLaws.{HostsAreOfTheirTexts};
 ghost use Rattle.unify.specs.ToldLaws.{PartsTellTheirFaults};
@@ -65,9 +65,11 @@ pub fn begun_sites_are_of_texts()
 
 /// A survey finds a number of a kind exactly where some file of a host has it, no account of the
 /// host's passwd, or group, has it, and it lies in no range that the keep text lists of the kind.
-/// Where the text does not say `unowned`, it finds none.
+/// Where the text does not say `unowned`, it finds none. So it is of the inventories as they are
+/// read in passes, and of those of the texts themselves.
 pub fn surveys_find_unowned()
-    ensures { SurveysFindUnowned }
+    ensures passes { SurveysFindUnowned }
+    ensures texts { SurveyedTextsFindUnowned }
 {}
 
 /// What a part gives goes on as it is, and each of its faults is told by its own number, name and

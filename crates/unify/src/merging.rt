@@ -11,7 +11,7 @@ ghost use Rattle.mergedfiles.specs.Texts.{merged_users, merged_groups};
 ghost use Rattle.mergedfiles.specs.Together.{AreJoined};
 ghost use Rattle.unify_texts.specs.Report.{report_of};
 ghost use Rattle.unify_texts.specs.ReservedLines as reserved;
-ghost use Rattle.unify_texts.specs.WrittenMap.{map_text};
+ghost use Rattle.unify_texts.specs.WrittenMap as written;
 ghost use Rattle.unify.specs.Whole.{IsWhole};
 ghost use Rattle.unify.specs.Merging.{HoldsCounted, IsMerged, IsPrintedButPlans};
 ghost use Rattle.unify.specs.Outcomes.{AreAnswered};
@@ -26,7 +26,7 @@ use idtext::ByteString;
 use mergedfiles::{group_text, passwd_text};
 use ownership::{Counts, Mappings};
 use std::alloc::{AllocError, Global};
-use unify_texts::{figures_under, keeps_a_name, push_map, report_text};
+use unify_texts::{figures_under, keeps_a_name, report_text, write_map};
 
 /// What a merge gives for a site except for its plans, and the mappings that these go by.
 #[derive(Drop)]
@@ -66,11 +66,9 @@ fn cost_under(site: &Site<'_>, counts: &Counts, mappings: &Mappings) -> Cost
 // The text of the map.
 fn map_of(alloc: Global, site: &Site<'_>, mappings: &Mappings) -> Result<ByteString, AllocError>
     requires { AreForSite site.now mappings.now }
-    ensures { IfOk result (λ text. text ≡ map_text site.now mappings.now) }
+    ensures { IfOk result (λ text. text ≡ written.map_text site.now mappings.now) }
 {
-    let mut text = Vec::new(alloc);
-    push_map(alloc, &mut text, site, mappings)?;
-    Ok(ByteString::from_vec(text))
+    Ok(ByteString::from_vec(write_map(alloc, site, mappings)?))
 }
 
 // The mappings of a site whose files were counted, and their certificate.
@@ -86,12 +84,8 @@ fn solve_site<'a>(
         → StandsFor whole.joined counts.now (files_of_site whole)
         → AreAnswered whole found.mappings found.certificate) }
 {
-    let Ok(users) = solve_names(alloc, site.users(), counts.users()) else {
-        return Err(AllocError);
-    };
-    let Ok(groups) = solve_names(alloc, site.groups(), counts.groups()) else {
-        return Err(AllocError);
-    };
+    let users = solve_names(alloc, site.users(), counts.users())?;
+    let groups = solve_names(alloc, site.groups(), counts.groups())?;
     Ok(CertifiedMappings {
         mappings: Mappings {
             users: users.mapping,
@@ -161,7 +155,7 @@ fn write_numbers(
     ensures { OnOk result
         (outcome.new
         ≡ record outcome.old {
-          map = map_text site.now certified.now.mappings;
+          map = written.map_text site.now certified.now.mappings;
           certificate = spelling certified.now.certificate;
         }) }
 {

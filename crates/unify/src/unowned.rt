@@ -1,4 +1,5 @@
-//! Whose files are looked through for numbers without an account, where the keep text keeps them.
+//! The hosts whose files are searched for numbers without an account, where the keep text keeps
+//! such numbers.
 
 ghost use Rattle.std.specs.Prelude.{◌≡◌, ◌≤◌, length, map, IfOk};
 ghost use Rattle.idtext.specs.First.{Gives};

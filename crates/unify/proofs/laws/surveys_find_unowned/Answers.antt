@@ -1,5 +1,8 @@
-use Rattle.unify.proofs.SurveyLaws.{surveys_find_unowned}
+use Rattle.unify.proofs.SurveyLaws.{surveyed_texts_find_unowned, surveys_find_unowned}
 use Rattle.unify.proofs.laws.surveys_find_unowned.Goals as goal
 
-pub returns : goal.returns
-returns c = surveys_find_unowned
+pub returns-clause-passes : goal.returns-clause-passes
+returns-clause-passes c = surveys_find_unowned
+
+pub returns-clause-texts : goal.returns-clause-texts
+returns-clause-texts c = surveyed_texts_find_unowned
