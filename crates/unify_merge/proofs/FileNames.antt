@@ -89,12 +89,12 @@ abbrev Differ : NamedText → NamedText → Type 0
 Differ a b = a.name ≢ b.name
 
 -- they differ at this byte
-differ_at : (i : ℕ) (a b : List ℕ) → (get_or a i 0 == get_or b i 0) ≡ false → a ≢ b
+pub differ_at : (i : ℕ) (a b : List ℕ) → (get_or a i 0 == get_or b i 0) ≡ false → a ≢ b
 differ_at i a b other same =
     let at : get_or a i 0 ≡ get_or b i 0 = ap (λ (n : List ℕ). get_or n i 0) same in
     both_ways (get_or a i 0 == get_or b i 0) other (eq-eqb (get_or a i 0) (get_or b i 0) at)
 
-plans_all : (P : List ℕ → Type 0) (texts : List HostText) (plans : List (List ℕ)) → All (λ (t : HostText). P (codes "plan." ++ t.name)) texts → All (λ (f : NamedText). P f.name) (plan_files texts plans)
+pub plans_all : (P : List ℕ → Type 0) (texts : List HostText) (plans : List (List ℕ)) → All (λ (t : HostText). P (codes "plan." ++ t.name)) texts → All (λ (f : NamedText). P f.name) (plan_files texts plans)
 plans_all P [] plans all = All-nil (λ (f : NamedText). P f.name)
 plans_all P (t ∷ texts) [] all = All-nil (λ (f : NamedText). P f.name)
 plans_all P (t ∷ texts) (p ∷ plans) all =
@@ -102,7 +102,7 @@ plans_all P (t ∷ texts) (p ∷ plans) all =
     (All-head (λ (t : HostText). P (codes "plan." ++ t.name)) t texts all)
     (plans_all P texts plans (All-tail (λ (t : HostText). P (codes "plan." ++ t.name)) t texts all))
 
-same_behind_plan : (a b : List ℕ) → codes "plan." ++ a ≡ codes "plan." ++ b → a ≡ b
+pub same_behind_plan : (a b : List ℕ) → codes "plan." ++ a ≡ codes "plan." ++ b → a ≡ b
 same_behind_plan a b same = ap (λ (n : List ℕ). drop 5 n) same
 
 plans_apart : (texts : List HostText) (plans : List (List ℕ)) → AllPairs Apart texts → AllPairs Differ (plan_files texts plans)
@@ -121,7 +121,7 @@ same_behind_group : (a b : List ℕ) → codes "group." ++ a ≡ codes "group." 
 same_behind_group a b same = ap (λ (n : List ℕ). drop 6 n) same
 
 module _ (site : Joined) (m : Mappings) where
-  own_all : (P : List ℕ → Type 0) (texts : List HostText) (hosts : List Host) → All (λ (t : HostText). P (codes "passwd." ++ t.name)) texts → All (λ (t : HostText). P (codes "group." ++ t.name)) texts
+  pub own_all : (P : List ℕ → Type 0) (texts : List HostText) (hosts : List Host) → All (λ (t : HostText). P (codes "passwd." ++ t.name)) texts → All (λ (t : HostText). P (codes "group." ++ t.name)) texts
       → All (λ (f : NamedText). P f.name) (host_files site m texts hosts)
   own_all P [] hosts passwds groups = All-nil (λ (f : NamedText). P f.name)
   own_all P (t ∷ texts) [] passwds groups = All-nil (λ (f : NamedText). P f.name)

@@ -14,7 +14,6 @@ use Rattle.unify.specs.declared.rules.SiteRules.{SiteRules}
 use Rattle.unify.specs.declared.site_files.NamedText.{NamedText}
 use Rattle.unify.specs.Count.{site_of}
 use Rattle.unify.specs.Loading.{loaded_from}
-use Rattle.unify.specs.Merging.{mappings_in}
 use Rattle.unify.specs.Outcomes.{IsOutcome}
 use Rattle.unify.specs.Reading.{WholeSite}
 use Rattle.unify.specs.Rules.{rules_by}
@@ -60,7 +59,7 @@ plan_files_from (n ∷ names) (p ∷ plans) more name plan here =
 module _ (names : List HostText) (s : SolvedValue) (read : List (Host × List Entry)) (told : Outcome) (old clear : Ledger) (same : told ≡ s.merged.outcome) (clears : clear ≡ cleared old) where
   -- those of each host, and the report
   abbrev last : List NamedText
-  last = host_files s.joined (mappings_in s.merged) names s.hosts ++ report_file s.merged.outcome ∷ []
+  last = host_files s.joined s.merged.mappings names s.hosts ++ report_file s.merged.outcome ∷ []
 
   -- the first files broke off
   pub first_left : (new : Ledger) → BrokeOff (first_files told) clear new → WritingBrokeOff names s read old new
@@ -176,7 +175,7 @@ merge_left texts rules s old mid new h reads w =
     let correct = second_reading_is_correct first s.merged last plans h.whole h.merged again whole in
     let site_is : ◌≡◌ {A = WholeSite} (record { hosts = last; joined = s.joined }) (record { hosts = last; joined = h.begun.joined }) = λ j. record { hosts = last; joined = h.joined j } in
     let is_correct : Headline (record { hosts = last; joined = h.begun.joined }) outcome = subst (λ (x : WholeSite). Headline x outcome) site_is correct in
-    let same : is_correct.mappings ≡ mappings_in s.merged = same_mappings first s.merged (record { hosts = last; joined = h.begun.joined }) plans h.merged (sym h.joined) is_correct in
+    let same : is_correct.mappings ≡ s.merged.mappings = same_mappings first s.merged (record { hosts = last; joined = h.begun.joined }) plans h.merged (sym h.joined) is_correct in
     let texts_last = w.site.texts ++ drop (length w.site.texts) h.first in
     record {
       begun = h.begun;
@@ -195,7 +194,7 @@ merge_left texts rules s old mid new h reads w =
       outcome = outcome;
       is_right = subst (λ (x : WholeSite). IsOutcome x outcome) site_is right;
       is_correct = is_correct;
-      files = broken_as (merged_files texts (record { hosts = s.hosts; joined = s.joined }) (mappings_in s.merged) outcome) (merged_files texts h.begun is_correct.mappings outcome) (reading_as new (cleared mid)) (reading_as new (cleared old)) new
+      files = broken_as (merged_files texts (record { hosts = s.hosts; joined = s.joined }) s.merged.mappings outcome) (merged_files texts h.begun is_correct.mappings outcome) (reading_as new (cleared mid)) (reading_as new (cleared old)) new
           (λ j. merged_files texts (record { hosts = h.hosts j; joined = h.joined j }) (sym same j) outcome) (λ j. reading_as new (cleared (reads j))) w.files;
       in_turn = λ less. subst (λ n. length w.files.whole ≤ length (first_files s.merged.outcome) + n) (sym w.site.texts_are) (w.in_turn (omega (arith, less, w.site.texts_are)));
     }

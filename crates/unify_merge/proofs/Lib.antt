@@ -17,6 +17,7 @@ pub mod Checked
 pub mod WholeCheck
 pub mod WholeCount
 pub mod Settled
+pub mod InTurn
 pub mod Surveyed
 pub mod Finding
 pub mod Rehearsals

@@ -12,7 +12,7 @@ use Rattle.certcheck.specs.Reading.{certificate_in}
 use Rattle.certcheck.proofs.Spelled.{spelled_is_read}
 use Rattle.unify.specs.declared.merging.Merged.{Merged}
 use Rattle.unify.specs.declared.site_files.NamedText.{NamedText}
-use Rattle.unify.specs.Merging.{IsMerged, mappings_in}
+use Rattle.unify.specs.Merging.{IsMerged}
 use Rattle.unify.specs.Reading.{WholeSite}
 use Rattle.unify_laws.specs.Headline.{Headline}
 use Rattle.unify_laws.specs.HostTexts.{group_file, host_files, passwd_file}
@@ -41,7 +41,7 @@ module _ (site : Joined) (m : Mappings) where
 -- ---- what was merged
 
 -- the mappings of a headline are those that were merged
-pub same_mappings : (site : WholeSite) (merged : Merged) (last : WholeSite) (plans : List (List ℕ)) → IsMerged site merged → last.joined ≡ site.joined → (correct : Headline last (record merged.outcome { plans = plans })) → correct.mappings ≡ mappings_in merged
+pub same_mappings : (site : WholeSite) (merged : Merged) (last : WholeSite) (plans : List (List ℕ)) → IsMerged site merged → last.joined ≡ site.joined → (correct : Headline last (record merged.outcome { plans = plans })) → correct.mappings ≡ merged.mappings
 same_mappings site merged last plans is joined correct =
     let c = is.certificate in
     let read = ap certificate_in is.printed.printed.certificate ∙ spelled_is_read c (record { users = is.answered.user_side; groups = is.answered.group_side }) in

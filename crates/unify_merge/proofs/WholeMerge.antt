@@ -17,7 +17,7 @@ use Rattle.unify.specs.declared.rules.SiteRules.{SiteRules}
 use Rattle.unify.specs.Count.{site_of}
 use Rattle.unify.specs.Whole.{IsWhole}
 use Rattle.unify.specs.Loading.{loaded_from}
-use Rattle.unify.specs.Merging.{IsMerged, mappings_in}
+use Rattle.unify.specs.Merging.{IsMerged}
 use Rattle.unify.specs.Outcomes.{IsOutcome}
 use Rattle.unify.specs.Passes.{AreTogether, BegunSite, InventoriesValue, behind, read_in, site_begun}
 use Rattle.unify.specs.Reading.{WholeSite}
@@ -142,7 +142,7 @@ merged_for texts rules s old mid new cost h reads w =
     let last : WholeSite = record { hosts = w.site.again; joined = s.joined } in
     let begun : read ≡ h.begun = λ j. record { hosts = h.hosts j; joined = h.joined j } in
     let correct : Headline last outcome = second_reading_is_correct first s.merged w.site.again w.site.plans h.whole h.merged w.site.same w.site.whole in
-    let same : mappings_in s.merged ≡ correct.mappings = sym (same_mappings first s.merged last w.site.plans h.merged refl correct) in
+    let same : s.merged.mappings ≡ correct.mappings = sym (same_mappings first s.merged last w.site.plans h.merged refl correct) in
     subst (λ (b : BegunSite). IsMergedFor texts b w.site.again outcome old new) begun
     (record {
       whole = still_whole first h.whole w.site.again w.site.same;

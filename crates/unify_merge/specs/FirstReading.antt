@@ -52,8 +52,8 @@ IsTooLarge l =
     (host : ℕ) × (text : List ℕ) × (l.reading ≡ Some (record { host = host; text = text }))
     × (most_inventory_bytes < length text)
 
--- Why a command ended early: a call failed, of which Failures.antt tells; the inventory that is read
--- is too large; or what was read has one of these faults, or memory was wanting.
+-- Why a command ended early: a call failed, of which Failures.antt tells; the inventory that is
+-- read is too large; or what was read has one of these faults, or memory was wanting.
 abbrev pub StopsFor : (Fault → Type 0) → Ledger → MergeFault → Type 0
 StopsFor IsFault l (Failed e) = ⊤
 StopsFor IsFault l TooLarge = IsTooLarge l

@@ -1,4 +1,5 @@
 -- How the logic stores a ledger: as the tuple of its fields.
+-- Words of the code and not of the subject: only the field of `Log` cites them.
 use Rattle.std.specs.Prelude.{ℕ, Bool, List, Option, refl}
 use Rattle.std.specs.Coded.{Coded, code_by, coded×, coded_ℕ, coded_bool, coded_list, coded_option}
 use Rattle.unify.specs.declared.site_files.NamedText.{NamedText}

@@ -10,6 +10,7 @@ pub mod HostFiles
 pub mod Merge
 pub mod LedgerLaws
 pub mod NamedFiles
+pub mod InTurn
 pub mod Check
 pub mod Count
 pub mod Surveyed

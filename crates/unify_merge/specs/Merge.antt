@@ -17,7 +17,7 @@ use Rattle.unify.specs.declared.site_files.NamedText.{NamedText}
 use Rattle.unify.specs.Count.{site_of}
 use Rattle.unify.specs.Whole.{IsWhole}
 use Rattle.unify.specs.Loading.{loaded_from}
-use Rattle.unify.specs.Merging.{IsMerged, mappings_in}
+use Rattle.unify.specs.Merging.{IsMerged}
 use Rattle.unify.specs.Outcomes.{IsOutcome}
 use Rattle.unify.specs.Passes.{BegunSite, site_begun}
 use Rattle.unify.specs.SecondPass.{IsFresh, SolvedValue, ended_in}
@@ -95,7 +95,7 @@ pub record HasWritten (names : List HostText) (s : SolvedValue) (read : List (Ho
   pub files : new
       ≡ record (all_settled
       (after_files
-      (merged_files names (record { hosts = s.hosts; joined = s.joined }) (mappings_in s.merged)
+      (merged_files names (record { hosts = s.hosts; joined = s.joined }) s.merged.mappings
       (record s.merged.outcome { plans = site.plans })) (cleared old))) {
         read = new.read;
         reading = new.reading;
@@ -183,7 +183,7 @@ pub record WritingBrokeOff (names : List HostText) (s : SolvedValue)
   pub reads : HasReadOneAtMost (old.read ++ readings_from 0 site.texts) new
   pub files : BrokeOff
       (merged_files names (record { hosts = s.hosts; joined = s.joined })
-      (mappings_in s.merged)
+      s.merged.mappings
       (record s.merged.outcome { plans = site.plans ++ plans_from s index (drop index read) }))
       (record (cleared old) { read = new.read; reading = new.reading }) new
   pub in_turn : index < length names

@@ -1,4 +1,5 @@
 -- What a call that succeeded makes of the ledger.
+-- Source: this project's own rule.
 use Rattle.std.specs.Prelude.{[]}
 use Rattle.unify_merge.specs.Ledger.{Ledger, reading_so_far, with_piece, cleared, with_begun}
 use Rattle.unify_merge.specs.Ledger.{with_bytes, with_finished, with_sealed}

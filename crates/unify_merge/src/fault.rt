@@ -1,4 +1,4 @@
-//! Why a merge ended early.
+//! Why a command ended early that reads or writes files.
 
 ghost use Rattle.std.specs.Prelude.{◌≡◌};
 ghost use Rattle.unify_texts.specs.declared.fault.Fault.TheVariants.{Memory};
@@ -8,7 +8,7 @@ use crate::files::CallFailed;
 use std::alloc::AllocError;
 use unify_texts::Fault;
 
-/// Why a merge ended early.
+/// Why a merge ended early, or a check, a count, a rehearsal or a survey.
 #[derive(Drop)]
 pub enum MergeFault<'a> {
     /// This call on the files failed.

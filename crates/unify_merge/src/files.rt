@@ -1,6 +1,6 @@
 //! The files that commands read and a merge writes.
 
-/// A call on files failed. Why, the files tell by themselves.
+/// A call on files failed. The files have already reported why.
 #[derive(Clone, Copy, Debug, PartialEq, Eq)]
 pub struct CallFailed {
     /// The exit status that the files give to it.

@@ -3,7 +3,6 @@
 ghost use Rattle.std.specs.Prelude.{◌≡◌, ◌<◌, ◌++◌, ◌∷◌, [], length, true, Some, slice_get};
 ghost use Rattle.std.specs.Prelude.{OnOk, IfErr, OnErr};
 ghost use Rattle.hosts_join.specs.declared.host.Host.{Host};
-ghost use Rattle.unify.specs.Merging.{mappings_in};
 ghost use Rattle.unify_laws.specs.HostTexts.{group_file, host_files, passwd_file};
 ghost use Rattle.unify_merge.specs.Failures.{failure_after};
 ghost use Rattle.unify_merge.specs.Ledger.{BrokeOff, after_files};
@@ -54,14 +53,14 @@ fn write_passwd<'a, F: MergeFiles>(
         ((here : Host) → slice_get solved.now.hosts index ≡ Some here
         → F.ledger files.new
         ≡ after_files
-        (passwd_file here solved.now.joined (mappings_in solved.now.merged) host.now ∷ [])
+        (passwd_file here solved.now.joined solved.now.merged.mappings host.now ∷ [])
         (F.ledger files.old)) }
     ensures stopped { IfErr result StopsWriting }
     ensures calls { F.failure files.new ≡ failure_after result (F.failure files.old) }
     ensures left { OnErr result
         ((here : Host) → slice_get solved.now.hosts index ≡ Some here
         → BrokeOff
-        (passwd_file here solved.now.joined (mappings_in solved.now.merged) host.now ∷ [])
+        (passwd_file here solved.now.joined solved.now.merged.mappings host.now ∷ [])
         (F.ledger files.old) (F.ledger files.new)) }
 {
     let text = solved.host_passwd(index, host.passwd.bytes())?;
@@ -78,12 +77,12 @@ fn write_group<'a, F: MergeFiles>(
     requires clear { (F.ledger files.old).is_clear ≡ true }
     ensures written { OnOk result
         (F.ledger files.new
-        ≡ after_files (group_file solved.now.joined (mappings_in solved.now.merged) host.now ∷ [])
+        ≡ after_files (group_file solved.now.joined solved.now.merged.mappings host.now ∷ [])
         (F.ledger files.old)) }
     ensures stopped { IfErr result StopsWriting }
     ensures calls { F.failure files.new ≡ failure_after result (F.failure files.old) }
     ensures left { OnErr result
-        (BrokeOff (group_file solved.now.joined (mappings_in solved.now.merged) host.now ∷ [])
+        (BrokeOff (group_file solved.now.joined solved.now.merged.mappings host.now ∷ [])
         (F.ledger files.old) (F.ledger files.new)) }
 {
     let text = solved.host_group(host.group.bytes())?;
@@ -104,16 +103,16 @@ fn write_host<'a, F: MergeFiles>(
         ((here : Host) → slice_get solved.now.hosts index ≡ Some here
         → F.ledger files.new
         ≡ after_files
-        (passwd_file here solved.now.joined (mappings_in solved.now.merged) host.now
-        ∷ group_file solved.now.joined (mappings_in solved.now.merged) host.now ∷ [])
+        (passwd_file here solved.now.joined solved.now.merged.mappings host.now
+        ∷ group_file solved.now.joined solved.now.merged.mappings host.now ∷ [])
         (F.ledger files.old)) }
     ensures stopped { IfErr result StopsWriting }
     ensures calls { F.failure files.new ≡ failure_after result (F.failure files.old) }
     ensures left { OnErr result
         ((here : Host) → slice_get solved.now.hosts index ≡ Some here
         → BrokeOff
-        (passwd_file here solved.now.joined (mappings_in solved.now.merged) host.now
-        ∷ group_file solved.now.joined (mappings_in solved.now.merged) host.now ∷ [])
+        (passwd_file here solved.now.joined solved.now.merged.mappings host.now
+        ∷ group_file solved.now.joined solved.now.merged.mappings host.now ∷ [])
         (F.ledger files.old) (F.ledger files.new)) }
 {
     write_passwd(alloc, files, solved, index, host)?;
@@ -131,13 +130,13 @@ pub fn write_hosts<'a, F: MergeFiles>(
     requires each { length hosts.now ≡ length solved.now.hosts }
     ensures written { OnOk result
         (HasFiles
-        (host_files solved.now.joined (mappings_in solved.now.merged) hosts.now solved.now.hosts)
+        (host_files solved.now.joined solved.now.merged.mappings hosts.now solved.now.hosts)
         (F.ledger files.old) (F.ledger files.new)) }
     ensures stopped { IfErr result StopsWriting }
     ensures calls { F.failure files.new ≡ failure_after result (F.failure files.old) }
     ensures left { OnErr result
         (BrokeOff
-        (host_files solved.now.joined (mappings_in solved.now.merged) hosts.now solved.now.hosts)
+        (host_files solved.now.joined solved.now.merged.mappings hosts.now solved.now.hosts)
         (F.ledger files.old) (F.ledger files.new)) }
     ensures clear { OnOk result ((F.ledger files.new).is_clear ≡ true) }
 {

@@ -1,4 +1,6 @@
 //! What holds of the files of a merge.
+ghost use Rattle.unify_merge.specs.InTurn.{MergesLeaveReports, PlansComeInTurn, ReportIsLast};
+ghost use Rattle.unify_merge.specs.InTurn.{ReportsStandWithAll};
 ghost use Rattle.unify_merge.specs.LedgerLaws.{LedgersNoteFiles, MergesAreSettled};
 ghost use Rattle.unify_merge.specs.NamedFiles.{FilesHaveTheirNames};
 
@@ -18,4 +20,19 @@ pub fn files_have_their_names()
 pub fn ledgers_note_files()
     ensures merged { MergesAreSettled }
     ensures calls { LedgersNoteFiles }
+{}
+
+/// The report is the last of the files of a merge: where it is among the first of them, in their
+/// order, none is left. After a merge that succeeded it stands. One that broke off leaves a report
+/// only where all of its files stand, and the inventory of each host was read again.
+pub fn the_report_is_last()
+    ensures order { ReportIsLast }
+    ensures merged { MergesLeaveReports }
+    ensures broken { ReportsStandWithAll }
+{}
+
+/// Where a merge broke off, no plan stands of a host whose inventory was not read again; and while
+/// there is such a host, no host's own passwd or group.
+pub fn plans_come_in_turn()
+    ensures { PlansComeInTurn }
 {}

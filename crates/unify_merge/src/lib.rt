@@ -21,7 +21,9 @@ pub use check::{check_by, check_files};
 pub use count::{count_by, count_files};
 pub use fault::MergeFault;
 pub use files::{CallFailed, MergeFiles, ReadFiles};
-pub use laws::{files_have_their_names, ledgers_note_files};
+pub use laws::{
+    files_have_their_names, ledgers_note_files, plans_come_in_turn, the_report_is_last,
+};
 pub use log::{Call, Log};
 pub use merge::{merge_by, merge_files, merge_outcome};
 pub use rehearse::rehearse_files;

@@ -19,12 +19,19 @@ impl Model for Log {
 /// A call that succeeded, with what it was given, or gave.
 #[derive(Clone, Copy)]
 pub enum Call<'a> {
+    /// `open`, of the inventory of the host with this index.
     Open(usize),
+    /// `piece`, with the bytes that it gave.
     Piece(&'a [u8]),
+    /// `clear`.
     Clear,
+    /// `begin`, of a file of this name.
     Begin(&'a [u8]),
+    /// `append`, of these bytes.
     Append(&'a [u8]),
+    /// `finish`.
     Finish,
+    /// `seal`, of a file of this name and this text.
     Seal(&'a [u8], &'a [u8]),
 }
 

@@ -119,8 +119,8 @@ fn add_hosts<'a, F: ReadFiles>(
     ensures reads { ReadsOnly (F.ledger files.old) (F.ledger files.new) }
 {
     let mut bytes = Vec::new(alloc);
-    for index in 0..hosts.len() {
-        survey_host(alloc, files, index, &hosts[index], &mut bytes, found)?;
+    for (index, host) in hosts.iter().enumerate() {
+        survey_host(alloc, files, index, host, &mut bytes, found)?;
     }
     Ok(())
 }

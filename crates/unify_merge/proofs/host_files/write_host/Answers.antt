@@ -2,7 +2,6 @@ use Rattle.std.proofs.Common.{◌≡◌, ◌∷◌, [], Some, ap, ◌∙◌}
 use Rattle.std.proofs.lemmas.Result.{on_err_weaker}
 use Rattle.std.specs.List.{slice_get}
 use Rattle.hosts_join.specs.declared.host.Host.{Host}
-use Rattle.unify.specs.Merging.{mappings_in}
 use Rattle.unify_laws.specs.HostTexts.{group_file, passwd_file}
 use Rattle.unify_laws.proofs.Agreeing.{item_at}
 use Rattle.unify_merge.specs.Ledger.{BrokeOff, Ledger, after_files}
@@ -18,7 +17,7 @@ write_group-requires g c =
 pub returns-clause-written : goal.returns-clause-written
 returns-clause-written g c =
     let v = c.args.solved.now in
-    let m = mappings_in v.merged in
+    let m = v.merged.mappings in
     let text = c.args.host.now in
     let old = g.F.ReadFiles.ledger c.args.files.now in
     on_ok_goes c.write_group.result _ _ (λ group here at.
@@ -28,7 +27,7 @@ returns-clause-written g c =
 pub returns-clause-left : goal.returns-clause-left
 returns-clause-left g c =
     let v = c.args.solved.now in
-    let m = mappings_in v.merged in
+    let m = v.merged.mappings in
     let text = c.args.host.now in
     let old = g.F.ReadFiles.ledger c.args.files.now in
     let mid = g.F.ReadFiles.ledger c.write_passwd.new.files in
@@ -43,7 +42,7 @@ returns-clause-left g c =
 pub returns-in_err-write_passwd-clause-left : goal.returns-in_err-write_passwd-clause-left
 returns-in_err-write_passwd-clause-left g c =
     let v = c.args.solved.now in
-    let m = mappings_in v.merged in
+    let m = v.merged.mappings in
     let text = c.args.host.now in
     let old = g.F.ReadFiles.ledger c.args.files.now in
     let new = g.F.ReadFiles.ledger c.write_passwd.new.files in

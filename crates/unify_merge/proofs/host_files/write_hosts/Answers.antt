@@ -4,7 +4,6 @@ use Rattle.std.proofs.lemmas.List.{take_all}
 use Rattle.std.proofs.lemmas.Result.{err_from_is_err_and}
 use Rattle.std.proofs.lemmas.Option.{slice_get-get_or}
 use Rattle.hosts_join.specs.declared.texts.HostText.{HostText}
-use Rattle.unify.specs.Merging.{mappings_in}
 use Rattle.unify_laws.specs.HostTexts.{group_file, host_files, passwd_file}
 use Rattle.unify_laws.proofs.Agreeing.{item_at}
 use Rattle.unify_merge.specs.Ledger.{Ledger}
@@ -20,7 +19,7 @@ loop-index-init g c =
     let v = c.args.solved.now in
     record {
       clear = c.requires.clear;
-      written = subst (λ fs. HasFiles fs old old) (sym (no_hosts v.joined (mappings_in v.merged) v.hosts c.args.hosts.now)) (none_written old);
+      written = subst (λ fs. HasFiles fs old old) (sym (no_hosts v.joined v.merged.mappings v.hosts c.args.hosts.now)) (none_written old);
       calls = refl;
     }
 
@@ -29,7 +28,7 @@ loop-index-preserved g c =
     let inv = c.loop-index.invariant in
     let index = c.loop-index.index in
     let v = c.args.solved.now in
-    let m = mappings_in v.merged in
+    let m = v.merged.mappings in
     let texts = c.args.hosts.now in
     let text = c.index-hosts-index.result in
     let old = g.F.ReadFiles.ledger c.args.files.now in
@@ -52,14 +51,14 @@ returns-clause-written g c =
     let inv = c.loop-index.invariant in
     let v = c.args.solved.now in
     let texts = c.args.hosts.now in
-    subst (λ ts. HasFiles (host_files v.joined (mappings_in v.merged) ts v.hosts) (g.F.ReadFiles.ledger c.args.files.now) (g.F.ReadFiles.ledger c.loop-index.files)) (take_all c.loop-index.index texts (omega (arith, c.loop-index-test.false))) inv.written
+    subst (λ ts. HasFiles (host_files v.joined v.merged.mappings ts v.hosts) (g.F.ReadFiles.ledger c.args.files.now) (g.F.ReadFiles.ledger c.loop-index.files)) (take_all c.loop-index.index texts (omega (arith, c.loop-index-test.false))) inv.written
 
 pub returns-in_err-write_host-clause-left : goal.returns-in_err-write_host-clause-left
 returns-in_err-write_host-clause-left g c =
     let inv = c.loop-index.invariant in
     let index = c.loop-index.index in
     let v = c.args.solved.now in
-    let m = mappings_in v.merged in
+    let m = v.merged.mappings in
     let texts = c.args.hosts.now in
     let text = c.index-hosts-index.result in
     let p = err_from_is_err_and c.from_residual.result c.from_residual.ensures.1 in

@@ -1,7 +1,6 @@
 use Rattle.std.proofs.Common.{◌≡◌, ◌++◌, ◌∷◌, [], length, refl, sym, ap, subst, ◌∙◌, inl, inr}
 use Rattle.std.specs.Prelude.{codes}
 use Rattle.std.proofs.lemmas.Result.{err_from_is_err_and}
-use Rattle.unify.specs.Merging.{mappings_in}
 use Rattle.unify.specs.SecondPass.{SolvedValue}
 use Rattle.unify_laws.specs.HostTexts.{host_files}
 use Rattle.unify_merge.specs.Ledger.{BrokeOff, Ledger, after_files, cleared, with_sealed}
@@ -48,11 +47,11 @@ returns-clause-written g c = λ read was.
     let begun : first ≡ after_files (first_files outcome) (cleared old) = c.in_ok-write_first.ensures.written ∙ (λ j. after_files (first_files (same_first j)) (c.in_ok-clear.ensures.clear j)) in
     let report : c.bytes.result.now ≡ outcome.report = c.bytes.ensures ∙ ap (λ o. o.report) (c.outcome-2.ensures ∙ ap (λ m. m.outcome) solved) in
     let sealed = c.in_ok-seal.ensures.sealed ∙ (λ j. with_sealed (record { name = (report_file outcome).name; text = report j }) own) in
-    let written : HasFiles (host_files v.joined (mappings_in v.merged) texts v.hosts) mid own = subst (λ (x : SolvedValue). HasFiles (host_files x.joined (mappings_in x.merged) texts x.hosts) mid own) site c.in_ok-write_hosts.ensures.written in
+    let written : HasFiles (host_files v.joined v.merged.mappings texts v.hosts) mid own = subst (λ (x : SolvedValue). HasFiles (host_files x.joined x.merged.mappings texts x.hosts) mid own) site c.in_ok-write_hosts.ensures.written in
     record {
       site = p.site;
       readings = ap (λ (l : Ledger). l.read) sealed ∙ ap (λ (l : Ledger). l.read) written ∙ p.readings ∙ (λ j. (begun j).read ++ readings_from 0 p.site.texts);
-      files = merged_all texts (record { hosts = v.hosts; joined = v.joined }) (mappings_in v.merged) outcome p.site.plans old first mid own new begun p.files written sealed;
+      files = merged_all texts (record { hosts = v.hosts; joined = v.joined }) v.merged.mappings outcome p.site.plans old first mid own new begun p.files written sealed;
       cost_is = ap (λ o. o.cost) (c.outcome-3.ensures ∙ ap (λ m. m.outcome) solved);
     }
 
@@ -99,8 +98,8 @@ returns-in_err-write_hosts-clause-left g c =
     let mid = g.F.ReadFiles.ledger c.plan_hosts.new.files in
     let new = g.F.ReadFiles.ledger c.write_hosts.new.files in
     let v = c.args.solved.now in
-    let own = host_files v.joined (mappings_in v.merged) texts v.hosts in
-    let left = broken_front own (report_file v.merged.outcome ∷ []) mid new (subst (λ (x : SolvedValue). BrokeOff (host_files x.joined (mappings_in x.merged) texts x.hosts) mid new) c.in_ok-plan_hosts.ensures.site c.in_err-write_hosts.ensures.left) in
+    let own = host_files v.joined v.merged.mappings texts v.hosts in
+    let left = broken_front own (report_file v.merged.outcome ∷ []) mid new (subst (λ (x : SolvedValue). BrokeOff (host_files x.joined x.merged.mappings texts x.hosts) mid new) c.in_ok-plan_hosts.ensures.site c.in_err-write_hosts.ensures.left) in
     rw p.1 (λ read was. inr
     (last_left texts v read c.outcome.result.now old clear c.outcome.ensures c.in_ok-clear.ensures.clear first c.in_ok-write_first.ensures.written was c.requires.each mid new (c.in_ok-plan_hosts.ensures.planned read was) left))
 
@@ -114,12 +113,12 @@ returns-in_err-seal-clause-left g c =
     let first = g.F.ReadFiles.ledger c.write_first.new.files in
     let mid = g.F.ReadFiles.ledger c.plan_hosts.new.files in
     let new = g.F.ReadFiles.ledger c.seal.new.self in
-    let own = host_files v.joined (mappings_in v.merged) texts v.hosts in
+    let own = host_files v.joined v.merged.mappings texts v.hosts in
     let last = report_file v.merged.outcome ∷ [] in
     let before = g.F.ReadFiles.ledger c.write_hosts.new.files in
     let solved : c.plan_hosts.new.solved.merged ≡ v.merged = ap (λ (x : SolvedValue). x.merged) c.in_ok-plan_hosts.ensures.site in
     let report : c.bytes.result.now ≡ v.merged.outcome.report = c.bytes.ensures ∙ ap (λ o. o.report) (c.outcome-2.ensures ∙ ap (λ m. m.outcome) solved) in
-    let written = subst (λ (x : SolvedValue). HasFiles (host_files x.joined (mappings_in x.merged) texts x.hosts) mid before) c.in_ok-plan_hosts.ensures.site c.in_ok-write_hosts.ensures.written in
+    let written = subst (λ (x : SolvedValue). HasFiles (host_files x.joined x.merged.mappings texts x.hosts) mid before) c.in_ok-plan_hosts.ensures.site c.in_ok-write_hosts.ensures.written in
     let left : BrokeOff (own ++ last) mid new = elim c.in_err-seal.ensures.failing [
       | inl same ↦ broken_front own last mid new (broken_all own mid new (subst (λ (l : Ledger). HasFiles own mid l) (sym same) written))
       | inr there ↦ broken_all (own ++ last) mid new (wrote (own ++ last) mid new (there ∙ (λ j. after_files (record { name = codes "report"; text = report j } ∷ []) before) ∙ ap (after_files last) written ∙ files_behind own last mid))
