@@ -3,6 +3,7 @@ pub mod Taking
 pub mod TakenFiles
 pub mod PlanLines
 pub mod AnswersBack
+pub mod GoingOut
 pub mod FaultAnswers
 pub mod Carrying
 pub mod RunSites

@@ -2,6 +2,7 @@ pub mod Lines
 pub mod Output
 pub mod TakenFiles
 pub mod AnswersBack
+pub mod GoingOut
 pub mod Replies
 pub mod Carrying
 pub mod SiteRuns

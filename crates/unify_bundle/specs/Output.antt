@@ -7,6 +7,7 @@ use Rattle.std.specs.Io.KnownBytes.{Appends, Consumes}
 use Rattle.idtext.specs.First.{◌>>=◌}
 use Rattle.hosts_join.specs.declared.texts.HostText.{HostText}
 use Rattle.unify_texts.specs.declared.fault.Fault.{Fault}
+use Rattle.unify_texts.specs.declared.fault.Fault.TheVariants as fault
 use Rattle.unify_texts.specs.declared.bundle.Bundle.{Bundle}
 use Rattle.unify_texts.specs.declared.places.Place.{Place}
 use Rattle.unify_texts.specs.declared.places.NamedFile.{NamedFile}
@@ -163,7 +164,7 @@ abbrev pub read_failed : Answer
 read_failed = record { text = codes "unify: read\n"; status = 3 }
 
 abbrev pub memory_refused : Answer
-memory_refused = record { text = codes "unify: memory\n"; status = 3 }
+memory_refused = answered (Err fault.Memory)
 
 -- how many bytes a bundle may have
 abbrev pub most_bundle_bytes : ℕ

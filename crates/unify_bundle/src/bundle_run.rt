@@ -1,6 +1,6 @@
 //! From the bytes of a bundle to the bytes that go out.
 
-ghost use Rattle.std.specs.Prelude.{◌≡◌, ◌≢◌, [], IfOk, MatchBool, false, drop};
+ghost use Rattle.std.specs.Prelude.{◌≡◌, ◌≢◌, ◌+◌, [], IfOk, MatchBool, false, drop};
 ghost use Rattle.idtext.specs.First.{Gives};
 ghost use Rattle.std.specs.List.{position};
 ghost use Rattle.std.specs.Prelude.{◌==◌};
@@ -10,7 +10,7 @@ ghost use Rattle.unify_bundle.specs.Output.{text_in, host_text, host_texts, file
 ghost use Rattle.unify_bundle.specs.Output.{count_lines, check_lines, IsMergeReply};
 ghost use Rattle.unify_bundle.specs.Output.{IsRehearseReply, answered, Answers};
 ghost use Rattle.unify_bundle.specs.Output.{IsReply, IsOutput, Tells, TakesAtMost};
-ghost use Rattle.unify_bundle.specs.Output.{IsMergeWithHostsReply, rules_for};
+ghost use Rattle.unify_bundle.specs.Output.{IsMergeWithHostsReply, most_bundle_bytes, rules_for};
 ghost use Rattle.unify_texts.specs.Told.{told};
 ghost use Rattle.unify_bundle.specs.Replies.{reply_of};
 
@@ -233,7 +233,7 @@ pub fn run_bundle<R: Source, W: Sink>(alloc: Global, reader: &mut R, writer: &mu
     ensures tells { Tells (R.left reader.old) (R.has_failed reader.new) (W.contents writer.old)
         (W.contents writer.new) (W.has_failed writer.new) result }
     ensures handed_on { W.has_failed writer.new ≡ false → W.waiting writer.new ≡ [] }
-    ensures taken { TakesAtMost 268435457 (R.left reader.old) (R.left reader.new) }
+    ensures taken { TakesAtMost (most_bundle_bytes + 1) (R.left reader.old) (R.left reader.new) }
 {
     match read_input(alloc, reader) {
         Ok(input) => match answer(alloc, &input) {

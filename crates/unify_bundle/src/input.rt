@@ -1,6 +1,6 @@
 //! Reading a bundle.
 
-ghost use Rattle.std.specs.Prelude.{◌≡◌, ◌≤◌, length, IfOk, IfErr, IfSome};
+ghost use Rattle.std.specs.Prelude.{◌≡◌, ◌+◌, ◌≤◌, length, IfOk, IfErr, IfSome};
 ghost use Rattle.unify_bundle.specs.Output.{TakesAtMost, IsReadTold, most_bundle_bytes};
 
 use crate::streams::Source;
@@ -26,7 +26,7 @@ pub fn read_input<R: Source>(alloc: Global, reader: &mut R) -> Result<Vec<u8>, R
     ensures fine { IfOk result (λ _. R.has_failed reader.new ≡ R.has_failed reader.old) }
     ensures failed { IfErr result
         (λ fault. IsReadTold (R.left reader.old) (R.has_failed reader.new) fault) }
-    ensures taken { TakesAtMost 268435457 (R.left reader.old) (R.left reader.new) }
+    ensures taken { TakesAtMost (most_bundle_bytes + 1) (R.left reader.old) (R.left reader.new) }
 {
     let mut input = Vec::new(alloc);
     let mut buffer = [0u8; 4096];

@@ -1,9 +1,12 @@
 //! What holds of the answers of commands.
 ghost use Rattle.unify_bundle.specs.AnswersBack.{AcceptedIsRead, CostsAreRead, MergesAreRead};
 ghost use Rattle.unify_bundle.specs.AnswersBack.{MergesWithHostsAreRead, RecordsAreRead};
+ghost use Rattle.unify_bundle.specs.GoingOut.{AnswersAreWritten, BundlesAreAnswered};
+ghost use Rattle.unify_bundle.specs.GoingOut.{InputsAreTold, NoReplyGoesOut, RepliesGoOut};
 ghost use Rattle.unify_bundle.specs.TakenFiles.{ChecksHaveTheirCertificate, CountsHaveTheirMap};
-ghost use Rattle.unify_bundle.specs.TakenFiles.{HostsHaveTheirFiles, RehearsalsHaveTheirFiles};
-ghost use Rattle.unify_bundle.specs.TakenFiles.{RulesHaveTheirFiles};
+ghost use Rattle.unify_bundle.specs.TakenFiles.{FilesHaveOneText, HostsHaveTheirFiles};
+ghost use Rattle.unify_bundle.specs.TakenFiles.{MergesHaveTheirHosts, RehearsalsHaveTheirFiles};
+ghost use Rattle.unify_bundle.specs.TakenFiles.{RulesHaveTheirFiles, SurveysRefuse};
 
 /// What goes out for a command is read back, word by word and line by line: the two costs of a
 /// count and of a merge, the cost of a certificate that is accepted, the number of records of a
@@ -17,14 +20,31 @@ pub fn answers_are_read_back()
     ensures hosts { MergesWithHostsAreRead }
 {}
 
-/// Each file of a bundle is read where it belongs: those of a host as the texts of that host, pins
-/// and keep text as the rules of the site, the keep text also for the numbers without an account,
-/// the map by a count, the certificate by a check, and plan and inventory by a rehearsal. A file
-/// that is not there is read as an empty one.
+/// Each file of a bundle is read where it belongs, and as an empty one where it is not there: those
+/// of a host as the texts of that host, pins and keep text as the rules of the site, the keep text
+/// also for the numbers without an account. By these, and by no other texts, the commands reply: a
+/// count with the cost of the map, a check with what the certificate proves, a merge with a right
+/// outcome for all the hosts, with their own files where these are asked for, and a rehearsal with
+/// what the plan does on the inventory beside it; or each with its first fault.
 pub fn bundle_files_are_taken()
+    ensures texts { FilesHaveOneText }
     ensures hosts { HostsHaveTheirFiles }
     ensures rules { RulesHaveTheirFiles }
     ensures counts { CountsHaveTheirMap }
     ensures checks { ChecksHaveTheirCertificate }
+    ensures merges { MergesHaveTheirHosts }
+    ensures surveys { SurveysRefuse }
     ensures rehearsals { RehearsalsHaveTheirFiles }
+{}
+
+/// What goes out for a bundle is a reply of its command to its places, and for any other text its
+/// first bad line. The lines of a reply go out as they are, with status 0, and a fault as its line
+/// with the status of the fault, which is never 0. Where a read failed, or there is too much, that
+/// is told in their place, and where memory is wanting, that may be.
+pub fn replies_go_out()
+    ensures replies { RepliesGoOut }
+    ensures none { NoReplyGoesOut }
+    ensures bundles { BundlesAreAnswered }
+    ensures inputs { InputsAreTold }
+    ensures answers { AnswersAreWritten }
 {}

@@ -11,7 +11,7 @@ use hosts_join::HostText;
 use idtext::push_number;
 use std::alloc::{AllocError, Global};
 use unify::{Cost, KeepRules, SiteRules};
-use unify_texts::{Fault, push_fault};
+use unify_texts::{Fault, fault_line};
 
 /// What goes out, and the exit status.
 #[derive(Drop)]
@@ -28,10 +28,8 @@ pub fn refused(alloc: Global, fault: &Fault<'_>) -> Result<Reply, AllocError>
     if matches!(fault, Fault::Memory) {
         return Err(AllocError);
     }
-    let mut text = Vec::new(alloc);
-    push_fault(alloc, &mut text, fault)?;
     Ok(Reply {
-        text,
+        text: fault_line(alloc, fault)?,
         status: fault.status(),
     })
 }

@@ -93,7 +93,7 @@ fn push_file(alloc: Global, name: &mut Vec<u8>, text: &mut Vec<u8>, files: &mut 
 }
 
 impl<'a> TextFiles<'a> {
-    ghost use Rattle.std.specs.Prelude.{◌≡◌, None};
+    ghost use Rattle.std.specs.Prelude.{◌≡◌, None, Some};
     ghost use Rattle.unify_merge.specs.Ledger.{nothing};
     ghost use Rattle.unify_bundle.specs.TextFiles.{ReadsTexts, ledger_of};
     ghost use Rattle.unify_bundle.specs.Answers as spec;
@@ -126,6 +126,14 @@ impl<'a> TextFiles<'a> {
         in_memory(answer)
     }
 
+    // Notes that a call fails, and gives what it answers.
+    fn refuse(&mut self) -> CallFailed
+        ensures { self.new ≡ record self.old { failure = Some result } }
+    {
+        self.failure = Some(REFUSED);
+        REFUSED
+    }
+
     /// The files that were finished, in their order. No cost.
     pub fn into_files(self) -> Vec<NamedText>
         ensures { result.items ≡ self.entry.done.finished }
@@ -144,8 +152,7 @@ impl ReadFiles for TextFiles<'_> {
 
     fn open(&mut self, host: usize) -> Result<(), CallFailed> {
         let Some(text) = self.hosts.get(host) else {
-            self.failure = Some(REFUSED);
-            return Err(REFUSED);
+            return Err(self.refuse());
         };
         self.left = text.mtree.bytes();
         self.log.note(&Call::Open(host));
@@ -156,8 +163,7 @@ impl ReadFiles for TextFiles<'_> {
         let (next, rest) = self.left.split_at(self.left.len().min(MOST_PIECE));
         bytes.clear();
         if bytes.extend_from_slice(next).is_err() {
-            self.failure = Some(REFUSED);
-            return Err(REFUSED);
+            return Err(self.refuse());
         }
         self.left = rest;
         self.log.note(&Call::Piece(bytes));
@@ -175,8 +181,7 @@ impl MergeFiles for TextFiles<'_> {
 
     fn begin(&mut self, name: &[u8]) -> Result<(), CallFailed> {
         let Ok(copy) = Vec::from_slice(self.alloc, name) else {
-            self.failure = Some(REFUSED);
-            return Err(REFUSED);
+            return Err(self.refuse());
         };
         self.is_writing = true;
         self.name = copy;
@@ -187,8 +192,7 @@ impl MergeFiles for TextFiles<'_> {
 
     fn append(&mut self, bytes: &[u8]) -> Result<(), CallFailed> {
         if self.text.extend_from_slice(bytes).is_err() {
-            self.failure = Some(REFUSED);
-            return Err(REFUSED);
+            return Err(self.refuse());
         }
         self.log.note(&Call::Append(bytes));
         Ok(())
@@ -196,8 +200,7 @@ impl MergeFiles for TextFiles<'_> {
 
     fn finish(&mut self) -> Result<(), CallFailed> {
         if self.files.reserve(1).is_err() {
-            self.failure = Some(REFUSED);
-            return Err(REFUSED);
+            return Err(self.refuse());
         }
         if self.is_writing {
             push_file(self.alloc, &mut self.name, &mut self.text, &mut self.files);
@@ -209,12 +212,10 @@ impl MergeFiles for TextFiles<'_> {
 
     fn seal(&mut self, name: &[u8], text: &[u8]) -> Result<(), CallFailed> {
         let Ok(file) = file_of(self.alloc, name, text) else {
-            self.failure = Some(REFUSED);
-            return Err(REFUSED);
+            return Err(self.refuse());
         };
         if self.files.push(file).is_err() {
-            self.failure = Some(REFUSED);
-            return Err(REFUSED);
+            return Err(self.refuse());
         }
         self.is_writing = false;
         self.log.note(&Call::Seal(name, text));

@@ -6,8 +6,8 @@ use Rattle.unify_bundle.specs.TextFiles.{Holds, open_file}
 use Rattle.unify_bundle.proofs.InMemory.{held_piece, none}
 use Rattle.unify_bundle.proofs.text_files.TextFilesReadFiles.piece.Goals as goal
 
-pub invariant_of-self-2 : goal.invariant_of-self-2
-invariant_of-self-2 c =
+pub invariant_of-self : goal.invariant_of-self
+invariant_of-self c =
     let here = c.self.inside in
     let texts = mtrees here.hosts.now in
     let writing = open_file here.is_writing here.name.items here.text.items in
