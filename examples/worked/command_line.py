@@ -27,6 +27,8 @@ TEXTS = {
     "pins": "user bob 1005\n",
     "bad": "no line of any text\n",
     "cut-pins": "user bob 1005",
+    "low-pins": "user bob 6\n",
+    "low-keep": "users 5 7\n",
     "returns-pins": "user bob 1005\r\n",
     "returns-keep": "user bob\r\n",
     "returns-map": (STORED / "map").read_text().replace("\n", "\r\n"),
@@ -129,6 +131,9 @@ WRITTEN = {
 UNOWNED = {"unowned": "./file uid=7 gid=100\n"}
 UNOWNED_TOLD = "unify: 25 UnownedUid host b uid 7 file\n"
 MAY_STAY = "unify: hint: --keep FILE leaves accounts and numbers as they are on each host\n"
+MAKE_AGAIN = "unify: hint: the inventory was cut; copy or make it again\n"
+OTHER_PIN = "unify: hint: pin another number, or see what the keep text says of this one\n"
+WIDER_RANGE = "unify: hint: widen this range of numbers in the hosts' login.defs\n"
 WAS_CUT = "unify: 45 CutInventory host b mtree line {}\n".format
 # Hosts that are a without a file, and one whose passwd is refused and that has no inventory.
 LACKING = {"lacks-passwd": "passwd", "lacks-group": "group", "lacks-mtree": "mtree", "refused": "mtree"}
@@ -542,6 +547,9 @@ LOOKED_AT = [
     ("merge out a b=unowned", 1, UNOWNED_TOLD + MAY_STAY),
     ("merge -q out a b=unowned", 1, UNOWNED_TOLD),
     ("count map a", 1, "unify: 40 BadMap line 0\n"),
+    ("count map a b=cut", 1, WAS_CUT(4) + MAKE_AGAIN),
+    ("merge --keep low-keep --pins low-pins out a b", 1, "unify: 47 PinReserved user 6 bob range 5 7\n" + OTHER_PIN),
+    ("merge out a b=narrow", 1, "unify: 24 PoolTooSmall user regular 2 1\n" + WIDER_RANGE),
     # How far it is stands on one line, which is cleared before anything else is told.
     ("apply --check own-plan .", 0, ("\r\x1b[Kunify: looked at 2 of 2\r\x1b[K" + SEEN(1, 1, 0, 0, 0, 0) + "unify: warning: ",)),
     ("apply --check -q own-plan .", 0, SEEN(1, 1, 0, 0, 0, 0)),
@@ -591,6 +599,8 @@ def lay_out(room):
     for host, mtree in (WRITTEN | UNOWNED).items():
         shutil.copytree(STORED / "b", room / host)
         (room / host / "mtree").write_text(mtree)
+    shutil.copytree(STORED / "b", room / "narrow")
+    (room / "narrow/login.defs").write_text("UID_MIN 1001\nUID_MAX 1001\n")
     shutil.copytree(room / "web", room / "again")
     (room / "again/mtree").write_text(AGAIN)
     shutil.copytree(room / "web", room / "folded")

@@ -14,7 +14,6 @@ Prints the first difference and ends with status 1 there.
 """
 import os
 import pathlib
-import re
 import shutil
 import subprocess
 import sys
@@ -110,6 +109,8 @@ REFUSED = [
     ("a folder as mark", f"mkdir out/{MARK}", "out a b", "out: " + DIRECTORY(MARK)),
     ("a folder as mark beside a report", f"mkdir out/{MARK}; echo 'unify report 2' > out/report", "out a b", "out: " + DIRECTORY(MARK)),
     ("a folder as map beside a report", "mkdir out/map; echo 'unify report 2' > out/report", "out a b", "out: " + DIRECTORY("map")),
+    ("a folder as plan beside a report", "mkdir out/plan.b; echo 'unify report 2' > out/report", "out a b", "out: " + DIRECTORY("plan.b")),
+    ("a folder as passwd of a host that is no more", "mkdir out/passwd.c; echo 'unify plan 1 c' > out/plan.c; touch out/.unify-merge", "out a b", "out: " + DIRECTORY("passwd.c")),
     ("a folder at a temporary name", f"mkdir out/{TEMPORARY}map", "out a b", "out: " + DIRECTORY(TEMPORARY + "map")),
     ("an empty word", "", " a b", "-: an empty word"),
     ("an empty word behind -o", "", "-o  a b", "-: an empty word"),

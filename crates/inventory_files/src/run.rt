@@ -34,7 +34,7 @@ fn write_head(
     Err(root_refused(rt, word, RootFault::TooLong))
 }
 
-/// Writes the inventory of the files below each ROOT to standard output, and hands out the exit
+/// Writes the inventory of the files below each ROOT to standard output, and returns the exit
 /// status: 3 where something was left out, which is told on standard error. The last line, without
 /// which the inventory is refused, is written where each ROOT was listed.
 pub fn run_inventory(rt: &HostRuntime, matches: &ArgMatches<'_>) -> Result<u8, FileFault> {

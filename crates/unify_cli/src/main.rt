@@ -17,7 +17,7 @@ use words::{run_words, tell_help};
 /// How many bytes of standard input and output are read and written at once.
 const BUFFER_BYTES: usize = 65536;
 
-/// Answers the bundle on standard input, and hands out the exit status.
+/// Answers the bundle on standard input, and returns the exit status.
 fn run_stdin(rt: &HostRuntime) -> u8 {
     let Ok(reader) = BufReader::with_capacity(rt.alloc(), BUFFER_BYTES, rt.stdin()) else {
         return bundle_memory_refused(rt);
@@ -32,7 +32,7 @@ fn run_stdin(rt: &HostRuntime) -> u8 {
     )
 }
 
-/// Runs the command of the program's words, and hands out the exit status.
+/// Runs the command of the program's words, and returns the exit status.
 fn run_args(rt: &HostRuntime) -> u8 {
     let args = match env::args(rt) {
         Ok(args) => args,

@@ -2,37 +2,33 @@
 
 use crate::inventories::{HostFiles, LastInventory};
 use std::str;
-use unify_io::{FileFault, NewFile, begin_output, finish_output, internal_error};
+use unify_io::{FileFault, NewFile, OutputDirectory, internal_error};
 use unify_merge::{Call, CallFailed, MergeFiles, ReadFiles};
 
-// The directory that is written into.
+// The directory that is written into, and the file of it that is written.
 #[derive(Drop)]
 struct Output<'w> {
-    rt: &'w HostRuntime,
-    directory: &'w str,
-    // The hosts that are merged.
-    words: &'w [&'w str],
-    // The file that is written.
+    directory: OutputDirectory<'w>,
     file: Option<NewFile>,
 }
 
 impl Output<'_> {
     // No call has begun the file that this one goes on with.
     fn not_begun(&self) -> FileFault {
-        internal_error(self.rt, "no file is begun")
+        internal_error(self.directory.rt, "no file is begun")
     }
 
     // Begins a file.
     fn begin(&mut self, name: &[u8]) -> Result<(), FileFault> {
         let name = str::from_utf8(name).unwrap_or("");
-        self.file = Some(NewFile::create(self.rt, self.directory, name)?);
+        self.file = Some(NewFile::create(&self.directory, name)?);
         Ok(())
     }
 
     // Appends bytes to the file.
     fn append(&mut self, bytes: &[u8]) -> Result<(), FileFault> {
         match &mut self.file {
-            Some(file) => file.write(self.rt, bytes),
+            Some(file) => file.write(self.directory.rt, bytes),
             None => Err(self.not_begun()),
         }
     }
@@ -40,7 +36,7 @@ impl Output<'_> {
     // Gives the file its name.
     fn finish(&mut self) -> Result<(), FileFault> {
         match &mut self.file {
-            Some(file) => file.keep(self.rt)?,
+            Some(file) => file.keep(self.directory.rt)?,
             None => return Err(self.not_begun()),
         }
         self.file = None;
@@ -48,7 +44,7 @@ impl Output<'_> {
     }
 }
 
-/// The files of a merge of the hosts that words name into a directory.
+/// The files of a merge into a directory.
 #[derive(Drop)]
 pub struct SiteFiles<'w> {
     read: HostFiles<'w>,
@@ -57,18 +53,11 @@ pub struct SiteFiles<'w> {
 
 impl<'w> SiteFiles<'w> {
     /// Nothing is read or written as yet. Unless it is to be quiet it warns of hosts without files.
-    pub fn new(
-        rt: &'w HostRuntime,
-        directory: &'w str,
-        words: &'w [&'w str],
-        is_quiet: bool,
-    ) -> SiteFiles<'w> {
+    pub fn new(directory: OutputDirectory<'w>, is_quiet: bool) -> SiteFiles<'w> {
         SiteFiles {
-            read: HostFiles::new(rt, words, is_quiet),
+            read: HostFiles::new(directory.rt, directory.words, is_quiet),
             output: Output {
-                rt,
                 directory,
-                words,
                 file: None,
             },
         }
@@ -82,7 +71,7 @@ impl<'w> SiteFiles<'w> {
     /// Removes what there is of a file that was not finished.
     pub fn discard(&self) {
         if let Some(file) = &self.output.file {
-            file.discard(self.output.rt);
+            file.discard(self.output.directory.rt);
         }
     }
 }
@@ -109,8 +98,7 @@ impl ReadFiles for SiteFiles<'_> {
 
 impl MergeFiles for SiteFiles<'_> {
     fn clear(&mut self) -> Result<(), CallFailed> {
-        let at = &self.output;
-        let done = begin_output(at.rt, at.directory, at.words);
+        let done = self.output.directory.begin();
         self.read.calls.note(done, &Call::Clear)
     }
 
@@ -130,8 +118,7 @@ impl MergeFiles for SiteFiles<'_> {
     }
 
     fn seal(&mut self, name: &[u8], text: &[u8]) -> Result<(), CallFailed> {
-        let at = &self.output;
-        let done = finish_output(at.rt, at.directory, name, text);
+        let done = self.output.directory.finish(name, text);
         self.read.calls.note(done, &Call::Seal(name, text))
     }
 }

@@ -13,15 +13,15 @@ use unify_bundle::{
     FilesAnswer, NoReply, check_answer, count_answer, merge_answer, rehearse_answer,
 };
 use unify_io::{
-    FileFault, command_line, file_fault_told, internal_error, memory_refused, no_host, open_output,
-    print_answer, read_file, read_hosts_tables, read_named, tell_of_keep, warn_of_hosts_tables,
-    warn_of_merge, warn_of_text, write_failed, wrong_words,
+    FileFault, OutputDirectory, command_line, file_fault_told, internal_error, memory_refused,
+    no_host, print_answer, read_file, read_hosts_tables, read_named, tell_advice,
+    warn_of_hosts_tables, warn_of_merge, warn_of_text, write_failed, wrong_words,
 };
 use unify_merge::MergeFault;
 use verify_files::run_verify;
 
-// Prints what a command on files answers, and hands out the exit status. Unless it is to be quiet
-// it tells of keep texts, where one may help and somebody looks on.
+// Prints what a command on files answers, and returns the exit status. Unless it is to be quiet it
+// gives advice after a refusal.
 fn print_reply<T, F: LastInventory>(
     rt: &HostRuntime,
     files: &F,
@@ -36,7 +36,7 @@ fn print_reply<T, F: LastInventory>(
     };
     let status = print_answer(rt, reply.status, &reply.text);
     match &answer.found {
-        Err(MergeFault::Refused(fault)) if !is_quiet => tell_of_keep(rt, fault),
+        Err(MergeFault::Refused(fault)) if !is_quiet => tell_advice(rt, fault),
         _ => {}
     }
     Ok(status)
@@ -96,7 +96,7 @@ impl<'w> SiteInput<'w> {
 }
 
 // Prints what a map costs on a site.
-fn count_by(
+fn print_count(
     rt: &HostRuntime,
     matches: &ArgMatches<'_>,
     site: &SiteInput<'_>,
@@ -121,11 +121,11 @@ fn count_by(
 fn run_count(rt: &HostRuntime, matches: &ArgMatches<'_>) -> Result<u8, FileFault> {
     let map = read_file(rt, matches.get_str("MAP").unwrap_or(""))?;
     let site = SiteInput::read(rt, matches, matches.get_strs("HOST").unwrap_or(&[]))?;
-    count_by(rt, matches, &site, &map)
+    print_count(rt, matches, &site, &map)
 }
 
 // Prints what a check of a certificate of a site gives.
-fn check_by(
+fn print_check(
     rt: &HostRuntime,
     matches: &ArgMatches<'_>,
     site: &SiteInput<'_>,
@@ -148,7 +148,7 @@ fn check_by(
 fn run_check(rt: &HostRuntime, matches: &ArgMatches<'_>) -> Result<u8, FileFault> {
     let certificate = read_file(rt, matches.get_str("CERTIFICATE").unwrap_or(""))?;
     let site = SiteInput::read(rt, matches, matches.get_strs("HOST").unwrap_or(&[]))?;
-    check_by(rt, matches, &site, &certificate)
+    print_check(rt, matches, &site, &certificate)
 }
 
 // rehearse PLAN MTREE
@@ -160,33 +160,28 @@ fn run_rehearse(rt: &HostRuntime, matches: &ArgMatches<'_>) -> Result<u8, FileFa
 }
 
 // Merges a site into a directory, warns of what it gives, and prints what it costs.
-fn merge_by(
-    rt: &HostRuntime,
+fn merge_site(
     matches: &ArgMatches<'_>,
-    directory: &str,
+    directory: OutputDirectory<'_>,
     site: &SiteInput<'_>,
 ) -> Result<u8, FileFault> {
+    let rt = directory.rt;
     site.warn(rt, matches)?;
-    let mut files = SiteFiles::new(rt, directory, site.words, site.is_quiet);
+    let mut files = SiteFiles::new(directory, site.is_quiet);
     let (pins, keep) = (site.pins.bytes(), site.keep.bytes());
     let answer = merge_answer(rt.alloc(), &mut files, &site.hosts, pins, keep);
     if answer.found.is_err() {
         files.discard();
     } else if !site.is_quiet {
-        site.warn_of_output(rt, directory, files.file_lines());
+        site.warn_of_output(rt, directory.path, files.file_lines());
     }
     print_reply(rt, &files, &answer, site.is_quiet)
 }
 
-// Merges the hosts that words name into a directory, which is locked.
-fn merge_words(
-    rt: &HostRuntime,
-    matches: &ArgMatches<'_>,
-    directory: &str,
-    words: &[&str],
-) -> Result<u8, FileFault> {
-    let site = SiteInput::read(rt, matches, words)?;
-    merge_by(rt, matches, directory, &site)
+// Reads the hosts of a directory that is locked, and merges them into it.
+fn merge_locked(matches: &ArgMatches<'_>, directory: OutputDirectory<'_>) -> Result<u8, FileFault> {
+    let site = SiteInput::read(directory.rt, matches, directory.words)?;
+    merge_site(matches, directory, &site)
 }
 
 // Merges the hosts that words name into a directory, which is looked at first, and is locked until
@@ -194,11 +189,12 @@ fn merge_words(
 fn merge_into(
     rt: &HostRuntime,
     matches: &ArgMatches<'_>,
-    directory: &str,
+    path: &str,
     words: &[&str],
 ) -> Result<u8, FileFault> {
-    let locked = open_output(rt, directory, words)?;
-    let merged = merge_words(rt, matches, directory, words);
+    let directory = OutputDirectory { rt, path, words };
+    let locked = directory.open()?;
+    let merged = merge_locked(matches, directory);
     drop(locked);
     merged
 }
@@ -306,7 +302,7 @@ pub fn tell_help(rt: &HostRuntime) -> u8 {
     run_named(rt, &["unify", "--help"])
 }
 
-/// Runs the command of the words after the program's name, and hands out the exit status.
+/// Runs the command of the words after the program's name, and returns the exit status.
 pub fn run_words(rt: &HostRuntime, words: &[String]) -> u8 {
     match named(rt, words) {
         Ok(words) => run_named(rt, &words),

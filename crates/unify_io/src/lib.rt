@@ -24,10 +24,10 @@ pub use files::{FileFault, MACHINE_NAME, host_name, read_file, read_hosts_tables
 pub use inventory::InventoryFile;
 pub use merge_warnings::warn_of_merge;
 pub use message::Part;
-pub use output::open_output;
+pub use output::OutputDirectory;
 pub use report::{
     bundle_memory_refused, file_failed, file_fault_told, internal_error, memory_refused, no_host,
-    print_answer, tell_of, tell_of_keep, write_failed, wrong_words,
+    print_answer, tell_advice, tell_hint, tell_of, write_failed, wrong_words,
 };
 pub use warnings::{MOST_LINES, warn, warn_of_hosts_tables, warn_of_inventory, warn_of_text};
-pub use writing::{NewFile, begin_output, finish_output};
+pub use writing::NewFile;

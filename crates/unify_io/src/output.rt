@@ -7,7 +7,7 @@ use crate::report::output_refused;
 use std::alloc::AllocError;
 use std::fs::{DirEntry, File, Metadata, TryLockError};
 use std::os::unix::fs::MetadataExt;
-use std::path::Path;
+use std::path::{Path, PathBuf};
 use std::{fs, io};
 
 /// What a merge that was begun and did not end leaves in its directory.
@@ -58,34 +58,6 @@ const HOST_FILES: [&str; 3] = ["mtree", "login.defs", "shadow"];
 // Files that a merge writes, except for those of each host.
 const MERGED_FILES: [&str; 5] = ["passwd", "group", "map", "certificate", "report"];
 
-// The host whose directory it is, among those that words name.
-fn host_of<'w>(rt: &HostRuntime, found: &Metadata, words: &[&'w str]) -> Option<&'w str> {
-    for word in words {
-        let directory = host_directory(*word);
-        let named = if directory.is_empty() { "." } else { directory };
-        if let Ok(host) = fs::metadata(rt, named) {
-            if host.dev() == found.dev() && host.ino() == found.ino() {
-                return Some(host_name(*word));
-            }
-        }
-    }
-    None
-}
-
-// The first of these names that stands in a directory.
-fn first_held<'n>(
-    rt: &HostRuntime,
-    directory: &str,
-    names: &[&'n str],
-) -> Result<Option<&'n str>, FileFault> {
-    for name in names {
-        if holds(rt, directory, *name)? {
-            return Ok(Some(*name));
-        }
-    }
-    Ok(None)
-}
-
 // Notes a name, if it begins so.
 fn note_name(
     rt: &HostRuntime,
@@ -99,7 +71,8 @@ fn note_name(
     Ok(())
 }
 
-// Notes the name of an entry of a directory, if it begins so. One that is no text begins otherwise.
+// Notes the name of an entry of a directory, if it begins so. A name that is not UTF-8 is passed
+// over.
 fn note_entry(
     rt: &HostRuntime,
     names: &mut Vec<String>,
@@ -126,91 +99,10 @@ fn note_names(
     Ok(())
 }
 
-/// The names in a directory that begin so. One that is no text begins otherwise.
-pub fn names_with(
-    rt: &HostRuntime,
-    directory: &str,
-    start: &str,
-) -> Result<Vec<String>, FileFault> {
-    let mut names = Vec::new(rt.alloc());
-    or_told(rt, directory, note_names(rt, &mut names, directory, start))?;
-    Ok(names)
-}
-
 // Whether a file begins with these bytes.
 fn starts_with(rt: &HostRuntime, path: &str, start: &[u8]) -> io::Result<bool> {
     let bytes = read_start(rt, path, start.len() as u64)?;
     Ok(bytes.as_slice() == start)
-}
-
-/// Whether a name stands for a file that begins with these bytes.
-pub fn is_file_with(rt: &HostRuntime, path: &str, start: &[u8]) -> Result<bool, FileFault> {
-    match fs::metadata(rt, path) {
-        Ok(found) if found.is_file() => or_told(rt, path, starts_with(rt, path, start)),
-        _ => Ok(false),
-    }
-}
-
-// Whether a merge was made into a directory, or begun there.
-fn was_merged_into(rt: &HostRuntime, directory: &str) -> Result<bool, FileFault> {
-    if holds(rt, directory, MARK)? {
-        return Ok(true);
-    }
-    let report = Path::new(directory).join(rt.alloc(), "report")?;
-    is_file_with(rt, report.as_str(), b"unify report ")
-}
-
-// Refuses a directory that holds names that begin as those of the files of hosts do.
-fn refuse_names_with(rt: &HostRuntime, directory: &str, start: &str) -> Result<(), FileFault> {
-    match names_with(rt, directory, start)?.last() {
-        None => Ok(()),
-        Some(name) => Err(output_refused(rt, directory, OutputFault::Foreign(name.as_str()))),
-    }
-}
-
-// Refuses a directory that holds something that stands in the way of a first merge.
-fn refuse_foreign(rt: &HostRuntime, directory: &str) -> Result<(), FileFault> {
-    if let Some(name) = first_held(rt, directory, &MERGED_FILES)? {
-        return Err(output_refused(rt, directory, OutputFault::Foreign(name)));
-    }
-    for start in &[PLAN, OWN_PASSWD, OWN_GROUP] {
-        refuse_names_with(rt, directory, *start)?;
-    }
-    Ok(())
-}
-
-// Refuses a directory in which that name is of another directory.
-fn refuse_directory(rt: &HostRuntime, directory: &str, name: &str) -> Result<(), FileFault> {
-    if holds_directory(rt, directory, name)? {
-        Err(output_refused(rt, directory, OutputFault::Directory(name)))
-    } else {
-        Ok(())
-    }
-}
-
-// Refuses a directory in which a name of a merge's own is of another directory.
-fn refuse_directories(rt: &HostRuntime, directory: &str) -> Result<(), FileFault> {
-    refuse_directory(rt, directory, MARK)?;
-    for name in &MERGED_FILES {
-        refuse_directory(rt, directory, *name)?;
-    }
-    for name in &names_with(rt, directory, TEMPORARY)? {
-        refuse_directory(rt, directory, name.as_str())?;
-    }
-    Ok(())
-}
-
-// Refuses a directory that holds what no merge may change.
-fn refuse_held(rt: &HostRuntime, directory: &str) -> Result<(), FileFault> {
-    if let Some(name) = first_held(rt, directory, &HOST_FILES)? {
-        return Err(output_refused(rt, directory, OutputFault::HostFile(name)));
-    }
-    refuse_directories(rt, directory)?;
-    if was_merged_into(rt, directory)? {
-        Ok(())
-    } else {
-        refuse_foreign(rt, directory)
-    }
 }
 
 // Opens a directory. What is no directory is not opened.
@@ -219,54 +111,197 @@ fn open_directory(rt: &HostRuntime, directory: &str) -> io::Result<File> {
     File::open(rt, inside.as_str())
 }
 
-// Why a directory that was opened may not be written into, whatever it holds. If it may, it is
-// locked.
-fn fault_of_lock<'w>(
-    rt: &HostRuntime,
-    opened: &File,
-    words: &[&'w str],
-) -> Option<OutputFault<'w>> {
-    let found = match opened.metadata() {
-        Ok(found) => found,
-        Err(error) => return Some(OutputFault::System(error)),
-    };
-    if let Some(host) = host_of(rt, &found, words) {
-        return Some(OutputFault::HostDirectory(host));
-    }
-    match opened.try_lock() {
-        Ok(()) => None,
-        Err(TryLockError::WouldBlock) => Some(OutputFault::Busy),
-        Err(TryLockError::Error(error)) => Some(OutputFault::System(error)),
-    }
+/// The directory that hosts are merged into.
+#[derive(Clone, Copy)]
+pub struct OutputDirectory<'w> {
+    /// The runtime that its files are read and written with.
+    pub rt: &'w HostRuntime,
+    /// Where it is.
+    pub path: &'w str,
+    /// The words that name the hosts.
+    pub words: &'w [&'w str],
 }
 
-// Locks a directory that was opened, and looks at what it holds.
-fn lock_output(
-    rt: &HostRuntime,
-    opened: &File,
-    directory: &str,
-    words: &[&str],
-) -> Result<(), FileFault> {
-    match fault_of_lock(rt, opened, words) {
-        None => refuse_held(rt, directory),
-        Some(fault) => Err(output_refused(rt, directory, fault)),
+impl<'w> OutputDirectory<'w> {
+    /// The path of the name in it that a start and an end make.
+    pub fn path_of(&self, start: &str, end: &str) -> Result<PathBuf, AllocError> {
+        let name = format!(in self.rt.alloc(); "{start}{end}")?;
+        Path::new(self.path).join(self.rt.alloc(), name.as_str())
     }
-}
 
-/// Opens the directory that the hosts which words name are to be merged into. It is locked: no
-/// other merge is made into it until it is closed, which the end of the process does too. It is
-/// refused where it is not there, where it is or looks like the directory of a host, where another
-/// merge has it, where it holds a directory that has the name of a merge's file, and where it holds
-/// what a merge would write and no merge wrote.
-pub fn open_output(rt: &HostRuntime, directory: &str, words: &[&str]) -> Result<File, FileFault> {
-    if directory.is_empty() {
-        return Err(output_refused(rt, directory, OutputFault::EmptyWord));
+    /// The names in it that begin so. A name that is not UTF-8 is passed over.
+    pub fn names_with(&self, start: &str) -> Result<Vec<String>, FileFault> {
+        let mut names = Vec::new(self.rt.alloc());
+        let noted = note_names(self.rt, &mut names, self.path, start);
+        or_told(self.rt, self.path, noted)?;
+        Ok(names)
     }
-    match open_directory(rt, directory) {
-        Ok(opened) => {
-            lock_output(rt, &opened, directory, words)?;
-            Ok(opened)
+
+    // Whether a name in it stands for a file that begins with these bytes.
+    fn has_file_with(&self, name: &str, end: &str, start: &[u8]) -> Result<bool, FileFault> {
+        let path = self.path_of(name, end)?;
+        match fs::metadata(self.rt, path.as_str()) {
+            Ok(found) if found.is_file() => or_told(
+                self.rt,
+                path.as_str(),
+                starts_with(self.rt, path.as_str(), start),
+            ),
+            _ => Ok(false),
         }
-        Err(error) => Err(output_refused(rt, directory, OutputFault::System(error))),
+    }
+
+    /// Whether a merge replaces or removes the files of the host of that name: it is one of those
+    /// that are merged, or an earlier merge wrote a plan for it.
+    pub fn takes_host(&self, host: &str) -> Result<bool, FileFault> {
+        if self.words.iter().any(|word| host_name(*word) == host) {
+            return Ok(true);
+        }
+        self.has_file_with(PLAN, host, b"unify plan ")
+    }
+
+    // Tells why nothing is written into it.
+    fn refused(&self, fault: OutputFault<'_>) -> FileFault {
+        output_refused(self.rt, self.path, fault)
+    }
+
+    // The first of these names that stands in it.
+    fn first_held<'n>(&self, names: &[&'n str]) -> Result<Option<&'n str>, FileFault> {
+        for name in names {
+            if holds(self.rt, self.path, *name)? {
+                return Ok(Some(*name));
+            }
+        }
+        Ok(None)
+    }
+
+    // Whether a merge was made into it, or begun there.
+    fn was_merged_into(&self) -> Result<bool, FileFault> {
+        if holds(self.rt, self.path, MARK)? {
+            return Ok(true);
+        }
+        self.has_file_with("report", "", b"unify report ")
+    }
+
+    // Refuses it if it holds names that begin as those of the files of hosts do.
+    fn refuse_names_with(&self, start: &str) -> Result<(), FileFault> {
+        match self.names_with(start)?.last() {
+            None => Ok(()),
+            Some(name) => Err(self.refused(OutputFault::Foreign(name.as_str()))),
+        }
+    }
+
+    // Refuses it if it holds something that stands in the way of a first merge.
+    fn refuse_foreign(&self) -> Result<(), FileFault> {
+        if let Some(name) = self.first_held(&MERGED_FILES)? {
+            return Err(self.refused(OutputFault::Foreign(name)));
+        }
+        for start in &[PLAN, OWN_PASSWD, OWN_GROUP] {
+            self.refuse_names_with(*start)?;
+        }
+        Ok(())
+    }
+
+    // Refuses it if that name is of a directory in it.
+    fn refuse_directory(&self, name: &str) -> Result<(), FileFault> {
+        if holds_directory(self.rt, self.path, name)? {
+            Err(self.refused(OutputFault::Directory(name)))
+        } else {
+            Ok(())
+        }
+    }
+
+    // Refuses it if a name that begins so, and is of a file of a host that a merge replaces or
+    // removes, is of a directory.
+    fn refuse_directories_with(&self, start: &str) -> Result<(), FileFault> {
+        for name in &self.names_with(start)? {
+            if self.takes_host(name.strip_prefix(start).unwrap_or(""))? {
+                self.refuse_directory(name.as_str())?;
+            }
+        }
+        Ok(())
+    }
+
+    // Refuses it if a name of a merge's own is of a directory.
+    fn refuse_directories(&self) -> Result<(), FileFault> {
+        self.refuse_directory(MARK)?;
+        for name in &MERGED_FILES {
+            self.refuse_directory(*name)?;
+        }
+        for name in &self.names_with(TEMPORARY)? {
+            self.refuse_directory(name.as_str())?;
+        }
+        Ok(())
+    }
+
+    // Refuses it if it holds what no merge may change.
+    fn refuse_held(&self) -> Result<(), FileFault> {
+        if let Some(name) = self.first_held(&HOST_FILES)? {
+            return Err(self.refused(OutputFault::HostFile(name)));
+        }
+        self.refuse_directories()?;
+        if !self.was_merged_into()? {
+            return self.refuse_foreign();
+        }
+        for start in &[OWN_PASSWD, OWN_GROUP, PLAN] {
+            self.refuse_directories_with(*start)?;
+        }
+        Ok(())
+    }
+
+    // The host whose directory it is, among those that words name.
+    fn host_of(&self, found: &Metadata) -> Option<&'w str> {
+        for word in self.words {
+            let directory = host_directory(*word);
+            let named = if directory.is_empty() { "." } else { directory };
+            if let Ok(host) = fs::metadata(self.rt, named) {
+                if host.dev() == found.dev() && host.ino() == found.ino() {
+                    return Some(host_name(*word));
+                }
+            }
+        }
+        None
+    }
+
+    // Why it may not be written into, whatever it holds, now that it was opened. If it may, it is
+    // locked.
+    fn fault_of_lock(&self, opened: &File) -> Option<OutputFault<'w>> {
+        let found = match opened.metadata() {
+            Ok(found) => found,
+            Err(error) => return Some(OutputFault::System(error)),
+        };
+        if let Some(host) = self.host_of(&found) {
+            return Some(OutputFault::HostDirectory(host));
+        }
+        match opened.try_lock() {
+            Ok(()) => None,
+            Err(TryLockError::WouldBlock) => Some(OutputFault::Busy),
+            Err(TryLockError::Error(error)) => Some(OutputFault::System(error)),
+        }
+    }
+
+    // Locks it, now that it was opened, and looks at what it holds.
+    fn lock(&self, opened: &File) -> Result<(), FileFault> {
+        match self.fault_of_lock(opened) {
+            None => self.refuse_held(),
+            Some(fault) => Err(self.refused(fault)),
+        }
+    }
+
+    /// Opens it. It is locked: no other merge is made into it until what is returned is closed,
+    /// which the end of the process does too. It is refused where it is not there, where it is or
+    /// looks like the directory of a host, where another merge has it, where it holds a directory
+    /// that has the name of a file that a merge writes or removes, and where it holds what a merge
+    /// would write and no merge wrote.
+    pub fn open(&self) -> Result<File, FileFault> {
+        if self.path.is_empty() {
+            return Err(self.refused(OutputFault::EmptyWord));
+        }
+        match open_directory(self.rt, self.path) {
+            Ok(opened) => {
+                self.lock(&opened)?;
+                Ok(opened)
+            }
+            Err(error) => Err(self.refused(OutputFault::System(error))),
+        }
     }
 }

@@ -5,7 +5,7 @@ use crate::files::FileFault;
 use crate::message::{Part, push_part};
 use crate::output::OutputFault;
 use clap::Error;
-use idtext::push_escaped;
+use idtext::{TextCode, push_escaped};
 use std::alloc::AllocError;
 use std::io;
 use std::io::{IsTerminal, Write};
@@ -133,23 +133,43 @@ pub fn output_refused(rt: &HostRuntime, directory: &str, fault: OutputFault<'_>)
     tell_of(rt, "output", directory.as_bytes(), &parts_of(fault), 2)
 }
 
-// Whether a refusal is of accounts or numbers that a keep text can leave as they are.
-fn is_of_what_may_stay(fault: &Fault<'_>) -> bool {
-    matches!(
-        fault,
-        Fault::PinDisagrees { .. }
-            | Fault::PinClash { .. }
-            | Fault::UnownedUid { .. }
-            | Fault::UnownedGid { .. }
-    )
+/// Gives advice, where standard error is a terminal.
+pub fn tell_hint(rt: &HostRuntime, advice: &str) {
+    if rt.stderr().is_terminal() {
+        let _ = rt.eprintln(advice);
+    }
 }
 
-/// Tells of keep texts after a refusal that one may take away, where standard error is a terminal.
-pub fn tell_of_keep(rt: &HostRuntime, fault: &Fault<'_>) {
-    if is_of_what_may_stay(fault) && rt.stderr().is_terminal() {
-        let _ = rt.eprintln(
-            "unify: hint: --keep FILE leaves accounts and numbers as they are on each host",
-        );
+// What may be done about a refusal, if anything is to be said of it.
+fn advice_on(fault: &Fault<'_>) -> Option<&'static str> {
+    match fault {
+        Fault::PinDisagrees { .. }
+        | Fault::PinClash { .. }
+        | Fault::UnownedUid { .. }
+        | Fault::UnownedGid { .. } => {
+            Some("unify: hint: --keep FILE leaves accounts and numbers as they are on each host")
+        }
+        Fault::PinReserved { .. } => {
+            Some("unify: hint: pin another number, or see what the keep text says of this one")
+        }
+        Fault::PoolTooSmall { .. } => {
+            Some("unify: hint: widen this range of numbers in the hosts' login.defs")
+        }
+        Fault::InventoryChanged(_) => {
+            Some("unify: hint: the inventory was written to while it was read; merge again")
+        }
+        Fault::Line {
+            fault: TextCode::CutInventory,
+            ..
+        } => Some("unify: hint: the inventory was cut; copy or make it again"),
+        _ => None,
+    }
+}
+
+/// Tells what may be done about a refusal, where standard error is a terminal.
+pub fn tell_advice(rt: &HostRuntime, fault: &Fault<'_>) {
+    if let Some(advice) = advice_on(fault) {
+        tell_hint(rt, advice);
     }
 }
 
@@ -175,7 +195,7 @@ pub fn internal_error(rt: &HostRuntime, what: &str) -> FileFault {
     }
 }
 
-/// Tells a fault that is still to be told, and hands out the status.
+/// Tells a fault that is still to be told, and returns the status.
 pub fn file_fault_told(rt: &HostRuntime, fault: FileFault) -> u8 {
     match fault {
         FileFault::Memory => memory_refused(rt),
@@ -210,7 +230,7 @@ fn wrong_words_text(rt: &HostRuntime, error: &Error) -> Result<Vec<u8>, AllocErr
     Ok(told)
 }
 
-/// Tells what is wrong with the words, and hands out the status.
+/// Tells what is wrong with the words, and returns the status.
 pub fn wrong_words(rt: &HostRuntime, error: &Error) -> u8 {
     match wrong_words_text(rt, error) {
         Ok(told) => {
@@ -221,7 +241,7 @@ pub fn wrong_words(rt: &HostRuntime, error: &Error) -> u8 {
     }
 }
 
-/// Prints an answer with its status, and hands out the status that the program ends with: a
+/// Prints an answer with its status, and returns the status that the program ends with: a
 /// refusal goes to standard error.
 pub fn print_answer(rt: &HostRuntime, status: u8, text: &[u8]) -> u8 {
     if status != 0 {

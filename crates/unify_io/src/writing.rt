@@ -1,25 +1,13 @@
 //! The files that a merge writes. Each is written under a name of its own, synced and renamed, so
 //! that none is ever cut; and a report stands only where all others are those of its merge.
 
-use crate::files::{FileFault, host_name, or_told};
-use crate::output::{MARK, OWN_GROUP, OWN_PASSWD, PLAN, TEMPORARY, is_file_with, names_with};
+use crate::files::{FileFault, or_told};
+use crate::output::{MARK, OWN_GROUP, OWN_PASSWD, OutputDirectory, PLAN, TEMPORARY};
 use crate::report::file_failed;
-use std::alloc::AllocError;
 use std::fs::File;
 use std::io::{BufWriter, Write};
-use std::path::{Path, PathBuf};
+use std::path::PathBuf;
 use std::{fs, io, str};
-
-// The path in a directory of the name that a start and an end make.
-fn path_of(
-    rt: &HostRuntime,
-    directory: &str,
-    start: &str,
-    end: &str,
-) -> Result<PathBuf, AllocError> {
-    let name = format!(in rt.alloc(); "{start}{end}")?;
-    Path::new(directory).join(rt.alloc(), name.as_str())
-}
 
 // How many bytes of a file are handed on at once, at least: a plan comes in many small pieces.
 const BUFFER_BYTES: usize = 65536;
@@ -34,9 +22,10 @@ pub struct NewFile {
 
 impl NewFile {
     /// Begins a file of a directory. What stands at its name stays until it is kept.
-    pub fn create(rt: &HostRuntime, directory: &str, name: &str) -> Result<NewFile, FileFault> {
-        let temporary = path_of(rt, directory, TEMPORARY, name)?;
-        let path = Path::new(directory).join(rt.alloc(), name)?;
+    pub fn create(output: &OutputDirectory<'_>, name: &str) -> Result<NewFile, FileFault> {
+        let rt = output.rt;
+        let temporary = output.path_of(TEMPORARY, name)?;
+        let path = output.path_of(name, "")?;
         let file = match File::create_new(rt, temporary.as_str()) {
             Ok(file) => file,
             Err(error) => return Err(file_failed(rt, temporary.as_str(), &error)),
@@ -90,13 +79,6 @@ impl NewFile {
     }
 }
 
-// Writes a text as a file of a directory.
-fn write_file(rt: &HostRuntime, directory: &str, name: &str, text: &[u8]) -> Result<(), FileFault> {
-    let mut file = NewFile::create(rt, directory, name)?;
-    file.write(rt, text)?;
-    file.keep(rt)
-}
-
 // What a call gave, except for a failure of that kind, which is none.
 fn unless(done: io::Result<()>, kind: io::ErrorKind) -> io::Result<()> {
     match done {
@@ -111,107 +93,99 @@ fn open_and_sync(rt: &HostRuntime, directory: &str) -> io::Result<()> {
     opened.sync_all()
 }
 
-// Syncs a directory. A file system that has no sync of directories needs none.
-fn sync_directory(rt: &HostRuntime, directory: &str) -> Result<(), FileFault> {
-    let synced = unless(open_and_sync(rt, directory), io::ErrorKind::InvalidInput);
-    or_told(rt, directory, synced)
-}
-
-// Removes a name from a directory, if it is there.
-fn remove(rt: &HostRuntime, directory: &str, name: &str) -> Result<(), FileFault> {
-    let path = Path::new(directory).join(rt.alloc(), name)?;
-    let removed = unless(fs::remove_file(rt, path.as_str()), io::ErrorKind::NotFound);
-    or_told(rt, path.as_str(), removed)
-}
-
 // Makes an empty file.
 fn make_empty(rt: &HostRuntime, path: &str) -> io::Result<()> {
     let _made = File::create_new(rt, path)?;
     Ok(())
 }
 
-// Marks a directory as one that a merge has begun to write into.
-fn mark(rt: &HostRuntime, directory: &str) -> Result<(), FileFault> {
-    let path = Path::new(directory).join(rt.alloc(), MARK)?;
-    let marked = unless(make_empty(rt, path.as_str()), io::ErrorKind::AlreadyExists);
-    or_told(rt, path.as_str(), marked)?;
-    sync_directory(rt, directory)
-}
-
-// Whether a merge wrote a plan for the host of that name.
-fn has_plan(rt: &HostRuntime, directory: &str, host: &str) -> Result<bool, FileFault> {
-    let path = path_of(rt, directory, PLAN, host)?;
-    is_file_with(rt, path.as_str(), b"unify plan ")
-}
-
-// Removes what has the name of a file of a host, if a merge wrote a plan for this host or one will.
-fn remove_of_host(
-    rt: &HostRuntime,
-    directory: &str,
-    name: &str,
-    start: &str,
-    words: &[&str],
-) -> Result<(), FileFault> {
-    let host = name.strip_prefix(start).unwrap_or("");
-    if words.iter().any(|word| host_name(*word) == host) || has_plan(rt, directory, host)? {
-        remove(rt, directory, name)?;
+impl OutputDirectory<'_> {
+    // Syncs it. A file system that has no sync of directories needs none.
+    fn sync(&self) -> Result<(), FileFault> {
+        let synced = open_and_sync(self.rt, self.path);
+        or_told(
+            self.rt,
+            self.path,
+            unless(synced, io::ErrorKind::InvalidInput),
+        )
     }
-    Ok(())
-}
 
-// Removes the files of hosts that have such names.
-fn remove_with(
-    rt: &HostRuntime,
-    directory: &str,
-    start: &str,
-    words: &[&str],
-) -> Result<(), FileFault> {
-    for name in &names_with(rt, directory, start)? {
-        remove_of_host(rt, directory, name.as_str(), start, words)?;
+    // Removes a name from it, if it is there.
+    fn remove(&self, name: &str) -> Result<(), FileFault> {
+        let path = self.path_of(name, "")?;
+        let removed = fs::remove_file(self.rt, path.as_str());
+        or_told(
+            self.rt,
+            path.as_str(),
+            unless(removed, io::ErrorKind::NotFound),
+        )
     }
-    Ok(())
-}
 
-// Removes the files of hosts that an earlier merge wrote, also those of hosts that are no more. The
-// plans go last, since they tell whose the others are.
-fn remove_of_hosts(rt: &HostRuntime, directory: &str, words: &[&str]) -> Result<(), FileFault> {
-    for start in &[OWN_PASSWD, OWN_GROUP, PLAN] {
-        remove_with(rt, directory, *start, words)?;
+    // Marks it as one that a merge has begun to write into.
+    fn mark(&self) -> Result<(), FileFault> {
+        let path = self.path_of(MARK, "")?;
+        let made = make_empty(self.rt, path.as_str());
+        or_told(
+            self.rt,
+            path.as_str(),
+            unless(made, io::ErrorKind::AlreadyExists),
+        )?;
+        self.sync()
     }
-    Ok(())
-}
 
-// Removes what a merge that was cut off left under temporary names.
-fn remove_temporary(rt: &HostRuntime, directory: &str) -> Result<(), FileFault> {
-    for name in &names_with(rt, directory, TEMPORARY)? {
-        remove(rt, directory, name.as_str())?;
+    // Removes the files of hosts that have names which begin so, if an earlier merge wrote a plan
+    // for the host or this one will.
+    fn remove_with(&self, start: &str) -> Result<(), FileFault> {
+        for name in &self.names_with(start)? {
+            if self.takes_host(name.strip_prefix(start).unwrap_or(""))? {
+                self.remove(name.as_str())?;
+            }
+        }
+        Ok(())
     }
-    Ok(())
-}
 
-/// Begins to write a merge of the hosts that words name into a directory: the report, the hosts'
-/// own files and the plans of an earlier merge go before any of its other files does, then its
-/// passwd and group, which not every merge writes; and the directory has a mark until the new
-/// report stands.
-pub fn begin_output(rt: &HostRuntime, directory: &str, words: &[&str]) -> Result<(), FileFault> {
-    mark(rt, directory)?;
-    remove(rt, directory, "report")?;
-    remove_of_hosts(rt, directory, words)?;
-    remove(rt, directory, "passwd")?;
-    remove(rt, directory, "group")?;
-    remove_temporary(rt, directory)?;
-    sync_directory(rt, directory)
-}
+    // Removes the files of hosts that an earlier merge wrote, also those of hosts that are no more.
+    // The plans go last, since they tell whose the others are.
+    fn remove_of_hosts(&self) -> Result<(), FileFault> {
+        for start in &[OWN_PASSWD, OWN_GROUP, PLAN] {
+            self.remove_with(*start)?;
+        }
+        Ok(())
+    }
 
-/// Ends a merge whose other files are all written, by its last file.
-pub fn finish_output(
-    rt: &HostRuntime,
-    directory: &str,
-    name: &[u8],
-    text: &[u8],
-) -> Result<(), FileFault> {
-    sync_directory(rt, directory)?;
-    write_file(rt, directory, str::from_utf8(name).unwrap_or(""), text)?;
-    sync_directory(rt, directory)?;
-    remove(rt, directory, MARK)
+    // Removes what a merge that was cut off left under temporary names.
+    fn remove_temporary(&self) -> Result<(), FileFault> {
+        for name in &self.names_with(TEMPORARY)? {
+            self.remove(name.as_str())?;
+        }
+        Ok(())
+    }
+
+    /// Begins to write a merge into it: the report, the hosts' own files and the plans of an
+    /// earlier merge go before any of its other files does, then its passwd and group, which not
+    /// every merge writes; and the directory has a mark until the new report stands.
+    pub fn begin(&self) -> Result<(), FileFault> {
+        self.mark()?;
+        self.remove("report")?;
+        self.remove_of_hosts()?;
+        self.remove("passwd")?;
+        self.remove("group")?;
+        self.remove_temporary()?;
+        self.sync()
+    }
+
+    // Writes a text as a file of it.
+    fn write_file(&self, name: &str, text: &[u8]) -> Result<(), FileFault> {
+        let mut file = NewFile::create(self, name)?;
+        file.write(self.rt, text)?;
+        file.keep(self.rt)
+    }
+
+    /// Ends a merge whose other files are all written, by its last file.
+    pub fn finish(&self, name: &[u8], text: &[u8]) -> Result<(), FileFault> {
+        self.sync()?;
+        self.write_file(str::from_utf8(name).unwrap_or(""), text)?;
+        self.sync()?;
+        self.remove(MARK)
+    }
 }
