@@ -8,4 +8,5 @@ pub mod NearestLaw
 pub mod PathLaws
 pub mod PathLemmas
 pub mod SecondWay
+pub mod Statuses
 pub mod WrittenLines

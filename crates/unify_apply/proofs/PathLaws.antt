@@ -1,15 +1,15 @@
 -- Which paths are below a directory, and in it.
-use Rattle.std.proofs.Common.{◌≡◌, ◌≢◌, inl, inr, ℕ, suc, zero, ◌==◌, ◌&&◌, ◌-◌, ◌<◌, Bool, true, false, cond, nat_lt, List, [], ◌∷◌, ◌++◌, Option, Some, None, drop, length, take, refl, sym, subst, ap, ◌∙◌, arith, append-nil, length-append}
-use Rattle.std.specs.Prelude.{◌⊎◌, codes}
+use Rattle.std.proofs.Common.{◌≡◌, ◌≢◌, inl, inr, ℕ, ◌&&◌, ◌+◌, ◌-◌, ◌<◌, Bool, true, false, cond, nat_lt, List, [], ◌∷◌, ◌++◌, Some, None, drop, length, take, refl, sym, ap, ◌∙◌, arith, append-nil, length-append}
+use Rattle.std.specs.Prelude.{◌⊎◌, codes, filter}
 use Rattle.std.specs.Str.{bytes_eq}
-use Rattle.std.specs.Prelude.{Decides}
 use Rattle.std.proofs.lemmas.Bool.{and_from, and_parts, eqb-true, lt-ltb, ltb-true}
-use Rattle.std.proofs.lemmas.Bool.Decides.{Decides-eqb, not_from_Decides}
+use Rattle.std.proofs.lemmas.Bool.Decides.{Decides-eqb}
+use Rattle.std.proofs.lemmas.List.Sums.{length-filter}
 use Rattle.std.proofs.lemmas.Option.{same_Some}
 use Rattle.std.proofs.lemmas.Slice.Eq.{bytes_eq-Decides}
 use Rattle.idtext.specs.Pieces.{begins_with}
-use Rattle.unify_apply.specs.Laws.{IsBelow, PathsAreTold, SlashIsTaken, WaysAreSeen}
-use Rattle.unify_apply.specs.Mounts.{is_in, is_rest, is_under, is_way, path_from}
+use Rattle.unify_apply.specs.Laws.{BelowAreTold, IsBelow, PathsAreTold, SlashIsTaken, WaysAreSeen}
+use Rattle.unify_apply.specs.Mounts.{MountText, count_below, first_below, is_in, is_rest, is_under, path_from}
 use Rattle.unify_apply.proofs.Fronts.{begins, behind, front-of, front-is}
 
 -- ---- in a directory
@@ -54,6 +54,45 @@ paths-told directory path = record {
   below = (under-from directory path, under-to directory path);
   within = (in-from directory path, in-to directory path);
 }
+
+-- ---- the mounts below it
+
+pub below-told : BelowAreTold
+below-told directory mount mounts = record {
+  none = (refl, refl);
+  below = λ is. let at = under-to directory mount.point is in (counted true at, first true at);
+  other = λ is_not. let at = not-under is_not in (counted false at, first false at);
+}
+  where
+    is_below : MountText → Bool
+    is_below other = is_under directory other.point
+
+    kept : List MountText
+    kept = filter is_below mounts
+
+    counted : (is : Bool) → is_under directory mount.point ≡ is
+        → count_below (mount ∷ mounts) directory ≡ cond is (count_below mounts directory + 1) (count_below mounts directory)
+    counted true at =
+        let step : length (mount ∷ kept) ≡ length kept + 1 = omega arith in
+        sym (length-filter is_below (mount ∷ mounts))
+        ∙ ap (λ t. length (cond t (mount ∷ kept) kept)) at
+        ∙ step
+        ∙ ap (λ n. n + 1) (length-filter is_below mounts)
+    counted false at =
+        sym (length-filter is_below (mount ∷ mounts))
+        ∙ ap (λ t. length (cond t (mount ∷ kept) kept)) at
+        ∙ length-filter is_below mounts
+
+    first : (is : Bool) → is_under directory mount.point ≡ is
+        → first_below (mount ∷ mounts) directory ≡ cond is (Some mount) (first_below mounts directory)
+    first is at = ap (λ t. cond t (Some mount) (first_below mounts directory)) at
+
+    not-under : ¬ IsBelow directory mount.point → is_under directory mount.point ≡ false
+    not-under is_not = by (is_under directory mount.point) refl
+      where
+        by : (is : Bool) → is_under directory mount.point ≡ is → is ≡ false
+        by true at = absurd (is_not (under-from directory mount.point at))
+        by false at = refl
 
 -- ---- the slash at the end
 

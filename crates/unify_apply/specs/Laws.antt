@@ -2,10 +2,10 @@
 -- Source: proc(5), /proc/PID/mountinfo: words with a space between them, a line for each mount; and
 -- getmntent(3): of a path the system writes space, tab, newline and backslash as a backslash and
 -- three octal digits.
-use Rattle.std.specs.Prelude.{◌≡◌, ◌≢◌, ◌↔◌, ◌⊎◌, ℕ, ◌==◌, ◌<◌, ◌≤◌, ◌^◌}
+use Rattle.std.specs.Prelude.{◌≡◌, ◌≢◌, ◌↔◌, ◌⊎◌, ℕ, ℤ, ◌==◌, ◌<◌, ◌≤◌, ◌+◌, ◌^◌}
 use Rattle.std.specs.Prelude.{◌||◌, ◌&&◌, Bool, true, false, not}
 use Rattle.std.specs.Prelude.{List, [], ◌∷◌, ◌++◌, map, flat_map, filter_map, length, codes, All}
-use Rattle.std.specs.Prelude.{drop, find, option_map, Option, Some, None, MatchOption}
+use Rattle.std.specs.Prelude.{drop, find, option_map, Option, Some, None, MatchOption, Contains}
 use Rattle.std.specs.Prelude.{if◌then◌else◌}
 use Rattle.std.specs.List.{join_with_byte, list_all, list_any}
 use Rattle.std.specs.Str.{bytes_eq}
@@ -14,10 +14,18 @@ use Rattle.idtext.specs.Escapes.{escape}
 use Rattle.idtext.specs.Pieces.{lines}
 use Rattle.idtext.specs.Words.{is_filled, is_white, words}
 use Rattle.reown_files.specs.declared.counting.OwnerCounts.{OwnerCounts}
+use Rattle.reown_files.specs.declared.answers.Trouble.TheVariants.{BadPath, NotText, OtherMount}
+use Rattle.reown_files.specs.declared.answers.Trouble.TheVariants.{LinkedElsewhere, NotMark}
+use Rattle.reown_files.specs.declared.answers.Trouble.TheVariants.{LinkedOtherwise, NotModes}
+use Rattle.reown_files.specs.declared.answers.Trouble.TheVariants.{OtherPlan, Gone, Exchanged}
+use Rattle.reown_files.specs.declared.answers.Trouble.TheVariants.{NotDone, NotDirectory, Busy}
+use Rattle.reown_files.specs.declared.answers.Trouble.TheVariants.{NoProc, System, Foreign}
+use Rattle.reown_plan.specs.declared.plan.Owner.{Owner}
 use Rattle.unify_apply.specs.Answers.{counts_text, done_text}
 use Rattle.unify_apply.specs.Mounts.{MountText, path_from, path_in, is_in, is_under, mount_of}
 use Rattle.unify_apply.specs.Mounts.{mounts_in, same_file_system, is_way, second_way}
-use Rattle.unify_apply.specs.Told.{mark_at}
+use Rattle.unify_apply.specs.Mounts.{count_below, first_below}
+use Rattle.unify_apply.specs.Told.{mark_at, status_of}
 
 -- ---- paths
 
@@ -50,6 +58,24 @@ pub record SlashIsTaken : Type 0 where
   pub slash : (path : List ℕ) → path_from (path ++ codes "/") ≡ path
   pub other : (path : List ℕ) (b : ℕ) → b ≢ 47 → path_from (path ++ b ∷ []) ≡ path ++ b ∷ []
   pub none : path_from [] ≡ []
+
+-- ---- the mounts below a directory
+
+-- Of no mounts none is below it. One before others that is below it is the first, and is one more
+-- to be counted; any other changes nothing.
+pub record BelowIsTold (directory : List ℕ) (mount : MountText) (mounts : List MountText)
+    : Type 0 where
+  pub none : (count_below [] directory ≡ 0) × (first_below [] directory ≡ None)
+  pub below : IsBelow directory mount.point
+      → (count_below (mount ∷ mounts) directory ≡ count_below mounts directory + 1)
+      × (first_below (mount ∷ mounts) directory ≡ Some mount)
+  pub other : ¬ IsBelow directory mount.point
+      → (count_below (mount ∷ mounts) directory ≡ count_below mounts directory)
+      × (first_below (mount ∷ mounts) directory ≡ first_below mounts directory)
+
+abbrev pub BelowAreTold : Type 0
+BelowAreTold = (directory : List ℕ) (mount : MountText) (mounts : List MountText)
+    → BelowIsTold directory mount mounts
 
 -- ---- lines of words
 
@@ -136,6 +162,26 @@ NoSecondWay = (text path : List ℕ) (device : ℕ) (look : List ℕ → Option 
     && bytes_eq other.device mount.device && is_way device (look other.point)) (mounts_in text)
     ≡ false)
 
+-- It is the path of a mount that the text tells, and that is below the directory; the mount is a
+-- second way to its files by what was seen there; and it is of the file system of the mount that
+-- the directory is in, if one is told.
+pub record IsOneSecondWay (text path : List ℕ) (device : ℕ) (look : List ℕ → Option ℕ)
+    (point : List ℕ) : Type 0 where
+  pub mount : MountText
+  pub told : Contains (mounts_in text) mount
+  pub at : mount.point ≡ point
+  pub below : IsBelow (path_from path) point
+  pub way : is_way device (look point) ≡ true
+  pub same : (own : MountText) → mount_of (mounts_in text) (path_from path) ≡ Some own
+      → mount.device ≡ own.device
+
+-- where a second way is found, it is one
+abbrev pub SecondWayIsThere : Type 0
+SecondWayIsThere = (text path : List ℕ) (device : ℕ) (look : List ℕ → Option ℕ)
+    (point : List ℕ)
+    → second_way device (map (λ p. (p, look p)) (same_file_system text path)) ≡ Some point
+    → IsOneSecondWay text path device look point
+
 -- a mount is a second way exactly where no device number was seen there, or this one
 abbrev pub WaysAreSeen : Type 0
 WaysAreSeen = (device : ℕ) (seen : Option ℕ)
@@ -148,6 +194,19 @@ pub record MarksStandBesidePlans : Type 0 where
   pub named : (path plan : List ℕ) → mark_at (Some path) plan ≡ path
   pub beside : (plan : List ℕ) → mark_at None plan ≡ plan ++ codes ".done"
   pub example : mark_at None (codes "site/plan.web") ≡ codes "site/plan.web.done"
+
+-- ---- statuses
+
+-- Before anything was changed the status is 1 where what was found may not be changed by the plan,
+-- or is of another one; and 3 where a call of the system failed, or found another file than before.
+pub record StatusesAreTold : Type 0 where
+  pub found : All (λ t. status_of t ≡ 1)
+      (BadPath ∷ NotText ∷ OtherMount ∷ LinkedElsewhere ∷ LinkedOtherwise
+      ∷ NotMark ∷ NotModes ∷ OtherPlan ∷ [])
+  pub failed : All (λ t. status_of t ≡ 3)
+      (Gone ∷ Exchanged ∷ NotDone ∷ NotDirectory ∷ Busy ∷ NoProc ∷ [])
+  pub call : (number : ℤ) → status_of (System number) ≡ 3
+  pub owner : (owner : Owner) → status_of (Foreign owner) ≡ 3
 
 -- ---- what the command prints
 

@@ -6,5 +6,4 @@ pub mod Journal
 pub mod Laws
 pub mod Machine
 pub mod Mounts
-pub mod Telling
 pub mod Told

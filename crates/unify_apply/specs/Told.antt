@@ -10,10 +10,6 @@ abbrev pub mark_at : Option (List ℕ) → List ℕ → List ℕ
 mark_at None plan = plan ++ codes ".done"
 mark_at (Some path) plan = path
 
--- the path of the record at a place; none has one after the last
-abbrev pub path_of_record : List Record → ℕ → List ℕ
-path_of_record records i = option_map_or (λ (r : Record). r.path.now) (slice_get records i) []
-
 -- The exit status where there is trouble before anything was changed: 1 where what was found may
 -- not be changed, and 3 where a call failed, or found another file than before.
 abbrev pub status_of : Trouble → ℕ
@@ -26,3 +22,11 @@ status_of trouble.NotMark = 1
 status_of trouble.NotModes = 1
 status_of trouble.OtherPlan = 1
 status_of _ = 3
+
+-- ---- paths of records
+
+-- Words of the code and not of the subject: only private contracts and invariants cite them.
+
+-- the path of the record at a place; none has one after the last
+abbrev pub path_of_record : List Record → ℕ → List ℕ
+path_of_record records i = option_map_or (λ (r : Record). r.path.now) (slice_get records i) []

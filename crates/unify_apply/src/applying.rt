@@ -7,9 +7,10 @@ use crate::answers::records_text;
 use crate::checking::check_below;
 use crate::machine::{see_caller, see_host};
 use crate::mounts::see_mounts;
-use crate::progress::{Progress, Telling};
+use crate::progress::Telling;
+use crate::run::{Paths, Run};
 use crate::staying::warn_of_staying;
-use crate::told::{Place, fault_told, not_opened, root_refused, stopped};
+use crate::told::{fault_told, not_opened, root_refused, stopped};
 use clap::ArgMatches;
 use reown_files::{RealTree, Root, apply};
 use reown_plan::{Plan, PlanFault};
@@ -37,85 +38,65 @@ pub fn mark_path(alloc: Global, named: Option<&str>, plan: &str) -> Result<Strin
 
 // Carries a plan out on the files of a disk, from wherever an earlier run left them, and tells how
 // far it is.
-fn carry_out<'w>(
-    rt: &'w HostRuntime,
-    progress: Progress,
-    place: Place<'_>,
-    plan: &Plan<'_>,
-    was_begun: bool,
-    root: Root<'w>,
-) -> Result<(), FileFault>
+fn carry_out<'w>(run: Run<'w>, plan: &Plan<'_>, root: Root<'w>) -> Result<(), FileFault>
     requires { root.calls ≡ [] }
 {
-    let disk = Telling::of(rt, progress, plan.records().len(), root);
-    let found = RealTree::open(rt.alloc(), plan, was_begun, disk);
-    progress.clear(rt);
+    let rt = run.rt;
+    let disk = Telling::of(rt, run.style, plan.records().len(), root);
+    let found = RealTree::open(rt.alloc(), plan, run.was_begun, disk);
+    run.style.clear(rt);
     let mut tree = match found {
         Ok(tree) => tree,
-        Err(refused) => return Err(not_opened(rt, place, plan.records(), refused.fault)),
+        Err(refused) => return Err(not_opened(rt, run.paths, plan.records(), refused.fault)),
     };
     let done = apply(plan, &mut tree);
-    progress.clear(rt);
+    run.style.clear(rt);
     match done {
         Ok(()) => Ok(()),
-        Err(_) => Err(stopped(rt, place, plan.records(), tree.failure())),
+        Err(_) => Err(stopped(rt, run.paths, plan.records(), tree.failure())),
     }
 }
 
 // Opens a directory, which no other command is at work below.
 fn opened<'w>(
     rt: &'w HostRuntime,
-    place: Place<'w>,
+    paths: Paths<'w>,
     has_one_journal: bool,
 ) -> Result<Root<'w>, FileFault>
     ensures { IfOk result (λ root. root.calls ≡ []) }
 {
-    match Root::open(rt, place.root, place.mark) {
+    match Root::open(rt, paths.root, paths.mark) {
         Ok(mut root) => {
             if has_one_journal {
                 root.trust_one_journal();
             }
             Ok(root)
         }
-        Err(fault) => Err(root_refused(rt, place, fault)),
+        Err(fault) => Err(root_refused(rt, paths, fault)),
     }
 }
 
 // Carries a plan out below a directory.
-fn apply_below(
-    rt: &HostRuntime,
-    progress: Progress,
-    place: Place<'_>,
-    plan: &Plan<'_>,
-    was_begun: bool,
-    has_one_journal: bool,
-) -> Result<u8, FileFault> {
-    let root = opened(rt, place, has_one_journal)?;
-    carry_out(rt, progress, place, plan, was_begun, root)?;
-    let text = records_text(rt.alloc(), plan.records().len())?;
-    Ok(print_answer(rt, 0, &text))
+fn apply_below(run: Run<'_>, plan: &Plan<'_>, has_one_journal: bool) -> Result<u8, FileFault> {
+    let root = opened(run.rt, run.paths, has_one_journal)?;
+    carry_out(run, plan, root)?;
+    let text = records_text(run.rt.alloc(), plan.records().len())?;
+    Ok(print_answer(run.rt, 0, &text))
 }
 
 // Looks at the files of a plan, or carries it out.
-fn run_plan(
-    rt: &HostRuntime,
-    matches: &ArgMatches<'_>,
-    place: Place<'_>,
-    plan: &Plan<'_>,
-) -> Result<u8, FileFault> {
-    let quiet = matches.get_flag("quiet");
-    let progress = Progress::wanted(rt, quiet, matches.get_flag("progress"));
-    if matches.get_flag("check") {
-        return check_below(rt, progress, place, plan, quiet);
+fn run_plan(run: Run<'_>, plan: &Plan<'_>) -> Result<u8, FileFault> {
+    if run.only_checks {
+        return check_below(run, plan);
     }
-    see_host(rt, plan.host(), matches.get_str("host"), quiet)?;
+    let rt = run.rt;
+    see_host(rt, plan.host(), run.host, run.quiet)?;
     see_caller(rt)?;
-    let has_one_journal = see_mounts(rt, place.root)?;
-    if !quiet {
+    let has_one_journal = see_mounts(rt, run.paths.root)?;
+    if !run.quiet {
         warn_of_staying(rt, plan)?;
     }
-    let was_begun = matches.get_flag("begun");
-    apply_below(rt, progress, place, plan, was_begun, has_one_journal)
+    apply_below(run, plan, has_one_journal)
 }
 
 // Why a text is no plan.
@@ -127,15 +108,10 @@ fn no_plan(rt: &HostRuntime, fault: PlanFault) -> FileFault {
 }
 
 // Looks at the files of the plan of a text, or carries it out.
-fn run_text(
-    rt: &HostRuntime,
-    matches: &ArgMatches<'_>,
-    place: Place<'_>,
-    text: &[u8],
-) -> Result<u8, FileFault> {
-    match Plan::read(rt.alloc(), text) {
-        Ok(plan) => run_plan(rt, matches, place, &plan),
-        Err(fault) => Err(no_plan(rt, fault)),
+fn run_text(run: Run<'_>, text: &[u8]) -> Result<u8, FileFault> {
+    match Plan::read(run.rt.alloc(), text) {
+        Ok(plan) => run_plan(run, &plan),
+        Err(fault) => Err(no_plan(run.rt, fault)),
     }
 }
 
@@ -149,17 +125,23 @@ fn reverse_of(rt: &HostRuntime, text: &[u8]) -> Result<Vec<u8>, FileFault> {
 
 /// Answers `apply` with these words: it carries a plan out or takes it back, or counts its files.
 /// What it refuses is told, and the status handed out.
+///
+/// # Errors
+///
+/// A `FileFault` where the plan cannot be read, or it is not carried out to its end, which is told,
+/// or where memory is refused.
 pub fn run_apply(rt: &HostRuntime, matches: &ArgMatches<'_>) -> Result<u8, FileFault> {
     let plan = matches.get_str("PLAN").unwrap_or("");
     let mark = mark_path(rt.alloc(), matches.get_str("mark"), plan)?;
-    let place = Place {
+    let paths = Paths {
         root: matches.get_str("ROOT").unwrap_or(""),
         mark: mark.as_str(),
     };
+    let run = Run::of(rt, matches, paths);
     let text = read_file(rt, plan)?;
     if matches.get_flag("reverse") {
         let back = reverse_of(rt, text.bytes())?;
-        return run_text(rt, matches, place, &back);
+        return run_text(run, &back);
     }
-    run_text(rt, matches, place, text.bytes())
+    run_text(run, text.bytes())
 }

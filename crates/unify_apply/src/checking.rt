@@ -2,9 +2,10 @@
 
 use crate::answers::counts_text;
 use crate::mounts::count_mounts;
-use crate::progress::{Progress, Telling};
+use crate::progress::Telling;
+use crate::run::Run;
 use crate::staying::warn_of_staying;
-use crate::told::{Place, file_refused, foreign, missing, root_refused};
+use crate::told::{file_refused, foreign, missing, root_refused};
 use reown_files::{Count, Disk, OpenFault, OwnerCounts, Root, Unfit, count_owners};
 use reown_plan::{Plan, Record};
 use std::io::{self, Write};
@@ -25,7 +26,7 @@ fn not_counted(rt: &HostRuntime, records: &[Record<'_>], fault: OpenFault) -> Fi
 fn unfit_told(rt: &HostRuntime, records: &[Record<'_>], unfit: Unfit) -> FileFault {
     match unfit {
         Unfit::Missing(i) => missing(rt, records, i),
-        Unfit::Foreign(i) => foreign(rt, records, i),
+        Unfit::Foreign(i) => foreign(rt, records, i, None),
     }
 }
 
@@ -40,37 +41,31 @@ fn print_counts(rt: &HostRuntime, counts: OwnerCounts, mounts: usize) -> Result<
 
 // Counts the files of a plan.
 fn count_files<D: Disk>(
-    rt: &HostRuntime,
-    progress: Progress,
+    run: Run<'_>,
     disk: &mut D,
     records: &[Record<'_>],
 ) -> Result<Count, FileFault> {
     let counted = count_owners(disk, records);
-    progress.clear(rt);
+    run.style.clear(run.rt);
     match counted {
         Ok(count) => Ok(count),
-        Err(fault) => Err(not_counted(rt, records, fault)),
+        Err(fault) => Err(not_counted(run.rt, records, fault)),
     }
 }
 
 /// Counts the files of a plan by their owners and what else a change of it touches, and tells the
 /// first that is not there or has neither of its two.
-pub fn check_below(
-    rt: &HostRuntime,
-    progress: Progress,
-    place: Place<'_>,
-    plan: &Plan<'_>,
-    quiet: bool,
-) -> Result<u8, FileFault> {
-    let root = match Root::open(rt, place.root, place.mark) {
+pub fn check_below(run: Run<'_>, plan: &Plan<'_>) -> Result<u8, FileFault> {
+    let rt = run.rt;
+    let root = match Root::open(rt, run.paths.root, run.paths.mark) {
         Ok(root) => root,
-        Err(fault) => return Err(root_refused(rt, place, fault)),
+        Err(fault) => return Err(root_refused(rt, run.paths, fault)),
     };
-    let mounts = count_mounts(rt, place.root, quiet)?;
-    let mut disk = Telling::of(rt, progress, plan.records().len(), root);
-    let count = count_files(rt, progress, &mut disk, plan.records())?;
+    let mounts = count_mounts(rt, run.paths.root, run.quiet)?;
+    let mut disk = Telling::of(rt, run.style, plan.records().len(), root);
+    let count = count_files(run, &mut disk, plan.records())?;
     print_counts(rt, count.owners, mounts)?;
-    if !quiet {
+    if !run.quiet {
         warn_of_staying(rt, plan)?;
     }
     match count.first_unfit {

@@ -6,24 +6,30 @@ ghost use Rattle.unify_apply.specs.AskedLaws.{JournalIsANumber, OneJournalIsOfTh
 ghost use Rattle.unify_apply.specs.AskedLaws.{ProcessesAreFound, RootIsEffective};
 ghost use Rattle.unify_apply.specs.Laws.{MarksStandBesidePlans, MountIsNearest, NoSecondWay};
 ghost use Rattle.unify_apply.specs.Laws.{PathsAreTold, SlashIsTaken, SystemPathIsReadBack};
+ghost use Rattle.unify_apply.specs.Laws.{BelowAreTold, SecondWayIsThere, StatusesAreTold};
 ghost use Rattle.unify_apply.specs.Laws.{WaysAreSeen};
 ghost use Rattle.unify_apply.specs.Laws.{MountsAreReadBack, CountsAreReadBack, DoneIsReadBack};
 
 /// A path is below a directory exactly where it is the directory's, a slash and more, and in it
 /// exactly where it is that or the directory's own. A slash at the end of a path is left out, and
-/// any other byte there stays.
+/// any other byte there stays. Exactly the mounts whose paths are below a directory are counted
+/// there, and the first of them is the one that is told.
 pub fn paths_below_are_told()
     ensures paths { PathsAreTold }
     ensures slash { SlashIsTaken }
+    ensures mounts { BelowAreTold }
 {}
 
 /// The mount that is found for a directory is the nearest and the last of those, and none is found
 /// only where none holds it. Where no second way is found, no mount of its own file system below it
-/// was seen to be one, and none at all below it where its own mount is not told; a mount is one
-/// exactly where the device number that was seen there is that of the directory, or none was seen.
+/// was seen to be one, and none at all below it where its own mount is not told; and where one is
+/// found, it is a mount below it that is one, and of its own file system, if its own mount is told.
+/// A mount is one exactly where the device number that was seen there is that of the directory, or
+/// none was seen.
 pub fn one_way_to_files()
     ensures nearest { MountIsNearest }
     ensures one_way { NoSecondWay }
+    ensures refused { SecondWayIsThere }
     ensures seen { WaysAreSeen }
 {}
 
@@ -31,6 +37,13 @@ pub fn one_way_to_files()
 /// after it.
 pub fn marks_stand_beside_plans()
     ensures { MarksStandBesidePlans }
+{}
+
+/// Where there is trouble before anything was changed, the status is 1 where what was found may not
+/// be changed by the plan, or is of another one, and 3 where a call of the system failed, or found
+/// another file than before.
+pub fn statuses_are_told()
+    ensures { StatusesAreTold }
 {}
 
 /// The mounts that the system writes are read back, in their order, with their paths.

@@ -12,6 +12,7 @@ mod machine;
 mod mountinfo;
 mod mounts;
 mod progress;
+mod run;
 mod staying;
 mod told;
 
@@ -21,6 +22,7 @@ pub use journal::tells_journal;
 pub use laws::{
     answers_are_read_back, journals_are_told, machines_are_told, marks_stand_beside_plans,
     mounts_are_read_back, one_way_to_files, paths_below_are_told, processes_are_told, root_is_told,
+    statuses_are_told,
 };
 pub use machine::{HostFit, host_fit, is_root};
 pub use mountinfo::{

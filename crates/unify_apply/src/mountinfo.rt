@@ -291,8 +291,11 @@ fn first_way(points: &[Point], device: u64) -> Option<&[u8]>
 
 /// Whether the file system of a directory is of a kind with one journal, if any, where none of
 /// these mounts below it is a second way to the files with this device number; else the path of the
-/// first that is one. One pass over them.
+/// first that is one. All that were found there have to be looked at, in their order. One pass over
+/// them.
 pub fn one_way<'p>(around: &Around, points: &'p [Point], device: u64) -> Result<bool, &'p [u8]>
+    requires looked_at { map (λ point. point.path.items) points.now
+        ≡ path_items around.now.same.items }
     ensures { MatchResult result
         (λ journal. (second_way device (map point_seen points.now) ≡ None)
         × (journal ≡ around.now.has_one_journal))

@@ -1,6 +1,5 @@
 //! How far a command is with the files of a plan, told on standard error while it goes on.
 ghost use Rattle.std.specs.Prelude.{◌≡◌};
-ghost use Rattle.unify_apply.specs.Telling.{progress_of, is_due};
 
 use reown_files::{Disk, Modes, Seen, Trouble};
 use reown_plan::{Owner, PlanMark};
@@ -11,7 +10,7 @@ const EACH: usize = 10_000;
 
 /// How it is told.
 #[derive(Clone, Copy, Debug, PartialEq, Eq)]
-pub enum Progress {
+pub enum ProgressStyle {
     /// Not at all.
     Never,
     /// By a line each time.
@@ -40,27 +39,23 @@ impl Step {
 
 // Whether it is told that a step was done with so many of the files: now and then, and after the
 // last.
-fn is_told(done: usize, files: usize) -> bool
-    ensures { result ≡ is_due done files }
-{
+fn is_told(done: usize, files: usize) -> bool {
     done % EACH == 0 || done == files
 }
 
-impl Progress {
+impl ProgressStyle {
     // One line on a terminal, lines elsewhere if they are asked for.
-    fn of(quiet: bool, terminal: bool, asked: bool) -> Progress
-        ensures { result ≡ progress_of quiet terminal asked }
-    {
+    fn of(quiet: bool, terminal: bool, asked: bool) -> ProgressStyle {
         match (quiet, terminal, asked) {
-            (true, _, _) | (false, false, false) => Progress::Never,
-            (false, true, _) => Progress::OneLine,
-            (false, false, true) => Progress::Lines,
+            (true, _, _) | (false, false, false) => ProgressStyle::Never,
+            (false, true, _) => ProgressStyle::OneLine,
+            (false, false, true) => ProgressStyle::Lines,
         }
     }
 
     /// As these words want it, where standard error is what it is.
-    pub fn wanted(rt: &HostRuntime, quiet: bool, asked: bool) -> Progress {
-        Progress::of(quiet, rt.stderr().is_terminal(), asked)
+    pub fn wanted(rt: &HostRuntime, quiet: bool, asked: bool) -> ProgressStyle {
+        ProgressStyle::of(quiet, rt.stderr().is_terminal(), asked)
     }
 
     // Tells how many of the files a step was done with. What cannot be told is not.
@@ -70,25 +65,26 @@ impl Progress {
         }
         let word = step.word();
         let _ = match self {
-            Progress::Never => Ok(()),
-            Progress::Lines => eprintln!(rt; "unify: progress: {word} {done} of {files}"),
-            Progress::OneLine => eprint!(rt; "\r\x1b[Kunify: {word} {done} of {files}"),
+            ProgressStyle::Never => Ok(()),
+            ProgressStyle::Lines => eprintln!(rt; "unify: progress: {word} {done} of {files}"),
+            ProgressStyle::OneLine => eprint!(rt; "\r\x1b[Kunify: {word} {done} of {files}"),
         };
     }
 
     /// Clears the line, so that something else may be told.
     pub fn clear(self, rt: &HostRuntime) {
-        if self == Progress::OneLine {
+        if self == ProgressStyle::OneLine {
             let _ = eprint!(rt; "\r\x1b[K");
         }
     }
 }
 
-/// A disk that tells how far a command is with its files. What it is asked for it asks another.
+/// A disk that tells how far a command is with its files. What it is asked for it asks another, and
+/// counts what that one did.
 #[derive(Drop)]
 pub struct Telling<'w, D: Disk> {
     rt: &'w HostRuntime,
-    progress: Progress,
+    style: ProgressStyle,
     disk: D,
     // How many files the plan has, how many were looked at, how many of those are to be changed,
     // and how many were.
@@ -101,12 +97,12 @@ pub struct Telling<'w, D: Disk> {
 
 impl<'w, D: Disk> Telling<'w, D> {
     /// Tells of a disk with so many files of a plan.
-    pub fn of(rt: &'w HostRuntime, progress: Progress, files: usize, disk: D) -> Telling<'w, D>
+    pub fn of(rt: &'w HostRuntime, style: ProgressStyle, files: usize, disk: D) -> Telling<'w, D>
         ensures { D.calls result.disk ≡ D.calls disk }
     {
         Telling {
             rt,
-            progress,
+            style,
             disk,
             files,
             looked: 0,
@@ -121,7 +117,7 @@ impl<'w, D: Disk> Telling<'w, D> {
         ensures { self.new.disk ≡ self.old.disk }
     {
         self.looked = self.looked.saturating_add(1);
-        self.progress
+        self.style
             .tell(self.rt, Step::Looked, self.looked, self.files);
     }
 
@@ -140,7 +136,7 @@ impl<'w, D: Disk> Telling<'w, D> {
         ensures { self.new.disk ≡ self.old.disk }
     {
         self.changed = self.changed.saturating_add(1);
-        self.progress
+        self.style
             .tell(self.rt, Step::Changed, self.changed, self.to_change);
     }
 
@@ -149,7 +145,7 @@ impl<'w, D: Disk> Telling<'w, D> {
         ensures { self.new.disk ≡ self.old.disk }
     {
         self.synced = self.synced.saturating_add(1);
-        self.progress
+        self.style
             .tell(self.rt, Step::Synced, self.synced, self.files);
     }
 }
@@ -158,17 +154,15 @@ impl<'w, D: Disk> Disk for Telling<'w, D> {
     ghost calls = { λ telling. D.calls telling.disk };
 
     fn look(&mut self, path: &[u8]) -> Result<Option<Seen>, Trouble> {
-        let seen = self.disk.look(path);
+        let seen = self.disk.look(path)?;
         self.count_look();
-        seen
+        Ok(seen)
     }
 
     fn meet(&mut self, path: &[u8], after: Owner) -> Result<Option<Owner>, Trouble> {
-        let met = self.disk.meet(path, after);
-        if let Ok(found) = met {
-            self.count_met(found, after);
-        }
-        met
+        let found = self.disk.meet(path, after)?;
+        self.count_met(found, after);
+        Ok(found)
     }
 
     fn meet_mark(&mut self, plan: &PlanMark) -> Result<bool, Trouble> {
@@ -184,9 +178,9 @@ impl<'w, D: Disk> Disk for Telling<'w, D> {
     }
 
     fn give(&mut self, path: &[u8], before: Owner, after: Owner) -> Result<Modes, Trouble> {
-        let given = self.disk.give(path, before, after);
+        let modes = self.disk.give(path, before, after)?;
         self.count_change();
-        given
+        Ok(modes)
     }
 
     fn set_mode(&mut self, path: &[u8], owner: Owner, mode: u32) -> Result<(), Trouble> {
@@ -194,9 +188,9 @@ impl<'w, D: Disk> Disk for Telling<'w, D> {
     }
 
     fn keep(&mut self, path: &[u8], owner: Owner) -> Result<(), Trouble> {
-        let kept = self.disk.keep(path, owner);
+        self.disk.keep(path, owner)?;
         self.count_sync();
-        kept
+        Ok(())
     }
 
     fn settle(&mut self) -> Result<(), Trouble> {

@@ -3,22 +3,14 @@
 ghost use Rattle.std.specs.Prelude.{◌≡◌};
 ghost use Rattle.unify_apply.specs.Told.{path_of_record, status_of};
 
+use crate::run::Paths;
 use idtext::ByteString;
 use reown_files::{Failure, MODES_BEHIND, OpenFault, RootFault, Trouble};
-use reown_plan::Record;
+use reown_plan::{Owner, Record};
 use std::alloc::AllocError;
-use std::io::{IsTerminal, Write};
-use unify_io::{FileFault, Part, tell_of};
-use unify_texts::{Fault, push_fault};
-
-/// Where a plan is carried out.
-#[derive(Clone, Copy)]
-pub struct Place<'a> {
-    /// The directory that its paths begin at.
-    pub root: &'a str,
-    /// The file of its mark.
-    pub mark: &'a str,
-}
+use std::io::Write;
+use unify_io::{FileFault, Part, tell_hint, tell_of};
+use unify_texts::{Fault, fault_line};
 
 // What is said where a plan was begun that is not this one.
 const OTHER_PLAN: &str = "another plan was started and is not finished; finish that one first \
@@ -29,10 +21,9 @@ const DISK_ERROR: i32 = 5;
 
 /// Tells a fault that has a number.
 pub fn fault_told(rt: &HostRuntime, fault: &Fault<'_>) -> FileFault {
-    let mut line = Vec::new(rt.alloc());
-    if push_fault(rt.alloc(), &mut line, fault).is_err() {
+    let Ok(line) = fault_line(rt.alloc(), fault) else {
         return FileFault::Memory;
-    }
+    };
     let _ = rt.stderr().write_all(&line);
     FileFault::Told(fault.status())
 }
@@ -57,33 +48,53 @@ fn path_of(rt: &HostRuntime, records: &[Record<'_>], i: usize) -> Result<ByteStr
 const SEE_WAY: &str = "unify: hint: a directory on the way may be a link, or a file system not \
     mounted; see that first";
 
+// What to do about a file with a third owner.
+const SEE_FILE: &str = "if it is the file that was gathered, give it its old owner back, else \
+    gather this host again and merge anew";
+
 // What to do about a file that has its new owner before the first run, and so is somebody else's.
 const GATHER_ANEW: &str = "unify: hint: gather this host again and merge anew; where a run of this \
     plan was stopped and its .modes file is gone, use --begun";
-
-// Gives advice where standard error is a terminal.
-fn hint(rt: &HostRuntime, advice: &str) {
-    if rt.stderr().is_terminal() {
-        let _ = rt.eprintln(advice);
-    }
-}
 
 /// Tells that the file of a record is not there.
 pub fn missing(rt: &HostRuntime, records: &[Record<'_>], i: usize) -> FileFault {
     match path_of(rt, records, i) {
         Ok(path) => {
             let fault = fault_told(rt, &Fault::Missing(path));
-            hint(rt, SEE_WAY);
+            tell_hint(rt, SEE_WAY);
             fault
         }
         Err(_) => FileFault::Memory,
     }
 }
 
-/// Tells that the file of a record has neither of its two owners.
-pub fn foreign(rt: &HostRuntime, records: &[Record<'_>], i: usize) -> FileFault {
+// Tells what to do about a file with a third owner, and which that is where it is known. What
+// cannot be told is not.
+fn hint_of_owner(rt: &HostRuntime, found: Option<Owner>) {
+    let hint = match found {
+        Some(Owner { uid, gid }) => {
+            format!(in rt.alloc(); "unify: hint: the file has owner {uid}:{gid}; {SEE_FILE}")
+        }
+        None => format!(in rt.alloc(); "unify: hint: {SEE_FILE}"),
+    };
+    if let Ok(hint) = hint {
+        tell_hint(rt, hint.as_str());
+    }
+}
+
+/// Tells that the file of a record has neither of its two owners, but this one, where it is known.
+pub fn foreign(
+    rt: &HostRuntime,
+    records: &[Record<'_>],
+    i: usize,
+    found: Option<Owner>,
+) -> FileFault {
     match path_of(rt, records, i) {
-        Ok(path) => fault_told(rt, &Fault::Foreign(path)),
+        Ok(path) => {
+            let fault = fault_told(rt, &Fault::Foreign(path));
+            hint_of_owner(rt, found);
+            fault
+        }
         Err(_) => FileFault::Memory,
     }
 }
@@ -101,22 +112,37 @@ fn already_changed(rt: &HostRuntime, records: &[Record<'_>], i: usize) -> FileFa
     match path_of(rt, records, i) {
         Ok(path) => {
             let fault = fault_told(rt, &Fault::AlreadyChanged(path));
-            hint(rt, GATHER_ANEW);
+            tell_hint(rt, GATHER_ANEW);
             fault
         }
         Err(_) => FileFault::Memory,
     }
 }
 
-// What is said of trouble.
-fn part_of(trouble: Trouble) -> Part<'static> {
-    Part::Text(match trouble {
-        Trouble::System(number) => return Part::System(number),
+// What is said of an owner that is not the one that the plan says, and behind that.
+fn owner_parts(found: Owner, behind: Part<'static>) -> [Part<'static>; 6] {
+    [
+        Part::Text("its owner is "),
+        Part::Count(found.uid as usize),
+        Part::Text(":"),
+        Part::Count(found.gid as usize),
+        Part::Text(", not the one that the plan says"),
+        behind,
+    ]
+}
+
+// What is said of trouble, and behind that.
+fn parts_of(trouble: Trouble, behind: &'static str) -> [Part<'static>; 6] {
+    let (none, behind) = (Part::Text(""), Part::Text(behind));
+    let part = Part::Text(match trouble {
+        Trouble::System(number) => {
+            return [Part::System(number), behind, none, none, none, none];
+        }
+        Trouble::Foreign(found) => return owner_parts(found, behind),
         Trouble::Memory => "memory",
         Trouble::BadPath => "no inventory has such a path, or it is too long",
         Trouble::NotText => "a name that is not UTF-8",
         Trouble::Gone => "does not exist, or is reached through a symbolic link",
-        Trouble::Foreign(_) => "its owner is not the one that the plan says",
         Trouble::Exchanged => "another file took its place",
         Trouble::OtherMount => "on another file system than the root",
         Trouble::LinkedElsewhere => "a hard link to the file is not in the plan",
@@ -128,7 +154,8 @@ fn part_of(trouble: Trouble) -> Part<'static> {
         Trouble::NotMark => "not the mark of a plan",
         Trouble::NotModes => "truncated, or not the modes of a plan",
         Trouble::OtherPlan => OTHER_PLAN,
-    })
+    });
+    [part, behind, none, none, none, none]
 }
 
 // The exit status where trouble comes before anything was changed: 1 for what was found, and 3 for
@@ -154,15 +181,15 @@ pub fn file_refused(rt: &HostRuntime, path: &[u8], trouble: Trouble) -> FileFaul
     if trouble == Trouble::Memory {
         return FileFault::Memory;
     }
-    tell_of(rt, "file", path, &[part_of(trouble)], status(trouble))
+    tell_of(rt, "file", path, &parts_of(trouble, ""), status(trouble))
 }
 
 /// Tells why a directory is not worked below.
-pub fn root_refused(rt: &HostRuntime, place: Place<'_>, fault: RootFault) -> FileFault {
+pub fn root_refused(rt: &HostRuntime, paths: Paths<'_>, fault: RootFault) -> FileFault {
     match fault {
         RootFault::Root(Trouble::Memory) => FileFault::Memory,
         RootFault::Root(trouble) => {
-            tell_of(rt, "root", place.root.as_bytes(), &[part_of(trouble)], 2)
+            tell_of(rt, "root", paths.root.as_bytes(), &parts_of(trouble, ""), 2)
         }
         RootFault::Home(trouble) => file_refused(rt, b".", trouble),
     }
@@ -184,7 +211,7 @@ fn not_begun(rt: &HostRuntime, path: &[u8], trouble: Trouble) -> FileFault {
     if trouble != Trouble::System(DISK_ERROR) {
         return file_refused(rt, path, trouble);
     }
-    let parts = [part_of(trouble), Part::Text(way_on(trouble))];
+    let parts = parts_of(trouble, way_on(trouble));
     tell_of(rt, "file", path, &parts, status(trouble))
 }
 
@@ -200,26 +227,26 @@ fn modes_refused(rt: &HostRuntime, mark: &str, trouble: Trouble) -> FileFault {
 /// run had lost.
 pub fn not_opened(
     rt: &HostRuntime,
-    place: Place<'_>,
+    paths: Paths<'_>,
     records: &[Record<'_>],
     fault: OpenFault,
 ) -> FileFault {
     match fault {
         OpenFault::Memory => FileFault::Memory,
         OpenFault::Missing(i) => missing(rt, records, i),
-        OpenFault::Foreign(i, _) => foreign(rt, records, i),
+        OpenFault::Foreign(i, found) => foreign(rt, records, i, Some(found)),
         OpenFault::Unfinished(i) => unfinished(rt, records, i),
         OpenFault::AlreadyChanged(i) => already_changed(rt, records, i),
         OpenFault::File(i, trouble) => not_begun(rt, path_at(records, i), trouble),
-        OpenFault::Disk(trouble) => not_begun(rt, place.mark.as_bytes(), trouble),
-        OpenFault::Modes(trouble) => modes_refused(rt, place.mark, trouble),
+        OpenFault::Disk(trouble) => not_begun(rt, paths.mark.as_bytes(), trouble),
+        OpenFault::Modes(trouble) => modes_refused(rt, paths.mark, trouble),
     }
 }
 
 /// Tells where a run stopped, and why.
 pub fn stopped(
     rt: &HostRuntime,
-    place: Place<'_>,
+    paths: Paths<'_>,
     records: &[Record<'_>],
     failure: Option<Failure>,
 ) -> FileFault {
@@ -227,11 +254,11 @@ pub fn stopped(
         Some(failure) => (
             failure
                 .place
-                .map_or(place.mark.as_bytes(), |i| path_at(records, i)),
+                .map_or(paths.mark.as_bytes(), |i| path_at(records, i)),
             failure.trouble,
         ),
-        None => (place.mark.as_bytes(), Trouble::NotDone),
+        None => (paths.mark.as_bytes(), Trouble::NotDone),
     };
-    let parts = [part_of(trouble), Part::Text(way_on(trouble))];
+    let parts = parts_of(trouble, way_on(trouble));
     tell_of(rt, "file", path, &parts, 3)
 }

@@ -1,0 +1,48 @@
+//! What `apply` is asked for.
+
+use crate::progress::ProgressStyle;
+use clap::ArgMatches;
+
+/// Where a plan is carried out.
+#[derive(Clone, Copy)]
+pub struct Paths<'a> {
+    /// The directory that its paths begin at.
+    pub root: &'a str,
+    /// The file of its mark.
+    pub mark: &'a str,
+}
+
+/// A run of the command, as its words want it.
+#[derive(Clone, Copy)]
+pub struct Run<'a> {
+    /// The system that it is run on.
+    pub rt: &'a HostRuntime,
+    /// Where the plan is carried out.
+    pub paths: Paths<'a>,
+    /// The host that is named, if one is.
+    pub host: Option<&'a str>,
+    /// How it is told how far it is.
+    pub style: ProgressStyle,
+    /// Whether the files are only counted.
+    pub only_checks: bool,
+    /// Whether the plan was begun before.
+    pub was_begun: bool,
+    /// Whether nothing is warned of.
+    pub quiet: bool,
+}
+
+impl<'a> Run<'a> {
+    /// As these words want it.
+    pub fn of(rt: &'a HostRuntime, matches: &'a ArgMatches<'_>, paths: Paths<'a>) -> Run<'a> {
+        let quiet = matches.get_flag("quiet");
+        Run {
+            rt,
+            paths,
+            host: matches.get_str("host"),
+            style: ProgressStyle::wanted(rt, quiet, matches.get_flag("progress")),
+            only_checks: matches.get_flag("check"),
+            was_begun: matches.get_flag("begun"),
+            quiet,
+        }
+    }
+}
