@@ -14,6 +14,7 @@ import sys
 
 TOP = pathlib.Path(__file__).resolve().parent.parent
 FOLDERS = "crates", "docs", "bench", "examples", "gate"
+PUBLIC = re.compile(r"\bpub (?:fn|struct|enum|trait|const|type) (\w+)")
 LINK = re.compile(r"\]\(([^)\s]+)\)")
 MARKED = re.compile(r"`([^`\n]+)`")
 FILE = re.compile(rf"(?:{'|'.join(FOLDERS)})/[\w./*-]+")
@@ -37,9 +38,9 @@ def anchors(path):
 
 @functools.cache
 def public_names(crate):
-    """The names of functions, types and traits in the sources of a crate; none where this repository has no such crate."""
-    sources = (TOP / "crates" / crate / "src").glob("*.rt")
-    return {name for source in sources for name in re.findall(r"\b(?:fn|struct|enum|trait) (\w+)", source.read_text())}
+    """The public names in the sources of a crate; none where this repository has no such crate."""
+    sources = (TOP / "crates" / crate / "src").rglob("*.rt")
+    return {name for source in sources for name in PUBLIC.findall(source.read_text())}
 
 
 def broken_links(document, text):
