@@ -17,7 +17,8 @@ import sys
 import tempfile
 import time
 
-PROGRAM = pathlib.Path(__file__).resolve().parent.parent / "crates/unify_cli/out/unify_cli"
+from measure import UNIFY
+
 OLD, NEW = (41001, 41001), (41002, 41002)
 ACCOUNTS = {"was": (OLD, "passwd.was", "group.was"), "now": (NEW, "passwd.now", "group.now")}
 
@@ -67,22 +68,22 @@ def run(folder, count):
     for (uid, gid), passwd, group in ACCOUNTS.values():
         (folder / passwd).write_text(f"root:x:0:0::/:/bin/sh\nalice:x:{uid}:{gid}::/:/bin/sh\n")
         (folder / group).write_text(f"root:x:0:\nalice:x:{gid}:\n")
-    apply = [PROGRAM, "apply", "-q", "--host", "timed"]
+    apply = [UNIFY, "apply", "-q", "--host", "timed"]
     chown = ["find", "tree", "-uid", str(OLD[0]), "-exec", "chown", "-h", f"{NEW[0]}:{NEW[1]}", "{}", "+"]
     back = ["find", "tree", "-uid", str(NEW[0]), "-exec", "chown", "-h", f"{OLD[0]}:{OLD[1]}", "{}", "+"]
     with open(folder / "before", "wb") as out:
-        timed("inventory", [PROGRAM, "inventory", "-x", "."], root, out)
+        timed("inventory", [UNIFY, "inventory", "-x", "."], root, out)
     timed("find and chown", chown, folder)
     timed("find and chown, back", back, folder)
     timed("apply", [*apply, "plan", "tree"], folder)
     with open(folder / "after", "wb") as out:
-        timed("inventory, once more", [PROGRAM, "inventory", "-x", "."], root, out)
+        timed("inventory, once more", [UNIFY, "inventory", "-x", "."], root, out)
     files = [f"{file}.{when}" for when in ("was", "now") for file in ("passwd", "group")]
-    timed("verify", [PROGRAM, "verify", "--was", *files[:2], "--now", *files[2:], "before", "after"], folder)
+    timed("verify", [UNIFY, "verify", "--was", *files[:2], "--now", *files[2:], "before", "after"], folder)
     above = [f"../{file}" for file in files]
-    timed("verify, the tree", [PROGRAM, "verify", "--was", *above[:2], "--now", *above[2:], "../before", "."], root)
+    timed("verify, the tree", [UNIFY, "verify", "--was", *above[:2], "--now", *above[2:], "../before", "."], root)
     timed("apply, once more", [*apply, "plan", "tree"], folder)
-    timed("apply --check", [PROGRAM, "apply", "--check", "plan", "tree"], folder)
+    timed("apply --check", [UNIFY, "apply", "--check", "plan", "tree"], folder)
     timed("apply --reverse", [*apply, "--reverse", "plan", "tree"], folder)
 
 

@@ -13,10 +13,9 @@ import itertools
 import os
 import shutil
 import string
-import subprocess
 import sys
 
-from measure import HERE, UNIFY
+from measure import HERE, UNIFY, spent
 
 NAMES = string.digits + string.ascii_letters
 
@@ -39,14 +38,11 @@ def main():
     for file, text in texts.items():
         with open(os.path.join(host, file), "w") as written:
             written.write(text)
-    child = subprocess.Popen([program, "merge", out, f"host={host}"], stdout=subprocess.DEVNULL)
-    _, status, usage = os.wait4(child.pid, 0)
-    if status != 0:
-        sys.exit(f"{program} ended with {os.waitstatus_to_exitcode(status)}")
+    seconds, peak = spent([program, "merge", out, f"host={host}"])
     shutil.rmtree(folder)
     paths = depth * depth + files * (2 * depth + 3)
     print(f"{depth:,} directories, {files:,} files: an inventory of {len(texts['mtree']):,} bytes, paths of {paths:,}")
-    print(f"merge: {usage.ru_utime + usage.ru_stime:.2f} s, peak {usage.ru_maxrss / 1024:.0f} MiB")
+    print(f"merge: {seconds:.2f} s, peak {peak:.0f} MiB")
 
 
 if __name__ == "__main__":

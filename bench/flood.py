@@ -23,10 +23,9 @@ import math
 import os
 import random
 import shutil
-import subprocess
 import sys
 
-from measure import HERE, UNIFY
+from measure import HERE, UNIFY, spent
 
 LETTERS = b"0123456789ABCDEFGHIJKLMNOPQRSTUVWXYZabcdefghijklmnopqrstuvwxyz"
 MULTIPLIER = 0x9E37_79B9_7F4A_7C15
@@ -106,12 +105,9 @@ def lay_out(folder, names):
 def seconds(program, folder, command, names):
     """The processor seconds of a command on one host with these files, and its peak memory in MiB."""
     lay_out(folder, names)
-    child = subprocess.Popen([program, *COMMANDS[command]], cwd=folder, stdout=subprocess.DEVNULL)
-    _, status, usage = os.wait4(child.pid, 0)
-    if status != 0:
-        sys.exit(f"{program} ended with {os.waitstatus_to_exitcode(status)}")
+    taken = spent([program, *COMMANDS[command]], cwd=folder)
     shutil.rmtree(folder)
-    return usage.ru_utime + usage.ru_stime, usage.ru_maxrss / 1024
+    return taken
 
 
 def main():

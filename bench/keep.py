@@ -21,11 +21,10 @@ git does not see, and removed after.
 import os
 import random
 import shutil
-import subprocess
 import sys
 
 from contested import growth
-from measure import HERE, UNIFY
+from measure import HERE, UNIFY, spent
 from site_of import write_site
 
 SIZES = [0, 1000, 4000, 16000]
@@ -95,11 +94,7 @@ def merged(program, out, words):
     """The processor seconds and the peak memory in MiB of a merge."""
     shutil.rmtree(out, ignore_errors=True)
     os.makedirs(out)
-    child = subprocess.Popen([program, "merge", "--quiet", "--output", out, *words], stdout=subprocess.DEVNULL)
-    _, status, usage = os.wait4(child.pid, 0)
-    if status != 0:
-        sys.exit(f"{program} ended with {os.waitstatus_to_exitcode(status)}")
-    return usage.ru_utime + usage.ru_stime, usage.ru_maxrss / 1024
+    return spent([program, "merge", "--quiet", "--output", out, *words])
 
 
 def least_of_both(program, folder, plain, keeping):

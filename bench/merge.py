@@ -5,15 +5,16 @@
 
 `count` reads the accounts, and reads and counts the files; it makes no join. `check` joins the accounts too, and checks the
 certificate. `merge` reads the inventories twice, and also joins, solves and writes. What these two take is also told as a ratio to
-`count`, of the seconds that go by, in which a merge waits for the disk, and of those of a processor, the least of seven runs each, in turn.
-The parts are differences between such runs, on the site and on the same hosts with one file of fifty, where joining and solving
-are as hard and the inventories take a fiftieth. Run `make program` first. The site is made below bench/work, which git does not see.
+`count`, of the seconds that go by, in which a merge waits for the disk, and of those of a processor: the median of fifteen rounds,
+in each of which all three run. The parts are differences between single runs, on the site and on the same hosts with one file of
+fifty, where joining and solving are as hard and the inventories take a fiftieth. Run `make program` first. The site is made below
+bench/work, which git does not see.
 """
 import os
 import shutil
 import sys
 
-from measure import HERE, UNIFY, least_processor_seconds, timed
+from measure import HERE, UNIFY, median_ratios, timed
 from site_of import write_site
 
 
@@ -55,10 +56,10 @@ def run(folder, words, files):
     return times
 
 
-def print_ratios(times, what):
+def print_ratios(ratios, what):
     """How many times as long as a count, which reads once, the other two take."""
     for name in ("merge", "check"):
-        print(f"unify {name} / count, {what}: {times[name] / times['count']:.2f}")
+        print(f"unify {name} / count, {what}: {ratios[name]:.2f}")
 
 
 def print_parts(whole, thin):
@@ -82,8 +83,8 @@ def main():
     size = sum(os.path.getsize(f"{word.split('=')[1]}/mtree") for word in words)
     print(f"{hosts} hosts, {users} users and {files} files a host: {size / 1e6:.1f} MB of inventories", flush=True)
     whole = run(folder, words, hosts * files)
-    print_ratios(whole, "seconds")
-    print_ratios(least_processor_seconds(commands_of(folder, words), rounds=7)[0], "seconds of a processor")
+    print_ratios({name: seconds / whole["count"] for name, seconds in whole.items()}, "seconds")
+    print_ratios(median_ratios(commands_of(folder, words), "count"), "seconds of a processor")
     name, directory = words[0].split("=")
     seconds, peak, printed = timed([UNIFY, "rehearse", f"{folder}/out/plan.{name}", f"{directory}/mtree"])
     print(f"unify rehearse {name}: {seconds:.2f} s, peak {peak:,.0f} MiB; {' '.join(printed.split())}")

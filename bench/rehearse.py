@@ -12,7 +12,7 @@ Run `make program` first. The texts are made below bench/work, which git does no
 import os
 import sys
 
-from measure import HERE, UNIFY, ran, timed
+from measure import HERE, UNIFY, least_processor_seconds, timed
 
 
 def write_texts(folder, files):
@@ -35,24 +35,14 @@ def write_texts(folder, files):
             file.write(text)
 
 
-def least_seconds(commands, rounds=3):
-    """Runs the commands in turn, each with the status that it has to end with; answers the least processor time of each."""
-    least = {}
-    for _ in range(rounds):
-        for name, (words, wanted) in commands.items():
-            usage, _ = ran(words, wanted)
-            seconds = usage.ru_utime + usage.ru_stime
-            least[name] = min(seconds, least.get(name, seconds))
-    return least
-
-
 def compare_with_reading(folder):
     """Prints what a rehearsal takes of the time of reading its plan and its inventory."""
-    least = least_seconds({
-        "rehearse": ([UNIFY, "rehearse", f"{folder}/plan", f"{folder}/a/mtree"], 0),
-        "plan": ([UNIFY, "rehearse", f"{folder}/plan", f"{folder}/none"], 1),
-        "inventory": ([UNIFY, "count", f"{folder}/map", f"{folder}/a"], 0),
-    })
+    commands = {
+        "rehearse": [UNIFY, "rehearse", f"{folder}/plan", f"{folder}/a/mtree"],
+        "plan": [UNIFY, "rehearse", f"{folder}/plan", f"{folder}/none"],
+        "inventory": [UNIFY, "count", f"{folder}/map", f"{folder}/a"],
+    }
+    least, _ = least_processor_seconds(commands, rounds=3, wanted={"plan": 1})
     reading = least["plan"] + least["inventory"]
     print(f"          {least['rehearse']:.2f} s of a processor; the plan alone {least['plan']:.2f} s, "
           f"the inventory alone {least['inventory']:.2f} s: ratio {least['rehearse'] / reading:.2f}", flush=True)
