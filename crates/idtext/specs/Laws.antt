@@ -1,10 +1,11 @@
 -- Laws over the definitions of this crate, in the words of its subject.
 -- Source: chown(2) for the greatest id; mtree(5) and vis(3) for escapes, with this project's own
 -- rules of which are read.
-use Rattle.std.specs.Prelude.{◌≡◌, ℕ, ◌+◌, ◌-◌, ◌*◌, false, ◌<◌, ◌≤◌, List, [], ◌∷◌}
+use Rattle.std.specs.Prelude.{◌≡◌, ◌⊎◌, ℕ, ◌+◌, ◌-◌, ◌*◌, false, ◌<◌, ◌≤◌, List, [], ◌∷◌}
 use Rattle.std.specs.Prelude.{◌++◌, length}
 use Rattle.std.specs.Prelude.{drop, All, Some, IfSome, codes, decimal}
-use Rattle.idtext.specs.declared.escapes.Character.TheVariants.{Escape}
+use Rattle.std.specs.List.{Contains}
+use Rattle.idtext.specs.declared.escapes.Character.TheVariants.{Bad, Escape, Plain}
 use Rattle.idtext.specs.Escapes.{escaped, front, characters, unescaped, has_bad_escape}
 use Rattle.idtext.specs.Numbers.{c_number_of, greatest_id, id_of}
 
@@ -53,6 +54,43 @@ pub record AreForms : Type 0 where
   pub meta : (c : ℕ) → 33 ≤ c → c ≤ 126 → IsNamed (codes "M-" ++ c ∷ []) (c + 128)
   pub meta_control : (c : ℕ) → 64 ≤ c → c ≤ 95 → IsNamed (codes "M^" ++ c ∷ []) (c - 64 + 128)
   pub meta_delete : IsNamed (codes "M^?") 255
+
+-- the bytes that `\^` and `\M^` take: `?`, and `@` to `_`
+abbrev pub IsControl : ℕ → Type 0
+IsControl c = (c ≡ 63) ⊎ ((64 ≤ c) × (c ≤ 95))
+
+-- the bytes that `\M` takes: `-` and one that is seen, or `^` and one of those
+abbrev pub IsMeta : ℕ → ℕ → Type 0
+IsMeta a c = ((a ≡ 45) × (33 ≤ c) × (c ≤ 126)) ⊎ ((a ≡ 94) × IsControl c)
+
+-- the text begins with three octal digits whose value is a byte
+pub record BeginsOctal (text : List ℕ) : Type 0 where
+  pub a : ℕ
+  pub b : ℕ
+  pub c : ℕ
+  pub rest : List ℕ
+  pub are_digits : (a ≤ 3) × (b ≤ 7) × (c ≤ 7)
+  pub whole : text ≡ (48 + a) ∷ (48 + b) ∷ (48 + c) ∷ rest
+
+-- What is none of these forms. A backslash with nothing after it, or a NUL, is bad, and so is one
+-- before `^` or `M` that does not go on as a form; one before any other byte stands for itself. In
+-- each case what stands after the backslash is read by itself.
+pub record AreNoForms : Type 0 where
+  pub nothing : characters (92 ∷ []) ≡ Bad ∷ []
+  pub nul : (rest : List ℕ) → characters (92 ∷ 0 ∷ rest) ≡ Bad ∷ characters (0 ∷ rest)
+  pub caret_alone : characters (92 ∷ codes "^") ≡ Bad ∷ characters (codes "^")
+  pub caret : (c : ℕ) (rest : List ℕ) → ¬ IsControl c
+      → characters (92 ∷ codes "^" ++ c ∷ rest) ≡ Bad ∷ characters (codes "^" ++ c ∷ rest)
+  pub meta_alone : characters (92 ∷ codes "M") ≡ Bad ∷ characters (codes "M")
+  pub meta_short : (a : ℕ)
+      → characters (92 ∷ codes "M" ++ a ∷ []) ≡ Bad ∷ characters (codes "M" ++ a ∷ [])
+  pub meta : (a c : ℕ) (rest : List ℕ) → ¬ IsMeta a c
+      → characters (92 ∷ codes "M" ++ a ∷ c ∷ rest) ≡ Bad ∷ characters (codes "M" ++ a ∷ c ∷ rest)
+  pub other : (c : ℕ) (rest : List ℕ) → ¬ BeginsOctal (c ∷ rest)
+      → ¬ Contains (94 ∷ 77 ∷ 0 ∷ 92 ∷ codes "stnvfrab#") c
+      → characters (92 ∷ c ∷ rest) ≡ Plain 92 ∷ characters (c ∷ rest)
+  pub plain : (c : ℕ) (rest : List ℕ) → ¬ (c ≡ 92)
+      → characters (c ∷ rest) ≡ Plain c ∷ characters rest
 
 -- what a text writes in decimal, or as C does, is a number that an account may have
 abbrev pub DecimalsAreIds : Type 0

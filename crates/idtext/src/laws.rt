@@ -2,8 +2,9 @@
 //! nothing.
 #![tactic(auto)]
 
-ghost use Rattle.idtext.specs.Laws.{AreForms, CNumbersAreIds, DecimalsAreIds, EscapedIsReadBack};
-ghost use Rattle.idtext.specs.Laws.{FrontIsReadFirst, NothingStandsForNothing, WrittenIdIsReadBack};
+ghost use Rattle.idtext.specs.Laws.{AreForms, AreNoForms, CNumbersAreIds, DecimalsAreIds};
+ghost use Rattle.idtext.specs.Laws.{EscapedIsReadBack, FrontIsReadFirst, NothingStandsForNothing};
+ghost use Rattle.idtext.specs.Laws.{WrittenIdIsReadBack};
 
 /// Escapes are read from the left, one after the other, and none reaches into the next; what
 /// `push_escaped` writes is what `first_character` reads back, one after the other; and each form
@@ -13,6 +14,13 @@ pub fn escapes_are_read_from_the_left()
     ensures empty { NothingStandsForNothing }
     ensures back { EscapedIsReadBack }
     ensures forms { AreForms }
+{}
+
+/// A backslash that begins none of these forms: it is bad with nothing or a NUL after it, and
+/// before `^` or `M`; before any other byte it stands for itself. What stands after it is then read
+/// by itself. A byte that is no backslash stands for itself.
+pub fn other_backslashes_are_bad_or_plain()
+    ensures { AreNoForms }
 {}
 
 /// What `decimal` and `c_number` read is never above [`GREATEST_ID`](crate::GREATEST_ID), and an id
