@@ -13,5 +13,7 @@ mod passwd;
 mod table;
 
 pub use group::{GroupRow, GroupTable, Members, read_group};
-pub use laws::{a_table_is_accepted, tables_by_example};
+pub use laws::{
+    a_table_is_accepted, first_faults_are_told, refused_tables_by_example, tables_by_example,
+};
 pub use passwd::{PasswdRow, PasswdTable, read_passwd};
