@@ -2,6 +2,8 @@
 -- Source: login.defs(5) of the shadow suite, the items UID_MIN, UID_MAX, SYS_UID_MIN, SYS_UID_MAX
 -- and the same for GID, and their defaults; the texts are this project's own.
 use Rattle.std.specs.Prelude.{◌≡◌, ℕ, List, [], ◌∷◌, ◌++◌, Ok, codes}
+use Rattle.idtext.specs.declared.faults.TextCode.TheVariants.{BadNumber, RangesOverlap}
+use Rattle.idtext.specs.Faults.{refused}
 use Rattle.logindefs.specs.declared.ranges.IdRange.{IdRange}
 use Rattle.logindefs.specs.Ranges.{ranges_of}
 
@@ -65,4 +67,60 @@ SystemEndsBelowRegular =
       sys_uid = between 101 499;
       gid = between 700 60000;
       sys_gid = between 101 699;
+    })
+
+-- ---- texts that are refused, and their neighbours that are not
+
+-- a letter O for a zero is no number, whatever comes after it
+abbrev pub LetterIsRefused : Type 0
+LetterIsRefused =
+    ranges_of (ended (codes "# minima") ++ ended (codes "UID_MIN 5O00") ++ codes "UID_MIN 5000")
+    ≡ refused 2 BadNumber
+
+-- of two values that are none the first is told
+abbrev pub FirstOfTwoIsTold : Type 0
+FirstOfTwoIsTold =
+    ranges_of (ended [] ++ ended (codes "GID_MAX 08") ++ ended (codes "UID_MIN -1"))
+    ≡ refused 2 BadNumber
+
+-- 4294967295 is too great, and 4294967294 is not
+abbrev pub TooGreatIsRefused : Type 0
+TooGreatIsRefused = ranges_of (codes "UID_MAX 4294967295") ≡ refused 1 BadNumber
+
+abbrev pub GreatestIsRead : Type 0
+GreatestIsRead = ranges_of (codes "UID_MAX 4294967294") ≡ Ok (record {
+  uid = between 1000 4294967294;
+  sys_uid = between 101 999;
+  gid = between 1000 60000;
+  sys_gid = between 101 999;
+})
+
+-- a name alone says nothing, a value may be wrong that none of the eight is given, and so may a
+-- word after a value
+abbrev pub OthersArePassedOver : Type 0
+OthersArePassedOver =
+    ranges_of (ended (codes "UID_MIN") ++ ended (codes "UID_MIN_ 5O00")
+    ++ ended (codes " # UID_MIN 5O00") ++ ended (codes "uid_min 5O00")
+    ++ ended (codes "UID_MIN 2000 5O00")) ≡ Ok (record {
+      uid = between 2000 60000;
+      sys_uid = between 101 1999;
+      gid = between 1000 60000;
+      sys_gid = between 101 999;
+    })
+
+-- one number in the regular and in the system range is refused, of users and of groups
+abbrev pub SharedUidIsRefused : Type 0
+SharedUidIsRefused = ranges_of (codes "SYS_UID_MAX 1000") ≡ refused 0 RangesOverlap
+
+abbrev pub SharedGidIsRefused : Type 0
+SharedGidIsRefused = ranges_of (codes "SYS_GID_MAX 1000") ≡ refused 0 RangesOverlap
+
+-- a regular range of users and the system range of groups may share numbers, and the other way
+abbrev pub KindsMayShare : Type 0
+KindsMayShare =
+    ranges_of (ended (codes "UID_MIN 500") ++ codes "GID_MAX 70000") ≡ Ok (record {
+      uid = between 500 60000;
+      sys_uid = between 101 499;
+      gid = between 1000 70000;
+      sys_gid = between 101 999;
     })

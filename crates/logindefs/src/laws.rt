@@ -2,8 +2,12 @@
 //! function that does nothing.
 #![tactic(auto)]
 
+ghost use Rattle.logindefs.specs.Accepted.{FirstWrongLineIsTold, RangesAreAccepted};
 ghost use Rattle.logindefs.specs.Examples.{AllEightAreRead, DefaultsHold, LastValuesCount};
-ghost use Rattle.logindefs.specs.Examples.{SystemEndsBelowRegular};
+ghost use Rattle.logindefs.specs.Examples.{FirstOfTwoIsTold, GreatestIsRead, KindsMayShare};
+ghost use Rattle.logindefs.specs.Examples.{LetterIsRefused, OthersArePassedOver};
+ghost use Rattle.logindefs.specs.Examples.{SharedGidIsRefused, SharedUidIsRefused};
+ghost use Rattle.logindefs.specs.Examples.{SystemEndsBelowRegular, TooGreatIsRefused};
 ghost use Rattle.logindefs.specs.Laws.{LengthCounts, SharedIsInBoth};
 
 /// A range stands for the set of the numbers in it: its length is how many they are, and two ranges
@@ -21,4 +25,31 @@ pub fn ranges_by_example()
     ensures all_eight { AllEightAreRead }
     ensures last { LastValuesCount }
     ensures below { SystemEndsBelowRegular }
+{}
+
+/// A text gives ranges exactly where each of its lines may stand, and the ranges that the last
+/// value of each parameter gives, or its default, share no number: regular and system ones, of
+/// users and of groups. A line may stand that has at most 65,535 bytes and gives to none of the
+/// eight parameters a value that is no number.
+///
+/// Of any other text the first line that may not stand is told, counted from 1: that it is too
+/// long, or else that its value is no number. Where all may stand, line 0 is told, and that ranges
+/// overlap.
+pub fn ranges_are_accepted()
+    ensures accepted { RangesAreAccepted }
+    ensures refused { FirstWrongLineIsTold }
+{}
+
+/// Examples of texts that are refused, with what is told: a letter in a number, the first of two
+/// such values, a number that is too great, and a number in two ranges of users or of groups; and
+/// of texts beside them that are not.
+pub fn refused_ranges_by_example()
+    ensures letter { LetterIsRefused }
+    ensures first { FirstOfTwoIsTold }
+    ensures too_great { TooGreatIsRefused }
+    ensures greatest { GreatestIsRead }
+    ensures passed_over { OthersArePassedOver }
+    ensures uid { SharedUidIsRefused }
+    ensures gid { SharedGidIsRefused }
+    ensures kinds { KindsMayShare }
 {}
