@@ -9,7 +9,8 @@ use Rattle.mtree_inv.specs.Looking.{all_but_last}
 use Rattle.mtree_inv.specs.Logical.{next_number, ends_in_backslash}
 use Rattle.mtree_inv.specs.Machine.{Kept, step}
 use Rattle.mtree_inv.specs.Reading.{Open, clip, grown, held, with_plain, with_backslash, with_bytes, is_joining, fresh, clipped_kind, after_step, with_newline}
-use Rattle.mtree_inv.proofs.LineLemmas.{clip-grown, whole_of_body}
+use Rattle.mtree_inv.proofs.JoinLemmas.{whole_of_body}
+use Rattle.mtree_inv.proofs.LineLemmas.{clip-grown}
 use Rattle.mtree_inv.proofs.ReadLemmas.{reading_at, newline-line}
 
 -- ---- the last byte
