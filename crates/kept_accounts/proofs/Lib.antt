@@ -4,3 +4,4 @@ pub mod OnlyLemmas
 pub mod ReservedLemmas
 pub mod SparedLemmas
 pub mod StayLemmas
+pub mod ReservingExample

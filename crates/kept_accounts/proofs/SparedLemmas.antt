@@ -17,12 +17,13 @@ use Rattle.hosts_join.specs.RangeLists.{lies_in_some}
 use Rattle.hosts_join.specs.Rules.{is_reserved}
 use Rattle.hosts_join.specs.declared.host.Host.{Host}
 use Rattle.hosts_join.specs.declared.reserving.Reserved.{Reserved}
+use Rattle.hosts_join.specs.declared.reserving.Reserver.TheVariants as by
 use Rattle.keep_text.specs.declared.keep_text.Kept.{Kept}
 use Rattle.keep_text.specs.declared.keep_text.KeepText.{KeepText}
 use Rattle.kept_accounts.specs.Keeping.{is_kept_user, is_kept_group}
-use Rattle.kept_accounts.specs.Laws.{NamedAreLeftOrSpared, SparedAreReserved, UnownedAreSpared}
+use Rattle.kept_accounts.specs.Laws.{NamedAreLeftOrSpared, SparedAreReserved, UnownedAreSpared, alone}
 use Rattle.kept_accounts.specs.Others.{kept_numbers, other_rows, spared, unowned_on, without}
-use Rattle.kept_accounts.specs.Reserving.{UnownedNumbers, by_files, by_name, by_range, only, reserved_by, reserved_on}
+use Rattle.kept_accounts.specs.Reserving.{UnownedNumbers, by_files, by_name, by_range, only, reserved_by, reserved_groups, reserved_on, reserved_users}
 use Rattle.kept_accounts.specs.declared.reserving.UnownedNumber.{UnownedNumber}
 use Rattle.kept_accounts.proofs.OtherLemmas.{other_users_agree, other_groups_agree}
 use Rattle.kept_accounts.proofs.ReservedLemmas.{in-map, in-filter}
@@ -204,10 +205,12 @@ pub unowned_spared : UnownedAreSpared
 unowned_spared keep hosts unowned host found same = (
   λ stays there. (
     unowned-here keep.users (is_kept_user keep hosts) (user_rows host.users) host unowned.users found same stays there,
-    unowned-reserved keep.users (is_kept_user keep hosts) (λ h. user_rows h.users) hosts unowned.users found stays there,
+    subst (λ (name : List ℕ). Contains (reserved_users keep hosts unowned.users) (alone found.number (by.Unowned name))) same
+        (unowned-reserved keep.users (is_kept_user keep hosts) (λ h. user_rows h.users) hosts unowned.users found stays there),
   ),
   λ stays there. (
     unowned-here keep.groups (is_kept_group keep hosts) (group_rows host.groups) host unowned.groups found same stays there,
-    unowned-reserved keep.groups (is_kept_group keep hosts) (λ h. group_rows h.groups) hosts unowned.groups found stays there,
+    subst (λ (name : List ℕ). Contains (reserved_groups keep hosts unowned.groups) (alone found.number (by.Unowned name))) same
+        (unowned-reserved keep.groups (is_kept_group keep hosts) (λ h. group_rows h.groups) hosts unowned.groups found stays there),
   ),
 )

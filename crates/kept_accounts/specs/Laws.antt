@@ -11,13 +11,16 @@ use Rattle.hosts_join.specs.Kinds.{user_rows, group_rows, user_at, group_at}
 use Rattle.hosts_join.specs.RangeLists.{lies_in_some}
 use Rattle.hosts_join.specs.Rules.{is_reserved}
 use Rattle.hosts_join.specs.declared.host.Host.{Host}
+use Rattle.hosts_join.specs.declared.reserving.Reserved.{Reserved}
+use Rattle.hosts_join.specs.declared.reserving.Reserver.{Reserver}
+use Rattle.hosts_join.specs.declared.reserving.Reserver.TheVariants as by
 use Rattle.keep_text.specs.KeepTexts.{keep_of}
 use Rattle.keep_text.specs.declared.keep_text.Kept.{Kept}
 use Rattle.keep_text.specs.declared.keep_text.KeepText.{KeepText}
 use Rattle.kept_accounts.specs.Keeping.{is_kept, is_kept_user, is_kept_group, numbers_of}
 use Rattle.kept_accounts.specs.Keeping.{Keeping, IsKeeping, keeps, users_on, groups_on}
 use Rattle.kept_accounts.specs.Others.{kept_rows, other_rows, without, without_kept}
-use Rattle.kept_accounts.specs.Reserving.{UnownedNumbers, by_files, by_name, reserved_by}
+use Rattle.kept_accounts.specs.Reserving.{UnownedNumbers, reserved_by}
 use Rattle.kept_accounts.specs.Reserving.{reserved_users, reserved_groups}
 use Rattle.kept_accounts.specs.declared.reserving.UnownedNumber.{UnownedNumber}
 
@@ -85,14 +88,18 @@ KeptNamesStay = (keep : KeepText) (hosts : List Host) (name : List ℕ)
     × ((is_kept_group keep hosts name ≡ true)
     ↔ Stays keep.groups (λ host. group_rows host.groups) hosts name)
 
+-- that number and no other is reserved, by this one
+abbrev pub alone : ℕ → Reserver → Reserved
+alone number reserver = record { numbers = record { low = number; high = number }; by = reserver }
+
 -- the number that a kept name has on a host is reserved, by that name there
 abbrev pub KeptNumbersAreReserved : Type 0
 KeptNumbersAreReserved = (keep : KeepText) (hosts : List Host) (unowned : List UnownedNumber)
     (host : Host) (row : List ℕ × ℕ) → Contains hosts host
     → (Contains (user_rows host.users) row → is_kept_user keep hosts row.0 ≡ true
-    → Contains (reserved_users keep hosts unowned) (by_name host row))
+    → Contains (reserved_users keep hosts unowned) (alone row.1 (by.Name host.name row.0)))
     × (Contains (group_rows host.groups) row → is_kept_group keep hosts row.0 ≡ true
-    → Contains (reserved_groups keep hosts unowned) (by_name host row))
+    → Contains (reserved_groups keep hosts unowned) (alone row.1 (by.Name host.name row.0)))
 
 -- the kept rows and the others are the rows of the table, each once
 abbrev pub RowsAreParted : {Row : Type 0} → (Row → List ℕ) → Type 0
@@ -176,10 +183,12 @@ UnownedAreSpared = (keep : KeepText) (hosts : List Host) (unowned : UnownedNumbe
     (found : UnownedNumber) → found.host ≡ host.name
     → (keep.users.unowned ≡ true → Contains unowned.users found
     → (spares_user (without_kept keep hosts unowned host) found.number ≡ true)
-    × Contains (reserved_users keep hosts unowned.users) (by_files found))
+    × Contains (reserved_users keep hosts unowned.users)
+    (alone found.number (by.Unowned host.name)))
     × (keep.groups.unowned ≡ true → Contains unowned.groups found
     → (spares_group (without_kept keep hosts unowned host) found.number ≡ true)
-    × Contains (reserved_groups keep hosts unowned.groups) (by_files found))
+    × Contains (reserved_groups keep hosts unowned.groups)
+    (alone found.number (by.Unowned host.name)))
 
 -- a number that a host's table names is named so by what is left of it, or the host spares it
 abbrev pub NamedAreLeftOrSpared : Type 0

@@ -4,3 +4,4 @@ pub mod Reserving
 pub mod Laws
 pub mod Picked
 pub mod KindInside
+pub mod ReservingExample

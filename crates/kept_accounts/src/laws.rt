@@ -7,6 +7,7 @@ ghost use Rattle.kept_accounts.specs.Laws.{OtherUsersAgree, OtherGroupsAgree};
 ghost use Rattle.kept_accounts.specs.Laws.{NamedAreLeftOrSpared, SparedAreReserved};
 ghost use Rattle.kept_accounts.specs.Laws.{UnownedAreSpared, OnlyWhatStaysIsReserved};
 ghost use Rattle.kept_accounts.specs.Laws.{HostSparesItsOwn};
+ghost use Rattle.kept_accounts.specs.ReservingExample.{ReservingByExample};
 
 /// By an empty keep text no name is kept and no number is reserved, and each host is as it was, and
 /// spares no number, whichever numbers its files have without an account.
@@ -82,4 +83,12 @@ pub fn only_what_stays_is_reserved()
 /// account and it is one of this host's.
 pub fn a_host_spares_what_is_its_own()
     ensures { HostSparesItsOwn }
+{}
+
+/// On a site of two hosts, by example: what is reserved of users and of groups is first each listed
+/// range, in the order of the lines, then host by host the numbers of the kept names, in the order
+/// of the rows, each by the name on that host, and then the unowned numbers, by the files of their
+/// hosts, as they were found.
+pub fn reserving_by_example()
+    ensures { ReservingByExample }
 {}

@@ -1,3 +1,4 @@
 pub mod Unowned
 pub mod Surveying
 pub mod Laws
+pub mod UnownedExample

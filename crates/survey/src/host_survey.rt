@@ -1,6 +1,6 @@
 //! The inventory of one host, which comes in pieces and whose numbers without an account are noted.
 
-ghost use Rattle.std.specs.Prelude.{◌≡◌, ◌++◌, ℕ, List, [], OnOk};
+ghost use Rattle.std.specs.Prelude.{◌≡◌, ◌++◌, ℕ, List, [], OnErr, OnOk};
 ghost use Rattle.idtext.specs.Faults.{fault_told};
 ghost use Rattle.idtext.specs.First.{Yields};
 ghost use Rattle.mtree_inv.specs.Inventory.{inventory, inventory_of_lines};
@@ -80,16 +80,22 @@ impl HostSurvey {
     }
 
     /// Appends the numbers of the files of the host, each with its name. Time in step with them.
-    /// `AllocError` where a growth was refused; some of the numbers may then be there.
+    /// `AllocError` where a growth was refused; what was found before is then as it was.
     pub fn push_to<'a>(
         &self,
         host: &Host<'a>,
         found: &mut UnownedNumbers<'a>,
     ) -> Result<(), AllocError>
-        ensures { OnOk result ((files : List Entry) → HasNumbersOf host.now files self.now
+        ensures pushed { OnOk result ((files : List Entry) → HasNumbersOf host.now files self.now
             → found.new ≡ unowned_with found.old host.now files) }
+        ensures kept { OnErr result (found.new ≡ found.old) }
     {
+        let before = found.users.len();
         push_numbers(&mut found.users, host, self.noted.users.numbers())?;
-        push_numbers(&mut found.groups, host, self.noted.groups.numbers())
+        let pushed = push_numbers(&mut found.groups, host, self.noted.groups.numbers());
+        if pushed.is_err() {
+            found.users.truncate(before);
+        }
+        pushed
     }
 }

@@ -2,6 +2,7 @@
 
 ghost use Rattle.survey.specs.Laws.{GidsAreOfFiles, OnlyUnownedAreFound, StandOnce, UidsAreOfFiles};
 ghost use Rattle.survey.specs.Unowned.{unowned_gids, unowned_uids};
+ghost use Rattle.survey.specs.UnownedExample.{UnownedByExample};
 
 /// A number is among those that are found exactly where some file has it, no account of the host
 /// has it, and the host does not spare it.
@@ -21,4 +22,10 @@ pub fn no_number_stands_twice()
 /// lies in no range that the host spares.
 pub fn only_unowned_numbers_are_found()
     ensures { OnlyUnownedAreFound }
+{}
+
+/// Of two hosts, by example: the unowned numbers stand host by host, and of each host in the order
+/// in which its files have them first, each once.
+pub fn unowned_by_example()
+    ensures { UnownedByExample }
 {}

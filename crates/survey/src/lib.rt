@@ -9,5 +9,6 @@ mod number_set;
 
 pub use host_survey::HostSurvey;
 pub use laws::{
-    no_number_stands_twice, only_unowned_numbers_are_found, unowned_numbers_are_of_files,
+    no_number_stands_twice, only_unowned_numbers_are_found, unowned_by_example,
+    unowned_numbers_are_of_files,
 };

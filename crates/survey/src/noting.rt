@@ -1,6 +1,7 @@
 //! The numbers of files that no account of their host has.
 
-ghost use Rattle.std.specs.Prelude.{◌≡◌, ◌++◌, ◌∷◌, ℕ, List, [], Bool, filter, OnOk};
+ghost use Rattle.std.specs.Prelude.{◌≡◌, ◌++◌, ◌∷◌, ℕ, List, [], Bool, filter, length, take};
+ghost use Rattle.std.specs.Prelude.{OnErr, OnOk};
 ghost use Rattle.mtree_inv.specs.Standing as standing;
 ghost use Rattle.mtree_inv.specs.declared.entry.Entry.{Entry};
 ghost use Rattle.hosts_join.specs.declared.host.Host.{Host};
@@ -72,14 +73,15 @@ pub fn note_waiting(
     Ok(())
 }
 
-/// Appends numbers, each with the name of the host.
-pub fn push_numbers<'a>(
+// Appends numbers, each with the name of the host, also where memory runs out on the way.
+fn push_each<'a>(
     found: &mut Vec<UnownedNumber<'a>>,
     host: &Host<'a>,
     numbers: &[u32],
 ) -> Result<(), AllocError>
-    ensures { OnOk result (found.new.items
+    ensures pushed { OnOk result (found.new.items
         ≡ found.old.items ++ spec.on_host host.now numbers.now) }
+    ensures kept { take (length found.old.items) found.new.items ≡ found.old.items }
 {
     for number in numbers {
         found.push(UnownedNumber {
@@ -88,4 +90,22 @@ pub fn push_numbers<'a>(
         })?;
     }
     Ok(())
+}
+
+/// Appends numbers, each with the name of the host, or none where memory runs out.
+pub fn push_numbers<'a>(
+    found: &mut Vec<UnownedNumber<'a>>,
+    host: &Host<'a>,
+    numbers: &[u32],
+) -> Result<(), AllocError>
+    ensures pushed { OnOk result (found.new.items
+        ≡ found.old.items ++ spec.on_host host.now numbers.now) }
+    ensures kept { OnErr result (found.new.items ≡ found.old.items) }
+{
+    let before = found.len();
+    let pushed = push_each(found, host, numbers);
+    if pushed.is_err() {
+        found.truncate(before);
+    }
+    pushed
 }
