@@ -25,11 +25,12 @@ use Rattle.unify_texts.specs.declared.bundle_line.FileName.TheVariants as file
 use Rattle.unify_texts.specs.declared.fault.Fault.{Fault}
 use Rattle.unify_texts.specs.declared.fault.Fault.TheVariants.{Line, UnownedUid, UnownedGid}
 use Rattle.unify.proofs.AnyDecides.{any_decides, look_up_decides}
-use Rattle.unify.proofs.FirstFaults.{FirstFault, first_fails, first_told, unless_err}
+use Rattle.unify_texts.proofs.FirstFaults.{FirstFault, first_fails, first_told, unless_err}
 use Rattle.unify.proofs.Owners.{allowed, file_ok}
 use Rattle.unify.specs.FaultLaws.{FirstUnowned, GidsAreOfTheirFile, LiesInOne, LinesAreOfTheirFile, MayHaveGid, MayHaveUid, RefusesFile, UidsAreOfTheirFile}
 use Rattle.unify.specs.Hosts.{files_of, host_of, owner_fault, sparing_none}
-use Rattle.unify.specs.Told.{in_file, in_site, site_told}
+use Rattle.unify_texts.specs.Told.{in_file}
+use Rattle.unify.specs.Told.{in_site, site_told}
 use Rattle.unify.specs.declared.host.Loaded.{Loaded}
 
 bound_err : {B F : Type 0} (g e : F) → ◌≡◌ {A = Result B F} (Err g) (Err e) → g ≡ e

@@ -15,11 +15,11 @@ use Rattle.unify_texts.specs.declared.bundle_line.FileName.TheVariants as file
 use Rattle.unify_texts.specs.declared.fault.Fault.{Fault}
 use Rattle.unify_texts.specs.declared.fault.Fault.TheVariants.{Line, UnownedUid, UnownedGid}
 use Rattle.unify.proofs.FaultLaws.{all_allowed, bind_err, err_same, file_err, never_err, none_judged}
-use Rattle.unify.proofs.FirstFaults.{FirstFault, all_pass, first_fails, unless_err}
+use Rattle.unify_texts.proofs.FirstFaults.{FirstFault, all_pass, first_fails, unless_err}
 use Rattle.unify.proofs.Owners.{files_read}
 use Rattle.unify.specs.FileLaws.{AreItsFiles, FilesAreOfInventories, InventoryLinesAreTold, IsOfInventory, TellsItsLines}
 use Rattle.unify.specs.Hosts.{files_of, owner_fault}
-use Rattle.unify.specs.Told.{in_file}
+use Rattle.unify_texts.specs.Told.{in_file}
 use Rattle.unify.specs.declared.host.Loaded.{Loaded}
 
 -- ---- files

@@ -24,7 +24,7 @@ use Rattle.unify.specs.OthersHeld.{others_in}
 use Rattle.unify.specs.Passes.{AreTogether, HoldsBegun, site_begun}
 use Rattle.unify.specs.Told.{in_site}
 use Rattle.unify.proofs.CountSteps as count
-use Rattle.unify.proofs.Faults.{passed_on}
+use Rattle.unify_texts.proofs.Faults.{passed_on}
 use Rattle.unify.proofs.LeftHosts.{left, left-lawful, others-by}
 use Rattle.unify.proofs.ReadSites.{others-together}
 use Rattle.unify.proofs.Whole.{begun_is, join_refused, site_ok}

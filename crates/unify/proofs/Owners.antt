@@ -1,13 +1,11 @@
 -- Files with owners by their host's own tables have them among the site's accounts, and those with spared numbers have reserved
 -- ones.
-use Rattle.std.proofs.Common.{◌≡◌, ℕ, Bool, true, false, cond, List, [], ◌∷◌, ◌++◌, Option, Some, None, Result, Ok, Err, refl, sym, ap, subst, ◌∙◌}
+use Rattle.std.proofs.Common.{◌≡◌, ℕ, Bool, true, false, cond, List, [], Some, None, Result, Ok, Err, refl, sym, ap, subst, ◌∙◌}
 use Rattle.std.specs.List.{All}
 use Rattle.std.specs.Option.{is_some}
 use Rattle.std.specs.Prelude.{◌||◌}
-use Rattle.std.proofs.lemmas.List.Elements.{All-nil, All-cons}
 use Rattle.idtext.specs.First.{first_fault, unless}
 use Rattle.idtext.specs.declared.faults.TextFault.{TextFault}
-use Rattle.idtext.proofs.FirstLemmas.{none_of_both}
 use Rattle.idtext.proofs.OkLemmas.{bind_ok, ok_same, unless_ok}
 use Rattle.mtree_inv.specs.declared.entry.Entry.{Entry}
 use Rattle.mtree_inv.specs.Inventory.{inventory}
@@ -22,19 +20,12 @@ use Rattle.unify_texts.specs.declared.bundle_line.FileName.TheVariants as file
 use Rattle.unify.specs.declared.host.Loaded.{Loaded}
 use Rattle.unify.specs.Hosts.{owner_fault, files_of}
 use Rattle.unify.specs.Sparing.{AreAllowed, AreOwnedOrReserved}
-use Rattle.unify.specs.Told.{in_file}
+use Rattle.unify_texts.specs.Told.{in_file}
+use Rattle.unify_texts.proofs.FirstFaults.{none_fails}
 
 pub file_ok : {A : Type 0} (host : List ℕ) (name : FileName) (r : Result A TextFault) (x : A) → in_file host name r ≡ Ok x → r ≡ Ok x
 file_ok host name (Ok y) x h = ap (λ z. Ok z) (ok_same y x h)
 file_ok host name (Err e) x h = absurd (cc)
-
--- a judge that asks nothing of the items before finds no fault in any
-pub none_fails : {A F : Type 0} (judge : A → Option F) (before xs : List A) → first_fault (λ seen x. judge x) before xs ≡ None → All (λ x. judge x ≡ None) xs
-unfolding first_fault
-none_fails judge before [] h = All-nil (λ x. judge x ≡ None)
-none_fails judge before (x ∷ xs) h =
-    let both = none_of_both (judge x) (first_fault (λ seen y. judge y) (before ++ x ∷ []) xs) h in
-    All-cons (λ y. judge y ≡ None) x xs both.0 (none_fails judge (before ++ x ∷ []) xs both.1)
 
 -- the files that were read are those of the inventory, each with its owners
 pub files_read : (loaded : Loaded) (files : List Entry) → files_of loaded ≡ Ok files → (inventory 16777216 loaded.mtree ≡ Ok files) × All (λ f. owner_fault loaded.host [] f ≡ None) files

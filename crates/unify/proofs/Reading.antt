@@ -35,7 +35,8 @@ use Rattle.unify.specs.Loading.{loaded_from}
 use Rattle.unify.specs.Passes.{AreTogether}
 use Rattle.unify.specs.Reading.{added_on, added_from}
 use Rattle.unify.specs.Sparing.{AreOwnedOrReserved, SparesNothing}
-use Rattle.unify.specs.Told.{in_file, in_site}
+use Rattle.unify_texts.specs.Told.{in_file}
+use Rattle.unify.specs.Told.{in_site}
 use Rattle.unify.proofs.Adding.{length-loaded_from}
 use Rattle.unify.proofs.Owners.{allowed, file_ok, files_read, owned-or-reserved}
 use Rattle.unify.proofs.Whole.{hosts_held, site_ok}

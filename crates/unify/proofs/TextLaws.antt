@@ -41,9 +41,8 @@ use Rattle.unify.specs.declared.host.Loaded.{Loaded}
 use Rattle.unify.specs.declared.rules.KeepRules.{KeepRules}
 use Rattle.unify.proofs.AnyDecides.{any_decides, find_decides}
 use Rattle.unify.proofs.FaultLaws.{same_number}
-use Rattle.unify.proofs.FirstFaults.{all_pass}
+use Rattle.unify_texts.proofs.FirstFaults.{all_pass, none_fails}
 use Rattle.unify.proofs.MapLaws.{maps_are_whole}
-use Rattle.unify.proofs.Owners.{none_fails}
 use Rattle.unify.proofs.Reading.{of-texts}
 use Rattle.unify.proofs.ReadSites.{AreLoaded, ArePinned, are-loaded, are-pinned, reserved-are}
 use Rattle.unify.proofs.SiteNames.{named_somewhere}

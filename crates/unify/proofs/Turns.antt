@@ -20,7 +20,7 @@ use Rattle.unify.specs.Hosts.{files_of, owner_fault}
 use Rattle.unify.specs.Passes.{IsFaultOf, IsToldAs, is_read, read_told}
 use Rattle.unify.specs.Turns.{AreCounted, IsAccepted, TurnsFor, met_at, or_memory, owner_told}
 use Rattle.unify.specs.RowFiles.{RowFiles, row_files}
-use Rattle.unify.proofs.Faults.{memory_or, told_is}
+use Rattle.unify_texts.proofs.Faults.{memory_or, told_is}
 
 -- ---- files after files
 

@@ -17,7 +17,8 @@ use Rattle.unify_texts.specs.declared.bundle_line.FileName.{FileName}
 use Rattle.unify_texts.specs.declared.bundle_line.FileName.TheVariants as file
 use Rattle.unify_texts.specs.declared.fault.Fault.TheVariants.{Line, UnownedUid, UnownedGid}
 use Rattle.unify.specs.declared.host.Loaded.{Loaded}
-use Rattle.unify.specs.Hosts.{files_of, host_of, most_files}
+use Rattle.unify_texts.specs.Limits.{most_files}
+use Rattle.unify.specs.Hosts.{files_of, host_of}
 
 -- a reader takes a text
 abbrev pub IsTaken : {X : Type 0} → Result X TextFault → Type 0

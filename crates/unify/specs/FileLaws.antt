@@ -15,7 +15,8 @@ use Rattle.unify_texts.specs.declared.fault.Fault.{Fault}
 use Rattle.unify_texts.specs.declared.fault.Fault.TheVariants.{Line, UnownedUid, UnownedGid}
 use Rattle.unify.specs.declared.host.Loaded.{Loaded}
 use Rattle.unify.specs.FaultLaws.{MayHaveGid, MayHaveUid}
-use Rattle.unify.specs.Hosts.{files_of, most_files}
+use Rattle.unify_texts.specs.Limits.{most_files}
+use Rattle.unify.specs.Hosts.{files_of}
 use Rattle.unify.specs.Passes.{lines_of, read_told}
 use Rattle.unify.specs.Survey.{inventory_of}
 

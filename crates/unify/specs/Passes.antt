@@ -21,8 +21,10 @@ use Rattle.unify_texts.specs.declared.fault.Fault.{Fault}
 use Rattle.unify_texts.specs.declared.fault.Fault.TheVariants.{Line, Memory}
 use Rattle.unify.specs.declared.rules.SiteRules.{SiteRules}
 use Rattle.unify.specs.declared.site.JoinedHosts.{JoinedHosts}
-use Rattle.unify.specs.Told.{in_file, in_site}
-use Rattle.unify.specs.Hosts.{files_of, most_files}
+use Rattle.unify_texts.specs.Told.{in_file}
+use Rattle.unify.specs.Told.{in_site}
+use Rattle.unify_texts.specs.Limits.{most_files}
+use Rattle.unify.specs.Hosts.{files_of}
 use Rattle.unify.specs.Count.{site_of}
 use Rattle.unify.specs.Loading.{loaded_from}
 use Rattle.unify.specs.Others.{others_loaded, pinned_site}

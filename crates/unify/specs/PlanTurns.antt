@@ -17,7 +17,8 @@ use Rattle.unify.specs.declared.plan_turn.PlanTurn.{PlanTurn}
 use Rattle.unify.specs.declared.plan_turn.Stop.{Stop}
 use Rattle.unify.specs.declared.plan_turn.Stop.TheVariants as stop
 use Rattle.unify.specs.declared.solved_pass.Solved.TheInside.{Inside}
-use Rattle.unify.specs.Hosts.{owner_fault, most_files}
+use Rattle.unify_texts.specs.Limits.{most_files}
+use Rattle.unify.specs.Hosts.{owner_fault}
 use Rattle.unify.specs.KnownOwners.{AreKnown, NoneIsKnown}
 use Rattle.unify.specs.Passes.{AreTogether}
 use Rattle.unify.specs.RowFiles.{RowFiles, row_files}

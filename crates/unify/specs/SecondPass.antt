@@ -14,7 +14,8 @@ use Rattle.unify_texts.specs.declared.fault.Fault.{Fault}
 use Rattle.unify_texts.specs.declared.fault.Fault.TheVariants.{InventoryChanged}
 use Rattle.unify.specs.declared.merging.Merged.{Merged}
 use Rattle.unify.specs.Count.{site_of}
-use Rattle.unify.specs.Hosts.{owner_fault, files_of, most_files}
+use Rattle.unify_texts.specs.Limits.{most_files}
+use Rattle.unify.specs.Hosts.{owner_fault, files_of}
 use Rattle.unify.specs.Loading.{loaded_from}
 use Rattle.unify.specs.Merging.{IsMerged}
 use Rattle.unify.specs.Passes.{InventoriesValue, lines_of, read_in}

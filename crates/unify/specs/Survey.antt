@@ -14,10 +14,12 @@ use Rattle.survey.specs.Unowned.{unowned_with}
 use Rattle.unify_texts.specs.declared.bundle_line.FileName.TheVariants as file
 use Rattle.unify_texts.specs.declared.fault.Fault.{Fault}
 use Rattle.unify.specs.declared.host.Loaded.{Loaded}
-use Rattle.unify.specs.Hosts.{host_of, most_files}
+use Rattle.unify_texts.specs.Limits.{most_files}
+use Rattle.unify.specs.Hosts.{host_of}
 use Rattle.unify.specs.Loading.{loaded_from}
 use Rattle.unify.specs.Others.{keep_read}
-use Rattle.unify.specs.Told.{in_file, in_site}
+use Rattle.unify_texts.specs.Told.{in_file}
+use Rattle.unify.specs.Told.{in_site}
 
 -- ---- whose files are looked through
 

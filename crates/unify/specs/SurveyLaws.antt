@@ -13,7 +13,7 @@ use Rattle.keep_text.specs.declared.keep_text.KeepText.{KeepText}
 use Rattle.kept_accounts.specs.Reserving.{UnownedNumbers, no_numbers}
 use Rattle.kept_accounts.specs.declared.reserving.UnownedNumber.{UnownedNumber}
 use Rattle.unify.specs.FaultLaws.{LiesInOne}
-use Rattle.unify.specs.Hosts.{most_files}
+use Rattle.unify_texts.specs.Limits.{most_files}
 use Rattle.unify.specs.Others.{keep_read}
 use Rattle.unify.specs.Survey.{found_on, surveyed, surveyed_hosts}
 

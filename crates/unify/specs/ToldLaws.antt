@@ -24,8 +24,9 @@ use Rattle.unify_texts.specs.Faults.{class_word, place_shown, reserver_words, wo
 use Rattle.unify_texts.specs.Words.{shown, which_word}
 use Rattle.unify_texts.specs.declared.bundle_line.FileName.{FileName}
 use Rattle.unify_texts.specs.declared.fault.Fault.{Fault}
-use Rattle.unify.specs.Told.{check_told, in_certificate, in_check, in_file, in_keep, in_pins}
-use Rattle.unify.specs.Told.{in_plan, in_site}
+use Rattle.unify_texts.specs.Told.{in_file, in_plan}
+use Rattle.unify.specs.Told.{check_told, in_certificate, in_check, in_keep, in_pins}
+use Rattle.unify.specs.Told.{in_site}
 
 -- want of memory has no number
 abbrev pub memory_words : List (List ℕ)

@@ -11,7 +11,7 @@ use Rattle.hosts_join.specs.Site.{Joined}
 use Rattle.hosts_join.specs.declared.host.Host.{Host}
 use Rattle.mergedfiles.specs.InPart.{WasReadInPart}
 use Rattle.mergedfiles.specs.Together.{AreJoined}
-use Rattle.unify.specs.Hosts.{most_files}
+use Rattle.unify_texts.specs.Limits.{most_files}
 use Rattle.unify.specs.Outcomes.{hosts_in}
 use Rattle.unify.specs.Sparing.{AreAllowed, AreOwnedOrReserved, LeavesItsReserved}
 use Rattle.unify.specs.Reading.{WholeSite, files_of_site}

@@ -16,11 +16,12 @@ use accounts::{GroupRow, PasswdRow};
 use hosts_join::{Host, HostText, PairTable, check_hosts};
 use unify_texts::{Fault, MapText};
 
-/// How many fields of files change: one for a file whose user's number changes, and one for a file
-/// whose group's does.
+/// How many fields of files change.
 #[derive(Clone, Copy, Debug, PartialEq, Eq)]
 pub struct Cost {
+    /// The files whose user's number changes.
     pub users: u64,
+    /// The files whose group's number changes.
     pub groups: u64,
 }
 

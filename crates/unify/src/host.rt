@@ -9,39 +9,25 @@ ghost use Rattle.hosts_join.specs.Checks.{primary_checked};
 ghost use Rattle.hosts_join.specs.Hosts.{IsLawfulHost};
 ghost use Rattle.hosts_join.specs.declared.fault.SiteFault.TheVariants as site;
 ghost use Rattle.unify_texts.specs.declared.fault.Fault.{Fault};
-ghost use Rattle.unify_texts.specs.declared.fault.Fault.TheVariants.{Line};
-ghost use Rattle.unify_texts.specs.Told.{told};
-ghost use Rattle.unify.specs.Told.{in_file, site_told, in_site};
+ghost use Rattle.unify_texts.specs.Told.{told, in_file};
+ghost use Rattle.unify.specs.Told.{site_told, in_site};
 ghost use Rattle.unify.specs.Hosts.{host_of, owner_fault};
 
 use accounts::{GroupTable, PasswdTable, read_group, read_passwd};
 use hosts_join::{Host, HostText, Reserved, Runs, SiteFault, Which, check_primary};
-use idtext::{ByteString, Name, ReadError, TextFault};
+use idtext::{ByteString, Name, ReadError};
 use logindefs::{HostRanges, read_ranges};
 use mtree_inv::Entry;
 use std::alloc::{AllocError, Global};
-use unify_texts::{Fault, FileName};
-
-/// How many files an inventory may have.
-pub const MOST_FILES: u32 = 16777216;
+use unify_texts::{Fault, FileName, file_fault};
 
 /// What the files of a host say, with its inventory's text.
 #[derive(Drop)]
 pub struct Loaded<'a> {
+    /// Its name, ranges and tables.
     pub host: Host<'a>,
+    /// The text of its inventory.
     pub mtree: Name<'a>,
-}
-
-/// A fault of a line, told with its host and file. Constant time.
-pub fn line_fault(host: &[u8], file: FileName, fault: TextFault) -> Fault<'_>
-    ensures { result ≡ Line host.now file fault.code fault.line }
-{
-    Fault::Line {
-        host: Name::new(host),
-        file,
-        fault: fault.code,
-        line: fault.line,
-    }
 }
 
 // A name that is pinned to two numbers.
@@ -136,7 +122,7 @@ fn ranges_at<'a>(host: &'a [u8], text: &[u8]) -> Result<HostRanges, Fault<'a>>
 {
     match read_ranges(text) {
         Ok(ranges) => Ok(ranges),
-        Err(fault) => Err(line_fault(host, FileName::LoginDefs, fault)),
+        Err(fault) => Err(file_fault(host, FileName::LoginDefs, fault)),
     }
 }
 
@@ -148,7 +134,7 @@ fn users_at<'a>(alloc: Global, host: &'a [u8], text: &'a [u8]) -> Result<PasswdT
 {
     match read_passwd(alloc, text) {
         Ok(table) => Ok(table),
-        Err(ReadError::Fault(fault)) => Err(line_fault(host, FileName::Passwd, fault)),
+        Err(ReadError::Fault(fault)) => Err(file_fault(host, FileName::Passwd, fault)),
         Err(ReadError::Memory) => Err(Fault::Memory),
     }
 }
@@ -161,7 +147,7 @@ fn groups_at<'a>(alloc: Global, host: &'a [u8], text: &'a [u8]) -> Result<GroupT
 {
     match read_group(alloc, text) {
         Ok(table) => Ok(table),
-        Err(ReadError::Fault(fault)) => Err(line_fault(host, FileName::Group, fault)),
+        Err(ReadError::Fault(fault)) => Err(file_fault(host, FileName::Group, fault)),
         Err(ReadError::Memory) => Err(Fault::Memory),
     }
 }

@@ -4,19 +4,10 @@ ghost use Rattle.unify.specs.FaultLaws.{GidsAreOfTheirFile, LinesAreOfTheirFile}
 ghost use Rattle.unify.specs.FaultLaws.{UidsAreOfTheirFile};
 ghost use Rattle.unify.specs.FileLaws.{FilesAreOfInventories, InventoryLinesAreTold};
 ghost use Rattle.unify.specs.MapLaws.{CountedMapsAreWhole};
-ghost use Rattle.unify.specs.RehearsalLaws.{RehearsalsTellFiles};
 ghost use Rattle.unify.specs.SurveyLaws.{SurveyedTextsFindUnowned, SurveysFindUnowned};
 ghost use Rattle.unify.specs.TextLaws.{BegunCountsAreOfTexts, BegunSitesAreOfTexts};
 ghost use Rattle.unify.specs.TextLaws.{HostsAreOfTheirTexts};
 ghost use Rattle.unify.specs.ToldLaws.{PartsTellTheirFaults};
-
-/// A rehearsal of a plan on an inventory that is read answers how many records the plan has, where
-/// one of the files has the path of each with its old owner or its new. Else it tells the first
-/// record of which this does not hold: as missing only where no file has its path, and as foreign
-/// only where one has it with neither of the two owners.
-pub fn rehearsals_tell_files()
-    ensures { RehearsalsTellFiles }
-{}
 
 /// A map is counted exactly where the names to which it gives a number are those of the hosts'
 /// users, and of the hosts' groups: a name is in the map where some host has a row of that name,

@@ -27,7 +27,9 @@ use unify_texts::{Fault, MapText, read_map};
 /// texts.
 #[derive(Drop)]
 pub struct MappedSite<'a> {
+    /// None of them has come as yet.
     pub inventories: Inventories<'a>,
+    /// The map.
     pub names: MapText<'a>,
 }
 

@@ -16,7 +16,6 @@ ghost use Rattle.unify.specs.PlannedHosts.{AreKnownOf, EndsOf, GoesOnOf, IsKnown
 ghost use Rattle.unify.specs.PlannedHosts.{TurnsOf, plan_for};
 ghost use Rattle.unify.specs.RowFiles.{row_files};
 
-use crate::host::MOST_FILES;
 use crate::known_owners::{KnownOwner, no_owners, place_of};
 use crate::merging::Merged;
 use crate::row_files::{RowFiles, are_same, count_file, no_files};
@@ -26,6 +25,7 @@ use idtext::ReadError;
 use mtree_inv::{Entry, Reader};
 use reown_plan::{NewOwners, push_plan_end, push_plan_entry, push_plan_head};
 use std::alloc::{AllocError, Global};
+use unify_texts::MOST_FILES;
 
 /// Why a second reading ended early.
 #[derive(Clone, Copy, Debug, PartialEq, Eq)]

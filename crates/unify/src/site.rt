@@ -27,7 +27,9 @@ use unify_texts::Fault;
 /// The inventories of a site's hosts, and the accounts over all hosts. It borrows the texts.
 #[derive(Drop)]
 pub struct JoinedSite<'a> {
+    /// None of them has come as yet.
     pub inventories: Inventories<'a>,
+    /// Each name with its accounts.
     pub site: Site<'a>,
 }
 

@@ -13,13 +13,13 @@ ghost use Rattle.unify.specs.Passes.{is_read, lines_of, read_told, IsFaultOf, Is
 ghost use Rattle.unify.specs.RowFiles.{row_files};
 ghost use Rattle.unify.specs.Turns.{AreCounted, IsAccepted, TurnsFor, met_by, owner_told};
 
-use crate::host::{MOST_FILES, line_fault, ownership_fault};
+use crate::host::ownership_fault;
 use crate::row_files::{RowFiles, count_file};
 use hosts_join::Host;
 use idtext::ReadError;
 use mtree_inv::{Entry, Reader};
 use std::alloc::Global;
-use unify_texts::{Fault, FileName};
+use unify_texts::{Fault, FileName, MOST_FILES, file_fault};
 
 /// The reader of a host's inventory, how many of its files each row of the host's tables owns, and
 /// the first file that the host does not allow.
@@ -63,7 +63,7 @@ pub fn read_fault<'a>(host: &Host<'a>, fault: ReadError) -> Fault<'a>
     ensures { result ≡ read_told host.now fault }
 {
     match fault {
-        ReadError::Fault(fault) => line_fault(host.name.bytes(), FileName::Mtree, fault),
+        ReadError::Fault(fault) => file_fault(host.name.bytes(), FileName::Mtree, fault),
         ReadError::Memory => Fault::Memory,
     }
 }

@@ -2,7 +2,7 @@
 use Rattle.std.proofs.Common.{◌≡◌, ℕ, List, Option, Some, Result, Ok, Err, IfSome, IfOk, refl, subst}
 use Rattle.unify_texts.specs.declared.fault.Fault.{Fault}
 use Rattle.unify_texts.specs.Told.{told}
-use Rattle.unify.specs.Rehearsing.{IsRehearsed}
+use Rattle.rehearsal.specs.Rehearsing.{IsRehearsed}
 use Rattle.unify_bundle.specs.declared.reply.Reply.{Reply}
 use Rattle.unify_bundle.specs.Lines.{records_lines}
 use Rattle.unify_bundle.specs.Output.{Answers, IsRehearsalTold, answered}

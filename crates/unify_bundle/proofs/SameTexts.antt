@@ -27,7 +27,8 @@ use Rattle.unify.specs.Others.{others_loaded, pinned_site}
 use Rattle.unify.specs.Passes.{BegunSite, is_read, lines_of, site_begun}
 use Rattle.unify.specs.SecondPass.{or_changed, owned_lines, second_lines}
 use Rattle.unify.specs.Survey.{inventory_of, listed_of}
-use Rattle.unify.specs.Told.{in_file, in_site}
+use Rattle.unify_texts.specs.Told.{in_file}
+use Rattle.unify.specs.Told.{in_site}
 use Rattle.unify.proofs.Owners.{files_read}
 use Rattle.unify.proofs.PlanTurns.{first_none, lines_with}
 use Rattle.unify.proofs.ReadSites.{as-many-others}

@@ -21,7 +21,7 @@ use Rattle.unify.specs.Checking.{check_of}
 use Rattle.unify.specs.Count.{count_of}
 use Rattle.unify.specs.Outcomes.{IsOutcome}
 use Rattle.unify.specs.Reading.{WholeSite, site_read}
-use Rattle.unify.specs.Rehearsing.{IsRehearsed}
+use Rattle.rehearsal.specs.Rehearsing.{IsRehearsed}
 use Rattle.unify.specs.Rules.{rules_by}
 use Rattle.unify.specs.Survey.{surveyed}
 use Rattle.unify_laws.specs.HostTexts.{AreSiteFiles}

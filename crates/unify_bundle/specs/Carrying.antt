@@ -17,7 +17,7 @@ use Rattle.reown_runner.specs.Finished.{IsFresh, AreOld}
 use Rattle.reown_runner.specs.Memory.{Mem, known_mem, new_mem}
 use Rattle.reown_runner.specs.RunnerData.{RunnerData, starting}
 use Rattle.reown_runner.specs.Tree.{cells_of}
-use Rattle.unify.specs.Hosts.{most_files}
+use Rattle.unify_texts.specs.Limits.{most_files}
 use Rattle.unify.specs.Reading.{WholeSite}
 
 -- a tree as its inventory, where a stop keeps what is chosen

@@ -32,7 +32,7 @@ use Rattle.unify_bundle.specs.Lines.{cost_lines, accepted_line, records_lines, m
 use Rattle.unify_bundle.specs.Lines.{site_lines}
 use Rattle.unify.specs.Outcomes.{IsOutcome}
 use Rattle.unify.specs.Reading.{WholeSite, site_read}
-use Rattle.unify.specs.Rehearsing.{IsRehearsed}
+use Rattle.rehearsal.specs.Rehearsing.{IsRehearsed}
 use Rattle.unify.specs.Rules.{rules_by}
 use Rattle.unify.specs.Survey.{surveyed}
 use Rattle.unify_laws.specs.HostTexts.{AreSiteFiles}

@@ -17,7 +17,7 @@ use Rattle.unify.specs.Checking.{check_of}
 use Rattle.unify.specs.Count.{count_of}
 use Rattle.unify.specs.Outcomes.{IsOutcome}
 use Rattle.unify.specs.Reading.{WholeSite, site_read}
-use Rattle.unify.specs.Rehearsing.{IsRehearsed}
+use Rattle.rehearsal.specs.Rehearsing.{IsRehearsed}
 use Rattle.unify.specs.Survey.{surveyed}
 use Rattle.unify_laws.specs.HostTexts.{AreSiteFiles}
 use Rattle.unify_bundle.specs.Lines.{accepted_line, cost_lines, merge_lines, records_lines}

@@ -12,7 +12,7 @@ ghost use Rattle.unify_bundle.specs.declared.answers.NoReply.TheVariants.{Memory
 ghost use Rattle.unify_bundle.specs.Lines.{accepted_line, cost_lines, records_lines};
 ghost use Rattle.unify_bundle.specs.Replies.{cause, refusal, reply_of, reply_to};
 
-use crate::rehearsal::records_reply;
+use crate::rehearsal_reply::records_reply;
 use crate::reply::{Reply, accepted_reply, cost_reply, refused};
 use hosts_join::HostText;
 use std::alloc::{AllocError, Global};
@@ -44,7 +44,9 @@ impl From<AllocError> for NoReply {
 /// What a command on files found, and the reply that tells it.
 #[derive(Drop)]
 pub struct FilesAnswer<'a, T> {
+    /// What the command found, or why it ended early.
     pub found: Result<T, MergeFault<'a>>,
+    /// What tells it.
     pub reply: Result<Reply, NoReply>,
 }
 

@@ -16,7 +16,7 @@ ghost use Rattle.unify_bundle.specs.Replies.{reply_of};
 
 use crate::input::{ReadFault, read_input};
 use crate::merge_text::{merge_hosts_reply, merge_reply};
-use crate::rehearsal::rehearse_reply;
+use crate::rehearsal_reply::rehearse_reply;
 use crate::reply::{Reply, check_reply, count_reply, refused};
 use crate::streams::{Sink, Source};
 use crate::texts::survey_texts;

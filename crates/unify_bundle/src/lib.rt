@@ -13,7 +13,7 @@ mod bundle_run;
 mod input;
 mod laws;
 mod merge_text;
-mod rehearsal;
+mod rehearsal_reply;
 mod rehearsing_site;
 mod reply;
 mod site_files;
@@ -27,7 +27,7 @@ pub use answers::{
 pub use bundle_run::{answer, run_bundle};
 pub use laws::{answers_are_read_back, bundle_files_are_taken, replies_go_out};
 pub use merge_text::{merge_hosts_reply, merge_reply};
-pub use rehearsal::rehearse_reply;
+pub use rehearsal_reply::rehearse_reply;
 pub use rehearsing_site::{SiteRun, rehearse_site};
 pub use reply::{Reply, check_reply, count_reply};
 pub use streams::{Sink, Source, Watched};

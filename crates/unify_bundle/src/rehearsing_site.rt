@@ -10,7 +10,7 @@ ghost use Rattle.reown_runner.specs.Campaign.{host_of, is_done};
 ghost use Rattle.unify_texts.specs.Told.{told};
 ghost use Rattle.unify_bundle.specs.Carrying.{AreInventoriesOf, AreReady, AreCarriedOut};
 ghost use Rattle.unify_bundle.specs.Carrying.{AreSpelledFor, new_tree_of};
-ghost use Rattle.unify.specs.Hosts.{most_files};
+ghost use Rattle.unify_texts.specs.Limits.{most_files};
 ghost use Rattle.unify.specs.Whole.{IsWhole};
 ghost use Rattle.unify.specs.Outcomes.{IsOutcome};
 ghost use Rattle.unify.specs.Reading.{WholeSite, site_read};
@@ -23,8 +23,8 @@ use mtree_inv::{Inventory, read_inventory};
 use reown_plan::{Plan, PlanFault};
 use reown_runner::{Campaign, Event, Keep, MemTree};
 use std::alloc::{AllocError, Global};
-use unify::{MOST_FILES, Outcome, SiteRules, TextList};
-use unify_texts::Fault;
+use unify::{Outcome, SiteRules, TextList};
+use unify_texts::{Fault, MOST_FILES};
 
 /// A site that was merged, and whose plans were carried out on trees in memory.
 #[derive(Drop)]

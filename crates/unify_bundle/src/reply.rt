@@ -16,7 +16,9 @@ use unify_texts::{Fault, fault_line};
 /// What goes out, and the exit status.
 #[derive(Drop)]
 pub struct Reply {
+    /// The lines that tell the answer or the fault.
     pub text: Vec<u8>,
+    /// 0 where the command did what it was called for.
     pub status: u8,
 }
 

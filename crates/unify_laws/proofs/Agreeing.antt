@@ -21,11 +21,11 @@ use Rattle.unify_texts.specs.declared.bundle_line.FileName.TheVariants as file
 use Rattle.unify.specs.Checking.{check_of}
 use Rattle.unify.specs.Cost.{cost_of}
 use Rattle.unify.specs.Reading.{files_of_site}
-use Rattle.unify.specs.Rehearsing.{found_fault, record_fault}
-use Rattle.unify.specs.Told.{in_file}
+use Rattle.rehearsal.specs.Rehearsing.{found_fault, record_fault}
+use Rattle.unify_texts.specs.Told.{in_file}
 use Rattle.unify.proofs.Owners.{files_read}
 use Rattle.unify.proofs.ReadSites.{as-many-others}
-use Rattle.unify.proofs.Rehearsed.{carried_out}
+use Rattle.rehearsal.proofs.Rehearsed.{carried_out}
 use Rattle.unify_laws.specs.Agreeing.{PrintedCertificatesAreAccepted, NoMapRewritesFewer, PrintedPlansAreRehearsed}
 use Rattle.unify_laws.specs.Headline.{fields}
 use Rattle.unify_laws.proofs.Correct.{outcomes_are_correct}

@@ -17,7 +17,7 @@ use Rattle.unify.specs.Count.{site_of}
 use Rattle.unify.specs.Hosts.{files_of}
 use Rattle.unify.specs.Loading.{loaded_from}
 use Rattle.unify.specs.Passes.{is_read, lines_of}
-use Rattle.unify.specs.Told.{in_file}
+use Rattle.unify_texts.specs.Told.{in_file}
 
 -- ---- one inventory
 

@@ -13,7 +13,7 @@ use Rattle.unify.specs.Cost.{cost_of}
 use Rattle.unify.specs.Count.{count_of}
 use Rattle.unify.specs.Outcomes.{IsOutcome}
 use Rattle.unify.specs.Reading.{WholeSite, site_read}
-use Rattle.unify.specs.Rehearsing.{IsRehearsed}
+use Rattle.rehearsal.specs.Rehearsing.{IsRehearsed}
 use Rattle.unify_laws.specs.Headline.{HaveOneNumberEach, fields}
 
 -- a check of the same texts accepts the certificate that a merge prints, with the cost that the

@@ -23,7 +23,8 @@ use Rattle.unify.specs.Loading.{loaded_from}
 use Rattle.unify.specs.Others.{Others, others_loaded, others_read, pinned_site}
 use Rattle.unify.specs.Passes.{BegunSite, site_begun}
 use Rattle.unify.specs.Reading.{site_read}
-use Rattle.unify.specs.Told.{in_file, in_site}
+use Rattle.unify_texts.specs.Told.{in_file}
+use Rattle.unify.specs.Told.{in_site}
 use Rattle.unify.proofs.Adding.{loaded_hosts}
 use Rattle.unify_laws.proofs.TwoPasses.{first-step, site_is}
 use Rattle.unify_merge.specs.FirstReading.{with_inventories}

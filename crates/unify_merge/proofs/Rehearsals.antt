@@ -4,7 +4,7 @@ use Rattle.reown_plan.specs.PlanData.{PlanData}
 use Rattle.reown_plan.specs.Reading.{ReadsAs}
 use Rattle.unify_texts.specs.Told.{told}
 use Rattle.unify_texts.specs.declared.fault.Fault.{Fault}
-use Rattle.unify.specs.PlanRehearsal.{IsRefusedBy}
+use Rattle.rehearsal.specs.PlanRehearsal.{IsRefusedBy}
 use Rattle.unify_merge.specs.FirstReading.{IsReading}
 use Rattle.unify_merge.specs.Ledger.{Ledger, Reading}
 use Rattle.unify_merge.specs.Rehearse.{StopsCarrying, StopsRehearsal}

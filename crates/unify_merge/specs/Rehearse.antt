@@ -6,8 +6,8 @@ use Rattle.reown_plan.specs.PlanData.{PlanData}
 use Rattle.reown_plan.specs.Reading.{ReadsAs}
 use Rattle.unify_texts.specs.declared.fault.Fault.{Fault}
 use Rattle.unify_texts.specs.declared.fault.Fault.TheVariants.{BadPlan}
-use Rattle.unify.specs.PlanRehearsal.{IsRefusedBy}
-use Rattle.unify.specs.Rehearsing.{rehearsed}
+use Rattle.rehearsal.specs.PlanRehearsal.{IsRefusedBy}
+use Rattle.rehearsal.specs.Rehearsing.{rehearsed}
 use Rattle.unify_merge.specs.FirstReading.{HasRead, IsReading, IsWithinLimit, StopsFor}
 use Rattle.unify_merge.specs.Ledger.{Ledger, Reading}
 use Rattle.unify_merge.specs.declared.fault.MergeFault.{MergeFault}

@@ -2,7 +2,7 @@
 
 ghost use Rattle.std.specs.Prelude.{◌≡◌, [], IfErr, IfOk};
 ghost use Rattle.reown_plan.specs.PlanData.{PlanData};
-ghost use Rattle.unify.specs.PlanRehearsal.{StandsFor};
+ghost use Rattle.rehearsal.specs.PlanRehearsal.{StandsFor};
 ghost use Rattle.unify_merge.specs.Failures.{failure_after};
 ghost use Rattle.unify_merge.specs.FirstReading.{ReadsOnly};
 ghost use Rattle.unify_merge.specs.Rehearse.{HasCarriedOut, StopsCarrying};
@@ -11,9 +11,9 @@ ghost use Rattle.unify_merge.specs.Rehearse.{HasRehearsed, StopsRehearsal};
 use crate::fault::MergeFault;
 use crate::files::ReadFiles;
 use crate::pieces::{MOST_INVENTORY_BYTES, next_piece};
+use rehearsal::{Rehearsal, plan_at};
 use reown_plan::Plan;
 use std::alloc::Global;
-use unify::{Rehearsal, plan_at};
 
 // Reads the inventory, from its start to its end, and carries the plan out.
 fn read_and_end<'a, F: ReadFiles>(

@@ -10,7 +10,7 @@ ghost use Rattle.unify_merge.specs.FirstReading.{HasRead, IsWithinLimit, ReadsOn
 ghost use Rattle.unify_merge.specs.Surveyed.{StopsFinding, WereFound};
 ghost use Rattle.unify_merge.specs.Survey.{AddsNumbers, HasAdded, HasSurveyed, IsSurveyOf};
 ghost use Rattle.unify_merge.specs.Survey.{StopsReading, StopsSurvey};
-ghost use Rattle.unify.specs.Hosts.{most_files};
+ghost use Rattle.unify_texts.specs.Limits.{most_files};
 ghost use Rattle.unify.specs.Survey.{inventory_of};
 
 use crate::fault::MergeFault;
@@ -20,8 +20,8 @@ use hosts_join::{Host, HostText};
 use kept_accounts::UnownedNumbers;
 use std::alloc::Global;
 use survey::HostSurvey;
-use unify::{MOST_FILES, begin_survey, read_fault};
-use unify_texts::Fault;
+use unify::{begin_survey, read_fault};
+use unify_texts::{Fault, MOST_FILES};
 
 // Takes the next piece of the inventory of the host.
 fn survey_piece<'a>(survey: &mut HostSurvey, host: &Host<'a>, bytes: &[u8]) -> Result<(), Fault<'a>>

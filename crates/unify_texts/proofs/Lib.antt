@@ -1,3 +1,5 @@
+pub mod Faults
+pub mod FirstFaults
 pub mod KeptNames
 pub mod MapLoop
 pub mod DraftLemmas

@@ -15,6 +15,7 @@ pub mod Report
 pub mod ReportBack
 pub mod ReportExample
 pub mod Told
+pub mod Limits
 pub mod BundleLines
 pub mod BundleWords
 pub mod Bundles

@@ -8,6 +8,7 @@ mod fault;
 mod fault_text;
 mod figures;
 mod laws;
+mod limits;
 mod map_text;
 mod place_list;
 mod places;
@@ -17,7 +18,7 @@ mod words;
 
 pub use bundle::{Bundle, read_bundle};
 pub use bundle_line::{Command, FileName};
-pub use fault::Fault;
+pub use fault::{Fault, file_fault};
 pub use fault_text::fault_line;
 pub use figures::{Figures, figures_under};
 pub use laws::{
@@ -25,6 +26,7 @@ pub use laws::{
     figures_add_up, kept_names_are_seen, maps_are_listed, reports_by_example, reports_read_back,
     reserved_lines_read_back, statuses_go_by_faults, written_maps_are_pins, written_maps_read_back,
 };
+pub use limits::MOST_FILES;
 pub use map_text::{MapText, read_map, write_map};
 pub use place_list::PlaceList;
 pub use places::{FileList, NamedFile, Place};

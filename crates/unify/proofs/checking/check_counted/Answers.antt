@@ -6,7 +6,7 @@ use Rattle.unify_texts.specs.Told.{told}
 use Rattle.unify.specs.Checking.{checked}
 use Rattle.unify.specs.Reading.{files_of_site}
 use Rattle.unify.specs.Told.{in_certificate, in_check}
-use Rattle.unify.proofs.Faults.{passed_on}
+use Rattle.unify_texts.proofs.Faults.{passed_on}
 use Rattle.unify.proofs.checking.check_counted.Goals as goal
 
 pub returns-in-Err : goal.returns-in-Err

@@ -10,7 +10,7 @@ use Rattle.unify.specs.Costing.{cost_begun}
 use Rattle.unify.specs.Others.{others_loaded}
 use Rattle.unify.specs.Told.{in_site}
 use Rattle.unify.proofs.CountSteps.{list_refused, others_refused}
-use Rattle.unify.proofs.Faults.{passed_on}
+use Rattle.unify_texts.proofs.Faults.{passed_on}
 use Rattle.unify.proofs.OthersHeld.{counted_held, if_hosts}
 use Rattle.unify.proofs.map_cost.map_tables.Goals as goal
 

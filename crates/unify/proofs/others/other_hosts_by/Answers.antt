@@ -1,7 +1,7 @@
 use Rattle.std.proofs.lemmas.Result.{err_from_is_err_and}
 use Rattle.unify_texts.specs.Told.{told}
 use Rattle.unify.specs.Others.{keep_read, others_read}
-use Rattle.unify.proofs.Faults.{passed_on}
+use Rattle.unify_texts.proofs.Faults.{passed_on}
 use Rattle.unify.proofs.LeftHosts.{keep_refused, others_are}
 use Rattle.unify.proofs.others.other_hosts_by.Goals as goal
 

@@ -8,7 +8,7 @@ use Rattle.unify.specs.Others.{others_loaded}
 use Rattle.unify.specs.OthersHeld.{others_in}
 use Rattle.unify.specs.Passes.{site_begun}
 use Rattle.unify.specs.Told.{in_site}
-use Rattle.unify.proofs.Faults.{passed_on}
+use Rattle.unify_texts.proofs.Faults.{passed_on}
 use Rattle.unify.proofs.OthersHeld.{begun_held, if_hosts}
 use Rattle.unify.proofs.Whole.{list_refused, others_refused}
 use Rattle.unify.proofs.site.join_tables.Goals as goal

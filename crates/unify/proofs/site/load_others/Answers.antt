@@ -5,7 +5,7 @@ use Rattle.unify_texts.specs.Told.{told}
 use Rattle.unify.specs.Hosts.{host_of}
 use Rattle.unify.specs.Others.{others_loaded, others_read}
 use Rattle.unify.specs.OthersHeld.{others_in}
-use Rattle.unify.proofs.Faults.{passed_on}
+use Rattle.unify_texts.proofs.Faults.{passed_on}
 use Rattle.unify.proofs.OthersHeld.{as_many_left, left_are_lawful, loaded_behind, loaded_refused}
 use Rattle.unify.proofs.Reading.{loaded-unsparing}
 use Rattle.unify.proofs.site.load_others.Goals as goal

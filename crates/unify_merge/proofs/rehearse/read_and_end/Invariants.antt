@@ -1,6 +1,6 @@
 use Rattle.std.proofs.Common.{◌≡◌, ◌+◌, ℕ, List, [], length, Some}
 use Rattle.reown_plan.specs.PlanData.{PlanData}
-use Rattle.unify.specs.PlanRehearsal.{StandsFor}
+use Rattle.rehearsal.specs.PlanRehearsal.{StandsFor}
 use Rattle.unify_merge.specs.FirstReading.{ReadsOnly, most_inventory_bytes}
 use Rattle.unify_merge.proofs.rehearse.read_and_end.Given as goal
 

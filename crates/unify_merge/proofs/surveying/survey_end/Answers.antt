@@ -1,6 +1,6 @@
 use Rattle.std.proofs.Common.{ap}
 use Rattle.unify_texts.specs.declared.bundle_line.FileName.TheVariants as file
-use Rattle.unify.specs.Told.{in_file}
+use Rattle.unify_texts.specs.Told.{in_file}
 use Rattle.unify_merge.proofs.surveying.survey_end.Goals as goal
 
 pub returns-in-Ok-clause-read : goal.returns-in-Ok-clause-read

@@ -6,4 +6,4 @@ read_host-requires g c = c.new-survey.ensures c.args.host.now
 pub returns-clause-read : goal.returns-clause-read
 returns-clause-read g c =
     let it = c.in_ok-read_host.ensures.read in
-    (it.0, it.1, (it.2.0, it.2.1, c.in_ok-push_to.ensures it.2.0 it.2.2), it.3)
+    (it.0, it.1, (it.2.0, it.2.1, c.in_ok-push_to.ensures.pushed it.2.0 it.2.2), it.3)

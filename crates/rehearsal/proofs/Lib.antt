@@ -1,0 +1,5 @@
+pub mod Stopping
+pub mod Fewer
+pub mod Rehearsed
+pub mod PlanRehearsals
+pub mod RehearsalLaws

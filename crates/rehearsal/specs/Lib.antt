@@ -1,0 +1,4 @@
+pub mod RunFaults
+pub mod Rehearsing
+pub mod PlanRehearsal
+pub mod RehearsalLaws
