@@ -111,7 +111,7 @@ impl<'l, S: FileSink> Listing<'l, S> {
     }
 
     // Leaves the present file out, which is on another file system than its root.
-    fn leave_out(&mut self) -> Result<(), AllocError> {
+    fn leave_out(&mut self) -> Result<(), FileFault> {
         tell_other_system(self.rt, shown(&self.path), self.elsewhere)?;
         self.elsewhere = self.elsewhere.saturating_add(1);
         Ok(())
@@ -222,7 +222,8 @@ impl<'l, S: FileSink> Listing<'l, S> {
 ///
 /// # Errors
 ///
-/// Those of the sink, and want of memory.
+/// Those of the sink, want of memory, and that standard error does not take what is told of other
+/// file systems.
 pub fn list_files<S: FileSink>(
     rt: &HostRuntime,
     roots: &[NamedRoot<'_>],

@@ -4,7 +4,7 @@ use idtext::{push_escaped, push_number};
 use std::alloc::AllocError;
 use std::io;
 use std::io::Write;
-use unify_io::{FileFault, MOST_LINES, Part, tell_of};
+use unify_io::{FileFault, MOST_LINES, Part, tell_of, write_failed};
 
 /// Why a file, or what is in a directory, is not in an inventory.
 #[derive(Clone, Copy)]
@@ -77,27 +77,42 @@ fn push_more_systems(line: &mut Vec<u8>, more: usize) -> Result<(), AllocError> 
     Ok(())
 }
 
+// Tells a line of files that are left out and change no status. What was not told would be lost,
+// so that ends the command.
+fn tell_line(rt: &HostRuntime, line: &[u8]) -> Result<(), FileFault> {
+    match rt.stderr().write_all(line) {
+        Ok(()) => Ok(()),
+        Err(_) => Err(FileFault::Told(write_failed(rt))),
+    }
+}
+
 /// Tells of a file that is left out since it is on another file system than its root, where so
 /// many were left out before. The first few are told.
-pub fn tell_other_system(rt: &HostRuntime, path: &[u8], before: usize) -> Result<(), AllocError> {
+///
+/// # Errors
+///
+/// Where memory is refused, or standard error takes no more.
+pub fn tell_other_system(rt: &HostRuntime, path: &[u8], before: usize) -> Result<(), FileFault> {
     if before >= MOST_LINES {
         return Ok(());
     }
     let mut line = Vec::new(rt.alloc());
     push_other_system(&mut line, path)?;
-    let _ = rt.stderr().write_all(&line);
-    Ok(())
+    tell_line(rt, &line)
 }
 
 /// Tells how many files on other file systems no line was told of, where so many are left out.
-pub fn tell_more_systems(rt: &HostRuntime, count: usize) -> Result<(), AllocError> {
+///
+/// # Errors
+///
+/// Where memory is refused, or standard error takes no more.
+pub fn tell_more_systems(rt: &HostRuntime, count: usize) -> Result<(), FileFault> {
     if count <= MOST_LINES {
         return Ok(());
     }
     let mut line = Vec::new(rt.alloc());
     push_more_systems(&mut line, count - MOST_LINES)?;
-    let _ = rt.stderr().write_all(&line);
-    Ok(())
+    tell_line(rt, &line)
 }
 
 /// Tells why a root is refused.

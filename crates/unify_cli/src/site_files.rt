@@ -1,48 +1,8 @@
 //! The files of a merge: the inventories of hosts, and the directory that is written into.
 
 use crate::inventories::{HostFiles, LastInventory};
-use std::str;
-use unify_io::{FileFault, NewFile, OutputDirectory, internal_error};
+use unify_io::{FileFault, Output, OutputDirectory};
 use unify_merge::{Call, CallFailed, MergeFiles, ReadFiles};
-
-// The directory that is written into, and the file of it that is written.
-#[derive(Drop)]
-struct Output<'w> {
-    directory: OutputDirectory<'w>,
-    file: Option<NewFile>,
-}
-
-impl Output<'_> {
-    // No call has begun the file that this one goes on with.
-    fn not_begun(&self) -> FileFault {
-        internal_error(self.directory.rt, "no file is begun")
-    }
-
-    // Begins a file.
-    fn begin(&mut self, name: &[u8]) -> Result<(), FileFault> {
-        let name = str::from_utf8(name).unwrap_or("");
-        self.file = Some(NewFile::create(&self.directory, name)?);
-        Ok(())
-    }
-
-    // Appends bytes to the file.
-    fn append(&mut self, bytes: &[u8]) -> Result<(), FileFault> {
-        match &mut self.file {
-            Some(file) => file.write(self.directory.rt, bytes),
-            None => Err(self.not_begun()),
-        }
-    }
-
-    // Gives the file its name.
-    fn finish(&mut self) -> Result<(), FileFault> {
-        match &mut self.file {
-            Some(file) => file.keep(self.directory.rt)?,
-            None => return Err(self.not_begun()),
-        }
-        self.file = None;
-        Ok(())
-    }
-}
 
 /// The files of a merge into a directory.
 #[derive(Drop)]
@@ -56,10 +16,7 @@ impl<'w> SiteFiles<'w> {
     pub fn new(directory: OutputDirectory<'w>, is_quiet: bool) -> SiteFiles<'w> {
         SiteFiles {
             read: HostFiles::new(directory.rt, directory.words, is_quiet),
-            output: Output {
-                directory,
-                file: None,
-            },
+            output: Output::new(directory),
         }
     }
 
@@ -70,9 +27,7 @@ impl<'w> SiteFiles<'w> {
 
     /// Removes what there is of a file that was not finished.
     pub fn discard(&self) {
-        if let Some(file) = &self.output.file {
-            file.discard(self.output.directory.rt);
-        }
+        self.output.discard();
     }
 }
 
@@ -98,7 +53,7 @@ impl ReadFiles for SiteFiles<'_> {
 
 impl MergeFiles for SiteFiles<'_> {
     fn clear(&mut self) -> Result<(), CallFailed> {
-        let done = self.output.directory.begin();
+        let done = self.output.clear();
         self.read.calls.note(done, &Call::Clear)
     }
 
@@ -118,7 +73,7 @@ impl MergeFiles for SiteFiles<'_> {
     }
 
     fn seal(&mut self, name: &[u8], text: &[u8]) -> Result<(), CallFailed> {
-        let done = self.output.directory.finish(name, text);
+        let done = self.output.seal(name, text);
         self.read.calls.note(done, &Call::Seal(name, text))
     }
 }

@@ -2,9 +2,7 @@
 
 use crate::inventories::{HostFiles, InventoryAt, LastInventory};
 use crate::site_files::SiteFiles;
-use clap::error::ErrorKind;
-use clap::{ArgMatches, Error};
-use hosts_join::HostText;
+use clap::ArgMatches;
 use idtext::ByteString;
 use inventory_files::run_inventory;
 use std::alloc::AllocError;
@@ -13,9 +11,8 @@ use unify_bundle::{
     FilesAnswer, NoReply, check_answer, count_answer, merge_answer, rehearse_answer,
 };
 use unify_io::{
-    FileFault, OutputDirectory, command_line, file_fault_told, internal_error, memory_refused,
-    no_host, print_answer, read_file, read_hosts_tables, read_named, tell_advice,
-    warn_of_hosts_tables, warn_of_merge, warn_of_text, write_failed, wrong_words,
+    FileFault, OutputDirectory, SiteInput, command_line, file_fault_told, internal_error,
+    memory_refused, no_host, print_answer, read_file, tell_advice, tell_usage, warn_of_text,
 };
 use unify_merge::MergeFault;
 use verify_files::run_verify;
@@ -40,59 +37,6 @@ fn print_reply<T, F: LastInventory>(
         _ => {}
     }
     Ok(status)
-}
-
-// A site as words name it: its hosts but their inventories, and what they are merged by.
-#[derive(Drop)]
-struct SiteInput<'w> {
-    // The words that name the hosts.
-    words: &'w [&'w str],
-    hosts: Vec<HostText>,
-    pins: ByteString,
-    keep: ByteString,
-    // Whether nobody is to be warned.
-    is_quiet: bool,
-}
-
-impl<'w> SiteInput<'w> {
-    // Reads the site of the hosts that these words name.
-    fn read(
-        rt: &HostRuntime,
-        matches: &ArgMatches<'_>,
-        words: &'w [&'w str],
-    ) -> Result<SiteInput<'w>, FileFault> {
-        let pins = read_named(rt, matches, "pins")?;
-        let keep = read_named(rt, matches, "keep")?;
-        let hosts = read_hosts_tables(rt, words)?;
-        Ok(SiteInput {
-            words,
-            hosts,
-            pins,
-            keep,
-            is_quiet: matches.get_flag("quiet"),
-        })
-    }
-
-    // Warns of its texts.
-    fn warn(&self, rt: &HostRuntime, matches: &ArgMatches<'_>) -> Result<(), AllocError> {
-        if self.is_quiet {
-            return Ok(());
-        }
-        warn_of_text(rt, matches.get_str("pins").unwrap_or(""), &self.pins)?;
-        warn_of_text(rt, matches.get_str("keep").unwrap_or(""), &self.keep)?;
-        warn_of_hosts_tables(rt, &self.hosts)
-    }
-
-    // Warns of what its merge has written. The merge is done, also where that cannot be read again,
-    // or memory is refused.
-    fn warn_of_output(&self, rt: &HostRuntime, directory: &str, file_lines: u64) {
-        let (pins, keep) = (self.pins.bytes(), self.keep.bytes());
-        if warn_of_merge(rt, &self.hosts, directory, pins, keep, file_lines).is_err() {
-            let _ = rt.eprintln(
-                "unify: warning: the merge is complete, but was not checked for warnings",
-            );
-        }
-    }
 }
 
 // Prints what a map costs on a site.
@@ -260,20 +204,6 @@ fn run_command(rt: &HostRuntime, matches: &ArgMatches<'_>) -> u8 {
         Ok(status) => status,
         Err(fault) => file_fault_told(rt, fault),
     }
-}
-
-// Tells help and version on standard output, and what is wrong with the words on standard error.
-fn tell_usage(rt: &HostRuntime, error: &Error) -> u8 {
-    if error.kind() == ErrorKind::OutOfMemory {
-        return memory_refused(rt);
-    }
-    if error.use_stderr() {
-        return wrong_words(rt, error);
-    }
-    if error.print(rt).is_err() {
-        return write_failed(rt);
-    }
-    0
 }
 
 // The words after the program's name, which is told as `unify` whatever the file is called.

@@ -91,3 +91,45 @@ impl InventoryFile {
         file_failed(rt, self.path.as_str(), &too_large())
     }
 }
+
+/// The inventory at a path, for a command that reads it once.
+#[derive(Drop)]
+pub struct OpenInventory<'w> {
+    rt: &'w HostRuntime,
+    path: &'w str,
+    inventory: InventoryFile,
+    // Whether a reading was begun since it was opened.
+    is_begun: bool,
+}
+
+impl<'w> OpenInventory<'w> {
+    /// Opens it. Nothing is read as yet.
+    pub fn new(rt: &'w HostRuntime, path: &'w str) -> Result<OpenInventory<'w>, FileFault> {
+        let inventory = InventoryFile::open_path(rt, path)?;
+        Ok(OpenInventory {
+            rt,
+            path,
+            inventory,
+            is_begun: false,
+        })
+    }
+
+    /// Begins a reading.
+    pub fn begin(&mut self) -> Result<(), FileFault> {
+        if self.is_begun {
+            self.inventory = InventoryFile::open_path(self.rt, self.path)?;
+        }
+        self.is_begun = true;
+        Ok(())
+    }
+
+    /// Replaces the bytes by the next ones.
+    pub fn piece(&mut self, bytes: &mut Vec<u8>) -> Result<(), FileFault> {
+        self.inventory.next_piece(self.rt, bytes)
+    }
+
+    /// Tells that it has too many bytes.
+    pub fn too_large(&self) -> FileFault {
+        self.inventory.too_large(self.rt)
+    }
+}

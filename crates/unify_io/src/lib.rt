@@ -9,6 +9,7 @@ mod comment_warnings;
 mod file_lines;
 mod files;
 mod host_names;
+mod inventories;
 mod inventory;
 mod keep_warnings;
 mod merge_warnings;
@@ -16,18 +17,20 @@ mod message;
 mod output;
 mod pin_warnings;
 mod report;
+mod site_input;
 mod warnings;
 mod writing;
 
 pub use commands::command_line;
-pub use files::{FileFault, MACHINE_NAME, host_name, read_file, read_hosts_tables, read_named};
-pub use inventory::InventoryFile;
-pub use merge_warnings::warn_of_merge;
+pub use files::{FileFault, MACHINE_NAME, read_file};
+pub use inventories::Inventories;
+pub use inventory::OpenInventory;
 pub use message::Part;
 pub use output::OutputDirectory;
 pub use report::{
     bundle_memory_refused, file_failed, file_fault_told, internal_error, memory_refused, no_host,
-    print_answer, tell_advice, tell_hint, tell_of, write_failed, wrong_words,
+    print_answer, tell_advice, tell_hint, tell_of, tell_usage, write_failed,
 };
-pub use warnings::{MOST_LINES, warn, warn_of_hosts_tables, warn_of_inventory, warn_of_text};
-pub use writing::NewFile;
+pub use site_input::SiteInput;
+pub use warnings::{MOST_LINES, warn, warn_of_text};
+pub use writing::Output;

@@ -105,6 +105,24 @@ fn starts_with(rt: &HostRuntime, path: &str, start: &[u8]) -> io::Result<bool> {
     Ok(bytes.as_slice() == start)
 }
 
+// What a path leads to, if it leads anywhere.
+fn found_behind(rt: &HostRuntime, path: &str) -> io::Result<Option<Metadata>> {
+    match fs::metadata(rt, path) {
+        Ok(found) => Ok(Some(found)),
+        Err(error) if error.kind() == io::ErrorKind::NotFound => Ok(None),
+        Err(error) => Err(error),
+    }
+}
+
+// Whether a path leads to a regular file that begins with these bytes. Where the system does
+// not tell what the path leads to, that is an error: it may be such a file.
+fn is_file_with(rt: &HostRuntime, path: &str, start: &[u8]) -> io::Result<bool> {
+    match found_behind(rt, path)? {
+        Some(found) if found.is_file() => starts_with(rt, path, start),
+        _ => Ok(false),
+    }
+}
+
 // Opens a directory. What is no directory is not opened.
 fn open_directory(rt: &HostRuntime, directory: &str) -> io::Result<File> {
     let inside = Path::new(directory).join(rt.alloc(), ".")?;
@@ -140,14 +158,8 @@ impl<'w> OutputDirectory<'w> {
     // Whether a name in it stands for a file that begins with these bytes.
     fn has_file_with(&self, name: &str, end: &str, start: &[u8]) -> Result<bool, FileFault> {
         let path = self.path_of(name, end)?;
-        match fs::metadata(self.rt, path.as_str()) {
-            Ok(found) if found.is_file() => or_told(
-                self.rt,
-                path.as_str(),
-                starts_with(self.rt, path.as_str(), start),
-            ),
-            _ => Ok(false),
-        }
+        let begins = is_file_with(self.rt, path.as_str(), start);
+        or_told(self.rt, path.as_str(), begins)
     }
 
     /// Whether a merge replaces or removes the files of the host of that name: it is one of those
@@ -248,43 +260,49 @@ impl<'w> OutputDirectory<'w> {
         Ok(())
     }
 
-    // The host whose directory it is, among those that words name.
-    fn host_of(&self, found: &Metadata) -> Option<&'w str> {
-        for word in self.words {
-            let directory = host_directory(*word);
-            let named = if directory.is_empty() { "." } else { directory };
-            if let Ok(host) = fs::metadata(self.rt, named) {
-                if host.dev() == found.dev() && host.ino() == found.ino() {
-                    return Some(host_name(*word));
-                }
-            }
+    // Whether it is the directory of the host that a word names. One that is not there is told
+    // later, where it is read.
+    fn is_of_host(&self, word: &str, found: &Metadata) -> Result<bool, FileFault> {
+        let directory = host_directory(word);
+        let named = if directory.is_empty() { "." } else { directory };
+        match or_told(self.rt, named, found_behind(self.rt, named))? {
+            Some(host) => Ok(host.dev() == found.dev() && host.ino() == found.ino()),
+            None => Ok(false),
         }
-        None
     }
 
-    // Why it may not be written into, whatever it holds, now that it was opened. If it may, it is
-    // locked.
-    fn fault_of_lock(&self, opened: &File) -> Option<OutputFault<'w>> {
-        let found = match opened.metadata() {
-            Ok(found) => found,
-            Err(error) => return Some(OutputFault::System(error)),
-        };
-        if let Some(host) = self.host_of(&found) {
-            return Some(OutputFault::HostDirectory(host));
+    // Refuses it if it is the directory of one of the hosts that words name.
+    fn refuse_host(&self, found: &Metadata) -> Result<(), FileFault> {
+        for word in self.words {
+            if self.is_of_host(*word, found)? {
+                return Err(self.refused(OutputFault::HostDirectory(host_name(*word))));
+            }
         }
+        Ok(())
+    }
+
+    // Refuses it if it is the directory of a host, now that it was opened.
+    fn see_apart(&self, opened: &File) -> Result<(), FileFault> {
+        match opened.metadata() {
+            Ok(found) => self.refuse_host(&found),
+            Err(error) => Err(self.refused(OutputFault::System(error))),
+        }
+    }
+
+    // Locks it, now that it was opened, unless another merge has it.
+    fn take(&self, opened: &File) -> Result<(), FileFault> {
         match opened.try_lock() {
-            Ok(()) => None,
-            Err(TryLockError::WouldBlock) => Some(OutputFault::Busy),
-            Err(TryLockError::Error(error)) => Some(OutputFault::System(error)),
+            Ok(()) => Ok(()),
+            Err(TryLockError::WouldBlock) => Err(self.refused(OutputFault::Busy)),
+            Err(TryLockError::Error(error)) => Err(self.refused(OutputFault::System(error))),
         }
     }
 
     // Locks it, now that it was opened, and looks at what it holds.
     fn lock(&self, opened: &File) -> Result<(), FileFault> {
-        match self.fault_of_lock(opened) {
-            None => self.refuse_held(),
-            Some(fault) => Err(self.refused(fault)),
-        }
+        self.see_apart(opened)?;
+        self.take(opened)?;
+        self.refuse_held()
     }
 
     /// Opens it. It is locked: no other merge is made into it until what is returned is closed,

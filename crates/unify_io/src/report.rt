@@ -5,6 +5,7 @@ use crate::files::FileFault;
 use crate::message::{Part, push_part};
 use crate::output::OutputFault;
 use clap::Error;
+use clap::error::ErrorKind;
 use idtext::{TextCode, push_escaped};
 use std::alloc::AllocError;
 use std::io;
@@ -249,6 +250,20 @@ pub fn print_answer(rt: &HostRuntime, status: u8, text: &[u8]) -> u8 {
         return status;
     }
     if io::writer(rt).write_all(text).is_err() {
+        return write_failed(rt);
+    }
+    0
+}
+
+/// Tells help and version on standard output, and what is wrong with the words on standard error.
+pub fn tell_usage(rt: &HostRuntime, error: &Error) -> u8 {
+    if error.kind() == ErrorKind::OutOfMemory {
+        return memory_refused(rt);
+    }
+    if error.use_stderr() {
+        return wrong_words(rt, error);
+    }
+    if error.print(rt).is_err() {
         return write_failed(rt);
     }
     0

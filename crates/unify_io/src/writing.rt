@@ -3,7 +3,7 @@
 
 use crate::files::{FileFault, or_told};
 use crate::output::{MARK, OWN_GROUP, OWN_PASSWD, OutputDirectory, PLAN, TEMPORARY};
-use crate::report::file_failed;
+use crate::report::{file_failed, internal_error};
 use std::fs::File;
 use std::io::{BufWriter, Write};
 use std::path::PathBuf;
@@ -12,17 +12,17 @@ use std::{fs, io, str};
 // How many bytes of a file are handed on at once, at least: a plan comes in many small pieces.
 const BUFFER_BYTES: usize = 65536;
 
-/// A file that is written under a temporary name, and renamed when it is whole.
+// A file that is written under a temporary name, and renamed when it is whole.
 #[derive(Drop)]
-pub struct NewFile {
+struct NewFile {
     path: PathBuf,
     temporary: PathBuf,
     writer: BufWriter<File>,
 }
 
 impl NewFile {
-    /// Begins a file of a directory. What stands at its name stays until it is kept.
-    pub fn create(output: &OutputDirectory<'_>, name: &str) -> Result<NewFile, FileFault> {
+    // Begins a file of a directory. What stands at its name stays until it is kept.
+    fn create(output: &OutputDirectory<'_>, name: &str) -> Result<NewFile, FileFault> {
         let rt = output.rt;
         let temporary = output.path_of(TEMPORARY, name)?;
         let path = output.path_of(name, "")?;
@@ -56,22 +56,22 @@ impl NewFile {
         file_failed(rt, self.path.as_str(), error)
     }
 
-    /// Removes what there is of the file, as far as that can be done.
-    pub fn discard(&self, rt: &HostRuntime) {
+    // Removes what there is of the file, as far as that can be done.
+    fn discard(&self, rt: &HostRuntime) {
         let _ = fs::remove_file(rt, self.temporary.as_str());
     }
 
-    /// Appends bytes, some of which may wait until the file is kept. What there is of a file that
-    /// cannot be written is removed.
-    pub fn write(&mut self, rt: &HostRuntime, bytes: &[u8]) -> Result<(), FileFault> {
+    // Appends bytes, some of which may wait until the file is kept. What there is of a file that
+    // cannot be written is removed.
+    fn write(&mut self, rt: &HostRuntime, bytes: &[u8]) -> Result<(), FileFault> {
         match self.writer.write_all(bytes) {
             Ok(()) => Ok(()),
             Err(error) => Err(self.given_up(rt, &error)),
         }
     }
 
-    /// Writes what waits, syncs the file and gives it its name.
-    pub fn keep(&mut self, rt: &HostRuntime) -> Result<(), FileFault> {
+    // Writes what waits, syncs the file and gives it its name.
+    fn keep(&mut self, rt: &HostRuntime) -> Result<(), FileFault> {
         match self.take_place(rt) {
             Ok(()) => Ok(()),
             Err(error) => Err(self.given_up(rt, &error)),
@@ -161,31 +161,87 @@ impl OutputDirectory<'_> {
         Ok(())
     }
 
-    /// Begins to write a merge into it: the report, the hosts' own files and the plans of an
-    /// earlier merge go before any of its other files does, then its passwd and group, which not
-    /// every merge writes; and the directory has a mark until the new report stands.
-    pub fn begin(&self) -> Result<(), FileFault> {
-        self.mark()?;
-        self.remove("report")?;
-        self.remove_of_hosts()?;
-        self.remove("passwd")?;
-        self.remove("group")?;
-        self.remove_temporary()?;
-        self.sync()
-    }
-
     // Writes a text as a file of it.
     fn write_file(&self, name: &str, text: &[u8]) -> Result<(), FileFault> {
         let mut file = NewFile::create(self, name)?;
         file.write(self.rt, text)?;
         file.keep(self.rt)
     }
+}
+
+/// The directory that a merge is written into, and the file of it that is written.
+#[derive(Drop)]
+pub struct Output<'w> {
+    directory: OutputDirectory<'w>,
+    file: Option<NewFile>,
+}
+
+impl<'w> Output<'w> {
+    /// Nothing is written as yet.
+    pub fn new(directory: OutputDirectory<'w>) -> Output<'w> {
+        Output {
+            directory,
+            file: None,
+        }
+    }
+
+    /// Begins to write a merge: the report, the hosts' own files and the plans of an earlier merge
+    /// go before any of its other files does, then its passwd and group, which not every merge
+    /// writes; and the directory has a mark until the new report stands.
+    pub fn clear(&self) -> Result<(), FileFault> {
+        let directory = &self.directory;
+        directory.mark()?;
+        directory.remove("report")?;
+        directory.remove_of_hosts()?;
+        directory.remove("passwd")?;
+        directory.remove("group")?;
+        directory.remove_temporary()?;
+        directory.sync()
+    }
+
+    // No call has begun the file that this one goes on with.
+    fn not_begun(&self) -> FileFault {
+        internal_error(self.directory.rt, "no file is begun")
+    }
+
+    /// Begins a file. What stands at its name stays until the file is finished.
+    pub fn begin(&mut self, name: &[u8]) -> Result<(), FileFault> {
+        let name = str::from_utf8(name).unwrap_or("");
+        self.file = Some(NewFile::create(&self.directory, name)?);
+        Ok(())
+    }
+
+    /// Appends bytes to the file.
+    pub fn append(&mut self, bytes: &[u8]) -> Result<(), FileFault> {
+        match &mut self.file {
+            Some(file) => file.write(self.directory.rt, bytes),
+            None => Err(self.not_begun()),
+        }
+    }
+
+    /// Gives the file its name.
+    pub fn finish(&mut self) -> Result<(), FileFault> {
+        match &mut self.file {
+            Some(file) => file.keep(self.directory.rt)?,
+            None => return Err(self.not_begun()),
+        }
+        self.file = None;
+        Ok(())
+    }
 
     /// Ends a merge whose other files are all written, by its last file.
-    pub fn finish(&self, name: &[u8], text: &[u8]) -> Result<(), FileFault> {
-        self.sync()?;
-        self.write_file(str::from_utf8(name).unwrap_or(""), text)?;
-        self.sync()?;
-        self.remove(MARK)
+    pub fn seal(&self, name: &[u8], text: &[u8]) -> Result<(), FileFault> {
+        let directory = &self.directory;
+        directory.sync()?;
+        directory.write_file(str::from_utf8(name).unwrap_or(""), text)?;
+        directory.sync()?;
+        directory.remove(MARK)
+    }
+
+    /// Removes what there is of a file that was not finished.
+    pub fn discard(&self) {
+        if let Some(file) = &self.file {
+            file.discard(self.directory.rt);
+        }
     }
 }

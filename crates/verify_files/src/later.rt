@@ -6,7 +6,10 @@ use inventory_files::{FileSink, Listed, list_files, named_roots};
 use inventory_text::{FileKind, push_entry};
 use mtree_inv::Inventory;
 use std::fs;
-use unify_io::FileFault;
+use unify_io::{FileFault, Part, tell_of};
+
+// What is said of a link to a directory.
+const LINK: &str = "a symbolic link to a directory; it is followed where a slash stands behind it";
 
 /// The files that are there now.
 #[derive(Drop)]
@@ -55,10 +58,22 @@ fn walk(rt: &HostRuntime, word: &str) -> Result<LaterFiles, FileFault> {
     })
 }
 
-/// The files that AFTER names.
+// Whether a word leads to a directory.
+fn leads_to_directory(rt: &HostRuntime, word: &str) -> bool {
+    match fs::metadata(rt, word) {
+        Ok(found) => found.is_dir(),
+        Err(_) => false,
+    }
+}
+
+/// The files that AFTER names. A link to a directory is refused, since no walk follows one.
 pub(crate) fn later_files(rt: &HostRuntime, word: &str) -> Result<LaterFiles, FileFault> {
     match fs::symlink_metadata(rt, word) {
         Ok(found) if found.is_dir() => walk(rt, word),
+        Ok(found) if found.is_symlink() && leads_to_directory(rt, word) => {
+            let parts = [Part::Text(LINK)];
+            Err(tell_of(rt, "file", word.as_bytes(), &parts, 3))
+        }
         _ => Ok(LaterFiles {
             inventory: read_mtree(rt, word)?,
             is_whole: true,

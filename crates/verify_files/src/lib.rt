@@ -19,7 +19,9 @@ use unify_io::{FileFault, MOST_LINES, write_failed};
 
 // Tells what was found: files on standard error, and how many on standard output.
 fn tell_found(rt: &HostRuntime, reply: &VerifyReply) -> u8 {
-    let _ = rt.stderr().write_all(&reply.errors);
+    if rt.stderr().write_all(&reply.errors).is_err() {
+        return write_failed(rt);
+    }
     if io::writer(rt).write_all(&reply.output).is_err() {
         return write_failed(rt);
     }
@@ -93,8 +95,8 @@ fn verify_texts<'t>(
 /// verify [--all] --was PASSWD GROUP --now PASSWD GROUP BEFORE AFTER
 ///
 /// Answers the exit status: 0 where no file is missing, changed, unnamed or left an old number,
-/// and else 1; 3 where a part of the tree could not be read, which is told, or standard output
-/// takes no more.
+/// and else 1; 3 where a part of the tree could not be read, which is told, or standard error or
+/// standard output takes no more of what is found.
 ///
 /// # Errors
 ///

@@ -6,9 +6,7 @@ use idtext::ByteString;
 use kept_names::Accounts;
 use mtree_inv::{Inventory, read_inventory};
 use unify_io::{FileFault, read_file};
-
-/// How many files an inventory may have, as for the other commands.
-const MOST_FILES: u32 = 16777216;
+use unify_texts::MOST_FILES;
 
 /// The texts of a passwd and a group, with their paths.
 #[derive(Drop)]
