@@ -42,6 +42,13 @@ pub enum Trouble {
     NotModes,
     /// The file of the modes is that of another plan, which was begun and has not ended.
     OtherPlan,
+    /// There are more modes to write down than would be read back.
+    TooManyModes,
+    /// A call of the system on the root itself failed, with this number of an error.
+    OfRoot(i32),
+    /// The file of the modes could not be removed once its plan was done: a call of the system
+    /// failed, with this number of an error.
+    OfModes(i32),
 }
 
 /// The bits of a file's mode around a change of its owner (inode(7)); of a regular file or a

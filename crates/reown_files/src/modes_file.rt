@@ -4,9 +4,10 @@
 //! change until the mark is synced, so that a plan which was begun is known by it.
 ghost use Rattle.std.specs.Prelude.{◌≡◌, ◌<◌, ◌+◌, ◌++◌, ◌↔◌, Some, IfOk, IfSome, IsTrue, OnOk};
 ghost use Rattle.std.specs.Prelude.{[], if◌then◌else◌};
-ghost use Rattle.std.specs.Prelude.{IfErr, None, Ok, Err, false, map};
+ghost use Rattle.std.specs.Prelude.{IfErr, None, Ok, Err, false, map, length, ◌≤◌, ◌⊎◌};
 ghost use Rattle.std.specs.Option.{option_copied};
-ghost use Rattle.reown_files.specs.declared.answers.Trouble.TheVariants.{NotModes};
+ghost use Rattle.reown_files.specs.declared.answers.Trouble.TheVariants.{NotModes, Memory};
+ghost use Rattle.reown_files.specs.declared.answers.Trouble.TheVariants.{TooManyModes};
 ghost use Rattle.reown_files.specs.Looks as looks;
 ghost use Rattle.reown_files.specs.OneFile.{HasLost};
 ghost use Rattle.idtext.specs.Escapes.{unescaped, has_bad_escape};
@@ -32,7 +33,7 @@ const HEAD: &[u8] = b"unify modes 1 ";
 
 const END: &[u8] = b"end\n";
 
-// The most bytes of it that are read.
+// The most bytes of it that are read. No more are written.
 const MOST_BYTES: u64 = 1_073_741_824;
 
 /// Whether a file is a regular one that has such a bit.
@@ -91,13 +92,18 @@ fn head_of(alloc: Global, plan: &PlanMark) -> Result<Vec<u8>, AllocError>
     Ok(text)
 }
 
-// All of it, with these lines of files.
-fn modes_text(alloc: Global, plan: &PlanMark, lines: &[u8]) -> Result<Vec<u8>, AllocError>
-    ensures { IfOk result (λ text. text.items ≡ spec.modes_text plan.now lines.now) }
+// All of it, with these lines of files, where it is not too long to be read back.
+fn modes_text(alloc: Global, plan: &PlanMark, lines: &[u8]) -> Result<Vec<u8>, Trouble>
+    ensures text { IfOk result (λ text. text.items ≡ spec.modes_text plan.now lines.now) }
+    ensures read_back { IfOk result (λ text. length text.items ≤ 1073741824) }
+    ensures refused { IfErr result (λ trouble. (trouble ≡ Memory) ⊎ (trouble ≡ TooManyModes)) }
 {
     let mut text = head_of(alloc, plan)?;
     text.extend_from_slice(lines)?;
     text.extend_from_slice(END)?;
+    if text.len() as u64 > MOST_BYTES {
+        return Err(Trouble::TooManyModes);
+    }
     Ok(text)
 }
 
@@ -332,7 +338,8 @@ impl<'w> ModesFile<'w> {
     }
 
     /// Puts there what this run of the plan may lose, be it nothing, whole and synced. Where its
-    /// mark was there the file is removed.
+    /// mark was there the file is removed. What would be too long to be read back is refused, and
+    /// nothing is written.
     pub fn put(&mut self, plan: &PlanMark) -> Result<(), Trouble> {
         if self.is_over {
             return self.remove();
@@ -349,6 +356,9 @@ impl<'w> ModesFile<'w> {
             return Ok(());
         }
         self.is_put = false;
-        self.remove()
+        match self.remove() {
+            Err(Trouble::System(number)) => Err(Trouble::OfModes(number)),
+            told => told,
+        }
     }
 }

@@ -230,12 +230,19 @@ impl Directory {
         }
     }
 
-    /// Waits until the directory has reached its device, and on a file system with one journal all
-    /// that was changed before. Its time of change is set first, so that there is something to wait
-    /// for.
-    pub fn settle(&self) -> Result<(), Trouble> {
+    // Waits until the directory has reached its device, with its time of change set anew.
+    fn sync_touched(&self) -> Result<(), Trouble> {
         fchown(&self.file.file, None, None)?;
         self.file.sync()
+    }
+
+    /// Waits until the root has reached its device, and on a file system with one journal all that
+    /// was changed before. Its time of change is set first, so that there is something to wait for.
+    pub fn settle(&self) -> Result<(), Trouble> {
+        match self.sync_touched() {
+            Err(Trouble::System(number)) => Err(Trouble::OfRoot(number)),
+            told => told,
+        }
     }
 
     /// Waits until the directory has reached its device.

@@ -2,6 +2,7 @@ pub mod AskedBack
 pub mod CountsBack
 pub mod Fronts
 pub mod HostName
+pub mod MarkNames
 pub mod MountsBack
 pub mod Nearest
 pub mod NearestLaw

@@ -4,7 +4,7 @@ use Rattle.std.specs.List.{list_all}
 use Rattle.std.proofs.lemmas.Bool.{and_parts, eqb-true}
 use Rattle.std.proofs.lemmas.List.Elements.{All-nil, All-cons}
 use Rattle.reown_files.specs.declared.answers.Trouble.{Trouble}
-use Rattle.reown_files.specs.declared.answers.Trouble.TheVariants.{BadPath, NotText, OtherMount, LinkedElsewhere, LinkedOtherwise, NotMark, NotModes, OtherPlan, Gone, Exchanged, NotDone, NotDirectory, Busy, NoProc}
+use Rattle.reown_files.specs.declared.answers.Trouble.TheVariants.{BadPath, NotText, OtherMount, LinkedElsewhere, LinkedOtherwise, NotMark, NotModes, OtherPlan, Gone, Exchanged, NotDone, NotDirectory, Busy, NoProc, TooManyModes}
 use Rattle.unify_apply.specs.Told.{status_of}
 
 module _ (status : ℕ) where
@@ -20,5 +20,5 @@ module _ (status : ℕ) where
 pub found-told : All (λ t. status_of t ≡ 1) (BadPath ∷ NotText ∷ OtherMount ∷ LinkedElsewhere ∷ LinkedOtherwise ∷ NotMark ∷ NotModes ∷ OtherPlan ∷ [])
 found-told = each 1 (BadPath ∷ NotText ∷ OtherMount ∷ LinkedElsewhere ∷ LinkedOtherwise ∷ NotMark ∷ NotModes ∷ OtherPlan ∷ []) refl
 
-pub failed-told : All (λ t. status_of t ≡ 3) (Gone ∷ Exchanged ∷ NotDone ∷ NotDirectory ∷ Busy ∷ NoProc ∷ [])
-failed-told = each 3 (Gone ∷ Exchanged ∷ NotDone ∷ NotDirectory ∷ Busy ∷ NoProc ∷ []) refl
+pub failed-told : All (λ t. status_of t ≡ 3) (Gone ∷ Exchanged ∷ NotDone ∷ NotDirectory ∷ Busy ∷ NoProc ∷ TooManyModes ∷ [])
+failed-told = each 3 (Gone ∷ Exchanged ∷ NotDone ∷ NotDirectory ∷ Busy ∷ NoProc ∷ TooManyModes ∷ []) refl

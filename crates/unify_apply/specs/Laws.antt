@@ -20,12 +20,13 @@ use Rattle.reown_files.specs.declared.answers.Trouble.TheVariants.{LinkedOtherwi
 use Rattle.reown_files.specs.declared.answers.Trouble.TheVariants.{OtherPlan, Gone, Exchanged}
 use Rattle.reown_files.specs.declared.answers.Trouble.TheVariants.{NotDone, NotDirectory, Busy}
 use Rattle.reown_files.specs.declared.answers.Trouble.TheVariants.{NoProc, System, Foreign}
+use Rattle.reown_files.specs.declared.answers.Trouble.TheVariants.{OfModes, OfRoot, TooManyModes}
 use Rattle.reown_plan.specs.declared.plan.Owner.{Owner}
 use Rattle.unify_apply.specs.Answers.{counts_text, done_text}
 use Rattle.unify_apply.specs.Mounts.{MountText, path_from, path_in, is_in, is_under, mount_of}
 use Rattle.unify_apply.specs.Mounts.{mounts_in, same_file_system, is_way, second_way}
 use Rattle.unify_apply.specs.Mounts.{count_below, first_below}
-use Rattle.unify_apply.specs.Told.{mark_at, status_of}
+use Rattle.unify_apply.specs.Told.{is_of_mark, mark_at, status_of}
 
 -- ---- paths
 
@@ -195,6 +196,21 @@ pub record MarksStandBesidePlans : Type 0 where
   pub beside : (plan : List ℕ) → mark_at None plan ≡ plan ++ codes ".done"
   pub example : mark_at None (codes "site/plan.web") ≡ codes "site/plan.web.done"
 
+-- A plan has a name of the mark's exactly where its path is one of four. In the example the last
+-- four are other files.
+pub record MarksTakeFourNames : Type 0 where
+  pub taken : (mark plan : List ℕ) → is_of_mark mark plan ≡ true
+      → (plan ≡ mark) ⊎ ((plan ≡ mark ++ codes ".new") ⊎ ((plan ≡ mark ++ codes ".modes")
+      ⊎ (plan ≡ mark ++ codes ".modes.new")))
+  pub same : (mark : List ℕ) → is_of_mark mark mark ≡ true
+  pub new : (mark : List ℕ) → is_of_mark mark (mark ++ codes ".new") ≡ true
+  pub modes : (mark : List ℕ) → is_of_mark mark (mark ++ codes ".modes") ≡ true
+  pub new_modes : (mark : List ℕ) → is_of_mark mark (mark ++ codes ".modes.new") ≡ true
+  pub example : map (is_of_mark (codes "a.done"))
+      (codes "a.done" ∷ codes "a.done.new" ∷ codes "a.done.modes" ∷ codes "a.done.modes.new"
+      ∷ codes "a" ∷ codes "a.new" ∷ codes "a.done.new.modes" ∷ codes "b.done.new" ∷ [])
+      ≡ (true ∷ true ∷ true ∷ true ∷ false ∷ false ∷ false ∷ false ∷ [])
+
 -- ---- statuses
 
 -- Before anything was changed the status is 1 where what was found may not be changed by the plan,
@@ -204,8 +220,10 @@ pub record StatusesAreTold : Type 0 where
       (BadPath ∷ NotText ∷ OtherMount ∷ LinkedElsewhere ∷ LinkedOtherwise
       ∷ NotMark ∷ NotModes ∷ OtherPlan ∷ [])
   pub failed : All (λ t. status_of t ≡ 3)
-      (Gone ∷ Exchanged ∷ NotDone ∷ NotDirectory ∷ Busy ∷ NoProc ∷ [])
+      (Gone ∷ Exchanged ∷ NotDone ∷ NotDirectory ∷ Busy ∷ NoProc ∷ TooManyModes ∷ [])
   pub call : (number : ℤ) → status_of (System number) ≡ 3
+  pub root : (number : ℤ) → status_of (OfRoot number) ≡ 3
+  pub modes : (number : ℤ) → status_of (OfModes number) ≡ 3
   pub owner : (owner : Owner) → status_of (Foreign owner) ≡ 3
 
 -- ---- what the command prints

@@ -1,5 +1,9 @@
 -- Where the mark of a plan is, and what is told of its files (this project's own).
-use Rattle.std.specs.Prelude.{ℕ, List, [], ◌++◌, Option, None, Some, codes, slice_get}
+use Rattle.std.specs.Prelude.{ℕ, Bool, ◌&&◌, ◌||◌, List, [], ◌∷◌, ◌++◌, Option, None, Some, codes}
+use Rattle.std.specs.Prelude.{slice_get, drop, length}
+use Rattle.std.specs.List.{list_any}
+use Rattle.std.specs.Str.{bytes_eq}
+use Rattle.idtext.specs.Pieces.{begins_with}
 use Rattle.std.specs.Option.{option_map_or}
 use Rattle.reown_files.specs.declared.answers.Trouble.{Trouble}
 use Rattle.reown_files.specs.declared.answers.Trouble.TheVariants as trouble
@@ -9,6 +13,16 @@ use Rattle.reown_plan.specs.declared.plan.Record.{Record}
 abbrev pub mark_at : Option (List ℕ) → List ℕ → List ℕ
 mark_at None plan = plan ++ codes ".done"
 mark_at (Some path) plan = path
+
+-- what the paths have after the mark's where a run writes and removes files beside it
+abbrev pub behind_mark : List (List ℕ)
+behind_mark = codes ".new" ∷ codes ".modes" ∷ codes ".modes.new" ∷ []
+
+-- a plan's path is that of the mark, or one of these
+abbrev pub is_of_mark : List ℕ → List ℕ → Bool
+is_of_mark mark plan =
+    bytes_eq plan mark
+    || (begins_with mark plan && list_any (bytes_eq (drop (length mark) plan)) behind_mark)
 
 -- The exit status where there is trouble before anything was changed: 1 where what was found may
 -- not be changed, and 3 where a call failed, or found another file than before.

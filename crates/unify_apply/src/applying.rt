@@ -4,6 +4,7 @@ ghost use Rattle.std.specs.String.{string_bytes};
 ghost use Rattle.unify_apply.specs.Told.{mark_at};
 
 use crate::answers::records_text;
+use crate::beside::{see_directory, see_plan};
 use crate::checking::check_below;
 use crate::machine::{see_caller, see_host};
 use crate::mounts::see_mounts;
@@ -90,6 +91,7 @@ fn run_plan(run: Run<'_>, plan: &Plan<'_>) -> Result<u8, FileFault> {
         return check_below(run, plan);
     }
     let rt = run.rt;
+    see_directory(rt, run.paths.mark)?;
     see_host(rt, plan.host(), run.host, run.quiet)?;
     see_caller(rt)?;
     let has_one_journal = see_mounts(rt, run.paths.root)?;
@@ -124,7 +126,8 @@ fn reverse_of(rt: &HostRuntime, text: &[u8]) -> Result<Vec<u8>, FileFault> {
 }
 
 /// Answers `apply` with these words: it carries a plan out or takes it back, or counts its files.
-/// What it refuses is told, and the status handed out.
+/// What it refuses is told, and the status handed out. A plan that a run itself would remove, as it
+/// has a name of the mark's, is refused before it is read.
 ///
 /// # Errors
 ///
@@ -138,6 +141,9 @@ pub fn run_apply(rt: &HostRuntime, matches: &ArgMatches<'_>) -> Result<u8, FileF
         mark: mark.as_str(),
     };
     let run = Run::of(rt, matches, paths);
+    if !run.only_checks {
+        see_plan(rt, paths.mark, plan)?;
+    }
     let text = read_file(rt, plan)?;
     if matches.get_flag("reverse") {
         let back = reverse_of(rt, text.bytes())?;

@@ -57,11 +57,11 @@ fn count_files<D: Disk>(
 /// first that is not there or has neither of its two.
 pub fn check_below(run: Run<'_>, plan: &Plan<'_>) -> Result<u8, FileFault> {
     let rt = run.rt;
+    let mounts = count_mounts(rt, run.paths.root, run.quiet)?;
     let root = match Root::open(rt, run.paths.root, run.paths.mark) {
         Ok(root) => root,
         Err(fault) => return Err(root_refused(rt, run.paths, fault)),
     };
-    let mounts = count_mounts(rt, run.paths.root, run.quiet)?;
     let mut disk = Telling::of(rt, run.style, plan.records().len(), root);
     let count = count_files(run, &mut disk, plan.records())?;
     print_counts(rt, count.owners, mounts)?;

@@ -7,7 +7,7 @@ ghost use Rattle.unify_apply.specs.AskedLaws.{ProcessesAreFound, RootIsEffective
 ghost use Rattle.unify_apply.specs.Laws.{MarksStandBesidePlans, MountIsNearest, NoSecondWay};
 ghost use Rattle.unify_apply.specs.Laws.{PathsAreTold, SlashIsTaken, SystemPathIsReadBack};
 ghost use Rattle.unify_apply.specs.Laws.{BelowAreTold, SecondWayIsThere, StatusesAreTold};
-ghost use Rattle.unify_apply.specs.Laws.{WaysAreSeen};
+ghost use Rattle.unify_apply.specs.Laws.{MarksTakeFourNames, WaysAreSeen};
 ghost use Rattle.unify_apply.specs.Laws.{MountsAreReadBack, CountsAreReadBack, DoneIsReadBack};
 
 /// A path is below a directory exactly where it is the directory's, a slash and more, and in it
@@ -37,6 +37,12 @@ pub fn one_way_to_files()
 /// after it.
 pub fn marks_stand_beside_plans()
     ensures { MarksStandBesidePlans }
+{}
+
+/// The names that a plan may not have are that of its mark, and this with `.new`, `.modes` or
+/// `.modes.new` after it; and no other.
+pub fn marks_take_four_names()
+    ensures { MarksTakeFourNames }
 {}
 
 /// Where there is trouble before anything was changed, the status is 1 where what was found may not

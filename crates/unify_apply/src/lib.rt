@@ -4,6 +4,7 @@
 
 mod answers;
 mod applying;
+mod beside;
 mod changing;
 mod checking;
 mod journal;
@@ -18,11 +19,12 @@ mod told;
 
 pub use answers::{counts_text, records_text};
 pub use applying::{mark_path, run_apply};
+pub use beside::is_of_mark;
 pub use journal::tells_journal;
 pub use laws::{
     answers_are_read_back, journals_are_told, machines_are_told, marks_stand_beside_plans,
-    mounts_are_read_back, one_way_to_files, paths_below_are_told, processes_are_told, root_is_told,
-    statuses_are_told,
+    marks_take_four_names, mounts_are_read_back, one_way_to_files, paths_below_are_told,
+    processes_are_told, root_is_told, statuses_are_told,
 };
 pub use machine::{HostFit, host_fit, is_root};
 pub use mountinfo::{

@@ -119,6 +119,12 @@ fn already_changed(rt: &HostRuntime, records: &[Record<'_>], i: usize) -> FileFa
     }
 }
 
+// What is said of a failed call of the system.
+fn system_parts(number: i32, behind: Part<'static>) -> [Part<'static>; 6] {
+    let none = Part::Text("");
+    [Part::System(number), behind, none, none, none, none]
+}
+
 // What is said of an owner that is not the one that the plan says, and behind that.
 fn owner_parts(found: Owner, behind: Part<'static>) -> [Part<'static>; 6] {
     [
@@ -135,9 +141,9 @@ fn owner_parts(found: Owner, behind: Part<'static>) -> [Part<'static>; 6] {
 fn parts_of(trouble: Trouble, behind: &'static str) -> [Part<'static>; 6] {
     let (none, behind) = (Part::Text(""), Part::Text(behind));
     let part = Part::Text(match trouble {
-        Trouble::System(number) => {
-            return [Part::System(number), behind, none, none, none, none];
-        }
+        Trouble::System(number) => return system_parts(number, behind),
+        Trouble::OfRoot(number) => return system_parts(number, behind),
+        Trouble::OfModes(number) => return system_parts(number, behind),
         Trouble::Foreign(found) => return owner_parts(found, behind),
         Trouble::Memory => "memory",
         Trouble::BadPath => "no inventory has such a path, or it is too long",
@@ -154,6 +160,7 @@ fn parts_of(trouble: Trouble, behind: &'static str) -> [Part<'static>; 6] {
         Trouble::NotMark => "not the mark of a plan",
         Trouble::NotModes => "truncated, or not the modes of a plan",
         Trouble::OtherPlan => OTHER_PLAN,
+        Trouble::TooManyModes => "there are more modes to write down than can be read back",
     });
     [part, behind, none, none, none, none]
 }
@@ -195,32 +202,78 @@ pub fn root_refused(rt: &HostRuntime, paths: Paths<'_>, fault: RootFault) -> Fil
     }
 }
 
-// What stands after the reason of a stop. Some file systems report an error of the disk only once,
-// so what is there has to be read anew.
+// Whether it is an error of the disk. Some file systems report one only once, so what is there has
+// to be read anew.
+fn is_of_disk(trouble: Trouble) -> bool {
+    match trouble {
+        Trouble::System(number) => number == DISK_ERROR,
+        Trouble::OfRoot(number) => number == DISK_ERROR,
+        Trouble::OfModes(number) => number == DISK_ERROR,
+        _ => false,
+    }
+}
+
+// What stands after the reason of a stop.
 fn way_on(trouble: Trouble) -> &'static str {
-    if trouble == Trouble::System(DISK_ERROR) {
+    if is_of_disk(trouble) {
         "; restart the machine, and then the same command goes on from there"
     } else {
         "; the same command goes on from there"
     }
 }
 
-// Tells of a file why a plan is not begun with. What an earlier run has changed is synced before
-// that, so an error of the disk may be of such a sync.
-fn not_begun(rt: &HostRuntime, path: &[u8], trouble: Trouble) -> FileFault {
-    if trouble != Trouble::System(DISK_ERROR) {
-        return file_refused(rt, path, trouble);
-    }
-    let parts = parts_of(trouble, way_on(trouble));
-    tell_of(rt, "file", path, &parts, status(trouble))
-}
-
-// Tells what is wrong with the file of the modes beside a mark.
-fn modes_refused(rt: &HostRuntime, mark: &str, trouble: Trouble) -> FileFault {
+// Tells what is wrong with the file of the modes beside the mark.
+fn tell_modes(rt: &HostRuntime, paths: Paths<'_>, parts: &[Part<'_>], status: u8) -> FileFault {
+    let mark = paths.mark;
     match format!(in rt.alloc(); "{mark}{MODES_BEHIND}") {
-        Ok(path) => not_begun(rt, path.as_str().as_bytes(), trouble),
+        Ok(path) => tell_of(rt, "file", path.as_str().as_bytes(), parts, status),
         Err(_) => FileFault::Memory,
     }
+}
+
+// Tells of a file what is wrong with it, and what stands behind that; or of the root or the file of
+// the modes, where the trouble is of these.
+fn tell_trouble(
+    rt: &HostRuntime,
+    paths: Paths<'_>,
+    path: &[u8],
+    told: (Trouble, &'static str),
+    status: u8,
+) -> FileFault {
+    let parts = parts_of(told.0, told.1);
+    match told.0 {
+        Trouble::OfRoot(_) => tell_of(rt, "root", paths.root.as_bytes(), &parts, status),
+        Trouble::OfModes(_) => tell_modes(rt, paths, &parts, status),
+        _ => tell_of(rt, "file", path, &parts, status),
+    }
+}
+
+// What stands after the reason why a plan is not begun with. What an earlier run has changed is
+// synced before that, so an error of the disk may be of such a sync.
+fn before_begun(trouble: Trouble) -> &'static str {
+    if is_of_disk(trouble) {
+        way_on(trouble)
+    } else {
+        ""
+    }
+}
+
+// Tells of a file why a plan is not begun with.
+fn not_begun(rt: &HostRuntime, paths: Paths<'_>, path: &[u8], trouble: Trouble) -> FileFault {
+    if trouble == Trouble::Memory {
+        return FileFault::Memory;
+    }
+    let told = (trouble, before_begun(trouble));
+    tell_trouble(rt, paths, path, told, status(trouble))
+}
+
+// The same, of the file of the modes beside the mark.
+fn modes_refused(rt: &HostRuntime, paths: Paths<'_>, trouble: Trouble) -> FileFault {
+    if trouble == Trouble::Memory {
+        return FileFault::Memory;
+    }
+    let parts = parts_of(trouble, before_begun(trouble));
+    tell_modes(rt, paths, &parts, status(trouble))
 }
 
 /// Tells why the files of a plan are not begun with. Nothing was changed but modes that an earlier
@@ -237,9 +290,9 @@ pub fn not_opened(
         OpenFault::Foreign(i, found) => foreign(rt, records, i, Some(found)),
         OpenFault::Unfinished(i) => unfinished(rt, records, i),
         OpenFault::AlreadyChanged(i) => already_changed(rt, records, i),
-        OpenFault::File(i, trouble) => not_begun(rt, path_at(records, i), trouble),
-        OpenFault::Disk(trouble) => not_begun(rt, paths.mark.as_bytes(), trouble),
-        OpenFault::Modes(trouble) => modes_refused(rt, paths.mark, trouble),
+        OpenFault::File(i, trouble) => not_begun(rt, paths, path_at(records, i), trouble),
+        OpenFault::Disk(trouble) => not_begun(rt, paths, paths.mark.as_bytes(), trouble),
+        OpenFault::Modes(trouble) => modes_refused(rt, paths, trouble),
     }
 }
 
@@ -259,6 +312,5 @@ pub fn stopped(
         ),
         None => (paths.mark.as_bytes(), Trouble::NotDone),
     };
-    let parts = parts_of(trouble, way_on(trouble));
-    tell_of(rt, "file", path, &parts, 3)
+    tell_trouble(rt, paths, path, (trouble, way_on(trouble)), 3)
 }

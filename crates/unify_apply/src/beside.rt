@@ -1,0 +1,83 @@
+//! The files beside a plan: its mark, and what a run puts there with the mark.
+ghost use Rattle.std.specs.Prelude.{◌≡◌};
+ghost use Rattle.std.specs.List.{list_any};
+ghost use Rattle.std.specs.Str.{bytes_eq};
+ghost use Rattle.unify_apply.specs.Told.{behind_mark, is_of_mark};
+
+use std::alloc::AllocError;
+use std::fs::{self, Metadata};
+use std::os::unix::fs::MetadataExt;
+use std::path::Path;
+use unify_io::{FileFault, Part, file_failed, tell_of};
+
+// What is after the mark's path where a run writes the mark, and the modes, before they get their
+// names.
+const NEW: &str = ".new";
+
+const NEW_MODES: &str = ".modes.new";
+
+// What is said of a plan that has one of their names.
+const WRITTEN: &str = "a file of this name is written and removed with the mark; choose another \
+    mark with --mark";
+
+// Whether this stands after the mark's path where a run puts a file beside the mark.
+fn is_behind_mark(rest: &[u8]) -> bool
+    ensures { result ≡ list_any (bytes_eq rest.now) behind_mark }
+{
+    rest == b".new".as_slice() || rest == b".modes".as_slice() || rest == b".modes.new".as_slice()
+}
+
+/// Whether a plan's path is one that a run puts a file at, where this is the path of its mark. One
+/// pass over them.
+pub fn is_of_mark(mark: &str, plan: &str) -> bool
+    ensures { result ≡ is_of_mark mark.now plan.now }
+{
+    let (mark, plan) = (mark.as_bytes(), plan.as_bytes());
+    if plan == mark {
+        return true;
+    }
+    match plan.strip_prefix(mark) {
+        Some(rest) => is_behind_mark(rest),
+        None => false,
+    }
+}
+
+// Whether the name at a path is one of this file, by its device and inode. A link there is not
+// followed.
+fn is_name_of(rt: &HostRuntime, path: &str, file: &Metadata) -> bool {
+    match fs::symlink_metadata(rt, path) {
+        Ok(found) => found.dev() == file.dev() && found.ino() == file.ino(),
+        Err(_) => false,
+    }
+}
+
+// Whether a plan is the file that has a name of these, however its path is written.
+fn has_name_of_mark(rt: &HostRuntime, mark: &str, plan: &str) -> Result<bool, AllocError> {
+    let Ok(file) = fs::metadata(rt, plan) else {
+        return Ok(false);
+    };
+    let new = format!(in rt.alloc(); "{mark}{NEW}")?;
+    let new_modes = format!(in rt.alloc(); "{mark}{NEW_MODES}")?;
+    Ok(is_name_of(rt, new.as_str(), &file) || is_name_of(rt, new_modes.as_str(), &file))
+}
+
+/// Sees that no run with this mark replaces or removes its plan.
+pub fn see_plan(rt: &HostRuntime, mark: &str, plan: &str) -> Result<(), FileFault> {
+    if is_of_mark(mark, plan) || has_name_of_mark(rt, mark, plan)? {
+        return Err(tell_of(rt, "file", plan.as_bytes(), &[Part::Text(WRITTEN)], 2));
+    }
+    Ok(())
+}
+
+/// Sees that the directory of the mark is there.
+pub fn see_directory(rt: &HostRuntime, mark: &str) -> Result<(), FileFault> {
+    let parent = match Path::new(mark).parent() {
+        Some(parent) if !parent.as_str().is_empty() => parent.as_str(),
+        _ => ".",
+    };
+    let inside = Path::new(parent).join(rt.alloc(), ".")?;
+    match fs::metadata(rt, inside.as_str()) {
+        Ok(_) => Ok(()),
+        Err(error) => Err(file_failed(rt, parent, &error)),
+    }
+}
