@@ -15,11 +15,14 @@ COUNTED = "user-fields 2\ngroup-fields 0\n"
 CERTIFICATE = "unify certificate 2\nuser alice 1001 3\nuser bob 1000 0\nzuser 1001 {}\ngroup users 100 0\nend\n"
 # The owner of the files of the room, and one that no file has.
 OWN, FAR = f"{os.geteuid()} {os.getegid()}", "4000000001 4000000001"
+OWN_PLAN = f"unify plan 1 b\n{OWN} {FAR} 3 map\n{FAR} {OWN} 4 pins\nend\n"
 TEXTS = {
     "good": CERTIFICATE.format(7),
     "wrong": CERTIFICATE.format(8),
     "plan": "unify plan 1 b\n1001 100 1000 100 4 bob1\n1001 100 1000 100 4 bob2\nend\n",
-    "own-plan": f"unify plan 1 b\n{OWN} {FAR} 3 map\n{FAR} {OWN} 4 pins\nend\n",
+    "own-plan": OWN_PLAN,
+    "moved.new": OWN_PLAN,
+    "moved.modes.new": OWN_PLAN,
     "rooted-plan": f"unify plan 1 b\n{OWN} {FAR} 4 /map\nend\n",
     "near-plan": f"unify plan 1 b\n{OWN} {FAR} 3 map\nend\n",
     "more-plan": f"unify plan 1 b\n{OWN} {FAR} 3 two\n{OWN} {FAR} 5 names\n{OWN} {FAR} 6 set-id\nend\n",
@@ -134,6 +137,19 @@ MAY_STAY = "unify: hint: --keep FILE leaves accounts and numbers as they are on 
 MAKE_AGAIN = "unify: hint: the inventory was cut; copy or make it again\n"
 OTHER_PIN = "unify: hint: pin another number, or see what the keep text says of this one\n"
 WIDER_RANGE = "unify: hint: widen this range of numbers in the hosts' login.defs\n"
+MARKS_OWN = "unify: file {}: a file of this name is written and removed with the mark; choose another mark with --mark\n".format
+# A mark and a plan that has one of its names, as it is written or by another path.
+OWN_NAMES = [
+    "--mark plan plan",
+    "--mark moved moved.new",
+    "--mark moved.new moved.new",
+    "--mark none none.modes",
+    "--mark moved moved.modes.new",
+    "--mark moved ./moved.new",
+    "--mark ./moved tree/../moved.modes.new",
+    "--mark moved to-new",
+    "--reverse --mark moved moved.new",
+]
 WAS_CUT = "unify: 45 CutInventory host b mtree line {}\n".format
 # Hosts that are a without a file, and one whose passwd is refused and that has no inventory.
 LACKING = {"lacks-passwd": "passwd", "lacks-group": "group", "lacks-mtree": "mtree", "refused": "mtree"}
@@ -173,6 +189,8 @@ LATE = (
     "unify: new fresh user alice 2001 group users 100\n"
     "unify: unnamed late uid 1002 gid 50\n"
 )
+NEW_ONE = "unify: new new\\040one user bob 2002 group staff 51\n"
+A_LINK = "a symbolic link to a directory; it is followed where a slash stands behind it"
 # Words; the exit status; what is on standard output; and what on standard error. What the crate clap words is a tuple of what
 # it has to hold.
 TABLE = [
@@ -268,6 +286,11 @@ TABLE = [
     (["inventory", "tree", ""], 2, "", "unify: root -: an empty word\n"),
     ("inventory tree linked ./tree/none", 2, "", "unify: root ./tree/none: it lies in tree\n"),
     ("inventory linked . tree", 2, "", "unify: root linked: it lies in .\n"),
+    # The same directory twice, and one in another, by a link; one that is not followed is no directory.
+    ("inventory tree linked to-tree/", 2, "", "unify: root to-tree/: it lies in tree\n"),
+    (["inventory", "to-tree/new\nline", "tree"], 2, "", "unify: root to-tree/new\\012line: it lies in tree\n"),
+    (["inventory", "tree", "to-tree/new\nline"], 2, "", "unify: root to-tree/new\\012line: it lies in tree\n"),
+    ("inventory tree to-tree", 3, MACHINE("tree to-tree") + TREE_LINES, "unify: file to-tree: not a directory\n"),
     ("inventory tree treehouse", 3, MACHINE("tree treehouse") + TREE_LINES, "unify: file treehouse: No such file or directory\n"),
     ("apply --check -q own-plan .", 0, SEEN(1, 1, 0, 0, 0, 0), ""),
     ("apply --check -q rooted-plan .", 1, "", "unify: file /map: no inventory has such a path, or it is too long\n"),
@@ -277,7 +300,7 @@ TABLE = [
     ("apply --check --progress own-plan .", 0, SEEN(1, 1, 0, 0, 0, 0), ("unify: progress: looked at 2 of 2\n",)),
     ("apply --check -q --progress own-plan .", 0, SEEN(1, 1, 0, 0, 0, 0), ""),
     # Which files have other owners by name.
-    (VERIFY("named", "moved"), 0, FOUND(3, 0, 0, 1, 0, 0), "unify: new new\\040one user bob 2002 group staff 51\n"),
+    (VERIFY("named", "moved"), 0, FOUND(3, 0, 0, 1, 0, 0), NEW_ONE),
     (
         VERIFY("first", "second"),
         1,
@@ -338,7 +361,9 @@ TABLE = [
         "unify: file odd-name: a name in it is not UTF-8\nunify: missing odd-name/gone\n",
     ),
     (VERIFY_OWN("tree-before", "tree/../tree"), 2, "", "unify: root tree/../tree: a part of it is ..\n"),
-    (VERIFY_OWN("tree-before", "to-tree"), 3, "", "unify: file to-tree: Is a directory\n"),
+    (VERIFY_OWN("tree-before", "to-tree"), 3, "", f"unify: file to-tree: {A_LINK}\n"),
+    (VERIFY_OWN("tree-before", "to-nothing"), 3, "", "unify: file to-nothing: No such file or directory\n"),
+    (VERIFY("named", "to-moved"), 0, FOUND(3, 0, 0, 1, 0, 0), NEW_ONE),
     (VERIFY_OWN("bad", "tree"), 1, "", "unify: 11 NoUid file bad line 1\n"),
     ("verify --was old-passwd bad --now new-passwd new-group first second", 1, "", "unify: 1 BadFields file bad line 1\n"),
     (VERIFY("first", "bad"), 1, "", "unify: 11 NoUid file bad line 1\n"),
@@ -506,7 +531,16 @@ TABLE = [
     ("rehearse none b/mtree", 3, "", "unify: file none: No such file or directory\n"),
     ("rehearse plan none", 3, "", "unify: file none: No such file or directory\n"),
     ("apply none b", 3, "", "unify: file none: No such file or directory\n"),
-    ("apply --check plan none", 2, "", "unify: root none: does not exist, or is reached through a symbolic link\n"),
+    ("apply --mark none/mark plan b", 3, "", "unify: file none: No such file or directory\n"),
+    ("apply --mark map/mark plan b", 3, "", "unify: file map: Not a directory\n"),
+    ("apply --mark none/mark bad b", 1, "", "unify: 35 BadPlan byte 0\n"),
+    ("apply --mark none/mark none/plan b", 3, "", "unify: file none/plan: No such file or directory\n"),
+    ("apply --check -q --mark none/mark own-plan .", 0, SEEN(1, 1, 0, 0, 0, 0), ""),
+    ("apply --check plan none", 2, "", "unify: root none: No such file or directory\n"),
+    ("apply --check plan to-itself", 2, "", "unify: root to-itself: Too many levels of symbolic links\n"),
+    # A plan that a run would remove, as its mark has that name: nothing is read.
+    *((f"apply {words} b", 2, "", MARKS_OWN(words.split()[-1])) for words in OWN_NAMES),
+    ("apply --check -q --mark moved moved.new .", 0, SEEN(1, 1, 0, 0, 0, 0), ""),
     ("apply --check plan plan", 2, "", "unify: root plan: Not a directory\n"),
     # The order in which files are read: all of them but inventories before anything is judged.
     ("count none x y", 3, "", "unify: file none: No such file or directory\n"),
@@ -566,6 +600,14 @@ UNWRITTEN = [
     "--help",
     "--version",
 ]
+# Words, the exit status, and what is on standard output where standard error is full: what would be lost there ends the command,
+# and an inventory has no last line then.
+UNTOLD = [
+    *(("inventory -x /dev", 3, ("./dev type=dir ",)) for _ in APART[:1]),
+    (VERIFY("named", "moved"), 3, ""),
+    (VERIFY("first", "second"), 3, ""),
+    ("verify --was old-passwd old-group --now old-passwd old-group named named", 0, FOUND(3, 0, 0, 0, 0, 0)),
+]
 MERGED = {"passwd", "group", "map", "certificate", "report", *(f"{file}.{host}" for file in ("plan", "passwd", "group") for host in "ab")}
 # What a merge by the keep texts of the room does not write that keep a name of the hosts.
 OF_ALL_HOSTS = {"passwd", "group"}
@@ -612,6 +654,10 @@ def lay_out(room):
     (room / LINKED).parent.mkdir()
     (room / LINKED).symlink_to("nothing")
     (room / "to-tree").symlink_to("tree")
+    (room / "to-moved").symlink_to("moved")
+    (room / "to-nothing").symlink_to("nothing")
+    (room / "to-itself").symlink_to("to-itself")
+    (room / "to-new").symlink_to("moved.new")
     (room / "two").touch()
     (room / "names").hardlink_to(room / "two")
     (room / "set-id").touch()
@@ -625,11 +671,11 @@ def lay_out(room):
         (room / name).write_text(text)
 
 
-def ran(program, words, folder, out=subprocess.PIPE):
+def ran(program, words, folder, out=subprocess.PIPE, err=subprocess.PIPE):
     """The status for some words, and the text of each stream."""
     words = words if isinstance(words, list) else words.split()
-    came = subprocess.run([program, *words], cwd=folder, stdin=subprocess.DEVNULL, stdout=out, stderr=subprocess.PIPE, timeout=120)
-    return came.returncode, (came.stdout or b"").decode("latin-1"), came.stderr.decode("latin-1")
+    came = subprocess.run([program, *words], cwd=folder, stdin=subprocess.DEVNULL, stdout=out, stderr=err, timeout=120)
+    return came.returncode, (came.stdout or b"").decode("latin-1"), (came.stderr or b"").decode("latin-1")
 
 
 def seconds_since(begun):
@@ -648,14 +694,14 @@ def agreed(wanted, came):
     return wanted if isinstance(wanted, tuple) and all(part in came for part in wanted) else came
 
 
-def in_new_room(program, words, out=subprocess.PIPE):
+def in_new_room(program, words, out=subprocess.PIPE, err=subprocess.PIPE):
     """The status for some words, the text of each stream, and the names of the files that are written into the room's `out`."""
     with tempfile.TemporaryDirectory() as name:
         room = pathlib.Path(name)
         lay_out(room)
         (room / "out").mkdir()
         begun = time.time()
-        status, told, failed = ran(program, words, room, out)
+        status, told, failed = ran(program, words, room, out, err)
         return status, without_time(told, begun), failed, {path.name for path in (room / "out").iterdir()}
 
 
@@ -708,3 +754,8 @@ def command_lines(program):
             came = in_new_room(program, words, full)
         wanted = 3, "", "unify: write\n", MERGED if words.startswith("merge") else set()
         yield f"unify {words}, standard output full", wanted, came
+    for words, status, out in UNTOLD:
+        with open("/dev/full", "wb") as full:
+            came, came_out, *others = in_new_room(program, words, err=full)
+        wanted = status, out, ["", set()], False
+        yield f"unify {words}, standard error full", wanted, (came, agreed(out, came_out), others, "\n# end " in came_out)

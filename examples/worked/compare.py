@@ -36,7 +36,7 @@ FOLDER = pathlib.Path(__file__).resolve().parent
 SITES = 300
 ENDINGS = {"bundle", "answer", "parts", "status", "accepted"}
 # So many there are at least: with fewer, some were lost.
-LEAST_FILES, LEAST_BY_WORDS, LEAST_BY_LINE, LEAST_CUT, CONTESTED, SMALL = 189, 121, 246, 280, 44, 19683
+LEAST_FILES, LEAST_BY_WORDS, LEAST_BY_LINE, LEAST_CUT, CONTESTED, SMALL = 189, 121, 269, 280, 44, 19683
 
 # The answers to the prefixes of merge/root-only.bundle: the first and the last length, the status, and the fault line or the
 # example that has the answer.

@@ -119,12 +119,21 @@ REFUSED = [
     ("OUT before all that is read", "", "none x --pins nothing", "none: No such file or directory"),
 ]
 
+# Names of which the system does not tell what they lead to: how the room is changed, the words, and what is told.
+LOOP = "{}: Too many levels of symbolic links".format
+UNSEEN = [
+    ("a plan of a host that is no more", "echo 'unify report 2' > out/report; touch out/passwd.c; ln -s plan.c out/plan.c", "out a b", LOOP("out/plan.c")),
+    ("a plan of no host", f"touch out/{MARK}; ln -s plan.md out/plan.md", "out a b", LOOP("out/plan.md")),
+    ("a report", "ln -s report out/report", "out a b", LOOP("out/report")),
+    ("a host", "ln -s d d", "out a d --pins none", LOOP("d")),
+]
 
-def refused(room, name, change, words, told):
+
+def refused(room, name, change, words, told, status=2, thing="output"):
     """A directory that is refused stays as it is, and so do the hosts."""
     subprocess.run(["sh", "-ec", change], cwd=room.path, check=True)
     before = {path: path.read_bytes() for path in room.path.rglob("*") if path.is_file()}
-    want(name, (2, "", f"unify: output {told}\n"), room.run("merge", *words.split(" ")))
+    want(name, (status, "", f"unify: {thing} {told}\n"), room.run("merge", *words.split(" ")))
     want(f"{name}: files", before, {path: path.read_bytes() for path in room.path.rglob("*") if path.is_file()})
 
 
@@ -342,7 +351,9 @@ def main(words):
         return 0
     for row in REFUSED:
         in_room(program, lambda room: refused(room, *row))
-    print(f"directories that are refused: {len(REFUSED)}, each left as it was")
+    for row in UNSEEN:
+        in_room(program, lambda room: refused(room, *row, status=3, thing="file"))
+    print(f"directories that are refused: {len(REFUSED) + len(UNSEEN)}, each left as it was")
     for test in (replaced, held, refused_later, inventory_linked):
         in_room(program, test)
     links(program)
