@@ -4,8 +4,9 @@
     bench/count.py [HOSTS [USERS_A_HOST [FILES_A_HOST]]]
 
 Then it compares the processor times of `unify count` and of fastcount.cpp, a plain reader in C++ that does the
-same work, for inventories of full paths and for such as NetBSD's mtree writes: the least of five runs in turn;
-and beside these that of `mtree -C` over the same inventories, one after the other, the lesser of two runs.
+same work, for inventories of full paths and for such as NetBSD's mtree writes, and that of `mtree -C` over the same
+inventories, one after the other. Of the seconds the least of five runs in turn is told, of mtree of three; each
+ratio is the median of those of single rounds, fifteen of them and three with mtree.
 
 Run `make program` first; it wants g++. The sites are made below bench/work, which git does not see.
 """
@@ -14,7 +15,7 @@ import shutil
 import subprocess
 import sys
 
-from measure import HERE, UNIFY, least_processor_seconds, timed
+from measure import HERE, UNIFY, least_processor_seconds, median_ratios, timed
 from site_of import write_full, write_netbsd, write_site
 
 
@@ -23,13 +24,10 @@ def netbsd_mtree():
     return shutil.which("mtree") or shutil.which("netbsd-mtree")
 
 
-def mtree_seconds(inventories):
-    """The processor seconds in which NetBSD's mtree reads the inventories, one after the other; none where it is not there."""
+def mtree_words(inventories):
+    """The words by which NetBSD's mtree reads the inventories, one after the other; none where it is not there."""
     mtree = netbsd_mtree()
-    if mtree is None:
-        return None
-    words = ["sh", "-c", 'for file; do "$0" -C < "$file" > /dev/null || exit; done', mtree, *inventories]
-    return least_processor_seconds({"mtree": words}, rounds=2)[0]["mtree"]
+    return mtree and ["sh", "-c", 'for file; do "$0" -C < "$file" > /dev/null || exit; done', mtree, *inventories]
 
 
 def inventories_of(words):
@@ -45,16 +43,20 @@ def compare_with_plain_reader(hosts, users, files):
         folder = os.path.join(HERE, "work", f"count-{write_inventory.__name__}-{hosts}-{users}-{files}")
         shutil.rmtree(folder, ignore_errors=True)
         words = write_site(folder, hosts, users, files, write_inventory)
-        least, printed = least_processor_seconds({
+        commands = {
             "unify": [UNIFY, "count", f"{folder}/map", *words],
             "fastcount": [reader, f"{folder}/map", *words],
-        })
+        }
+        least, printed = least_processor_seconds(commands)
         if printed["unify"] != printed["fastcount"]:
             sys.exit(f"{style}: the two count otherwise:\n{printed['unify']}{printed['fastcount']}")
         print(f"{style}: unify count {least['unify']:.2f} s, fastcount {least['fastcount']:.2f} s of a processor, "
-              f"ratio {least['unify'] / least['fastcount']:.2f}", flush=True)
-        if seconds := mtree_seconds(inventories_of(words)):
-            print(f"{style}: mtree -C {seconds:.2f} s of a processor, ratio 1/{seconds / least['unify']:.1f}", flush=True)
+              f"ratio {median_ratios(commands, 'fastcount')['unify']:.2f}", flush=True)
+        if mtree := mtree_words(inventories_of(words)):
+            beside = {"unify": commands["unify"], "mtree": mtree}
+            seconds = least_processor_seconds({"mtree": mtree}, rounds=3)[0]["mtree"]
+            print(f"{style}: mtree -C {seconds:.2f} s of a processor, "
+                  f"ratio 1/{median_ratios(beside, 'unify', rounds=3)['mtree']:.1f}", flush=True)
 
 
 def main():
