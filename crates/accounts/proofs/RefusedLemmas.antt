@@ -19,7 +19,7 @@ use Rattle.accounts.specs.Lines.{is_compat}
 use Rattle.accounts.specs.Refused.{AllMayStand, Breaks, BreaksBeside, BreaksNone, GroupFirstFaultIsTold, GroupLinesMayStand, GroupNumberIsBad, IsFirstBroken, IsFirstFault, MayStand, PasswdFirstFaultIsTold, PasswdLinesMayStand, PasswdNumberIsBad, checks_of, field}
 use Rattle.accounts.specs.Rows.{Passwd, Group, group_from, group_line, numbered, passwd_from, passwd_line}
 use Rattle.accounts.specs.Tables.{fault_in, group_table, line_fault, passwd_table, rows_from, shared_fault, table}
-use Rattle.accounts.proofs.FaultLemmas.{all_fine, fault_found, faulty, front-size}
+use Rattle.idtext.proofs.FaultLemmas.{all_fine, fault_found, faulty, front-size}
 use Rattle.accounts.proofs.ListLemmas.{list_any-map}
 
 -- ---- checks one after the other

@@ -21,7 +21,7 @@ use Rattle.logindefs.specs.declared.ranges.HostRanges.{HostRanges}
 use Rattle.logindefs.specs.Accepted.{AllMayStand, FirstWrongLineIsTold, GivesValue, IsAccepted, IsFirstWrong, IsNumber, IsWrong, MayStand, RangesAreAccepted, RangesShare, eight_names, last_ranges}
 use Rattle.logindefs.specs.Parameters.{fault_behind, line_fault, number_fault, parameter_named, set_by, set_to, setting_fault, setting_of, without_quotes}
 use Rattle.logindefs.specs.Ranges.{AreApart, IsHostRanges, apart, in_range, ranges_of, share}
-use Rattle.logindefs.proofs.FaultLemmas.{all_fine, fault_found, front-size}
+use Rattle.idtext.proofs.FaultLemmas.{all_fine, fault_found, front-size}
 use Rattle.logindefs.proofs.SetLemmas.{shared-both}
 
 -- ---- names
