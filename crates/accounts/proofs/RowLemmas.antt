@@ -69,7 +69,7 @@ is-group n (name ∷ password ∷ gid ∷ members ∷ []) row e =
 
 -- ---- a line
 
-kept-row : {Row : Type 0} (kept : Bool) (told : Result Row TextFault) (row : Row) → cond kept (told >>= λ r. Ok (Some r)) (Ok None) ≡ Ok (Some row) → told ≡ Ok row
+pub kept-row : {Row : Type 0} (kept : Bool) (told : Result Row TextFault) (row : Row) → cond kept (told >>= λ r. Ok (Some r)) (Ok None) ≡ Ok (Some row) → told ≡ Ok row
 kept-row true (Ok r) row e = cc
 kept-row true (Err fault) row e = absurd (cc)
 kept-row false told row e = absurd (cc)

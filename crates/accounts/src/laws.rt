@@ -1,6 +1,8 @@
 //! Laws of the definitions, each the contract of a call that does nothing.
 ghost use Rattle.accounts.specs.Accepted.{PasswdIsAccepted, GroupIsAccepted};
 ghost use Rattle.accounts.specs.Examples.{ExampleOfGroup, ExampleOfMembers, ExampleOfPasswd};
+ghost use Rattle.accounts.specs.Fields.{UserRowsHaveTheirFields, GroupRowsHaveTheirFields};
+ghost use Rattle.accounts.specs.Members.{ListsHaveTheirMembers, MembersStandInOrder};
 ghost use Rattle.accounts.specs.Refusals.{EachIsTold, EachOfGroupIsTold, FirstLineIsTold};
 ghost use Rattle.accounts.specs.Refused.{GroupFirstFaultIsTold, GroupLinesMayStand};
 ghost use Rattle.accounts.specs.Refused.{PasswdFirstFaultIsTold, PasswdLinesMayStand};
@@ -44,4 +46,23 @@ pub fn refused_tables_by_example()
     ensures passwd { EachIsTold }
     ensures group { EachOfGroupIsTold }
     ensures first { FirstLineIsTold }
+{}
+
+/// Who is on a user list: each text between two commas, or between a comma and an end of the list,
+/// that is not empty, and no other; in the order in which they stand there, and as often.
+///
+/// The call does nothing: its contract is the law. Source: group(5).
+pub fn lists_have_their_members()
+    ensures exactly { ListsHaveTheirMembers }
+    ensures in_order { MembersStandInOrder }
+{}
+
+/// The rows of a table are those of the lines that are not skipped, in their order. A row has the
+/// number of its line, and its line is the row's seven fields, or four of a group, with a colon
+/// between each and the next: nothing of a text is changed or lost, and no two are exchanged.
+///
+/// The call does nothing: its contract is the law. Source: passwd(5), group(5).
+pub fn rows_have_their_fields()
+    ensures passwd { UserRowsHaveTheirFields }
+    ensures group { GroupRowsHaveTheirFields }
 {}

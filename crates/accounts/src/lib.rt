@@ -14,6 +14,7 @@ mod table;
 
 pub use group::{GroupRow, GroupTable, Members, read_group};
 pub use laws::{
-    a_table_is_accepted, first_faults_are_told, refused_tables_by_example, tables_by_example,
+    a_table_is_accepted, first_faults_are_told, lists_have_their_members,
+    refused_tables_by_example, rows_have_their_fields, tables_by_example,
 };
 pub use passwd::{PasswdRow, PasswdTable, read_passwd};
