@@ -22,6 +22,7 @@ pub mod HostUsers
 pub mod HostGroups
 pub mod HostKept
 pub mod HostExample
+pub mod MergedExample
 pub mod SameRows
 pub mod SameUsers
 pub mod ComingRows

@@ -99,6 +99,7 @@ module _ (hosts : List Host) (site : Joined) (m : Mappings) (is : IsNumberedInPa
             first = group_row host group;
             first_is = first;
             password = refl;
+            list = refl;
             members = members-back (joined_users (groups_named name hosts)) members;
           },
         );

@@ -114,23 +114,23 @@ pub record HasPrimary (site : Joined) (gids : List ℕ) (host : Host) (row : Pas
   pub is : MatchOption (group_at host.groups row.gid) (new_gid site.groups gids host row.gid ≡ row.gid) (λ group. HasNumber site.groups gids group (new_gid site.groups gids host row.gid))
 
 module _ (site : Joined) (gids : List ℕ) (mapping : IsMapping gids) (long : length gids ≡ length site.groups.names) (h : ℕ) (host : Host) (known : KnowsHost site h host) (row : Passwd) (id : row.gid ≤ 4294967294) where
-  abbrev number-of : Option Group → ℕ
-  number-of o = number_under gids (option_and_then (λ (g : Group). place_of site.groups.names g.name) o) row.gid
+  abbrev number-of : Option (List ℕ) → ℕ
+  number-of o = number_under gids (option_and_then (place_of site.groups.names) o) row.gid
 
   pub primary-of : HasPrimary site gids host row
-  primary-of = by (find (λ (group : Group). row.gid == group.gid) host.groups) refl
+  primary-of = by (group_at host.groups row.gid) refl
     where
-      by : (o : Option Group) → find (λ (group : Group). row.gid == group.gid) host.groups ≡ o → HasPrimary site gids host row
+      by : (o : Option (List ℕ)) → group_at host.groups row.gid ≡ o → HasPrimary site gids host row
       by None e = record {
         small = subst (λ o. number-of o ≤ 4294967294) (sym e) id;
-        is = subst (λ o. MatchOption (option_map (λ (g : Group). g.name) o) (number-of o ≡ row.gid) (λ group. HasNumber site.groups gids group (number-of o))) (sym e) refl;
+        is = subst (λ o. MatchOption o (number-of o ≡ row.gid) (λ group. HasNumber site.groups gids group (number-of o))) (sym e) refl;
       }
       by (Some group) e =
-          let owned = subst (λ o. IsOwnedAsTold site.groups.names h row.gid (option_map (λ (g : Group). g.name) o)) e (known.groups row.gid) in
+          let owned = subst (λ o. IsOwnedAsTold site.groups.names h row.gid o) e (known.groups row.gid) in
           let number : number_at gids owned.0 ≡ number-of (Some group) = sym (ap (λ p. number_under gids p row.gid) owned.2) in
-          let within : owned.0 < length site.groups.names = place-within (λ (a : Account). bytes_eq group.name a.name) site.groups.names owned.0 owned.2 in
+          let within : owned.0 < length site.groups.names = place-within (λ (a : Account). bytes_eq group a.name) site.groups.names owned.0 owned.2 in
           let small : number_at gids owned.0 ≤ 4294967294 = mapping.ids owned.0 0 (omega (arith, within, long)) in
           record {
             small = subst (λ o. number-of o ≤ 4294967294) (sym e) (subst (λ v. v ≤ 4294967294) number small);
-            is = subst (λ o. MatchOption (option_map (λ (g : Group). g.name) o) (number-of o ≡ row.gid) (λ group. HasNumber site.groups gids group (number-of o))) (sym e) (owned.0, owned.2, number);
+            is = subst (λ o. MatchOption o (number-of o ≡ row.gid) (λ group. HasNumber site.groups gids group (number-of o))) (sym e) (owned.0, owned.2, number);
           }

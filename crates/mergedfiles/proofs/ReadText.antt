@@ -1,7 +1,8 @@
 -- A text whose lines are rows is read as these rows.
-use Rattle.std.proofs.Common.{◌≡◌, ℕ, zero, suc, ◌+◌, ◌<◌, ◌≤◌, true, false, List, [], ◌∷◌, ◌++◌, map, flat_map, length, get_or, refl, sym, ap, ◌∙◌, subst, arith, Option, Some, Result, Ok, is_ok}
-use Rattle.std.specs.List.{AllByRecursion, slice_get}
+use Rattle.std.proofs.Common.{◌≡◌, ℕ, zero, suc, ◌+◌, ◌<◌, ◌≤◌, ◌==◌, cond, true, false, List, [], ◌∷◌, ◌++◌, map, flat_map, length, get_or, refl, sym, ap, ◌∙◌, subst, arith, Option, Some, Result, Ok, is_ok}
+use Rattle.std.specs.List.{AllByRecursion, count_by, slice_get}
 use Rattle.std.proofs.lemmas.List.Elements.{recursion_from_All}
+use Rattle.std.proofs.lemmas.List.Sums.{sum_by-append, sum_by-cons}
 use Rattle.std.proofs.lemmas.Option.{same_Some}
 use Rattle.idtext.specs.declared.faults.TextFault.{TextFault}
 use Rattle.idtext.specs.Names.{is_skipped}
@@ -36,6 +37,22 @@ pub all-says : {X : Type 0} (P Q : X → Type 0) → ((x : X) → P x → Q x) �
 all-says P Q f [] all = tt
 all-says P Q f (x ∷ xs) all = (f x all.0, all-says P Q f xs all.1)
 
+-- ---- newlines
+
+abbrev newlines : List ℕ → ℕ
+newlines text = count_by (λ b. b == 10) text
+
+no-newline : (line : List ℕ) → Lacks 10 line → newlines line ≡ 0
+no-newline [] none = refl
+no-newline (b ∷ line) none = sum_by-cons (λ c. cond (c == 10) 1 0) b line ∙ omega (arith, ap (λ is. cond {A = ℕ} is 1 0) none.0, no-newline line none.1)
+
+newline-more : (line rest : List ℕ) → Lacks 10 line → newlines ((line ++ 10 ∷ []) ++ rest) ≡ suc (newlines rest)
+newline-more line rest none =
+    sum_by-append (λ c. cond (c == 10) 1 0) (line ++ 10 ∷ []) rest
+    ∙ omega (arith, sum_by-append (λ c. cond (c == 10) 1 0) line (10 ∷ []), no-newline line none)
+
+-- ---- rows
+
 module _ {X Row : Type 0} (from : ℕ → List (List ℕ) → Result Row TextFault) (text : X → List ℕ) (Is : X → Row → Type 0) where
   abbrev Says : X → Type 0
   Says x = SaysRow from text Is x
@@ -62,6 +79,13 @@ module _ {X Row : Type 0} (from : ℕ → List (List ℕ) → Result Row TextFau
   as-many : (n : ℕ) (xs : List X) (all : AllByRecursion Says xs) → length (lines_by xs all) ≡ length (rows_by n xs all)
   as-many n [] all = refl
   as-many n (x ∷ xs) all = ap suc (as-many (n + 1) xs all.1)
+
+  newlines-are : (n : ℕ) (xs : List X) (all : AllByRecursion Says xs) → newlines (flat_map text xs) ≡ length (rows_by n xs all)
+  newlines-are n [] all = refl
+  newlines-are n (x ∷ xs) all =
+      ap (λ l. newlines (l ++ flat_map text xs)) all.0.ends
+      ∙ newline-more all.0.line (flat_map text xs) all.0.one
+      ∙ ap suc (newlines-are (n + 1) xs all.1)
 
   abbrev row_line : (n : ℕ) (x : X) (says : Says x) → IsRowLine from n says.line (says.row n)
   row_line n x says = record { kept = says.kept; not_compat = says.not_compat; read = says.read n }
@@ -98,6 +122,7 @@ module _ {X Row : Type 0} (from : ℕ → List (List ℕ) → Result Row TextFau
         → ReadsAs from table (flat_map text xs) (rows_by 1 xs all)
     reads-as table xs all accepted names numbers = record {
       as_many = ap length (text-lines xs all) ∙ as-many 1 xs all;
+      newlines = newlines-are 1 xs all;
       each_line = λ k line row l r. each-line 1 xs all k (k + 1) line row refl (ap (λ ls. slice_get ls k) (sym (text-lines xs all)) ∙ l) r;
       whole = λ limits.
           let few : 1 + length (lines_by xs all) ≤ 65537 = omega (arith, limits.few_lines, ap length (text-lines xs all)) in

@@ -15,7 +15,7 @@ use Rattle.mergedfiles.specs.declared.Difference.{Difference}
 use Rattle.mergedfiles.specs.declared.Field.{Field}
 use Rattle.mergedfiles.specs.declared.Field.TheVariants as field
 use Rattle.mergedfiles.specs.Differences.{all_group_differences, all_user_differences, group_differences, group_differs, site_differences, user_differences, user_differs, user_field}
-use Rattle.mergedfiles.specs.ToldDifferences.{DifferencesAreTold, Differs, IsNamed, IsOfGroup, IsOfUser}
+use Rattle.mergedfiles.specs.ToldDifferences.{DifferencesAreTold, Differs, IsAnother, IsNamed, IsOfGroup, IsOfUser}
 use Rattle.mergedfiles.specs.Order.{by_bytes}
 use Rattle.mergedfiles.specs.Rows.{UserRow, GroupRow, user_on, group_on, users_named, groups_named}
 use Rattle.mergedfiles.proofs.Ordering.{In, at-in, in-at, in-ordered, ordered-in}
@@ -199,6 +199,21 @@ group_own name h r e = own (find (λ row. bytes_eq name row.name) h.groups) e
     own None q = absurd (cc)
     own (Some p) q = sym (ap (λ x. group_host x h) q)
 
+-- what a field says differs exactly where the rows do
+is_another : (what : Field) (one other : UserRow) → user_field what other ≢ user_field what one → IsAnother what one other
+is_another field.Password one other differ = differ
+is_another field.Comment one other differ = differ
+is_another field.Home one other differ = differ
+is_another field.Shell one other differ = differ
+is_another field.Group one other differ = differ
+
+another_is : (what : Field) (one other : UserRow) → IsAnother what one other → user_field what other ≢ user_field what one
+another_is field.Password one other differ = differ
+another_is field.Comment one other differ = differ
+another_is field.Home one other differ = differ
+another_is field.Shell one other differ = differ
+another_is field.Group one other differ = differ
+
 -- ---- differences
 
 module _ (hosts : List Host) (site : Joined) where
@@ -226,7 +241,7 @@ module _ (hosts : List Host) (site : Joined) where
           order = s.split ∙ ap (λ back. s.before ++ one.host ∷ back) l.split;
           none_before = All-from_recursion (λ h. user_on name h ≡ None) s.before s.none;
         };
-        differ = apart (user_field what m.of) (user_field what one) m.passes;
+        differ = is_another what one m.of (apart (user_field what m.of) (user_field what one) m.passes);
         told = refl;
       })
 
@@ -267,7 +282,7 @@ module _ (hosts : List Host) (site : Joined) where
       let others = filter_map (user_on d.name) back in
       let rows : users_named d.name hosts ≡ is.first ∷ others = ap (users_named d.name) o.order ∙ starts (λ (u : UserRow). u.host) (user_on d.name) (user_own d.name) o.before back is.first.host is.first (recursion_from_All (λ h. user_on d.name h ≡ None) o.before o.none_before) is.first_row in
       let make : UserRow → Difference = λ u. record { kind = User; name = d.name; field = d.field; host = u.host.name } in
-      let made : In (make is.later) (user_differs d.name d.field is.first others) = to_made make (λ u. not (bytes_eq (user_field d.field u) (user_field d.field is.first))) others is.later (has (λ (u : UserRow). u.host) (user_on d.name) (user_own d.name) o.between o.behind is.later.host is.later is.later_row) (tested (user_field d.field is.later) (user_field d.field is.first) is.differ) in
+      let made : In (make is.later) (user_differs d.name d.field is.first others) = to_made make (λ u. not (bytes_eq (user_field d.field u) (user_field d.field is.first))) others is.later (has (λ (u : UserRow). u.host) (user_on d.name) (user_own d.name) o.between o.behind is.later.host is.later is.later_row) (tested (user_field d.field is.later) (user_field d.field is.first) (another_is d.field is.first is.later is.differ)) in
       let told : In (make is.later) (user_differences d.name (users_named d.name hosts)) = subst (λ rs. In (make is.later) (user_differences d.name rs)) (sym rows) (to_flat (λ what. user_differs d.name what is.first others) user_fields d.field (make is.later) (any_field d.field) made) in
       let same : make is.later ≡ d = λ i. record { kind = sym kind i; name = d.name; field = d.field; host = sym is.told i } in
       subst (λ x. In x (site_differences hosts site)) same (in_left (make is.later) (all_user_differences hosts site) (all_group_differences hosts site)

@@ -1,8 +1,8 @@
 -- The fields in which a later host differs from the first.
 -- Source: this project's own rule.
-use Rattle.std.specs.Prelude.{ℕ, not, List, [], ◌∷◌, ◌++◌, map, filter, flat_map, find, nat_eq}
-use Rattle.std.specs.Prelude.{bytes_eq, Option, Some, None}
-use Rattle.accounts.specs.Rows.{Group}
+use Rattle.std.specs.Prelude.{ℕ, not, List, [], ◌∷◌, ◌++◌, map, filter, flat_map, bytes_eq}
+use Rattle.std.specs.Prelude.{unwrap_or}
+use Rattle.hosts_join.specs.Kinds.{group_at}
 use Rattle.hosts_join.specs.Site.{Joined}
 use Rattle.hosts_join.specs.declared.Which.TheVariants as kind
 use Rattle.hosts_join.specs.declared.host.Host.{Host}
@@ -12,13 +12,9 @@ use Rattle.mergedfiles.specs.declared.Field.TheVariants as field
 use Rattle.mergedfiles.specs.Order.{by_bytes}
 use Rattle.mergedfiles.specs.Rows.{UserRow, GroupRow, users_named, groups_named}
 
--- the name of the group that has the number on the host
-abbrev pub name_of : Option Group → List ℕ
-name_of None = []
-name_of (Some group) = group.name
-
+-- the name of the group that has the number on the host; the empty name where none has it
 abbrev pub group_name : Host → ℕ → List ℕ
-group_name host gid = name_of (find (λ group. nat_eq gid group.gid) host.groups)
+group_name host gid = unwrap_or (group_at host.groups gid) []
 
 -- what a field of a user's row says; its primary group by name
 abbrev pub user_field : Field → UserRow → List ℕ

@@ -3,6 +3,7 @@ pub mod Order
 pub mod Texts
 pub mod HostFiles
 pub mod HostExample
+pub mod MergedExample
 pub mod Differences
 pub mod ToldDifferences
 pub mod DifferingExample

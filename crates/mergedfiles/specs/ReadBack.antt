@@ -2,8 +2,9 @@
 -- every account file is read.
 -- Source: passwd(5) and group(5), DESCRIPTION (one account a line, its fields between colons);
 -- whose fields count is this project's own rule.
-use Rattle.std.specs.Prelude.{◌≡◌, ℕ, ◌+◌, ◌<◌, ◌≤◌, false, List, length, map, All, Some, Result}
-use Rattle.std.specs.Prelude.{Ok, slice_get, slice_index_or}
+use Rattle.std.specs.Prelude.{◌≡◌, ◌==◌, ℕ, ◌+◌, ◌<◌, ◌≤◌, false, List, length, map, All, Some}
+use Rattle.std.specs.Prelude.{Result, Ok, count_by, slice_get, slice_index_or}
+use Rattle.std.specs.List.{join_with_byte}
 use Rattle.idtext.specs.declared.faults.TextFault.{TextFault}
 use Rattle.idtext.specs.Names.{is_skipped}
 use Rattle.idtext.specs.Pieces.{fields_of, lines}
@@ -71,11 +72,13 @@ pub record KeepsLimits (text : List ℕ) : Type 0 where
   pub short_lines : All (λ line. length line ≤ most_line_bytes) (lines text)
 
 -- Each line by itself is read as the row at its place; and where the text keeps the limits of an
--- account file, its table is exactly these rows.
+-- account file, its table is exactly these rows. There are as many newlines as rows, so that the
+-- last line has its newline too.
 -- table: the table of a text
 pub record ReadsAs {Row : Type 0} (from : ℕ → List (List ℕ) → Result Row TextFault)
     (table : List ℕ → Result (List Row) TextFault) (text : List ℕ) (rows : List Row) : Type 0 where
   pub as_many : length (lines text) ≡ length rows
+  pub newlines : count_by (λ b. b == 10) text ≡ length rows
   pub each_line : (k : ℕ) (line : List ℕ) (row : Row) → slice_get (lines text) k ≡ Some line
       → slice_get rows k ≡ Some row → IsRowLine from (k + 1) line row
   pub whole : KeepsLimits text → table text ≡ Ok rows
@@ -129,13 +132,14 @@ MergedPasswdReadsBack =
 
 -- A row of the merged group has the new number of its group, the password of the first host with
 -- this group, and the users that it has on any host, in the order of the hosts, each where it
--- appears first.
+-- appears first, with one comma between each two and no other.
 pub record IsMergedGroup (hosts : List Host) (site : Joined) (m : Mappings)
     (row : Group) : Type 0 where
   pub gid : HasNumber site.groups m.groups row.name row.gid
   pub first : GroupRow
   pub first_is : first_of (groups_named row.name hosts) ≡ Some first
   pub password : row.password ≡ first.row.password
+  pub list : row.members ≡ join_with_byte 44 (joined_users (groups_named row.name hosts))
   pub members : members_of row.members ≡ joined_users (groups_named row.name hosts)
 
 -- The merged group has exactly one row for each group name, and no other; the rows ascend by gid,

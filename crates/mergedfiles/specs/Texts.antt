@@ -1,10 +1,10 @@
 -- The merged files, after passwd(5) and group(5).
 -- Source: passwd(5) and group(5); the choice of fields is this project's own rule.
-use Rattle.std.specs.Prelude.{ℕ, List, [], ◌∷◌, ◌++◌, flat_map, Option, Some, None, find, nat_eq}
-use Rattle.std.specs.Prelude.{decimal}
+use Rattle.std.specs.Prelude.{ℕ, List, [], ◌∷◌, ◌++◌, flat_map, Option, Some, None, decimal}
 use Rattle.std.specs.List.{join_with_byte}
 use Rattle.std.specs.Option.{option_and_then}
 use Rattle.hosts_join.specs.Accounts.{Accounts, place_of}
+use Rattle.hosts_join.specs.Kinds.{group_at}
 use Rattle.hosts_join.specs.Rules.{account}
 use Rattle.hosts_join.specs.Site.{Joined}
 use Rattle.hosts_join.specs.declared.host.Host.{Host}
@@ -34,9 +34,7 @@ merged_group hosts name number =
 -- the new number of the group that has the number on the host
 abbrev pub new_gid : Accounts → List ℕ → Host → ℕ → ℕ
 new_gid groups m host gid =
-    number_under m
-    (option_and_then (λ group. place_of groups.names group.name)
-    (find (λ group. nat_eq gid group.gid) host.groups)) gid
+    number_under m (option_and_then (place_of groups.names) (group_at host.groups gid)) gid
 
 -- a line of passwd: a name, its number, and the fields of the first host that has it, with its
 -- primary group's new number

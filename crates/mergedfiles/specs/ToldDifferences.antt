@@ -1,16 +1,17 @@
 -- Which differences are told, in other words.
 -- Source: this project's own rule.
-use Rattle.std.specs.Prelude.{◌≡◌, ◌≢◌, ◌↔◌, ℕ, List, ◌∷◌, ◌++◌, map, Option, Some, None}
-use Rattle.std.specs.Prelude.{All}
-use Rattle.std.specs.Prelude.{Contains}
+use Rattle.std.specs.Prelude.{◌≡◌, ◌≢◌, ◌↔◌, ℕ, List, [], ◌∷◌, ◌++◌, map, Option, Some, None}
+use Rattle.std.specs.Prelude.{All, Contains, unwrap_or}
 use Rattle.hosts_join.specs.Accounts.{Accounts}
+use Rattle.hosts_join.specs.Kinds.{group_at}
 use Rattle.hosts_join.specs.Site.{Joined}
 use Rattle.hosts_join.specs.declared.Which.{Which}
 use Rattle.hosts_join.specs.declared.Which.TheVariants.{User, Group}
 use Rattle.hosts_join.specs.declared.host.Host.{Host}
 use Rattle.mergedfiles.specs.declared.Difference.{Difference}
-use Rattle.mergedfiles.specs.declared.Field.TheVariants.{Password}
-use Rattle.mergedfiles.specs.Differences.{site_differences, user_field}
+use Rattle.mergedfiles.specs.declared.Field.{Field}
+use Rattle.mergedfiles.specs.declared.Field.TheVariants as field
+use Rattle.mergedfiles.specs.Differences.{site_differences}
 use Rattle.mergedfiles.specs.Rows.{UserRow, GroupRow, user_on, group_on}
 
 -- Of all hosts that have a row, this is the first one, and that is a later one.
@@ -27,6 +28,19 @@ pub record AreFirstAndLater {Row : Type 0} (row_on : Host → Option Row) (hosts
 abbrev pub IsNamed : Accounts → List ℕ → Type 0
 IsNamed a name = Contains (map (λ x. x.name) a.names) name
 
+-- the primary group of a user, by the name that its host gives the number; where it gives none, the
+-- empty name
+abbrev pub primary_group : UserRow → List ℕ
+primary_group user = unwrap_or (group_at user.host.groups user.row.gid) []
+
+-- The field is another in the later row than in the first, as it stands there, byte by byte.
+abbrev pub IsAnother : Field → UserRow → UserRow → Type 0
+IsAnother field.Password first later = later.row.password ≢ first.row.password
+IsAnother field.Comment first later = later.row.comment ≢ first.row.comment
+IsAnother field.Home first later = later.row.home ≢ first.row.home
+IsAnother field.Shell first later = later.row.shell ≢ first.row.shell
+IsAnother field.Group first later = primary_group later ≢ primary_group first
+
 -- A user of the site has another field on a later host than on the first host that has the user.
 pub record IsOfUser (hosts : List Host) (site : Joined) (d : Difference) : Type 0 where
   pub named : IsNamed site.users d.name
@@ -35,7 +49,7 @@ pub record IsOfUser (hosts : List Host) (site : Joined) (d : Difference) : Type 
   pub first_row : user_on d.name first.host ≡ Some first
   pub later_row : user_on d.name later.host ≡ Some later
   pub order : AreFirstAndLater (user_on d.name) hosts first.host later.host
-  pub differ : user_field d.field later ≢ user_field d.field first
+  pub differ : IsAnother d.field first later
   pub told : d.host ≡ later.host.name
 
 -- A group of the site has another password on a later host than on the first host that has the
@@ -48,7 +62,7 @@ pub record IsOfGroup (hosts : List Host) (site : Joined) (d : Difference) : Type
   pub later_row : group_on d.name later.host ≡ Some later
   pub order : AreFirstAndLater (group_on d.name) hosts first.host later.host
   pub differ : later.row.password ≢ first.row.password
-  pub field : d.field ≡ Password
+  pub field : d.field ≡ field.Password
   pub told : d.host ≡ later.host.name
 
 abbrev pub Differs : Which → List Host → Joined → Difference → Type 0

@@ -14,6 +14,7 @@ ghost use Rattle.mergedfiles.specs.HostReadBack.{HostPasswdReadsBack};
 ghost use Rattle.mergedfiles.specs.InPart.{AllIsInPart, GroupInPartReadsBack};
 ghost use Rattle.mergedfiles.specs.InPart.{PasswdInPartReadsBack};
 ghost use Rattle.mergedfiles.specs.JoinedUsers.{MergedUsersAreOfAllHosts};
+ghost use Rattle.mergedfiles.specs.MergedExample.{ExampleOfMergedGroup, ExampleOfMergedPasswd};
 ghost use Rattle.mergedfiles.specs.ReadBack.{MergedPasswdReadsBack, MergedGroupReadsBack};
 ghost use Rattle.mergedfiles.specs.Rows.{users_named, groups_named};
 ghost use Rattle.mergedfiles.specs.Together.{AreJoined};
@@ -47,6 +48,14 @@ pub fn merged_passwd_reads_back()
 /// these rows are its table.
 pub fn merged_group_reads_back()
     ensures { MergedGroupReadsBack }
+{}
+
+/// An example of a merged passwd and a merged group, byte by byte: two hosts, by the texts of their
+/// files, share a user and a group with a list on each; each line ends in a newline, the last one
+/// too, numbers have no leading zeros, and one comma stands between each two users of a list.
+pub fn merged_files_by_example()
+    ensures passwd { ExampleOfMergedPasswd }
+    ensures group { ExampleOfMergedGroup }
 {}
 
 /// The first host decides: the row that counts for a name, whose fields the merged passwd has for a
