@@ -11,8 +11,10 @@ pub mod MapBack
 pub mod MapForms
 pub mod MapNames
 pub mod MapPins
+pub mod MapExample
 pub mod ReservedLemmas
 pub mod BundleWords
 pub mod FaultExamples
 pub mod ReportBack
+pub mod WholeReport
 pub mod ReportExample

@@ -89,15 +89,15 @@ abbrev pub rows_of : List ℕ → List (List (List ℕ))
 rows_of text = map words (lines_of text)
 
 -- whatever stands after it, the text begins with these rows
-record Reads (front : List ℕ) (rs : List (List (List ℕ))) : Type 0 where
-  read_first : (rest : List ℕ) → rows_of (front ++ rest) ≡ rs ++ rows_of rest
+pub record Reads (front : List ℕ) (rs : List (List (List ℕ))) : Type 0 where
+  pub read_first : (rest : List ℕ) → rows_of (front ++ rest) ≡ rs ++ rows_of rest
 
-reads_both : {front more : List ℕ} {rs ss : List (List (List ℕ))} → Reads front rs → Reads more ss → Reads (front ++ more) (rs ++ ss)
+pub reads_both : {front more : List ℕ} {rs ss : List (List (List ℕ))} → Reads front rs → Reads more ss → Reads (front ++ more) (rs ++ ss)
 reads_both {front} {more} {rs} {ss} one two = record {
   read_first = λ rest. ap rows_of (append_assoc front more rest) ∙ one.read_first (more ++ rest) ∙ ap (λ others. rs ++ others) (two.read_first rest) ∙ sym (append_assoc rs ss (rows_of rest));
 }
 
-reads_line : (first : List ℕ) (others : List (List ℕ)) → IsWord first → AllByRecursion IsWord others → Reads (line first others) ((first ∷ others) ∷ [])
+pub reads_line : (first : List ℕ) (others : List (List ℕ)) → IsWord first → AllByRecursion IsWord others → Reads (line first others) ((first ∷ others) ∷ [])
 reads_line first others is all = record {
   read_first = λ rest.
       ap rows_of (append_assoc first (spaced others ++ 10 ∷ []) rest ∙ ap (λ text. first ++ text) (append_assoc (spaced others) (10 ∷ []) rest) ∙ sym (append_assoc first (spaced others) (10 ∷ rest)))
@@ -116,7 +116,7 @@ pub record AreHeld (f : Figures) : Type 0 where
   pub rows : f.rows < 2 ^ 64
   pub changed_rows : f.changed_rows < 2 ^ 64
 
-abbrev names_row : List ℕ → Figures → List (List ℕ)
+abbrev pub names_row : List ℕ → Figures → List (List ℕ)
 names_row kinds f =
     kinds ∷ decimal f.names ∷ codes "pinned" ∷ decimal f.pinned ∷ codes "kept" ∷ decimal f.kept ∷ codes "fresh" ∷ decimal f.fresh ∷ []
 
@@ -125,7 +125,7 @@ reads_names kinds f is held =
     reads_line kinds (decimal f.names ∷ codes "pinned" ∷ decimal f.pinned ∷ codes "kept" ∷ decimal f.kept ∷ codes "fresh" ∷ decimal f.fresh ∷ []) is
     (figure_word f.names held.names, (pinned_word, (figure_word f.pinned held.pinned, (kept_word, (figure_word f.kept held.kept, (fresh_word, (figure_word f.fresh held.fresh, tt)))))))
 
-abbrev change_row : List ℕ → ℕ → ℕ → List (List ℕ)
+abbrev pub change_row : List ℕ → ℕ → ℕ → List (List ℕ)
 change_row what changed all = what ∷ decimal changed ∷ codes "of" ∷ decimal all ∷ []
 
 reads_change : (what : List ℕ) (changed all : ℕ) → IsWord what → changed < 2 ^ 64 → all < 2 ^ 64 → Reads (change_line what changed all) (change_row what changed all ∷ [])
@@ -135,7 +135,7 @@ reads_change what changed all is p q =
 -- ---- a report
 
 module _ (site : Joined) (n : ℕ) (u g : Figures) (told : List Difference) (few : n < 2 ^ 64) (users : AreHeld u) (groups : AreHeld g) where
-  abbrev version : List ℕ
+  abbrev pub version : List ℕ
   version = report_version site.users.reserved site.groups.reserved
 
   -- the lines of figures
@@ -146,7 +146,7 @@ module _ (site : Joined) (n : ℕ) (u g : Figures) (told : List Difference) (few
       ++ change_line (codes "user-fields") u.changed_files u.files ++ change_line (codes "group-fields") g.changed_files g.files
       ++ change_line (codes "user-lines") u.changed_rows u.rows ++ change_line (codes "group-lines") g.changed_rows g.rows
 
-  abbrev figure_rows : List (List (List ℕ))
+  abbrev pub figure_rows : List (List (List ℕ))
   figure_rows =
       (codes "unify" ∷ codes "report" ∷ version ∷ []) ∷ (codes "hosts" ∷ decimal n ∷ [])
       ∷ names_row (codes "users") u ∷ names_row (codes "groups") g
@@ -165,19 +165,19 @@ module _ (site : Joined) (n : ℕ) (u g : Figures) (told : List Difference) (few
       (reads_change (codes "user-lines") u.changed_rows u.rows (literal (codes "user-lines") (omega arith) refl refl refl) users.changed_rows users.rows))
       (reads_change (codes "group-lines") g.changed_rows g.rows (literal (codes "group-lines") (omega arith) refl refl refl) groups.changed_rows groups.rows)
 
-  abbrev differing : List ℕ
+  abbrev pub differing : List ℕ
   differing = flat_map difference_line told
 
-  abbrev end : List ℕ
+  abbrev pub end : List ℕ
   end = line (codes "end") []
 
-  abbrev text : List ℕ
+  abbrev pub text : List ℕ
   text = report_lines site n u g told
 
-  abbrev all_rows : List (List (List ℕ))
+  abbrev pub all_rows : List (List (List ℕ))
   all_rows = figure_rows ++ rows_of (reserved_lines site ++ (differing ++ end))
 
-  rows_are : rows_of text ≡ all_rows
+  pub rows_are : rows_of text ≡ all_rows
   rows_are =
       ap rows_of (append_assoc (figures ++ reserved_lines site) differing end ∙ append_assoc figures (reserved_lines site) (differing ++ end))
       ∙ reads_figures.read_first (reserved_lines site ++ (differing ++ end))
@@ -207,7 +207,7 @@ cost_within : (a : Accounts) (files : List File) (m : List ℕ) → cost_of a fi
 cost_within a files m =
     fewer (λ f. changes m (owner a.names f.host f.number) f.number) (λ f. is_some (owner a.names f.host f.number)) (λ f. changed_is_owned m (owner a.names f.host f.number) f.number) files
 
-held : (a : Accounts) (files : List File) (m : List ℕ) → AreCountable a files → AreHeld (figures_of a files m)
+pub held : (a : Accounts) (files : List File) (m : List ℕ) → AreCountable a files → AreHeld (figures_of a files m)
 held a files m few =
     let all = figures_add_up a m in
     record {

@@ -68,7 +68,7 @@ number_word n small = record {
   no_end = decimal-lacks 10 n (omega arith) small;
 }
 
-kind_word : (kind : Which) → IsWord (which_word kind)
+pub kind_word : (kind : Which) → IsWord (which_word kind)
 kind_word User = record { some = omega arith; no_space = (refl, (refl, (refl, (refl, tt)))); no_tab = (refl, (refl, (refl, (refl, tt)))); no_end = (refl, (refl, (refl, (refl, tt)))) }
 kind_word Group = record { some = omega arith; no_space = (refl, (refl, (refl, (refl, (refl, tt))))); no_tab = (refl, (refl, (refl, (refl, (refl, tt))))); no_end = (refl, (refl, (refl, (refl, (refl, tt))))) }
 
@@ -90,7 +90,7 @@ escape_some : (b : ℕ) (rest : List ℕ) (plain : Bool) → is_plain b ≡ plai
 escape_some b rest true is = rw (← escape-plain b is) (omega arith)
 escape_some b rest false is = rw (escape-other b is) (omega arith)
 
-name_word : (name : List ℕ) → IsShown name → IsWord (shown name)
+pub name_word : (name : List ℕ) → IsShown name → IsWord (shown name)
 name_word [] is = absurd (omega (arith, is.some))
 name_word (b ∷ name) is = record {
   some = escape_some b (escaped name) (is_plain b) refl;
@@ -99,7 +99,7 @@ name_word (b ∷ name) is = record {
   no_end = escaped_lacks 10 (b ∷ name) (omega arith);
 }
 
-name_back : (name : List ℕ) → IsShown name → unescaped (shown name) ≡ name
+pub name_back : (name : List ℕ) → IsShown name → unescaped (shown name) ≡ name
 name_back [] is = absurd (omega (arith, is.some))
 name_back (b ∷ name) is = (escaped-back (b ∷ name) is.bytes).0
 
@@ -114,15 +114,15 @@ literal_name = record { some = omega arith; no_space = (refl, (refl, (refl, (ref
 literal_unowned : IsWord (codes "unowned")
 literal_unowned = record { some = omega arith; no_space = (refl, (refl, (refl, (refl, (refl, (refl, (refl, tt))))))); no_tab = (refl, (refl, (refl, (refl, (refl, (refl, (refl, tt))))))); no_end = (refl, (refl, (refl, (refl, (refl, (refl, (refl, tt))))))) }
 
-literal_reserved : IsWord (codes "reserved")
+pub literal_reserved : IsWord (codes "reserved")
 literal_reserved = record { some = omega arith; no_space = (refl, (refl, (refl, (refl, (refl, (refl, (refl, (refl, tt)))))))); no_tab = (refl, (refl, (refl, (refl, (refl, (refl, (refl, (refl, tt)))))))); no_end = (refl, (refl, (refl, (refl, (refl, (refl, (refl, (refl, tt)))))))) }
 
-are_words : (numbers : IdRange) (who : Reserver) → numbers.low ≤ greatest_id → IsToldBy numbers who → AllByRecursion IsWord (reserved_words numbers who)
+pub are_words : (numbers : IdRange) (who : Reserver) → numbers.low ≤ greatest_id → IsToldBy numbers who → AllByRecursion IsWord (reserved_words numbers who)
 are_words numbers by.Range low is = (literal_range, (number_word numbers.low low, (number_word numbers.high is, tt)))
 are_words numbers (by.Name host name) low is = (literal_name, (name_word host is.1, (name_word name is.2, (number_word numbers.low low, tt))))
 are_words numbers (by.Unowned host) low is = (literal_unowned, (name_word host is.1, (number_word numbers.low low, tt)))
 
-said_back : (numbers : IdRange) (who : Reserver) → numbers.low ≤ greatest_id → IsToldBy numbers who → reserved_said (reserved_words numbers who) ≡ Some (record { numbers = numbers; by = who })
+pub said_back : (numbers : IdRange) (who : Reserver) → numbers.low ≤ greatest_id → IsToldBy numbers who → reserved_said (reserved_words numbers who) ≡ Some (record { numbers = numbers; by = who })
 said_back numbers by.Range low is =
     ap (λ n. range_between n (id_of (decimal numbers.high))) (decimal-back numbers.low low)
     ∙ ap (range_between (Some numbers.low)) (decimal-back numbers.high is)
@@ -145,7 +145,7 @@ bare kind r = codes "reserved" ++ spaced (which_word kind ∷ reserved_words r.n
 line_is : (kind : Which) (r : Reserved) → reserved_line kind r ≡ bare kind r ++ 10 ∷ []
 line_is kind r = sym (append_assoc (codes "reserved") (spaced (which_word kind ∷ reserved_words r.numbers r.by)) (10 ∷ []))
 
-with_kind : (kind : Which) (others : List (List ℕ)) → told_by (codes "reserved" ∷ which_word kind ∷ others) ≡ option_map (λ r. record { kind = kind; reserved = r }) (reserved_said others)
+pub with_kind : (kind : Which) (others : List (List ℕ)) → told_by (codes "reserved" ∷ which_word kind ∷ others) ≡ option_map (λ r. record { kind = kind; reserved = r }) (reserved_said others)
 with_kind User others = refl
 with_kind Group others = refl
 

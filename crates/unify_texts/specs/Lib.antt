@@ -5,6 +5,7 @@ pub mod Faults
 pub mod FaultExamples
 pub mod Maps
 pub mod WrittenMap
+pub mod MapExample
 pub mod MapForms
 pub mod Figures
 pub mod FiguresExample
@@ -13,6 +14,7 @@ pub mod ReservedLines
 pub mod ReservedBack
 pub mod Report
 pub mod ReportBack
+pub mod WholeReport
 pub mod ReportExample
 pub mod Told
 pub mod Limits

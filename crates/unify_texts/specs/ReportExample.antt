@@ -60,15 +60,22 @@ abbrev pub ExampleOfPlain : Type 0
 ExampleOfPlain =
     report_with [] [] [] ≡ codes "unify report 2\n" ++ figures_text ++ codes "end\n"
 
--- ---- a range of users is reserved
+-- ---- a range of users is reserved, and the number of a user that is kept
 
 abbrev pub range : Reserved
 range = record { numbers = record { low = 0; high = 99 }; by = by.Range }
 
+-- the name has the number on the host
+abbrev pub kept : Reserved
+kept = record {
+  numbers = record { low = 134; high = 134 };
+  by = by.Name (codes "web") (codes "b c");
+}
+
 abbrev pub ExampleOfUsers : Type 0
 ExampleOfUsers =
-    report_with (range ∷ []) [] [] ≡ codes "unify report 3\n" ++ figures_text
-    ++ codes "reserved user range 0 99\nend\n"
+    report_with (range ∷ kept ∷ []) [] [] ≡ codes "unify report 3\n" ++ figures_text
+    ++ codes "reserved user range 0 99\nreserved user name web b\\040c 134\nend\n"
 
 -- ---- a number of a group is reserved, and each field differs
 

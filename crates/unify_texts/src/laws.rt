@@ -8,12 +8,14 @@ ghost use Rattle.unify_texts.specs.FaultExamples.{AreTold, StatusesGoByFaults};
 ghost use Rattle.unify_texts.specs.Figures.{FiguresAddUp};
 ghost use Rattle.unify_texts.specs.FiguresExample.{ExampleOfFigures};
 ghost use Rattle.unify_texts.specs.KeptNames.{KeptNamesAreSeen};
+ghost use Rattle.unify_texts.specs.MapExample.{ExampleOfMap};
 ghost use Rattle.unify_texts.specs.MapForms.{AcceptedMapsMayStand, FirstBadMapLineIsTold};
 ghost use Rattle.unify_texts.specs.MapForms.{MapsAreListed};
 ghost use Rattle.unify_texts.specs.ReportBack.{ReportsReadBack};
 ghost use Rattle.unify_texts.specs.ReportExample.{ExampleOfDiffering, ExampleOfPlain};
 ghost use Rattle.unify_texts.specs.ReportExample.{ExampleOfUsers};
 ghost use Rattle.unify_texts.specs.ReservedBack.{ReservedLinesReadBack};
+ghost use Rattle.unify_texts.specs.WholeReport.{ReportsTellAll};
 ghost use Rattle.unify_texts.specs.WrittenMap.{WrittenMapsArePins, WrittenMapsReadBack};
 
 /// A text is read as a bundle exactly where its lines spell one, and as that one. Where they spell
@@ -58,6 +60,12 @@ pub fn written_maps_are_pins()
     ensures { WrittenMapsArePins }
 {}
 
+/// A written map by example, byte by byte: three users and two groups, whose names did not appear
+/// in byte order.
+pub fn written_map_by_example()
+    ensures { ExampleOfMap }
+{}
+
 /// The lines that a report has of what is reserved are read, word by word, as exactly what they
 /// were written for: of which kind, which numbers, and who reserves them, a host and a name byte
 /// for byte. Requires that the numbers are such as an account may have, that a name, or a host with
@@ -80,6 +88,15 @@ pub fn reports_read_back()
     ensures { ReportsReadBack }
 {}
 
+/// In the lines of a report each field in which a later host differs from the first, and all that
+/// is reserved, is told: the lines that begin with `differs` are read, word by word, as exactly the
+/// differences of the site, and those that begin with `reserved` as exactly what is reserved, both
+/// in their order. Requires what `reports_read_back` and `reserved_lines_read_back` do, and that no
+/// name of a host, a user or a group is empty.
+pub fn reports_tell_all()
+    ensures { ReportsTellAll }
+{}
+
 /// Each name is pinned, keeps a number that it has on some host, or has a fresh one; and all
 /// figures of six names with eight rows and seven files, by example.
 pub fn figures_add_up()
@@ -88,7 +105,8 @@ pub fn figures_add_up()
 {}
 
 /// Reports by example, byte by byte: one where nothing is reserved and nothing differs, one where a
-/// range of users is reserved, and one where a number of a group is, and each field differs.
+/// range of users is reserved, and the number of a user that is kept, and one where a number of a
+/// group is, and each field differs.
 pub fn reports_by_example()
     ensures plain { ExampleOfPlain }
     ensures users { ExampleOfUsers }

@@ -129,7 +129,7 @@ fn report_lines(
 
 /// The report of a mapping of a site's users and one of its groups: how many hosts there are; for
 /// each kind how many names are pinned, keep a number that they have on some host, or have a fresh
-/// one; how many owner fields of the files, and how many account rows, change; what no name is to
+/// one; how many user fields of the files, and how many account rows, change; what no name is to
 /// be given, and who reserves it, where something is; and each field in which a later host differs
 /// from the first. Names are escaped.
 ///
