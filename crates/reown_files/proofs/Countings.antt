@@ -17,7 +17,7 @@ use Rattle.reown_files.specs.Counting.{Look, is_before, is_after, is_missing, is
 more : (p : Look → Bool) (looks : List Look) (l : Look) → count_by p (looks ++ l ∷ []) ≡ count_by p looks + cond (p l) 1 0
 more p looks l = sum_by_push (λ x. cond (p x) 1 0) looks l
 
-first : (p : Look → Bool) (l : Look) (looks : List Look) → count_by p (l ∷ looks) ≡ cond (p l) 1 0 + count_by p looks
+pub first : (p : Look → Bool) (l : Look) (looks : List Look) → count_by p (l ∷ looks) ≡ cond (p l) 1 0 + count_by p looks
 first p l looks =
     let alone : 0 + cond (p l) 1 0 ≡ cond (p l) 1 0 = omega arith in
     sum_by-append (λ x. cond (p x) 1 0) (l ∷ []) looks ∙ ap (λ n. n + count_by p looks) alone
@@ -68,7 +68,7 @@ fit_look : (i : ℕ) (l : Look) → unfit i l ≡ None → IsFit l
 fit_look i (r, None) e = absurd cc
 fit_look i (r, Some seen) e = (refl, not_foreign (is_foreign (r, Some seen)) i e)
 
-one_look : (l : Look) → IsFit l → All IsFit (l ∷ [])
+pub one_look : (l : Look) → IsFit l → All IsFit (l ∷ [])
 one_look l fit k d below = let here : k ≡ 0 = omega arith in subst (λ n. IsFit (get_or (l ∷ []) n d)) (sym here) fit
 
 later_unfit : (looks : List Look) (l : Look) (i : ℕ) (here : Option Unfit) → length looks ≡ i → All IsFit looks → unfit i l ≡ here → IsFirstUnfit (looks ++ l ∷ []) here

@@ -1,7 +1,8 @@
 -- Records of calls that grow.
-use Rattle.std.proofs.Common.{◌≡◌, ◌<◌, ◌==◌, ℕ, zero, suc, Bool, true, false, cond, ◌&&◌, ◌||◌, List, [], ◌∷◌, ◌++◌, ◌+◌, Option, None, Some, Result, Ok, Err, OnOk, get_or, take, map, length, refl, sym, ◌∙◌, ap, arith}
+use Rattle.std.proofs.Common.{◌≡◌, ◌≢◌, ◌<◌, ◌==◌, ℕ, zero, suc, Bool, true, false, cond, ◌&&◌, ◌||◌, List, [], ◌∷◌, ◌++◌, ◌+◌, Option, None, Some, Result, Ok, Err, OnOk, get_or, take, map, length, refl, sym, ◌∙◌, ap, arith}
 use Rattle.std.specs.List.{list_any, list_all}
 use Rattle.std.specs.Str.{bytes_eq}
+use Rattle.std.proofs.lemmas.Bool.{true≢false}
 use Rattle.std.proofs.lemmas.Bool.Decides.{nat_tests}
 use Rattle.std.proofs.lemmas.List.{take_more, get_or-map, length-map}
 use Rattle.std.specs.Cmp.Lexicographic.{bytes_decides}
@@ -40,6 +41,9 @@ and_true false b e f = e
 
 nat_same : (n : ℕ) → (n == n) ≡ true
 nat_same n = grind (arith, nat_tests)
+
+pub differ : (m n : ℕ) → (m == n) ≡ false → m ≢ n
+differ m n apart e = true≢false (sym (sym (ap (λ k. m == k) e) ∙ nat_same m) ∙ apart)
 
 pub owner_same : (o : Owner) → owner_eq o o ≡ true
 owner_same o = and_true (o.uid == o.uid) (o.gid == o.gid) (nat_same o.uid) (nat_same o.gid)

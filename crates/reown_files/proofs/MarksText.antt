@@ -10,7 +10,7 @@ use Rattle.std.specs.List.{starts_with, list_all, list_any, slice_index}
 use Rattle.std.specs.Str.{bytes_eq}
 use Rattle.std.specs.Str.Parse.{AllDigits}
 use Rattle.std.specs.Cmp.Lexicographic.{bytes_decides}
-use Rattle.std.proofs.lemmas.Bool.{cases_Bool}
+use Rattle.std.proofs.lemmas.Bool.{cases_Bool, true≢false}
 use Rattle.std.proofs.lemmas.Bool.Decides.{nat_tests}
 use Rattle.std.proofs.lemmas.Fmt.{decimal_injective, decimal_is_IsNumeral}
 use Rattle.std.proofs.lemmas.List.Elements.{All-tail, All-append}
@@ -107,15 +107,9 @@ digest_is_bytes text = words_bytes (final_hash initial_hash_256 text) 8
 
 -- ---- the name of a host
 
-no_zero : (b : ℕ) → is_host_byte b ≡ true → (b == 0) ≡ false
-no_zero b h = elim (cases_Bool (b == 0)) [
-  | inl is ↦ (let same : b ≡ 0 = grind (arith, nat_tests) in let none : is_host_byte 0 ≡ true = sym (ap is_host_byte same) ∙ h in absurd cc)
-  | inr other ↦ other
-]
-
-no_space : (b : ℕ) → is_host_byte b ≡ true → (b == 32) ≡ false
-no_space b h = elim (cases_Bool (b == 32)) [
-  | inl is ↦ (let same : b ≡ 32 = grind (arith, nat_tests) in let none : is_host_byte 32 ≡ true = sym (ap is_host_byte same) ∙ h in absurd cc)
+no_other_byte : (c : ℕ) → is_host_byte c ≡ false → (b : ℕ) → is_host_byte b ≡ true → (b == c) ≡ false
+no_other_byte c none b h = elim (cases_Bool (b == c)) [
+  | inl is ↦ (let same : b ≡ c = grind (arith, nat_tests) in absurd (true≢false (sym h ∙ ap is_host_byte same ∙ none)))
   | inr other ↦ other
 ]
 
@@ -127,27 +121,27 @@ name_back : (name : List ℕ) (n : ℕ) → list_all is_host_byte name ≡ true 
 name_back [] n h = zeros_are_no_text n
 name_back (b ∷ name) n h =
     let hs = both (is_host_byte b) (list_all is_host_byte name) h in
-    ap (λ (t : Bool). cond t [] (b ∷ []) ++ host_text (name ++ replicate n 0)) (no_zero b hs.0) ∙ ap (λ bs. b ∷ bs) (name_back name n hs.1)
+    ap (λ (t : Bool). cond t [] (b ∷ []) ++ host_text (name ++ replicate n 0)) (no_other_byte 0 refl b hs.0) ∙ ap (λ bs. b ∷ bs) (name_back name n hs.1)
 
-name_no_space : (name : List ℕ) → list_all is_host_byte name ≡ true → list_any (λ b. b == 32) name ≡ false
-name_no_space [] h = refl
-name_no_space (b ∷ name) h =
-    let hs = both (is_host_byte b) (list_all is_host_byte name) h in λ i. no_space b hs.0 i || name_no_space name hs.1 i
+name_has_no : (c : ℕ) → is_host_byte c ≡ false → (name : List ℕ) → list_all is_host_byte name ≡ true → list_any (λ b. b == c) name ≡ false
+name_has_no c none [] h = refl
+name_has_no c none (b ∷ name) h =
+    let hs = both (is_host_byte b) (list_all is_host_byte name) h in λ i. no_other_byte c none b hs.0 i || name_has_no c none name hs.1 i
 
 -- ---- a number
 
-digit_no_space : (c : ℕ) → digit_value c < 10 → (c == 32) ≡ false
-digit_no_space c h = elim (cases_Bool (c == 32)) [
-  | inl is ↦ (let same : c ≡ 32 = grind (arith, nat_tests) in let big : digit_value 32 < 10 = subst (λ d. digit_value d < 10) same h in absurd (omega (arith, big)))
+digit_is_no : (b : ℕ) → 10 ≤ digit_value b → (c : ℕ) → digit_value c < 10 → (c == b) ≡ false
+digit_is_no b high c h = elim (cases_Bool (c == b)) [
+  | inl is ↦ (let same : c ≡ b = grind (arith, nat_tests) in let low : digit_value b < 10 = subst (λ d. digit_value d < 10) same h in absurd (omega (arith, high, low)))
   | inr other ↦ other
 ]
 
-digits_no_space : (ds : List ℕ) → AllDigits 10 ds → list_any (λ b. b == 32) ds ≡ false
-digits_no_space [] h = refl
-digits_no_space (c ∷ cs) h = λ i. digit_no_space c h.0 i || digits_no_space cs h.1 i
+digits_have_no : (b : ℕ) → 10 ≤ digit_value b → (ds : List ℕ) → AllDigits 10 ds → list_any (λ c. c == b) ds ≡ false
+digits_have_no b high [] h = refl
+digits_have_no b high (c ∷ cs) h = λ i. digit_is_no b high c h.0 i || digits_have_no b high cs h.1 i
 
-number_no_space : (n : ℕ) → n < 2 ^ 64 → list_any (λ b. b == 32) (decimal n) ≡ false
-number_no_space n small = digits_no_space (decimal n) (decimal_is_IsNumeral n small).0.1
+number_has_no : (b : ℕ) → 10 ≤ digit_value b → (n : ℕ) → n < 2 ^ 64 → list_any (λ c. c == b) (decimal n) ≡ false
+number_has_no b high n small = digits_have_no b high (decimal n) (decimal_is_IsNumeral n small).0.1
 
 -- ---- what a plan is known by
 
@@ -163,7 +157,7 @@ module _ (name other : List ℕ) (size more : ℕ) (digits digits' rest rest' : 
       → parted name size digits rest ≡ parted other more digits' rest' → (name ≡ other) × (size ≡ more) × (digits ≡ digits')
   same_parts n o s m d d' e =
       let first = cut_unique 32 name (decimal size ++ 32 ∷ (digits ++ 10 ∷ rest)) other (decimal more ++ 32 ∷ (digits' ++ 10 ∷ rest')) n o e in
-      let second = cut_unique 32 (decimal size) (digits ++ 10 ∷ rest) (decimal more) (digits' ++ 10 ∷ rest') (number_no_space size s) (number_no_space more m) first.1 in
+      let second = cut_unique 32 (decimal size) (digits ++ 10 ∷ rest) (decimal more) (digits' ++ 10 ∷ rest') (number_has_no 32 (omega arith) size s) (number_has_no 32 (omega arith) more m) first.1 in
       let third = cut_unique 10 digits rest digits' rest' d d' second.1 in
       (first.0, decimal_injective size more s m second.0, third.0)
 
@@ -181,10 +175,22 @@ module _ (a b : PlanData) (is : IsMarkable a) (is' : IsMarkable b) where
       let whole = parts_joined (host_text (padded a.host)) (length (spelling a)) digits rest ∙ ap (λ (n : List ℕ). parted n (length (spelling a)) digits rest) name in
       let whole' = parts_joined (host_text (padded b.host)) (length (spelling b)) digits' rest' ∙ ap (λ (n : List ℕ). parted n (length (spelling b)) digits' rest') name' in
       let same = same_parts a.host b.host (length (spelling a)) (length (spelling b)) digits digits' rest rest'
-      (name_no_space a.host (host_bytes a.host is.host)) (name_no_space b.host (host_bytes b.host is'.host)) is.short is'.short
+      (name_has_no 32 refl a.host (host_bytes a.host is.host)) (name_has_no 32 refl b.host (host_bytes b.host is'.host)) is.short is'.short
       (hex_no_newline (sha256 (spelling a))) (hex_no_newline (sha256 (spelling b))) (sym whole ∙ e ∙ whole') in
       let digest = same_bytes (sha256 (spelling a)) (sha256 (spelling b)) (digest_is_bytes (spelling a)) (digest_is_bytes (spelling b)) same.2 in
       λ i. record { host = padded (same.0 i); length = same.1 i; digest = digest i }
+
+-- no newline stands in what a plan is known by, but at its end
+module _ (plan : PlanData) (is : IsMarkable plan) where
+  pub host_in_line : list_any (λ b. b == 10) (host_text (mark_of plan).host) ≡ false
+  host_in_line =
+      ap (list_any (λ b. b == 10)) (name_back plan.host (64 - length plan.host) (host_bytes plan.host is.host)) ∙ name_has_no 10 refl plan.host (host_bytes plan.host is.host)
+
+  pub length_in_line : list_any (λ b. b == 10) (decimal (mark_of plan).length) ≡ false
+  length_in_line = number_has_no 10 (omega arith) (length (spelling plan)) is.short
+
+  pub digest_in_line : list_any (λ b. b == 10) (hex_text (mark_of plan).digest) ≡ false
+  digest_in_line = hex_no_newline (mark_of plan).digest
 
 -- ---- the mark
 

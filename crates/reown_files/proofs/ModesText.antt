@@ -41,16 +41,16 @@ line-back path mode bytes small =
 
 -- ---- no line has a newline in it
 
-abbrev is_other : ℕ → Bool
+abbrev pub is_other : ℕ → Bool
 is_other b = not (b == 10)
 
-abbrev has_none : List ℕ → Bool
+abbrev pub has_none : List ℕ → Bool
 has_none bytes = list_all is_other bytes
 
 other : (b : ℕ) → 11 ≤ b → is_other b ≡ true
 other b h = grind (arith, nat_tests)
 
-none-joined : (xs ys : List ℕ) → has_none xs ≡ true → has_none ys ≡ true → has_none (xs ++ ys) ≡ true
+pub none-joined : (xs ys : List ℕ) → has_none xs ≡ true → has_none ys ≡ true → has_none (xs ++ ys) ≡ true
 none-joined xs ys x y = list_all-append is_other xs ys ∙ and_true (has_none xs) (has_none ys) x y
 
 four-other : (a b c d : ℕ) → 11 ≤ a → 11 ≤ b → 11 ≤ c → 11 ≤ d → has_none (a ∷ b ∷ c ∷ d ∷ []) ≡ true
@@ -69,7 +69,7 @@ escaped-none : (bytes : List ℕ) → has_none (escaped bytes) ≡ true
 escaped-none [] = refl
 escaped-none (b ∷ bytes) = none-joined (escape b) (escaped bytes) (escape-none b (is_plain b) refl) (escaped-none bytes)
 
-said-none : (path : List ℕ) (mode : ℕ) → has_none (line_said path mode) ≡ true
+pub said-none : (path : List ℕ) (mode : ℕ) → has_none (line_said path mode) ≡ true
 said-none path mode =
     none-joined (mode_text mode) (32 ∷ escaped path)
     (four-other (48 + mode / 512 % 8) (48 + mode / 64 % 8) (48 + mode / 8 % 8) (48 + mode % 8) (omega arith) (omega arith) (omega arith) (omega arith)) (escaped-none path)

@@ -1,21 +1,23 @@
 -- The file of modes as a whole, written and read.
-use Rattle.std.proofs.Common.{◌≡◌, ◌-◌, ◌&&◌, ℕ, Bool, true, false, cond, List, [], ◌∷◌, ◌++◌, Option, Some, None}
+use Rattle.std.proofs.Common.{◌≡◌, ◌≢◌, ◌<◌, ◌+◌, ◌-◌, ◌/◌, ◌%◌, ◌==◌, ◌&&◌, inl, inr, ℕ, Bool, true, false, cond, not, List, [], ◌∷◌, ◌++◌, Option, Some, None, Ok}
 use Rattle.std.proofs.Common.{refl, sym, ◌∙◌, ap, append_assoc, append-nil, arith, length-append, length, drop, take, decimal}
 use Rattle.std.specs.Prelude.{nat_eq}
-use Rattle.std.specs.List.{ends_with}
+use Rattle.std.specs.List.{starts_with, ends_with, list_any}
 use Rattle.std.specs.Str.{bytes_eq}
 use Rattle.std.specs.Cmp.Lexicographic.{bytes_decides}
 use Rattle.std.proofs.Math.Seq.{take-append_seam, drop-append_seam}
-use Rattle.std.proofs.lemmas.List.{take-append-drop}
+use Rattle.std.proofs.lemmas.Bool.{cases_Bool, true≢false, or_parts, and_parts}
+use Rattle.std.proofs.lemmas.List.{take-append-drop, length-drop}
 use Rattle.reown_plan.specs.declared.mark.PlanMark.{PlanMark}
 use Rattle.reown_plan.specs.Mark.{mark_of, mark_eq}
 use Rattle.reown_plan.specs.PlanData.{PlanData}
 use Rattle.reown_plan.proofs.Marks.{marks_compare}
-use Rattle.reown_files.specs.Laws.{IsMarkable}
+use Rattle.reown_files.specs.Laws.{IsMarkable, ModesAreJudged, CutModesAreRefused}
 use Rattle.reown_files.specs.MarkText.{Entry, line_said, lines_text, modes_head, modes_end, head_text, modes_text, plan_text}
-use Rattle.reown_files.specs.MarkText.{has_end, before_end, is_whole, behind, lines_in, has_ended, mark_text, host_text, hex_text}
-use Rattle.reown_files.proofs.Laws.{and_true}
-use Rattle.reown_files.proofs.MarksText.{same_plan, same_test}
+use Rattle.reown_files.specs.MarkText.{has_end, before_end, is_whole, behind, lines_in, has_ended, lines_judged, modes_judged, mark_text, host_text, hex_text}
+use Rattle.reown_files.proofs.Laws.{and_true, differ}
+use Rattle.reown_files.proofs.MarksText.{same_plan, same_test, host_in_line, length_in_line, digest_in_line}
+use Rattle.reown_files.proofs.ModesText.{is_other, has_none, none-joined, said-none}
 
 front : (xs ys : List ℕ) (n : ℕ) → n ≡ length xs → take n (xs ++ ys) ≡ xs
 front xs ys n e = ap (λ k. take k (xs ++ ys)) e ∙ take-append_seam xs ys
@@ -147,3 +149,115 @@ ended_by_one_mark plan other entries is is' =
     ∙ same_test (goes_on_as p lines o) (mark_eq p o)
     (λ e. compared.1 (same_plan plan other is is' (lines ++ modes_end) (drop (length (plan_text o)) (rest p lines)) (parted_so p lines o e)))
     (λ e. own_goes_on p lines o (compared.0 e))
+
+-- ---- what a run goes by
+
+same_marks : (a : PlanMark) → mark_eq a a ≡ true
+same_marks a = (marks_compare a a).1 refl
+
+other_marks : (a b : PlanMark) → a ≢ b → mark_eq a b ≡ false
+other_marks a b apart = elim (cases_Bool (mark_eq a b)) [ inl is ↦ absurd (apart ((marks_compare a b).0 is)) | inr is ↦ is ]
+
+own_judged : (plan : PlanData) (entries : List Entry) (mark : List ℕ) → IsMarkable plan
+    → modes_judged (head_text (mark_of plan)) mark (modes_text (mark_of plan) (lines_text entries)) ≡ Ok (Some (lines_text entries))
+own_judged plan entries mark is =
+    let p = mark_of plan in
+    let lines = lines_text entries in
+    ap (lines_judged (has_ended mark (modes_text p lines))) (modes_of_one_plan plan plan entries is is ∙ ap (λ b. Some (cond b (Some lines) None)) (same_marks p))
+
+other_judged : (plan other : PlanData) (entries : List Entry) (mark : List ℕ) (ended : Bool) → IsMarkable plan → IsMarkable other → mark_of other ≢ mark_of plan
+    → has_ended mark (modes_text (mark_of other) (lines_text entries)) ≡ ended
+    → modes_judged (head_text (mark_of plan)) mark (modes_text (mark_of other) (lines_text entries)) ≡ lines_judged ended (Some None)
+other_judged plan other entries mark ended is is' apart e =
+    let o = mark_of other in
+    let lines = lines_text entries in
+    ap (lines_judged (has_ended mark (modes_text o lines))) (modes_of_one_plan other plan entries is' is ∙ ap (λ b. Some (cond b (Some lines) None)) (other_marks o (mark_of plan) apart))
+    ∙ ap (λ b. lines_judged b (Some None)) e
+
+pub judged : ModesAreJudged
+judged =
+    record {
+      own = own_judged;
+      ended = λ plan other entries is is' apart.
+          other_judged plan other entries (mark_text (mark_of other)) true is is' apart (ended_by_one_mark other other entries is' is' ∙ same_marks (mark_of other));
+      begun = λ plan other third entries is is' is'' apart apart'.
+          other_judged plan other entries (mark_text (mark_of third)) false is is' apart (ended_by_one_mark other third entries is' is'' ∙ other_marks (mark_of other) (mark_of third) apart');
+      no_mark = λ plan other entries is is' apart. other_judged plan other entries [] false is is' apart refl;
+    }
+
+-- ---- modes that were cut
+
+none_of : (bytes : List ℕ) → list_any (λ b. b == 10) bytes ≡ false → has_none bytes ≡ true
+none_of [] h = refl
+none_of (b ∷ bytes) h = let parts = or_parts (b == 10) (list_any (λ b. b == 10) bytes) h in and_true (is_other b) (has_none bytes) (ap not parts.0) (none_of bytes parts.1)
+
+next_line : (e : Entry) (entries : List Entry) → lines_text (e ∷ entries) ++ modes_end ≡ line_said e.0 e.1 ++ 10 ∷ (lines_text entries ++ modes_end)
+next_line e entries = simp append_assoc
+
+in_end : (q r : List ℕ) → 101 ∷ 110 ∷ 100 ∷ 10 ∷ [] ≡ q ++ 10 ∷ 101 ∷ r → ⊥
+in_end [] r e = differ 101 10 refl cc
+in_end (a ∷ []) r e = differ 110 10 refl cc
+in_end (a ∷ b ∷ []) r e = differ 100 10 refl cc
+in_end (a ∷ b ∷ c ∷ []) r e = let h : [] ≡ 101 ∷ r = cc in absurd cc
+in_end (a ∷ b ∷ c ∷ d ∷ q) r e = let h : [] ≡ q ++ 10 ∷ 101 ∷ r = cc in let n = ap length h in omega (arith, n, length-append q (10 ∷ 101 ∷ r))
+
+-- of the lines of files none begins as the last one does
+no_end : (e : Entry) (entries : List Entry) (r : List ℕ) → lines_text (e ∷ entries) ++ modes_end ≡ 101 ∷ r → ⊥
+no_end e entries r h = let first : 48 + e.1 / 512 % 8 ≡ 101 = cc in omega (arith, first)
+
+last_line : (q first : List ℕ) (entries : List Entry) (r : List ℕ) → has_none first ≡ true → first ++ 10 ∷ (lines_text entries ++ modes_end) ≡ q ++ 10 ∷ 101 ∷ r
+    → r ≡ 110 ∷ 100 ∷ 10 ∷ []
+last_line [] [] [] r none e = let h : 10 ∷ 101 ∷ 110 ∷ 100 ∷ 10 ∷ [] ≡ 10 ∷ 101 ∷ r = e in cc
+last_line [] [] (x ∷ entries) r none e = absurd (no_end x entries r cc)
+last_line [] (z ∷ first) entries r none e =
+    let is : z ≡ 10 = cc in absurd (true≢false (sym (ap is_other (sym is) ∙ (and_parts (is_other z) (has_none first) none).0)))
+last_line (y ∷ q) [] [] r none e = let h : 10 ∷ 101 ∷ 110 ∷ 100 ∷ 10 ∷ [] ≡ y ∷ (q ++ 10 ∷ 101 ∷ r) = e in absurd (in_end q r cc)
+last_line (y ∷ q) [] (x ∷ entries) r none e =
+    let h : lines_text (x ∷ entries) ++ modes_end ≡ q ++ 10 ∷ 101 ∷ r = cc in
+    last_line q (line_said x.0 x.1) entries r (said-none x.0 x.1) (sym (next_line x entries) ∙ h)
+last_line (y ∷ q) (z ∷ first) entries r none e =
+    last_line q first entries r (and_parts (is_other z) (has_none first) none).1 cc
+
+one_row : (xs ys zs : List ℕ) → ((xs ++ 10 ∷ []) ++ ys) ++ zs ≡ xs ++ 10 ∷ (ys ++ zs)
+one_row xs ys zs = simp append_assoc
+
+module _ (plan : PlanData) (entries : List Entry) (is : IsMarkable plan) where
+  abbrev p : PlanMark
+  p = mark_of plan
+
+  abbrev text : List ℕ
+  text = modes_text p (lines_text entries)
+
+  said : has_none (first_line p entries) ≡ true
+  said =
+      let digits = none_of (hex_text p.digest) (digest_in_line plan is) in
+      let size = none-joined (decimal p.length) (32 ∷ hex_text p.digest) (none_of (decimal p.length) (length_in_line plan is)) digits in
+      none-joined (host_text p.host) (32 ∷ (decimal p.length ++ 32 ∷ hex_text p.digest)) (none_of (host_text p.host) (host_in_line plan is)) size
+
+  parted : text ≡ first_line p entries ++ 10 ∷ (lines_text entries ++ modes_end)
+  parted = ap (λ (xs : List ℕ). (xs ++ lines_text entries) ++ modes_end) (head_ends p entries) ∙ one_row (first_line p entries) (lines_text entries) modes_end
+
+  cut_is_whole : (n : ℕ) → n < length text → is_whole (take n text) ≡ true → ⊥
+  cut_is_whole n short so =
+      let cut = take n text in
+      let front = before_end cut in
+      let line = take (length front - 1) front in
+      let parts = and_parts (has_end cut) (ends_line front) (and_parts (starts_with nat_eq cut modes_head) (has_end cut && ends_line front) so).1 in
+      let ends = (bytes_decides (drop (length cut - 4) cut) modes_end).0 parts.0 in
+      let line_ends = (bytes_decides (10 ∷ []) (drop (length front - 1) front)).0 parts.1 in
+      let rest = drop n text in
+      let front_is : front ≡ line ++ 10 ∷ [] = sym (take-append-drop (length front - 1) front) ∙ ap (λ (xs : List ℕ). line ++ xs) (sym line_ends) in
+      let cut_is : cut ≡ (line ++ 10 ∷ []) ++ modes_end =
+      sym (take-append-drop (length cut - 4) cut) ∙ ap (λ (xs : List ℕ). front ++ xs) ends ∙ ap (λ (xs : List ℕ). xs ++ modes_end) front_is in
+      let all = sym parted ∙ sym (take-append-drop n text) ∙ ap (λ (xs : List ℕ). xs ++ rest) cut_is ∙ one_row line modes_end rest in
+      let none = last_line line (first_line p entries) entries (110 ∷ 100 ∷ 10 ∷ rest) said all in
+      let long : length (110 ∷ 100 ∷ 10 ∷ rest) ≡ 3 = ap length none in
+      omega (arith, long, short, length-drop n text)
+
+pub cut_refused : CutModesAreRefused
+cut_refused plan other entries mark n is short =
+    let cut = take n (modes_text (mark_of other) (lines_text entries)) in
+    elim (cases_Bool (is_whole cut)) [
+      | inl whole ↦ absurd (cut_is_whole other entries is n short whole)
+      | inr apart ↦ ap (λ (b : Bool). lines_judged (has_ended mark cut) (cond b (Some (behind (head_text (mark_of plan)) (before_end cut))) None)) apart
+    ]

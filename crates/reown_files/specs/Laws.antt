@@ -1,7 +1,7 @@
 -- Laws over the definitions of this crate.
 -- Source: this project's own formats.
-use Rattle.std.specs.Prelude.{◌≡◌, ◌⊎◌, ◌↔◌, ◌<◌, ◌^◌, ℕ, true, false, List, All, Option}
-use Rattle.std.specs.Prelude.{None, Some, length}
+use Rattle.std.specs.Prelude.{◌≡◌, ◌≢◌, ◌⊎◌, ◌↔◌, ◌<◌, ◌^◌, ℕ, Bool, true, false, List, All}
+use Rattle.std.specs.Prelude.{[], Option, None, Some, Ok, Err, length, take, slice_index_or}
 use Rattle.std.specs.Prelude.{if◌then◌else◌}
 use Rattle.idtext.specs.Pieces.{lines}
 use Rattle.reown_plan.specs.Mark.{mark_of, mark_eq}
@@ -11,10 +11,13 @@ use Rattle.reown_plan.specs.declared.plan.Owner.{Owner}
 use Rattle.reown_plan.specs.Spelling.{spelling, IsHostName}
 use Rattle.reown_files.specs.MarkText.{mark_text, mark_read, head_text, modes_text}
 use Rattle.reown_files.specs.MarkText.{lines_in, has_ended, Entry, lines_text, lines_read}
-use Rattle.reown_files.specs.Calls.{Called}
+use Rattle.reown_files.specs.MarkText.{modes_judged}
+use Rattle.reown_files.specs.Calls.{Called, MetMark, PutMark, ReadModes}
 use Rattle.reown_files.specs.Lawful.{is_lawful, is_unchanged, is_begun}
-use Rattle.reown_files.specs.Opening.{IsUnfit}
-use Rattle.reown_files.specs.Stages.{MayHave}
+use Rattle.reown_files.specs.Opening.{IsUnfit, MetFit}
+use Rattle.reown_files.specs.Replay.{Held, replay}
+use Rattle.reown_files.specs.Stages.{MayHave, stage_in}
+use Rattle.reown_files.specs.declared.answers.Trouble.TheVariants.{NotModes, OtherPlan}
 use Rattle.reown_files.specs.declared.answers.OpenFault.{OpenFault}
 use Rattle.reown_files.specs.declared.stage.Stage.{Stage}
 use Rattle.reown_files.specs.declared.stage.Stage.TheVariants.{NotBegun, Begun, Done}
@@ -52,7 +55,69 @@ ModesAreReadBack =
     (entries : List Entry) → All (λ e. All (λ b. b < 256) e.0 × (e.1 < 4096)) entries
     → lines_read (lines (lines_text entries)) ≡ Some entries
 
+-- what a run goes by of a file of modes, beside whatever mark: those of its own plan; none of
+-- another plan's where the mark is that plan's, which has ended then; and another plan's with a
+-- third plan's mark, or with none, are refused
+pub record ModesAreJudged : Type 0 where
+  pub own : (plan : PlanData) (entries : List Entry) (mark : List ℕ) → IsMarkable plan
+      → modes_judged
+      (head_text (mark_of plan)) mark (modes_text (mark_of plan) (lines_text entries))
+      ≡ Ok (Some (lines_text entries))
+  pub ended : (plan other : PlanData) (entries : List Entry)
+      → IsMarkable plan → IsMarkable other → mark_of other ≢ mark_of plan
+      → modes_judged
+      (head_text (mark_of plan)) (mark_text (mark_of other))
+      (modes_text (mark_of other) (lines_text entries))
+      ≡ Ok None
+  pub begun : (plan other third : PlanData) (entries : List Entry)
+      → IsMarkable plan → IsMarkable other → IsMarkable third
+      → mark_of other ≢ mark_of plan → mark_of other ≢ mark_of third
+      → modes_judged
+      (head_text (mark_of plan)) (mark_text (mark_of third))
+      (modes_text (mark_of other) (lines_text entries))
+      ≡ Err OtherPlan
+  pub no_mark : (plan other : PlanData) (entries : List Entry)
+      → IsMarkable plan → IsMarkable other → mark_of other ≢ mark_of plan
+      → modes_judged
+      (head_text (mark_of plan)) [] (modes_text (mark_of other) (lines_text entries))
+      ≡ Err OtherPlan
+
+-- the modes of whatever plan are refused where any bytes at their end are missing
+abbrev pub CutModesAreRefused : Type 0
+CutModesAreRefused =
+    (plan other : PlanData) (entries : List Entry) (mark : List ℕ) (n : ℕ) → IsMarkable other
+    → n < length (modes_text (mark_of other) (lines_text entries))
+    → modes_judged
+    (head_text (mark_of plan)) mark (take n (modes_text (mark_of other) (lines_text entries)))
+    ≡ Err NotModes
+
 -- ---- how far a plan is
+
+-- a plan is done exactly where its mark is there. Where that is not, it is begun exactly where
+-- modes are there that a run of it wrote down, or somebody knows of a run; and else it is not
+pub record StagesAreTold : Type 0 where
+  pub done : (known : Bool) (plan : PlanMark) (held : Held)
+      → (stage_in known plan held ≡ Done) ↔ (held.mark ≡ Some plan)
+  pub begun : (known : Bool) (plan : PlanMark) (held : Held) → held.mark ≢ Some plan
+      → (stage_in known plan held ≡ Begun) ↔ ((held.begun ≡ Some plan) ⊎ (known ≡ true))
+  pub not_begun : (known : Bool) (plan : PlanMark) (held : Held) → held.mark ≢ Some plan
+      → (stage_in known plan held ≡ NotBegun) ↔ ((held.begun ≢ Some plan) × (known ≡ false))
+
+-- a run of this plan is told by its mark, which was met or put, or by modes that were read
+abbrev pub TellsOfRun : PlanMark → Called → Type 0
+TellsOfRun plan (MetMark other set) = (other ≡ plan) × (set ≡ true)
+TellsOfRun plan (PutMark other done) = (other ≡ plan) × (done ≡ true)
+TellsOfRun plan (ReadModes other set begun) = (other ≡ plan) × (begun ≡ Some true)
+TellsOfRun plan _ = ⊥
+
+-- where no call tells of a run, and nobody knows of one, only files at their old owners are fit
+abbrev pub FirstRunsBeginAtOldOwners : Type 0
+FirstRunsBeginAtOldOwners =
+    (plan : PlanMark) (records : List PlanRecord) (calls : List Called)
+    → All (λ call. ¬ TellsOfRun plan call) calls
+    → (fit : MetFit (stage_in false plan (replay calls)) records calls)
+    → (k : ℕ) (d : PlanRecord) (o : Owner) → k < length records
+    → slice_index_or fit.owners k o ≡ (slice_index_or records k d).before
 
 -- the record of the plan that takes this one back
 abbrev pub taken_back : PlanRecord → PlanRecord

@@ -9,6 +9,7 @@ pub mod Stages
 pub mod Opening
 pub mod MarkText
 pub mod Laws
+pub mod FileLaws
 pub mod Examples
 pub mod Runs
 pub mod CountExample
@@ -20,3 +21,4 @@ pub mod Asked
 pub mod AskedCode
 pub mod Trees
 pub mod RootData
+pub mod InOrder

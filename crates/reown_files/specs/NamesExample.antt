@@ -1,6 +1,7 @@
 -- What looks tell of a file, and what follows for the names of one that has several, by example.
--- Sources: inode(7) for the bits of a mode: 2541, 1517 and 493 are 4755, 2755 and 755 to the base
--- 8; stat(2): a file is told by its device and its number there.
+-- Sources: inode(7) for the bits of a mode: 2541, 1517, 3565 and 493 are 4755, 2755, 6755 and 755
+-- to the base 8, 1005 and 448 are 1755 and 700; stat(2): a file is told by its device and its
+-- number there; chown(2) for the bits that a change of the owner clears.
 use Rattle.std.specs.Prelude.{◌≡◌, ℕ, Bool, true, false, List, [], ◌∷◌, None, Some, codes}
 use Rattle.reown_plan.specs.declared.plan.Owner.{Owner}
 use Rattle.reown_files.specs.declared.answers.Seen.{Seen}
@@ -8,9 +9,10 @@ use Rattle.reown_files.specs.declared.walk.Found.{Found}
 use Rattle.reown_files.specs.declared.walk.Kind.{Kind}
 use Rattle.reown_files.specs.declared.walk.Kind.TheVariants.{Regular, Directory, Other}
 use Rattle.reown_files.specs.Asked.{Asked, Told, Counted, Awaited, Synced, met, line_of}
-use Rattle.reown_files.specs.Asked.{names_of, is_counted, waits}
+use Rattle.reown_files.specs.Asked.{names_of, is_counted, waits, HasAllNames, HasOneOwner}
 use Rattle.reown_files.specs.Looks.{seen_of}
-use Rattle.reown_files.specs.Runs.{old, new}
+use Rattle.reown_files.specs.OneFile.{AreOneFile, HasLost}
+use Rattle.reown_files.specs.Runs.{old, new, foreign}
 
 -- a file at this owner, of this kind and mode, with so many names
 abbrev pub file_at : Owner → Kind → ℕ → ℕ → Found
@@ -73,3 +75,40 @@ pub record ExampleOfNames : Type 0 where
   pub single : waits (file_at old Regular 493 1) both_met ≡ false
   pub first_path : is_counted (codes "a") both_met ≡ true
   pub no_path : is_counted (codes "c") both_met ≡ false
+
+-- with one of two names met some are missing, and with three of two; both have one new user and one
+-- new group
+pub record ExampleOfAllNames : Type 0 where
+  pub both : HasAllNames twice both_met
+  pub one : ¬ HasAllNames twice (Counted (codes "a") twice new ∷ [])
+  pub three : ¬ HasAllNames twice (Counted (codes "c") twice new ∷ both_met)
+  pub single : HasAllNames (file_at old Regular 493 1) []
+  pub same : HasOneOwner new twice both_met
+  pub other_group : ¬ HasOneOwner foreign twice both_met
+  pub other_user : ¬ HasOneOwner (record new { uid = 100 }) twice both_met
+
+-- a program that is run as its owner
+abbrev pub program : Found
+program = file_at old Regular 2541 1
+
+-- a file stays one with another owner, mode and number of names; on another device, with another
+-- number there or of another kind it is another
+pub record ExampleOfOneFile : Type 0 where
+  pub changed : AreOneFile (file_at new Regular 493 2) program
+  pub device : ¬ AreOneFile (record program { device = 4 }) program
+  pub inode : ¬ AreOneFile (record program { inode = 6 }) program
+  pub kind : ¬ AreOneFile (record program { kind = Other }) program
+
+-- a regular file of mode 755 has lost either set-ID bit, or both; not where it has all bits, lacks
+-- another bit than these or has one more than the mode
+pub record ExampleOfLostModes : Type 0 where
+  pub set_user : HasLost (file_at new Regular 493 1) 2541
+  pub set_group : HasLost (file_at new Regular 493 1) 1517
+  pub both : HasLost (file_at new Regular 493 1) 3565
+  pub one_left : HasLost (file_at new Regular 2541 1) 3565
+  pub none : ¬ HasLost (file_at new Regular 2541 1) 2541
+  pub other_bits : ¬ HasLost (file_at new Regular 448 1) 2541
+  pub sticky_bit : ¬ HasLost (file_at new Regular 493 1) 1005
+  pub more : ¬ HasLost (file_at new Regular 1517 1) 2541
+  pub directory : (mode : ℕ) → ¬ HasLost (file_at new Directory 493 1) mode
+  pub link : (mode : ℕ) → ¬ HasLost (file_at new Other 493 1) mode

@@ -3,6 +3,8 @@
 ghost use Rattle.std.specs.Prelude.{◌≡◌, [], ◌∷◌, true, false};
 ghost use Rattle.reown_files.specs.CountExample.{ExampleOfCounts};
 ghost use Rattle.reown_files.specs.NamesExample.{ExampleOfLooks, ExampleOfMeeting, ExampleOfNames};
+ghost use Rattle.reown_files.specs.NamesExample.{ExampleOfAllNames, ExampleOfOneFile};
+ghost use Rattle.reown_files.specs.NamesExample.{ExampleOfLostModes};
 ghost use Rattle.reown_files.specs.Runs.{is_run, note, program, both, run_of_note, run_of_program};
 ghost use Rattle.reown_files.specs.Runs.{unread, unmet, unchecked, unasked, unsettled, unwritten};
 ghost use Rattle.reown_files.specs.Runs.{met_twice, met_for_the_old_owner};
@@ -49,10 +51,14 @@ pub fn counts_by_example()
     ensures { ExampleOfCounts }
 {}
 
-/// What looks tell of files of each kind, what is asked when a file is met, and how the names of
-/// one that has several are counted, by example.
+/// What looks tell of files of each kind, what is asked when a file is met, how the names of one
+/// that has several are counted and when all were, what makes two files of one, and which modes a
+/// file has lost, by example.
 pub fn looks_by_example()
     ensures looks { ExampleOfLooks }
     ensures meeting { ExampleOfMeeting }
     ensures names { ExampleOfNames }
+    ensures all_names { ExampleOfAllNames }
+    ensures one_file { ExampleOfOneFile }
+    ensures lost { ExampleOfLostModes }
 {}

@@ -9,8 +9,10 @@ mod by_example;
 mod comparing;
 mod counting;
 mod disk;
+mod file_laws;
 mod files;
 mod giving;
+mod lawful;
 mod log;
 mod looking;
 mod mark_file;
@@ -31,6 +33,10 @@ pub use applying::apply;
 pub use by_example::{counts_by_example, lawful_calls_by_example, looks_by_example};
 pub use counting::{Count, OwnerCounts, Unfit, count_owners};
 pub use disk::Disk;
+pub use file_laws::{files_are_looked_at, names_are_all_counted, unfit_files_are_told};
+pub use lawful::{
+    changes_are_foreseen, marks_come_last, modes_are_set_at_once, notes_are_of_one_plan,
+};
 pub use log::{Call, Log};
 pub use modes_file::MODES_BEHIND;
 pub use read_back::{marks_and_modes_by_example, marks_are_read_back, modes_are_read_back};

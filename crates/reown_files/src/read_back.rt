@@ -1,7 +1,7 @@
 //! Laws over what this crate writes and reads. Each is the contract of a function that does
 //! nothing.
 ghost use Rattle.reown_files.specs.Laws.{MarksAreReadBack, ModesAreReadBack, ModesAreOfOnePlan};
-ghost use Rattle.reown_files.specs.Laws.{MarksEndOnePlan};
+ghost use Rattle.reown_files.specs.Laws.{MarksEndOnePlan, ModesAreJudged, CutModesAreRefused};
 ghost use Rattle.reown_files.specs.Examples.{ExampleOfMark, ExampleOfModes};
 
 /// The mark that is written for a plan is read as the mark of that plan, and as that of no plan
@@ -12,11 +12,14 @@ pub fn marks_are_read_back()
 
 /// The modes that a run writes down are read back by the next one of the same plan, and by none of
 /// another, each with its file and in their order; and by the mark of that plan, and of no other,
-/// they are known to be of a plan that has ended.
+/// they are known to be of a plan that has ended. Those of another plan that has not ended are
+/// refused, and so are those of any plan that were cut.
 pub fn modes_are_read_back()
     ensures plan { ModesAreOfOnePlan }
     ensures ended { MarksEndOnePlan }
     ensures entries { ModesAreReadBack }
+    ensures judged { ModesAreJudged }
+    ensures cut { CutModesAreRefused }
 {}
 
 /// The two files by example, byte by byte: a mark with its digest as `sha256sum` prints it, and

@@ -1,4 +1,5 @@
 use Rattle.std.proofs.Common.{refl}
+use Rattle.reown_files.proofs.LooksExample.{all_names, one_file, lost_modes}
 use Rattle.reown_files.proofs.by_example.looks_by_example.Goals as goal
 
 pub returns-clause-looks : goal.returns-clause-looks
@@ -37,3 +38,12 @@ returns-clause-names c =
       first_path = refl;
       no_path = refl;
     }
+
+pub returns-clause-all_names : goal.returns-clause-all_names
+returns-clause-all_names c = all_names
+
+pub returns-clause-one_file : goal.returns-clause-one_file
+returns-clause-one_file c = one_file
+
+pub returns-clause-lost : goal.returns-clause-lost
+returns-clause-lost c = lost_modes

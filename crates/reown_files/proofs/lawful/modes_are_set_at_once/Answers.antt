@@ -1,0 +1,5 @@
+use Rattle.reown_files.proofs.InOrder.{modes_are_set_at_once}
+use Rattle.reown_files.proofs.lawful.modes_are_set_at_once.Goals as goal
+
+pub returns : goal.returns
+returns c = modes_are_set_at_once
