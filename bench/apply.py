@@ -320,10 +320,15 @@ class Bench:
                 path.rmdir() if kind == "folder" else path.unlink()
 
     def refused(self, what, flags, status, told):
+        """What a run refuses, with nothing changed and nothing told on standard output; and so does --check, behind its counts."""
         before = seen(self.root, self.owners)[0]
         came = subprocess.run(self.words(*flags), capture_output=True, text=True, stdin=subprocess.DEVNULL, timeout=60)
         good = came.returncode == status and told in came.stderr and came.stdout == "" and seen(self.root, self.owners)[0] == before
         say(f"{what}: status {came.returncode}, {came.stderr.strip()}", good)
+        if "--check" not in flags:
+            again = subprocess.run(self.words("--check", *flags), capture_output=True, text=True, stdin=subprocess.DEVNULL, timeout=60)
+            good = (again.returncode, again.stderr) == (came.returncode, came.stderr) and seen(self.root, self.owners)[0] == before
+            say(f"  --check: status {again.returncode}, {again.stderr.strip()}", good)
 
     def no_text(self):
         """Plans with a name that is not UTF-8, as the last name of a path and on the way: they are refused before anything is
@@ -384,9 +389,13 @@ class Bench:
         came = self.ran("--check")
         say(f"--check: status {came.returncode}, {came.stdout!r}", came.returncode == 0 and f"before {len(self.owners)}\n" in came.stdout)
         with subprocess.Popen(["sleep", "60"], extra_groups=[ONE[1]]) as other:
-            came = subprocess.run([self.program, "apply", "--check", str(self.plan), str(self.root)], capture_output=True, text=True)
+            words = [word for word in self.words("--check") if word != "-q"]
+            came = subprocess.run(words, capture_output=True, text=True)
             other.kill()
         say(f"a process of another group: {came.stderr.splitlines()[:1]}", f"process {other.pid} is the first of 1 that run as users or groups whose numbers change\n" in came.stderr)
+        hidden = 'mount -t proc -o hidepid=1 proc /proc && exec setpriv --reuid 41009 --regid 41009 --clear-groups "$@"'
+        came = subprocess.run(["unshare", "--mount", "sh", "-c", hidden, "sh", *words], capture_output=True, text=True)
+        say(f"processes that may not be looked at: {came.stderr.splitlines()[:1]}", came.stderr.startswith("unify: warning: processes could not all be looked at; "))
 
 
 def no_modes(program, room):

@@ -182,7 +182,7 @@ def immutable(stops):
         return say("  immutable files are not to be had here")
     try:
         came = stops.run()
-        good = came.returncode == 3 and "Operation not permitted; the same command goes on from there" in came.stderr
+        good = came.returncode == 3 and "Operation not permitted; mend that, and the same command goes on from there" in came.stderr
         say(f"  an immutable file: status {came.returncode}, {came.stderr.strip()}", good)
         stops.look("an immutable file")
     finally:

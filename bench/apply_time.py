@@ -83,7 +83,7 @@ def run(folder, count):
     above = [f"../{file}" for file in files]
     timed("verify, the tree", [UNIFY, "verify", "--was", *above[:2], "--now", *above[2:], "../before", "."], root)
     timed("apply, once more", [*apply, "plan", "tree"], folder)
-    timed("apply --check", [UNIFY, "apply", "--check", "plan", "tree"], folder)
+    timed("apply --check", [*apply, "--check", "plan", "tree"], folder)
     timed("apply --reverse", [*apply, "--reverse", "plan", "tree"], folder)
 
 

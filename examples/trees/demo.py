@@ -105,7 +105,7 @@ class Demo:
         """Carries a host's plan out, and has the names of all files looked at, here and by the program."""
         tree, plan = f"{host}/tree", f"out/plan.{host}"
         before = names_of(self.folder / tree, self.folder / host / "passwd", self.folder / host / "group")
-        self.unify("apply", "--check", plan, tree)
+        self.unify("apply", "--check", "--host", host, plan, tree)
         self.unify("apply", "-q", "--host", host, plan, tree)
         own = [f"{host}/passwd", f"{host}/group"]
         new = [f"out/passwd.{host}", f"out/group.{host}"]

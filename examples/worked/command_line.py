@@ -2,6 +2,7 @@
 
 The words name files of a room, a folder that is made for them: the hosts a and b of examples/stored-count and a map of theirs,
 and the texts and hosts below."""
+import hashlib
 import os
 import pathlib
 import re
@@ -16,6 +17,25 @@ CERTIFICATE = "unify certificate 2\nuser alice 1001 3\nuser bob 1000 0\nzuser 10
 # The owner of the files of the room, and one that no file has.
 OWN, FAR = f"{os.geteuid()} {os.getegid()}", "4000000001 4000000001"
 OWN_PLAN = f"unify plan 1 b\n{OWN} {FAR} 3 map\n{FAR} {OWN} 4 pins\nend\n"
+# A plan whose one file lies in a folder, so that a look at it leaves the folder that the command began in.
+DEEP_PLAN = f"unify plan 1 b\n{OWN} {FAR} 17 linked/to nothing\nend\n"
+
+
+def known_by(plan):
+    """What the mark of a plan of host b, and the text of its modes, know it by."""
+    return f"b {len(plan)} {hashlib.sha256(plan.encode()).hexdigest()}\n"
+
+
+# Plans with the names that they have in the room, and what stands beside them there; and what is told of that.
+BESIDE = {
+    "odd-mark": (DEEP_PLAN, {".done": "no mark\n"}),
+    "other-mark": (DEEP_PLAN, {".done": "unify applied 1 " + known_by(OWN_PLAN)}),
+    "done-early": (DEEP_PLAN, {".done": "unify applied 1 " + known_by(DEEP_PLAN)}),
+    "cut-modes": (DEEP_PLAN, {".done.modes": "unify modes 1 " + known_by(DEEP_PLAN)}),
+    "other-modes": (DEEP_PLAN, {".done.modes": "unify modes 1 " + known_by(OWN_PLAN) + "end\n"}),
+    "own-modes": (OWN_PLAN, {".done.modes": "unify modes 1 " + known_by(OWN_PLAN) + "end\n"}),
+}
+OTHER_PLAN = "another plan was started and is not finished; finish that one first (the reverse of a plan is another plan)\n"
 TEXTS = {
     "good": CERTIFICATE.format(7),
     "wrong": CERTIFICATE.format(8),
@@ -23,6 +43,9 @@ TEXTS = {
     "own-plan": OWN_PLAN,
     "moved.new": OWN_PLAN,
     "moved.modes.new": OWN_PLAN,
+    "deep-plan": DEEP_PLAN,
+    "lone-plan": f"unify plan 1 b\n{OWN} {FAR} 3 two\nend\n",
+    "torn-plan": f"unify plan 1 b\n{OWN} {FAR} 3 two\n{OWN} 4000000002 4000000002 5 names\nend\n",
     "rooted-plan": f"unify plan 1 b\n{OWN} {FAR} 4 /map\nend\n",
     "near-plan": f"unify plan 1 b\n{OWN} {FAR} 3 map\nend\n",
     "more-plan": f"unify plan 1 b\n{OWN} {FAR} 3 two\n{OWN} {FAR} 5 names\n{OWN} {FAR} 6 set-id\nend\n",
@@ -292,13 +315,18 @@ TABLE = [
     (["inventory", "tree", "to-tree/new\nline"], 2, "", "unify: root to-tree/new\\012line: it lies in tree\n"),
     ("inventory tree to-tree", 3, MACHINE("tree to-tree") + TREE_LINES, "unify: file to-tree: not a directory\n"),
     ("inventory tree treehouse", 3, MACHINE("tree treehouse") + TREE_LINES, "unify: file treehouse: No such file or directory\n"),
-    ("apply --check -q own-plan .", 0, SEEN(1, 1, 0, 0, 0, 0), ""),
-    ("apply --check -q rooted-plan .", 1, "", "unify: file /map: no inventory has such a path, or it is too long\n"),
-    ("apply --check -q near-plan .", 0, SEEN(1, 0, 0, 0, 0, 0), ""),
-    ("apply --check -q --reverse near-plan .", 0, SEEN(0, 1, 0, 0, 0, 0), ""),
-    ("apply --check -q more-plan .", 0, SEEN(3, 0, 0, 0, 1, 2), ""),
-    ("apply --check --progress own-plan .", 0, SEEN(1, 1, 0, 0, 0, 0), ("unify: progress: looked at 2 of 2\n",)),
-    ("apply --check -q --progress own-plan .", 0, SEEN(1, 1, 0, 0, 0, 0), ""),
+    # Plans whose files are counted, and of which a run would begin.
+    ("apply --check -q --host b --begun own-plan .", 0, SEEN(1, 1, 0, 0, 0, 0), ""),
+    ("apply --check -q --host b own-modes .", 0, SEEN(1, 1, 0, 0, 0, 0), ""),
+    ("apply --check -q --host b near-plan .", 0, SEEN(1, 0, 0, 0, 0, 0), ""),
+    ("apply --check -q --host b --begun --reverse near-plan .", 0, SEEN(0, 1, 0, 0, 0, 0), ""),
+    ("apply --check -q --host b deep-plan .", 0, SEEN(1, 0, 0, 0, 0, 0), ""),
+    ("apply --check -q --host b other-mark .", 0, SEEN(1, 0, 0, 0, 0, 0), ""),
+    ("apply --check -q --host b --mark none deep-plan .", 0, SEEN(1, 0, 0, 0, 0, 0), ""),
+    ("apply --check -q --host b more-plan .", 0, SEEN(3, 0, 0, 0, 1, 2), ""),
+    ("apply --check --progress --host b --begun own-plan .", 0, SEEN(1, 1, 0, 0, 0, 0), ("unify: progress: looked at 2 of 2\n",)),
+    ("apply --check --host b near-plan .", 0, SEEN(1, 0, 0, 0, 0, 0), ("unify: warning: the plan of host b is carried out on machine ",)),
+    ("apply --check -q --progress --host b --begun own-plan .", 0, SEEN(1, 1, 0, 0, 0, 0), ""),
     # Which files have other owners by name.
     (VERIFY("named", "moved"), 0, FOUND(3, 0, 0, 1, 0, 0), NEW_ONE),
     (
@@ -508,8 +536,27 @@ TABLE = [
     ("rehearse plan a/mtree", 1, "", "unify: 37 Missing bob1\n"),
     ("apply bad b", 1, "", "unify: 35 BadPlan byte 0\n"),
     ("apply --host a plan b", 1, "", "unify: host a: the plan is of host b\n"),
-    ("apply --check -q plan b", 1, SEEN(0, 0, 2, 0, 0, 0), "unify: 37 Missing bob1\n"),
-    ("apply --check -q far-plan .", 1, SEEN(0, 0, 0, 1, 0, 0), "unify: 38 Foreign map\n"),
+    # What a run would refuse is told after the count.
+    ("apply --check -q --host b plan b", 1, SEEN(0, 0, 2, 0, 0, 0), "unify: 37 Missing bob1\n"),
+    ("apply --check -q --host b far-plan .", 1, SEEN(0, 0, 0, 1, 0, 0), "unify: 38 Foreign map\n"),
+    ("apply --check -q --host b own-plan .", 1, SEEN(1, 1, 0, 0, 0, 0), "unify: 48 AlreadyChanged pins\n"),
+    ("apply --check -q --host b --reverse near-plan .", 1, SEEN(0, 1, 0, 0, 0, 0), "unify: 48 AlreadyChanged map\n"),
+    ("apply --check -q --host b done-early .", 1, SEEN(1, 0, 0, 0, 0, 0), "unify: 44 Unfinished linked/to\\040nothing\n"),
+    ("apply --check -q near-plan .", 1, SEEN(1, 0, 0, 0, 0, 0), f"unify: host {os.uname().nodename}: the plan is of host b\n"),
+    ("apply --check -q --host a near-plan .", 1, SEEN(1, 0, 0, 0, 0, 0), "unify: host a: the plan is of host b\n"),
+    ("apply --check -q --host b lone-plan .", 1, SEEN(1, 0, 0, 0, 0, 1), "unify: file two: a hard link to the file is not in the plan\n"),
+    ("apply --check -q --host b torn-plan .", 1, SEEN(2, 0, 0, 0, 0, 2), "unify: file names: the plan gives another hard link of the file another owner\n"),
+    ("apply --check -q --host b odd-mark .", 1, SEEN(1, 0, 0, 0, 0, 0), "unify: file odd-mark.done: not the mark of a plan\n"),
+    ("apply --check -q --host b --mark linked deep-plan .", 1, SEEN(1, 0, 0, 0, 0, 0), "unify: file linked: not the mark of a plan\n"),
+    ("apply --check -q --host b cut-modes .", 1, SEEN(1, 0, 0, 0, 0, 0), "unify: file cut-modes.done.modes: truncated, or not the modes of a plan\n"),
+    ("apply --check -q --host b other-modes .", 1, SEEN(1, 0, 0, 0, 0, 0), f"unify: file other-modes.done.modes: {OTHER_PLAN}"),
+    ("apply --check -q --host b --reverse own-modes .", 1, SEEN(1, 1, 0, 0, 0, 0), f"unify: file own-modes.done.modes: {OTHER_PLAN}"),
+    # Of several, that which a run would tell; but a file that cannot be looked at is not counted, and told first.
+    ("apply --check -q --mark moved moved.new .", 2, SEEN(1, 1, 0, 0, 0, 0), MARKS_OWN("moved.new")),
+    ("apply --check -q --mark moved to-new .", 2, SEEN(1, 1, 0, 0, 0, 0), MARKS_OWN("to-new")),
+    ("apply --check -q --mark none/mark --host a odd-mark .", 3, SEEN(1, 0, 0, 0, 0, 0), "unify: file none: No such file or directory\n"),
+    ("apply --check -q --host b --mark odd-mark.done far-plan .", 1, SEEN(0, 0, 0, 1, 0, 0), "unify: file odd-mark.done: not the mark of a plan\n"),
+    ("apply --check -q rooted-plan .", 1, "", "unify: file /map: no inventory has such a path, or it is too long\n"),
     # Files that are not there, or cannot be read or written.
     ("count none a b", 3, "", "unify: file none: No such file or directory\n"),
     (["count", "", "a"], 3, "", "unify: file -: No such file or directory\n"),
@@ -535,12 +582,12 @@ TABLE = [
     ("apply --mark map/mark plan b", 3, "", "unify: file map: Not a directory\n"),
     ("apply --mark none/mark bad b", 1, "", "unify: 35 BadPlan byte 0\n"),
     ("apply --mark none/mark none/plan b", 3, "", "unify: file none/plan: No such file or directory\n"),
-    ("apply --check -q --mark none/mark own-plan .", 0, SEEN(1, 1, 0, 0, 0, 0), ""),
+    ("apply --check -q --mark none/mark own-plan .", 3, SEEN(1, 1, 0, 0, 0, 0), "unify: file none: No such file or directory\n"),
+    ("apply --check -q --mark map/mark deep-plan .", 3, SEEN(1, 0, 0, 0, 0, 0), "unify: file map: Not a directory\n"),
     ("apply --check plan none", 2, "", "unify: root none: No such file or directory\n"),
     ("apply --check plan to-itself", 2, "", "unify: root to-itself: Too many levels of symbolic links\n"),
     # A plan that a run would remove, as its mark has that name: nothing is read.
     *((f"apply {words} b", 2, "", MARKS_OWN(words.split()[-1])) for words in OWN_NAMES),
-    ("apply --check -q --mark moved moved.new .", 0, SEEN(1, 1, 0, 0, 0, 0), ""),
     ("apply --check plan plan", 2, "", "unify: root plan: Not a directory\n"),
     # The order in which files are read: all of them but inventories before anything is judged.
     ("count none x y", 3, "", "unify: file none: No such file or directory\n"),
@@ -573,6 +620,10 @@ TABLE = [
     ("rehearse none later", 3, "", "unify: file none: No such file or directory\n"),
     ("rehearse bad none", 3, "", "unify: file none: No such file or directory\n"),
 ]
+OWNED_BY_OTHER = (
+    f"unify: hint: the file has owner {os.geteuid()}:{os.getegid()}; if it is the file that was gathered, give it its old owner back, "
+    "else gather this host again and merge anew\n"
+)
 # Words, the exit status, and what is told where standard error is a terminal.
 LOOKED_AT = [
     ("count map a b=unowned", 1, UNOWNED_TOLD + MAY_STAY),
@@ -585,8 +636,13 @@ LOOKED_AT = [
     ("merge --keep low-keep --pins low-pins out a b", 1, "unify: 47 PinReserved user 6 bob range 5 7\n" + OTHER_PIN),
     ("merge out a b=narrow", 1, "unify: 24 PoolTooSmall user regular 2 1\n" + WIDER_RANGE),
     # How far it is stands on one line, which is cleared before anything else is told.
-    ("apply --check own-plan .", 0, ("\r\x1b[Kunify: looked at 2 of 2\r\x1b[K" + SEEN(1, 1, 0, 0, 0, 0) + "unify: warning: ",)),
-    ("apply --check -q own-plan .", 0, SEEN(1, 1, 0, 0, 0, 0)),
+    (
+        "apply --check --host b --begun own-plan .",
+        0,
+        ("\r\x1b[Kunify: looked at 2 of 2\r\x1b[K" + SEEN(1, 1, 0, 0, 0, 0) + "unify: warning: ", "\r\x1b[Kunify: looked at 2 of 2\r\x1b[K"),
+    ),
+    ("apply --check -q --host b --begun own-plan .", 0, SEEN(1, 1, 0, 0, 0, 0)),
+    ("apply --check -q --host b far-plan .", 1, SEEN(0, 0, 0, 1, 0, 0) + "unify: 38 Foreign map\n" + OWNED_BY_OTHER),
 ]
 # Words that have an answer for standard output, which is full.
 UNWRITTEN = [
@@ -669,6 +725,9 @@ def lay_out(room):
         (room / "bare" / file).write_text("#\n")
     for name, text in (TEXTS | VERIFIED).items():
         (room / name).write_text(text)
+    for name, (plan, beside) in BESIDE.items():
+        for end, text in {"": plan, **beside}.items():
+            (room / f"{name}{end}").write_text(text)
 
 
 def ran(program, words, folder, out=subprocess.PIPE, err=subprocess.PIPE):

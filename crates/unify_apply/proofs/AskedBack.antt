@@ -18,14 +18,14 @@ use Rattle.idtext.specs.Words.{words}
 use Rattle.idtext.proofs.NumberLemmas.{decimal-back}
 use Rattle.reown_plan.specs.declared.plan.Owner.{Owner}
 use Rattle.reown_plan.specs.declared.plan.Record.{Record}
-use Rattle.unify_apply.specs.AskedLaws.{ChangedGroupsMove, ChangedUsersMove, FitTellsTheHost, FitsTellTheHost, IsCalled, IsOfThree, JournalIsANumber, MayBe, OneJournalIsOfThree, ProcessesAreFound, RootIsEffective, TellsChanged, TellsRoot}
+use Rattle.unify_apply.specs.AskedLaws.{ChangedGroupsMove, ChangedUsersMove, FitTellsTheHost, FitsTellTheHost, IsCalled, IsOfThree, JournalIsANumber, MayBe, NamesAreTold, OneJournalIsOfThree, ProcessesAreFound, RootIsEffective, TellsChanged, TellsRoot}
 use Rattle.unify_apply.specs.Changing.{has_changed, is_changed, tells_changed, writes_changed}
 use Rattle.unify_apply.specs.Ends.{without_end}
 use Rattle.unify_apply.specs.Machine.{fit_of, have_root, is_called, tells_root}
 use Rattle.unify_apply.specs.Mounts.{MountText, has_one_journal, mount_of, mounts_in, path_from}
 use Rattle.unify_apply.specs.declared.machine.HostFit.{HostFit}
 use Rattle.unify_apply.specs.declared.machine.HostFit.TheVariants.{Same, Named, Other}
-use Rattle.unify_apply.proofs.Fronts.{begins, behind, front-of}
+use Rattle.unify_apply.proofs.Fronts.{begins, behind, front-of, other-end}
 
 -- ---- one of a list
 
@@ -164,6 +164,9 @@ module _ (host machine : List ℕ) where
         named = (λ e. absurd (unlike Other Named (sym value ∙ e) (omega arith)), λ h. absurd (not_so (inr h.1)));
         other = (λ _. inl not_so, λ _. value);
       }
+
+pub names-told : NamesAreTold
+names-told = record { line = without-newline; bare = other-end 10; none = refl }
 
 pub fits-told : FitsTellTheHost
 fits-told host machine None = none-named host machine (is_called host machine) refl

@@ -10,7 +10,7 @@ use Rattle.std.proofs.lemmas.Slice.Eq.{bytes_eq-Decides}
 use Rattle.idtext.specs.Pieces.{begins_with}
 use Rattle.unify_apply.specs.Laws.{BelowAreTold, IsBelow, PathsAreTold, SlashIsTaken, WaysAreSeen}
 use Rattle.unify_apply.specs.Mounts.{MountText, count_below, first_below, is_in, is_rest, is_under, path_from}
-use Rattle.unify_apply.proofs.Fronts.{begins, behind, front-of, front-is}
+use Rattle.unify_apply.proofs.Fronts.{begins, behind, front-of, front-is, last-of, other-end}
 
 -- ---- in a directory
 
@@ -96,29 +96,8 @@ below-told directory mount mounts = record {
 
 -- ---- the slash at the end
 
-last-of : (b : ℕ) (text : List ℕ) → path_from (text ++ b ∷ []) ≡ cond (bytes_eq (b ∷ []) (codes "/")) text (text ++ b ∷ [])
-last-of b text =
-    let whole : List ℕ = text ++ b ∷ [] in
-    let long = length-append text (b ∷ []) in
-    let less : length whole - 1 ≡ length text = omega (arith, long) in
-    ap (λ n. cond (bytes_eq (drop n whole) (codes "/")) (take n whole) whole) less
-    ∙ ap (λ d. cond (bytes_eq d (codes "/")) (take (length text) whole) whole) (behind text (b ∷ []))
-    ∙ ap (λ t. cond (bytes_eq (b ∷ []) (codes "/")) t whole) (front-of text (b ∷ []))
-
 pub slash-taken : SlashIsTaken
-slash-taken = record {
-  slash = last-of 47;
-  other = λ path b apart.
-      last-of b path ∙ ap (λ t. cond t path (path ++ b ∷ [])) (not-slash b apart);
-  none = refl;
-}
-  where
-    not-slash : (b : ℕ) → b ≢ 47 → bytes_eq (b ∷ []) (codes "/") ≡ false
-    not-slash b apart = by (bytes_eq (b ∷ []) (codes "/")) refl
-      where
-        by : (t : Bool) → bytes_eq (b ∷ []) (codes "/") ≡ t → t ≡ false
-        by true is = let same = (bytes_eq-Decides (b ∷ []) (codes "/")).0 is in absurd (apart (cc))
-        by false is = refl
+slash-taken = record { slash = last-of 47 47; other = other-end 47; none = refl }
 
 -- ---- second ways
 

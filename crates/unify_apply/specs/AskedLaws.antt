@@ -3,7 +3,8 @@
 -- one, and the lines `Uid:`, `Gid:` and `Groups:` have numbers after that word; sysfs,
 -- journal_task. Which file systems have one journal, and how a machine may be called, are this
 -- project's own rules.
-use Rattle.std.specs.Prelude.{◌≡◌, ◌≢◌, ◌↔◌, ◌⊎◌, ℕ, ◌≤◌, Bool, true, false, List, ◌∷◌, ◌++◌}
+use Rattle.std.specs.Prelude.{◌≡◌, ◌≢◌, ◌↔◌, ◌⊎◌, ℕ, ◌≤◌, Bool, true, false}
+use Rattle.std.specs.Prelude.{List, [], ◌∷◌, ◌++◌}
 use Rattle.std.specs.Prelude.{Option, Some, None, Contains, codes, decimal, nat_le}
 use Rattle.std.specs.Char.{digit_value}
 use Rattle.std.specs.List.{list_any}
@@ -13,7 +14,7 @@ use Rattle.idtext.specs.Words.{words}
 use Rattle.reown_plan.specs.declared.plan.Record.{Record}
 use Rattle.unify_apply.specs.Changing.{is_changed_group, is_changed_user, runs_as_changed}
 use Rattle.unify_apply.specs.Journal.{tells_process}
-use Rattle.unify_apply.specs.Machine.{fit_of, is_of_root}
+use Rattle.unify_apply.specs.Machine.{fit_of, is_of_root, name_in}
 use Rattle.unify_apply.specs.Mounts.{MountText, mount_of, mounts_in, one_journal, path_from}
 use Rattle.unify_apply.specs.declared.machine.HostFit.TheVariants.{Same, Named, Other}
 
@@ -39,6 +40,13 @@ pub record JournalIsANumber : Type 0 where
       → tells_process (text ++ codes "\n") ≡ false
 
 -- ---- the machine
+
+-- A name that is followed by a newline is told without that, and one that is not is told as it is.
+-- One newline is taken away and nothing else: the machine web1 is not taken for the host web.
+pub record NamesAreTold : Type 0 where
+  pub line : (name : List ℕ) → name_in (name ++ codes "\n") ≡ name
+  pub bare : (name : List ℕ) (b : ℕ) → b ≢ 10 → name_in (name ++ b ∷ []) ≡ name ++ b ∷ []
+  pub none : name_in [] ≡ []
 
 -- a machine is called as a host: its name is the host's, or that, a dot and whatever is after it
 abbrev pub IsCalled : List ℕ → List ℕ → Type 0

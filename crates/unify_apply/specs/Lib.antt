@@ -7,3 +7,4 @@ pub mod Laws
 pub mod Machine
 pub mod Mounts
 pub mod Told
+pub mod Previews

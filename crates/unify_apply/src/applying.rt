@@ -4,16 +4,17 @@ ghost use Rattle.std.specs.String.{string_bytes};
 ghost use Rattle.unify_apply.specs.Told.{mark_at};
 
 use crate::answers::records_text;
-use crate::beside::{see_directory, see_plan};
+use crate::beside::Beside;
 use crate::checking::check_below;
 use crate::machine::{see_caller, see_host};
-use crate::mounts::see_mounts;
+use crate::mounts::{path_of_root, see_mounts};
+use crate::opening::{open_files, open_root};
 use crate::progress::Telling;
 use crate::run::{Paths, Run};
 use crate::staying::warn_of_staying;
-use crate::told::{fault_told, not_opened, root_refused, stopped};
+use crate::told::{fault_told, stopped};
 use clap::ArgMatches;
-use reown_files::{RealTree, Root, apply};
+use reown_files::{Root, apply};
 use reown_plan::{Plan, PlanFault};
 use reown_reverse::reversed_text;
 use std::alloc::{AllocError, Global};
@@ -44,12 +45,7 @@ fn carry_out<'w>(run: Run<'w>, plan: &Plan<'_>, root: Root<'w>) -> Result<(), Fi
 {
     let rt = run.rt;
     let disk = Telling::of(rt, run.style, plan.records().len(), root);
-    let found = RealTree::open(rt.alloc(), plan, run.was_begun, disk);
-    run.style.clear(rt);
-    let mut tree = match found {
-        Ok(tree) => tree,
-        Err(refused) => return Err(not_opened(rt, run.paths, plan.records(), refused.fault)),
-    };
+    let mut tree = open_files(run, plan, disk)?;
     let done = apply(plan, &mut tree);
     run.style.clear(rt);
     match done {
@@ -58,31 +54,18 @@ fn carry_out<'w>(run: Run<'w>, plan: &Plan<'_>, root: Root<'w>) -> Result<(), Fi
     }
 }
 
-// Opens a directory, which no other command is at work below.
-fn opened<'w>(
-    rt: &'w HostRuntime,
-    paths: Paths<'w>,
-    has_one_journal: bool,
-) -> Result<Root<'w>, FileFault>
-    ensures { IfOk result (λ root. root.calls ≡ []) }
-{
-    match Root::open(rt, paths.root, paths.mark) {
-        Ok(mut root) => {
-            if has_one_journal {
-                root.trust_one_journal();
-            }
-            Ok(root)
-        }
-        Err(fault) => Err(root_refused(rt, paths, fault)),
-    }
-}
-
 // Carries a plan out below a directory.
 fn apply_below(run: Run<'_>, plan: &Plan<'_>, has_one_journal: bool) -> Result<u8, FileFault> {
-    let root = opened(run.rt, run.paths, has_one_journal)?;
+    let root = open_root(run.rt, run.paths, has_one_journal)?;
     carry_out(run, plan, root)?;
     let text = records_text(run.rt.alloc(), plan.records().len())?;
     Ok(print_answer(run.rt, 0, &text))
+}
+
+// Sees the mounts below a directory, before it is opened.
+fn see_mounts_of(rt: &HostRuntime, root: &str) -> Result<bool, FileFault> {
+    let path = path_of_root(rt, root)?;
+    see_mounts(rt, root, path.as_str())
 }
 
 // Looks at the files of a plan, or carries it out.
@@ -91,10 +74,10 @@ fn run_plan(run: Run<'_>, plan: &Plan<'_>) -> Result<u8, FileFault> {
         return check_below(run, plan);
     }
     let rt = run.rt;
-    see_directory(rt, run.paths.mark)?;
+    run.beside.see_directory(rt, run.paths.mark)?;
     see_host(rt, plan.host(), run.host, run.quiet)?;
     see_caller(rt)?;
-    let has_one_journal = see_mounts(rt, run.paths.root)?;
+    let has_one_journal = see_mounts_of(rt, run.paths.root)?;
     if !run.quiet {
         warn_of_staying(rt, plan)?;
     }
@@ -127,7 +110,7 @@ fn reverse_of(rt: &HostRuntime, text: &[u8]) -> Result<Vec<u8>, FileFault> {
 
 /// Answers `apply` with these words: it carries a plan out or takes it back, or counts its files.
 /// What it refuses is told, and the status handed out. A plan that a run itself would remove, as it
-/// has a name of the mark's, is refused before it is read.
+/// has a name of the mark's, is refused before it is read, and after the count of its files.
 ///
 /// # Errors
 ///
@@ -136,13 +119,15 @@ fn reverse_of(rt: &HostRuntime, text: &[u8]) -> Result<Vec<u8>, FileFault> {
 pub fn run_apply(rt: &HostRuntime, matches: &ArgMatches<'_>) -> Result<u8, FileFault> {
     let plan = matches.get_str("PLAN").unwrap_or("");
     let mark = mark_path(rt.alloc(), matches.get_str("mark"), plan)?;
+    let beside = Beside::look(rt, mark.as_str(), plan)?;
     let paths = Paths {
+        plan,
         root: matches.get_str("ROOT").unwrap_or(""),
         mark: mark.as_str(),
     };
-    let run = Run::of(rt, matches, paths);
+    let run = Run::of(rt, matches, paths, beside);
     if !run.only_checks {
-        see_plan(rt, paths.mark, plan)?;
+        beside.see_plan(rt, plan)?;
     }
     let text = read_file(rt, plan)?;
     if matches.get_flag("reverse") {

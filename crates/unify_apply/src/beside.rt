@@ -6,6 +6,7 @@ ghost use Rattle.unify_apply.specs.Told.{behind_mark, is_of_mark};
 
 use std::alloc::AllocError;
 use std::fs::{self, Metadata};
+use std::io;
 use std::os::unix::fs::MetadataExt;
 use std::path::Path;
 use unify_io::{FileFault, Part, file_failed, tell_of};
@@ -61,23 +62,55 @@ fn has_name_of_mark(rt: &HostRuntime, mark: &str, plan: &str) -> Result<bool, Al
     Ok(is_name_of(rt, new.as_str(), &file) || is_name_of(rt, new_modes.as_str(), &file))
 }
 
-/// Sees that no run with this mark replaces or removes its plan.
-pub fn see_plan(rt: &HostRuntime, mark: &str, plan: &str) -> Result<(), FileFault> {
-    if is_of_mark(mark, plan) || has_name_of_mark(rt, mark, plan)? {
-        return Err(tell_of(rt, "file", plan.as_bytes(), &[Part::Text(WRITTEN)], 2));
-    }
-    Ok(())
-}
-
-/// Sees that the directory of the mark is there.
-pub fn see_directory(rt: &HostRuntime, mark: &str) -> Result<(), FileFault> {
-    let parent = match Path::new(mark).parent() {
+// The directory of the mark.
+fn parent_of(mark: &str) -> &str {
+    match Path::new(mark).parent() {
         Some(parent) if !parent.as_str().is_empty() => parent.as_str(),
         _ => ".",
-    };
-    let inside = Path::new(parent).join(rt.alloc(), ".")?;
+    }
+}
+
+// Why that cannot be entered, where it cannot.
+fn directory_fault(rt: &HostRuntime, mark: &str) -> Result<Option<io::Error>, AllocError> {
+    let inside = Path::new(parent_of(mark)).join(rt.alloc(), ".")?;
     match fs::metadata(rt, inside.as_str()) {
-        Ok(_) => Ok(()),
-        Err(error) => Err(file_failed(rt, parent, &error)),
+        Ok(_) => Ok(None),
+        Err(error) => Ok(Some(error)),
+    }
+}
+
+/// What is beside a plan. It is looked at once and at first: the paths begin at the working
+/// directory, which is another as soon as a file of the plan was looked at.
+#[derive(Clone, Copy)]
+pub struct Beside {
+    takes_plan: bool,
+    directory: Option<io::Error>,
+}
+
+impl Beside {
+    /// What is there for a mark and a plan.
+    pub fn look(rt: &HostRuntime, mark: &str, plan: &str) -> Result<Beside, AllocError> {
+        let takes_plan = is_of_mark(mark, plan) || has_name_of_mark(rt, mark, plan)?;
+        let directory = directory_fault(rt, mark)?;
+        Ok(Beside {
+            takes_plan,
+            directory,
+        })
+    }
+
+    /// Sees that no run with this mark replaces or removes its plan.
+    pub fn see_plan(self, rt: &HostRuntime, plan: &str) -> Result<(), FileFault> {
+        if self.takes_plan {
+            return Err(tell_of(rt, "file", plan.as_bytes(), &[Part::Text(WRITTEN)], 2));
+        }
+        Ok(())
+    }
+
+    /// Sees that the directory of the mark is there.
+    pub fn see_directory(self, rt: &HostRuntime, mark: &str) -> Result<(), FileFault> {
+        match self.directory {
+            Some(error) => Err(file_failed(rt, parent_of(mark), &error)),
+            None => Ok(()),
+        }
     }
 }

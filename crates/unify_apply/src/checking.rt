@@ -1,34 +1,20 @@
-//! The files of a plan, counted by what is seen of them, with nothing changed.
+//! The files of a plan, counted by what is seen of them, and whether a run of it would begin, with
+//! nothing changed.
+ghost use Rattle.std.specs.Prelude.{◌≡◌, [], IfOk};
 
 use crate::answers::counts_text;
-use crate::mounts::count_mounts;
+use crate::machine::see_host;
+use crate::mounts::{count_mounts, path_of_root, see_mounts};
+use crate::opening::{open_files, open_root};
+use crate::preview::Preview;
 use crate::progress::Telling;
 use crate::run::Run;
 use crate::staying::warn_of_staying;
-use crate::told::{file_refused, foreign, missing, root_refused};
-use reown_files::{Count, Disk, OpenFault, OwnerCounts, Root, Unfit, count_owners};
+use crate::told::not_opened;
+use reown_files::{Disk, OwnerCounts, Root, count_owners};
 use reown_plan::{Plan, Record};
 use std::io::{self, Write};
 use unify_io::{FileFault, write_failed};
-
-// Why a file was not counted.
-fn not_counted(rt: &HostRuntime, records: &[Record<'_>], fault: OpenFault) -> FileFault {
-    match fault {
-        OpenFault::File(i, trouble) => match records.get(i) {
-            Some(planned) => file_refused(rt, planned.path, trouble),
-            None => FileFault::Memory,
-        },
-        _ => FileFault::Memory,
-    }
-}
-
-// Tells a file with which no run could go on.
-fn unfit_told(rt: &HostRuntime, records: &[Record<'_>], unfit: Unfit) -> FileFault {
-    match unfit {
-        Unfit::Missing(i) => missing(rt, records, i),
-        Unfit::Foreign(i) => foreign(rt, records, i, None),
-    }
-}
 
 // Prints how many files there are by what is seen of them, and how many mounts.
 fn print_counts(rt: &HostRuntime, counts: OwnerCounts, mounts: usize) -> Result<(), FileFault> {
@@ -44,32 +30,63 @@ fn count_files<D: Disk>(
     run: Run<'_>,
     disk: &mut D,
     records: &[Record<'_>],
-) -> Result<Count, FileFault> {
+) -> Result<OwnerCounts, FileFault> {
     let counted = count_owners(disk, records);
     run.style.clear(run.rt);
     match counted {
-        Ok(count) => Ok(count),
-        Err(fault) => Err(not_counted(run.rt, records, fault)),
+        Ok(count) => Ok(count.owners),
+        Err(fault) => Err(not_opened(run.rt, run.paths, records, fault)),
     }
 }
 
-/// Counts the files of a plan by their owners and what else a change of it touches, and tells the
-/// first that is not there or has neither of its two.
-pub fn check_below(run: Run<'_>, plan: &Plan<'_>) -> Result<u8, FileFault> {
-    let rt = run.rt;
-    let mounts = count_mounts(rt, run.paths.root, run.quiet)?;
-    let root = match Root::open(rt, run.paths.root, run.paths.mark) {
-        Ok(root) => root,
-        Err(fault) => return Err(root_refused(rt, run.paths, fault)),
-    };
-    let mut disk = Telling::of(rt, run.style, plan.records().len(), root);
-    let count = count_files(run, &mut disk, plan.records())?;
-    print_counts(rt, count.owners, mounts)?;
+// The files below the directory, of which none is synced where it is met: that is left to a sync of
+// all, which nobody asks for.
+fn files_below<'w>(run: Run<'w>, files: usize) -> Result<Preview<Telling<'w, Root<'w>>>, FileFault>
+    ensures { IfOk result (λ disk. disk ≡ []) }
+{
+    let root = open_root(run.rt, run.paths, true)?;
+    Ok(Preview::of(Telling::of(run.rt, run.style, files, root)))
+}
+
+// Counts the files, and prints and warns of what a change of them touches.
+fn count_below<D: Disk>(
+    run: Run<'_>,
+    plan: &Plan<'_>,
+    disk: &mut D,
+    mounts: usize,
+) -> Result<(), FileFault> {
+    let counts = count_files(run, disk, plan.records())?;
+    print_counts(run.rt, counts, mounts)?;
     if !run.quiet {
-        warn_of_staying(rt, plan)?;
+        warn_of_staying(run.rt, plan)?;
     }
-    match count.first_unfit {
-        Some(unfit) => Err(unfit_told(rt, plan.records(), unfit)),
-        None => Ok(0),
-    }
+    Ok(())
+}
+
+// Sees what a run sees before it opens the directory, but for who calls.
+fn see_way(run: Run<'_>, plan: &Plan<'_>, path: &str) -> Result<(), FileFault> {
+    let rt = run.rt;
+    run.beside.see_plan(rt, run.paths.plan)?;
+    run.beside.see_directory(rt, run.paths.mark)?;
+    see_host(rt, plan.host(), run.host, run.quiet)?;
+    see_mounts(rt, run.paths.root, path)?;
+    Ok(())
+}
+
+// The same of a directory with this path, below which there are so many mounts.
+fn check_at(run: Run<'_>, plan: &Plan<'_>, path: &str, mounts: usize) -> Result<u8, FileFault> {
+    let mut disk = files_below(run, plan.records().len())?;
+    count_below(run, plan, &mut disk, mounts)?;
+    see_way(run, plan, path)?;
+    disk.begin();
+    open_files(run, plan, disk)?;
+    Ok(0)
+}
+
+/// Counts the files of a plan by their owners and what else a change of it touches, and tells then
+/// what a run would refuse before its first change, as far as looks tell.
+pub fn check_below(run: Run<'_>, plan: &Plan<'_>) -> Result<u8, FileFault> {
+    let path = path_of_root(run.rt, run.paths.root)?;
+    let mounts = count_mounts(run.rt, path.as_str(), run.quiet)?;
+    check_at(run, plan, path.as_str(), mounts)
 }

@@ -2,7 +2,7 @@
 //! nothing.
 
 ghost use Rattle.unify_apply.specs.AskedLaws.{ChangedGroupsMove, ChangedUsersMove, FitsTellTheHost};
-ghost use Rattle.unify_apply.specs.AskedLaws.{JournalIsANumber, OneJournalIsOfThree};
+ghost use Rattle.unify_apply.specs.AskedLaws.{JournalIsANumber, NamesAreTold, OneJournalIsOfThree};
 ghost use Rattle.unify_apply.specs.AskedLaws.{ProcessesAreFound, RootIsEffective};
 ghost use Rattle.unify_apply.specs.Laws.{MarksStandBesidePlans, MountIsNearest, NoSecondWay};
 ghost use Rattle.unify_apply.specs.Laws.{PathsAreTold, SlashIsTaken, SystemPathIsReadBack};
@@ -72,11 +72,13 @@ pub fn journals_are_told()
     ensures process { JournalIsANumber }
 {}
 
-/// A machine is the host of a plan exactly where its name is the host's, or begins with that and a
-/// dot, and no other host is named; it is named so exactly where its name is another and that host
-/// is named; and else it is another.
+/// A machine's name is what the system tells, without the newline behind it. A machine is the host
+/// of a plan exactly where its name is the host's, or begins with that and a dot, and no other host
+/// is named; it is named so exactly where its name is another and that host is named; and else it
+/// is another.
 pub fn machines_are_told()
-    ensures { FitsTellTheHost }
+    ensures names { NamesAreTold }
+    ensures fits { FitsTellTheHost }
 {}
 
 /// A status is that of root exactly where a line `Uid:` of it has the effective user 0.

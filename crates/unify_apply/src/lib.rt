@@ -12,6 +12,8 @@ mod laws;
 mod machine;
 mod mountinfo;
 mod mounts;
+mod opening;
+mod preview;
 mod progress;
 mod run;
 mod staying;

@@ -33,8 +33,8 @@ fn mounted_twice(rt: &HostRuntime, root: &str, point: &[u8]) -> FileFault {
     tell_of(rt, "root", root.as_bytes(), &parts, 2)
 }
 
-// The path of a directory from the root of all.
-fn path_of(rt: &HostRuntime, root: &str) -> Result<PathBuf, FileFault> {
+/// The path of a directory from the root of all.
+pub fn path_of_root(rt: &HostRuntime, root: &str) -> Result<PathBuf, FileFault> {
     match fs::canonicalize(rt, root) {
         Ok(path) => Ok(path),
         Err(error) => Err(root_failed(rt, root, &error)),
@@ -65,13 +65,12 @@ fn warn_of_mounts(
     )
 }
 
-/// How many file systems are mounted below a directory, whose files no plan of it has. Where there
-/// are any, the first is warned of.
-pub fn count_mounts(rt: &HostRuntime, root: &str, quiet: bool) -> Result<usize, FileFault> {
-    let path = path_of(rt, root)?;
+/// How many file systems are mounted below the directory with this path from the root of all, whose
+/// files no plan of it has. Where there are any, the first is warned of.
+pub fn count_mounts(rt: &HostRuntime, path: &str, quiet: bool) -> Result<usize, FileFault> {
     let text = read_file(rt, MOUNTS)?;
     let mounts = read_mounts(rt.alloc(), text.bytes())?;
-    let directory = without_slash(path.as_str().as_bytes());
+    let directory = without_slash(path.as_bytes());
     let count = count_below(&mounts, directory);
     if !quiet {
         warn_of_mounts(rt, &mounts, directory, count)?;
@@ -106,24 +105,20 @@ fn looked_at(rt: &HostRuntime, paths: &[Vec<u8>]) -> Result<Vec<Point>, AllocErr
     Ok(points)
 }
 
-// The device number of a directory.
-fn device_of(rt: &HostRuntime, root: &str) -> Result<u64, FileFault> {
-    match fs::metadata(rt, root) {
-        Ok(found) => Ok(found.dev()),
-        Err(error) => Err(root_failed(rt, root, &error)),
-    }
-}
-
 /// Sees that no mount below a directory is a second way to its files, and tells whether its file
 /// system is known to have one journal: by its kind, and by what the system tells of it, since an
-/// ext4 may have none.
-pub fn see_mounts(rt: &HostRuntime, root: &str) -> Result<bool, FileFault> {
-    let path = path_of(rt, root)?;
+/// ext4 may have none. The directory is looked at by its path from the root of all, and told as
+/// words name it.
+pub fn see_mounts(rt: &HostRuntime, root: &str, path: &str) -> Result<bool, FileFault> {
     let text = read_file(rt, MOUNTS)?;
-    let around = see_around(rt.alloc(), text.bytes(), path.as_str().as_bytes())?;
+    let around = see_around(rt.alloc(), text.bytes(), path.as_bytes())?;
     let points = looked_at(rt, &around.same)?;
-    match one_way(&around, &points, device_of(rt, root)?) {
-        Ok(has_one_journal) => Ok(has_one_journal && has_journal(rt, root)?),
+    let device = match fs::metadata(rt, path) {
+        Ok(found) => found.dev(),
+        Err(error) => return Err(root_failed(rt, root, &error)),
+    };
+    match one_way(&around, &points, device) {
+        Ok(has_one_journal) => Ok(has_one_journal && has_journal(rt, path)?),
         Err(point) => Err(mounted_twice(rt, root, point)),
     }
 }

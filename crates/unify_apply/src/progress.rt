@@ -205,7 +205,9 @@ impl<'w, D: Disk> Disk for Telling<'w, D> {
         self.disk.put_mark(plan)
     }
 
+    // What was looked at before was counted, and is met now.
     fn read_modes(&mut self, plan: &PlanMark, mark: bool) -> Result<bool, Trouble> {
+        self.looked = 0;
         self.disk.read_modes(plan, mark)
     }
 

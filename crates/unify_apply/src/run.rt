@@ -1,11 +1,14 @@
 //! What `apply` is asked for.
 
+use crate::beside::Beside;
 use crate::progress::ProgressStyle;
 use clap::ArgMatches;
 
 /// Where a plan is carried out.
 #[derive(Clone, Copy)]
 pub struct Paths<'a> {
+    /// The file of the plan.
+    pub plan: &'a str,
     /// The directory that its paths begin at.
     pub root: &'a str,
     /// The file of its mark.
@@ -19,11 +22,13 @@ pub struct Run<'a> {
     pub rt: &'a HostRuntime,
     /// Where the plan is carried out.
     pub paths: Paths<'a>,
+    /// What is beside the plan.
+    pub beside: Beside,
     /// The host that is named, if one is.
     pub host: Option<&'a str>,
     /// How it is told how far it is.
     pub style: ProgressStyle,
-    /// Whether the files are only counted.
+    /// Whether the files are only looked at.
     pub only_checks: bool,
     /// Whether the plan was begun before.
     pub was_begun: bool,
@@ -33,11 +38,17 @@ pub struct Run<'a> {
 
 impl<'a> Run<'a> {
     /// As these words want it.
-    pub fn of(rt: &'a HostRuntime, matches: &'a ArgMatches<'_>, paths: Paths<'a>) -> Run<'a> {
+    pub fn of(
+        rt: &'a HostRuntime,
+        matches: &'a ArgMatches<'_>,
+        paths: Paths<'a>,
+        beside: Beside,
+    ) -> Run<'a> {
         let quiet = matches.get_flag("quiet");
         Run {
             rt,
             paths,
+            beside,
             host: matches.get_str("host"),
             style: ProgressStyle::wanted(rt, quiet, matches.get_flag("progress")),
             only_checks: matches.get_flag("check"),

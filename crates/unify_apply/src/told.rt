@@ -56,8 +56,8 @@ const SEE_FILE: &str = "if it is the file that was gathered, give it its old own
 const GATHER_ANEW: &str = "unify: hint: gather this host again and merge anew; where a run of this \
     plan was stopped and its .modes file is gone, use --begun";
 
-/// Tells that the file of a record is not there.
-pub fn missing(rt: &HostRuntime, records: &[Record<'_>], i: usize) -> FileFault {
+// Tells that the file of a record is not there.
+fn missing(rt: &HostRuntime, records: &[Record<'_>], i: usize) -> FileFault {
     match path_of(rt, records, i) {
         Ok(path) => {
             let fault = fault_told(rt, &Fault::Missing(path));
@@ -68,27 +68,17 @@ pub fn missing(rt: &HostRuntime, records: &[Record<'_>], i: usize) -> FileFault 
     }
 }
 
-// Tells what to do about a file with a third owner, and which that is where it is known. What
-// cannot be told is not.
-fn hint_of_owner(rt: &HostRuntime, found: Option<Owner>) {
-    let hint = match found {
-        Some(Owner { uid, gid }) => {
-            format!(in rt.alloc(); "unify: hint: the file has owner {uid}:{gid}; {SEE_FILE}")
-        }
-        None => format!(in rt.alloc(); "unify: hint: {SEE_FILE}"),
-    };
+// Tells what to do about a file with a third owner, and which that is. What cannot be told is not.
+fn hint_of_owner(rt: &HostRuntime, found: Owner) {
+    let Owner { uid, gid } = found;
+    let hint = format!(in rt.alloc(); "unify: hint: the file has owner {uid}:{gid}; {SEE_FILE}");
     if let Ok(hint) = hint {
         tell_hint(rt, hint.as_str());
     }
 }
 
-/// Tells that the file of a record has neither of its two owners, but this one, where it is known.
-pub fn foreign(
-    rt: &HostRuntime,
-    records: &[Record<'_>],
-    i: usize,
-    found: Option<Owner>,
-) -> FileFault {
+// Tells that the file of a record has neither of its two owners, but this one.
+fn foreign(rt: &HostRuntime, records: &[Record<'_>], i: usize, found: Owner) -> FileFault {
     match path_of(rt, records, i) {
         Ok(path) => {
             let fault = fault_told(rt, &Fault::Foreign(path));
@@ -183,8 +173,8 @@ fn status(trouble: Trouble) -> u8
     }
 }
 
-/// Tells of a file what is wrong with it before anything was changed.
-pub fn file_refused(rt: &HostRuntime, path: &[u8], trouble: Trouble) -> FileFault {
+// Tells of a file what is wrong with it before anything was changed.
+fn file_refused(rt: &HostRuntime, path: &[u8], trouble: Trouble) -> FileFault {
     if trouble == Trouble::Memory {
         return FileFault::Memory;
     }
@@ -213,12 +203,13 @@ fn is_of_disk(trouble: Trouble) -> bool {
     }
 }
 
-// What stands after the reason of a stop.
+// What stands after the reason of a stop. As long as the reason is there the same command stops at
+// it again, or is refused before its first change.
 fn way_on(trouble: Trouble) -> &'static str {
     if is_of_disk(trouble) {
         "; restart the machine, and then the same command goes on from there"
     } else {
-        "; the same command goes on from there"
+        "; mend that, and the same command goes on from there"
     }
 }
 
@@ -276,8 +267,8 @@ fn modes_refused(rt: &HostRuntime, paths: Paths<'_>, trouble: Trouble) -> FileFa
     tell_modes(rt, paths, &parts, status(trouble))
 }
 
-/// Tells why the files of a plan are not begun with. Nothing was changed but modes that an earlier
-/// run had lost.
+/// Tells why the files of a plan are not begun with, or not counted. Nothing was changed but modes
+/// that an earlier run had lost.
 pub fn not_opened(
     rt: &HostRuntime,
     paths: Paths<'_>,
@@ -287,7 +278,7 @@ pub fn not_opened(
     match fault {
         OpenFault::Memory => FileFault::Memory,
         OpenFault::Missing(i) => missing(rt, records, i),
-        OpenFault::Foreign(i, found) => foreign(rt, records, i, Some(found)),
+        OpenFault::Foreign(i, found) => foreign(rt, records, i, found),
         OpenFault::Unfinished(i) => unfinished(rt, records, i),
         OpenFault::AlreadyChanged(i) => already_changed(rt, records, i),
         OpenFault::File(i, trouble) => not_begun(rt, paths, path_at(records, i), trouble),
