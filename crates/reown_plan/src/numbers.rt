@@ -16,7 +16,7 @@ use std::marker::Model;
 pub(crate) struct PrintedNumbers {
     bytes: [u8; 44],
     // They end where the bytes end.
-    start: usize,
+    start: u8,
 }
 
 impl Model for PrintedNumbers {
@@ -68,7 +68,10 @@ impl PrintedNumbers {
         let mut bytes = [0; 44];
         let middle = write_owner(after.uid, after.gid, &mut bytes, 44);
         let start = write_owner(before.uid, before.gid, &mut bytes, middle);
-        PrintedNumbers { bytes, start }
+        PrintedNumbers {
+            bytes,
+            start: start as u8,
+        }
     }
 
     // Appends the record of a file with this path. `AllocError` where memory is refused; the text
@@ -84,7 +87,7 @@ impl PrintedNumbers {
         push_parts(
             text,
             &[
-                &self.bytes[self.start..],
+                &self.bytes[usize::from(self.start)..],
                 &length[start..],
                 path,
                 b"\n".as_slice(),

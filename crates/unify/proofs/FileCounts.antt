@@ -92,10 +92,10 @@ pub spared_place : (place : Option ℕ) (spared : Bool) → spared ≡ true → 
 spared_place (Some at) spared is = refl
 spared_place None spared is = is
 
-no_row : Passwd
+pub no_row : Passwd
 no_row = record { line = 0; name = []; password = []; uid = 0; gid = 0; comment = []; home = []; shell = [] }
 
-no_group_row : Group
+pub no_group_row : Group
 no_group_row = record { line = 0; name = []; password = []; gid = 0; members = [] }
 
 module _ (host : Host) (file : Entry) where

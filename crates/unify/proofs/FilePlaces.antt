@@ -1,5 +1,8 @@
 -- The rows that own the files of an owner.
-use Rattle.std.proofs.Common.{◌≡◌, [], true, nat_eq, position, refl, ap, ◌∙◌}
+use Rattle.std.proofs.Common.{◌≡◌, ◌<◌, ℕ, Option, Some, None, [], true, nat_eq, position, refl, ap, ◌∙◌, arith}
+use Rattle.std.specs.Prelude.{IfSome}
+use Rattle.std.proofs.lemmas.List.{length-map}
+use Rattle.std.proofs.lemmas.List.Quantifiers.{position-Some}
 use Rattle.accounts.specs.Laws.{IsGroupTable, IsPasswdTable}
 use Rattle.accounts.specs.Rows.{Group, Passwd}
 use Rattle.hosts_join.specs.Hosts.{allows_gid, allows_uid}
@@ -8,7 +11,7 @@ use Rattle.mtree_inv.specs.declared.entry.Entry.{Entry}
 use Rattle.unify.specs.declared.row_files.OwnerPlaces.{OwnerPlaces}
 use Rattle.unify.specs.Hosts.{owner_fault}
 use Rattle.unify.specs.Places.{ArePlaces}
-use Rattle.unify.proofs.FileCounts.{both_allowed}
+use Rattle.unify.proofs.FileCounts.{both_allowed, no_group_row, no_row}
 use Rattle.unify.proofs.Turns.{is_owned_none}
 
 -- the places of the rows that own a file are those of each file with its numbers
@@ -25,3 +28,16 @@ own-each host file places uid gid user group users groups user_allowed group_all
       users = users;
       groups = groups;
     }
+
+-- a table has few enough rows for the place of each
+pub user-few : (host : Host) (file : Entry) (place : Option ℕ) → position (λ (r : Passwd). nat_eq file.uid r.uid) host.users ≡ place → IsPasswdTable host.users → IfSome place (λ at. at < 65536)
+user-few host file None here table = tt
+user-few host file (Some at) here table =
+    let found = position-Some (λ (r : Passwd). nat_eq file.uid r.uid) host.users at no_row here in
+    omega (arith, found.0, table.few, length-map host.users (λ (r : Passwd). r.uid))
+
+pub group-few : (host : Host) (file : Entry) (place : Option ℕ) → position (λ (r : Group). nat_eq file.gid r.gid) host.groups ≡ place → IsGroupTable host.groups → IfSome place (λ at. at < 65536)
+group-few host file None here table = tt
+group-few host file (Some at) here table =
+    let found = position-Some (λ (r : Group). nat_eq file.gid r.gid) host.groups at no_group_row here in
+    omega (arith, found.0, table.few, length-map host.groups (λ (r : Group). r.gid))

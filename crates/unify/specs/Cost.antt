@@ -1,4 +1,4 @@
--- How many owner and group fields change.
+-- How many user and group fields change.
 -- Source: the assignment problem (least cost); what is counted is this project's own rule.
 use Rattle.std.specs.Prelude.{ℕ, Bool, false, List, Option, Some, None, if◌then◌else◌, ◌==◌, sum_by}
 use Rattle.mtree_inv.specs.declared.entry.Entry.{Entry}

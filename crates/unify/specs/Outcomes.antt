@@ -33,7 +33,7 @@ user_files site = by_user (files_of_site site)
 abbrev pub group_files : WholeSite → List File
 group_files site = by_group (files_of_site site)
 
--- how many owner fields and how many group fields the mappings change, over every file of every
+-- how many user fields and how many group fields the mappings change, over every file of every
 -- host
 abbrev pub cost_in : WholeSite → Mappings → Cost
 cost_in site m =

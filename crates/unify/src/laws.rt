@@ -4,6 +4,7 @@ ghost use Rattle.unify.specs.FaultLaws.{GidsAreOfTheirFile, LinesAreOfTheirFile}
 ghost use Rattle.unify.specs.FaultLaws.{UidsAreOfTheirFile};
 ghost use Rattle.unify.specs.FileLaws.{FilesAreOfInventories, InventoryLinesAreTold};
 ghost use Rattle.unify.specs.MapLaws.{CountedMapsAreWhole};
+ghost use Rattle.unify.specs.Rewritten.{PlansRewriteTheCost};
 ghost use Rattle.unify.specs.SurveyLaws.{SurveyedTextsFindUnowned, SurveysFindUnowned};
 ghost use Rattle.unify.specs.TextLaws.{BegunCountsAreOfTexts, BegunSitesAreOfTexts};
 ghost use Rattle.unify.specs.TextLaws.{HostsAreOfTheirTexts};
@@ -68,4 +69,10 @@ pub fn surveys_find_unowned()
 /// text, a certificate and its check, and a plan. None is told as another, or as want of memory.
 pub fn parts_tell_their_faults()
     ensures { PartsTellTheirFaults }
+{}
+
+/// The cost of mappings of a site is what the plans of its hosts rewrite: so many records of these
+/// plans change the uid of their file, and so many the gid.
+pub fn plans_rewrite_the_cost()
+    ensures { PlansRewriteTheCost }
 {}

@@ -106,9 +106,9 @@ fn is_changed(names: &PairTable<'_>, name: &[u8], number: u32) -> bool
     }
 }
 
-// How many owner fields of a host's files the map changes, where so many files are owned by each
+// How many user fields of a host's files the map changes, where so many files are owned by each
 // row of its passwd.
-fn owner_fields(names: &PairTable<'_>, host: &Host<'_>, files: &[u64]) -> u64
+fn user_fields(names: &PairTable<'_>, host: &Host<'_>, files: &[u64]) -> u64
     requires lawful { IsLawfulHost host.now }
     requires counted { (here : List Entry) × (files.now ≡ (row_files host.now here).users)
         × (length here ≤ 16777216) }
@@ -152,7 +152,7 @@ fn fields_on(names: &MapText<'_>, host: &Host<'_>, rows: &RowFiles) -> Cost
         → result ≡ host_cost names.now host.now here }
 {
     Cost {
-        users: owner_fields(&names.users, host, rows.users.as_slice()),
+        users: user_fields(&names.users, host, rows.users.as_slice()),
         groups: group_fields(&names.groups, host, rows.groups.as_slice()),
     }
 }
@@ -162,7 +162,7 @@ impl<'a> MappedSite<'a> {
     ghost use Rattle.unify.specs.Count.{total_of};
     ghost use Rattle.unify.specs.Passes.{ended_in, read_in};
 
-    /// How many owner and group fields of the files the map changes. Requires that no host is left.
+    /// How many user and group fields of the files the map changes. Requires that no host is left.
     /// One pass over the account rows, with a look-up by hash for each; it takes no memory.
     pub fn cost(&self) -> Cost
         requires none_left { ended_in self.now.inventories ≡ length self.now.inventories.hosts }

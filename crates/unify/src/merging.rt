@@ -43,7 +43,7 @@ struct CertifiedMappings<'a> {
     certificate: Certificate<'a>,
 }
 
-// How many owner and group fields mappings change.
+// How many user and group fields mappings change.
 fn cost_under(site: &Site<'_>, counts: &Counts, mappings: &Mappings) -> Cost
     requires made { IsMadeFor site.now counts.now }
     requires for_site { AreForSite site.now mappings.now }

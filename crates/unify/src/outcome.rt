@@ -65,6 +65,6 @@ pub struct Outcome {
     pub report: ByteString,
     /// The plan of each host, in the order of the hosts.
     pub plans: TextList,
-    /// How many owner fields and group fields change.
+    /// How many user fields and group fields change.
     pub cost: Cost,
 }

@@ -48,7 +48,7 @@ pub fn no_files(alloc: Global, hosts: &[Host<'_>], index: usize) -> Result<RowFi
 }
 
 // Counts one file more at a place, if there is one.
-fn add_one(files: &mut Vec<u64>, place: Option<usize>)
+fn add_one(files: &mut Vec<u64>, place: Option<u16>)
     requires within { IfSome place (λ at. at < length files.old.items) }
     requires room { IfSome place (λ at. slice_index_or files.old.items at 0 ≤ 2147483648) }
     ensures counted { IfSome place
@@ -57,25 +57,38 @@ fn add_one(files: &mut Vec<u64>, place: Option<usize>)
     ensures stays { IfNone place (files.new.items ≡ files.old.items) }
 {
     if let Some(place) = place {
-        files[place] += 1;
+        files[usize::from(place)] += 1;
     }
 }
 
-/// An owner of files whose numbers a host allows, and the places of the rows that have them.
+/// An owner of files whose numbers a host allows, and the places of the rows that have them. A
+/// second reading keeps thousands of these: it is as small as the rows of a table allow, of which
+/// there are 65,536 at most.
 #[derive(Clone, Copy)]
 pub struct OwnerPlaces {
     uid: u32,
     gid: u32,
-    user: Option<usize>,
-    group: Option<usize>,
+    user: Option<u16>,
+    group: Option<u16>,
+}
+
+// The place of a row, if there is one.
+fn place_of_row(place: Option<usize>) -> Option<u16>
+    requires { IfSome place (λ at. at < 65536) }
+    ensures { result ≡ place }
+{
+    match place {
+        Some(at) => Some(at as u16),
+        None => None,
+    }
 }
 
 impl OwnerPlaces {
     /// The places of the rows, for a plan.
     pub fn rows(&self) -> OwnerRows {
         OwnerRows {
-            user: self.user.unwrap_or(0),
-            group: self.group.unwrap_or(0),
+            user: usize::from(self.user.unwrap_or(0)),
+            group: usize::from(self.group.unwrap_or(0)),
         }
     }
 }
@@ -98,22 +111,32 @@ fn places_of(host: &Host<'_>, file: &Entry) -> Option<OwnerPlaces>
     Some(OwnerPlaces {
         uid: file.uid,
         gid: file.gid,
-        user,
-        group,
+        user: place_of_row(user),
+        group: place_of_row(group),
     })
 }
 
 // The places of the rows that own a file, which mostly are those of the file before: then nothing
-// is looked up.
-fn next_places(before: &Option<OwnerPlaces>, host: &Host<'_>, file: &Entry) -> Option<OwnerPlaces>
-    requires { IfSome before.now (ArePlaces host.now) }
+// is looked up, and nothing is written. Else they are kept for the next.
+fn next_places(
+    before: &mut Option<OwnerPlaces>,
+    host: &Host<'_>,
+    file: &Entry,
+) -> Option<OwnerPlaces>
+    requires { IfSome before.old (ArePlaces host.now) }
     ensures owned { is_some result ≡ is_none (owner_fault host.now [] file.now) }
     ensures owns { IfSome result (λ places. Owns host.now places file.now) }
-    ensures places { IfSome result (ArePlaces host.now) }
+    ensures before { IfSome before.new (ArePlaces host.now) }
 {
     match before {
         Some(places) if places.uid == file.uid && places.gid == file.gid => Some(*places),
-        Some(_) | None => places_of(host, file),
+        Some(_) | None => {
+            let found = places_of(host, file);
+            if found.is_some() {
+                *before = found;
+            }
+            found
+        }
     }
 }
 
@@ -138,7 +161,6 @@ pub fn count_file(
     let Some(places) = next_places(before, host, file) else {
         return false;
     };
-    *before = Some(places);
     add_one(&mut rows.users, places.user);
     add_one(&mut rows.groups, places.group);
     true

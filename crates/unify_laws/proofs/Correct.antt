@@ -1,5 +1,5 @@
 -- What a merge may answer is what it is correct for.
-use Rattle.std.proofs.Common.{◌≡◌, ◌⊎◌, ℕ, zero, suc, ◌+◌, ◌≤◌, ◌↔◌, true, false, List, [], ◌∷◌, map, Option, Some, None, refl, sym, ap, subst, ◌∙◌, arith}
+use Rattle.std.proofs.Common.{◌≡◌, ◌⊎◌, ℕ, zero, suc, ◌+◌, ◌≤◌, ◌↔◌, true, false, List, [], ◌∷◌, map, Option, Some, None, Ok, refl, sym, ap, subst, ◌∙◌, arith}
 use Rattle.std.specs.List.{slice_get}
 use Rattle.std.specs.Option.{is_some, option_map}
 use Rattle.std.proofs.lemmas.List.Elements.{All-weaker}
@@ -17,6 +17,7 @@ use Rattle.certcheck.specs.Reading.{certificate_in}
 use Rattle.certcheck.proofs.Spelled.{spelled_is_read}
 use Rattle.reown_plan.specs.Owners.{owner_of}
 use Rattle.reown_plan.specs.PlanData.{PlanData}
+use Rattle.reown_plan.specs.Reading.{ReadsAs}
 use Rattle.reown_plan.specs.Spelling as plan
 use Rattle.reown_plan.specs.Target.{plan_of, host_plan, name_at}
 use Rattle.reown_plan.proofs.Lawful.{plan-lawful}
@@ -35,6 +36,9 @@ use Rattle.unify.specs.Cost.{cost_of}
 use Rattle.unify.specs.Whole.{IsWhole}
 use Rattle.unify.specs.Outcomes.{IsOutcome, cost_in, hosts_in, plan_texts_from}
 use Rattle.unify.specs.Reading.{WholeSite}
+use Rattle.unify.specs.Rewritten.{files_at}
+use Rattle.unify.proofs.Rewritten.{plans_rewrite_the_cost}
+use Rattle.unify_laws.specs.Agreeing.{PrintedPlansRewriteTheCost}
 use Rattle.unify_laws.specs.Correct.{OutcomesAreCorrect, NamedFilesHaveTheirNames, NumbersTellNames, WereOne}
 use Rattle.unify_laws.specs.Headline.{HaveOneNumberEach, PlanKeepsNames, IsNamedAsBefore, IsNewNumber, IsOldOrNamed, KeepsItsNames, fields, untouched}
 use Rattle.unify_laws.specs.Installed.{AreInstalled}
@@ -76,9 +80,10 @@ name_is site h host files here =
     let there : slice_get (hosts_in site) h ≡ Some host = slice_get-map (λ (x : Host × List Entry). x.0) site.hosts h ∙ ap (option_map (λ (x : Host × List Entry). x.0)) here in
     get_or_from_slice_get (map (λ (x : Host). x.name) (hosts_in site)) h host.name [] (slice_get-map (λ (x : Host). x.name) (hosts_in site) h ∙ ap (option_map (λ (x : Host). x.name)) there)
 
-plan_keeps : (site : WholeSite) (outcome : Outcome) → IsWhole site → (o : IsOutcome site outcome) (printed : MapText) → ArePairsOf site.joined o.mappings printed
-    → (installed : AreInstalled site outcome o.mappings printed) → (h : ℕ) (host : Host) (files : List Entry) → slice_get site.hosts h ≡ Some (host, files) → PlanKeepsNames printed installed.passwd.rows installed.group.rows outcome.plans h host host files
-plan_keeps site outcome whole o printed are_pairs installed h host files here =
+-- the plan that is printed for a host is read as its records
+pub printed_plan : (site : WholeSite) (outcome : Outcome) → IsWhole site → (o : IsOutcome site outcome) → (h : ℕ) (host : Host) (files : List Entry) → slice_get site.hosts h ≡ Some (host, files)
+    → (text : List ℕ) × (slice_get outcome.plans h ≡ Some text) × ReadsAs text (Ok (record { host = host.name; records = plan_of site.joined o.mappings h files }))
+printed_plan site outcome whole o h host files here =
     let m = o.mappings in
     let is = whole.each_host h host files here in
     let records = plan_of site.joined m h files in
@@ -87,15 +92,28 @@ plan_keeps site outcome whole o printed are_pairs installed h host files here =
     let name = name_is site h host files here in
     let same : host_plan (hosts_in site) site.joined m h files ≡ made = ap (λ (n : List ℕ). record { host = n; records = records }) name in
     let ok = o.answered.least.admissible in
-    let lawful = plan-lawful (hosts_in site) site.joined m h files (subst plan.IsHostName (sym name) is.named) (is_mapping site.joined.users m.users whole.lawful.users ok.users).numbers (is_mapping site.joined.groups m.groups whole.lawful.groups ok.groups).numbers is.files_are in
+    let lawful = plan-lawful (hosts_in site) site.joined m h files (subst plan.IsHostName (sym name) is.named) (is_mapping site.joined.users m.users whole.lawful.users ok.users).numbers (is_mapping site.joined.groups m.groups whole.lawful.groups ok.groups).numbers is.files_are in (
+      plan.spelling made,
+      ap (λ texts. slice_get texts h) o.printed.plans ∙ text_at (hosts_in site) site.joined m site.hosts 0 h host files here ∙ ap (λ i. Some (plan.spelling (host_plan (hosts_in site) site.joined m i files))) from_zero ∙ ap (λ p. Some (plan.spelling p)) same,
+      (subst plan.IsLawful same lawful, refl),
+    )
+
+plan_keeps : (site : WholeSite) (outcome : Outcome) → IsWhole site → (o : IsOutcome site outcome) (printed : MapText) → ArePairsOf site.joined o.mappings printed
+    → (installed : AreInstalled site outcome o.mappings printed) → (h : ℕ) (host : Host) (files : List Entry) → slice_get site.hosts h ≡ Some (host, files) → PlanKeepsNames printed installed.passwd.rows installed.group.rows outcome.plans h host host files
+plan_keeps site outcome whole o printed are_pairs installed h host files here =
+    let m = o.mappings in
+    let is = whole.each_host h host files here in
+    let records = plan_of site.joined m h files in
+    let text = printed_plan site outcome whole o h host files here in
+    let lawful = text.2.0 in
     let old = plan_is_old site.joined m h files is.files_are.distinct in
     let at_first : Image = record { owner = owner_in files; mark = false } in
     let start = fresh_safe (owner_in files) records (cells_at (fresh at_first)) (fresh_history (owner_in files) at_first (λ path. refl) refl) old in
     record {
-      plan = plan.spelling made;
-      printed = ap (λ texts. slice_get texts h) o.printed.plans ∙ text_at (hosts_in site) site.joined m site.hosts 0 h host files here ∙ ap (λ i. Some (plan.spelling (host_plan (hosts_in site) site.joined m i files))) from_zero ∙ ap (λ p. Some (plan.spelling p)) same;
+      plan = text.0;
+      printed = text.1;
       records = records;
-      read = (subst plan.IsLawful same lawful, refl);
+      read = text.2;
       begins = old;
       only_the_device_refuses = λ asked runs there are events refused end run.
           device_alone (owner_in files) records lawful.distinct there events refused end run (runs_sound (owner_in files) records lawful.distinct (untouched asked files) runs there start are);
@@ -139,6 +157,19 @@ outcomes_are_correct site outcome whole o =
       cost_is_told = o.printed.cost ∙ sym (costs_agree site o.mappings back.pairs whole back.users back.groups);
       no_other_map_rewrites_fewer = none_fewer site outcome whole o back.pairs back.users back.groups;
       a_plan_keeps_names = plan_keeps site outcome whole o back.pairs are_pairs installed;
+    }
+
+-- what the printed plans rewrite is told as the cost
+pub printed_plans_rewrite_the_cost : PrintedPlansRewriteTheCost
+printed_plans_rewrite_the_cost site outcome whole o =
+    let m = o.mappings in
+    record {
+      records = λ h. plan_of site.joined m h (files_at site h);
+      read = λ h host files here.
+          let text = printed_plan site outcome whole o h host files here in
+          let mine : files_at site h ≡ files = get_or_from_slice_get (map (λ (x : Host × List Entry). x.1) site.hosts) h files [] (slice_get-map (λ (x : Host × List Entry). x.1) site.hosts h ∙ ap (option_map (λ (x : Host × List Entry). x.1)) here) in
+          (text.0, text.1, subst (λ fs. ReadsAs text.0 (Ok (record { host = host.name; records = plan_of site.joined m h fs }))) (sym mine) text.2);
+      cost = o.printed.cost ∙ plans_rewrite_the_cost site m;
     }
 
 -- ---- numbers and names

@@ -1,6 +1,6 @@
 -- What a site that was read is, and where its names may stand, in words of the texts.
 use Rattle.std.proofs.Common.{◌≡◌, ◌⊎◌, ℕ, zero, suc, ◌<◌, Bool, true, false, List, [], ◌∷◌, length, map, get_or, Option, Some, Ok, All, Contains, inl, inr, refl, sym, ap, subst, ◌∙◌, arith}
-use Rattle.std.specs.Prelude.{◌==◌, find, option_map}
+use Rattle.std.specs.Prelude.{◌==◌, ◌↔◌, find, is_some, option_map}
 use Rattle.std.specs.List.{AllZip, slice_get}
 use Rattle.std.specs.Str.{bytes_eq}
 use Rattle.std.proofs.lemmas.Bool.{false≢true}
@@ -20,9 +20,12 @@ use Rattle.hosts_join.specs.Accounts.{Account, Accounts, Pair, no_account}
 use Rattle.hosts_join.specs.Hosts.{IsLawfulHost}
 use Rattle.hosts_join.specs.Kinds.{group_rows-table, user_rows-table}
 use Rattle.hosts_join.specs.Laws.{LeavesOut}
+use Rattle.hosts_join.specs.Pairs.{number_of}
 use Rattle.hosts_join.specs.PinPairs.{PinPairs}
-use Rattle.hosts_join.specs.Rules.{account, class_at, is_name, is_reserved}
+use Rattle.hosts_join.specs.Rules.{account, class_at, in_pool, is_name, is_reserved}
 use Rattle.hosts_join.specs.Standings.{AreAllOffered, HostTells, IsFree, IsOffered, IsOutside, IsSomewhereRegular, StandWhereTheyMay, StandsWhereItMay, of_groups, of_users}
+use Rattle.hosts_join.specs.declared.Class.{Class}
+use Rattle.hosts_join.specs.declared.Class.TheVariants.{Pinned, Regular, System}
 use Rattle.hosts_join.specs.declared.host.Host.{Host}
 use Rattle.hosts_join.specs.declared.texts.HostText.{HostText}
 use Rattle.hosts_join.proofs.Grouping.{bytes_refl}
@@ -34,6 +37,7 @@ use Rattle.kept_accounts.specs.Keeping.{is_kept_group, is_kept_user}
 use Rattle.kept_accounts.specs.Reserving.{UnownedNumbers}
 use Rattle.kept_accounts.proofs.StayLemmas.{kept_names_stay}
 use Rattle.keep_text.specs.declared.keep_text.KeepText.{KeepText}
+use Rattle.ownership.specs.Mappings.{MayHave, number_at}
 use Rattle.unify.specs.declared.host.Loaded.{Loaded}
 use Rattle.unify.specs.declared.rules.SiteRules.{SiteRules}
 use Rattle.unify.specs.Told.{in_site}
@@ -41,6 +45,7 @@ use Rattle.unify.specs.Count.{site_of}
 use Rattle.unify.specs.FileLaws.{AreItsFiles}
 use Rattle.unify.specs.Hosts.{files_of}
 use Rattle.unify.specs.Loading.{loaded_from}
+use Rattle.unify.specs.MapLaws.{IsSomeGroup, IsSomeUser}
 use Rattle.unify.specs.Outcomes.{hosts_in}
 use Rattle.unify.specs.Passes.{AreTogether, BegunSite, site_begun}
 use Rattle.unify.specs.Reading.{WholeSite}
@@ -49,9 +54,11 @@ use Rattle.unify.proofs.FileLaws.{files_are_of_inventories}
 use Rattle.unify.proofs.ReadSites.{others-together}
 use Rattle.unify.proofs.TextLaws.{begun_sites_are_of_texts}
 use Rattle.unify.proofs.Whole.{begun_is}
-use Rattle.unify_laws.specs.SiteTexts.{NumbersStandByTexts, ReadSitesAreOfTexts, StandByTexts}
+use Rattle.unify_laws.specs.Headline.{HaveOneNumberEach}
+use Rattle.unify_laws.specs.SiteTexts.{AreGivenWhereTheyMay, GivenNumbersStandByTexts, NumbersStandByTexts, ReadSitesAreOfTexts, StandByTexts}
 use Rattle.unify_laws.specs.Texts.{mtrees}
 use Rattle.unify_laws.proofs.HostTexts.{begun_steps}
+use Rattle.unify_laws.proofs.Sparing.{numbered_at}
 use Rattle.unify_laws.proofs.WholeSites.{Steps, hosts-are, steps}
 
 -- ---- a site that was read
@@ -411,3 +418,34 @@ module _ (texts : List HostText) (rules : SiteRules) (begun : BegunSite) (is : s
 
 pub numbers_stand_by_texts : NumbersStandByTexts
 numbers_stand_by_texts texts rules begun is = stand_by_texts texts rules begun is
+
+-- ---- a number that a map gives
+
+-- a name may have the numbers that it is offered
+may-offered : (a : Accounts) (i v : ℕ) (c : Class) → class_at a i ≡ c → MayHave a c v → IsOffered a i v
+may-offered a i v (Pinned p) is may = inl (is ∙ ap Pinned (sym may))
+may-offered a i v Regular is may = inr (ap (λ c. in_pool a c v) is ∙ may)
+may-offered a i v System is may = inr (ap (λ c. in_pool a c v) is ∙ may)
+
+module _ (a : Accounts) (m : List ℕ) (given : List Pair) (one : HaveOneNumberEach a m given) where
+  given-stands : (tells : Host → HostTells) (hosts : List Host) (pins : List Pair) → StandWhereTheyMay tells hosts pins a → AreGivenWhereTheyMay tells hosts pins given
+  given-stands tells hosts pins stand name v is =
+      let at = numbered_at a m given one.say name v is in
+      let offered : IsOffered a at.0 v = subst (IsOffered a at.0) at.3 (may-offered a at.0 (number_at m at.0) (class_at a at.0) refl (one.admissible.lawful at.0 at.1)) in
+      subst (λ n. StandsWhereItMay tells hosts pins n v) (sym at.2) (stand at.0 v at.1 offered)
+
+  named-alike : (P : List ℕ → Type 0) → ((name : List ℕ) → (is_name a.names name ≡ true) ↔ P name) → (name : List ℕ) → (is_some (number_of given name) ≡ true) ↔ P name
+  named-alike P are name = (λ h. (are name).0 (sym (one.say.names name) ∙ h), λ p. one.say.names name ∙ (are name).1 p)
+
+pub given_numbers_stand_by_texts : GivenNumbersStandByTexts
+given_numbers_stand_by_texts texts rules begun m given is users groups =
+    let by = stand_by_texts texts rules begun is in
+    let full = by.of.hosts.full in
+    let keep = by.of.hosts.keep in
+    record {
+      of = by.of;
+      user_names = named-alike begun.joined.users m.users given.users users (λ name. IsSomeUser full name × (UserStays keep full name → ⊥)) by.of.users;
+      group_names = named-alike begun.joined.groups m.groups given.groups groups (λ name. IsSomeGroup full name × (GroupStays keep full name → ⊥)) by.of.groups;
+      users = given-stands begun.joined.users m.users given.users users of_users full by.of.pins.users by.users;
+      groups = given-stands begun.joined.groups m.groups given.groups groups of_groups full by.of.pins.groups by.groups;
+    }

@@ -1,9 +1,11 @@
 -- What one command prints, and what another answers to it.
 -- Source: this project's own rule.
 use Rattle.std.specs.Prelude.{◌≡◌, ◌≤◌, ℕ, List, length, Some, Ok, slice_get}
+use Rattle.mtree_inv.specs.declared.entry.Entry.{Entry}
+use Rattle.hosts_join.specs.declared.host.Host.{Host}
 use Rattle.hosts_join.specs.declared.texts.HostText.{HostText}
 use Rattle.ownership.specs.declared.mapping.Mappings.{Mappings}
-use Rattle.reown_plan.specs.PlanData.{PlanData}
+use Rattle.reown_plan.specs.PlanData.{PlanData, PlanRecord}
 use Rattle.reown_plan.specs.Reading.{ReadsAs}
 use Rattle.unify_texts.specs.declared.map_text.MapText.{MapText}
 use Rattle.unify.specs.declared.outcome.Outcome.{Outcome}
@@ -13,6 +15,8 @@ use Rattle.unify.specs.Cost.{cost_of}
 use Rattle.unify.specs.Count.{count_of}
 use Rattle.unify.specs.Outcomes.{IsOutcome}
 use Rattle.unify.specs.Reading.{WholeSite, site_read}
+use Rattle.unify.specs.Rewritten.{rewritten_by}
+use Rattle.unify.specs.Whole.{IsWhole}
 use Rattle.rehearsal.specs.Rehearsing.{IsRehearsed}
 use Rattle.unify_laws.specs.Headline.{HaveOneNumberEach, fields}
 
@@ -51,3 +55,17 @@ PrintedPlansAreRehearsed =
     → slice_get outcome.plans h ≡ Some plan
     → (told : PlanData) × ReadsAs plan (Ok told)
     × IsRehearsed plan text.mtree (Ok (length told.records))
+
+-- The plans that are printed are read as some records for each host; and what these rewrite over
+-- all hosts is the cost that is told.
+pub record PlansRewriteWhatIsTold (site : WholeSite) (outcome : Outcome) : Type 0 where
+  pub records : ℕ → List PlanRecord
+  pub read : (h : ℕ) (host : Host) (files : List Entry)
+      → slice_get site.hosts h ≡ Some (host, files)
+      → (plan : List ℕ) × (slice_get outcome.plans h ≡ Some plan)
+      × ReadsAs plan (Ok (record { host = host.name; records = records h }))
+  pub cost : outcome.cost ≡ rewritten_by records (length site.hosts)
+
+abbrev pub PrintedPlansRewriteTheCost : Type 0
+PrintedPlansRewriteTheCost = (site : WholeSite) (outcome : Outcome) → IsWhole site
+    → IsOutcome site outcome → PlansRewriteWhatIsTold site outcome

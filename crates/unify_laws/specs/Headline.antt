@@ -80,7 +80,7 @@ abbrev pub IsOldOrNamed : MapText → List Passwd → List Group → Host → Ho
 IsOldOrNamed map users groups was host tree file =
     (tree file.path ≡ Some (owner_of file)) ⊎ IsNamedAsBefore map users groups was host tree file
 
--- how many fields of files change: owner fields and group fields
+-- how many fields of files change: user fields and group fields
 abbrev pub fields : Cost → ℕ
 fields cost = cost.users + cost.groups
 
@@ -125,7 +125,7 @@ pub record PlanKeepsNames (map : MapText) (users : List Passwd) (groups : List G
 
 -- The map gives every user and group name one distinct number, in its pool or at its pin, and the
 -- merged passwd and group have exactly one row for each name, with its number; no other such
--- mapping rewrites fewer owner and group fields over all inventories, as the printed potentials
+-- mapping rewrites fewer user and group fields over all inventories, as the printed potentials
 -- prove; and while a host's plan is carried out, however often stopped, every file of it has its
 -- old owner, or by the map, and by the merged passwd and group, the user and group names it had;
 -- once the plan has finished, every file has these names. A uid or gid that had no name stays as it

@@ -15,9 +15,11 @@ ghost use Rattle.unify_laws.specs.KeptNumbers.{NoKeptNumberIsGiven, NoSurveyedNu
 ghost use Rattle.unify_laws.specs.KeptNumbers.{NoUnownedNumberIsGiven};
 ghost use Rattle.unify_laws.specs.Reserved.{ReservedNumbersAreTellable};
 ghost use Rattle.unify_laws.specs.RowCosts.{ChangedRowsAgree, NoMapChangesFewerRows};
-ghost use Rattle.unify_laws.specs.SiteTexts.{NumbersStandByTexts, ReadSitesAreOfTexts};
+ghost use Rattle.unify_laws.specs.SiteTexts.{GivenNumbersStandByTexts, NumbersStandByTexts};
+ghost use Rattle.unify_laws.specs.SiteTexts.{ReadSitesAreOfTexts};
 ghost use Rattle.unify_laws.specs.Agreeing.{PrintedCertificatesAreAccepted, PrintedMapsAreCounted};
 ghost use Rattle.unify_laws.specs.Agreeing.{NoMapRewritesFewer, PrintedPlansAreRehearsed};
+ghost use Rattle.unify_laws.specs.Agreeing.{PrintedPlansRewriteTheCost};
 
 /// Every site that was read is whole: it has at most 64 hosts, whose names are lawful, whose rows
 /// are some of those of a passwd and a group, whose tables are lawful, and whose inventories have
@@ -45,9 +47,13 @@ pub fn read_sites_are_of_texts()
 
 /// Each name of a site may have exactly the numbers at which it may stand by the texts, but for
 /// those that are reserved: by each host's passwd, or group, and its login.defs, whatever of them
-/// stays as it is, and by the pins text, whatever the keep text says.
+/// stays as it is, and by the pins text, whatever the keep text says. So a map that gives every
+/// name of a site one distinct number, in its pool or at its pin, as that of a merge does, has a
+/// number for exactly the users and the groups that some host has and that do not stay as they are,
+/// and each is one at which its name may stand by the texts.
 pub fn numbers_stand_by_texts()
-    ensures { NumbersStandByTexts }
+    ensures may { NumbersStandByTexts }
+    ensures given { GivenNumbersStandByTexts }
 {}
 
 /// A file has its owners among the accounts over all hosts exactly where it has them by its host's
@@ -59,7 +65,7 @@ pub fn owners_agree()
 /// What a merge may answer for a site that was read is correct: the map that is printed gives
 /// every name one distinct number, in its pool or at its pin, and the passwd and group that are
 /// printed have exactly one row for each name, with its number; no other such mappings rewrite
-/// fewer owner and group fields, as the printed potentials prove; and while a host's plan is
+/// fewer user and group fields, as the printed potentials prove; and while a host's plan is
 /// carried out, however often stopped, every file of it has its old owner, or by the map, and by
 /// that passwd and group, the names it had; once the plan has finished, every file has these names.
 /// A uid or gid that had no name stays as it is, and is no name's.
@@ -199,4 +205,10 @@ pub fn no_map_rewrites_fewer()
 /// many records it has.
 pub fn printed_plans_are_rehearsed()
     ensures { PrintedPlansAreRehearsed }
+{}
+
+/// The cost that a merge tells is what the plans that it prints rewrite: these are read, and so
+/// many of their records change the uid of their file, and so many the gid.
+pub fn printed_plans_rewrite_the_cost()
+    ensures { PrintedPlansRewriteTheCost }
 {}

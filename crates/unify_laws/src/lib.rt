@@ -10,6 +10,7 @@ pub use laws::{
     no_kept_number_is_given, no_map_rewrites_fewer, nothing_spared_all_owned,
     numbers_stand_by_texts, numbers_tell_names, outcomes_are_correct, owners_agree,
     passes_read_the_site, printed_certificates_are_accepted, printed_maps_are_counted,
-    printed_plans_are_rehearsed, read_sites_are_of_texts, reserved_numbers_are_tellable,
-    runs_keep_names, second_reading_is_correct, surveyed_files_are_allowed, two_passes_are_correct,
+    printed_plans_are_rehearsed, printed_plans_rewrite_the_cost, read_sites_are_of_texts,
+    reserved_numbers_are_tellable, runs_keep_names, second_reading_is_correct,
+    surveyed_files_are_allowed, two_passes_are_correct,
 };

@@ -14,7 +14,7 @@ use hosts_join::HostText;
 use std::alloc::Global;
 use unify::{KeepRules, SiteRules, begin_site};
 
-/// How many owner and group fields of files the mappings of a certificate change, where the
+/// How many user and group fields of files the mappings of a certificate change, where the
 /// certificate proves that no admissible mappings change fewer; it may be written by anybody. The
 /// tables of the hosts, the rules and the certificate are given, and the inventories are read from
 /// the files, once; those among the texts are not looked at.

@@ -14,7 +14,7 @@ use hosts_join::HostText;
 use std::alloc::Global;
 use unify::{Cost, KeepRules, begin_count};
 
-/// How many owner and group fields of files the numbers of a map text change, for any map whose
+/// How many user and group fields of files the numbers of a map text change, for any map whose
 /// names are exactly those of the hosts that are not kept; it need keep no pin and no pool. The
 /// tables of the hosts, the keep text with the numbers that files have without an account, and the
 /// map are given, and the inventories are read from the files, once; those among the texts are not

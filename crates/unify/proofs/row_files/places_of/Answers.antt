@@ -1,7 +1,7 @@
 use Rattle.std.proofs.Common.{◌≡◌, true, refl, sym, ◌∙◌}
 use Rattle.hosts_join.specs.Hosts.{allows_gid, allows_uid, spares_group, spares_user}
 use Rattle.unify.proofs.FileCounts.{allowed_place, both_allowed, group_allowed, group_refused, refused_place, spared_place, user_allowed, user_refused}
-use Rattle.unify.proofs.FilePlaces.{own-each}
+use Rattle.unify.proofs.FilePlaces.{group-few, own-each, user-few}
 use Rattle.unify.proofs.row_files.places_of.Goals as goal
 use Rattle.unify.proofs.row_files.places_of.Goals.{else-is_none-via-then-is_none+else-not-has, else-is_none-via-else-is_none, else-is_none-2-via-then-is_none-2+else-not-has-2, else-is_none-2-via-else-is_none-2}
 
@@ -21,6 +21,12 @@ returns-then-not-has-2-clause-owned c =
     let spared = sym c.has-then-is_none-2.ensures ∙ c.if-not-has-2.true in
     group_refused host file (group_allowed host file place _ (sym c.place_of_number-group.ensures.place) (refused_place place c.is_none-2.result (spares_group host file.gid) c.is_none-2.ensures c.if-is_none-2.true spared))
 
+pub place_of_row-requires : goal.place_of_row-requires
+place_of_row-requires c = user-few c.args.host.now c.args.file.now c.place_of_number-user.result (sym c.place_of_number-user.ensures.place) c.place_of_number-user.ensures.table
+
+pub place_of_row-requires-2 : goal.place_of_row-requires-2
+place_of_row-requires-2 c = group-few c.args.host.now c.args.file.now c.place_of_number-group.result (sym c.place_of_number-group.ensures.place) c.place_of_number-group.ensures.table
+
 pub returns : goal.returns
 returns c =
     let host = c.args.host.now in
@@ -35,5 +41,5 @@ returns c =
       | else-is_none-2-via-then-is_none-2+else-not-has-2 w ↦ spared_place group (spares_group host file.gid) (sym w.has-then-is_none-2.ensures ∙ w.if-not-has-2.false)
       | else-is_none-2-via-else-is_none-2 w ↦ allowed_place group c.is_none-2.result (spares_group host file.gid) c.is_none-2.ensures w.if-is_none-2.false
     ]) in
-    let each = own-each host file (record { uid = file.uid; gid = file.gid; user = user; group = group }) refl refl (sym c.place_of_number-user.ensures.place) (sym c.place_of_number-group.ensures.place) c.place_of_number-user.ensures.table c.place_of_number-group.ensures.table user_is group_is in
+    let each = own-each host file (record { uid = file.uid; gid = file.gid; user = c.place_of_row.result; group = c.place_of_row-2.result }) refl refl (sym c.place_of_number-user.ensures.place ∙ sym c.place_of_row.ensures) (sym c.place_of_number-group.ensures.place ∙ sym c.place_of_row-2.ensures) c.place_of_number-user.ensures.table c.place_of_number-group.ensures.table user_is group_is in
     record { owned = both_allowed host file user_is group_is; owns = each file refl refl; places = each }

@@ -1,7 +1,7 @@
 use Rattle.std.proofs.Common.{◌+◌, ◌<◌, List, length, get_or, ap, ◌∙◌, arith}
 use Rattle.accounts.specs.Rows.{Passwd}
 use Rattle.unify.proofs.RowCosts.{all_fields, few_fields, is_changed, one_changed, one_kept}
-use Rattle.unify.proofs.map_cost.owner_fields.Goals as goal
+use Rattle.unify.proofs.map_cost.user_fields.Goals as goal
 
 pub overflow_add-fields : goal.overflow_add-fields
 overflow_add-fields c =
