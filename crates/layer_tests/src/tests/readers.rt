@@ -7,6 +7,7 @@ use idtext::{ByteString, ReadError, TextCode, TextFault, push_escaped, push_numb
 use logindefs::IdRange;
 use mtree_inv::{Reader, read_inventory};
 use std::alloc::{AllocError, Global};
+use std::process::Abort;
 use std::test::Fail;
 
 #[test]
@@ -38,27 +39,18 @@ fn too_many_entries(rt: HostRuntime) -> Result<(), Fail> {
     Ok(())
 }
 
-// What a reader answers once it has refused a text.
-#[derive(Clone, Copy)]
-struct AfterRefusal {
-    fed: Result<(), ReadError>,
-    fed_again: Result<(), ReadError>,
-    finished: Result<(), ReadError>,
-    is_finished: bool,
-    first: Option<u32>,
-    has_second: bool,
+// The user of the next file.
+fn next_uid(reader: &mut Reader) -> Option<u32> {
+    reader.next_entry().map(|file| file.uid)
 }
 
-fn feed_a_refused_text(alloc: Global) -> AfterRefusal {
-    let mut reader = Reader::new(alloc, 9);
-    AfterRefusal {
-        fed: reader.feed(b"./f uid=1 gid=2\n..\n"),
-        fed_again: reader.feed(b"./g uid=1 gid=2\n"),
-        finished: reader.finish(),
-        is_finished: reader.is_finished(),
-        first: reader.next_entry().map(|file| file.uid),
-        has_second: reader.next_entry().is_some(),
-    }
+// Whether a reader that has refused a text gives that answer again, whatever comes.
+fn repeats(reader: &mut Reader, refused: Result<(), ReadError>) -> bool
+    requires { reader.old.is_finished ≡ false }
+{
+    let fed = reader.feed(b"./g uid=1 gid=2\n");
+    let finished = reader.finish();
+    fed == refused && finished == refused && !reader.is_finished()
 }
 
 // The next seven are to be run with each growth refused in turn, too.
@@ -66,27 +58,24 @@ fn feed_a_refused_text(alloc: Global) -> AfterRefusal {
 // A reader answers its refusal again, whatever comes, and hands out the files before it.
 #[test]
 fn refused_reader_keeps_its_fault(rt: HostRuntime) -> Result<(), Fail> {
-    let reader = feed_a_refused_text(rt.alloc());
-    assert_eq!(rt; reader.fed_again, reader.fed);
-    assert_eq!(rt; reader.finished, reader.fed);
-    assert!(rt; !reader.is_finished && !reader.has_second);
-    assert_eq!(rt;
-        fault_of(reader.fed.err())?,
-        fault(TextCode::DotDotAbove, 2)
-    );
-    assert_eq!(rt; reader.first, Some(1));
+    let mut reader = Reader::new(rt.alloc(), 9);
+    let refused = reader.feed(b"./f uid=1 gid=2\n..\n");
+    assert!(rt; repeats(&mut reader, refused));
+    let first = next_uid(&mut reader);
+    assert_eq!(rt; next_uid(&mut reader), None);
+    assert_eq!(rt; fault_of(refused.err())?, fault(TextCode::DotDotAbove, 2));
+    assert_eq!(rt; first, Some(1));
     Ok(())
 }
 
-// Whether a reader has this answer to a text: its fault, and the user of each file.
-fn answers(
-    reader: &mut Reader,
-    text: &[u8],
-    fault: Option<TextFault>,
-    uids: &[u32],
-) -> Result<bool, AllocError>
+// A text, and the answer to it: its fault, and the user of each file.
+type Answer = (&'static [u8], Option<TextFault>, &'static [u32]);
+
+// Whether a reader has this answer.
+fn answers(reader: &mut Reader, answer: Answer) -> Result<bool, AllocError>
     requires { reader.old.is_finished ≡ false }
 {
+    let (text, fault, uids) = answer;
     let refusal = match reader.feed(text) {
         Ok(()) => reader.finish().err(),
         Err(refusal) => Some(refusal),
@@ -95,14 +84,52 @@ fn answers(
         return Ok(false);
     }
     for uid in uids {
-        if reader.next_entry().map(|file| file.uid) != Some(*uid) {
+        if next_uid(reader) != Some(*uid) {
             return Ok(false);
         }
     }
-    Ok(reader.next_entry().is_none())
+    Ok(next_uid(reader).is_none())
+}
+
+// How a reader begins a text that is not its first, and how many files it takes of it at most.
+#[derive(Clone, Copy)]
+enum Begin {
+    Restart(u32),
+    Rewind(u32),
+}
+
+type Step = (Begin, Answer);
+
+fn answers_next(reader: &mut Reader, (begin, answer): Step) -> Result<bool, AllocError> {
+    match begin {
+        Begin::Restart(most) => reader.restart(most),
+        Begin::Rewind(most) => reader.rewind(most),
+    }
+    answers(reader, answer)
+}
+
+// The place of the first of these steps that a reader answers in another way.
+fn wrong_step(reader: &mut Reader, steps: &[Step]) -> Result<Option<usize>, AllocError> {
+    for (i, step) in steps.iter().enumerate() {
+        if !answers_next(reader, *step)? {
+            return Ok(Some(i));
+        }
+    }
+    Ok(None)
+}
+
+// A reader that keeps hashes has this answer to its first text, and then that of each step.
+fn check_steps(rt: &impl Abort, alloc: Global, first: Answer, steps: &[Step]) -> Result<(), Fail> {
+    let mut reader = Reader::new(alloc, 9);
+    reader.keep_hashes();
+    assert!(rt; answers(&mut reader, first)?);
+    assert_eq!(rt; wrong_step(&mut reader, steps)?, None);
+    Ok(())
 }
 
 const THREE_FILES: &[u8] = b"./f uid=1 gid=9\n./g uid=2 gid=9\n./h uid=3 gid=9\n";
+
+const THREE: Answer = (THREE_FILES, None, &[1, 2, 3]);
 
 const OWNERS_DIFFER_ON_3: TextFault = TextFault {
     code: TextCode::OwnersDiffer,
@@ -114,13 +141,10 @@ const OWNERS_DIFFER_ON_4: TextFault = TextFault {
     line: 4,
 };
 
-// A text, and the answer to it.
-type SecondText = (&'static [u8], Option<TextFault>, &'static [u32]);
-
 // What comes where the three files are expected: they, in another order, fewer, one more, other
 // ones, one twice with one owner, and one twice with two, as the third and as the fourth.
-const SECOND_TEXTS: [SecondText; 8] = [
-    (THREE_FILES, None, &[1, 2, 3]),
+const SECOND_TEXTS: [Answer; 8] = [
+    THREE,
     (
         b"./f uid=1 gid=9\n./h uid=3 gid=9\n./g uid=2 gid=9\n",
         None,
@@ -152,52 +176,38 @@ const SECOND_TEXTS: [SecondText; 8] = [
 
 #[test]
 fn second_text_may_be_another(rt: HostRuntime) -> Result<(), Fail> {
-    for (text, fault, uids) in SECOND_TEXTS {
-        let mut reader = Reader::new(rt.alloc(), 9);
-        reader.keep_hashes();
-        assert!(rt; answers(&mut reader, THREE_FILES, None, &[1, 2, 3])?);
-        reader.rewind(9);
-        assert!(rt; answers(&mut reader, text, fault, uids)?);
+    for second in SECOND_TEXTS {
+        check_steps(&rt, rt.alloc(), THREE, &[(Begin::Rewind(9), second)])?;
     }
     Ok(())
 }
 
-const TWO_FILES: &[u8] = b"./f uid=4 gid=9\n./x uid=5 gid=9\n";
+const TWO: Answer = (b"./f uid=4 gid=9\n./x uid=5 gid=9\n", None, &[4, 5]);
 
 // Two texts come twice, the second then once more. A reader that is rewound again is a new one.
 #[test]
 fn texts_come_twice(rt: HostRuntime) -> Result<(), Fail> {
-    let mut reader = Reader::new(rt.alloc(), 9);
-    reader.keep_hashes();
-    assert!(rt; answers(&mut reader, THREE_FILES, None, &[1, 2, 3])?);
-    reader.restart(9);
-    assert!(rt; answers(&mut reader, TWO_FILES, None, &[4, 5])?);
-    reader.rewind(9);
-    assert!(rt; answers(&mut reader, THREE_FILES, None, &[1, 2, 3])?);
-    reader.restart(9);
-    assert!(rt; answers(&mut reader, TWO_FILES, None, &[4, 5])?);
-    reader.restart(9);
-    assert!(rt; answers(&mut reader, TWO_FILES, None, &[4, 5])?);
-    reader.rewind(9);
-    assert!(rt; answers(&mut reader, TWO_FILES, None, &[4, 5])?);
-    Ok(())
+    let steps = [
+        (Begin::Restart(9), TWO),
+        (Begin::Rewind(9), THREE),
+        (Begin::Restart(9), TWO),
+        (Begin::Restart(9), TWO),
+        (Begin::Rewind(9), TWO),
+    ];
+    check_steps(&rt, rt.alloc(), THREE, &steps)
 }
 
 // The table is full where its last file is an expected one.
 #[test]
 fn second_text_fills_the_table(rt: HostRuntime) -> Result<(), Fail> {
-    let mut reader = Reader::new(rt.alloc(), 9);
-    reader.keep_hashes();
-    assert!(rt; answers(&mut reader, TWO_FILES, None, &[4, 5])?);
-    reader.restart(9);
-    assert!(rt; answers(&mut reader, THREE_FILES, None, &[1, 2, 3])?);
-    reader.rewind(2);
     let known_again = b"./f uid=4 gid=9\n./x uid=5 gid=9\n./f uid=4 gid=9\n";
-    assert!(rt; answers(&mut reader, known_again, None, &[4, 5])?);
-    reader.restart(2);
     let refused = fault(TextCode::TooManyEntries, 3);
-    assert!(rt; answers(&mut reader, THREE_FILES, refused, &[1, 2])?);
-    Ok(())
+    let steps = [
+        (Begin::Restart(9), THREE),
+        (Begin::Rewind(2), (known_again, None, &[4, 5])),
+        (Begin::Restart(2), (THREE_FILES, refused, &[1, 2])),
+    ];
+    check_steps(&rt, rt.alloc(), TWO, &steps)
 }
 
 // Whether a push to the text `a` made it so long, or answered the error and left it as it was.
