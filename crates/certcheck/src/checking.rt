@@ -76,7 +76,7 @@ fn check_kind<'a>(
     Ok(moved_files(names, counts, rows))
 }
 
-/// The cost of the certificate's mappings, where it certifies them: how many owner fields and group
+/// The cost of the certificate's mappings, where it certifies them: how many user fields and group
 /// fields of the counted files they change. Requires that the counters were made for the site and
 /// stand for some list of added files, as those of `Counts::new` to which files were added do.
 ///

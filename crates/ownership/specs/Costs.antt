@@ -40,7 +40,7 @@ pub record IsOptimal (a : Accounts) (files : List File) (m : List ℕ) : Type 0 
   pub least : IsLeast a files m
   pub fewest_rows : ChangesFewestRows a files m
 
--- The cost for a whole site: the owner fields and the group fields that change, over every file of
+-- The cost for a whole site: the user fields and the group fields that change, over every file of
 -- every host.
 abbrev pub site_cost : Joined → List Added → Mappings → ℕ
 site_cost site files m =

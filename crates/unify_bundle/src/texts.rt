@@ -38,7 +38,7 @@ pub fn survey_texts<'a>(
     files.answer(found)
 }
 
-/// How many owner and group fields of the hosts' files the numbers of a map text change, for any
+/// How many user and group fields of the hosts' files the numbers of a map text change, for any
 /// map whose names are exactly those of the hosts that the keep text does not keep; it need keep no
 /// pin and no pool.
 ///
@@ -63,7 +63,7 @@ pub fn count<'a>(
     files.answer(cost)
 }
 
-/// How many owner and group fields the mappings of a certificate change, where the certificate
+/// How many user and group fields the mappings of a certificate change, where the certificate
 /// proves that no admissible mappings change fewer; it may be written by anybody.
 ///
 /// It refuses with the first fault in this order: those of `merge`; the certificate's text,
@@ -109,7 +109,7 @@ pub fn merge_hosts<'a>(
 }
 
 /// One passwd and one group for all hosts, the map of every name to its number, its certificate, a
-/// report and a plan for each host, where the map changes as few owner and group fields of files as
+/// report and a plan for each host, where the map changes as few user and group fields of files as
 /// possible.
 ///
 /// It refuses with the first fault in this order: the host list; host by host login.defs, passwd,

@@ -104,7 +104,7 @@ const HOSTS: Argument = Argument {
 // count [--quiet] [--keep FILE] MAP HOST...
 const COUNT: Subcommand = Subcommand {
     name: "count",
-    about: "Counts the owner and group fields of files that a map would change",
+    about: "Counts the user and group fields of files that a map would change",
     usage: None,
     arguments: &[
         QUIET,
@@ -121,7 +121,7 @@ const COUNT: Subcommand = Subcommand {
 // merge [--quiet] [--pins FILE] [--keep FILE] OUT HOST..., or the same with -o OUT HOST...
 const MERGE: Subcommand = Subcommand {
     name: "merge",
-    about: "Merges the accounts of hosts so that as few owner and group fields as possible change",
+    about: "Merges the accounts of hosts so that as few user and group fields as possible change",
     usage: Some(
         "unify merge [--quiet] [--pins FILE] [--keep FILE] OUT HOST...\n       \
         unify merge [--quiet] [--pins FILE] [--keep FILE] -o OUT HOST...",
@@ -153,7 +153,7 @@ const MERGE: Subcommand = Subcommand {
 // check [--quiet] [--pins FILE] [--keep FILE] CERTIFICATE HOST...
 const CHECK: Subcommand = Subcommand {
     name: "check",
-    about: "Checks that no map changes fewer owner and group fields than that of a certificate",
+    about: "Checks that no map changes fewer user and group fields than that of a certificate",
     usage: None,
     arguments: &[
         QUIET,
