@@ -1,5 +1,6 @@
 //! Laws of certifying potentials and of owners, each the contract of a call that does nothing.
 ghost use Rattle.ownership.specs.FillingExample.{ExampleOfFilling, ExampleOfWeights};
+ghost use Rattle.ownership.specs.FillingExample.{ExampleOfSystemFilling};
 ghost use Rattle.ownership.specs.Owned.{OwnedFilesAreAll};
 ghost use Rattle.ownership.specs.Potentials.{CertifiedIsOptimal, CertifiedIsTight};
 
@@ -24,8 +25,11 @@ pub fn owned_files_are_all()
 {}
 
 /// Weights and a filling by example: of three users who have one number on three hosts, what it
-/// weighs for two; and that the two who do not keep it are served in byte order of their names.
+/// weighs for two; and that the two who do not keep it are served in byte order of their names. Of
+/// two system users the first in byte order has the smallest number of their pool, and the other
+/// the smallest that is left, where the one between is pinned.
 pub fn filling_by_example()
     ensures weights { ExampleOfWeights }
     ensures filling { ExampleOfFilling }
+    ensures systems { ExampleOfSystemFilling }
 {}
