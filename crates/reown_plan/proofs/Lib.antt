@@ -6,7 +6,9 @@ pub mod Cuts
 pub mod Wholes
 pub mod Unique
 pub mod Faults
+pub mod OneFront
 pub mod Readings
+pub mod BadByte
 pub mod Begins
 pub mod Total
 pub mod Repeats

@@ -2,13 +2,13 @@ pub mod PlanData
 pub mod Records
 pub mod Spelling
 pub mod Reading
+pub mod BadByte
 pub mod Mark
 pub mod Owners
 pub mod Target
 pub mod Keeps
 pub mod OwnerChange
 pub mod NewOwners
-pub mod Numbers
 pub mod Places
 pub mod Fronts
 pub mod Examples

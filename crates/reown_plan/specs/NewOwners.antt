@@ -15,7 +15,7 @@ HasNumbers owners = AreForSite owners.site.now owners.mappings.now
 abbrev pub target_of : NewOwners → Entry → Owner
 target_of owners = target owners.site.now owners.mappings.now owners.host
 
--- it is what the files of an owner get
-abbrev pub IsChangeOf : NewOwners → OwnerChange → Type 0
-IsChangeOf owners change =
-    IsChange owners.site.now owners.mappings.now owners.host change
+-- it is what the files of the owner get
+abbrev pub IsChangeOf : NewOwners → Owner → OwnerChange → Type 0
+IsChangeOf owners owner change =
+    IsChange owners.site.now owners.mappings.now owners.host owner change

@@ -1,21 +1,32 @@
 -- What the files of one owner get.
--- Source: this project's own rule.
-use Rattle.std.specs.Prelude.{◌≡◌, ℕ}
+-- Source: this project's own rule, and its own format.
+use Rattle.std.specs.Prelude.{◌≡◌, ℕ, List, ◌++◌, Option, None, Some, if◌then◌else◌}
 use Rattle.hosts_join.specs.Site.{Joined}
 use Rattle.ownership.specs.declared.mapping.Mappings.{Mappings}
 use Rattle.reown_plan.specs.declared.plan.Owner.{Owner}
+use Rattle.reown_plan.specs.Owners.{owner_eq}
+use Rattle.reown_plan.specs.Spelling.{number}
 use Rattle.reown_plan.specs.Target.{renumbered}
 
--- an owner of files, and the owner that these get
-pub record OwnerChange : Type 0 where
-  pub before : Owner
-  pub after : Owner
+-- how the record of a file begins that has the first owner and gets the other
+abbrev pub numbers : Owner → Owner → List ℕ
+numbers before after =
+    number before.uid ++ number before.gid ++ number after.uid ++ number after.gid
 
--- it is what the mappings give on the host
-abbrev pub IsChange : Joined → Mappings → ℕ → OwnerChange → Type 0
-IsChange site m host change =
-    change.after
-    ≡ record {
-      uid = renumbered site.users m.users host change.before.uid;
-      gid = renumbered site.groups m.groups host change.before.gid;
-    }
+-- the same, and nothing where the owner stays
+abbrev pub printed : Owner → Owner → Option (List ℕ)
+printed before after = if owner_eq before after then None else Some (numbers before after)
+
+-- how the records of an owner's files begin, if there are any
+abbrev pub OwnerChange : Type 0
+OwnerChange = Option (List ℕ)
+
+-- it is so for this owner, whose files get what the mappings give on the host
+abbrev pub IsChange : Joined → Mappings → ℕ → Owner → OwnerChange → Type 0
+IsChange site m host owner change =
+    change
+    ≡ printed owner
+    (record {
+      uid = renumbered site.users m.users host owner.uid;
+      gid = renumbered site.groups m.groups host owner.gid;
+    })

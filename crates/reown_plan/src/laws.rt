@@ -14,6 +14,7 @@ ghost use Rattle.reown_plan.specs.Mark.{mark_of, mark_eq};
 ghost use Rattle.reown_plan.specs.PlanData.{PlanData};
 ghost use Rattle.reown_plan.specs.Spelling.{spelling, IsHostName, IsLawful};
 ghost use Rattle.reown_plan.specs.Reading.{ReadsAs};
+ghost use Rattle.reown_plan.specs.BadByte.{BadByteIsTold};
 ghost use Rattle.reown_plan.specs.Target.{target, plan_of, host_plan, name_at, owner_after};
 
 /// A plan has one spelling, and none begins another's.
@@ -27,6 +28,12 @@ pub fn one_reading()
     ensures some { (text : List ℕ) → (reading : Result PlanData ℕ) × ReadsAs text reading }
     ensures only { (text : List ℕ) (one other : Result PlanData ℕ) → ReadsAs text one
         → ReadsAs text other → one ≡ other }
+{}
+
+/// Where a text is no plan, the byte of its fault is the first after its longest beginning that is
+/// a plan, or a plan that lacks its end alone; where it has no such beginning, the first byte.
+pub fn bad_byte_is_told()
+    ensures { BadByteIsTold }
 {}
 
 /// The plan that is written for a host is read back, where its name is lawful, its files are those

@@ -2,7 +2,7 @@
 ghost use Rattle.std.specs.Prelude.{◌≡◌, ◌+◌, ◌≤◌, ◌++◌, ◌∷◌, [], is_ok, if◌then◌else◌};
 ghost use Rattle.std.specs.Prelude.{length, drop};
 ghost use Rattle.reown_plan.specs.Spelling.{number};
-ghost use Rattle.reown_plan.specs.Numbers.{numbers};
+ghost use Rattle.reown_plan.specs.OwnerChange.{numbers};
 
 use crate::Owner;
 use idtext::push_parts;
@@ -14,19 +14,19 @@ use std::marker::Model;
 // bits has ten digits at most.
 #[derive(Drop)]
 pub(crate) struct PrintedNumbers {
+    length: u8,
+    // They are the first bytes, so that what is mostly read of them stands together.
     bytes: [u8; 44],
-    // They end where the bytes end.
-    start: u8,
 }
 
 impl Model for PrintedNumbers {
-    ghost use Rattle.std.specs.Prelude.{List, ℕ, ◌≤◌, drop};
+    ghost use Rattle.std.specs.Prelude.{List, ℕ, ◌≤◌, take};
 
     ghost Value = { List ℕ };
 
-    ghost view = { λ n. drop n.start n.bytes };
+    ghost view = { λ n. take n.length n.bytes };
 
-    ghost invariant = { λ n. n.start ≤ 44 };
+    ghost invariant = { λ n. n.length ≤ 44 };
 }
 
 // Writes a number and the space after it, so that they end at an index, and tells where they
@@ -65,12 +65,15 @@ impl PrintedNumbers {
     pub(crate) fn new(before: Owner, after: Owner) -> PrintedNumbers
         ensures { result ≡ numbers before after }
     {
+        let mut written = [0; 44];
+        let middle = write_owner(after.uid, after.gid, &mut written, 44);
+        let start = write_owner(before.uid, before.gid, &mut written, middle);
+        let length = 44 - start;
         let mut bytes = [0; 44];
-        let middle = write_owner(after.uid, after.gid, &mut bytes, 44);
-        let start = write_owner(before.uid, before.gid, &mut bytes, middle);
+        bytes[..length].copy_from_slice(&written[start..]);
         PrintedNumbers {
+            length: length as u8,
             bytes,
-            start: start as u8,
         }
     }
 
@@ -87,7 +90,7 @@ impl PrintedNumbers {
         push_parts(
             text,
             &[
-                &self.bytes[usize::from(self.start)..],
+                &self.bytes[..usize::from(self.length)],
                 &length[start..],
                 path,
                 b"\n".as_slice(),

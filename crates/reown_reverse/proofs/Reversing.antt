@@ -70,6 +70,20 @@ reversed-lawful plan lawful = record {
   distinct = reversed-distinct plan.records lawful.distinct;
 }
 
+-- ---- what a reverse says
+
+pub same-paths : (records : List PlanRecord) → map (λ (r : PlanRecord). r.path) (reversed_records records) ≡ map (λ (r : PlanRecord). r.path) records
+same-paths [] = refl
+same-paths (r ∷ records) = ap (λ (ps : List (List ℕ)). r.path ∷ ps) (same-paths records)
+
+pub old-from-new : (records : List PlanRecord) → map (λ (r : PlanRecord). r.before) (reversed_records records) ≡ map (λ (r : PlanRecord). r.after) records
+old-from-new [] = refl
+old-from-new (r ∷ records) = ap (λ (os : List Owner). r.after ∷ os) (old-from-new records)
+
+pub new-from-old : (records : List PlanRecord) → map (λ (r : PlanRecord). r.after) (reversed_records records) ≡ map (λ (r : PlanRecord). r.before) records
+new-from-old [] = refl
+new-from-old (r ∷ records) = ap (λ (os : List Owner). r.before ∷ os) (new-from-old records)
+
 -- ---- the text of a reverse
 
 -- the line that gives the file of a record back what it had

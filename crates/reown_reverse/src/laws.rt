@@ -1,5 +1,5 @@
 //! What holds of a plan that is taken back.
-ghost use Rattle.std.specs.Prelude.{◌≡◌, ℕ, List, All};
+ghost use Rattle.std.specs.Prelude.{◌≡◌, ℕ, List, All, map};
 ghost use Rattle.hosts_join.specs.Site.{Joined};
 ghost use Rattle.mtree_inv.specs.Files.{HaveDistinctFiles};
 ghost use Rattle.mtree_inv.specs.declared.entry.Entry.{Entry};
@@ -19,4 +19,16 @@ pub fn reverses_take_back()
         → HaveDistinctFiles files
         → All (λ f. owner_after (reversed_records (plan_of site m host files))
         (at_owner (owner_after (plan_of site m host files) f) f) ≡ owner_of f) files }
+{}
+
+/// The reverse of a plan is of the plan's host. Its records have the paths of the plan's records in
+/// their order; each goes from the new owner of that record to the old one.
+pub fn reverses_exchange_owners()
+    ensures host { (plan : PlanData) → (reversed plan).host ≡ plan.host }
+    ensures paths { (plan : PlanData)
+        → map (λ r. r.path) (reversed plan).records ≡ map (λ r. r.path) plan.records }
+    ensures before { (plan : PlanData)
+        → map (λ r. r.before) (reversed plan).records ≡ map (λ r. r.after) plan.records }
+    ensures after { (plan : PlanData)
+        → map (λ r. r.after) (reversed plan).records ≡ map (λ r. r.before) plan.records }
 {}

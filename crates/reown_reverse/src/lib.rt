@@ -4,5 +4,5 @@
 mod laws;
 mod reverse;
 
-pub use laws::reverses_take_back;
+pub use laws::{reverses_exchange_owners, reverses_take_back};
 pub use reverse::reversed_text;

@@ -8,7 +8,10 @@ use Rattle.reown_plan.proofs.write.plan_text.Goals as goal
 pub loop-entry-preserved : goal.loop-entry-preserved
 loop-entry-preserved c =
     let within : c.loop-entry.entry-index < length c.entries-entry-items.result.now = search rules in
+    let to = target_of c.args.owners.now in
+    let entry = c.entry-item.result in
+    let appended = c.in_ok-push_plan_entry.ensures.appended (to entry) c.new-change.ensures in
+    let text = c.in_ok-push_plan_entry.ensures.text (to entry) c.new-change.ensures in
     record {
-      planned = text_more (target_of c.args.owners.now) (head (name_at c.args.hosts.now c.args.owners.now.host)) c.loop-entry.text.items _ _ c.loop-entry.entry-index c.entry-item.result c.in_ok-push_plan_entry.field-0 within c.entry-item.is c.in_ok-push_plan_entry.ensures.appended c.loop-entry.invariant.planned c.in_ok-push_plan_entry.ensures.text;
-      last = c.push_plan_entry.ensures.last;
+      planned = text_more to (head (name_at c.args.hosts.now c.args.owners.now.host)) c.loop-entry.text.items _ _ c.loop-entry.entry-index entry c.in_ok-push_plan_entry.field-0 within c.entry-item.is appended c.loop-entry.invariant.planned text;
     }
