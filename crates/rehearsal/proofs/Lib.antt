@@ -3,3 +3,4 @@ pub mod Fewer
 pub mod Rehearsed
 pub mod PlanRehearsals
 pub mod RehearsalLaws
+pub mod Refusals

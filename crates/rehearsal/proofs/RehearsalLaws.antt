@@ -84,6 +84,15 @@ foreign_told false p q h = (refl, cc)
 missing_told : (p q : List ℕ) → ◌≡◌ {A = Option Fault} (Some (Missing p)) (Some (Missing q)) → p ≡ q
 missing_told p q h = cc
 
+foreign_alone : (b : Bool) (p : List ℕ) (f : Fault) → cond b None (Some (Foreign p)) ≡ Some f → f ≡ Foreign p
+foreign_alone true p f h = absurd (cc)
+foreign_alone false p f h = cc
+
+-- a record's file is told as missing or as foreign, and no other fault
+either_told : (r : PlanRecord) (has : Option Owner) (f : Fault) → found_fault r has ≡ Some f → (f ≡ Missing r.path) ⊎ (f ≡ Foreign r.path)
+either_told r None f h = inl (cc)
+either_told r (Some has) f h = inr (foreign_alone (owner_eq has r.before || owner_eq has r.after) r.path f h)
+
 module _ (files : List Entry) (r : PlanRecord) where
   told_none : (o : Option Entry) → Finds r.path files o → found_fault r (option_map owner_of o) ≡ None → IsFound files r
   told_none None there h = absurd (cc)
@@ -140,6 +149,22 @@ module _ (plan : PlanData) (mtree : List ℕ) (files : List Entry) (read : inven
   first_told : (f : Fault) → rehearsed (Ok plan) mtree ≡ Err f → FirstFault judge plan.records f
   first_told f h = first_fails judge [] plan.records f (unless_err (first_fault (record_fault files) [] plan.records) (length plan.records) f (sym carried ∙ h))
 
+  abbrev Unfound : Type 0
+  Unfound = (path : List ℕ) × ((rehearsed (Ok plan) mtree ≡ Err (Missing path)) ⊎ (rehearsed (Ok plan) mtree ≡ Err (Foreign path)))
+
+  not_all : (All (IsFound files) plan.records → ⊥) → (o : Option Fault) → first_fault (record_fault files) [] plan.records ≡ o → Unfound
+  not_all unfound None none = absurd (unfound (all_found plan.records (none_fails judge [] plan.records none)))
+  not_all unfound (Some f) some =
+      let answer : rehearsed (Ok plan) mtree ≡ Err f = carried ∙ ap (λ o. unless o (length plan.records)) some in
+      let first = first_told f answer in
+      let r = first.item in (
+        r.path,
+        elim (either_told r (owner_in files r.path) f first.told) [
+          | inl is ↦ inl (subst (λ x. rehearsed (Ok plan) mtree ≡ Err x) is answer)
+          | inr is ↦ inr (subst (λ x. rehearsed (Ok plan) mtree ≡ Err x) is answer)
+        ],
+      )
+
   missing : (path : List ℕ) → rehearsed (Ok plan) mtree ≡ Err (Missing path) → FirstNotFound files plan.records path (λ planned. All (λ e. e.path ≢ path) files)
   missing path h =
       let first = first_told (Missing path) h in
@@ -175,6 +200,7 @@ rehearsals_tell plan mtree files read =
     record {
       number = answered plan mtree files read;
       all_found = counted plan mtree files read;
+      not_all = λ unfound. not_all plan mtree files read unfound (first_fault (record_fault files) [] plan.records) refl;
       missing = missing plan mtree files read;
       foreign = foreign plan mtree files read;
     }

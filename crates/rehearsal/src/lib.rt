@@ -6,6 +6,6 @@ mod laws;
 mod plan_rehearsal;
 mod rehearsing;
 
-pub use laws::rehearsals_tell_files;
+pub use laws::{refusals_are_told, rehearsals_tell_files};
 pub use plan_rehearsal::{Rehearsal, plan_at};
 pub use rehearsing::rehearse;
