@@ -15,6 +15,7 @@ pub mod MapExample
 pub mod ReservedLemmas
 pub mod BundleWords
 pub mod FaultExamples
+pub mod FaultsTold
 pub mod ReportBack
 pub mod WholeReport
 pub mod ReportExample

@@ -17,7 +17,9 @@ pub mod ReportBack
 pub mod WholeReport
 pub mod ReportExample
 pub mod Told
+pub mod FaultsTold
 pub mod Limits
+pub mod LimitDigits
 pub mod BundleLines
 pub mod BundleWords
 pub mod Bundles

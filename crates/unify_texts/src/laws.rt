@@ -5,9 +5,11 @@ ghost use Rattle.unify_texts.specs.BundleSpelling.{FirstBadIsTold};
 ghost use Rattle.unify_texts.specs.BundleWords.{WordsAreRead};
 ghost use Rattle.unify_texts.specs.FaultExamples as example;
 ghost use Rattle.unify_texts.specs.FaultExamples.{AreTold, StatusesGoByFaults};
+ghost use Rattle.unify_texts.specs.FaultsTold.{FaultsAreTold};
 ghost use Rattle.unify_texts.specs.Figures.{FiguresAddUp};
 ghost use Rattle.unify_texts.specs.FiguresExample.{ExampleOfFigures};
 ghost use Rattle.unify_texts.specs.KeptNames.{KeptNamesAreSeen};
+ghost use Rattle.unify_texts.specs.LimitDigits.{LimitsByDigit};
 ghost use Rattle.unify_texts.specs.MapExample.{ExampleOfMap};
 ghost use Rattle.unify_texts.specs.MapForms.{AcceptedMapsMayStand, FirstBadMapLineIsTold};
 ghost use Rattle.unify_texts.specs.MapForms.{MapsAreListed};
@@ -130,4 +132,17 @@ pub fn fault_lines_by_example()
 /// lawful and is rejected, and 1 for any other fault.
 pub fn statuses_go_by_faults()
     ensures { StatusesGoByFaults }
+{}
+
+/// Where a contract speaks of the fault that an error tells, it is none for want of memory, and for
+/// any other error the fault itself: of a line of a file, of a pins text, of hosts that are joined,
+/// and of a command.
+pub fn faults_are_told()
+    ensures { FaultsAreTold }
+{}
+
+/// How large an input may be, digit by digit: an inventory has at most 16777216 files, and a line
+/// at most 65535 bytes.
+pub fn limits_by_digit()
+    ensures { LimitsByDigit }
 {}

@@ -23,9 +23,9 @@ pub use fault_text::fault_line;
 pub use figures::{Figures, figures_under};
 pub use laws::{
     bad_map_lines_are_told, bundle_words_are_read, bundles_are_spelled, fault_lines_by_example,
-    figures_add_up, kept_names_are_seen, maps_are_listed, reports_by_example, reports_read_back,
-    reports_tell_all, reserved_lines_read_back, statuses_go_by_faults, written_map_by_example,
-    written_maps_are_pins, written_maps_read_back,
+    faults_are_told, figures_add_up, kept_names_are_seen, limits_by_digit, maps_are_listed,
+    reports_by_example, reports_read_back, reports_tell_all, reserved_lines_read_back,
+    statuses_go_by_faults, written_map_by_example, written_maps_are_pins, written_maps_read_back,
 };
 pub use limits::MOST_FILES;
 pub use map_text::{MapText, read_map, write_map};
