@@ -1,18 +1,13 @@
 -- Files that are counted.
-use Rattle.std.proofs.Common.{◌≡◌, ◌≤◌, ◌+◌, ℕ, Bool, true, false, cond, not, ◌&&◌, List, [], ◌∷◌, ◌++◌, get_or, Option, None, Some, map, take, length, reverse, refl, sym, ◌∙◌, ap, subst, arith}
-use Rattle.std.specs.List.{All}
-use Rattle.std.specs.Option.{option_or}
+use Rattle.std.proofs.Common.{◌≡◌, ◌≤◌, ◌+◌, ℕ, Bool, true, false, cond, not, ◌&&◌, List, [], ◌∷◌, ◌++◌, None, Some, map, take, length, reverse, refl, sym, ◌∙◌, ap, arith}
 use Rattle.std.specs.List.{count_by}
-use Rattle.std.proofs.lemmas.List.{append_assoc, length-map, length-take-le, map-append, reverse-append}
-use Rattle.std.proofs.lemmas.List.Elements.{All-append}
+use Rattle.std.proofs.lemmas.List.{length-map, length-take-le, map-append, reverse-append}
 use Rattle.std.proofs.lemmas.List.Sums.{sum_by-append, sum_by_push}
 use Rattle.reown_plan.specs.Owners.{owner_eq}
 use Rattle.reown_plan.specs.PlanData.{PlanRecord}
 use Rattle.reown_files.specs.declared.counting.OwnerCounts.{OwnerCounts}
-use Rattle.reown_files.specs.declared.counting.Unfit.{Unfit}
-use Rattle.reown_files.specs.declared.counting.Unfit.TheVariants.{Foreign}
 use Rattle.reown_files.specs.Calls.{Called}
-use Rattle.reown_files.specs.Counting.{Look, is_before, is_after, is_missing, is_foreign, has_set_id, has_several_names, counts_of, with_one, files_of, unfit, IsFit, IsFirstUnfit, call_of}
+use Rattle.reown_files.specs.Counting.{Look, is_before, is_after, is_missing, is_foreign, has_set_id, has_several_names, counts_of, with_one, files_of, call_of}
 
 more : (p : Look → Bool) (looks : List Look) (l : Look) → count_by p (looks ++ l ∷ []) ≡ count_by p looks + cond (p l) 1 0
 more p looks l = sum_by_push (λ x. cond (p x) 1 0) looks l
@@ -57,29 +52,3 @@ one_more_call looks l first old new was is =
 -- as many files were looked at as there are records
 pub many_looked : (looks : List Look) (records : List PlanRecord) (i : ℕ) → i ≤ length records → map (λ look. look.0) looks ≡ take i records → length looks ≡ i
 many_looked looks records i below are = omega (arith, below, length-map looks (λ (l : Look). l.0), ap (λ (xs : List PlanRecord). length xs) are, length-take-le i records below)
-
--- ---- the first with which no run could go on
-
-not_foreign : (b : Bool) (i : ℕ) → cond b (Some (Foreign i)) None ≡ None → b ≡ false
-not_foreign true i e = absurd (let h : Some (Foreign i) ≡ None = e in cc)
-not_foreign false i e = refl
-
-fit_look : (i : ℕ) (l : Look) → unfit i l ≡ None → IsFit l
-fit_look i (r, None) e = absurd cc
-fit_look i (r, Some seen) e = (refl, not_foreign (is_foreign (r, Some seen)) i e)
-
-pub one_look : (l : Look) → IsFit l → All IsFit (l ∷ [])
-one_look l fit k d below = let here : k ≡ 0 = omega arith in subst (λ n. IsFit (get_or (l ∷ []) n d)) (sym here) fit
-
-later_unfit : (looks : List Look) (l : Look) (i : ℕ) (here : Option Unfit) → length looks ≡ i → All IsFit looks → unfit i l ≡ here → IsFirstUnfit (looks ++ l ∷ []) here
-later_unfit looks l i None many fit e = All-append IsFit looks (l ∷ []) fit (one_look l (fit_look i l e))
-later_unfit looks l i (Some why) many fit e = (looks, [], l, refl, fit, ap (λ n. unfit n l) many ∙ e)
-
-first_stays : (looks : List Look) (l : Look) (i : ℕ) (was : Option Unfit) → length looks ≡ i → IsFirstUnfit looks was → IsFirstUnfit (looks ++ l ∷ []) (option_or was (unfit i l))
-first_stays looks l i None many fit = later_unfit looks l i (unfit i l) many fit refl
-first_stays looks l i (Some why) many (before, after, look, is, fit, here) =
-    (before, after ++ l ∷ [], look, ap (λ xs. xs ++ l ∷ []) is ∙ append_assoc before (look ∷ after) (l ∷ []), fit, here)
-
--- one look more
-pub one_more_unfit : (looks : List Look) (l : Look) (i : ℕ) (was new : Option Unfit) → length looks ≡ i → IsFirstUnfit looks was → new ≡ option_or was (unfit i l) → IsFirstUnfit (looks ++ l ∷ []) new
-one_more_unfit looks l i was new many h is = subst (IsFirstUnfit (looks ++ l ∷ [])) (sym is) (first_stays looks l i was many h)

@@ -1,17 +1,14 @@
 -- The files of a plan, counted.
 -- Source: this project's own rule.
-use Rattle.std.specs.Prelude.{◌≡◌, ℕ, ◌+◌, Bool, false, not, ◌&&◌, List, ◌∷◌, ◌++◌, All}
-use Rattle.std.specs.Prelude.{Option, None, Some, is_none, length, slice_get, take, map, reverse}
+use Rattle.std.specs.Prelude.{◌≡◌, ℕ, ◌+◌, Bool, false, not, ◌&&◌, List, ◌∷◌, ◌++◌}
+use Rattle.std.specs.Prelude.{Option, None, Some, is_none, slice_get, take, map, reverse}
 use Rattle.std.specs.Prelude.{count_by, if◌then◌else◌}
 use Rattle.reown_plan.specs.Owners.{owner_eq}
 use Rattle.reown_plan.specs.PlanData.{PlanRecord}
 use Rattle.reown_files.specs.declared.answers.OpenFault.{OpenFault}
 use Rattle.reown_files.specs.declared.answers.OpenFault.TheVariants.{File}
 use Rattle.reown_files.specs.declared.answers.Seen.{Seen}
-use Rattle.reown_files.specs.declared.counting.Count.{Count}
 use Rattle.reown_files.specs.declared.counting.OwnerCounts.{OwnerCounts}
-use Rattle.reown_files.specs.declared.counting.Unfit.{Unfit}
-use Rattle.reown_files.specs.declared.counting.Unfit.TheVariants.{Missing, Foreign}
 use Rattle.reown_files.specs.Calls.{Called, Looked, NotSeen}
 
 -- a record, and what was seen of its file
@@ -72,22 +69,6 @@ with_one look counts =
 abbrev pub files_of : OwnerCounts → ℕ
 files_of counts = counts.before + counts.after + counts.missing + counts.foreign
 
--- why no run could go on with the file of the record at this place, where none could
-abbrev pub unfit : ℕ → Look → Option Unfit
-unfit i (r, None) = Some (Missing i)
-unfit i (r, Some seen) = if is_foreign (r, Some seen) then Some (Foreign i) else None
-
--- a run could go on with it
-abbrev pub IsFit : Look → Type 0
-IsFit look = (is_missing look ≡ false) × (is_foreign look ≡ false)
-
--- the first of the files with which no run could go on, or none
-abbrev pub IsFirstUnfit : List Look → Option Unfit → Type 0
-IsFirstUnfit looks None = All IsFit looks
-IsFirstUnfit looks (Some why) =
-    (before after : List Look) × (look : Look) × (looks ≡ before ++ look ∷ after)
-    × All IsFit before × (unfit (length before) look ≡ Some why)
-
 -- the call that a look is
 abbrev pub call_of : Look → Called
 call_of (r, seen) = Looked r.path seen
@@ -107,9 +88,8 @@ StopsCount records old new (File i trouble) =
 StopsCount records old new _ = ⊥
 
 -- the file of each record was looked at once, in order, and no other call was made; and so the
--- files are counted, and the first that is unfit is known
-abbrev pub IsCount : List PlanRecord → List Called → List Called → Count → Type 0
-IsCount records old new count =
+-- files are counted
+abbrev pub IsCount : List PlanRecord → List Called → List Called → OwnerCounts → Type 0
+IsCount records old new counts =
     (looks : List Look) × (map (λ look. look.0) looks ≡ records)
-    × (new ≡ reverse (map call_of looks) ++ old) × (count.owners ≡ counts_of looks)
-    × IsFirstUnfit looks count.first_unfit
+    × (new ≡ reverse (map call_of looks) ++ old) × (counts ≡ counts_of looks)

@@ -1,20 +1,15 @@
--- Laws over what is asked of files, and over a count of them.
+-- Laws over what is asked of files.
 -- Sources: chown(2) for the bits that a change of the owner clears; stat(2): a file is told by its
 -- device and its number there. All else is this project's own rule.
-use Rattle.std.specs.Prelude.{◌≡◌, ◌≢◌, ◌↔◌, ℕ, Bool, true, false, ◌&&◌, List, ◌∷◌, ◌++◌}
-use Rattle.std.specs.Prelude.{None, Some, take, slice_get, count_by}
+use Rattle.std.specs.Prelude.{◌≡◌, ◌↔◌, ℕ, Bool, true, false, ◌&&◌, List, ◌∷◌, ◌++◌}
+use Rattle.std.specs.Prelude.{count_by}
 use Rattle.reown_plan.specs.declared.plan.Owner.{Owner}
-use Rattle.reown_plan.specs.PlanData.{PlanRecord}
 use Rattle.reown_files.specs.Asked.{Asked, Told, Counted, Awaited, Given, waits, HasAllNames}
 use Rattle.reown_files.specs.Asked.{IsGiven, IsModeSet, IsKept}
-use Rattle.reown_files.specs.Counting.{Look, counts_of, IsFirstUnfit}
 use Rattle.reown_files.specs.Looks.{has_several_names, is_file, id_of}
 use Rattle.reown_files.specs.OneFile.{AreOneFile}
 use Rattle.reown_files.specs.RootData.{RootData, HasLostAt}
 use Rattle.reown_files.specs.declared.answers.Modes.{Modes}
-use Rattle.reown_files.specs.declared.answers.Seen.{Seen}
-use Rattle.reown_files.specs.declared.counting.Unfit.{Unfit}
-use Rattle.reown_files.specs.declared.counting.Unfit.TheVariants.{Missing, Foreign}
 use Rattle.reown_files.specs.declared.walk.Found.{Found}
 
 -- ---- owners
@@ -86,28 +81,3 @@ NamesAreAllCounted =
     (found : Found) (asked : List Asked)
     → HasAllNames found asked
     ↔ (has_several_names found ≡ true → count_by (is_name_of found) asked ≡ found.links)
-
--- ---- a count
-
--- no file is counted as one that is not there, or at neither of its owners
-abbrev pub NoneIsUnfit : List Look → Type 0
-NoneIsUnfit looks = ((counts_of looks).missing ≡ 0) × ((counts_of looks).foreign ≡ 0)
-
--- the file of the record at this place was not there, or was at neither of its owners
-abbrev pub IsUnfitAt : List Look → Unfit → Type 0
-IsUnfitAt looks (Missing i) = (r : PlanRecord) × (slice_get looks i ≡ Some (r, None))
-IsUnfitAt looks (Foreign i) =
-    (r : PlanRecord) × (seen : Seen) × (slice_get looks i ≡ Some (r, Some seen))
-    × (seen.owner ≢ r.before) × (seen.owner ≢ r.after)
-
-abbrev pub place_of : Unfit → ℕ
-place_of (Missing i) = i
-place_of (Foreign i) = i
-
--- no unfit file is told exactly where none was counted; and the one that is told is the first
-pub record UnfitFilesAreTold : Type 0 where
-  pub none : (looks : List Look) → IsFirstUnfit looks None ↔ NoneIsUnfit looks
-  pub told : (looks : List Look) (why : Unfit)
-      → IsFirstUnfit looks (Some why) → IsUnfitAt looks why
-  pub first : (looks : List Look) (why : Unfit)
-      → IsFirstUnfit looks (Some why) → NoneIsUnfit (take (place_of why) looks)

@@ -2,7 +2,7 @@
 ghost use Rattle.std.specs.Prelude.{◌≡◌, ◌+◌, ◌^◌, ◌<◌, Some, map, IfOk, IfErr};
 ghost use Rattle.reown_plan.specs.Records.{record_of};
 ghost use Rattle.reown_files.specs.Counting.{Look, is_before, is_after, is_foreign, one, with_one};
-ghost use Rattle.reown_files.specs.Counting.{files_of, unfit, IsCount, StopsCount};
+ghost use Rattle.reown_files.specs.Counting.{files_of, IsCount, StopsCount};
 
 use crate::{Disk, OpenFault, Seen};
 use reown_plan::Record;
@@ -80,44 +80,15 @@ impl OwnerCounts {
     }
 }
 
-/// A file with which no run of its plan could go on, by the index of its record.
-#[derive(Clone, Copy, Debug, PartialEq, Eq)]
-pub enum Unfit {
-    /// It is not there.
-    Missing(usize),
-    /// It has neither its old nor its new owner.
-    Foreign(usize),
-}
-
-/// The files of a plan, counted.
-#[derive(Clone, Copy, Debug, PartialEq, Eq)]
-pub struct Count {
-    /// How many there are of each kind.
-    pub owners: OwnerCounts,
-    /// The first with which no run could go on.
-    pub first_unfit: Option<Unfit>,
-}
-
-// Why no run could go on with the file of the record with this index, by what was seen of it.
-fn unfit_as(i: usize, planned: &Record, seen: Option<Seen>) -> Option<Unfit>
-    ensures { result ≡ unfit i (record_of planned.now, seen) }
-{
-    match seen {
-        None => Some(Unfit::Missing(i)),
-        Some(seen) if seen.owner == planned.before || seen.owner == planned.after => None,
-        Some(_) => Some(Unfit::Foreign(i)),
-    }
-}
-
 /// Looks at the file of each record once, in order, and counts what it sees. Nothing else is asked
 /// of the disk, so nothing is changed. One pass.
 ///
 /// # Errors
 ///
 /// `File`: the first record whose file could not be looked at.
-pub fn count_owners<D: Disk>(disk: &mut D, records: &[Record]) -> Result<Count, OpenFault>
-    ensures counted { IfOk result (λ count. IsCount
-        (map record_of records.now) (D.calls disk.old) (D.calls disk.new) count) }
+pub fn count_owners<D: Disk>(disk: &mut D, records: &[Record]) -> Result<OwnerCounts, OpenFault>
+    ensures counted { IfOk result (λ counts. IsCount
+        (map record_of records.now) (D.calls disk.old) (D.calls disk.new) counts) }
     ensures refused { IfErr result (λ fault. StopsCount
         (map record_of records.now) (D.calls disk.old) (D.calls disk.new) fault) }
 {
@@ -129,18 +100,11 @@ pub fn count_owners<D: Disk>(disk: &mut D, records: &[Record]) -> Result<Count, 
         set_id: 0,
         linked: 0,
     };
-    let mut first_unfit = None;
     for (i, planned) in records.iter().enumerate() {
         match disk.look(planned.path) {
-            Ok(seen) => {
-                owners.count(planned, seen);
-                first_unfit = first_unfit.or(unfit_as(i, planned, seen));
-            }
+            Ok(seen) => owners.count(planned, seen),
             Err(trouble) => return Err(OpenFault::File(i, trouble)),
         }
     }
-    Ok(Count {
-        owners,
-        first_unfit,
-    })
+    Ok(owners)
 }

@@ -31,9 +31,9 @@ mod whole_file;
 pub use answers::{Failure, Modes, OpenFault, Seen, Trouble};
 pub use applying::apply;
 pub use by_example::{counts_by_example, lawful_calls_by_example, looks_by_example};
-pub use counting::{Count, OwnerCounts, Unfit, count_owners};
+pub use counting::{OwnerCounts, count_owners};
 pub use disk::Disk;
-pub use file_laws::{files_are_looked_at, names_are_all_counted, unfit_files_are_told};
+pub use file_laws::{files_are_looked_at, names_are_all_counted};
 pub use lawful::{
     changes_are_foreseen, marks_come_last, modes_are_set_at_once, notes_are_of_one_plan,
 };

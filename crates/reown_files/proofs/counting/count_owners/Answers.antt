@@ -1,15 +1,15 @@
 use Rattle.std.proofs.Common.{◌<◌, ◌∙◌, ◌∷◌, ◌++◌, [], List, get_or, map, length, sym, ap, arith}
 use Rattle.std.proofs.lemmas.List.{get_or-map, length-map, map-append, take_more}
-use Rattle.std.specs.Option.{option_map, option_or}
+use Rattle.std.specs.Option.{option_map}
 use Rattle.std.proofs.lemmas.List.Sums.{count_by-le-length}
 use Rattle.reown_plan.specs.PlanData.{PlanRecord}
 use Rattle.reown_plan.specs.Records.{record_of}
 use Rattle.reown_runner.proofs.Lists.{slice_get-map, slice_get-read}
 use Rattle.reown_files.specs.Calls.{Looked}
 use Rattle.reown_files.specs.declared.counting.OwnerCounts.{OwnerCounts}
-use Rattle.reown_files.specs.Counting.{Look, has_set_id, has_several_names, files_of, unfit, with_one}
+use Rattle.reown_files.specs.Counting.{Look, has_set_id, has_several_names, files_of, with_one}
 use Rattle.reown_files.proofs.Laws.{nothing}
-use Rattle.reown_files.proofs.Countings.{each_once, one_more_counted, many_looked, one_more_call, one_more_unfit}
+use Rattle.reown_files.proofs.Countings.{each_once, one_more_counted, many_looked, one_more_call}
 use Rattle.reown_files.proofs.counting.count_owners.Goals as goal
 
 pub loop-i-preserved : goal.loop-i-preserved
@@ -23,13 +23,11 @@ loop-i-preserved g c =
     let here = get_or (map record_of rs) i nothing in
     let is = get_or-map record_of rs i _ nothing below in
     let looks = c.loop-i.invariant.0 in
-    let many = many_looked looks (map record_of rs) i (omega (arith, below_map)) c.loop-i.invariant.1 in
     let look : Look = (here, seen) in (
       looks ++ look ∷ [],
       map-append (λ (l : Look). l.0) looks (look ∷ []) ∙ ap (λ (xs : List PlanRecord). xs ++ here ∷ []) c.loop-i.invariant.1 ∙ sym (take_more (map record_of rs) i nothing below_map),
       one_more_call looks look (g.D.Disk.calls c.args.disk.now) old (g.D.Disk.calls c.look.new.self) c.loop-i.invariant.2 (c.in-Ok.ensures.looked ∙ ap (λ (r : PlanRecord). Looked r.path seen ∷ old) (sym is)),
       one_more_counted looks look c.loop-i.owners c.count.new.self c.loop-i.invariant.3 (c.count.ensures ∙ ap (λ (r : PlanRecord). with_one (r, seen) c.loop-i.owners) (sym is)),
-      one_more_unfit looks look i c.loop-i.first_unfit c.or-first_unfit.result many c.loop-i.invariant.4 (c.or-first_unfit.ensures ∙ ap (λ u. option_or c.loop-i.first_unfit u) (c.unfit_as.ensures ∙ ap (λ (r : PlanRecord). unfit i (r, seen)) (sym is))),
     )
 
 pub count-requires : goal.count-requires

@@ -4,4 +4,4 @@ use Rattle.reown_files.specs.Counting.{IsCount}
 use Rattle.reown_files.proofs.counting.count_owners.Given as goal
 
 abbrev pub invariant-loop-i : goal.invariant-loop-i
-invariant-loop-i g l = IsCount (take l.i (map record_of l.records)) (g.D.Disk.calls l.fn.disk) (g.D.Disk.calls l.disk) (record { owners = l.owners; first_unfit = l.first_unfit })
+invariant-loop-i g l = IsCount (take l.i (map record_of l.records)) (g.D.Disk.calls l.fn.disk) (g.D.Disk.calls l.disk) l.owners
