@@ -25,7 +25,7 @@ use Rattle.unify.specs.declared.plan_turn.PlanTurn.{PlanTurn}
 use Rattle.unify.specs.declared.plan_turn.Stop.{Stop}
 use Rattle.unify.specs.declared.plan_turn.Stop.TheVariants as stop
 use Rattle.unify.specs.Hosts.{owner_fault}
-use Rattle.unify.specs.KnownOwners.{AreKnown, IsKnown, NoneIsKnown}
+use Rattle.unify.specs.KnownOwners.{AreKnown, NoneIsKnown}
 use Rattle.unify.specs.Passes.{is_read}
 use Rattle.unify.specs.PlanTurns.{IsAccepted, IsFreshTurn, IsSolving, Pass, TurnsFor, met_on, planned_so_far, seen, stop_told}
 use Rattle.unify.specs.RowFiles.{RowFiles, row_files}
@@ -91,7 +91,7 @@ planned_lines host joined merged index turn text planned turns begun =
 none_known : (host : Host) (joined : Joined) (merged : Merged) (index : ℕ) (owners : List KnownOwner) → NoneIsKnown owners → AreKnown host joined merged index owners
 none_known host joined merged index owners h = record {
   many = h.many;
-  each = λ i d within. subst (IsKnown host joined merged index) (sym (h.none i d within)) (record { places = tt; change = tt });
+  each = λ i d within. rw (h.none i d within) tt;
 }
 
 -- the turn of a host of whose second inventory nothing has come

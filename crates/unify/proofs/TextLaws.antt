@@ -50,10 +50,10 @@ use Rattle.unify.proofs.Whole.{together}
 
 -- ---- the primary groups
 
-gid_told : (host : Host) (row : Passwd) → Decides (is_some (find (λ (group : Group). row.gid == group.gid) host.groups)) (Any (λ (group : Group). group.gid ≡ row.gid) host.groups)
+pub gid_told : (host : Host) (row : Passwd) → Decides (is_some (find (λ (group : Group). row.gid == group.gid) host.groups)) (Any (λ (group : Group). group.gid ≡ row.gid) host.groups)
 gid_told host row = find_decides (λ (group : Group). row.gid == group.gid) (λ group. group.gid ≡ row.gid) (λ group. same_number row.gid group.gid) host.groups
 
-passes : {F : Type 0} (b : Bool) (f : F) → cond b None (Some f) ≡ None → b ≡ true
+pub passes : {F : Type 0} (b : Bool) (f : F) → cond b None (Some f) ≡ None → b ≡ true
 passes true f h = refl
 passes false f h = absurd (cc)
 
@@ -115,7 +115,7 @@ full_of_texts (t ∷ texts) loaded h =
 
 -- ---- what is joined of it
 
-denied : {P : Type 0} (b : Bool) → (b ≡ true) ↔ P → (not b ≡ true) ↔ (P → ⊥)
+pub denied : {P : Type 0} (b : Bool) → (b ≡ true) ↔ P → (not b ≡ true) ↔ (P → ⊥)
 denied {P} b told = (λ e p. false≢true (sym (ap not (told.1 p)) ∙ e), λ never. by b refl never)
   where
     by : (c : Bool) → b ≡ c → (P → ⊥) → not b ≡ true
@@ -318,6 +318,8 @@ begun_sites_are_of_texts texts rules begun is =
           is_so (is_reserved joined.groups.reserved gid) (is_reserved (reserved_groups from.by.keep (map (λ (l : Loaded). l.host) from.loaded) unowned.groups) gid)
           (ap (λ (rs : List Reserved). is_reserved rs gid) (sym (gids_reserved texts rules.keep others from rules.pins joined pinned)))
           (reserved_gid from.by.keep (map (λ (l : Loaded). l.host) from.loaded) unowned gid);
+      users_are = sym (uids_reserved texts rules.keep others from rules.pins joined pinned);
+      groups_are = sym (gids_reserved texts rules.keep others from rules.pins joined pinned);
     })
 
 pub begun_counts_are_of_texts : BegunCountsAreOfTexts

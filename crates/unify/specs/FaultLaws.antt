@@ -4,6 +4,7 @@
 -- first is this project's own rule.
 use Rattle.std.specs.Prelude.{◌≡◌, ◌≤◌, ◌⊎◌, ◌↔◌, ℕ, List, ◌∷◌, ◌++◌, Result, Ok, Err}
 use Rattle.std.specs.Prelude.{All, Any}
+use Rattle.accounts.specs.Rows.{Group, Passwd}
 use Rattle.accounts.specs.Tables.{passwd_table, group_table}
 use Rattle.idtext.specs.declared.faults.TextCode.{TextCode}
 use Rattle.idtext.specs.declared.faults.TextFault.{TextFault}
@@ -16,6 +17,7 @@ use Rattle.hosts_join.specs.declared.texts.HostText.{HostText}
 use Rattle.unify_texts.specs.declared.bundle_line.FileName.{FileName}
 use Rattle.unify_texts.specs.declared.bundle_line.FileName.TheVariants as file
 use Rattle.unify_texts.specs.declared.fault.Fault.TheVariants.{Line, UnownedUid, UnownedGid}
+use Rattle.unify_texts.specs.declared.fault.Fault.TheVariants.{NoPrimaryGroup}
 use Rattle.unify.specs.declared.host.Loaded.{Loaded}
 use Rattle.unify_texts.specs.Limits.{most_files}
 use Rattle.unify.specs.Hosts.{files_of, host_of}
@@ -41,6 +43,30 @@ LinesAreOfTheirFile =
     (text : HostText) (host : List ℕ) (name : FileName) (code : TextCode) (line : ℕ)
     → (host_of text ≡ Err (Line host name code line))
     ↔ ((host ≡ text.name) × RefusesFile text (record { code = code; line = line }) name)
+
+-- one of the groups has the gid of the user
+abbrev pub HasItsGroup : List Group → Passwd → Type 0
+HasItsGroup groups user = Any (λ group. group.gid ≡ user.gid) groups
+
+-- The readers take the files of the host; each user before one has a group, and this one, of the
+-- name, has none.
+pub record FirstWithoutGroup (text : HostText) (name : List ℕ) : Type 0 where
+  pub ranges : IsTaken (ranges_of text.logindefs)
+  pub earlier : List Passwd
+  pub user : Passwd
+  pub later : List Passwd
+  pub users_are : passwd_table text.passwd ≡ Ok (earlier ++ user ∷ later)
+  pub groups : List Group
+  pub groups_are : group_table text.group ≡ Ok groups
+  pub have_theirs : All (HasItsGroup groups) earlier
+  pub named : user.name ≡ name
+  pub has_none : HasItsGroup groups user → ⊥
+
+-- a user is told exactly where it is the first of this host without a group
+abbrev pub UsersWithoutGroupsAreTold : Type 0
+UsersWithoutGroupsAreTold = (text : HostText) (host user : List ℕ)
+    → (host_of text ≡ Err (NoPrimaryGroup host user))
+    ↔ ((host ≡ text.name) × FirstWithoutGroup text user)
 
 -- the number lies in one of the ranges
 abbrev pub LiesInOne : List IdRange → ℕ → Type 0

@@ -1,9 +1,11 @@
 -- The host whose plan is appended, by what a call is lent.
 -- Values that are lent, without the borrow: words of the code and not of the subject.
-use Rattle.std.specs.Prelude.{ℕ, List, Result}
+use Rattle.std.specs.Prelude.{ℕ, List, Option, Some, None, Result}
 use Rattle.mtree_inv.specs.declared.entry.Entry.{Entry}
 use Rattle.hosts_join.specs.Laws.{KnowsHost}
 use Rattle.ownership.specs.Mappings.{AreForSite}
+use Rattle.reown_plan.specs.OwnerChange.{IsChange, OwnerChange}
+use Rattle.reown_plan.specs.Owners.{owner_of}
 use Rattle.reown_plan.specs.PlanData.{PlanRecord}
 use Rattle.reown_plan.specs.Target.{plan_of}
 use Rattle.unify.specs.declared.known_owners.KnownOwner.{KnownOwner}
@@ -25,6 +27,12 @@ plan_for whose files = plan_of whose.site.now whose.merged.now.mappings whose.in
 -- what was found of an owner is so on the host, and so it is of all
 abbrev pub IsKnownOf : PlannedHost → KnownOwner → Type 0
 IsKnownOf whose owner = IsKnown whose.host.now whose.site.now whose.merged.now whose.index owner
+
+-- so this is what the owner of the file gets
+abbrev pub GivesOf : PlannedHost → Entry → Option OwnerChange → Type 0
+GivesOf whose file None = ⊥
+GivesOf whose file (Some change) =
+    IsChange whose.site.now whose.merged.now.mappings whose.index (owner_of file) change
 
 abbrev pub AreKnownOf : PlannedHost → List KnownOwner → Type 0
 AreKnownOf whose owners = AreKnown whose.host.now whose.site.now whose.merged.now whose.index owners

@@ -19,6 +19,7 @@ use Rattle.keep_text.specs.KeepTexts.{keep_of}
 use Rattle.keep_text.specs.declared.keep_text.KeepText.{KeepText}
 use Rattle.kept_accounts.specs.Laws.{NumberStays, Stays}
 use Rattle.kept_accounts.specs.Reserving.{UnownedNumbers}
+use Rattle.kept_accounts.specs.Reserving as reserving
 use Rattle.unify_texts.specs.Maps.{map_of}
 use Rattle.unify.specs.Costing.{BegunCost, cost_begun}
 use Rattle.unify.specs.Hosts.{host_of}
@@ -105,7 +106,8 @@ pub record AreOfTexts (texts : List HostText) (rules : KeepRules) (hosts : List 
   pub left : AllZip (IsLeftOf keep full rules.unowned) full hosts
 
 -- The accounts are the join of these hosts, by the pins of the pins text. Their names are those of
--- the hosts in full that do not stay, and exactly the numbers that stay on some host are reserved.
+-- the hosts in full that do not stay. Exactly the numbers that stay on some host are reserved, by
+-- whom and in which order kept_accounts has it.
 pub record IsOfTexts (texts : List HostText) (rules : SiteRules) (begun : BegunSite) : Type 0 where
   pub hosts : AreOfTexts texts rules.keep begun.hosts
   pub pins : PinPairs
@@ -126,6 +128,10 @@ pub record IsOfTexts (texts : List HostText) (rules : SiteRules) (begun : BegunS
       ↔ NumberStays hosts.keep.groups gid
       (Any (λ host. HasStayingGroup hosts.keep hosts.full gid host.groups) hosts.full)
       (Any (λ found. found.number ≡ gid) rules.keep.unowned.groups)
+  pub users_are : begun.joined.users.reserved
+      ≡ reserving.reserved_users hosts.keep hosts.full rules.keep.unowned.users
+  pub groups_are : begun.joined.groups.reserved
+      ≡ reserving.reserved_groups hosts.keep hosts.full rules.keep.unowned.groups
 
 -- what a merge and a check start from
 abbrev pub BegunSitesAreOfTexts : Type 0

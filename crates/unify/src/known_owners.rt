@@ -1,40 +1,45 @@
 //! What was found of the owners of a host's files.
 
-ghost use Rattle.std.specs.Prelude.{◌≡◌, ◌<◌, IfOk};
-ghost use Rattle.unify.specs.KnownOwners.{NoneIsKnown, no_owner};
+ghost use Rattle.std.specs.Prelude.{◌≡◌, ◌<◌, true, false, None, IfOk, IsSome};
+ghost use Rattle.unify.specs.KnownOwners.{NoneIsKnown};
 
 use crate::row_files::OwnerPlaces;
 use mtree_inv::Entry;
-use reown_plan::{OwnerChange, OwnerRows};
+use reown_plan::OwnerChange;
 use std::alloc::{AllocError, Global};
 
 // Of how many owners it is kept.
 const MOST_KNOWN: usize = 8192;
 
-/// What was found of an owner of files: the places of the rows that have it, and what it gets.
+/// An owner of files, the places of the rows that have it, and what its files get, where that was
+/// found. In the memory of a machine it takes one line of a cache.
 #[derive(Drop)]
 pub struct KnownOwner {
-    pub places: Option<OwnerPlaces>,
+    pub places: OwnerPlaces,
     pub change: Option<OwnerChange>,
 }
 
 impl KnownOwner {
     // Nothing is known yet.
     fn none() -> KnownOwner
-        ensures { result ≡ no_owner }
+        ensures { result.change ≡ None }
     {
         KnownOwner {
-            places: None,
+            places: OwnerPlaces::default(),
             change: None,
         }
     }
 
-    /// Where its rows stand, as far as that was found.
-    pub fn rows(&self) -> OwnerRows {
-        match &self.places {
-            Some(places) => places.rows(),
-            None => OwnerRows::default(),
-        }
+    /// Whether it is known, and that of a file.
+    pub fn is_of(&self, file: &Entry) -> bool
+        ensures same { result ≡ true
+            → IsSome self.now.change × (self.now.places.uid ≡ file.now.uid)
+            × (self.now.places.gid ≡ file.now.gid) }
+        ensures differ { result ≡ false
+            → IsSome self.now.change → self.now.places.uid ≡ file.now.uid
+            → self.now.places.gid ≡ file.now.gid → ⊥ }
+    {
+        self.change.is_some() && self.places.are_of(file)
     }
 }
 

@@ -1,8 +1,8 @@
 //! The inventory of one host a second time, in pieces, and its plan.
 
 ghost use Rattle.std.specs.Prelude.{◌≡◌, ◌+◌, ◌≤◌, ◌++◌, ◌∷◌, ℕ, List, [], length, All, true};
-ghost use Rattle.std.specs.Prelude.{if◌then◌else◌, is_ok, slice_get, Some, None, Err, IfSome};
-ghost use Rattle.std.specs.Prelude.{IfErr, IfOk, OnOk, OnErr};
+ghost use Rattle.std.specs.Prelude.{if◌then◌else◌, is_ok, is_none, slice_get, Some, None, Err};
+ghost use Rattle.std.specs.Prelude.{IfErr, IfOk, IfSome, OnOk, OnErr};
 ghost use Rattle.mtree_inv.specs.Standing as standing;
 ghost use Rattle.mtree_inv.specs.declared.entry.Entry.{Entry};
 ghost use Rattle.hosts_join.specs.declared.host.Host.{Host};
@@ -12,18 +12,19 @@ ghost use Rattle.unify_texts.specs.declared.fault.Fault.{Fault};
 ghost use Rattle.unify.specs.declared.plan_turn.Stop.TheVariants as stop;
 ghost use Rattle.unify.specs.Hosts.{owner_fault};
 ghost use Rattle.unify.specs.PlanTurns.{IsFreshTurn, TellsFiles, TellsLines, stop_of};
-ghost use Rattle.unify.specs.PlannedHosts.{AreKnownOf, EndsOf, GoesOnOf, IsKnownOf, IsOfSite};
-ghost use Rattle.unify.specs.PlannedHosts.{TurnsOf, plan_for};
+ghost use Rattle.unify.specs.PlannedHosts.{AreKnownOf, EndsOf, GivesOf, GoesOnOf, IsKnownOf};
+ghost use Rattle.unify.specs.Places.{Owns};
+ghost use Rattle.unify.specs.PlannedHosts.{IsOfSite, TurnsOf, plan_for};
 ghost use Rattle.unify.specs.RowFiles.{row_files};
 
 use crate::known_owners::{KnownOwner, no_owners, place_of};
 use crate::merging::Merged;
-use crate::row_files::{RowFiles, are_same, count_file, no_files};
+use crate::row_files::{RowFiles, are_same, count_at, no_files, places_of};
 use crate::turn::begin_next;
 use hosts_join::{Host, Site};
 use idtext::ReadError;
 use mtree_inv::{Entry, Reader};
-use reown_plan::{NewOwners, push_plan_end, push_plan_entry, push_plan_head};
+use reown_plan::{NewOwners, Owner, OwnerChange, push_plan_end, push_plan_entry, push_plan_head};
 use std::alloc::{AllocError, Global};
 use unify_texts::MOST_FILES;
 
@@ -119,6 +120,37 @@ fn begin_plan(turn: &mut PlanTurn, host: &Host<'_>, plan: &mut Vec<u8>) -> Resul
     Ok(())
 }
 
+// Finds what the files of a file's owner get, unless that is known; false where the host does not
+// allow the owner.
+fn find_owner(known: &mut KnownOwner, whose: &PlannedHost<'_, '_>, file: &Entry) -> bool
+    requires known { IsKnownOf whose.now known.old }
+    requires of_site { IsOfSite whose.now }
+    ensures known { IsKnownOf whose.now known.new }
+    ensures owned { result ≡ is_none (owner_fault whose.now.host.now [] file.now) }
+    ensures found { result ≡ true
+        → Owns whose.now.host.now known.new.places file.now
+        × GivesOf whose.now file.now known.new.change }
+{
+    if known.is_of(file) {
+        return true;
+    }
+    let Some(places) = places_of(whose.host, file) else {
+        return false;
+    };
+    let owners = NewOwners {
+        host: whose.index,
+        site: whose.site,
+        mappings: &whose.merged.mappings,
+    };
+    let owner = Owner {
+        uid: file.uid,
+        gid: file.gid,
+    };
+    known.places = places;
+    known.change = Some(OwnerChange::new(&owners, owner, places.rows()));
+    true
+}
+
 // Counts a file of the host, and appends its record.
 fn plan_file(
     rows: &mut RowFiles,
@@ -143,16 +175,13 @@ fn plan_file(
     ensures changed { result ≡ Err stop.Changed → (fault : Fault)
         × (owner_fault whose.now.host.now [] file.now ≡ Some fault) }
 {
-    if !count_file(rows, &mut known.places, whose.host, file) {
+    if !find_owner(known, whose, file) {
         return Err(Stop::Changed);
     }
-    let rows = known.rows();
-    let owners = NewOwners {
-        host: whose.index,
-        site: whose.site,
-        mappings: &whose.merged.mappings,
-    };
-    push_plan_entry(plan, &mut known.change, rows, &owners, file)?;
+    count_at(rows, &known.places);
+    if let Some(change) = &known.change {
+        push_plan_entry(plan, change, file)?;
+    }
     Ok(())
 }
 

@@ -64,7 +64,7 @@ fn add_one(files: &mut Vec<u64>, place: Option<u16>)
 /// An owner of files whose numbers a host allows, and the places of the rows that have them. A
 /// second reading keeps thousands of these: it is as small as the rows of a table allow, of which
 /// there are 65,536 at most.
-#[derive(Clone, Copy)]
+#[derive(Clone, Copy, Default)]
 pub struct OwnerPlaces {
     uid: u32,
     gid: u32,
@@ -84,6 +84,16 @@ fn place_of_row(place: Option<usize>) -> Option<u16>
 }
 
 impl OwnerPlaces {
+    /// Whether they are those of a file's owner.
+    pub fn are_of(&self, file: &Entry) -> bool
+        ensures same { result ≡ true
+            → (self.now.uid ≡ file.now.uid) × (self.now.gid ≡ file.now.gid) }
+        ensures differ { result ≡ false
+            → self.now.uid ≡ file.now.uid → self.now.gid ≡ file.now.gid → ⊥ }
+    {
+        self.uid == file.uid && self.gid == file.gid
+    }
+
     /// The places of the rows, for a plan.
     pub fn rows(&self) -> OwnerRows {
         OwnerRows {
@@ -93,9 +103,11 @@ impl OwnerPlaces {
     }
 }
 
-// The places of the rows that own a file, if the host allows both of its numbers. Two look-ups by
-// hash, and a bisection for a number that has no row.
-fn places_of(host: &Host<'_>, file: &Entry) -> Option<OwnerPlaces>
+/// The places of the rows that own a file, if the host allows both of its numbers. Two look-ups by
+/// hash, and a bisection for a number that has no row.
+pub fn places_of(host: &Host<'_>, file: &Entry) -> Option<OwnerPlaces>
+    ensures numbers { IfSome result
+        (λ places. (places.uid ≡ file.now.uid) × (places.gid ≡ file.now.gid)) }
     ensures owned { is_some result ≡ is_none (owner_fault host.now [] file.now) }
     ensures owns { IfSome result (λ places. Owns host.now places file.now) }
     ensures places { IfSome result (ArePlaces host.now) }
@@ -129,7 +141,7 @@ fn next_places(
     ensures before { IfSome before.new (ArePlaces host.now) }
 {
     match before {
-        Some(places) if places.uid == file.uid && places.gid == file.gid => Some(*places),
+        Some(places) if places.are_of(file) => Some(*places),
         Some(_) | None => {
             let found = places_of(host, file);
             if found.is_some() {
@@ -138,6 +150,19 @@ fn next_places(
             found
         }
     }
+}
+
+/// Counts a file more for the rows at these places. Requires that they are those of the rows that
+/// own a file of a host whose files the rows count, and that there are fewer than 2^31 of them.
+pub fn count_at(rows: &mut RowFiles, places: &OwnerPlaces)
+    requires { (host : Host) × (file : Entry) × (files : List Entry)
+        × Owns host places.now file × (rows.old ≡ row_files host files)
+        × (length files ≤ 2147483648) }
+    ensures { (host : Host) (file : Entry) (files : List Entry) → Owns host places.now file
+        → rows.old ≡ row_files host files → rows.new ≡ row_files host (files ++ file ∷ []) }
+{
+    add_one(&mut rows.users, places.user);
+    add_one(&mut rows.groups, places.group);
 }
 
 /// Counts a file for the rows that own it, and says whether the host allows both of its numbers:
@@ -161,8 +186,7 @@ pub fn count_file(
     let Some(places) = next_places(before, host, file) else {
         return false;
     };
-    add_one(&mut rows.users, places.user);
-    add_one(&mut rows.groups, places.group);
+    count_at(rows, &places);
     true
 }
 

@@ -18,8 +18,8 @@ use unify_texts::Fault;
 /// A site that was merged, whose inventories come a second time in pieces, host by host, while
 /// plans are appended. It keeps the tables of the hosts, what was merged, how many files each of
 /// their rows owned in the first pass and owns so far in this one, of the present inventory each
-/// path once and, in a megabyte, what was found of its owners, and the hashes that the first pass
-/// kept, if they were to be kept; no text of an inventory and no plan is kept.
+/// path once and, in half a megabyte, what was found of its owners, and the hashes that the first
+/// pass kept, if they were to be kept; no text of an inventory and no plan is kept.
 #[derive(Drop)]
 pub struct Solved<'a> {
     pub(crate) alloc: Global,

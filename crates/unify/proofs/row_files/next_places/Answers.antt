@@ -7,4 +7,5 @@ use Rattle.unify.proofs.row_files.next_places.Goals as goal
 pub returns-in-Some-clause-owns : goal.returns-in-Some-clause-owns
 returns-in-Some-clause-owns c =
     let each : ArePlaces c.args.host.now c.in-Some.places = subst (λ (o : Option OwnerPlaces). IfSome o (ArePlaces c.args.host.now)) c.in-Some.is c.requires in
-    each c.args.file.now (sym c.if-places-file.true) (sym c.if-places-file-2.true)
+    let same = c.are_of.ensures.same c.if-are_of.true in
+    each c.args.file.now (sym same.0) (sym same.1)

@@ -42,4 +42,4 @@ returns c =
       | else-is_none-2-via-else-is_none-2 w ↦ allowed_place group c.is_none-2.result (spares_group host file.gid) c.is_none-2.ensures w.if-is_none-2.false
     ]) in
     let each = own-each host file (record { uid = file.uid; gid = file.gid; user = c.place_of_row.result; group = c.place_of_row-2.result }) refl refl (sym c.place_of_number-user.ensures.place ∙ sym c.place_of_row.ensures) (sym c.place_of_number-group.ensures.place ∙ sym c.place_of_row-2.ensures) c.place_of_number-user.ensures.table c.place_of_number-group.ensures.table user_is group_is in
-    record { owned = both_allowed host file user_is group_is; owns = each file refl refl; places = each }
+    record { numbers = (refl, refl); owned = both_allowed host file user_is group_is; owns = each file refl refl; places = each }
