@@ -16,7 +16,7 @@ chosen : (b : Bool) (m n : ℕ) → m ≢ 0 → n ≢ 0 → cond b m n ≢ 0
 chosen true m n some others = some
 chosen false m n some others = others
 
-not_done : (code : ℕ) → status_of code ≢ 0
+pub not_done : (code : ℕ) → status_of code ≢ 0
 not_done code = chosen _ 3 _ (omega arith) (chosen _ 2 _ (omega arith) (chosen _ 4 1 (omega arith) (omega arith)))
 
 fault_goes_out : (f : Fault) → answered (Err f) ≡ record { text = fault_line f; status = status_for f }

@@ -4,6 +4,7 @@ pub mod TakenFiles
 pub mod PlanLines
 pub mod AnswersBack
 pub mod GoingOut
+pub mod WordsAnswered
 pub mod FaultAnswers
 pub mod Carrying
 pub mod RunSites

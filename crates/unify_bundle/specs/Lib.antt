@@ -4,6 +4,7 @@ pub mod TakenFiles
 pub mod AnswersBack
 pub mod GoingOut
 pub mod Replies
+pub mod WordsAnswered
 pub mod Carrying
 pub mod SiteRuns
 pub mod TextFiles

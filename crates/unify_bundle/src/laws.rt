@@ -3,10 +3,12 @@ ghost use Rattle.unify_bundle.specs.AnswersBack.{AcceptedIsRead, CostsAreRead, M
 ghost use Rattle.unify_bundle.specs.AnswersBack.{MergesWithHostsAreRead, RecordsAreRead};
 ghost use Rattle.unify_bundle.specs.GoingOut.{AnswersAreWritten, BundlesAreAnswered};
 ghost use Rattle.unify_bundle.specs.GoingOut.{InputsAreTold, NoReplyGoesOut, RepliesGoOut};
+ghost use Rattle.unify_bundle.specs.Lines.{accepted_line, cost_lines, records_lines};
 ghost use Rattle.unify_bundle.specs.TakenFiles.{ChecksHaveTheirCertificate, CountsHaveTheirMap};
 ghost use Rattle.unify_bundle.specs.TakenFiles.{FilesHaveOneText, HostsHaveTheirFiles};
 ghost use Rattle.unify_bundle.specs.TakenFiles.{MergesHaveTheirHosts, RehearsalsHaveTheirFiles};
 ghost use Rattle.unify_bundle.specs.TakenFiles.{RulesHaveTheirFiles, SurveysRefuse};
+ghost use Rattle.unify_bundle.specs.WordsAnswered.{AreWordsFor, BundleLimitByDigit};
 
 /// What goes out for a command is read back, word by word and line by line: the two costs of a
 /// count and of a merge, the cost of a certificate that is accepted, the number of records of a
@@ -47,4 +49,19 @@ pub fn replies_go_out()
     ensures bundles { BundlesAreAnswered }
     ensures inputs { InputsAreTold }
     ensures answers { AnswersAreWritten }
+{}
+
+/// What a command with arguments replies to what it found, field by field: the lines of what it
+/// answers with status 0, or the line of the fault with its own status, which is never 0. It has no
+/// reply for a failed call and an inventory that is too large, each of which is told exactly where
+/// it was found, and for want of memory.
+pub fn words_are_answered()
+    ensures costs { AreWordsFor cost_lines }
+    ensures accepted { AreWordsFor accepted_line }
+    ensures records { AreWordsFor records_lines }
+{}
+
+/// A bundle has at most 268435456 bytes.
+pub fn bundle_limit_by_digit()
+    ensures { BundleLimitByDigit }
 {}

@@ -25,7 +25,10 @@ pub use answers::{
     FilesAnswer, NoReply, check_answer, count_answer, merge_answer, rehearse_answer,
 };
 pub use bundle_run::{answer, run_bundle};
-pub use laws::{answers_are_read_back, bundle_files_are_taken, replies_go_out};
+pub use laws::{
+    answers_are_read_back, bundle_files_are_taken, bundle_limit_by_digit, replies_go_out,
+    words_are_answered,
+};
 pub use merge_text::{merge_hosts_reply, merge_reply};
 pub use rehearsal_reply::rehearse_reply;
 pub use rehearsing_site::{SiteRun, rehearse_site};

@@ -6,6 +6,7 @@ pub mod OwnFiles
 pub mod HostFiles
 pub mod FileNames
 pub mod NamedFiles
+pub mod AccountFiles
 pub mod Planned
 pub mod AllPlanned
 pub mod BreakingOff
@@ -17,6 +18,7 @@ pub mod Checked
 pub mod WholeCheck
 pub mod WholeCount
 pub mod Settled
+pub mod ReadingsNoted
 pub mod InTurn
 pub mod Surveyed
 pub mod Finding

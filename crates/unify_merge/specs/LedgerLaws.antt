@@ -1,12 +1,12 @@
 -- What a ledger notes, and what it says after a merge.
 -- Source: this project's own rule.
-use Rattle.std.specs.Prelude.{◌≡◌, ℕ, List, [], ◌∷◌, ◌++◌, map}
+use Rattle.std.specs.Prelude.{◌≡◌, ◌≢◌, ℕ, List, [], ◌∷◌, ◌++◌, map, Some, None}
 use Rattle.hosts_join.specs.declared.texts.HostText.{HostText}
 use Rattle.unify.specs.declared.counting.Cost.{Cost}
 use Rattle.unify.specs.declared.rules.SiteRules.{SiteRules}
 use Rattle.unify.specs.declared.site_files.NamedText.{NamedText}
-use Rattle.unify_merge.specs.Ledger.{Ledger, cleared, with_begun, with_bytes, with_finished}
-use Rattle.unify_merge.specs.Ledger.{with_sealed}
+use Rattle.unify_merge.specs.Ledger.{Ledger, cleared, reading_so_far, with_begun, with_bytes}
+use Rattle.unify_merge.specs.Ledger.{with_finished, with_piece, with_sealed}
 use Rattle.unify_merge.specs.Merge.{HasMerged, merged_files}
 
 -- these files were begun, and no other; and all of them, and no other, are finished and settled
@@ -42,3 +42,20 @@ pub record FilesAreNoted (l : Ledger) : Type 0 where
 
 abbrev pub LedgersNoteFiles : Type 0
 LedgersNoteFiles = (l : Ledger) → FilesAreNoted l
+
+-- A reading that was begun and went on with two pieces has the bytes of both. When it has come to
+-- its end, which a piece without a byte tells, it stands so after those before it, and none goes
+-- on. Nothing else of the ledger changes.
+-- host: the index of the host
+pub record ReadingsAreNoted (l : Ledger) (host : ℕ) (front back : List ℕ) : Type 0 where
+  pub so_far : with_piece back (with_piece front (reading_so_far host [] l))
+      ≡ record l { reading = Some (record { host = host; text = front ++ back }) }
+  pub whole : with_piece [] (with_piece back (with_piece front (reading_so_far host [] l)))
+      ≡ record l {
+        read = l.read ++ record { host = host; text = front ++ back } ∷ [];
+        reading = None;
+      }
+
+abbrev pub LedgersNoteReadings : Type 0
+LedgersNoteReadings = (l : Ledger) (host : ℕ) (front back : List ℕ) → front ≢ [] → back ≢ []
+    → ReadingsAreNoted l host front back

@@ -9,7 +9,9 @@ pub mod SecondReading
 pub mod HostFiles
 pub mod Merge
 pub mod LedgerLaws
+pub mod InventoryLimit
 pub mod NamedFiles
+pub mod AccountFiles
 pub mod InTurn
 pub mod Check
 pub mod Count
