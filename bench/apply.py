@@ -392,7 +392,14 @@ class Bench:
             words = [word for word in self.words("--check") if word != "-q"]
             came = subprocess.run(words, capture_output=True, text=True)
             other.kill()
-        say(f"a process of another group: {came.stderr.splitlines()[:1]}", f"process {other.pid} is the first of 1 that run as users or groups whose numbers change\n" in came.stderr)
+        say(f"a process of another group: {came.stderr.splitlines()[:1]}", f"process {other.pid} is the first of 1 that run or may run under a number that the plan changes or gives\n" in came.stderr)
+        with subprocess.Popen(["unshare", "--user", "sleep", "60"]) as other:
+            while os.readlink(f"/proc/{other.pid}/ns/user") == os.readlink("/proc/self/ns/user"):
+                time.sleep(0.01)
+            pathlib.Path(f"/proc/{other.pid}/uid_map").write_text(f"0 {ONE[0]} 1\n")
+            came = subprocess.run(words, capture_output=True, text=True)
+            other.kill()
+        say(f"a process that may become another user: {came.stderr.splitlines()[:1]}", f"process {other.pid} is the first of 1 that run or may run under a number that the plan changes or gives\n" in came.stderr)
         hidden = 'mount -t proc -o hidepid=1 proc /proc && exec setpriv --reuid 41009 --regid 41009 --clear-groups "$@"'
         came = subprocess.run(["unshare", "--mount", "sh", "-c", hidden, "sh", *words], capture_output=True, text=True)
         say(f"processes that may not be looked at: {came.stderr.splitlines()[:1]}", came.stderr.startswith("unify: warning: processes could not all be looked at; "))

@@ -1,6 +1,6 @@
 -- What is asked before a plan is carried out, in its own words.
-use Rattle.std.proofs.Common.{◌≡◌, ◌≢◌, inl, inr, ⊎_elim, ℕ, ◌==◌, ◌&&◌, ◌||◌, ◌-◌, Bool, true, false, cond, not, nat_lt, List, [], ◌∷◌, ◌++◌, Option, Some, None, Contains, decimal, drop, length, take, refl, sym, ap, ◌∙◌, arith, length-append, true≢false}
-use Rattle.std.specs.Prelude.{codes, is_some, nat_le, ◌↔◌}
+use Rattle.std.proofs.Common.{◌≡◌, ◌≢◌, ◌⊎◌, inl, inr, ⊎_elim, ℕ, ◌==◌, ◌&&◌, ◌||◌, ◌+◌, ◌-◌, ◌<◌, ◌≤◌, Bool, true, false, cond, not, nat_lt, List, [], ◌∷◌, ◌++◌, Option, Some, None, Contains, decimal, drop, length, take, refl, sym, ap, ◌∙◌, arith, length-append, true≢false}
+use Rattle.std.specs.Prelude.{codes, is_some, nat_eq, nat_le, ◌↔◌}
 use Rattle.std.specs.Char.{digit_value}
 use Rattle.std.specs.List.{list_all, list_any}
 use Rattle.std.specs.Option.{option_map_or}
@@ -8,21 +8,21 @@ use Rattle.std.specs.Str.{bytes_eq}
 use Rattle.std.specs.Str.Parse.{digits_value}
 use Rattle.std.specs.Prelude.{Decides}
 use Rattle.std.proofs.lemmas.Bool.{and_from, and_parts}
-use Rattle.std.proofs.lemmas.Bool.Decides.{Decides-and, Decides-eqb, Decides-like, Decides-not, Decides-or, leb_tells, not_from_Decides}
+use Rattle.std.proofs.lemmas.Bool.Decides.{Decides-and, Decides-eqb, Decides-like, Decides-ltb, Decides-not, Decides-or, leb_tells, not_from_Decides}
 use Rattle.std.proofs.lemmas.List.Elements.{Contains-append_right, Contains-get_or}
 use Rattle.std.proofs.lemmas.List.Folds.{list_any_at}
 use Rattle.std.proofs.lemmas.Slice.Eq.{bytes_eq-Decides}
 use Rattle.idtext.specs.Numbers.{greatest_id, id_of, numeral}
-use Rattle.idtext.specs.Pieces.{begins_with, lines}
+use Rattle.idtext.specs.Pieces.{begins_with, lines, pieces}
 use Rattle.idtext.specs.Words.{words}
 use Rattle.idtext.proofs.NumberLemmas.{decimal-back}
 use Rattle.reown_plan.specs.declared.plan.Owner.{Owner}
 use Rattle.reown_plan.specs.declared.plan.Record.{Record}
-use Rattle.unify_apply.specs.AskedLaws.{ChangedGroupsMove, ChangedUsersMove, FitTellsTheHost, FitsTellTheHost, IsCalled, IsOfThree, JournalIsANumber, MayBe, NamesAreTold, OneJournalIsOfThree, ProcessesAreFound, RootIsEffective, TellsChanged, TellsRoot}
-use Rattle.unify_apply.specs.Changing.{has_changed, is_changed, tells_changed, writes_changed}
+use Rattle.unify_apply.specs.AskedLaws.{FitTellsTheHost, FitsTellTheHost, IsCalled, IsLeftOrTaken, IsOfThree, JournalIsANumber, MapsByExample, MayBe, Moves, NamesAreTold, OneJournalIsOfThree, ProcessesAreFound, RootIsEffective, SoughtGroupsMove, SoughtUsersMove, TellRange, TellsAny, TellsRange, TellsRoot}
 use Rattle.unify_apply.specs.Ends.{without_end}
 use Rattle.unify_apply.specs.Machine.{fit_of, have_root, is_called, tells_root}
 use Rattle.unify_apply.specs.Mounts.{MountText, has_one_journal, mount_of, mounts_in, path_from}
+use Rattle.unify_apply.specs.Sought.{has_one, have_within, is_sought, maps_one, runs_as_one, tell_range_with, tells_one, writes_one}
 use Rattle.unify_apply.specs.declared.machine.HostFit.{HostFit}
 use Rattle.unify_apply.specs.declared.machine.HostFit.TheVariants.{Same, Named, Other}
 use Rattle.unify_apply.proofs.Fronts.{begins, behind, front-of, other-end}
@@ -193,47 +193,138 @@ root-told status = let d = Decides-any tells_root TellsRoot (λ line. root-words
 
 -- ---- the processes
 
-changed-number : (number : Owner → ℕ) (records : List Record) (v : ℕ) → Decides (is_changed number records v) ((r : Record) × Contains records r × (number r.before ≡ v) × (number r.after ≢ v))
-changed-number number records v =
-    Decides-like (is_changed number records v) (λ h. (h.0, h.1, h.2.0, h.2.1)) (λ h. (h.0, h.1, (h.2, h.3)))
-    (Decides-any (λ (r : Record). number r.before == v && not (number r.after == v)) (λ r. (number r.before ≡ v) × (number r.after ≢ v))
-    (λ r. Decides-and (number r.before == v) (not (number r.after == v)) (Decides-eqb (number r.before) v) (Decides-not (number r.after == v) (Decides-eqb (number r.after) v))) records)
+module _ (number : Owner → ℕ) (v : ℕ) where
+  abbrev changes : Record → Bool
+  changes r = not (number r.before == number r.after) && (number r.before == v || number r.after == v)
 
-pub users-move : ChangedUsersMove
-users-move records uid = let d = changed-number (λ owner. owner.uid) records uid in (d.0, d.1)
+  abbrev Changes : Record → Type 0
+  Changes r = (number r.before ≢ number r.after) × ((number r.before ≡ v) ⊎ (number r.after ≡ v))
 
-pub groups-move : ChangedGroupsMove
-groups-move records gid = let d = changed-number (λ owner. owner.gid) records gid in (d.0, d.1)
+  one-record : (r : Record) → Decides (changes r) (Changes r)
+  one-record r =
+      Decides-and (not (number r.before == number r.after)) (number r.before == v || number r.after == v)
+      (Decides-not (number r.before == number r.after) (Decides-eqb (number r.before) (number r.after)))
+      (Decides-or (number r.before == v) (number r.after == v) (Decides-eqb (number r.before) v) (Decides-eqb (number r.after) v))
 
-module _ (changed : ℕ → Bool) where
-  of-number : (written : Option ℕ) → Decides (option_map_or changed written false) ((number : ℕ) × (written ≡ Some number) × (changed number ≡ true))
+  other-of : (records : List Record) (r : Record) → Contains records r → number r.before ≢ number r.after → (number r.before ≡ v) ⊎ (number r.after ≡ v) → IsLeftOrTaken number records v
+  other-of records r at apart (inl before) = (number r.after, (λ e. apart (before ∙ sym e)), inl (r, at, before, refl))
+  other-of records r at apart (inr after) = (number r.before, (λ e. apart (e ∙ sym after)), inr (r, at, refl, after))
+
+  record-of : (records : List Record) (other : ℕ) → other ≢ v → Moves number records v other ⊎ Moves number records other v → (r : Record) × Contains records r × Changes r
+  record-of records other apart (inl left) = (left.0, left.1, ((λ e. apart (sym left.3 ∙ sym e ∙ left.2)), inl left.2))
+  record-of records other apart (inr taken) = (taken.0, taken.1, ((λ e. apart (sym taken.2 ∙ e ∙ taken.3)), inr taken.3))
+
+  sought-number : (records : List Record) → Decides (is_sought number records v) (IsLeftOrTaken number records v)
+  sought-number records =
+      Decides-like (is_sought number records v) (λ h. other-of records h.0 h.1 h.2.0 h.2.1) (λ h. record-of records h.0 h.1 h.2)
+      (Decides-any changes Changes one-record records)
+
+pub users-move : SoughtUsersMove
+users-move records uid = let d = sought-number (λ owner. owner.uid) uid records in (d.0, d.1)
+
+pub groups-move : SoughtGroupsMove
+groups-move records gid = let d = sought-number (λ owner. owner.gid) gid records in (d.0, d.1)
+
+Decides-leb : (a b : ℕ) → Decides (nat_le a b) (a ≤ b)
+Decides-leb a b = by (leb_tells a b)
+  where
+    by : ((nat_le a b ≡ true) × (a ≤ b)) ⊎ ((nat_le a b ≡ false) × (b < a)) → Decides (nat_le a b) (a ≤ b)
+    by (inl h) = (λ _. h.1, λ _. h.0)
+    by (inr h) = (λ e. absurd (true≢false (sym e ∙ h.0)), λ at_most. absurd (omega (arith, h.1, at_most)))
+
+module _ (numbers : List ℕ) where
+  the-same : (v x : ℕ) → v ≡ x → Contains numbers x → Contains numbers v
+  the-same v x e at = rw e at
+
+  one-of : (v : ℕ) → Decides (list_any (nat_eq v) numbers) (Contains numbers v)
+  one-of v =
+      Decides-like (list_any (nat_eq v) numbers) (λ h. the-same v h.0 h.2 h.1) (λ at. (v, at, refl))
+      (Decides-any (nat_eq v) (λ x. v ≡ x) (λ x. Decides-eqb v x) numbers)
+
+  of-number : (written : Option ℕ) → Decides (option_map_or (λ v. list_any (nat_eq v) numbers) written false) ((number : ℕ) × (written ≡ Some number) × Contains numbers number)
   of-number None = (λ e. absurd (true≢false (sym e)), λ h. absurd (none-some h.0 h.1))
     where
       none-some : (n : ℕ) → ◌≡◌ {A = Option ℕ} None (Some n) → ⊥
       none-some n e = absurd (cc)
-  of-number (Some v) = (λ e. (v, refl, e), λ h. ap changed (ap (inside v) h.1) ∙ h.2)
+  of-number (Some v) = (λ e. (v, refl, (one-of v).0 e), λ h. (one-of v).1 (the-same v h.0 (ap (inside v) h.1) h.2))
 
-  one-line : (head : List ℕ) (ws : List (List ℕ)) → Decides (has_changed head changed ws)
-      ((others : List (List ℕ)) × (ws ≡ head ∷ others) × ((word : List ℕ) × Contains others word × ((number : ℕ) × (id_of word ≡ Some number) × (changed number ≡ true))))
+  one-line : (head : List ℕ) (ws : List (List ℕ)) → Decides (has_one head numbers ws)
+      ((others : List (List ℕ)) × (ws ≡ head ∷ others) × ((word : List ℕ) × Contains others word × ((number : ℕ) × (id_of word ≡ Some number) × Contains numbers number)))
   one-line head [] = (λ e. absurd (true≢false (sym e)), λ h. absurd (no-word h.0 h.1))
     where
       no-word : (others : List (List ℕ)) → [] ≡ head ∷ others → ⊥
       no-word others e = absurd (cc)
   one-line head (word ∷ more) = (
-    λ e. let parts = and_parts (bytes_eq word head) (list_any (writes_changed changed) more) e in
+    λ e. let parts = and_parts (bytes_eq word head) (list_any (writes_one numbers) more) e in
         (more, ap (λ w. w ∷ more) ((bytes_eq-Decides word head).0 parts.0), (some more).0 parts.1),
-    λ h. ap (has_changed head changed) h.1 ∙ and_from (bytes_eq head head) (list_any (writes_changed changed) h.0) ((bytes_eq-Decides head head).1 refl) ((some h.0).1 h.2),
+    λ h. ap (has_one head numbers) h.1 ∙ and_from (bytes_eq head head) (list_any (writes_one numbers) h.0) ((bytes_eq-Decides head head).1 refl) ((some h.0).1 h.2),
   )
     where
-      some : (ws : List (List ℕ)) → Decides (list_any (writes_changed changed) ws) ((w : List ℕ) × Contains ws w × ((number : ℕ) × (id_of w ≡ Some number) × (changed number ≡ true)))
-      some ws = Decides-any (writes_changed changed) (λ w. (number : ℕ) × (id_of w ≡ Some number) × (changed number ≡ true)) (λ w. of-number (id_of w)) ws
+      some : (ws : List (List ℕ)) → Decides (list_any (writes_one numbers) ws) ((w : List ℕ) × Contains ws w × ((number : ℕ) × (id_of w ≡ Some number) × Contains numbers number))
+      some ws = Decides-any (writes_one numbers) (λ w. (number : ℕ) × (id_of w ≡ Some number) × Contains numbers number) (λ w. of-number (id_of w)) ws
+
+  within : (first many : ℕ) → Decides (have_within numbers first many) ((number : ℕ) × Contains numbers number × (first ≤ number) × (number < first + many))
+  within first many =
+      Decides-like (have_within numbers first many) (λ h. (h.0, h.1, h.2.0, h.2.1)) (λ h. (h.0, h.1, (h.2, h.3)))
+      (Decides-any (λ v. nat_le first v && nat_lt v (first + many)) (λ v. (first ≤ v) × (v < first + many))
+      (λ v. Decides-and (nat_le first v) (nat_lt v (first + many)) (Decides-leb first v) (Decides-ltb v (first + many))) numbers)
+
+  abbrev ranged : Option ℕ → Option ℕ → Bool
+  ranged outside count = option_map_or (λ first. option_map_or (λ many. have_within numbers first many) count false) outside false
+
+  range-from : (ws : List (List ℕ)) → tell_range_with numbers ws ≡ true → TellRange numbers ws
+  range-from [] e = absurd (true≢false (sym e))
+  range-from (inside ∷ []) e = absurd (true≢false (sym e))
+  range-from (inside ∷ outside ∷ []) e = absurd (true≢false (sym e))
+  range-from (inside ∷ outside ∷ count ∷ more) e = by (id_of outside) (id_of count) refl refl e
+    where
+      by : (begun counted : Option ℕ) → id_of outside ≡ begun → id_of count ≡ counted → ranged begun counted ≡ true → TellRange numbers (inside ∷ outside ∷ count ∷ more)
+      by None counted begins counts e = absurd (true≢false (sym e))
+      by (Some first) None begins counts e = absurd (true≢false (sym e))
+      by (Some first) (Some many) begins counts e =
+          let w = (within first many).0 e in
+          record {
+            inside = inside;
+            outside = outside;
+            count = count;
+            more = more;
+            first = first;
+            many = many;
+            number = w.0;
+            told = refl;
+            begins = begins;
+            counts = counts;
+            sought = w.1;
+            from = w.2;
+            before = w.3;
+          }
+
+  range-to : (ws : List (List ℕ)) → TellRange numbers ws → tell_range_with numbers ws ≡ true
+  range-to ws h =
+      ap (tell_range_with numbers) h.told
+      ∙ ap (λ begun. ranged begun (id_of h.count)) h.begins
+      ∙ ap (λ counted. ranged (Some h.first) counted) h.counts
+      ∙ (within h.first h.many).1 (h.number, h.sought, h.from, h.before)
+
+  one-map : (map : List ℕ) → Decides (maps_one numbers map) (TellsRange numbers map)
+  one-map map = Decides-any (λ line. tell_range_with numbers (words line)) (λ line. TellRange numbers (words line)) (λ line. (range-from (words line), range-to (words line))) (lines map)
+
+one-status : (users groups status : List ℕ) → Decides (runs_as_one users groups status) ((line : List ℕ) × Contains (lines status) line × TellsAny users groups line)
+one-status users groups status =
+    Decides-any (tells_one users groups) (TellsAny users groups)
+    (λ line. let ws : List (List ℕ) = words line in
+    let user = has_one (codes "Uid:") users ws in
+    let group = has_one (codes "Gid:") groups ws in
+    Decides-or (user || group) (has_one (codes "Groups:") groups ws)
+    (Decides-or user group (one-line users (codes "Uid:") ws) (one-line groups (codes "Gid:") ws))
+    (one-line groups (codes "Groups:") ws)) (lines status)
 
 pub processes-found : ProcessesAreFound
-processes-found users groups status =
-    let d = Decides-any (tells_changed users groups) (TellsChanged users groups)
-    (λ line. let ws : List (List ℕ) = words line in
-    let user = has_changed (codes "Uid:") users ws in
-    let group = has_changed (codes "Gid:") groups ws in
-    Decides-or (user || group) (has_changed (codes "Groups:") groups ws)
-    (Decides-or user group (one-line users (codes "Uid:") ws) (one-line groups (codes "Gid:") ws))
-    (one-line groups (codes "Groups:") ws)) (lines status) in (d.0, d.1)
+processes-found users groups status uid_map gid_map =
+    let d = Decides-or (runs_as_one users groups status || maps_one users uid_map) (maps_one groups gid_map)
+    (Decides-or (runs_as_one users groups status) (maps_one users uid_map) (one-status users groups status) (one-map users uid_map))
+    (one-map groups gid_map) in (d.0, d.1)
+
+pub maps-told : MapsByExample
+unfolding numeral words lines pieces
+maps-told = record { initial = λ numbers. refl; own = refl }

@@ -8,6 +8,7 @@ pub mod Nearest
 pub mod NearestLaw
 pub mod PathLaws
 pub mod PathLemmas
+pub mod PreviewsBack
 pub mod SecondWay
 pub mod Statuses
 pub mod WrittenLines

@@ -1,21 +1,22 @@
 -- What it means that `apply` goes on, in the words of what is asked.
 -- Source: proc(5): of /proc/PID/status the line `Uid:` has the real user and then the effective
--- one, and the lines `Uid:`, `Gid:` and `Groups:` have numbers after that word; sysfs,
--- journal_task. Which file systems have one journal, and how a machine may be called, are this
--- project's own rules.
-use Rattle.std.specs.Prelude.{◌≡◌, ◌≢◌, ◌↔◌, ◌⊎◌, ℕ, ◌≤◌, Bool, true, false}
-use Rattle.std.specs.Prelude.{List, [], ◌∷◌, ◌++◌}
+-- one, and the lines `Uid:`, `Gid:` and `Groups:` have numbers after that word;
+-- user_namespaces(7): the maps of /proc/PID; sysfs, journal_task. Which file systems have one
+-- journal, and how a machine may be called, are this project's own rules.
+use Rattle.std.specs.Prelude.{◌≡◌, ◌≢◌, ◌↔◌, ◌⊎◌, ℕ, ◌≤◌, ◌<◌, ◌+◌, Bool, true, false}
+use Rattle.std.specs.Prelude.{List, [], ◌∷◌, ◌++◌, map}
 use Rattle.std.specs.Prelude.{Option, Some, None, Contains, codes, decimal, nat_le}
 use Rattle.std.specs.Char.{digit_value}
 use Rattle.std.specs.List.{list_any}
 use Rattle.idtext.specs.Numbers.{greatest_id, id_of}
 use Rattle.idtext.specs.Pieces.{lines}
 use Rattle.idtext.specs.Words.{words}
+use Rattle.reown_plan.specs.declared.plan.Owner.{Owner}
 use Rattle.reown_plan.specs.declared.plan.Record.{Record}
-use Rattle.unify_apply.specs.Changing.{is_changed_group, is_changed_user, runs_as_changed}
 use Rattle.unify_apply.specs.Journal.{tells_process}
 use Rattle.unify_apply.specs.Machine.{fit_of, is_of_root, name_in}
 use Rattle.unify_apply.specs.Mounts.{MountText, mount_of, mounts_in, one_journal, path_from}
+use Rattle.unify_apply.specs.Sought.{is_found, is_sought_group, is_sought_user, maps_one}
 use Rattle.unify_apply.specs.declared.machine.HostFit.TheVariants.{Same, Named, Other}
 
 -- ---- the file system
@@ -84,30 +85,73 @@ RootIsEffective = (status : List ℕ) → (is_of_root status ≡ true)
 
 -- ---- the processes
 
--- a number is changed exactly where a record has it before, and another after
-abbrev pub ChangedUsersMove : Type 0
-ChangedUsersMove = (records : List Record) (uid : ℕ) → (is_changed_user records uid ≡ true)
-    ↔ ((r : Record) × Contains records r × (r.before.uid ≡ uid) × (r.after.uid ≢ uid))
+-- a file with one number gets another
+abbrev pub Moves : (Owner → ℕ) → List Record → ℕ → ℕ → Type 0
+Moves number records from to =
+    (r : Record) × Contains records r × (number r.before ≡ from) × (number r.after ≡ to)
 
-abbrev pub ChangedGroupsMove : Type 0
-ChangedGroupsMove = (records : List Record) (gid : ℕ) → (is_changed_group records gid ≡ true)
-    ↔ ((r : Record) × Contains records r × (r.before.gid ≡ gid) × (r.after.gid ≢ gid))
+-- a number is looked for exactly where a file with it gets another, or one with another gets it
+abbrev pub IsLeftOrTaken : (Owner → ℕ) → List Record → ℕ → Type 0
+IsLeftOrTaken number records v =
+    (other : ℕ) × (other ≢ v) × (Moves number records v other ⊎ Moves number records other v)
 
--- a line begins with a word, and one of the words after it writes a number that is changed
-abbrev pub TellsOne : (ℕ → Bool) → List ℕ → List ℕ → Type 0
-TellsOne changed head line =
+abbrev pub SoughtUsersMove : Type 0
+SoughtUsersMove = (records : List Record) (uid : ℕ) → (is_sought_user records uid ≡ true)
+    ↔ IsLeftOrTaken (λ owner. owner.uid) records uid
+
+abbrev pub SoughtGroupsMove : Type 0
+SoughtGroupsMove = (records : List Record) (gid : ℕ) → (is_sought_group records gid ≡ true)
+    ↔ IsLeftOrTaken (λ owner. owner.gid) records gid
+
+-- a line begins with a word, and one of the words after it writes one of the numbers
+abbrev pub TellsOne : List ℕ → List ℕ → List ℕ → Type 0
+TellsOne numbers head line =
     (others : List (List ℕ)) × (words line ≡ head ∷ others)
     × ((word : List ℕ) × Contains others word
-    × ((number : ℕ) × (id_of word ≡ Some number) × (changed number ≡ true)))
+    × ((number : ℕ) × (id_of word ≡ Some number) × Contains numbers number))
 
--- a line tells such a number of a user, of a group, or of another group
-abbrev pub TellsChanged : (ℕ → Bool) → (ℕ → Bool) → List ℕ → Type 0
-TellsChanged users groups line =
+-- a line of a status tells one of a user, of a group, or of another group
+abbrev pub TellsAny : List ℕ → List ℕ → List ℕ → Type 0
+TellsAny users groups line =
     (TellsOne users (codes "Uid:") line ⊎ TellsOne groups (codes "Gid:") line)
     ⊎ TellsOne groups (codes "Groups:") line
 
--- a process has one exactly where a line of its status tells one
+-- the words of a line of a map: one of the numbers is the first outside, or comes after it and
+-- before the end of so many
+pub record TellRange (numbers : List ℕ) (ws : List (List ℕ)) : Type 0 where
+  pub inside : List ℕ
+  pub outside : List ℕ
+  pub count : List ℕ
+  pub more : List (List ℕ)
+  pub first : ℕ
+  pub many : ℕ
+  pub number : ℕ
+  pub told : ws ≡ inside ∷ outside ∷ count ∷ more
+  pub begins : id_of outside ≡ Some first
+  pub counts : id_of count ≡ Some many
+  pub sought : Contains numbers number
+  pub from : first ≤ number
+  pub before : number < first + many
+
+-- a line of a map tells such a range
+abbrev pub TellsRange : List ℕ → List ℕ → Type 0
+TellsRange numbers text =
+    (line : List ℕ) × Contains (lines text) line × TellRange numbers (words line)
+
+-- A process is found exactly where a line of its status tells one of the numbers, or a line of one
+-- of its maps a range that has one.
 abbrev pub ProcessesAreFound : Type 0
-ProcessesAreFound = (users groups : ℕ → Bool) (status : List ℕ)
-    → (runs_as_changed users groups status ≡ true)
-    ↔ ((line : List ℕ) × Contains (lines status) line × TellsChanged users groups line)
+ProcessesAreFound = (users groups status uid_map gid_map : List ℕ)
+    → (is_found users groups status uid_map gid_map ≡ true)
+    ↔ ((((line : List ℕ) × Contains (lines status) line × TellsAny users groups line)
+    ⊎ TellsRange users uid_map) ⊎ TellsRange groups gid_map)
+
+-- The map of the initial namespace tells of no number. That of a namespace of the user 1001, who
+-- is the user 0 there and has the users from 100000 to 165535 besides, tells of these; and of the
+-- numbers that these have inside, it tells of none.
+pub record MapsByExample : Type 0 where
+  pub initial : (numbers : List ℕ)
+      → maps_one numbers (codes "         0          0 4294967295\n") ≡ false
+  pub own : map (λ v. maps_one (v ∷ []) (codes "   0   1001     1\n   1 100000 65536\n"))
+      (0 ∷ 1 ∷ 1000 ∷ 1001 ∷ 1002 ∷ 65536 ∷ 99999 ∷ 100000 ∷ 165535 ∷ 165536 ∷ [])
+      ≡ (false ∷ false ∷ false ∷ true ∷ false ∷ false ∷ false ∷ true ∷ true ∷ false ∷ [])

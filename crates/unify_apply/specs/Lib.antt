@@ -1,6 +1,6 @@
 pub mod Answers
 pub mod AskedLaws
-pub mod Changing
+pub mod Sought
 pub mod Ends
 pub mod Journal
 pub mod Laws
@@ -8,3 +8,4 @@ pub mod Machine
 pub mod Mounts
 pub mod Told
 pub mod Previews
+pub mod PreviewLaws

@@ -34,7 +34,7 @@ fn count_files<D: Disk>(
     let counted = count_owners(disk, records);
     run.style.clear(run.rt);
     match counted {
-        Ok(count) => Ok(count.owners),
+        Ok(counts) => Ok(counts),
         Err(fault) => Err(not_opened(run.rt, run.paths, records, fault)),
     }
 }
@@ -78,8 +78,7 @@ fn check_at(run: Run<'_>, plan: &Plan<'_>, path: &str, mounts: usize) -> Result<
     let mut disk = files_below(run, plan.records().len())?;
     count_below(run, plan, &mut disk, mounts)?;
     see_way(run, plan, path)?;
-    disk.begin();
-    open_files(run, plan, disk)?;
+    open_files(run, plan, Preview::of(disk.into_disk()))?;
     Ok(0)
 }
 

@@ -1,14 +1,15 @@
 //! Laws over what this crate reads and prints. Each is the contract of a function that does
 //! nothing.
 
-ghost use Rattle.unify_apply.specs.AskedLaws.{ChangedGroupsMove, ChangedUsersMove, FitsTellTheHost};
-ghost use Rattle.unify_apply.specs.AskedLaws.{JournalIsANumber, NamesAreTold, OneJournalIsOfThree};
-ghost use Rattle.unify_apply.specs.AskedLaws.{ProcessesAreFound, RootIsEffective};
+ghost use Rattle.unify_apply.specs.AskedLaws.{FitsTellTheHost, JournalIsANumber, MapsByExample};
+ghost use Rattle.unify_apply.specs.AskedLaws.{NamesAreTold, OneJournalIsOfThree, ProcessesAreFound};
+ghost use Rattle.unify_apply.specs.AskedLaws.{RootIsEffective, SoughtGroupsMove, SoughtUsersMove};
 ghost use Rattle.unify_apply.specs.Laws.{MarksStandBesidePlans, MountIsNearest, NoSecondWay};
 ghost use Rattle.unify_apply.specs.Laws.{PathsAreTold, SlashIsTaken, SystemPathIsReadBack};
 ghost use Rattle.unify_apply.specs.Laws.{BelowAreTold, SecondWayIsThere, StatusesAreTold};
 ghost use Rattle.unify_apply.specs.Laws.{MarksTakeFourNames, WaysAreSeen};
 ghost use Rattle.unify_apply.specs.Laws.{MountsAreReadBack, CountsAreReadBack, DoneIsReadBack};
+ghost use Rattle.unify_apply.specs.PreviewLaws.{PreviewsOnlyLook};
 
 /// A path is below a directory exactly where it is the directory's, a slash and more, and in it
 /// exactly where it is that or the directory's own. A slash at the end of a path is left out, and
@@ -86,11 +87,19 @@ pub fn root_is_told()
     ensures { RootIsEffective }
 {}
 
-/// A number of a user or of a group is changed exactly where a record has it before and another
-/// after; and a process has one exactly where its status tells one after `Uid:` or, of a group,
-/// after `Gid:` or `Groups:`.
+/// A number of a user or of a group is looked for exactly where a record has it before and another
+/// after, or the other way round. A process is found exactly where its status tells one after
+/// `Uid:` or, of a group, after `Gid:` or `Groups:`, or one of its maps a range that has one
+/// outside; and the map of the initial user namespace tells none.
 pub fn processes_are_told()
-    ensures users { ChangedUsersMove }
-    ensures groups { ChangedGroupsMove }
+    ensures users { SoughtUsersMove }
+    ensures groups { SoughtGroupsMove }
     ensures found { ProcessesAreFound }
+    ensures maps { MapsByExample }
+{}
+
+/// Where a run is tried, the disk below is asked what only looks: each such call as it is, for a
+/// mark that is met whether it is there, and nothing for a call that changes, writes or syncs.
+pub fn previews_only_look()
+    ensures { PreviewsOnlyLook }
 {}

@@ -5,7 +5,6 @@
 mod answers;
 mod applying;
 mod beside;
-mod changing;
 mod checking;
 mod journal;
 mod laws;
@@ -16,6 +15,7 @@ mod opening;
 mod preview;
 mod progress;
 mod run;
+mod sought;
 mod staying;
 mod told;
 
@@ -26,7 +26,7 @@ pub use journal::tells_journal;
 pub use laws::{
     answers_are_read_back, journals_are_told, machines_are_told, marks_stand_beside_plans,
     marks_take_four_names, mounts_are_read_back, one_way_to_files, paths_below_are_told,
-    processes_are_told, root_is_told, statuses_are_told,
+    previews_only_look, processes_are_told, root_is_told, statuses_are_told,
 };
 pub use machine::{HostFit, host_fit, is_root};
 pub use mountinfo::{

@@ -1,13 +1,15 @@
 //! A disk on which a run is begun, and nothing is changed.
-ghost use Rattle.std.specs.Prelude.{◌≡◌, []};
+ghost use Rattle.std.specs.Prelude.{◌≡◌, [], true};
+ghost use Rattle.std.specs.List.{list_all};
+ghost use Rattle.unify_apply.specs.Previews.{IsAsked, only_looks};
 
 use reown_files::{Call, Disk, Log, Modes, Seen, Trouble};
 use reown_plan::{Owner, PlanMark};
 use std::marker::Model;
 
-/// A disk that shows how a run begins: it asks another what only looks there, and nothing else.
-/// What comes before the first change and would write something it answers as done, and any
-/// change as not done.
+/// A disk that shows how a run begins: it asks another what only looks there, and nothing else, and
+/// hands on what that tells. What comes before the first change and would write something it
+/// answers as done, and any change as not done.
 #[derive(Drop)]
 pub struct Preview<D: Disk> {
     disk: D,
@@ -19,19 +21,20 @@ impl<D: Disk> Model for Preview<D> {
     ghost use Rattle.std.specs.Prelude.{◌≡◌, true, List};
     ghost use Rattle.std.specs.List.{list_all};
     ghost use Rattle.reown_files.specs.Calls.{Called};
-    ghost use Rattle.unify_apply.specs.Previews.{only_looks};
+    ghost use Rattle.unify_apply.specs.Previews.{IsAsked, only_looks};
 
     ghost Value = { List Called };
 
     ghost view = { λ preview. preview.log.calls };
 
-    ghost invariant = { λ preview. list_all only_looks (D.calls preview.disk) ≡ true };
+    ghost invariant = { λ preview. (list_all only_looks (D.calls preview.disk) ≡ true)
+        × IsAsked preview.log.calls (D.calls preview.disk) };
 }
 
 impl<D: Disk> Preview<D> {
-    /// Asks this disk, which was asked nothing as yet.
+    /// Asks this disk, of which nothing was asked as yet but looks. Of the new one nothing was.
     pub fn of(disk: D) -> Preview<D>
-        requires { D.calls disk ≡ [] }
+        requires { list_all only_looks (D.calls disk) ≡ true }
         ensures { result ≡ [] }
     {
         Preview {
@@ -40,11 +43,15 @@ impl<D: Disk> Preview<D> {
         }
     }
 
-    /// Takes it that nothing was asked as yet.
-    pub fn begin(&mut self)
-        ensures { self.new ≡ [] }
+    /// The disk below. It was asked looks alone: for what was asked of this one, it was asked no
+    /// other, and has told what this one answered.
+    pub fn into_disk(self) -> D
+        ensures looks { list_all only_looks (D.calls result) ≡ true }
+        ensures told { IsAsked self (D.calls result) }
     {
-        self.log = Log::new();
+        let Preview { disk, log } = self;
+        drop(log);
+        disk
     }
 }
 
@@ -52,31 +59,43 @@ impl<D: Disk> Disk for Preview<D> {
     ghost calls = { λ preview. preview };
 
     fn look(&mut self, path: &[u8]) -> Result<Option<Seen>, Trouble> {
-        let told = self.disk.look(path);
-        self.log.note(&match told {
-            Ok(seen) => Call::Looked(path, seen),
-            Err(trouble) => Call::NotSeen(path, trouble),
-        });
-        told
+        match self.disk.look(path) {
+            Ok(seen) => {
+                self.log.note(&Call::Looked(path, seen));
+                Ok(seen)
+            }
+            Err(trouble) => {
+                self.log.note(&Call::NotSeen(path, trouble));
+                Err(trouble)
+            }
+        }
     }
 
     fn meet(&mut self, path: &[u8], after: Owner) -> Result<Option<Owner>, Trouble> {
-        let told = self.disk.meet(path, after);
-        self.log.note(&match told {
-            Ok(found) => Call::Met(path, after, found),
-            Err(trouble) => Call::NotSeen(path, trouble),
-        });
-        told
+        match self.disk.meet(path, after) {
+            Ok(found) => {
+                self.log.note(&Call::Met(path, after, found));
+                Ok(found)
+            }
+            Err(trouble) => {
+                self.log.note(&Call::NotSeen(path, trouble));
+                Err(trouble)
+            }
+        }
     }
 
     // One that is there is not synced.
     fn meet_mark(&mut self, plan: &PlanMark) -> Result<bool, Trouble> {
-        let told = self.disk.is_marked(plan);
-        self.log.note(&match told {
-            Ok(is_there) => Call::MetMark(plan, is_there),
-            Err(trouble) => Call::MarkNotSeen(plan, trouble),
-        });
-        told
+        match self.disk.is_marked(plan) {
+            Ok(is_set) => {
+                self.log.note(&Call::MetMark(plan, is_set));
+                Ok(is_set)
+            }
+            Err(trouble) => {
+                self.log.note(&Call::MarkNotSeen(plan, trouble));
+                Err(trouble)
+            }
+        }
     }
 
     fn check_links(&mut self, path: &[u8]) -> Result<(), Trouble> {
@@ -86,12 +105,16 @@ impl<D: Disk> Disk for Preview<D> {
     }
 
     fn owner(&mut self, path: &[u8]) -> Result<Option<Owner>, Trouble> {
-        let told = self.disk.owner(path);
-        self.log.note(&match told {
-            Ok(found) => Call::Saw(path, found),
-            Err(trouble) => Call::NotSeen(path, trouble),
-        });
-        told
+        match self.disk.owner(path) {
+            Ok(found) => {
+                self.log.note(&Call::Saw(path, found));
+                Ok(found)
+            }
+            Err(trouble) => {
+                self.log.note(&Call::NotSeen(path, trouble));
+                Err(trouble)
+            }
+        }
     }
 
     fn give(&mut self, path: &[u8], before: Owner, after: Owner) -> Result<Modes, Trouble> {
@@ -115,12 +138,16 @@ impl<D: Disk> Disk for Preview<D> {
     }
 
     fn is_marked(&mut self, plan: &PlanMark) -> Result<bool, Trouble> {
-        let told = self.disk.is_marked(plan);
-        self.log.note(&match told {
-            Ok(is_there) => Call::SawMark(plan, is_there),
-            Err(trouble) => Call::MarkNotSeen(plan, trouble),
-        });
-        told
+        match self.disk.is_marked(plan) {
+            Ok(is_there) => {
+                self.log.note(&Call::SawMark(plan, is_there));
+                Ok(is_there)
+            }
+            Err(trouble) => {
+                self.log.note(&Call::MarkNotSeen(plan, trouble));
+                Err(trouble)
+            }
+        }
     }
 
     fn put_mark(&mut self, plan: &PlanMark) -> Result<(), Trouble> {
@@ -129,12 +156,16 @@ impl<D: Disk> Disk for Preview<D> {
     }
 
     fn read_modes(&mut self, plan: &PlanMark, mark: bool) -> Result<bool, Trouble> {
-        let told = self.disk.read_modes(plan, mark);
-        self.log.note(&match told {
-            Ok(is_begun) => Call::ReadModes(plan, mark, Some(is_begun)),
-            Err(_) => Call::ReadModes(plan, mark, None),
-        });
-        told
+        match self.disk.read_modes(plan, mark) {
+            Ok(is_begun) => {
+                self.log.note(&Call::ReadModes(plan, mark, Some(is_begun)));
+                Ok(is_begun)
+            }
+            Err(trouble) => {
+                self.log.note(&Call::ReadModes(plan, mark, None));
+                Err(trouble)
+            }
+        }
     }
 
     fn lost_mode(
@@ -143,12 +174,16 @@ impl<D: Disk> Disk for Preview<D> {
         path: &[u8],
         owner: Owner,
     ) -> Result<Option<u32>, Trouble> {
-        let told = self.disk.lost_mode(plan, path, owner);
-        self.log.note(&match told {
-            Ok(lost) => Call::LostMode(plan, path, owner, lost),
-            Err(trouble) => Call::NotSeen(path, trouble),
-        });
-        told
+        match self.disk.lost_mode(plan, path, owner) {
+            Ok(lost) => {
+                self.log.note(&Call::LostMode(plan, path, owner, lost));
+                Ok(lost)
+            }
+            Err(trouble) => {
+                self.log.note(&Call::NotSeen(path, trouble));
+                Err(trouble)
+            }
+        }
     }
 
     fn put_modes(&mut self, plan: &PlanMark) -> Result<(), Trouble> {
