@@ -227,7 +227,8 @@ const APPLY: Subcommand = Subcommand {
         },
         Argument {
             name: "check",
-            help: "counts the files by their owners, and changes nothing",
+            help: "counts the files by their owners, tells what a run would refuse, \
+            and changes nothing",
             ..FLAG
         },
         Argument {
