@@ -153,7 +153,7 @@ fn next_places(
 }
 
 /// Counts a file more for the rows at these places. Requires that they are those of the rows that
-/// own a file of a host whose files the rows count, and that there are fewer than 2^31 of them.
+/// own a file of a host whose files the rows count, and that these are at most 2^31.
 pub fn count_at(rows: &mut RowFiles, places: &OwnerPlaces)
     requires { (host : Host) × (file : Entry) × (files : List Entry)
         × Owns host places.now file × (rows.old ≡ row_files host files)
