@@ -1,5 +1,5 @@
 # unify: one numbering for the accounts of many hosts.
-#   make demo              merges the two hosts of examples/office, and shows what was written: one to two minutes, compiled
+#   make demo              merges the two hosts of examples/office, and shows what was written: two to three minutes, compiled
 #                          with run-time checks and not proved
 #   make try ARGS='merge OUT HOST..'   any other command, in the same way
 #   make program           proves the program and links it, which takes a while; make demo-proved runs the demo with it

@@ -64,7 +64,7 @@ def demo_cases():
 
 def demo():
     """Merges the office, counts its map, checks its certificate and rehearses its plans; shows all of it."""
-    print("compiling unify with run-time checks and no proof: one to two minutes", file=sys.stderr, flush=True)
+    print("compiling unify with run-time checks and no proof: two to three minutes", file=sys.stderr, flush=True)
     shutil.rmtree(DEMO, ignore_errors=True)
     DEMO.mkdir(parents=True)
     ran = run_cases(demo_cases())
