@@ -1,5 +1,6 @@
 //! What holds of plans and their texts.
-ghost use Rattle.std.specs.Prelude.{◌≡◌, ◌↔◌, ◌++◌, ℕ, List, [], All, Result, Ok, true, length};
+ghost use Rattle.std.specs.Prelude.{◌≡◌, ◌↔◌, ◌++◌, ◌∷◌, ℕ, List, [], All, Result, Ok, true};
+ghost use Rattle.std.specs.Prelude.{length};
 ghost use Rattle.sha2.specs.Sha256.{sha256};
 ghost use Rattle.ownership.specs.Mappings.{IsMapping};
 ghost use Rattle.ownership.specs.declared.mapping.Mappings.{Mappings};
@@ -12,10 +13,14 @@ ghost use Rattle.reown_plan.specs.Examples.{NumbersStandInOrder, ExampleOfPlan};
 ghost use Rattle.reown_plan.specs.declared.mark.PlanMark.{PlanMark};
 ghost use Rattle.reown_plan.specs.Mark.{mark_of, mark_eq};
 ghost use Rattle.reown_plan.specs.PlanData.{PlanData};
-ghost use Rattle.reown_plan.specs.Spelling.{spelling, IsHostName, IsLawful};
+ghost use Rattle.reown_plan.specs.OwnerChange.{line_of, printed};
+ghost use Rattle.reown_plan.specs.Owners.{owner_of};
+ghost use Rattle.reown_plan.specs.declared.plan.Owner.{Owner};
+ghost use Rattle.reown_plan.specs.Spelling.{lines, spelling, IsHostName, IsLawful};
 ghost use Rattle.reown_plan.specs.Reading.{ReadsAs};
 ghost use Rattle.reown_plan.specs.BadByte.{BadByteIsTold};
 ghost use Rattle.reown_plan.specs.Target.{target, plan_of, host_plan, name_at, owner_after};
+ghost use Rattle.reown_plan.specs.Target.{records_to};
 
 /// A plan has one spelling, and none begins another's.
 pub fn one_spelling()
@@ -54,6 +59,13 @@ pub fn plans_keep_names()
     ensures names { (site : Joined) (m : Mappings) (host : ℕ) (files : List Entry)
         → HaveDistinctFiles files
         → All (λ f. KeepsNames site m host f (owner_after (plan_of site m host files) f)) files }
+{}
+
+/// What the change of a file's owner has appended for the file is its record, where it gets another
+/// owner, and nothing where it keeps its own.
+pub fn changes_give_records()
+    ensures { (to : Entry → Owner) (file : Entry)
+        → line_of (printed (owner_of file) (to file)) file.path ≡ lines (records_to to (file ∷ [])) }
 {}
 
 /// Marks are compared field by field, and plans of one mark are of one host and have texts of one

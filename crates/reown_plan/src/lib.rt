@@ -14,8 +14,8 @@ mod write;
 
 pub use change::{NewOwners, OwnerChange, OwnerRows};
 pub use laws::{
-    bad_byte_is_told, columns_of_plans, marks_tell_plans, one_reading, one_spelling,
-    plans_keep_names, plans_read_back,
+    bad_byte_is_told, changes_give_records, columns_of_plans, marks_tell_plans, one_reading,
+    one_spelling, plans_keep_names, plans_read_back,
 };
 pub use mark::PlanMark;
 pub use plan::{Owner, Plan, PlanFault, Record};

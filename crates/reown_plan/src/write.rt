@@ -1,20 +1,18 @@
 //! A plan from an inventory.
-ghost use Rattle.std.specs.Prelude.{◌≡◌, ◌++◌, ◌<◌, false, not, length, if◌then◌else◌, IfOk};
-ghost use Rattle.std.specs.Result.{result_unwrap_or};
+ghost use Rattle.std.specs.Prelude.{◌≡◌, ◌++◌, ◌<◌, length, is_ok, is_some, if◌then◌else◌, IfOk};
 ghost use Rattle.reown_plan.specs.NewOwners.{HasNumbers};
-ghost use Rattle.reown_plan.specs.OwnerChange.{printed};
-ghost use Rattle.reown_plan.specs.Owners.{owner_of, owner_eq};
-ghost use Rattle.reown_plan.specs.declared.plan.Owner.{Owner};
-ghost use Rattle.reown_plan.specs.Target.{record_to, host_plan};
-ghost use Rattle.reown_plan.specs.Spelling.{line, spelling};
+ghost use Rattle.reown_plan.specs.OwnerChange.{line_of};
+ghost use Rattle.reown_plan.specs.Target.{host_plan};
+ghost use Rattle.reown_plan.specs.Spelling.{spelling};
 
 use crate::{NewOwners, Owner, OwnerChange, OwnerRows, push_plan_end, push_plan_head};
 use hosts_join::Host;
 use mtree_inv::{Entry, Inventory};
 use std::alloc::{AllocError, Global};
 
-/// Appends the record of a file, where the change of its owner gives it another, and nothing else;
-/// true exactly where a record was appended.
+/// Appends the record of a file by the change of its owner, and nothing where the owner stays; true
+/// exactly where a record was appended. The record has the owners of the change, whoever owns the
+/// file.
 ///
 /// `AllocError` where memory is refused; the text is then as before. One pass over the path where a
 /// record is appended. No memory but that of the text.
@@ -23,12 +21,10 @@ pub fn push_plan_entry(
     change: &OwnerChange,
     entry: &Entry,
 ) -> Result<bool, AllocError>
-    ensures appended { (after : Owner) → change.now ≡ printed (owner_of entry.now) after
-        → IfOk result (λ appended. appended ≡ not (owner_eq (owner_of entry.now) after)) }
-    ensures text { (after : Owner) → change.now ≡ printed (owner_of entry.now) after
-        → text.new.items
-        ≡ (if result_unwrap_or result false
-        then text.old.items ++ line (record_to (λ _. after) entry.now)
+    ensures appended { IfOk result (λ appended. appended ≡ is_some change.now) }
+    ensures text { text.new.items
+        ≡ (if is_ok result
+        then text.old.items ++ line_of change.now entry.now.path
         else text.old.items) }
 {
     let Some(numbers) = &change.numbers else {

@@ -1,15 +1,10 @@
 -- What was found of an owner of files.
-use Rattle.std.proofs.Common.{◌≡◌, ℕ, Bool, true, false, not, List, [], ◌∷◌, ◌++◌, Option, Some, None, if◌then◌else◌, sym, ap, subst}
+use Rattle.std.proofs.Common.{◌≡◌, Option, Some, None, sym, subst}
 use Rattle.std.specs.Prelude.{IsSome}
 use Rattle.std.proofs.lemmas.Bool.{true≢false}
-use Rattle.std.proofs.lemmas.List.{append-nil}
-use Rattle.hosts_join.specs.Site.{Joined}
 use Rattle.mtree_inv.specs.declared.entry.Entry.{Entry}
-use Rattle.ownership.specs.declared.mapping.Mappings.{Mappings}
 use Rattle.reown_plan.specs.OwnerChange.{IsChange, OwnerChange}
-use Rattle.reown_plan.specs.Owners.{owner_eq, owner_of}
-use Rattle.reown_plan.specs.Spelling.{line, lines}
-use Rattle.reown_plan.specs.Target.{plan_of, record_to, target}
+use Rattle.reown_plan.specs.Owners.{owner_of}
 use Rattle.reown_plan.specs.declared.plan.Owner.{Owner}
 use Rattle.unify.specs.KnownOwners.{owner_at}
 use Rattle.unify.specs.Places.{Owns}
@@ -44,8 +39,3 @@ module _ (whose : PlannedHost) (file : Entry) where
   -- the change that is there
   pub change_given : (known change : Option OwnerChange) → known ≡ change → GivesOf whose file known → GivesOf whose file change
   change_given known change is gives = subst (GivesOf whose file) is gives
-
--- the record of one file, if it gets another owner
-pub one_record : (site : Joined) (m : Mappings) (host : ℕ) (file : Entry) (b : Bool) (old : List ℕ) → b ≡ not (owner_eq (owner_of file) (target site m host file)) → (if b then old ++ line (record_to (target site m host) file) else old) ≡ old ++ lines (plan_of site m host (file ∷ []))
-one_record site m host file true old e = rw (← e) (ap (λ t. old ++ t) (sym (append-nil (line (record_to (target site m host) file)))))
-one_record site m host file false old e = rw (← e) (sym (append-nil old))
