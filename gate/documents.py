@@ -2,8 +2,9 @@
 """Looks whether the documents name what is there, and ends with status 1 where they do not.
 
 Of each document in git: the file and the heading that a link leads to; the files that it names in code marks, as
-`gate/documents.py` or `crates/*/src`; the public names of crates, as `unify_merge::merge_files`; and the headline, which README.md
-and docs/promises.md have to quote alike.
+`gate/documents.py` or `crates/*/src`; the public names of crates, as `unify_merge::merge_files`; the laws that docs/surface.md
+lists under each crate, which its src/lib.rt has to export; and the headline, which README.md and docs/promises.md have to quote
+alike.
 """
 import functools
 import itertools
@@ -21,6 +22,9 @@ FILE = re.compile(rf"(?:{'|'.join(FOLDERS)})/[\w./*-]+")
 # What stands in place of any name, as in `crates/NAME/wrong-bodies`, and what only a run makes.
 ANY_NAME, MADE = re.compile(r"\b[A-Z]+\b"), {"bench/work"}
 PUBLIC_NAME = re.compile(r"([a-z_]+)::(?:[A-Z]\w+::)?(\w+)")
+# A paragraph of laws, with a list that follows it; and what the root of a crate exports.
+LAWS = re.compile(r"^Laws?\b(?:.|\n(?!\n[^-]))*", re.MULTILINE)
+EXPORTED = re.compile(r"\bpub use ([^;]+);")
 
 
 def documents():
@@ -41,6 +45,13 @@ def public_names(crate):
     """The public names in the sources of a crate; none where this repository has no such crate."""
     sources = (TOP / "crates" / crate / "src").rglob("*.rt")
     return {name for source in sources for name in PUBLIC.findall(source.read_text())}
+
+
+@functools.cache
+def exported_names(crate):
+    """The names that the root of a crate exports, or has itself."""
+    root = (TOP / "crates" / crate / "src/lib.rt").read_text()
+    return set(re.findall(r"\w+", " ".join(EXPORTED.findall(root)))) | set(PUBLIC.findall(root))
 
 
 def broken_links(document, text):
@@ -66,6 +77,16 @@ def missing_names(text):
             yield f"the name {mark}"
 
 
+def missing_laws():
+    """The laws of docs/surface.md, section by section; of `TYPE::law` the type is exported."""
+    for section in re.split(r"^## ", (TOP / "docs/surface.md").read_text(), flags=re.MULTILINE):
+        crate = section.partition("\n")[0]
+        for mark in MARKED.findall(" ".join(LAWS.findall(section))):
+            outer, _, law = mark.partition("::")
+            if outer not in exported_names(crate) or law and law not in public_names(crate):
+                yield f"the law {mark} of {crate}"
+
+
 def headline(name):
     """The longest quotation of a document, in one line and without marks."""
     quotations = re.findall(r"(?:^>.*\n)+", (TOP / name).read_text(), re.MULTILINE)
@@ -78,6 +99,7 @@ def main():
         text = document.read_text()
         found = itertools.chain(broken_links(document, text), missing_files(text), missing_names(text))
         faults += [f"{document.relative_to(TOP)}: there is not {what}" for what in found]
+    faults += [f"docs/surface.md: there is not {what}" for what in missing_laws()]
     if headline("README.md") != headline("docs/promises.md"):
         faults.append("README.md and docs/promises.md quote the headline otherwise")
     print("\n".join(faults) or f"documents: {len(documents())} name what is there")

@@ -20,11 +20,12 @@ pub use host_files::{host_group_text, host_passwd_text};
 use hosts_join::Which;
 use idtext::Name;
 pub use laws::{
-    all_is_in_part, differences_are_told, differences_by_example, full_group_reads_back,
-    full_names_are_kept, full_passwd_reads_back, group_in_part_reads_back, host_files_by_example,
-    host_group_reads_back, host_names_are_kept, host_passwd_reads_back, hosts_join_in_full,
-    joined_together, merged_files_by_example, merged_group_reads_back, merged_passwd_reads_back,
-    names_have_rows, passwd_in_part_reads_back,
+    all_is_in_part, differences_are_told, differences_by_example, first_host_decides,
+    full_group_reads_back, full_names_are_kept, full_passwd_reads_back, group_in_part_reads_back,
+    host_files_by_example, host_group_reads_back, host_names_are_kept, host_passwd_reads_back,
+    hosts_join_in_full, joined_together, merged_files_by_example, merged_group_reads_back,
+    merged_passwd_reads_back, merged_users_are_of_all_hosts, names_have_rows,
+    passwd_in_part_reads_back,
 };
 pub use passwd::passwd_text;
 

@@ -127,9 +127,9 @@ pub record PlanKeepsNames (map : MapText) (users : List Passwd) (groups : List G
 -- merged passwd and group have exactly one row for each name, with its number; no other such
 -- mapping rewrites fewer user and group fields over all inventories, as the printed potentials
 -- prove; and while a host's plan is carried out, however often stopped, every file of it has its
--- old owner, or by the map, and by the merged passwd and group, the user and group names it had;
--- once the plan has finished, every file has these names. A uid or gid that had no name stays as it
--- is, and is no name's.
+-- old owner, or the user and group names that it had, by the map and by the merged passwd and
+-- group; once the plan has finished, every file has these names. A uid or gid that had no name
+-- stays as it is, and is no name's.
 pub record Headline (site : WholeSite) (outcome : Outcome) : Type 0 where
   -- what is printed
   pub map : MapText

@@ -66,9 +66,9 @@ pub fn owners_agree()
 /// every name one distinct number, in its pool or at its pin, and the passwd and group that are
 /// printed have exactly one row for each name, with its number; no other such mappings rewrite
 /// fewer user and group fields, as the printed potentials prove; and while a host's plan is
-/// carried out, however often stopped, every file of it has its old owner, or by the map, and by
-/// that passwd and group, the names it had; once the plan has finished, every file has these names.
-/// A uid or gid that had no name stays as it is, and is no name's.
+/// carried out, however often stopped, every file of it has its old owner, or the names that it
+/// had, by the map and by that passwd and group; once the plan has finished, every file has these
+/// names. A uid or gid that had no name stays as it is, and is no name's.
 pub fn outcomes_are_correct()
     ensures { OutcomesAreCorrect }
 {}

@@ -23,3 +23,6 @@ pub mod InTurn
 pub mod Surveyed
 pub mod Finding
 pub mod Rehearsals
+pub mod GivenTexts
+pub mod EarlyEnds
+pub mod RehearsalsRead

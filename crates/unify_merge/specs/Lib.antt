@@ -17,3 +17,6 @@ pub mod Check
 pub mod Count
 pub mod Surveyed
 pub mod Rehearse
+pub mod GivenTexts
+pub mod EarlyEnds
+pub mod RehearsalsRead

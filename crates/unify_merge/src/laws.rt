@@ -1,11 +1,20 @@
-//! What holds of the files of a merge.
+//! What holds of the files of a merge, and of what a command is given and answers.
 ghost use Rattle.unify_merge.specs.AccountFiles.{AccountFilesGoByTexts};
+ghost use Rattle.unify_merge.specs.EarlyEnds.{ChangesAreTold, EarlyEndsLeaveAll};
+ghost use Rattle.unify_merge.specs.EarlyEnds.{EarlyEndsLeaveFiles, TooLargeIsTooLarge};
+ghost use Rattle.unify_merge.specs.EarlyEnds.{WholeFilesAreMerged};
+ghost use Rattle.unify_merge.specs.GivenTexts.{BrokenMergesGoByGiven, ChecksGoByGiven};
+ghost use Rattle.unify_merge.specs.GivenTexts.{CountsGoByGiven, MergesGoByGiven};
+ghost use Rattle.unify_merge.specs.GivenTexts.{RefusedChecksGoByGiven, RefusedCountsGoByGiven};
+ghost use Rattle.unify_merge.specs.GivenTexts.{RefusedMergesGoByGiven};
 ghost use Rattle.unify_merge.specs.InTurn.{MergesLeaveReports, PlansComeInTurn, ReportIsLast};
 ghost use Rattle.unify_merge.specs.InTurn.{ReportsStandWithAll};
 ghost use Rattle.unify_merge.specs.InventoryLimit.{InventoryLimitByDigit};
 ghost use Rattle.unify_merge.specs.LedgerLaws.{LedgersNoteFiles, LedgersNoteReadings};
 ghost use Rattle.unify_merge.specs.LedgerLaws.{MergesAreSettled};
 ghost use Rattle.unify_merge.specs.NamedFiles.{FilesHaveTheirNames};
+ghost use Rattle.unify_merge.specs.RehearsalsRead.{RefusedRehearsalsTellTheirFault};
+ghost use Rattle.unify_merge.specs.RehearsalsRead.{RehearsalsReadToTheEnd};
 
 /// Among the files of a merge, each name has its own text: passwd and group, unless a name is kept,
 /// map, certificate and report those of the whole site; `plan.`, `passwd.` and `group.` with a
@@ -38,9 +47,48 @@ pub fn ledgers_note_readings()
     ensures { LedgersNoteReadings }
 {}
 
-/// An inventory that a command reads has at most 4294967295 bytes.
+/// An inventory that a command reads has at most 4294967295 bytes, and one that is told to be too
+/// large has more.
 pub fn inventory_limit_by_digit()
-    ensures { InventoryLimitByDigit }
+    ensures limit { InventoryLimitByDigit }
+    ensures told { TooLargeIsTooLarge }
+{}
+
+/// A merge, a check and a count of files go by the very pins text and keep text that they are
+/// given, and by the numbers without an account that a survey finds by this keep text: so it is of
+/// what they have done, of why they stop, and of what a merge leaves that broke off.
+pub fn commands_go_by_what_is_given()
+    ensures merges { MergesGoByGiven }
+    ensures refused_merges { RefusedMergesGoByGiven }
+    ensures broken_merges { BrokenMergesGoByGiven }
+    ensures checks { ChecksGoByGiven }
+    ensures refused_checks { RefusedChecksGoByGiven }
+    ensures counts { CountsGoByGiven }
+    ensures refused_counts { RefusedCountsGoByGiven }
+{}
+
+/// A merge that ends early leaves the files of an earlier one as they were, unless the tables, the
+/// rules and the inventory of each host were accepted. Of one that broke off while it wrote, each
+/// file that is whole has the text that it has in this merge, at most one more was begun, and none
+/// is settled.
+pub fn early_ends_leave_files()
+    ensures texts { EarlyEndsLeaveAll }
+    ensures files { EarlyEndsLeaveFiles }
+    ensures whole { WholeFilesAreMerged }
+{}
+
+/// Where an inventory has changed between its readings, that is told as 41 with the host whose
+/// inventory it is.
+pub fn changes_are_told()
+    ensures { ChangesAreTold }
+{}
+
+/// A rehearsal answers for the whole inventory, which was read once, to its end. A fault that it
+/// tells is that of the plan, and then nothing was read, or that of the whole inventory, or of any
+/// that begins as this one did as far as it was read.
+pub fn rehearsals_read_to_the_end()
+    ensures answered { RehearsalsReadToTheEnd }
+    ensures refused { RefusedRehearsalsTellTheirFault }
 {}
 
 /// The report is the last of the files of a merge: where it is among the first of them, in their

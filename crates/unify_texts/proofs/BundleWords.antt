@@ -1,7 +1,7 @@
 -- The words of bundles, letter by letter.
 use Rattle.std.proofs.Common.{refl}
 use Rattle.unify_texts.specs.BundleLines.{bundle_line_of}
-use Rattle.unify_texts.specs.BundleWords.{WordsAreRead}
+use Rattle.unify_texts.specs.BundleWords.{FilesHaveTheirPlaces, WordsAreRead}
 
 pub words_are_read : WordsAreRead
 unfolding bundle_line_of
@@ -22,4 +22,14 @@ words_are_read = record {
   login_defs = refl;
   host = λ name. refl;
   content = λ line. refl;
+}
+
+pub files_have_their_places : FilesHaveTheirPlaces
+files_have_their_places = record {
+  count = refl;
+  merge = refl;
+  merge_hosts = refl;
+  check = refl;
+  rehearse = refl;
+  host = refl;
 }

@@ -1,11 +1,12 @@
--- The words of bundles, letter by letter.
+-- The words of bundles, letter by letter, and which files stand where.
 -- Source: this project's own formats.
-use Rattle.std.specs.Prelude.{◌≡◌, ◌++◌, ◌∷◌, ℕ, List, codes}
+use Rattle.std.specs.Prelude.{◌≡◌, ◌++◌, [], ◌∷◌, ℕ, List, codes, map}
 use Rattle.unify_texts.specs.declared.bundle_line.Command.TheVariants.{Count, Merge, MergeHosts}
 use Rattle.unify_texts.specs.declared.bundle_line.Command.TheVariants.{Check, Rehearse}
 use Rattle.unify_texts.specs.declared.bundle_line.FileName.TheVariants as file
 use Rattle.unify_texts.specs.declared.bundle_line.BundleLine.TheVariants.{Run, File, Host, Content}
-use Rattle.unify_texts.specs.BundleLines.{bundle_line_of}
+use Rattle.unify_texts.specs.BundleLines.{bundle_line_of, file_word}
+use Rattle.unify_texts.specs.Bundles.{head_files, host_files}
 
 -- what each line says: the command, a file by its name, a host by its name, and a line of a file
 -- after a bar
@@ -26,3 +27,14 @@ pub record WordsAreRead : Type 0 where
   pub login_defs : bundle_line_of (codes "file login.defs") ≡ File file.LoginDefs
   pub host : (name : List ℕ) → bundle_line_of (codes "host " ++ name) ≡ Host name
   pub content : (line : List ℕ) → bundle_line_of (124 ∷ line) ≡ Content line
+
+-- which files may stand before the first host, by the command, and which with a host
+pub record FilesHaveTheirPlaces : Type 0 where
+  pub count : map file_word (head_files Count) ≡ codes "map" ∷ codes "keep" ∷ []
+  pub merge : map file_word (head_files Merge) ≡ codes "pins" ∷ codes "keep" ∷ []
+  pub merge_hosts : map file_word (head_files MergeHosts) ≡ codes "pins" ∷ codes "keep" ∷ []
+  pub check : map file_word (head_files Check)
+      ≡ codes "certificate" ∷ codes "pins" ∷ codes "keep" ∷ []
+  pub rehearse : map file_word (head_files Rehearse) ≡ codes "plan" ∷ codes "mtree" ∷ []
+  pub host : map file_word host_files
+      ≡ codes "passwd" ∷ codes "group" ∷ codes "login.defs" ∷ codes "mtree" ∷ []

@@ -2,7 +2,7 @@
 
 ghost use Rattle.unify_texts.specs.BundleSpelling.{ReadsWhatIsSpelled, SpelledIsRead};
 ghost use Rattle.unify_texts.specs.BundleSpelling.{FirstBadIsTold};
-ghost use Rattle.unify_texts.specs.BundleWords.{WordsAreRead};
+ghost use Rattle.unify_texts.specs.BundleWords.{FilesHaveTheirPlaces, WordsAreRead};
 ghost use Rattle.unify_texts.specs.FaultExamples as example;
 ghost use Rattle.unify_texts.specs.FaultExamples.{AreTold, StatusesGoByFaults};
 ghost use Rattle.unify_texts.specs.FaultsTold.{FaultsAreTold};
@@ -29,9 +29,11 @@ pub fn bundles_are_spelled()
 {}
 
 /// Each word of a bundle, letter by letter: `run` with a command's, `file` with a file's, `host`,
-/// and the bar before a line of a file.
+/// and the bar before a line of a file; and which files may stand before the first host, by the
+/// command, and which with a host.
 pub fn bundle_words_are_read()
-    ensures { WordsAreRead }
+    ensures words { WordsAreRead }
+    ensures files { FilesHaveTheirPlaces }
 {}
 
 /// In a map that is accepted, whoever wrote it, the names of users have exactly the numbers that
