@@ -21,4 +21,5 @@ pub mod Asked
 pub mod AskedCode
 pub mod Trees
 pub mod RootData
+pub mod RootExample
 pub mod InOrder

@@ -5,6 +5,8 @@ ghost use Rattle.reown_files.specs.CountExample.{ExampleOfCounts};
 ghost use Rattle.reown_files.specs.NamesExample.{ExampleOfLooks, ExampleOfMeeting, ExampleOfNames};
 ghost use Rattle.reown_files.specs.NamesExample.{ExampleOfAllNames, ExampleOfOneFile};
 ghost use Rattle.reown_files.specs.NamesExample.{ExampleOfLostModes};
+ghost use Rattle.reown_files.specs.RootExample.{ExampleOfAnswers, ExampleOfMet, ExampleOfLost};
+ghost use Rattle.reown_files.specs.RootExample.{ExampleOfChanges};
 ghost use Rattle.reown_files.specs.Runs.{is_run, note, program, both, run_of_note, run_of_program};
 ghost use Rattle.reown_files.specs.Runs.{unread, unmet, unchecked, unasked, unsettled, unwritten};
 ghost use Rattle.reown_files.specs.Runs.{met_twice, met_for_the_old_owner};
@@ -61,4 +63,13 @@ pub fn looks_by_example()
     ensures all_names { ExampleOfAllNames }
     ensures one_file { ExampleOfOneFile }
     ensures lost { ExampleOfLostModes }
+{}
+
+/// What the calls of `Root` answer of a file and write down, which modes they tell as lost, which
+/// they set, and which files they sync, by example.
+pub fn roots_by_example()
+    ensures answers { ExampleOfAnswers }
+    ensures met { ExampleOfMet }
+    ensures lost { ExampleOfLost }
+    ensures changes { ExampleOfChanges }
 {}

@@ -30,7 +30,9 @@ mod whole_file;
 
 pub use answers::{Failure, Modes, OpenFault, Seen, Trouble};
 pub use applying::apply;
-pub use by_example::{counts_by_example, lawful_calls_by_example, looks_by_example};
+pub use by_example::{
+    counts_by_example, lawful_calls_by_example, looks_by_example, roots_by_example,
+};
 pub use counting::{OwnerCounts, count_owners};
 pub use disk::Disk;
 pub use file_laws::{files_are_looked_at, names_are_all_counted};

@@ -1,0 +1,134 @@
+-- What the calls of a root ask of a file, what they answer and what they write down.
+use Rattle.std.proofs.Common.{◌≡◌, ◌↔◌, ◌∷◌, [], ◌||◌, ℕ, Bool, true, false, cond, List, refl, sym, ◌∙◌, ap, subst, ◌++◌, codes}
+use Rattle.reown_plan.specs.declared.plan.Owner.{Owner}
+use Rattle.reown_plan.specs.Owners.{owner_eq}
+use Rattle.reown_files.specs.declared.walk.Found.{Found}
+use Rattle.reown_files.specs.declared.walk.Kind.TheVariants.{Regular}
+use Rattle.reown_files.specs.Asked.{Asked, Told, Counted, ModeGiven, Synced, IsModeSet, IsKept, HasOneOwner, met, line_of}
+use Rattle.reown_files.specs.Looks.{seen_of, is_other}
+use Rattle.reown_files.specs.NamesExample.{path, told, program, file_at, twice, both_met}
+use Rattle.reown_files.specs.OneFile.{HasLost}
+use Rattle.reown_files.specs.RootData.{IsMet}
+use Rattle.reown_files.specs.RootExample.{root, bare, whole, ExampleOfAnswers, ExampleOfMet, ExampleOfLost, ExampleOfChanges}
+use Rattle.reown_files.specs.Runs.{new, foreign}
+use Rattle.reown_files.proofs.LooksExample.{all_names, lost_modes}
+
+-- two looks that are one told one file
+same : (a b : Found) → Told path a ∷ [] ≡ Told path b ∷ [] → a ≡ b
+same a b e = cc
+
+-- ---- what is met
+
+module _ (after : Owner) (before : List Asked) where
+  abbrev counted : Found → List Asked
+  counted found = Counted path found after ∷ Told path found ∷ before
+
+  -- a file that was counted and not synced is the one that was met
+  same_met : (a b : Found) (here kept : Bool) → counted a ≡ cond here (cond kept (counted b) (Synced path ∷ counted b)) (counted b) → a ≡ b
+  same_met a b false kept e = cc
+  same_met a b true true e = cc
+  same_met a b true false e = absurd cc
+
+  met_is : (a : Found) (one_journal : Bool) (b : Found) → counted a ≡ met one_journal path after b before → a ≡ b
+  met_is a one_journal b e = same_met a b (owner_eq b.owner after) (one_journal || is_other b.kind) e
+
+  -- where one journal keeps all, nothing is synced
+  unsynced_met : (a b : Found) (here : Bool) → ¬ (Synced path ∷ counted a ≡ cond here (counted b) (counted b))
+  unsynced_met a b true e = absurd cc
+  unsynced_met a b false e = absurd cc
+
+  -- what is met was counted
+  never_met : (b : Found) (here kept : Bool) → ¬ ([] ≡ cond here (cond kept (counted b) (Synced path ∷ counted b)) (counted b))
+  never_met b false kept e = absurd cc
+  never_met b true true e = absurd cc
+  never_met b true false e = absurd cc
+
+one_owner : HasOneOwner new whole []
+one_owner several other = other
+
+met_synced : (one_journal : Bool) → IsMet path new new (root one_journal [] []) (root one_journal (Synced path ∷ told whole) []) ↔ (one_journal ≡ false)
+met_synced true = (λ h. absurd (unsynced_met new [] whole h.0 (owner_eq h.0.owner new) h.3), λ is. absurd cc)
+met_synced false = (λ h. refl, λ is. (whole, refl, one_owner, refl, refl))
+
+met_unsynced : (one_journal : Bool) → IsMet path new new (root one_journal [] []) (root one_journal (told whole) []) ↔ (one_journal ≡ true)
+met_unsynced true = (λ h. refl, λ is. (whole, refl, one_owner, refl, refl))
+met_unsynced false = (
+  λ h. absurd (
+      let is = sym (met_is new [] whole false h.0 h.3) in
+      let e : told whole ≡ Synced path ∷ told whole = subst (λ (f : Found). told whole ≡ met false path new f []) is h.3 in
+      cc),
+  λ is. absurd cc,
+)
+
+pub met_roots : ExampleOfMet
+met_roots =
+    record {
+      line = λ owner lines. (
+        λ h. let is = sym (met_is new [] program false h.0 h.3) in (
+          h.1 ∙ ap (λ (f : Found). f.owner) is,
+          subst (λ (f : Found). lines ≡ codes "4755 bin/ps\n" ++ line_of path new f) is h.4,
+        ),
+        λ h. (program, h.0, one_owner, refl, h.1),
+      );
+      synced = met_synced;
+      unsynced = met_unsynced;
+      same_owner = (twice, refl, all_names.same, refl, refl);
+      other_owner = λ h. all_names.other_group (subst (λ (f : Found). HasOneOwner foreign f both_met) (sym (met_is foreign both_met twice false h.0 h.3)) h.2);
+    }
+
+-- ---- what is answered
+
+pub answers : ExampleOfAnswers
+answers =
+    record {
+      seen = λ seen. (λ h. h.1 ∙ ap seen_of (sym (same program h.0 h.2)), λ is. (program, is, refl));
+      owner = λ owner. (λ h. h.1 ∙ ap (λ (f : Found). f.owner) (sym (same program h.0 h.2)), λ is. (program, is, refl));
+      not_seen = λ seen h. let e : [] ≡ Told path h.0 ∷ [] = h.2 in absurd cc;
+      no_owner = λ owner h. let e : [] ≡ Told path h.0 ∷ [] = h.2 in absurd cc;
+      not_met = λ owner h. never_met new [] h.0 (owner_eq h.0.owner new) (is_other h.0.kind) h.3;
+    }
+
+-- ---- modes that are lost, modes that are set, and files that are kept
+
+pub lost_roots : ExampleOfLost
+lost_roots =
+    record {
+      lost = λ owner. (
+        λ h. sym h.1 ∙ ap (λ (f : Found). f.owner) (sym (same bare h.0 h.3)),
+        λ is. (bare, sym is, lost_modes.set_user, refl),
+      );
+      other_mode = λ h. lost_modes.other_bits (subst (λ (f : Found). HasLost f 2541) (sym (same (file_at new Regular 448 1) h.0 h.3)) h.2);
+    }
+
+mode_set : (mode : ℕ) → IsModeSet path new mode [] (ModeGiven path 2541 ∷ Told path bare ∷ []) ↔ (mode ≡ 2541)
+mode_set mode = (
+  λ h. let e : ModeGiven path 2541 ∷ Told path bare ∷ [] ≡ ModeGiven path mode ∷ Told path h.0 ∷ [] = h.3 in cc,
+  λ is. (bare, refl, λ e. absurd cc, ap (λ m. ModeGiven path m ∷ Told path bare ∷ []) (sym is)),
+)
+
+mode_left : (mode : ℕ) → ¬ IsModeSet path new mode [] (Told path bare ∷ [])
+mode_left mode h = let e : Told path bare ∷ [] ≡ ModeGiven path mode ∷ Told path h.0 ∷ [] = h.3 in absurd cc
+
+kept_synced : (one_journal : Bool) → IsKept one_journal path new [] (Synced path ∷ Told path whole ∷ []) ↔ (one_journal ≡ false)
+kept_synced true = (
+  λ h. absurd (let e : Synced path ∷ Told path whole ∷ [] ≡ Told path h.0 ∷ [] = h.2 in cc),
+  λ is. absurd cc,
+)
+kept_synced false = (λ h. refl, λ is. (whole, refl, refl))
+
+-- what was not synced is a link or the like
+is_link : (found : Found) (other : Bool) → Told path whole ∷ [] ≡ cond other (Told path found ∷ []) (Synced path ∷ Told path found ∷ []) → (other ≡ true) × (whole ≡ found)
+is_link found true e = (refl, same whole found e)
+is_link found false e = absurd cc
+
+kept_unsynced : (one_journal : Bool) → IsKept one_journal path new [] (Told path whole ∷ []) ↔ (one_journal ≡ true)
+kept_unsynced true = (λ h. refl, λ is. (whole, refl, refl))
+kept_unsynced false = (
+  λ h. (
+      let link = is_link h.0 (is_other h.0.kind) h.2 in
+      ap (λ (f : Found). is_other f.kind) link.1 ∙ link.0),
+  λ is. absurd cc,
+)
+
+pub changes : ExampleOfChanges
+changes = record { mode = mode_set; no_mode = mode_left; synced = kept_synced; unsynced = kept_unsynced }

@@ -1,0 +1,14 @@
+use Rattle.reown_files.proofs.RootExample.{answers, met_roots, lost_roots, changes}
+use Rattle.reown_files.proofs.by_example.roots_by_example.Goals as goal
+
+pub returns-clause-answers : goal.returns-clause-answers
+returns-clause-answers c = answers
+
+pub returns-clause-met : goal.returns-clause-met
+returns-clause-met c = met_roots
+
+pub returns-clause-lost : goal.returns-clause-lost
+returns-clause-lost c = lost_roots
+
+pub returns-clause-changes : goal.returns-clause-changes
+returns-clause-changes c = changes

@@ -1,0 +1,82 @@
+-- What the calls of a root ask of a file, what they answer and what they write down, by example.
+-- Sources: inode(7) for the bits of a mode: 2541, 493 and 448 are 4755, 755 and 700 to the base 8;
+-- chown(2) for the bits that a change of the owner clears. All else is this project's own rule.
+use Rattle.std.specs.Prelude.{◌≡◌, ◌↔◌, ℕ, Bool, true, false, List, [], ◌∷◌, codes}
+use Rattle.reown_plan.specs.declared.plan.Owner.{Owner}
+use Rattle.reown_files.specs.declared.answers.Seen.{Seen}
+use Rattle.reown_files.specs.declared.walk.Found.{Found}
+use Rattle.reown_files.specs.declared.walk.Kind.TheVariants.{Regular}
+use Rattle.reown_files.specs.Asked.{Asked, Told, Counted, ModeGiven, Synced, IsModeSet, IsKept}
+use Rattle.reown_files.specs.NamesExample.{path, told, program, file_at, at_old, twice, both_met}
+use Rattle.reown_files.specs.RootData.{RootData, IsSeen, IsSeenAt, IsMet, HasLostAt}
+use Rattle.reown_files.specs.Runs.{old, new, foreign}
+
+-- a root with one journal or without, what the system was asked of its files, and the lines of
+-- modes that were written down
+abbrev pub root : Bool → List Asked → List ℕ → RootData
+root one_journal files lines =
+    record { has_one_journal = one_journal; files = files; lines = lines; calls = [] }
+
+-- one without a journal and without lines, of whose files this was asked
+abbrev pub asked : List Asked → RootData
+asked files = root false files []
+
+-- one of which nothing was asked but a look, which told this file
+abbrev pub looked_at : Found → RootData
+looked_at found = asked (Told path found ∷ [])
+
+-- the program at its new owner: as the change leaves it, and with its mode set back
+abbrev pub bare : Found
+bare = file_at new Regular 493 1
+
+abbrev pub whole : Found
+whole = file_at new Regular 2541 1
+
+-- where a look told the program exactly this is answered of it, and without a look nothing
+pub record ExampleOfAnswers : Type 0 where
+  pub seen : (seen : Seen)
+      → IsSeen path seen (asked []) (looked_at program) ↔ (seen ≡ at_old true false)
+  pub owner : (owner : Owner)
+      → IsSeenAt path owner (asked []) (looked_at program) ↔ (owner ≡ old)
+  pub not_seen : (seen : Seen) → ¬ IsSeen path seen (asked []) (asked [])
+  pub no_owner : (owner : Owner) → ¬ IsSeenAt path owner (asked []) (asked [])
+  pub not_met : (owner : Owner) → ¬ IsMet path new owner (asked []) (asked [])
+
+-- where the program is met its owner is answered, and its mode stands after the lines that were
+-- there; at its new owner it is synced exactly where there is not one journal; and another name of
+-- a file is met with the new owner of the first alone
+pub record ExampleOfMet : Type 0 where
+  pub line : (owner : Owner) (lines : List ℕ)
+      → IsMet path new owner
+      (root false [] (codes "4755 bin/ps\n")) (root false (told program) lines)
+      ↔ ((owner ≡ old) × (lines ≡ codes "4755 bin/ps\n4755 bin/su\n"))
+  pub synced : (one_journal : Bool)
+      → IsMet path new new
+      (root one_journal [] []) (root one_journal (Synced path ∷ told whole) [])
+      ↔ (one_journal ≡ false)
+  pub unsynced : (one_journal : Bool)
+      → IsMet path new new (root one_journal [] []) (root one_journal (told whole) [])
+      ↔ (one_journal ≡ true)
+  pub same_owner : IsMet path new old
+      (asked both_met) (asked (Counted path twice new ∷ Told path twice ∷ both_met))
+  pub other_owner : ¬ IsMet path foreign old
+      (asked both_met) (asked (Counted path twice foreign ∷ Told path twice ∷ both_met))
+
+-- a mode is lost where the file has the owner that is named and lacks a set-ID bit of it; and not
+-- where somebody has set another mode
+pub record ExampleOfLost : Type 0 where
+  pub lost : (owner : Owner)
+      → HasLostAt path owner 2541 (asked []) (looked_at bare) ↔ (owner ≡ new)
+  pub other_mode : ¬ HasLostAt path new 2541 (asked []) (looked_at (file_at new Regular 448 1))
+
+-- a file is given the mode that is named, and no other or none; one that is kept is synced exactly
+-- where there is not one journal
+pub record ExampleOfChanges : Type 0 where
+  pub mode : (mode : ℕ)
+      → IsModeSet path new mode [] (ModeGiven path 2541 ∷ Told path bare ∷ []) ↔ (mode ≡ 2541)
+  pub no_mode : (mode : ℕ) → ¬ IsModeSet path new mode [] (Told path bare ∷ [])
+  pub synced : (one_journal : Bool)
+      → IsKept one_journal path new [] (Synced path ∷ Told path whole ∷ [])
+      ↔ (one_journal ≡ false)
+  pub unsynced : (one_journal : Bool)
+      → IsKept one_journal path new [] (Told path whole ∷ []) ↔ (one_journal ≡ true)
