@@ -53,7 +53,7 @@ whole_files_are_merged texts rules old new b =
     }
 
 pub too_large_is_too_large : TooLargeIsTooLarge
-too_large_is_too_large IsFault l (host, (text, (is, more))) = (record { host = host; text = text }, (is, more))
+too_large_is_too_large l (host, (text, (is, more))) = (record { host = host; text = text }, (is, more))
 
 told_as : (host : List ℕ) → words_of (InventoryChanged host) ≡ codes "41" ∷ codes "InventoryChanged" ∷ codes "host" ∷ shown host ∷ []
 unfolding digits

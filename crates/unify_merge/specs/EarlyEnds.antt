@@ -1,7 +1,7 @@
 -- What a merge leaves that ended early, and what is told of it.
 -- Source: this project's own rule.
-use Rattle.std.specs.Prelude.{◌≡◌, ◌≤◌, ◌<◌, ◌+◌, ◌⊎◌, ◌∷◌, ℕ, List, [], Ok, Some, codes, length}
-use Rattle.std.specs.Prelude.{slice_get}
+use Rattle.std.specs.Prelude.{◌≡◌, ◌≤◌, ◌<◌, ◌+◌, ◌⊎◌, ◌∷◌, ⊤, ℕ, List, [], Ok, Some, codes}
+use Rattle.std.specs.Prelude.{length, slice_get}
 use Rattle.mtree_inv.specs.declared.entry.Entry.{Entry}
 use Rattle.hosts_join.specs.declared.host.Host.{Host}
 use Rattle.hosts_join.specs.declared.texts.HostText.{HostText}
@@ -61,9 +61,9 @@ WholeFilesAreMerged = (texts : List HostText) (rules : SiteRules) (old new : Led
 
 -- ---- what is told
 
--- an inventory that is too large has more than 4294967295 bytes
+-- where an inventory is told to be too large, more than 4294967295 bytes of it were read
 abbrev pub TooLargeIsTooLarge : Type 0
-TooLargeIsTooLarge = (IsFault : Fault → Type 0) (l : Ledger) → StopsFor IsFault l TooLarge
+TooLargeIsTooLarge = (l : Ledger) → StopsFor (λ fault. ⊤) l TooLarge
     → (r : Reading) × (l.reading ≡ Some r) × (4294967295 < length r.text)
 
 -- Where an inventory has changed, 41 is told, with the host whose turn it was to be read again.
