@@ -26,7 +26,7 @@ as_before old new same = record {
 }
 
 were_accepted : (texts : List HostText) (rules : SiteRules) (old new : Ledger) → MergeBrokeOff texts rules old new → WereAccepted texts rules
-were_accepted texts rules old new b = (b.begun, (b.begun_is, (b.first, (b.were, b.first_read))))
+were_accepted texts rules old new b = (b.begun, b.begun_is, b.first, b.were, b.first_read)
 
 pub early_ends_leave_all : EarlyEndsLeaveAll
 early_ends_leave_all texts rules old new (inl same) = inl (as_before old new same)
@@ -42,7 +42,7 @@ whole_files_are_merged texts rules old new b =
     let name_of : NamedText → List ℕ = λ file. file.name in
     let finished : new.finished ≡ f.whole = ap (λ (l : Ledger). l.finished) f.stands in
     let begun : new.begun ≡ map name_of (f.whole ++ f.next) = ap (λ (l : Ledger). l.begun) f.stands in
-    let long : length new.begun ≡ length f.whole + length f.next = ap length begun ∙ length-map name_of (f.whole ++ f.next) ∙ length-append f.whole f.next in
+    let long : length new.begun ≡ length f.whole + length f.next = ap length begun ∙ length-map (f.whole ++ f.next) name_of ∙ length-append f.whole f.next in
     let short : length new.finished ≡ length f.whole = ap length finished in
     record {
       whole = λ name text has.
@@ -53,11 +53,11 @@ whole_files_are_merged texts rules old new b =
     }
 
 pub too_large_is_too_large : TooLargeIsTooLarge
-too_large_is_too_large l (host, (text, (is, more))) = (record { host = host; text = text }, (is, more))
+too_large_is_too_large l (host, text, is, more) = (record { host = host; text = text }, is, more)
 
 told_as : (host : List ℕ) → words_of (InventoryChanged host) ≡ codes "41" ∷ codes "InventoryChanged" ∷ codes "host" ∷ shown host ∷ []
 unfolding digits
 told_as host = refl
 
 pub changes_are_told : ChangesAreTold
-changes_are_told texts rules old new f is = (is.change.host, (is.change.were, (is.change.here, ap words_of is.change.change.0 ∙ told_as is.change.host.name)))
+changes_are_told texts rules old new f is = (is.change.host, is.change.were, is.change.here, ap words_of is.change.change.0 ∙ told_as is.change.host.name)
