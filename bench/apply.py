@@ -34,6 +34,15 @@ ONE, OTHER, THIRD = (41001, 41101), (41002, 41102), (41003, 41103)
 STEP = re.compile(r"\r\x1b\[Kunify: (looked at|changed|synced) (\d+) of (\d+)")
 # The calls by which a mode is set, and that by which a file is given an owner.
 SETS_MODE, GIVES = "chmod,fchmod,fchmodat", "fchown"
+# A process whose second thread alone takes the user that it is given, by the bare call: the C library has all threads take it.
+THREAD = """
+import ctypes, os, sys, threading, time
+setresuid = {"x86_64": 117, "aarch64": 147}[os.uname().machine]
+def serve():
+    print(ctypes.CDLL(None).syscall(setresuid, -1, int(sys.argv[1]), -1), flush=True)
+    time.sleep(60)
+threading.Thread(target=serve).start()
+"""
 # What is told where another plan was begun.
 OTHER_PLAN = "another plan was started and is not finished; finish that one first"
 faults = []
@@ -400,6 +409,11 @@ class Bench:
             came = subprocess.run(words, capture_output=True, text=True)
             other.kill()
         say(f"a process that may become another user: {came.stderr.splitlines()[:1]}", f"process {other.pid} is the first of 1 that run or may run under a number that the plan changes or gives\n" in came.stderr)
+        with subprocess.Popen([sys.executable, "-c", THREAD, str(ONE[0])], stdout=subprocess.PIPE, text=True) as other:
+            is_set = other.stdout.readline() == "0\n"
+            came = subprocess.run(words, capture_output=True, text=True)
+            other.kill()
+        say(f"a process with a thread of another user: {came.stderr.splitlines()[:1]}", is_set and f"process {other.pid} is the first of 1 that run or may run under a number that the plan changes or gives\n" in came.stderr)
         hidden = 'mount -t proc -o hidepid=1 proc /proc && exec setpriv --reuid 41009 --regid 41009 --clear-groups "$@"'
         came = subprocess.run(["unshare", "--mount", "sh", "-c", hidden, "sh", *words], capture_output=True, text=True)
         say(f"processes that may not be looked at: {came.stderr.splitlines()[:1]}", came.stderr.startswith("unify: warning: processes could not all be looked at; "))

@@ -18,7 +18,7 @@ use Rattle.idtext.specs.Words.{words}
 use Rattle.idtext.proofs.NumberLemmas.{decimal-back}
 use Rattle.reown_plan.specs.declared.plan.Owner.{Owner}
 use Rattle.reown_plan.specs.declared.plan.Record.{Record}
-use Rattle.unify_apply.specs.AskedLaws.{FitTellsTheHost, FitsTellTheHost, IsCalled, IsLeftOrTaken, IsOfThree, JournalIsANumber, MapsByExample, MayBe, Moves, NamesAreTold, OneJournalIsOfThree, ProcessesAreFound, RootIsEffective, SoughtGroupsMove, SoughtUsersMove, TellRange, TellsAny, TellsRange, TellsRoot}
+use Rattle.unify_apply.specs.AskedLaws.{DevicesByExample, FitTellsTheHost, FitsTellTheHost, IsCalled, IsLeftOrTaken, IsOfThree, JournalIsANumber, MapsByExample, MayBe, Moves, NamesAreTold, OneJournalIsOfThree, ProcessesAreFound, RootIsEffective, SoughtGroupsMove, SoughtUsersMove, TellRange, TellsAny, TellsRange, TellsRoot}
 use Rattle.unify_apply.specs.Ends.{without_end}
 use Rattle.unify_apply.specs.Machine.{fit_of, have_root, is_called, tells_root}
 use Rattle.unify_apply.specs.Mounts.{MountText, has_one_journal, mount_of, mounts_in, path_from}
@@ -100,6 +100,9 @@ journal-told = record {
   number = λ process small. ap is_some (ap id_of (without-newline (decimal process)) ∙ decimal-back process small);
   others = λ text other. ap is_some (ap id_of (without-newline text) ∙ no-number text other);
 }
+
+pub device-told : DevicesByExample
+device-told = record { majors = refl; minors = refl }
 
 -- ---- the machine
 

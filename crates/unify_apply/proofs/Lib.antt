@@ -1,5 +1,6 @@
 pub mod AskedBack
 pub mod CountsBack
+pub mod DeviceNumbers
 pub mod Fronts
 pub mod HostName
 pub mod MarkNames

@@ -1,9 +1,9 @@
 -- What it means that `apply` goes on, in the words of what is asked.
 -- Source: proc(5): of /proc/PID/status the line `Uid:` has the real user and then the effective
 -- one, and the lines `Uid:`, `Gid:` and `Groups:` have numbers after that word;
--- user_namespaces(7): the maps of /proc/PID; sysfs, journal_task. Which file systems have one
--- journal, and how a machine may be called, are this project's own rules.
-use Rattle.std.specs.Prelude.{◌≡◌, ◌≢◌, ◌↔◌, ◌⊎◌, ℕ, ◌≤◌, ◌<◌, ◌+◌, Bool, true, false}
+-- user_namespaces(7): the maps of /proc/PID; sysfs, journal_task; makedev(3). Which file systems
+-- have one journal, and how a machine may be called, are this project's own rules.
+use Rattle.std.specs.Prelude.{◌≡◌, ◌≢◌, ◌↔◌, ◌⊎◌, ℕ, ◌≤◌, ◌<◌, ◌+◌, true, false}
 use Rattle.std.specs.Prelude.{List, [], ◌∷◌, ◌++◌, map}
 use Rattle.std.specs.Prelude.{Option, Some, None, Contains, codes, decimal, nat_le}
 use Rattle.std.specs.Char.{digit_value}
@@ -13,7 +13,7 @@ use Rattle.idtext.specs.Pieces.{lines}
 use Rattle.idtext.specs.Words.{words}
 use Rattle.reown_plan.specs.declared.plan.Owner.{Owner}
 use Rattle.reown_plan.specs.declared.plan.Record.{Record}
-use Rattle.unify_apply.specs.Journal.{tells_process}
+use Rattle.unify_apply.specs.Journal.{major_of, minor_of, tells_process}
 use Rattle.unify_apply.specs.Machine.{fit_of, is_of_root, name_in}
 use Rattle.unify_apply.specs.Mounts.{MountText, mount_of, mounts_in, one_journal, path_from}
 use Rattle.unify_apply.specs.Sought.{is_found, is_sought_group, is_sought_user, maps_one}
@@ -39,6 +39,17 @@ pub record JournalIsANumber : Type 0 where
       → tells_process (decimal process ++ codes "\n") ≡ true
   pub others : (text : List ℕ) → list_any (λ b. nat_le 10 (digit_value b)) text ≡ true
       → tells_process (text ++ codes "\n") ≡ false
+
+-- The numbers of five devices: one as disks have them; one with a major number of more than 12 bits
+-- and a minor one of more than 8; those that have each bit of the one number and none of the other;
+-- and the greatest.
+pub record DevicesByExample : Type 0 where
+  pub majors : map major_of
+      (2049 ∷ 17592187093265 ∷ 18446726481524555520 ∷ 17592184996095 ∷ 18446744073709551615 ∷ [])
+      ≡ (8 ∷ 4097 ∷ 4294967295 ∷ 0 ∷ 4294967295 ∷ [])
+  pub minors : map minor_of
+      (2049 ∷ 17592187093265 ∷ 18446726481524555520 ∷ 17592184996095 ∷ 18446744073709551615 ∷ [])
+      ≡ (1 ∷ 273 ∷ 0 ∷ 4294967295 ∷ 4294967295 ∷ [])
 
 -- ---- the machine
 
@@ -138,8 +149,8 @@ abbrev pub TellsRange : List ℕ → List ℕ → Type 0
 TellsRange numbers text =
     (line : List ℕ) × Contains (lines text) line × TellRange numbers (words line)
 
--- A process is found exactly where a line of its status tells one of the numbers, or a line of one
--- of its maps a range that has one.
+-- A process is found exactly where a line of its status, which is that of all its threads, tells
+-- one of the numbers, or a line of one of its maps a range that has one.
 abbrev pub ProcessesAreFound : Type 0
 ProcessesAreFound = (users groups status uid_map gid_map : List ℕ)
     → (is_found users groups status uid_map gid_map ≡ true)

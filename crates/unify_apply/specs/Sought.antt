@@ -1,11 +1,13 @@
 -- The numbers of users and groups that a plan changes, and the processes that have one or may
 -- take one.
--- Source: proc(5), /proc/PID/status: after the words `Uid:` and `Gid:` stand the real, the
--- effective, the saved and the file system number of a user and of a group, and after `Groups:`
--- the numbers of its other groups. user_namespaces(7), "User and group ID mappings": each line of
--- /proc/PID/uid_map and of gid_map tells a range of numbers that a process may take: the first as
--- it is inside of its user namespace, the first as it is outside, and how many. The one line of the
--- initial namespace is `0 0 4294967295`.
+-- Source: proc(5), /proc/PID/task/TID/status of a thread: after the words `Uid:` and `Gid:` stand
+-- the real, the effective, the saved and the file system number of a user and of a group, and
+-- after `Groups:` the numbers of its other groups. The status of a process is that of all its
+-- threads, one after the other, since each may have other numbers (credentials(7)).
+-- user_namespaces(7), "User and group ID mappings": each line of /proc/PID/uid_map and of gid_map
+-- tells a range of numbers that a process may take: the first as it is inside of its user
+-- namespace, the first as it is outside, and how many. The one line of the initial namespace
+-- is `0 0 4294967295`.
 use Rattle.std.specs.Prelude.{ℕ, ◌==◌, ◌&&◌, ◌||◌, ◌+◌, Bool, false, List, [], ◌∷◌, not, codes}
 use Rattle.std.specs.Prelude.{nat_eq, nat_le, nat_lt}
 use Rattle.std.specs.List.{list_any}

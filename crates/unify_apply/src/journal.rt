@@ -1,7 +1,7 @@
 //! Whether a file system has the journal that one of its kind may have: an ext4 is made without one
 //! too.
 ghost use Rattle.std.specs.Prelude.{◌≡◌};
-ghost use Rattle.unify_apply.specs.Journal.{tells_process};
+ghost use Rattle.unify_apply.specs.Journal.{major_of, minor_of, tells_process};
 
 use idtext::decimal;
 use std::alloc::AllocError;
@@ -26,11 +26,17 @@ pub fn tells_journal(text: &[u8]) -> bool
 }
 
 // The two numbers of a device (makedev(3)).
-fn major(device: u64) -> u64 {
+#[tactic(auto, using(crate::proofs::DeviceNumbers::major_told))]
+fn major(device: u64) -> u64
+    ensures { result ≡ major_of device }
+{
     ((device >> 8) & 0xfff) | ((device >> 32) & 0xffff_f000)
 }
 
-fn minor(device: u64) -> u64 {
+#[tactic(auto, using(crate::proofs::DeviceNumbers::minor_told))]
+fn minor(device: u64) -> u64
+    ensures { result ≡ minor_of device }
+{
     (device & 0xff) | ((device >> 12) & 0xffff_ff00)
 }
 

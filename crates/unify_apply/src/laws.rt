@@ -1,8 +1,9 @@
 //! Laws over what this crate reads and prints. Each is the contract of a function that does
 //! nothing.
 
-ghost use Rattle.unify_apply.specs.AskedLaws.{FitsTellTheHost, JournalIsANumber, MapsByExample};
-ghost use Rattle.unify_apply.specs.AskedLaws.{NamesAreTold, OneJournalIsOfThree, ProcessesAreFound};
+ghost use Rattle.unify_apply.specs.AskedLaws.{DevicesByExample, FitsTellTheHost};
+ghost use Rattle.unify_apply.specs.AskedLaws.{JournalIsANumber, MapsByExample, NamesAreTold};
+ghost use Rattle.unify_apply.specs.AskedLaws.{OneJournalIsOfThree, ProcessesAreFound};
 ghost use Rattle.unify_apply.specs.AskedLaws.{RootIsEffective, SoughtGroupsMove, SoughtUsersMove};
 ghost use Rattle.unify_apply.specs.Laws.{MarksStandBesidePlans, MountIsNearest, NoSecondWay};
 ghost use Rattle.unify_apply.specs.Laws.{PathsAreTold, SlashIsTaken, SystemPathIsReadBack};
@@ -67,10 +68,12 @@ pub fn answers_are_read_back()
 {}
 
 /// A directory may have one journal exactly where the mount that it is in is an ext3, an ext4 or an
-/// xfs; and a journal is told by the number of a process, and by no text with another byte.
+/// xfs; and a journal is told by the number of a process, and by no text with another byte. The two
+/// numbers of a device, by which it is looked up there, are those of five examples.
 pub fn journals_are_told()
     ensures kind { OneJournalIsOfThree }
     ensures process { JournalIsANumber }
+    ensures device { DevicesByExample }
 {}
 
 /// A machine's name is what the system tells, without the newline behind it. A machine is the host
@@ -88,9 +91,9 @@ pub fn root_is_told()
 {}
 
 /// A number of a user or of a group is looked for exactly where a record has it before and another
-/// after, or the other way round. A process is found exactly where its status tells one after
-/// `Uid:` or, of a group, after `Gid:` or `Groups:`, or one of its maps a range that has one
-/// outside; and the map of the initial user namespace tells none.
+/// after, or the other way round. A process is found exactly where the statuses of its threads tell
+/// one after `Uid:` or, of a group, after `Gid:` or `Groups:`, or one of its maps a range that has
+/// one outside; and the map of the initial user namespace tells none.
 pub fn processes_are_told()
     ensures users { SoughtUsersMove }
     ensures groups { SoughtGroupsMove }

@@ -23,8 +23,12 @@ pub struct Sought {
 /// What the system tells of a process: the texts of its files in /proc/PID (proc(5)).
 #[derive(Drop)]
 pub struct Process {
+    /// The files task/TID/status of its threads, one after the other. Each thread may have numbers
+    /// of its own; every line is looked at by itself, so that a number of any thread is found.
     pub status: Vec<u8>,
+    /// The file uid_map, which all its threads share.
     pub uid_map: Vec<u8>,
+    /// The file gid_map, which all its threads share.
     pub gid_map: Vec<u8>,
 }
 

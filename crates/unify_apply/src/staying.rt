@@ -6,6 +6,7 @@ use crate::sought::{Process, Sought};
 use idtext::decimal;
 use reown_plan::Plan;
 use std::alloc::AllocError;
+use std::fs::ReadDir;
 use std::{fs, io};
 use unify_io::{Part, warn};
 
@@ -19,8 +20,8 @@ const GO_ON: &str = "that run or may run under a number that the plan changes or
 const NOT_SEEN: &str = "processes could not all be looked at; some may run under a number that the \
     plan changes or gives";
 
-// What the system says of a process that has ended (ENOENT and ESRCH of errno(3)), and of a map of
-// one that ends while it is opened (EINVAL).
+// What the system says of a process or a thread that has ended (ENOENT and ESRCH of errno(3)), and
+// of a map of one that ends while it is opened (EINVAL).
 const NO_ENTRY: i32 = 2;
 
 const NO_PROCESS: i32 = 3;
@@ -61,7 +62,7 @@ impl Running {
     }
 }
 
-// Whether a process has ended of which a file could not be read.
+// Whether a process or a thread has ended of which a file could not be read.
 fn has_ended(error: &io::Error) -> bool {
     matches!(
         error.raw_os_error(),
@@ -69,37 +70,87 @@ fn has_ended(error: &io::Error) -> bool {
     )
 }
 
-// What the system tells in this file of a process. Where it has ended that is nothing, and so it is
-// where the system has no such file, as the maps are where there are no user namespaces.
-fn read_told(rt: &HostRuntime, name: &str, file: &str) -> Result<Option<Vec<u8>>, AllocError> {
+// What the system tells in this file of a process.
+fn read_told(rt: &HostRuntime, name: &str, file: &str) -> Result<io::Result<Vec<u8>>, AllocError> {
     let path = format!(in rt.alloc(); "{PROCESSES}/{name}/{file}")?;
-    match fs::read(rt, path.as_str()) {
-        Ok(text) => Ok(Some(text)),
-        Err(error) if has_ended(&error) => Ok(Some(Vec::new(rt.alloc()))),
-        Err(_) => Ok(None),
+    Ok(fs::read(rt, path.as_str()))
+}
+
+// Adds to a text what the system tells in this file of a process, and says whether that could be
+// read. Where the process has ended it is nothing, and so it is where the system has no such file,
+// as the maps are where there are no user namespaces.
+fn add_told(
+    rt: &HostRuntime,
+    text: &mut Vec<u8>,
+    name: &str,
+    file: &str,
+) -> Result<bool, AllocError> {
+    match read_told(rt, name, file)? {
+        Ok(told) => {
+            text.extend_from_slice(&told)?;
+            Ok(true)
+        }
+        Err(error) => Ok(has_ended(&error)),
     }
 }
 
-// What is known of a file by what is told there: nothing, where it cannot be read.
-fn known(rt: &HostRuntime, told: Option<Vec<u8>>) -> Vec<u8> {
-    match told {
-        Some(text) => text,
-        None => Vec::new(rt.alloc()),
+// The threads of a process, each a directory whose name is its number.
+fn list_threads(rt: &HostRuntime, name: &str) -> Result<io::Result<ReadDir>, AllocError> {
+    let path = format!(in rt.alloc(); "{PROCESSES}/{name}/task")?;
+    Ok(fs::read_dir(rt, path.as_str()))
+}
+
+// Adds the status of a thread of a process.
+fn add_status(
+    rt: &HostRuntime,
+    text: &mut Vec<u8>,
+    name: &str,
+    thread: &str,
+) -> Result<bool, AllocError> {
+    let file = format!(in rt.alloc(); "task/{thread}/status")?;
+    add_told(rt, text, name, file.as_str())
+}
+
+// Adds the statuses of these threads of a process, and says whether all could be read.
+fn add_statuses(
+    rt: &HostRuntime,
+    text: &mut Vec<u8>,
+    name: &str,
+    threads: ReadDir,
+) -> Result<bool, AllocError> {
+    let mut has_all = true;
+    for thread in threads {
+        let thread = match thread {
+            Ok(thread) => thread,
+            Err(error) => return Ok(has_all && has_ended(&error)),
+        };
+        if !add_status(rt, text, name, thread.file_name())? {
+            has_all = false;
+        }
+    }
+    Ok(has_all)
+}
+
+// Adds the statuses of all threads of a process. Each may have numbers of its own, as those of a
+// file server have, by the bare call of the system (credentials(7)).
+fn add_threads(rt: &HostRuntime, text: &mut Vec<u8>, name: &str) -> Result<bool, AllocError> {
+    match list_threads(rt, name)? {
+        Ok(threads) => add_statuses(rt, text, name, threads),
+        Err(error) => Ok(has_ended(&error)),
     }
 }
 
 // What is known of the process with this number, and whether some of it cannot be read.
 fn see_process(rt: &HostRuntime, name: &str) -> Result<(Process, bool), AllocError> {
-    let status = read_told(rt, name, "status")?;
-    let uid_map = read_told(rt, name, "uid_map")?;
-    let gid_map = read_told(rt, name, "gid_map")?;
-    let lacks_some = status.is_none() || uid_map.is_none() || gid_map.is_none();
-    let process = Process {
-        status: known(rt, status),
-        uid_map: known(rt, uid_map),
-        gid_map: known(rt, gid_map),
+    let mut process = Process {
+        status: Vec::new(rt.alloc()),
+        uid_map: Vec::new(rt.alloc()),
+        gid_map: Vec::new(rt.alloc()),
     };
-    Ok((process, lacks_some))
+    let has_status = add_threads(rt, &mut process.status, name)?;
+    let has_uid_map = add_told(rt, &mut process.uid_map, name, "uid_map")?;
+    let has_gid_map = add_told(rt, &mut process.gid_map, name, "gid_map")?;
+    Ok((process, !(has_status && has_uid_map && has_gid_map)))
 }
 
 // Adds the process with this number, where it has one of the numbers that are looked for, or may
