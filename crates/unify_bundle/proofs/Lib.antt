@@ -8,6 +8,7 @@ pub mod WordsAnswered
 pub mod FaultAnswers
 pub mod Carrying
 pub mod RunSites
+pub mod SiteRunLaws
 pub mod Rehearsed
 pub mod InMemory
 pub mod Fronts

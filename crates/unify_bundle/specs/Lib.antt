@@ -7,6 +7,7 @@ pub mod Replies
 pub mod WordsAnswered
 pub mod Carrying
 pub mod SiteRuns
+pub mod SiteRunLaws
 pub mod TextFiles
 pub mod Answers
 pub mod HostParts

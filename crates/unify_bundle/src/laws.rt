@@ -4,6 +4,7 @@ ghost use Rattle.unify_bundle.specs.AnswersBack.{MergesWithHostsAreRead, Records
 ghost use Rattle.unify_bundle.specs.GoingOut.{AnswersAreWritten, BundlesAreAnswered};
 ghost use Rattle.unify_bundle.specs.GoingOut.{InputsAreTold, NoReplyGoesOut, RepliesGoOut};
 ghost use Rattle.unify_bundle.specs.Lines.{accepted_line, cost_lines, records_lines};
+ghost use Rattle.unify_bundle.specs.SiteRunLaws.{LastAdvancesFinish, LastStopsUndo, SiteRunsFinish};
 ghost use Rattle.unify_bundle.specs.TakenFiles.{ChecksHaveTheirCertificate, CountsHaveTheirMap};
 ghost use Rattle.unify_bundle.specs.TakenFiles.{FilesHaveOneText, HostsHaveTheirFiles};
 ghost use Rattle.unify_bundle.specs.TakenFiles.{MergesHaveTheirHosts, RehearsalsHaveTheirFiles};
@@ -59,6 +60,16 @@ pub fn words_are_answered()
     ensures costs { AreWordsFor cost_lines }
     ensures accepted { AreWordsFor accepted_line }
     ensures records { AreWordsFor records_lines }
+{}
+
+/// Which hosts `rehearse_site` tells as done, by the events that it was given. A host that advances
+/// and never stops is done exactly where its advances are at least four more than the records of
+/// its plan. After so many it is done whatever came before them, stops too. A host whose last event
+/// is a stop is not done.
+pub fn site_runs_finish()
+    ensures alone { SiteRunsFinish }
+    ensures last { LastAdvancesFinish }
+    ensures stopped { LastStopsUndo }
 {}
 
 /// A bundle has at most 268435456 bytes.

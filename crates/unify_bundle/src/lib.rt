@@ -27,7 +27,7 @@ pub use answers::{
 pub use bundle_run::{answer, run_bundle};
 pub use laws::{
     answers_are_read_back, bundle_files_are_taken, bundle_limit_by_digit, replies_go_out,
-    words_are_answered,
+    site_runs_finish, words_are_answered,
 };
 pub use merge_text::{merge_hosts_reply, merge_reply};
 pub use rehearsal_reply::rehearse_reply;

@@ -54,7 +54,7 @@ runner_at site m (h ∷ hs) start (suc k) host files here =
     let index : (start + 1) + k ≡ start + suc k = omega arith in
     runner_at site m hs (start + 1) k host files here ∙ ap (λ i. Some (start_of site m i files)) index
 
-is_at_done : (p : Place) → is_done p ≡ true → p ≡ Done
+pub is_at_done : (p : Place) → is_done p ≡ true → p ≡ Done
 is_at_done Start h = absurd (false≢true h)
 is_at_done (Record i) h = absurd (false≢true h)
 is_at_done SyncOwners h = absurd (false≢true h)
@@ -71,6 +71,18 @@ is_seen plan mark tree image is = record { owner = is.owner; mark = (readable_me
 
 abbrev tree_of : Keep → Host × List Entry → Mem
 tree_of keep here = record (new_mem here.1) { keep = keep }
+
+-- a host of a rehearsal where it begins
+abbrev pub first_of : Keep → WholeSite → Mappings → ℕ → List Entry → Hosted Mem
+first_of keep site m h files = record { runner = starting (host_plan (hosts_in site) site.joined m h files); tree = record (new_mem files) { keep = keep } }
+
+pub first_there : (keep : Keep) (site : WholeSite) (m : Mappings) (h : ℕ) (host : Host) (files : List Entry) → slice_get site.hosts h ≡ Some (host, files) → IsHostOf (new_world keep site m) h (first_of keep site m h files)
+first_there keep site m h host files here =
+    let from_zero : 0 + h ≡ h = omega arith in
+    record {
+      runner = runner_at site m site.hosts 0 h host files here ∙ ap (λ i. Some (start_of site m i files)) from_zero;
+      tree = slice_get-map (tree_of keep) site.hosts h ∙ ap (option_map (tree_of keep)) here;
+    }
 
 -- a map that is read from the printed one says the mappings
 says : (site : WholeSite) (outcome : Outcome) → IsWhole site → (merged : IsOutcome site outcome) (printed : MapText) → map_of outcome.map ≡ Ok printed
@@ -107,13 +119,7 @@ module _ (site : WholeSite) (outcome : Outcome) (whole : IsWhole site) (merged :
       let m = merged.mappings in
       let is = whole.each_host h host files here in
       let records = plan_of site.joined m h files in
-      let from_zero : 0 + h ≡ h = omega arith in
-      let first : Hosted Mem = record { runner = start_of site m h files; tree = tree_of keep (host, files) } in
-      let first_is : IsHostOf (new_world keep site m) h first = record {
-        runner = runner_at site m site.hosts 0 h host files here ∙ ap (λ i. Some (start_of site m i files)) from_zero;
-        tree = slice_get-map (tree_of keep) site.hosts h ∙ ap (option_map (tree_of keep)) here;
-      } in
-      let went = goes h first first_is in
+      let went = goes h (first_of keep site m h files) (first_there keep site m h host files here) in
       let last = went.0 in
       let mark = (start_of site m h files).mark in
       let start = fresh_safe (owner_in files) records (cells_of mark (known_mem (tree_of keep (host, files)))) (new_fresh files mark) (plan_is_old site.joined m h files is.files_are.distinct) in
