@@ -1,8 +1,8 @@
 -- A text is read in one way.
-use Rattle.std.proofs.Common.{◌≡◌, ◌⊎◌, inl, inr, ℕ, List, [], ◌++◌, Result, Ok, Err, length, refl, sym, ◌∙◌, ap}
+use Rattle.std.proofs.Common.{◌≡◌, inl, inr, ℕ, List, [], ◌++◌, Result, Ok, Err, length, refl, sym, ◌∙◌, ap}
 use Rattle.std.proofs.lemmas.List.{append-nil}
-use Rattle.reown_plan.specs.PlanData.{PlanRecord, PlanData}
-use Rattle.reown_plan.specs.Spelling.{head, line, lines, end, spelling, IsHostName, IsLawfulRecord, IsLawful, IsFaultAt, no_head, no_record, trailing}
+use Rattle.reown_plan.specs.PlanData.{PlanData}
+use Rattle.reown_plan.specs.Spelling.{head, lines, end, spelling, IsLawful, IsFaultAt, no_head, no_record, trailing}
 use Rattle.reown_plan.specs.Reading.{ReadsAs}
 use Rattle.reown_plan.proofs.OneFront.{Front, Last, one_front, front_of, headless}
 use Rattle.reown_plan.proofs.Unique.{spelling_unique}

@@ -1,16 +1,14 @@
 -- Which paths are below a directory, and in it.
-use Rattle.std.proofs.Common.{◌≡◌, ◌≢◌, inl, inr, ℕ, ◌&&◌, ◌+◌, ◌-◌, ◌<◌, Bool, true, false, cond, nat_lt, List, [], ◌∷◌, ◌++◌, Some, None, drop, length, take, refl, sym, ap, ◌∙◌, arith, append-nil, length-append}
+use Rattle.std.proofs.Common.{◌≡◌, inl, inr, ℕ, ◌&&◌, ◌+◌, ◌<◌, Bool, true, false, cond, nat_lt, List, [], ◌∷◌, ◌++◌, Some, None, drop, length, refl, sym, ap, ◌∙◌, arith, append-nil, length-append}
 use Rattle.std.specs.Prelude.{◌⊎◌, codes, filter}
-use Rattle.std.specs.Str.{bytes_eq}
 use Rattle.std.proofs.lemmas.Bool.{and_from, and_parts, eqb-true, lt-ltb, ltb-true}
 use Rattle.std.proofs.lemmas.Bool.Decides.{Decides-eqb}
 use Rattle.std.proofs.lemmas.List.Sums.{length-filter}
 use Rattle.std.proofs.lemmas.Option.{same_Some}
-use Rattle.std.proofs.lemmas.Slice.Eq.{bytes_eq-Decides}
 use Rattle.idtext.specs.Pieces.{begins_with}
 use Rattle.unify_apply.specs.Laws.{BelowAreTold, IsBelow, PathsAreTold, SlashIsTaken, WaysAreSeen}
-use Rattle.unify_apply.specs.Mounts.{MountText, count_below, first_below, is_in, is_rest, is_under, path_from}
-use Rattle.unify_apply.proofs.Fronts.{begins, behind, front-of, front-is, last-of, other-end}
+use Rattle.unify_apply.specs.Mounts.{MountText, count_below, first_below, is_in, is_rest, is_under}
+use Rattle.unify_apply.proofs.Fronts.{begins, behind, front-is, last-of, other-end}
 
 -- ---- in a directory
 

@@ -1,4 +1,4 @@
-use Rattle.std.proofs.Common.{◌≡◌, ◌++◌, List, [], ◌∷◌, ℕ, ◌∙◌, ◌+◌, ap, arith, length}
+use Rattle.std.proofs.Common.{◌≡◌, ◌++◌, List, [], ◌∷◌, ℕ, ◌∙◌, ap, arith, length}
 use Rattle.mtree_inv.specs.declared.held_cuts.Row.{Row}
 use Rattle.mtree_inv.specs.Cuts.{Cut}
 use Rattle.mtree_inv.specs.HeldCuts.{cuts_in}
