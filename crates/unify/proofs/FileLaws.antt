@@ -2,7 +2,6 @@
 use Rattle.std.proofs.Common.{◌≡◌, ℕ, Bool, true, false, cond, List, [], None, Some, Result, Ok, Err, sym, ap, ap₂, ◌∙◌, subst, inl, inr}
 use Rattle.std.specs.Prelude.{◌⊎◌}
 use Rattle.idtext.specs.First.{◌>>=◌, first_fault, unless}
-use Rattle.idtext.specs.declared.faults.ReadError.TheVariants as read
 use Rattle.idtext.specs.declared.faults.TextCode.{TextCode}
 use Rattle.idtext.specs.declared.faults.TextFault.{TextFault}
 use Rattle.mtree_inv.specs.Inventory.{inventory, inventory_of_lines}
