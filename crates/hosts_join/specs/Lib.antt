@@ -36,3 +36,4 @@ pub mod HostNames
 pub mod NumberFaults
 pub mod FaultOrder
 pub mod ClaimsExample
+pub mod SiteNames

@@ -10,6 +10,7 @@ ghost use Rattle.hosts_join.specs.Laws.{NothingReservedChangesNothing};
 ghost use Rattle.hosts_join.specs.NumberFaults.{ClashesAreThere, SmallPoolsAreThere};
 ghost use Rattle.hosts_join.specs.PinFaults.{DisagreeingPinsAreThere, ReservedPinsAreThere};
 ghost use Rattle.hosts_join.specs.PinLines.{AcceptedPinsMayStand, FirstBadPinIsTold, PinsAreListed};
+ghost use Rattle.hosts_join.specs.SiteNames.{KindsNameTheirHosts, NamesStandAsTheyAppear};
 ghost use Rattle.hosts_join.specs.Standings.{DisagreeingPinsAreRefused, LinesCountTheHosts};
 ghost use Rattle.hosts_join.specs.Standings.{NumbersStandWhereTheyMay};
 ghost use Rattle.hosts_join.specs.Standings.{NumbersThatMayStandAreOffered};
@@ -146,4 +147,16 @@ pub fn host_faults_are_there()
     ensures host { HostFaultsAreThere }
     ensures users { AcceptedUsersHaveGroups }
     ensures user { PrimaryFaultsAreThere }
+{}
+
+/// For users and for groups the hosts of a site have the names with which they were given, in their
+/// order: a place that pins is told by the name of its host.
+pub fn kinds_name_their_hosts()
+    ensures { KindsNameTheirHosts }
+{}
+
+/// The names of a site stand in the order in which they appear: one host more leaves all names where
+/// they stood, and adds its own that are not among them at the end, in the order of its rows.
+pub fn names_stand_as_they_appear()
+    ensures { NamesStandAsTheyAppear }
 {}

@@ -34,9 +34,10 @@ pub use laws::{
     a_site_has_lawful_accounts, a_site_knows_its_hosts, a_site_leaves_reserved_numbers,
     a_site_leaves_spared_numbers, bad_pins_are_told, claims_by_example,
     disagreeing_pins_are_refused, host_faults_are_there, host_names_are_one_word,
-    lines_count_the_hosts, nothing_reserved_changes_nothing, number_faults_are_there,
-    numbers_stand_where_they_may, numbers_that_may_stand_are_offered, pin_faults_are_there,
-    pins_are_lawful, pins_are_listed, read_pins_reserve_nothing, users_are_told_first,
+    kinds_name_their_hosts, lines_count_the_hosts, names_stand_as_they_appear,
+    nothing_reserved_changes_nothing, number_faults_are_there, numbers_stand_where_they_may,
+    numbers_that_may_stand_are_offered, pin_faults_are_there, pins_are_lawful, pins_are_listed,
+    read_pins_reserve_nothing, users_are_told_first,
 };
 use logindefs::IdRange;
 pub use names::Names;
