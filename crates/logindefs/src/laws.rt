@@ -8,13 +8,26 @@ ghost use Rattle.logindefs.specs.Examples.{FirstOfTwoIsTold, GreatestIsRead, Kin
 ghost use Rattle.logindefs.specs.Examples.{LetterIsRefused, OthersArePassedOver};
 ghost use Rattle.logindefs.specs.Examples.{SharedGidIsRefused, SharedUidIsRefused};
 ghost use Rattle.logindefs.specs.Examples.{SystemEndsBelowRegular, TooGreatIsRefused};
-ghost use Rattle.logindefs.specs.Laws.{LengthCounts, SharedIsInBoth};
+ghost use Rattle.logindefs.specs.Laws.{LengthCounts, RangesAreBetween, SharedIsInBoth};
+ghost use Rattle.logindefs.specs.Quotes.{QuotesAreDropped};
 
 /// A range stands for the set of the numbers in it: its length is how many they are, and two ranges
 /// share a number exactly where one lies in both.
 pub fn ranges_are_sets_of_numbers()
     ensures len { LengthCounts }
     ensures shared { SharedIsInBoth }
+{}
+
+/// A number is in a range exactly where it is at least the minimum and at most the maximum, by the
+/// values that the parameters were given, each with its default written out. So no number is in a
+/// range whose minimum is above its maximum.
+pub fn ranges_are_between()
+    ensures { RangesAreBetween }
+{}
+
+/// Of a value all double quotes at both its ends are dropped, however many, and nothing else.
+pub fn quotes_are_dropped()
+    ensures { QuotesAreDropped }
 {}
 
 /// Examples of texts and the ranges that they give: the defaults, by an empty text; all eight

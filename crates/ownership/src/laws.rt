@@ -1,6 +1,7 @@
 //! Laws of certifying potentials and of owners, each the contract of a call that does nothing.
 ghost use Rattle.ownership.specs.FillingExample.{ExampleOfFilling, ExampleOfWeights};
 ghost use Rattle.ownership.specs.FillingExample.{ExampleOfSystemFilling};
+ghost use Rattle.ownership.specs.Fresh.{FreshNumbersAreNew};
 ghost use Rattle.ownership.specs.Owned.{OwnedFilesAreAll};
 ghost use Rattle.ownership.specs.Potentials.{CertifiedIsOptimal, CertifiedIsTight};
 
@@ -22,6 +23,13 @@ pub fn certified_is_tight()
 /// and so are those that have a group.
 pub fn owned_files_are_all()
     ensures { OwnedFilesAreAll }
+{}
+
+/// The fresh names of a mapping, those that are to have the smallest numbers that are left, are
+/// exactly those that are not pinned and have their number of the mapping on no host. Which files
+/// they own does not matter.
+pub fn fresh_numbers_are_new()
+    ensures { FreshNumbersAreNew }
 {}
 
 /// Weights and a filling by example: of three users who have one number on three hosts, what it
