@@ -37,11 +37,11 @@ host_rows-lawful place r s (p ∷ pairs) e =
     let parts = and_parts (is_lawful_name p.0) (list_all is_lawful_name (map (λ (p : List ℕ × ℕ). p.0) pairs)) e in
     All-cons (λ (q : Row). is_lawful_name q.name ≡ true) _ (host_rows place r s pairs) parts.0 (host_rows-lawful place r s pairs parts.1)
 
-on-host : (place : ℕ) (r s : IdRange) (pairs : List (List ℕ × ℕ)) → All (λ q. (spot_of q).host ≡ place) (host_rows place r s pairs)
+pub on-host : (place : ℕ) (r s : IdRange) (pairs : List (List ℕ × ℕ)) → All (λ q. (spot_of q).host ≡ place) (host_rows place r s pairs)
 on-host place r s [] = All-nil (λ (q : Row). (spot_of q).host ≡ place)
 on-host place r s (p ∷ pairs) = All-cons (λ (q : Row). (spot_of q).host ≡ place) _ (host_rows place r s pairs) refl (on-host place r s pairs)
 
-one-spot : (place : ℕ) (ss : List Spot) → All (λ s. s.host ≡ place) ss → IsOnceEach ss → length ss ≤ 1
+pub one-spot : (place : ℕ) (ss : List Spot) → All (λ s. s.host ≡ place) ss → IsOnceEach ss → length ss ≤ 1
 unfolding IsOnceEach
 one-spot place [] all once = omega arith
 one-spot place (s ∷ []) all once = omega arith
@@ -54,7 +54,7 @@ pub spots_of-append : (xs ys : List Row) (n : List ℕ) → spots_of (xs ++ ys) 
 unfolding spots_of
 spots_of-append xs ys n = rw (filter-append, map-append) refl
 
-spots_of-none : (n : List ℕ) → spots_of [] n ≡ []
+pub spots_of-none : (n : List ℕ) → spots_of [] n ≡ []
 unfolding spots_of
 spots_of-none n = refl
 

@@ -1,9 +1,9 @@
--- Which hosts and which names a site has, and in which order.
+-- Which hosts and which names a site has, in which order, and in which order the hosts of a name.
 -- Sources: passwd(5) and group(5) (rows with names); the order is this project's own rule.
-use Rattle.std.specs.Prelude.{◌≡◌, ℕ, not, List, [], ◌∷◌, ◌++◌, map, filter}
-use Rattle.std.specs.List.{list_any}
+use Rattle.std.specs.Prelude.{◌≡◌, ℕ, ◌<◌, not, List, [], ◌∷◌, ◌++◌, map, filter}
+use Rattle.std.specs.List.{All, AllPairs, list_any}
 use Rattle.std.specs.Str.{bytes_eq}
-use Rattle.hosts_join.specs.Accounts.{Accounts}
+use Rattle.hosts_join.specs.Accounts.{Account, Accounts}
 use Rattle.hosts_join.specs.Hosts.{IsLawfulHost}
 use Rattle.hosts_join.specs.PinPairs.{PinPairs}
 use Rattle.hosts_join.specs.Site.{groups_of, users_of}
@@ -45,3 +45,14 @@ NamesStandAsTheyAppear =
     (pins : PinPairs)
     → StandAsTheyAppear user_names (λ hosts. names_of (users_of hosts pins))
     × StandAsTheyAppear group_names (λ hosts. names_of (groups_of hosts pins))
+
+-- the hosts that have the name stand in the order of all hosts, each of them once
+abbrev pub StandsByHosts : Account → Type 0
+StandsByHosts account = AllPairs (λ one later. one.host < later.host) account.spots
+
+-- where the hosts are lawful, so they stand for each name of a site, of users and of groups
+abbrev pub SpotsStandByHosts : Type 0
+SpotsStandByHosts =
+    (hosts : List Host) (pins : PinPairs) → All IsLawfulHost hosts
+    → All StandsByHosts (users_of hosts pins).names
+    × All StandsByHosts (groups_of hosts pins).names

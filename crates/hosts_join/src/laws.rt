@@ -11,6 +11,7 @@ ghost use Rattle.hosts_join.specs.NumberFaults.{ClashesAreThere, SmallPoolsAreTh
 ghost use Rattle.hosts_join.specs.PinFaults.{DisagreeingPinsAreThere, ReservedPinsAreThere};
 ghost use Rattle.hosts_join.specs.PinLines.{AcceptedPinsMayStand, FirstBadPinIsTold, PinsAreListed};
 ghost use Rattle.hosts_join.specs.SiteNames.{KindsNameTheirHosts, NamesStandAsTheyAppear};
+ghost use Rattle.hosts_join.specs.SiteNames.{SpotsStandByHosts};
 ghost use Rattle.hosts_join.specs.Standings.{DisagreeingPinsAreRefused, LinesCountTheHosts};
 ghost use Rattle.hosts_join.specs.Standings.{NumbersStandWhereTheyMay};
 ghost use Rattle.hosts_join.specs.Standings.{NumbersThatMayStandAreOffered};
@@ -159,4 +160,10 @@ pub fn kinds_name_their_hosts()
 /// they stood, and adds its own that are not among them at the end, in the order of its rows.
 pub fn names_stand_as_they_appear()
     ensures { NamesStandAsTheyAppear }
+{}
+
+/// Where hosts are lawful, those that have a name of the site stand in the order of all hosts, each
+/// of them once: which of them is told as the first that pins the name goes by that order.
+pub fn spots_stand_by_hosts()
+    ensures { SpotsStandByHosts }
 {}

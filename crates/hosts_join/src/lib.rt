@@ -37,7 +37,7 @@ pub use laws::{
     kinds_name_their_hosts, lines_count_the_hosts, names_stand_as_they_appear,
     nothing_reserved_changes_nothing, number_faults_are_there, numbers_stand_where_they_may,
     numbers_that_may_stand_are_offered, pin_faults_are_there, pins_are_lawful, pins_are_listed,
-    read_pins_reserve_nothing, users_are_told_first,
+    read_pins_reserve_nothing, spots_stand_by_hosts, users_are_told_first,
 };
 use logindefs::IdRange;
 pub use names::Names;
