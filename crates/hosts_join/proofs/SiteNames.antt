@@ -92,8 +92,8 @@ module _ (regular system : HostRanges → IdRange) (listed : Host → List (List
   abbrev rows_on : ℕ → Host → List Row
   rows_on place h = host_rows place (regular h.ranges) (system h.ranges) (listed h)
 
-  abbrev rows : ℕ → List Host → List Row
-  rows place hosts = rows_from (λ (h : Host). regular h.ranges) (λ (h : Host). system h.ranges) listed place hosts
+  abbrev site_rows : ℕ → List Host → List Row
+  site_rows place hosts = rows_from (λ (h : Host). regular h.ranges) (λ (h : Host). system h.ranges) listed place hosts
 
   abbrev row_names : List Row → List (List ℕ)
   row_names rs = map (λ (r : Row). r.name) rs
@@ -102,16 +102,16 @@ module _ (regular system : HostRanges → IdRange) (listed : Host → List (List
   its_names h = map (λ (p : List ℕ × ℕ). p.0) (listed h)
 
   -- a host more has its rows behind all others
-  more-rows : (place : ℕ) (before : List Host) (host : Host) → row_names (rows place (before ++ host ∷ [])) ≡ row_names (rows place before) ++ its_names host
-  more-rows place [] host =
+  one-host-more : (place : ℕ) (before : List Host) (host : Host) → row_names (site_rows place (before ++ host ∷ [])) ≡ row_names (site_rows place before) ++ its_names host
+  one-host-more place [] host =
       ap row_names (append-nil (rows_on place host))
       ∙ map-map (λ (r : Row). r.name) (λ (p : List ℕ × ℕ). record { host = place; name = p.0; number = p.1; standing = standing_on (regular host.ranges) (system host.ranges) p.1 }) (listed host)
-  more-rows place (h ∷ before) host =
+  one-host-more place (h ∷ before) host =
       let here = rows_on place h in
-      map-append (λ (r : Row). r.name) here (rows (place + 1) (before ++ host ∷ []))
-      ∙ ap (λ ns. row_names here ++ ns) (more-rows (place + 1) before host)
-      ∙ sym (append_assoc (row_names here) (row_names (rows (place + 1) before)) (its_names host))
-      ∙ ap (λ ns. ns ++ its_names host) (sym (map-append (λ (r : Row). r.name) here (rows (place + 1) before)))
+      map-append (λ (r : Row). r.name) here (site_rows (place + 1) (before ++ host ∷ []))
+      ∙ ap (λ ns. row_names here ++ ns) (one-host-more (place + 1) before host)
+      ∙ sym (append_assoc (row_names here) (row_names (site_rows (place + 1) before)) (its_names host))
+      ∙ ap (λ ns. ns ++ its_names host) (sym (map-append (λ (r : Row). r.name) here (site_rows (place + 1) before)))
 
   abbrev names : List Host → List (List ℕ)
   names hosts = names_of (accounts_of regular system listed hosts pins reserved)
@@ -121,10 +121,10 @@ module _ (regular system : HostRanges → IdRange) (listed : Host → List (List
 
   more-names : (before : List Host) (host : Host) → IsLawfulHost host → names (before ++ host ∷ []) ≡ names before ++ without (names before) (its_names host)
   more-names before host lawful =
-      names-grouped (rows 0 (before ++ host ∷ []))
-      ∙ ap first_appearances (more-rows 0 before host)
-      ∙ firsts-append (row_names (rows 0 before)) (its_names host) (names-differ (its_names host) (distinct host lawful))
-      ∙ ap (λ ns. ns ++ without ns (its_names host)) (sym (names-grouped (rows 0 before)))
+      names-grouped (site_rows 0 (before ++ host ∷ []))
+      ∙ ap first_appearances (one-host-more 0 before host)
+      ∙ firsts-append (row_names (site_rows 0 before)) (its_names host) (names-differ (its_names host) (distinct host lawful))
+      ∙ ap (λ ns. ns ++ without ns (its_names host)) (sym (names-grouped (site_rows 0 before)))
 
   -- given: the names of its rows, in other words
   stand : (given : Host → List (List ℕ)) → ((h : Host) → its_names h ≡ given h) → StandAsTheyAppear given names
