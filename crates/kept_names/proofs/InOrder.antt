@@ -1,5 +1,5 @@
 -- The exit status.
-use Rattle.std.proofs.Common.{◌≡◌, ◌≢◌, ℕ, ◌+◌, ◌<◌, Bool, true, false, cond, List, [], ◌∷◌, ◌++◌, length, take, get_or, Option, Some, None, refl, sym, ap, ◌∙◌, subst}
+use Rattle.std.proofs.Common.{◌≡◌, ◌≢◌, ℕ, ◌+◌, ◌<◌, Bool, true, false, cond, List, [], ◌∷◌, ◌++◌, length, take, get_or, Option, Some, None, refl, sym, ap, ◌∙◌, subst, ◌⊎◌, inl, inr}
 use Rattle.std.specs.Prelude.{◌||◌, filter_map}
 use Rattle.std.specs.List.{All, list_any}
 use Rattle.std.specs.Option.{is_none}
@@ -13,7 +13,7 @@ use Rattle.mtree_inv.specs.Inventory.{file_at}
 use Rattle.kept_names.specs.Kept.{Found, findings, is_left, left_by, left_file, loss, new_file, told_of, unnamed, unnamed_by}
 use Rattle.kept_names.specs.Laws.{HasNoFileAt, IsKept, IsLeft, is_loss}
 use Rattle.kept_names.specs.Telling.{is_fault, status_of}
-use Rattle.kept_names.specs.TellingLaws.{HasNames, HasNoLeftNumber, IsInOrder, StatusTellsOrder}
+use Rattle.kept_names.specs.TellingLaws.{HasNames, HasNoLeftNumber, IsInOrder, StatusIsElseOne, StatusTellsOrder}
 use Rattle.kept_names.specs.declared.finding.What.{What}
 use Rattle.kept_names.specs.declared.finding.What.TheVariants.{Missing, Changed, New, Unnamed, Left}
 use Rattle.kept_names.specs.declared.names.Renumbering.{Renumbering}
@@ -266,3 +266,10 @@ status-tells renumbering before after distinct = (
   (λ is. fine-status (findings renumbering before after)
       (order-fine renumbering before after distinct is)),
 )
+
+either : (b : Bool) → (let status : ℕ = cond b 1 0 in (status ≡ 0) ⊎ (status ≡ 1))
+either true = inr refl
+either false = inl refl
+
+pub status-else-one : StatusIsElseOne
+status-else-one found = either (list_any fails found)

@@ -3,7 +3,7 @@
 use Rattle.std.specs.Prelude.{◌≡◌, ◌≢◌, ◌↔◌, ℕ, ◌+◌, ◌-◌, ◌<◌, ◌≤◌, ◌^◌, nat_lt}
 use Rattle.std.specs.Prelude.{Bool, List, ◌++◌, codes, count_by, filter, find, map, take, zip}
 use Rattle.std.specs.Prelude.{length, Option, None, Some, All, filter_map, flat_map, option_map}
-use Rattle.std.specs.Prelude.{is_some, if◌then◌else◌}
+use Rattle.std.specs.Prelude.{is_some, ◌⊎◌, if◌then◌else◌}
 use Rattle.std.specs.Str.{bytes_eq}
 use Rattle.std.specs.Str.Parse.{digits_value}
 use Rattle.hosts_join.specs.Kinds.{user_at, group_at}
@@ -167,3 +167,7 @@ pub record IsInOrder (renumbering : Renumbering) (before after : List Entry) : T
 abbrev pub StatusTellsOrder : Type 0
 StatusTellsOrder = (renumbering : Renumbering) (before after : List Entry) → HaveDistinctFiles after
     → (status_of (findings renumbering before after) ≡ 0) ↔ IsInOrder renumbering before after
+
+-- else it is 1, and no other
+abbrev pub StatusIsElseOne : Type 0
+StatusIsElseOne = (found : List Found) → (status_of found ≡ 0) ⊎ (status_of found ≡ 1)

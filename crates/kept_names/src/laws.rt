@@ -5,7 +5,7 @@ ghost use Rattle.kept_names.specs.LinesBack.{FindingsAreTellable, LinesAreReadBa
 ghost use Rattle.kept_names.specs.LinesBack.{TablesAreTellable};
 ghost use Rattle.kept_names.specs.TellingLaws.{AllAreTold, CountsAddUp, CountsAreReadBack};
 ghost use Rattle.kept_names.specs.TellingLaws.{EachIsCountedOnce, EachIsToldOnce, FirstAreTold};
-ghost use Rattle.kept_names.specs.TellingLaws.{MoreAreReadBack, StatusTellsOrder};
+ghost use Rattle.kept_names.specs.TellingLaws.{MoreAreReadBack, StatusIsElseOne, StatusTellsOrder};
 
 /// No file is found missing or changed exactly where each file of the first inventory is in the
 /// second, with a user and a group that the new account files name as the old ones named those
@@ -48,9 +48,10 @@ pub fn left_numbers_are_told()
 
 /// The exit status is 0 exactly where each file of the first inventory is in the second, with the
 /// user and the group names that it had, each file of the second has names by the new account
-/// files, and no file that is new has a number that a name has left.
+/// files, and no file that is new has a number that a name has left; else it is 1.
 pub fn status_tells_order()
-    ensures { StatusTellsOrder }
+    ensures order { StatusTellsOrder }
+    ensures other { StatusIsElseOne }
 {}
 
 /// Where as many lines may be told of each kind as there are findings, each finding has its line,

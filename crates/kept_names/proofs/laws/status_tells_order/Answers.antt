@@ -1,5 +1,5 @@
-use Rattle.kept_names.proofs.InOrder.{status-tells}
+use Rattle.kept_names.proofs.InOrder.{status-else-one, status-tells}
 use Rattle.kept_names.proofs.laws.status_tells_order.Goals as goal
 
 pub returns : goal.returns
-returns c = status-tells
+returns c = record { order = status-tells; other = status-else-one }
