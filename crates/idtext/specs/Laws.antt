@@ -1,7 +1,7 @@
 -- Laws over the definitions of this crate, in the words of its subject.
 -- Source: chown(2) for the greatest id; mtree(5) and vis(3) for escapes, with this project's own
 -- rules of which are read.
-use Rattle.std.specs.Prelude.{◌≡◌, ◌⊎◌, ℕ, ◌+◌, ◌-◌, ◌*◌, false, ◌<◌, ◌≤◌, List, [], ◌∷◌}
+use Rattle.std.specs.Prelude.{◌≡◌, ◌≢◌, ◌⊎◌, ℕ, ◌+◌, ◌-◌, ◌*◌, false, ◌<◌, ◌≤◌, List, [], ◌∷◌}
 use Rattle.std.specs.Prelude.{◌++◌, length}
 use Rattle.std.specs.Prelude.{drop, All, Some, IfSome, codes, decimal}
 use Rattle.std.specs.List.{Contains}
@@ -25,6 +25,31 @@ abbrev pub EscapedIsReadBack : Type 0
 EscapedIsReadBack =
     (bytes : List ℕ) → All (λ b. b < 256) bytes → (unescaped (escaped bytes) ≡ bytes)
     × (has_bad_escape (escaped bytes) ≡ false)
+
+-- a byte that is seen: from `!` to `~`, so neither a control byte, nor a space, nor above ASCII
+abbrev pub IsVisible : ℕ → Type 0
+IsVisible b = (33 ≤ b) × (b ≤ 126)
+
+-- bytes that were escaped are visible
+abbrev pub EscapedIsVisible : Type 0
+EscapedIsVisible = (bytes : List ℕ) → All (λ b. b < 256) bytes → All IsVisible (escaped bytes)
+
+-- nothing is written as nothing
+abbrev pub NothingIsEscaped : Type 0
+NothingIsEscaped = escaped [] ≡ []
+
+-- a visible byte other than backslash is written as it is, whatever stands after it
+abbrev pub VisibleStands : Type 0
+VisibleStands =
+    (b : ℕ) → IsVisible b → b ≢ 92 → (rest : List ℕ) → escaped (b ∷ rest) ≡ b ∷ escaped rest
+
+-- any other byte is written as a backslash and the three octal digits of its value
+abbrev pub OthersAreOctal : Type 0
+OthersAreOctal =
+    (a b c : ℕ) → a ≤ 3 → b ≤ 7 → c ≤ 7
+    → ¬ (IsVisible (a * 64 + b * 8 + c) × (a * 64 + b * 8 + c ≢ 92)) → (rest : List ℕ)
+    → escaped ((a * 64 + b * 8 + c) ∷ rest)
+    ≡ 92 ∷ (48 + a) ∷ (48 + b) ∷ (48 + c) ∷ escaped rest
 
 -- the text is an escape that stands for the byte, whatever stands after it
 abbrev pub StandsFor : List ℕ → ℕ → Type 0

@@ -5,6 +5,7 @@ pub mod Escapes
 pub mod Faults
 pub mod Words
 pub mod Names
+pub mod NameLaws
 pub mod Codes
 pub mod Spaces
 pub mod Laws

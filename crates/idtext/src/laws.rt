@@ -3,8 +3,10 @@
 #![tactic(auto)]
 
 ghost use Rattle.idtext.specs.Laws.{AreForms, AreNoForms, CNumbersAreIds, DecimalsAreIds};
-ghost use Rattle.idtext.specs.Laws.{EscapedIsReadBack, FrontIsReadFirst, NothingStandsForNothing};
-ghost use Rattle.idtext.specs.Laws.{WrittenIdIsReadBack};
+ghost use Rattle.idtext.specs.Laws.{EscapedIsReadBack, EscapedIsVisible, FrontIsReadFirst};
+ghost use Rattle.idtext.specs.Laws.{NothingIsEscaped, NothingStandsForNothing, OthersAreOctal};
+ghost use Rattle.idtext.specs.Laws.{VisibleStands, WrittenIdIsReadBack};
+ghost use Rattle.idtext.specs.NameLaws.{LawfulNamesAreTheseBytes};
 
 /// Escapes are read from the left, one after the other, and none reaches into the next; what
 /// `push_escaped` writes is what `first_character` reads back, one after the other; and each form
@@ -23,10 +25,26 @@ pub fn other_backslashes_are_bad_or_plain()
     ensures { AreNoForms }
 {}
 
+/// Whatever bytes `push_escaped` is given, it writes bytes from `!` to `~` alone, so that none of
+/// them is a control byte, a space or a newline. Of these it writes each but the backslash as it
+/// is, and any other byte as a backslash and three octal digits.
+pub fn escaped_bytes_are_visible()
+    ensures visible { EscapedIsVisible }
+    ensures empty { NothingIsEscaped }
+    ensures stands { VisibleStands }
+    ensures others { OthersAreOctal }
+{}
+
 /// What `decimal` and `c_number` read is never above [`GREATEST_ID`](crate::GREATEST_ID), and an id
 /// that `push_number` wrote is read back by `decimal`.
 pub fn numbers_read_are_ids()
     ensures decimals { DecimalsAreIds }
     ensures c_numbers { CNumbersAreIds }
     ensures back { WrittenIdIsReadBack }
+{}
+
+/// A lawful name is one byte or more, none of them a comma, a colon, a newline or NUL, and the
+/// first neither `#` nor `+` nor `-`; and any such text is one.
+pub fn lawful_names_are_these_bytes()
+    ensures { LawfulNamesAreTheseBytes }
 {}

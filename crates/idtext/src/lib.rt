@@ -21,7 +21,8 @@ mod words;
 pub use escapes::{Character, first_character, push_escaped};
 pub use faults::{ReadError, TextCode, TextFault};
 pub use laws::{
-    escapes_are_read_from_the_left, numbers_read_are_ids, other_backslashes_are_bad_or_plain,
+    escaped_bytes_are_visible, escapes_are_read_from_the_left, lawful_names_are_these_bytes,
+    numbers_read_are_ids, other_backslashes_are_bad_or_plain,
 };
 pub use name::{ByteString, Name};
 pub use names::{is_lawful_name, is_skipped};
