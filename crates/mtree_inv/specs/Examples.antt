@@ -42,6 +42,19 @@ ExampleOfUnset =
     inventory 3 unset_text
     ≡ Ok (file (codes "etc") 1 3 ∷ file (codes "var") 4 5 ∷ file (codes "tmp") 7 6 ∷ [])
 
+-- a type that is set counts where an entry gives none: `etc` is a directory; and one that an entry
+-- gives counts in its stead: `hosts` and `motd` lie in `etc`, and `tmp` beside it
+abbrev pub set_type_text : List ℕ
+set_type_text =
+    codes "/set type=dir uid=1 gid=2\n" ++ codes "etc\n" ++ codes "hosts type=file\n"
+    ++ codes "motd type=file\n" ++ codes "..\n" ++ codes "tmp type=file\n"
+
+abbrev pub ExampleOfSetType : Type 0
+ExampleOfSetType =
+    inventory 4 set_type_text
+    ≡ Ok (file (codes "etc") 1 2 ∷ file (codes "etc/hosts") 1 2 ∷ file (codes "etc/motd") 1 2
+    ∷ file (codes "tmp") 1 2 ∷ [])
+
 -- a uid that was taken away is missing, and so is a gid
 abbrev pub ExampleOfNoOwner : Type 0
 ExampleOfNoOwner =

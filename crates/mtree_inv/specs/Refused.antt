@@ -67,6 +67,16 @@ ExampleOfNextInventory =
     ≡ Ok (file (codes "etc") 1 2 ∷ file (codes "tmp") 1 2 ∷ []))
     × (inventory 3 (begun_text ++ next_text) ≡ fault CutInventory 3)
 
+-- and its end tells how many entries it has, no more and no fewer, and has none after it
+abbrev pub ExampleOfCounts : Type 0
+ExampleOfCounts =
+    (inventory 3 (begun_text ++ codes "# end 2\n") ≡ fault CutInventory 4)
+    × (inventory 3 (begun_text ++ codes "# end 0\n") ≡ fault CutInventory 4)
+    × (inventory 3 (begun_text ++ codes "# end 1\n" ++ codes "tmp uid=1 gid=2\n")
+    ≡ fault CutInventory 5)
+    × (inventory 3 (begun_text ++ codes "# end 2\n" ++ codes "tmp uid=1 gid=2\n")
+    ≡ fault CutInventory 5)
+
 -- ---- a line that is too long, after any lines, whatever it says
 
 abbrev pub LongLinesAreRefused : Type 0

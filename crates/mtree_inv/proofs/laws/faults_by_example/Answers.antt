@@ -16,6 +16,7 @@ returns c = record {
   owners = (refl, refl, refl);
   many = (refl, refl);
   next = (refl, refl);
+  counts = (refl, refl, refl, refl);
   long = λ most before line long.
       ap (λ (b : Bool). fault_said most (files_of before) (said_alone before (cond b TooLong (cond line.is_cut Cut (kind_of_text line.text))))) (lt-ltb 65535 (length line.text) long);
   slash = λ most before keywords. refl;
