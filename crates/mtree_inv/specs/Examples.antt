@@ -73,3 +73,17 @@ ExampleOfEnd =
     (inventory 3 (begun_text ++ codes "# end 2\n")
     ≡ Ok (file (codes "etc") 1 2 ∷ file (codes "tmp") 3 4 ∷ []))
     × (inventory 3 begun_text ≡ fault CutInventory 4)
+
+-- it counts the entries since its first line, without `..`, and each time that one comes; other
+-- lines may stand before that line, between, and behind
+abbrev pub counted_text : List ℕ
+counted_text =
+    codes "var uid=3 gid=4\n" ++ codes "# unify inventory ann\n" ++ codes "/set uid=1 gid=2\n"
+    ++ codes "etc type=dir\n" ++ codes "..\n" ++ codes "# people\n" ++ codes "\n"
+    ++ codes "etc type=dir\n" ++ codes "..\n" ++ codes "./tmp\n" ++ codes "# end 3\n"
+    ++ codes "/unset all\n"
+
+abbrev pub ExampleOfCounted : Type 0
+ExampleOfCounted =
+    inventory 3 counted_text
+    ≡ Ok (file (codes "var") 3 4 ∷ file (codes "etc") 1 2 ∷ file (codes "tmp") 1 2 ∷ [])

@@ -1,13 +1,15 @@
 -- What an inventory lists: what each of its lines says, and nothing else.
 -- Source: this project's own rule, that no line of an inventory is passed over.
-use Rattle.std.specs.Prelude.{◌≡◌, ◌≢◌, ◌≤◌, ◌⊎◌, ℕ, false, List, ◌∷◌, ◌++◌, length, All}
-use Rattle.std.specs.Prelude.{Contains, Some, Ok, codes}
+use Rattle.std.specs.Prelude.{◌≡◌, ◌≢◌, ◌≤◌, ◌⊎◌, ℕ, false, List, [], ◌∷◌, ◌++◌, length, All}
+use Rattle.std.specs.Prelude.{Contains, Some, None, Ok, codes}
+use Rattle.idtext.specs.Numbers.{id_of}
 use Rattle.idtext.specs.Words.{most_line_bytes, words}
 use Rattle.mtree_inv.specs.declared.entry.Entry.{Entry}
-use Rattle.mtree_inv.specs.Inventory.{inventory, kinds, path_of, said_alone}
+use Rattle.mtree_inv.specs.Inventory.{inventory, kinds, path_of, said_alone, fault_of}
 use Rattle.mtree_inv.specs.Keywords.{number_in_force}
-use Rattle.mtree_inv.specs.Kinds.{kind_of}
+use Rattle.mtree_inv.specs.Kinds.{Kind, Begins, Counts, kind_of}
 use Rattle.mtree_inv.specs.Logical.{LogicalLine, logical_lines}
+use Rattle.mtree_inv.specs.Whole.{is_beginning, told_by, files_given}
 
 -- a line that can be read: it is not too long, the text does not end while it waits for the next
 -- line, and where its first word begins with a `/` this word is `/set` or `/unset`
@@ -73,3 +75,34 @@ abbrev pub FilesAreOfEntries : Type 0
 FilesAreOfEntries =
     (most : ℕ) (text : List ℕ) (files : List Entry) (file : Entry)
     → inventory most text ≡ Ok files → Contains files file → HasEntry text file
+
+-- none of these lines begins an inventory
+abbrev pub BeginsNone : List Kind → Type 0
+BeginsNone [] = Unit {0}
+BeginsNone (line ∷ lines) = (is_beginning line ≡ false) × BeginsNone lines
+
+-- none of them is an entry or has a count
+abbrev pub CountsNone : List Kind → Type 0
+CountsNone [] = Unit {0}
+CountsNone (line ∷ lines) = (told_by line ≡ None) × CountsNone lines
+
+-- they have a count, of the entries before it, and behind it no entry and no other count
+pub record HasCount (lines : List Kind) : Type 0 where
+  pub inside : List Kind
+  pub count : List ℕ
+  pub after : List Kind
+  pub stands : lines ≡ inside ++ Counts count ∷ after
+  pub exact : id_of count ≡ Some (files_given inside)
+  pub last : CountsNone after
+
+-- where an inventory was begun, the lines since have their count when the next one begins
+abbrev pub NextFollowsCount : Type 0
+NextFollowsCount = (most : ℕ) (before since : List Kind)
+    → BeginsNone since → fault_of most (before ++ Begins ∷ since) Begins ≡ None → HasCount since
+
+-- and when the text ends
+abbrev pub TextEndsWithCount : Type 0
+TextEndsWithCount =
+    (most : ℕ) (text : List ℕ) (files : List Entry) (before since : List Kind)
+    → inventory most text ≡ Ok files → kinds (logical_lines text) ≡ before ++ Begins ∷ since
+    → BeginsNone since → HasCount since

@@ -10,4 +10,4 @@ use Rattle.mtree_inv.proofs.laws.inventories_by_example.Goals as goal
 
 pub returns : goal.returns
 unfolding characters_after first_fault numeral pieces lines words named first_appearances files_of fault_of inventory_of_lines inventory kind_of
-returns c = record { set = refl; set_type = refl; unset = refl; no_owner = (refl, refl); end = (refl, refl) }
+returns c = record { set = refl; set_type = refl; unset = refl; no_owner = (refl, refl); end = (refl, refl); counted = refl }
