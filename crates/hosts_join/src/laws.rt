@@ -156,8 +156,8 @@ pub fn kinds_name_their_hosts()
     ensures { KindsNameTheirHosts }
 {}
 
-/// The names of a site stand in the order in which they appear: one host more leaves all names where
-/// they stood, and adds its own that are not among them at the end, in the order of its rows.
+/// The names of a site stand in the order in which they appear: one host more leaves all names
+/// where they stood, and adds its own that are not among them at the end, in the order of its rows.
 pub fn names_stand_as_they_appear()
     ensures { NamesStandAsTheyAppear }
 {}

@@ -1,6 +1,6 @@
 -- What names of accounts are, by their bytes.
--- Source: passwd(5) and group(5), DESCRIPTION, for the bytes that part texts, and this project's own
--- rules.
+-- Source: passwd(5) and group(5), DESCRIPTION, for the bytes that stand between names, fields and
+-- lines; all else is this project's own rule.
 use Rattle.std.specs.Prelude.{◌≡◌, ◌≢◌, ◌↔◌, ℕ, ◌≤◌, true, List, length, All, slice_index}
 use Rattle.idtext.specs.Names.{is_lawful_name}
 

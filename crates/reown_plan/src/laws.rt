@@ -65,7 +65,8 @@ pub fn plans_keep_names()
 /// owner, and nothing where it keeps its own.
 pub fn changes_give_records()
     ensures { (to : Entry → Owner) (file : Entry)
-        → line_of (printed (owner_of file) (to file)) file.path ≡ lines (records_to to (file ∷ [])) }
+        → line_of (printed (owner_of file) (to file)) file.path
+        ≡ lines (records_to to (file ∷ [])) }
 {}
 
 /// Marks are compared field by field, and plans of one mark are of one host and have texts of one
