@@ -117,6 +117,17 @@ pub record AreNoForms : Type 0 where
   pub plain : (c : ℕ) (rest : List ℕ) → ¬ (c ≡ 92)
       → characters (c ∷ rest) ≡ Plain c ∷ characters rest
 
+-- Which bytes a text with escapes stands for: each byte but the backslash for itself, whichever it
+-- is; a backslash that begins no form for itself; and each form for its byte.
+pub record BytesStandForThemselves : Type 0 where
+  pub nothing : unescaped [] ≡ []
+  pub plain : (b : ℕ) (rest : List ℕ) → b ≢ 92 → unescaped (b ∷ rest) ≡ b ∷ unescaped rest
+  pub backslash : (c : ℕ) (rest : List ℕ) → ¬ BeginsOctal (c ∷ rest)
+      → ¬ Contains (94 ∷ 77 ∷ 0 ∷ 92 ∷ codes "stnvfrab#") c
+      → unescaped (92 ∷ c ∷ rest) ≡ 92 ∷ unescaped (c ∷ rest)
+  pub form : (text : List ℕ) (byte : ℕ) → StandsFor text byte
+      → (rest : List ℕ) → unescaped (text ++ rest) ≡ byte ∷ unescaped rest
+
 -- what a text writes in decimal, or as C does, is a number that an account may have
 abbrev pub DecimalsAreIds : Type 0
 DecimalsAreIds = (text : List ℕ) → IfSome (id_of text) (λ id. id ≤ greatest_id)

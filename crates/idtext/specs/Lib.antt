@@ -6,6 +6,7 @@ pub mod Faults
 pub mod Words
 pub mod Names
 pub mod NameLaws
+pub mod NumberLaws
 pub mod Codes
 pub mod Spaces
 pub mod Laws

@@ -2,11 +2,13 @@
 //! nothing.
 #![tactic(auto)]
 
-ghost use Rattle.idtext.specs.Laws.{AreForms, AreNoForms, CNumbersAreIds, DecimalsAreIds};
+ghost use Rattle.idtext.specs.Laws.{AreForms, AreNoForms, BytesStandForThemselves};
+ghost use Rattle.idtext.specs.Laws.{CNumbersAreIds, DecimalsAreIds};
 ghost use Rattle.idtext.specs.Laws.{EscapedIsReadBack, EscapedIsVisible, FrontIsReadFirst};
 ghost use Rattle.idtext.specs.Laws.{NothingIsEscaped, NothingStandsForNothing, OthersAreOctal};
 ghost use Rattle.idtext.specs.Laws.{VisibleStands, WrittenIdIsReadBack};
 ghost use Rattle.idtext.specs.NameLaws.{LawfulNamesAreTheseBytes};
+ghost use Rattle.idtext.specs.NumberLaws.{CNumbersAreTheirDigits, DecimalsAreTheirDigits};
 
 /// Escapes are read from the left, one after the other, and none reaches into the next; what
 /// `push_escaped` writes is what `first_character` reads back, one after the other; and each form
@@ -20,9 +22,11 @@ pub fn escapes_are_read_from_the_left()
 
 /// A backslash that begins none of these forms: it is bad with nothing or a NUL after it, and
 /// before `^` or `M`; before any other byte it stands for itself. What stands after it is then read
-/// by itself. A byte that is no backslash stands for itself.
+/// by itself. A byte that is no backslash stands for itself. So the bytes of a text are as they
+/// stand in it, UTF-8 and all others too, but for the forms, each of which is one byte.
 pub fn other_backslashes_are_bad_or_plain()
-    ensures { AreNoForms }
+    ensures characters { AreNoForms }
+    ensures bytes { BytesStandForThemselves }
 {}
 
 /// Whatever bytes `push_escaped` is given, it writes bytes from `!` to `~` alone, so that none of
@@ -36,11 +40,15 @@ pub fn escaped_bytes_are_visible()
 {}
 
 /// What `decimal` and `c_number` read is never above [`GREATEST_ID`](crate::GREATEST_ID), and an id
-/// that `push_number` wrote is read back by `decimal`.
+/// that `push_number` wrote is read back by `decimal`. Each is what the digits of the text write,
+/// one after the other: of `decimal` decimal ones, and of `c_number` decimal, octal or hexadecimal
+/// ones, as the text begins.
 pub fn numbers_read_are_ids()
     ensures decimals { DecimalsAreIds }
     ensures c_numbers { CNumbersAreIds }
     ensures back { WrittenIdIsReadBack }
+    ensures decimal_digits { DecimalsAreTheirDigits }
+    ensures c_digits { CNumbersAreTheirDigits }
 {}
 
 /// A lawful name is one byte or more, none of them a comma, a colon, a newline or NUL, and the
