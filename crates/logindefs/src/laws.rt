@@ -8,6 +8,7 @@ ghost use Rattle.logindefs.specs.Examples.{FirstOfTwoIsTold, GreatestIsRead, Kin
 ghost use Rattle.logindefs.specs.Examples.{LetterIsRefused, OthersArePassedOver};
 ghost use Rattle.logindefs.specs.Examples.{SharedGidIsRefused, SharedUidIsRefused};
 ghost use Rattle.logindefs.specs.Examples.{SystemEndsBelowRegular, TooGreatIsRefused};
+ghost use Rattle.logindefs.specs.LastValues.{LastValueCounts, NoneIsGiven};
 ghost use Rattle.logindefs.specs.Laws.{LengthCounts, RangesAreBetween, SharedIsInBoth};
 ghost use Rattle.logindefs.specs.Quotes.{QuotesAreDropped};
 
@@ -48,9 +49,14 @@ pub fn ranges_by_example()
 /// Of any other text the first line that may not stand is told, counted from 1: that it is too
 /// long, or else that its value is no number. Where all may stand, line 0 is told, and that ranges
 /// overlap.
+///
+/// The value of a parameter is that of the last line whose first word is its name and whose second
+/// word is a number, 0 too; and it has none where no line gives it one.
 pub fn ranges_are_accepted()
     ensures accepted { RangesAreAccepted }
     ensures refused { FirstWrongLineIsTold }
+    ensures last { LastValueCounts }
+    ensures none { NoneIsGiven }
 {}
 
 /// Examples of texts that are refused, with what is told: a letter in a number, the first of two
