@@ -1,5 +1,5 @@
 -- The laws of the words of a line.
-use Rattle.std.proofs.Common.{◌≡◌, ◌≢◌, ℕ, Bool, true, false, cond, ◌&&◌, ◌||◌, List, [], ◌∷◌, ◌++◌, length, take, drop, All, refl, ap, ◌∙◌}
+use Rattle.std.proofs.Common.{◌≡◌, ◌≢◌, ◌↔◌, ℕ, Bool, true, false, cond, ◌&&◌, ◌||◌, List, [], ◌∷◌, ◌++◌, length, take, drop, All, refl, ap, ◌∙◌, codes}
 use Rattle.std.specs.Prelude.{Option, Some, None, ◌==◌}
 use Rattle.std.specs.Cmp.Lexicographic.{bytes_decides}
 use Rattle.std.specs.List.{list_any}
@@ -8,9 +8,9 @@ use Rattle.std.specs.Str.{bytes_eq}
 use Rattle.std.proofs.lemmas.Bool.{eq-eqb, eqb-true}
 use Rattle.std.proofs.lemmas.List.Elements.{All-head, All-tail}
 use Rattle.idtext.specs.Words.{words}
-use Rattle.mtree_inv.specs.Keywords.{is_equals_sign, key_of, value_of, given_by, own}
+use Rattle.mtree_inv.specs.Keywords.{is_equals_sign, key_of, value_of, given_by, own, says_dir, in_force}
 use Rattle.mtree_inv.specs.Kinds.{Sets, Unsets, Up, kind_of_words}
-use Rattle.mtree_inv.specs.Laws.{SetsItsWords, UnsetsItsWords, DotDotIsUp, LastWordCounts}
+use Rattle.mtree_inv.specs.Laws.{SetsItsWords, UnsetsItsWords, DotDotIsUp, LastWordCounts, BareWordsCount, OthersSayNothing, OnlyDirIsADirectory}
 use Rattle.mtree_inv.proofs.CommentLemmas.{kind-by-words}
 use Rattle.mtree_inv.proofs.KeywordLemmas.{given-begun}
 
@@ -56,7 +56,7 @@ gives_none key word other = by (bytes_eq (key_of word) key) refl
     by true e = absurd (other ((bytes_decides (key_of word) key).0 e))
     by false e = refl
 
-own_none : (key : List ℕ) (words : List (List ℕ)) → All (λ word. key_of word ≢ key) words → own key words ≡ None
+pub own_none : OthersSayNothing
 own_none key [] all = refl
 own_none key (word ∷ words) all =
     ap (λ (o : Option (List ℕ)). option_or o (given_by key word)) (own_none key words (All-tail (λ w. key_of w ≢ key) word words all))
@@ -68,3 +68,26 @@ own_last key word value (w ∷ before) after is none = ap (λ (o : Option (List 
 
 pub last_counts : LastWordCounts
 last_counts key value before after plain others = own_last key (key ++ 61 ∷ value) value before after (gives key value plain) (own_none key after others)
+
+-- ---- a keyword without a sign
+
+whole : (key : List ℕ) → bytes_eq (take (length key) key) key ≡ true
+whole [] = refl
+whole (k ∷ key) = (λ i. eq-eqb k k refl i && whole key i)
+
+none_behind : (key : List ℕ) → [] ≡ drop (length key) key
+none_behind [] = refl
+none_behind (k ∷ key) = none_behind key
+
+pub bare_counts : BareWordsCount
+bare_counts key before after plain others =
+    own_last key key [] before after (given-begun key key (no_sign key plain) [] true (whole key) (none_behind key) refl) (own_none key after others)
+
+-- ---- directories
+
+says_dir-only : (kind : Option (List ℕ)) → (says_dir kind ≡ true) ↔ (kind ≡ Some (codes "dir"))
+says_dir-only None = (λ is. absurd (cc), λ is. absurd (cc))
+says_dir-only (Some value) = (λ is. ap Some ((bytes_decides value (codes "dir")).0 is), λ is. (bytes_decides value (codes "dir")).1 (cc))
+
+pub only_dir : OnlyDirIsADirectory
+only_dir before keywords = says_dir-only (in_force (codes "type") before keywords)

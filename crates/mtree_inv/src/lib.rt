@@ -53,7 +53,7 @@ mod walk;
 pub use entry::Entry;
 pub use inventory::{Inventory, read_inventory};
 pub use laws::{
-    default_in_force, every_line_counts, faults_by_example, files_are_lawful,
+    default_in_force, every_line_counts, faults_by_example, files_are_lawful, full_paths,
     inventories_by_example, joined_lines, joined_lines_by_example, open_directories,
     words_of_mtree,
 };

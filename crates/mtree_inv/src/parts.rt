@@ -1,15 +1,14 @@
 //! A walk over the bytes of a text.
 ghost use Rattle.std.specs.Prelude.{◌≡◌, ◌<◌, ◌+◌, length, slice_index, false, Some, MatchOption};
-ghost use Rattle.std.specs.Prelude.{IfSome, OnErr};
+ghost use Rattle.std.specs.Prelude.{IfSome, OnErr, option_map};
 ghost use Rattle.idtext.specs.Faults.{fault_told};
 ghost use Rattle.idtext.specs.First.{Gives};
 ghost use Rattle.idtext.specs.declared.faults.TextCode.TheVariants.{LineTooLong};
-ghost use Rattle.mtree_inv.specs.Kinds.{kind_of_text};
 ghost use Rattle.mtree_inv.specs.Machine.{step};
-ghost use Rattle.mtree_inv.specs.Parts.{HasNoNewline, at_line};
+ghost use Rattle.mtree_inv.specs.Parts.{HasNoNewline};
 ghost use Rattle.mtree_inv.specs.Reading.{clip, clipped_kind};
 ghost use Rattle.mtree_inv.specs.Standing.{GrowAlike};
-ghost use Rattle.mtree_inv.specs.Views.{listed};
+ghost use Rattle.mtree_inv.specs.Views.{code_told, listed};
 ghost use Rattle.mtree_inv.specs.Walked.{kept_of, waiting_of};
 
 use crate::cut_hashes::CutHashes;
@@ -41,42 +40,31 @@ fn too_long(number: u64) -> ReadError
     })
 }
 
-// Goes over one logical line, whose first line has this number.
-fn take_text(walk: &mut Walk, alloc: Global, number: u64, text: &[u8]) -> Result<(), ReadError>
-    ensures exact { Gives (λ _. kept_of walk.new) fault_told result
-        (at_line number (step walk.old.files.most (kept_of walk.old) (kind_of_text text.now))) }
-    ensures grow { GrowAlike (listed walk.old.files.table) (listed walk.new.files.table)
-        (waiting_of walk.old) (waiting_of walk.new) }
-    ensures err { OnErr result (listed walk.new.files.table ≡ listed walk.old.files.table) }
-    ensures most { walk.new.files.most ≡ walk.old.files.most }
+// The fault of a logical line whose first line has this number.
+fn fault_at(number: u64, fault: LineFault) -> ReadError
+    ensures { fault_told result
+        ≡ option_map (λ code. record { code = code; line = number }) (code_told fault) }
 {
-    match walk.line(alloc, text) {
-        Ok(()) => Ok(()),
-        Err(LineFault::Memory) => Err(ReadError::Memory),
-        Err(LineFault::Code(code)) => Err(ReadError::Fault(TextFault { code, line: number })),
+    match fault {
+        LineFault::Memory => ReadError::Memory,
+        LineFault::Code(code) => ReadError::Fault(TextFault { code, line: number }),
     }
 }
 
-// The same, unless the line is too long.
+// Goes over one logical line, unless it is too long.
 #[tactic(auto, unfolding(crate::specs::Machine::step))]
-fn take_unless_long(
-    walk: &mut Walk,
-    alloc: Global,
-    number: u64,
-    text: &[u8],
-) -> Result<(), ReadError>
-    ensures exact { Gives (λ _. kept_of walk.new) fault_told result
-        (at_line number (step walk.old.files.most (kept_of walk.old)
-        (clipped_kind (clip text.now) false))) }
+fn take_unless_long(walk: &mut Walk, alloc: Global, text: &[u8]) -> Result<(), LineFault>
+    ensures exact { Gives (λ _. kept_of walk.new) code_told result
+        (step walk.old.files.most (kept_of walk.old) (clipped_kind (clip text.now) false)) }
     ensures grow { GrowAlike (listed walk.old.files.table) (listed walk.new.files.table)
         (waiting_of walk.old) (waiting_of walk.new) }
     ensures err { OnErr result (listed walk.new.files.table ≡ listed walk.old.files.table) }
     ensures most { walk.new.files.most ≡ walk.old.files.most }
 {
     if text.len() > MOST_LINE_BYTES {
-        return Err(too_long(number));
+        return Err(LineFault::Code(TextCode::LineTooLong));
     }
-    take_text(walk, alloc, number, text)
+    walk.line(alloc, text)
 }
 
 /// A reader that has met no fault.
@@ -152,7 +140,10 @@ impl Parts {
                 line: number,
             }));
         }
-        take_text(&mut self.walk, self.alloc, number, &self.in_progress.bytes)
+        match self.walk.line(self.alloc, &self.in_progress.bytes) {
+            Ok(()) => Ok(()),
+            Err(fault) => Err(fault_at(number, fault)),
+        }
     }
 
     // Takes a newline.
@@ -185,13 +176,12 @@ impl Parts {
             (waiting_in self.old) (waiting_in self.new) }
         ensures most { most_of self.new ≡ most_of self.old }
     {
-        let number = self.in_progress.first;
-        match take_unless_long(&mut self.walk, self.alloc, number, line) {
+        match take_unless_long(&mut self.walk, self.alloc, line) {
             Ok(()) => {
                 self.in_progress.restart();
                 Ok(())
             }
-            Err(fault) => Err(fault),
+            Err(fault) => Err(fault_at(self.in_progress.first, fault)),
         }
     }
 
