@@ -14,3 +14,4 @@ pub mod Moments
 pub mod Interleaved
 pub mod Halves
 pub mod TurnLaws
+pub mod OwnMarks

@@ -1,7 +1,7 @@
 -- What the turns of a plan do, whatever the tree is that they go over.
-use Rattle.std.proofs.Common.{◌≡◌, ◌≢◌, ◌+◌, ◌==◌, ℕ, suc, Bool, true, false, cond, List, [], ◌∷◌, refl, sym, ap, subst, ◌∙◌, arith}
-use Rattle.std.specs.Prelude.{Option, None, Some, Ok, Err, Result, slice_get, All, IfOk, IfErr, ⊤}
-use Rattle.std.proofs.lemmas.Bool.{and_parts, eqb-true, eq-eqb, true≢false}
+use Rattle.std.proofs.Common.{◌≡◌, ◌≢◌, ◌+◌, ◌==◌, ℕ, zero, suc, Bool, true, false, cond, List, [], ◌∷◌, inl, inr, refl, sym, ap, subst, ◌∙◌, arith}
+use Rattle.std.specs.Prelude.{◌<◌, Option, None, Some, Ok, Err, Result, slice_get, All, IfOk, IfErr, ⊤}
+use Rattle.std.proofs.lemmas.Bool.{and_parts, eqb-true, eq-eqb, false_from_ne_true, true≢false}
 use Rattle.std.proofs.lemmas.Option.{same_Some}
 use Rattle.std.proofs.lemmas.Result.{IfOk-at_ok, IfErr-at_err}
 use Rattle.std.proofs.lemmas.List.Elements.{All-nil, All-cons}
@@ -14,7 +14,7 @@ use Rattle.reown_runner.specs.declared.runner.RunFault.{RunFault}
 use Rattle.reown_runner.specs.declared.runner.RunFault.TheVariants.{Device, Missing, Unfinished, Foreign}
 use Rattle.reown_runner.specs.Step.{Turn, turn, record_turn, turn_at, marked_turn, record_place, is_new, not_new}
 use Rattle.reown_runner.specs.Tree.{Write}
-use Rattle.reown_runner.specs.TurnLaws.{OldFilesAreWritten, MarksAreLookedInto, IsToldTruly}
+use Rattle.reown_runner.specs.TurnLaws.{OldFilesAreWritten, MarksAreLookedInto, IsToldTruly, IsLookedAt, HasToBeTold}
 use Rattle.reown_runner.proofs.Turns.{turn-at_old, turn-at_new, marked-passed, marked-refused}
 
 -- ---- owners
@@ -212,3 +212,77 @@ is_told_truly records place owner mark i planned at = record {
   foreign = λ is. IfErr-at_err (Told records owner mark) is (told records place owner mark) planned at;
   unfinished = λ is. IfErr-at_err (Told records owner mark) is (told records place owner mark) planned at;
 }
+
+-- ---- what has to be told
+
+unequal : (a b : Owner) → a ≢ b → owner_eq a b ≡ false
+unequal a b apart = false_from_ne_true (owner_eq a b) (λ e. apart (same-owner a b e))
+
+-- the files of the records in front of one read as at their new owners
+abbrev NewBefore : List PlanRecord → (List ℕ → Option Owner) → ℕ → Type 0
+NewBefore records owner i = (k : ℕ) (planned : PlanRecord) → k < i → slice_get records k ≡ Some planned → owner planned.path ≡ Some planned.after
+
+is_new-after : (planned : PlanRecord) (found : Option Owner) → found ≡ Some planned.after → is_new planned found ≡ true
+is_new-after planned found e = ap (is_new planned) e ∙ owner_eq-refl planned.after
+
+-- the first file that is not new is the one that is told
+first_told : (records : List PlanRecord) (owner : List ℕ → Option Owner) (from i : ℕ) (planned : PlanRecord) → slice_get records i ≡ Some planned → NewBefore records owner i
+    → is_new planned (owner planned.path) ≡ false → marked_turn from records owner ≡ Err (not_new (from + i) planned (owner planned.path))
+first_told [] owner from i planned at before old = absurd (cc)
+first_told (p ∷ records) owner from zero planned at before old =
+    let same : p ≡ planned = same_Some p planned at in
+    let here : from ≡ from + 0 = omega arith in
+    marked-refused from p records owner (ap (λ (q : PlanRecord). is_new q (owner q.path)) same ∙ old)
+    ∙ ap (λ (q : PlanRecord). Err (not_new from q (owner q.path))) same
+    ∙ ap (λ (n : ℕ). Err (not_new n planned (owner planned.path))) here
+first_told (p ∷ records) owner from (suc i) planned at before old =
+    let next : (from + 1) + i ≡ from + suc i = omega arith in
+    marked-passed from p records owner (is_new-after p (owner p.path) (before 0 p (omega arith) refl))
+    ∙ first_told records owner (from + 1) i planned at (λ k q below there. before (suc k) q (omega arith) there) old
+    ∙ ap (λ (n : ℕ). Err (not_new n planned (owner planned.path))) next
+
+module _ (records : List PlanRecord) (owner : List ℕ → Option Owner) (mark : Bool) (i : ℕ) (planned : PlanRecord) (at : slice_get records i ≡ Some planned) where
+  tells-missing : owner planned.path ≡ None → turn records (Record i) owner mark ≡ Err (Missing i)
+  tells-missing none =
+      ap (λ (found : Option PlanRecord). turn_at records i found owner) at
+      ∙ ap (record_turn i planned (record_place records (i + 1))) none
+
+  tells-foreign : (found : Owner) → owner planned.path ≡ Some found → found ≢ planned.before → found ≢ planned.after → turn records (Record i) owner mark ≡ Err (Foreign i)
+  tells-foreign found is old new =
+      ap (λ (found : Option PlanRecord). turn_at records i found owner) at
+      ∙ ap (record_turn i planned (record_place records (i + 1))) is
+      ∙ turn-at_third i planned (record_place records (i + 1)) found (unequal found planned.before old) (unequal found planned.after new)
+
+  -- where the mark is set
+  tells_if_marked : NewBefore records owner i → (found : Option Owner) → owner planned.path ≡ found → is_new planned found ≡ false → turn records Start owner true ≡ Err (not_new i planned found)
+  tells_if_marked before found is old =
+      let whole : 0 + i ≡ i = omega arith in
+      first_told records owner 0 i planned at before (ap (is_new planned) is ∙ old)
+      ∙ ap (λ (n : ℕ). Err (not_new n planned (owner planned.path))) whole
+      ∙ ap (λ (f : Option Owner). Err (not_new i planned f)) is
+
+  tells_at : HasToBeTold records (Record i) owner mark i planned
+  tells_at = record {
+    missing = tells-missing;
+    foreign = tells-foreign;
+    unfinished = λ start. absurd (cc);
+  }
+
+  tells_at_start : NewBefore records owner i → HasToBeTold records Start owner true i planned
+  tells_at_start before = record {
+    missing = λ none. tells_if_marked before None none refl;
+    foreign = λ found is old new.
+        tells_if_marked before (Some found) is (unequal found planned.after new)
+        ∙ ap (λ (b : Bool). Err (cond b (Unfinished i) (Foreign i))) (unequal found planned.before old);
+    unfinished = λ start is apart.
+        tells_if_marked before (Some planned.before) is (unequal planned.before planned.after apart)
+        ∙ ap (λ (b : Bool). Err (cond b (Unfinished i) (Foreign i))) (owner_eq-refl planned.before);
+  }
+
+pub has_to_be_told : (records : List PlanRecord) (place : Place) (owner : List ℕ → Option Owner) (mark : Bool) (i : ℕ) (planned : PlanRecord) → slice_get records i ≡ Some planned
+    → IsLookedAt records place owner mark i → HasToBeTold records place owner mark i planned
+has_to_be_told records place owner mark i planned at (inl here) =
+    subst (λ (p : Place). HasToBeTold records p owner mark i planned) (sym here) (tells_at records owner mark i planned at)
+has_to_be_told records place owner mark i planned at (inr start) =
+    subst (λ (p : Place). HasToBeTold records p owner mark i planned) (sym start.0)
+    (subst (λ (m : Bool). HasToBeTold records Start owner m i planned) (sym start.1) (tells_at_start records owner mark i planned at start.2))

@@ -101,6 +101,14 @@ MarksNoOther plan old new =
     × ((m : Option PlanMark) → Contains new.marks_left m
     → Contains old.marks_left m ⊎ (m ≡ Some plan))
 
+-- the mark that is read is as it was, whichever plan it is of, or it is this plan's; and a stop
+-- leaves no other plan's mark that it might not have left before
+abbrev pub IsMarkedOnlyFor : PlanMark → TreeData → TreeData → Type 0
+IsMarkedOnlyFor plan old new =
+    ((new.mark ≡ old.mark) ⊎ (new.mark ≡ Some plan))
+    × ((other : PlanMark) → Contains new.marks_left (Some other)
+    → Contains old.marks_left (Some other) ⊎ (other ≡ plan))
+
 -- nothing is pending: a stop leaves what is read
 pub record IsSettled (c : Cells) : Type 0 where
   pub owner : (path : List ℕ) (x : Option Owner) → c.owner_left path x → x ≡ c.owner path

@@ -17,6 +17,7 @@ ghost use Rattle.reown_runner.specs.declared.campaign.Event.{Event};
 ghost use Rattle.reown_runner.specs.Interleaved.{AllHappen, HappensHostByHost, one_by_one};
 ghost use Rattle.reown_runner.specs.Run.{Host, HostEvent, Advances, IsRun, AreRuns};
 ghost use Rattle.reown_runner.specs.TurnLaws.{OldFilesAreWritten, MarksAreLookedInto, IsToldTruly};
+ghost use Rattle.reown_runner.specs.TurnLaws.{IsLookedAt, HasToBeTold};
 
 /// A tree that is as its inventory, and not marked for the plan, is safe and in step at the start
 /// of a plan whose paths are there at their old owners; so is a world without a history. Such a
@@ -150,11 +151,16 @@ pub fn worlds_stay_safe()
 
 /// Whatever the files of a tree are: a turn writes over none but one that reads as at the old owner
 /// of its record, a mark is believed only where each file reads as at its new owner, and what is
-/// told of a file is so.
+/// told of a file is so. Of the file that it looks at, that of its record or the first that is not
+/// at its new owner where the plan is marked, what is so is told.
 pub fn turns_look_first()
     ensures written { OldFilesAreWritten }
     ensures marked { MarksAreLookedInto }
     ensures told { (records : List PlanRecord) (place : Place) (owner : List ℕ → Option Owner)
         (mark : Bool) (i : ℕ) (planned : PlanRecord) → slice_get records i ≡ Some planned
         → IsToldTruly records place owner mark i planned }
+    ensures tells { (records : List PlanRecord) (place : Place) (owner : List ℕ → Option Owner)
+        (mark : Bool) (i : ℕ) (planned : PlanRecord) → slice_get records i ≡ Some planned
+        → IsLookedAt records place owner mark i
+        → HasToBeTold records place owner mark i planned }
 {}

@@ -4,7 +4,7 @@ ghost use Rattle.std.specs.Prelude.{map, IfOk, IfErr, OnOk, OnErr, IsOk};
 ghost use Rattle.reown_plan.specs.Records.{record_of};
 ghost use Rattle.reown_runner.specs.RunnerData.{starting};
 ghost use Rattle.reown_runner.specs.declared.runner.RunFault.TheVariants.{Device};
-ghost use Rattle.reown_runner.specs.Tree.{cells_of, Does};
+ghost use Rattle.reown_runner.specs.Tree.{cells_of, Does, IsMarkedOnlyFor};
 ghost use Rattle.reown_runner.specs.Step.{turn, marked_turn, is_new, not_new, record_turn};
 ghost use Rattle.reown_runner.specs.Step.{record_place, IsAdvance, IsTold, IsAsked, IsPlaceOf};
 ghost use Rattle.reown_runner.specs.Step.{progress_at, moved, advances_left, operations_left};
@@ -214,6 +214,7 @@ fn next_place<T: Tree>(
         (turn (map record_of records.now) place (T.known tree.old).owner
         (cells_of plan.now (T.known tree.old)).mark) (T.known tree.old).asked
         (T.known tree.new).asked }
+    ensures other { IsMarkedOnlyFor plan.now (T.known tree.old) (T.known tree.new) }
     ensures fits { IfOk result (IsPlaceOf (map record_of records.now)) }
     ensures rests { place ≡ Place.Done → IsOk result × (tree.new ≡ tree.old) }
     ensures follows { T.follows tree.old tree.new }
@@ -289,6 +290,7 @@ impl<'p, 'a> Runner<'p, 'a> {
             (cells_of self.old.mark (T.known tree.old)).mark)
             (λ operation. Does operation (cells_of self.old.mark (T.known tree.old))
             (cells_of self.old.mark (T.known tree.new))) (moved self.new.place result) }
+        ensures other { IsMarkedOnlyFor self.old.mark (T.known tree.old) (T.known tree.new) }
         ensures faults { IsTold (T.known tree.old).faults (T.known tree.new).faults result }
         ensures asked { IsAsked
             (turn self.old.records self.old.place (T.known tree.old).owner

@@ -1,9 +1,11 @@
 use Rattle.std.proofs.Common.{refl, sym, ◌∙◌, ap, subst, map, None, Ok}
 use Rattle.reown_plan.specs.Records.{record_of}
+use Rattle.reown_plan.specs.declared.mark.PlanMark.{PlanMark}
 use Rattle.reown_runner.specs.declared.runner.Place.TheVariants.{Done}
-use Rattle.reown_runner.specs.Tree.{cells_of}
-use Rattle.reown_runner.specs.Step.{IsPlaceOf, turn, marked_turn}
+use Rattle.reown_runner.specs.Tree.{cells_of, Does}
+use Rattle.reown_runner.specs.Step.{IsAdvance, IsPlaceOf, turn, marked_turn}
 use Rattle.reown_runner.proofs.Turns.{turn-start_marked, advance-behind, turn-start, turn-sync_owners, turn-mark, turn-sync_mark, turn-done, advance-done, advance-failed, asked-one, at_device, kept, record_at, record-same}
+use Rattle.reown_runner.proofs.OwnMarks.{none_comes, own_comes, in_turn, nothing, read_only, synced, may_sync, record_keeps, marked_keeps}
 use Rattle.reown_runner.proofs.runner.next_place.Goals as goal
 
 pub returns-in_err-sync-in-SyncOwners-clause-asked : goal.returns-in_err-sync-in-SyncOwners-clause-asked
@@ -80,3 +82,46 @@ pub returns-in_err-sync-in-SyncMark-clause-step : goal.returns-in_err-sync-in-Sy
 returns-in_err-sync-in-SyncMark-clause-step g c =
     at_device _ _ _ c.from_residual-in_err-sync-in-SyncMark.result c.from_residual-in_err-sync-in-SyncMark.ensures.1
     (advance-failed _ _ _ _ _ _ (turn-sync_mark _ _ _ _ c.in-SyncMark.is) (kept _) (c.in_err-sync-in-SyncMark.ensures.failed c.args.plan.now))
+
+pub returns-in_err-is_marked-in-Start-clause-other : goal.returns-in_err-is_marked-in-Start-clause-other
+returns-in_err-is_marked-in-Start-clause-other g c = none_comes c.args.plan.now (g.T.Tree.known c.args.tree.now) (g.T.Tree.known c.is_marked.new.self) (read_only (g.T.Tree.known c.args.tree.now) (g.T.Tree.known c.is_marked.new.self) c.is_marked.ensures.same)
+
+pub returns-else-branch-clause-other : goal.returns-else-branch-clause-other
+returns-else-branch-clause-other g c = none_comes c.args.plan.now (g.T.Tree.known c.args.tree.now) (g.T.Tree.known c.is_marked.new.self) (read_only (g.T.Tree.known c.args.tree.now) (g.T.Tree.known c.is_marked.new.self) c.is_marked.ensures.same)
+
+pub returns-then-branch-clause-other : goal.returns-then-branch-clause-other
+returns-then-branch-clause-other g c =
+    none_comes c.args.plan.now (g.T.Tree.known c.args.tree.now) (g.T.Tree.known c.look_over.new.tree) (in_turn (g.T.Tree.known c.args.tree.now) (g.T.Tree.known c.is_marked.new.self) (g.T.Tree.known c.look_over.new.tree) (read_only (g.T.Tree.known c.args.tree.now) (g.T.Tree.known c.is_marked.new.self) c.is_marked.ensures.same)
+    (marked_keeps (g.T.Tree.known c.is_marked.new.self) (g.T.Tree.known c.look_over.new.tree) (map record_of c.args.records.now) (g.T.Tree.known c.is_marked.new.self).owner c.look_over.result (g.met.T.Tree.readable c.is_marked.new.self) c.look_over.ensures.step))
+
+pub returns-in-Record-clause-other : goal.returns-in-Record-clause-other
+returns-in-Record-clause-other g c =
+    let records = map record_of c.args.records.now in
+    let old = g.T.Tree.known c.args.tree.now in
+    let new = g.T.Tree.known c.move_file.new.tree in
+    let fits = subst (IsPlaceOf records) c.in-Record.is c.requires in
+    let step : (plan : PlanMark) → IsAdvance (turn records c.args.place old.owner (cells_of plan old).mark) (λ operation. Does operation (cells_of plan old) (cells_of plan new)) c.move_file.result = λ plan.
+    (let same = record-same records c.args.place old.owner (cells_of plan old).mark c.in-Record.i _ c.place_of-in-Record.result c.in-Record.is (record_at record_of c.args.records.now c.in-Record.i _ fits) c.place_of-in-Record.ensures.place in
+    rw (← same) (c.move_file.ensures.step plan)) in
+    none_comes c.args.plan.now old new (record_keeps old new records c.args.place c.in-Record.i c.move_file.result (g.met.T.Tree.readable c.args.tree.now) c.in-Record.is step)
+
+pub returns-in_ok-sync-in-SyncOwners-clause-other : goal.returns-in_ok-sync-in-SyncOwners-clause-other
+returns-in_ok-sync-in-SyncOwners-clause-other g c = none_comes c.args.plan.now (g.T.Tree.known c.args.tree.now) (g.T.Tree.known c.sync.new.self) (synced (g.T.Tree.known c.args.tree.now) (g.T.Tree.known c.sync.new.self) (g.met.T.Tree.readable c.args.tree.now) c.in_ok-sync-in-SyncOwners.ensures.done)
+
+pub returns-in_err-sync-in-SyncOwners-clause-other : goal.returns-in_err-sync-in-SyncOwners-clause-other
+returns-in_err-sync-in-SyncOwners-clause-other g c = none_comes c.args.plan.now (g.T.Tree.known c.args.tree.now) (g.T.Tree.known c.sync.new.self) (may_sync (g.T.Tree.known c.args.tree.now) (g.T.Tree.known c.sync.new.self) (g.met.T.Tree.readable c.args.tree.now) c.in_err-sync-in-SyncOwners.ensures.failed)
+
+pub returns-in_ok-sync-in-SyncMark-clause-other : goal.returns-in_ok-sync-in-SyncMark-clause-other
+returns-in_ok-sync-in-SyncMark-clause-other g c = none_comes c.args.plan.now (g.T.Tree.known c.args.tree.now) (g.T.Tree.known c.sync-in-SyncMark.new.self) (synced (g.T.Tree.known c.args.tree.now) (g.T.Tree.known c.sync-in-SyncMark.new.self) (g.met.T.Tree.readable c.args.tree.now) c.in_ok-sync-in-SyncMark.ensures.done)
+
+pub returns-in_err-sync-in-SyncMark-clause-other : goal.returns-in_err-sync-in-SyncMark-clause-other
+returns-in_err-sync-in-SyncMark-clause-other g c = none_comes c.args.plan.now (g.T.Tree.known c.args.tree.now) (g.T.Tree.known c.sync-in-SyncMark.new.self) (may_sync (g.T.Tree.known c.args.tree.now) (g.T.Tree.known c.sync-in-SyncMark.new.self) (g.met.T.Tree.readable c.args.tree.now) c.in_err-sync-in-SyncMark.ensures.failed)
+
+pub returns-in_ok-set_mark-in-Mark-clause-other : goal.returns-in_ok-set_mark-in-Mark-clause-other
+returns-in_ok-set_mark-in-Mark-clause-other g c = own_comes c.args.plan.now (g.T.Tree.known c.args.tree.now) (g.T.Tree.known c.set_mark.new.self) c.set_mark.ensures.no_other
+
+pub returns-in_err-set_mark-in-Mark-clause-other : goal.returns-in_err-set_mark-in-Mark-clause-other
+returns-in_err-set_mark-in-Mark-clause-other g c = own_comes c.args.plan.now (g.T.Tree.known c.args.tree.now) (g.T.Tree.known c.set_mark.new.self) c.set_mark.ensures.no_other
+
+pub returns-in-Done-clause-other : goal.returns-in-Done-clause-other
+returns-in-Done-clause-other g c = none_comes c.args.plan.now (g.T.Tree.known c.args.tree.now) (g.T.Tree.known c.args.tree.now) (nothing (g.T.Tree.known c.args.tree.now))

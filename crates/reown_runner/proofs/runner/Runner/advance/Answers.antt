@@ -3,7 +3,7 @@ use Rattle.reown_plan.specs.PlanData.{HaveDistinctPaths}
 use Rattle.reown_runner.specs.declared.runner.Place.{Place}
 use Rattle.reown_runner.specs.declared.runner.Place.TheVariants.{Done}
 use Rattle.reown_runner.specs.declared.runner.RunFault.{RunFault}
-use Rattle.reown_runner.specs.Tree.{cells_of, Does}
+use Rattle.reown_runner.specs.Tree.{cells_of, Does, IsMarkedOnlyFor}
 use Rattle.reown_runner.specs.RunnerData.{RunnerData}
 use Rattle.reown_runner.specs.Step.{turn, IsAdvance, IsPlaceOf, IsAsked, advances_left}
 use Rattle.reown_runner.proofs.Sound.{sound_after, only_device}
@@ -96,3 +96,9 @@ returns-in-Err-clause-spends_err g c =
     let fits = subst (λ (w : RunnerData). IsPlaceOf w.records w.place) c.self.view_is c.self.invariant.1 in
     let asked = subst (λ (w : RunnerData). IsAsked (turn w.records w.place old.owner (cells_of w.mark old).mark) old.asked (g.T.Tree.known c.next_place.new.tree).asked) c.self.view_is c.next_place.ensures.asked in
     spends_err c.args.self.now.records old.owner c.args.self.now.place (cells_of c.args.self.now.mark old).mark old.asked (g.T.Tree.known c.next_place.new.tree).asked fits asked
+
+pub returns-in-Ok-clause-other : goal.returns-in-Ok-clause-other
+returns-in-Ok-clause-other g c = subst (λ (w : RunnerData). IsMarkedOnlyFor w.mark (g.T.Tree.known c.args.tree.now) (g.T.Tree.known c.next_place.new.tree)) c.self.view_is c.next_place.ensures.other
+
+pub returns-in-Err-clause-other : goal.returns-in-Err-clause-other
+returns-in-Err-clause-other g c = subst (λ (w : RunnerData). IsMarkedOnlyFor w.mark (g.T.Tree.known c.args.tree.now) (g.T.Tree.known c.next_place.new.tree)) c.self.view_is c.next_place.ensures.other
