@@ -1,16 +1,19 @@
 -- What the calls of a root ask of a file, what they answer and what they write down.
-use Rattle.std.proofs.Common.{◌≡◌, ◌↔◌, ◌∷◌, [], ◌||◌, ℕ, Bool, true, false, cond, List, refl, sym, ◌∙◌, ap, subst, ◌++◌, codes}
+use Rattle.std.proofs.Common.{Option, Some, None, ◌≡◌, ◌↔◌, ◌∷◌, [], ◌||◌, ℕ, Bool, true, false, cond, List, refl, sym, ◌∙◌, ap, subst, ◌++◌, codes}
+use Rattle.reown_plan.specs.declared.mark.PlanMark.{PlanMark}
 use Rattle.reown_plan.specs.declared.plan.Owner.{Owner}
 use Rattle.reown_plan.specs.Owners.{owner_eq}
 use Rattle.reown_files.specs.declared.walk.Found.{Found}
 use Rattle.reown_files.specs.declared.walk.Kind.TheVariants.{Regular}
 use Rattle.reown_files.specs.Asked.{Asked, Told, Counted, ModeGiven, Synced, IsModeSet, IsKept, HasOneOwner, met, line_of}
+use Rattle.reown_files.specs.Done.{Done}
 use Rattle.reown_files.specs.Looks.{seen_of, is_other}
 use Rattle.reown_files.specs.NamesExample.{path, told, program, file_at, twice, both_met}
 use Rattle.reown_files.specs.OneFile.{HasLost}
-use Rattle.reown_files.specs.RootData.{IsMet}
-use Rattle.reown_files.specs.RootExample.{root, bare, whole, ExampleOfAnswers, ExampleOfMet, ExampleOfLost, ExampleOfChanges}
-use Rattle.reown_files.specs.Runs.{new, foreign}
+use Rattle.reown_files.specs.RootData.{IsMet, IsLostOf}
+use Rattle.reown_files.specs.RootExample.{root, bare, whole, ExampleOfAnswers, ExampleOfMet, ExampleOfLost, ExampleOfChanges, ExampleOfMarks}
+use Rattle.reown_files.specs.Runs.{old, new, foreign}
+use Rattle.reown_files.proofs.Laws.{differ}
 use Rattle.reown_files.proofs.LooksExample.{all_names, lost_modes}
 
 -- two looks that are one told one file
@@ -90,6 +93,19 @@ answers =
 
 -- ---- modes that are lost, modes that are set, and files that are kept
 
+new_is_not_old : ¬ (new ≡ old)
+new_is_not_old e = differ 200 100 refl (ap (λ (o : Owner). o.uid) e)
+
+-- a mode that a look at this file tells as lost is this one, where the file has lost it
+told_lost : (owner : Owner) (a found : Found) (mode : Option ℕ) → Told path a ∷ [] ≡ Told path found ∷ [] → a.owner ≡ owner → HasLost a 2541 → IsLostOf owner found 2541 mode → mode ≡ Some 2541
+told_lost owner a found None e own lost h = absurd (h (subst (λ (f : Found). (f.owner ≡ owner) × HasLost f 2541) (same a found e) (own, lost)))
+told_lost owner a found (Some mode) e own lost h = ap Some h.0
+
+-- and none is told where it has not
+told_none : (owner : Owner) (a found : Found) (mode : Option ℕ) → Told path a ∷ [] ≡ Told path found ∷ [] → ¬ ((a.owner ≡ owner) × HasLost a 2541) → IsLostOf owner found 2541 mode → mode ≡ None
+told_none owner a found None e kept h = refl
+told_none owner a found (Some mode) e kept h = absurd (kept (subst (λ (f : Found). (f.owner ≡ owner) × HasLost f 2541) (sym (same a found e)) (h.1, h.2)))
+
 pub lost_roots : ExampleOfLost
 lost_roots =
     record {
@@ -98,6 +114,20 @@ lost_roots =
         λ is. (bare, sym is, lost_modes.set_user, refl),
       );
       other_mode = λ h. lost_modes.other_bits (subst (λ (f : Found). HasLost f 2541) (sym (same (file_at new Regular 448 1) h.0 h.3)) h.2);
+      told = λ mode. (
+        λ h. told_lost new bare h.0 mode h.2 refl lost_modes.set_user h.1,
+        λ is. (bare, subst (λ (m : Option ℕ). IsLostOf new bare 2541 m) (sym is) (refl, refl, lost_modes.set_user), refl),
+      );
+      other_owner = λ mode. (
+        λ h. told_none old bare h.0 mode h.2 (λ l. new_is_not_old l.0) h.1,
+        λ is. (bare, subst (λ (m : Option ℕ). IsLostOf old bare 2541 m) (sym is) (λ l. new_is_not_old l.0), refl),
+      );
+      not_lost = λ mode. (
+        λ h. told_none new whole h.0 mode h.2 (λ l. lost_modes.none l.1) h.1,
+        λ is. (whole, subst (λ (m : Option ℕ). IsLostOf new whole 2541 m) (sym is) (λ l. lost_modes.none l.1), refl),
+      );
+      not_read = λ mode. (λ h. h.0, λ is. (is, refl));
+      not_looked = λ mode h. let e : [] ≡ Told path h.0 ∷ [] = h.2 in absurd cc;
     }
 
 mode_set : (mode : ℕ) → IsModeSet path new mode [] (ModeGiven path 2541 ∷ Told path bare ∷ []) ↔ (mode ≡ 2541)
@@ -132,3 +162,8 @@ kept_unsynced false = (
 
 pub changes : ExampleOfChanges
 changes = record { mode = mode_set; no_mode = mode_left; synced = kept_synced; unsynced = kept_unsynced }
+
+-- ---- the mark
+
+pub marks : (plan : PlanMark) (before : List Done) → ExampleOfMarks plan before
+marks plan before = record { there = refl; not_there = refl; put = refl; not_put = refl }

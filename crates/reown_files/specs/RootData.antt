@@ -1,20 +1,31 @@
 -- The files below a directory, as their user sees them.
 -- Source: this project's own rule.
 use Rattle.std.specs.Prelude.{◌≡◌, ℕ, Bool, List, ◌∷◌, ◌++◌}
+use Rattle.std.specs.Prelude.{Option, None, Some, Vec}
+use Rattle.std.specs.declared.alloc.Global.{Global}
+use Rattle.reown_plan.specs.declared.mark.PlanMark.{PlanMark}
 use Rattle.reown_plan.specs.declared.plan.Owner.{Owner}
 use Rattle.reown_files.specs.declared.answers.Seen.{Seen}
 use Rattle.reown_files.specs.declared.walk.Found.{Found}
 use Rattle.reown_files.specs.Asked.{Asked, Told, met, line_of, HasOneOwner}
 use Rattle.reown_files.specs.Calls.{Called}
+use Rattle.reown_files.specs.Done.{Done}
 use Rattle.reown_files.specs.Looks.{seen_of}
 use Rattle.reown_files.specs.OneFile.{HasLost}
+use Rattle.reown_files.specs.Trees.{mode_noted_for}
 
 -- whether one sync keeps all that was changed before; what the system was asked of the files; the
--- lines of those whose modes this run may lose; and the calls that were made
+-- lines of those whose modes this run may lose; the plan that modes were read of, and these by the
+-- paths of their files; whether this run has put the mark; what was done to the mark, to the file
+-- of the modes and to the root; and the calls that were made
 pub record RootData : Type 0 where
   pub has_one_journal : Bool
   pub files : List Asked
   pub lines : List ℕ
+  pub read : Option PlanMark
+  pub modes : List (Vec ℕ Global × ℕ)
+  pub is_put : Bool
+  pub done : List Done
   pub calls : List Called
 
 -- a look, of which this is told
@@ -39,3 +50,25 @@ abbrev pub HasLostAt : List ℕ → Owner → ℕ → RootData → RootData → 
 HasLostAt path owner mode old new =
     (found : Found) × (found.owner ≡ owner) × HasLost found mode
     × (new.files ≡ Told path found ∷ old.files)
+
+-- what is told as lost of a file that was found so, of which this mode was read: the mode, where
+-- the file has this owner and has lost bits of it, and else none
+abbrev pub IsLostOf : Owner → Found → ℕ → Option ℕ → Type 0
+IsLostOf owner found mode (Some lost) =
+    (lost ≡ mode) × (found.owner ≡ owner) × HasLost found mode
+IsLostOf owner found mode None = ¬ ((found.owner ≡ owner) × HasLost found mode)
+
+-- what is told as lost of a file, of which this mode was read or none: it is looked at only where
+-- one was
+abbrev pub TellsLost : List ℕ → Owner → Option ℕ → Option ℕ → List Asked → List Asked → Type 0
+TellsLost path owner None lost old new = (lost ≡ None) × (new ≡ old)
+TellsLost path owner (Some mode) lost old new =
+    (found : Found) × IsLostOf owner found mode lost × (new ≡ Told path found ∷ old)
+
+-- the mode that was read of a plan for a file
+abbrev pub mode_noted : PlanMark → List ℕ → RootData → Option ℕ
+mode_noted plan path root = mode_noted_for root.read root.modes plan path
+
+-- nothing was done to the mark, to the file of the modes or to the root
+abbrev pub LeavesMark : RootData → RootData → Type 0
+LeavesMark old new = (new.is_put ≡ old.is_put) × (new.done ≡ old.done)

@@ -1,21 +1,35 @@
--- What the calls of a root ask of a file, what they answer and what they write down, by example.
+-- What the calls of a root ask of a file, what they answer and write down, and what they do to the
+-- mark, by example.
 -- Sources: inode(7) for the bits of a mode: 2541, 493 and 448 are 4755, 755 and 700 to the base 8;
 -- chown(2) for the bits that a change of the owner clears. All else is this project's own rule.
 use Rattle.std.specs.Prelude.{◌≡◌, ◌↔◌, ℕ, Bool, true, false, List, [], ◌∷◌, codes}
+use Rattle.std.specs.Prelude.{Option, None, Some}
+use Rattle.reown_plan.specs.declared.mark.PlanMark.{PlanMark}
 use Rattle.reown_plan.specs.declared.plan.Owner.{Owner}
 use Rattle.reown_files.specs.declared.answers.Seen.{Seen}
 use Rattle.reown_files.specs.declared.walk.Found.{Found}
 use Rattle.reown_files.specs.declared.walk.Kind.TheVariants.{Regular}
 use Rattle.reown_files.specs.Asked.{Asked, Told, Counted, ModeGiven, Synced, IsModeSet, IsKept}
+use Rattle.reown_files.specs.Done.{Done, MarkSeen, MarkSynced, ModesForgotten, mark_met, mark_kept}
 use Rattle.reown_files.specs.NamesExample.{path, told, program, file_at, at_old, twice, both_met}
 use Rattle.reown_files.specs.RootData.{RootData, IsSeen, IsSeenAt, IsMet, HasLostAt}
+use Rattle.reown_files.specs.RootData.{TellsLost}
 use Rattle.reown_files.specs.Runs.{old, new, foreign}
 
 -- a root with one journal or without, what the system was asked of its files, and the lines of
 -- modes that were written down
 abbrev pub root : Bool → List Asked → List ℕ → RootData
 root one_journal files lines =
-    record { has_one_journal = one_journal; files = files; lines = lines; calls = [] }
+    record {
+      has_one_journal = one_journal;
+      files = files;
+      lines = lines;
+      read = None;
+      modes = [];
+      is_put = false;
+      done = [];
+      calls = [];
+    }
 
 -- one without a journal and without lines, of whose files this was asked
 abbrev pub asked : List Asked → RootData
@@ -63,11 +77,21 @@ pub record ExampleOfMet : Type 0 where
       (asked both_met) (asked (Counted path twice foreign ∷ Told path twice ∷ both_met))
 
 -- a mode is lost where the file has the owner that is named and lacks a set-ID bit of it; and not
--- where somebody has set another mode
+-- where somebody has set another mode. The mode that was read is told exactly where it is lost, and
+-- none where none was read
 pub record ExampleOfLost : Type 0 where
   pub lost : (owner : Owner)
       → HasLostAt path owner 2541 (asked []) (looked_at bare) ↔ (owner ≡ new)
   pub other_mode : ¬ HasLostAt path new 2541 (asked []) (looked_at (file_at new Regular 448 1))
+  pub told : (mode : Option ℕ)
+      → TellsLost path new (Some 2541) mode [] (Told path bare ∷ []) ↔ (mode ≡ Some 2541)
+  pub other_owner : (mode : Option ℕ)
+      → TellsLost path old (Some 2541) mode [] (Told path bare ∷ []) ↔ (mode ≡ None)
+  pub not_lost : (mode : Option ℕ)
+      → TellsLost path new (Some 2541) mode [] (Told path whole ∷ []) ↔ (mode ≡ None)
+  pub not_read : (mode : Option ℕ)
+      → TellsLost path new None mode [] [] ↔ (mode ≡ None)
+  pub not_looked : (mode : Option ℕ) → ¬ TellsLost path new (Some 2541) mode [] []
 
 -- a file is given the mode that is named, and no other or none; one that is kept is synced exactly
 -- where there is not one journal
@@ -80,3 +104,12 @@ pub record ExampleOfChanges : Type 0 where
       ↔ (one_journal ≡ false)
   pub unsynced : (one_journal : Bool)
       → IsKept one_journal path new [] (Told path whole ∷ []) ↔ (one_journal ≡ true)
+
+-- a mark that is there is looked at and then synced when it is met; one that is kept is synced, and
+-- the modes are forgotten after that, exactly where this run has put it; each is noted after what
+-- was done before
+pub record ExampleOfMarks (plan : PlanMark) (before : List Done) : Type 0 where
+  pub there : mark_met plan true before ≡ MarkSynced ∷ MarkSeen plan true ∷ before
+  pub not_there : mark_met plan false before ≡ MarkSeen plan false ∷ before
+  pub put : mark_kept true before ≡ ModesForgotten ∷ MarkSynced ∷ before
+  pub not_put : mark_kept false before ≡ MarkSynced ∷ before

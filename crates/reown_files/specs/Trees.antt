@@ -1,12 +1,15 @@
--- What search trees have of files with several names.
+-- What search trees have of files: of their names, where they have several, and of their modes.
 -- Keys that own their bytes, and their order: words of the code and not of the subject.
-use Rattle.std.specs.Prelude.{ℕ, Bool, List, Option, Vec}
+use Rattle.std.specs.Prelude.{ℕ, Bool, List, Option, None, Some, Vec, if◌then◌else◌}
 use Rattle.std.specs.declared.alloc.Global.{Global}
 use Rattle.std.specs.declared.cmp.Ordering.{Ordering}
 use Rattle.std.specs.Ordering.{nat_cmp, ordering_then}
 use Rattle.std.specs.Cmp.Lexicographic.{slice_cmp}
-use Rattle.std.specs.BTreeMap.{BTreeMap, get}
+use Rattle.std.specs.BTreeMap.{BTreeMap, get, is_at}
+use Rattle.std.specs.Map.{lookup}
 use Rattle.std.specs.BTreeSet.{BTreeSet, contains_by}
+use Rattle.reown_plan.specs.declared.mark.PlanMark.{PlanMark}
+use Rattle.reown_plan.specs.Mark.{mark_eq}
 use Rattle.reown_files.specs.declared.names.Names.{Names}
 use Rattle.reown_files.specs.Looks.{FileId}
 
@@ -19,3 +22,13 @@ names_at tree id = get id_cmp tree id
 
 abbrev pub has_path : BTreeSet (Vec ℕ Global) → List ℕ → Bool
 has_path tree path = contains_by (λ key. slice_cmp nat_cmp path key.items) tree
+
+abbrev pub mode_at : List (Vec ℕ Global × ℕ) → List ℕ → Option ℕ
+mode_at entries path = lookup (is_at (λ key. slice_cmp nat_cmp path key.items)) entries
+
+-- the mode that was read of a plan for a file; none where none was read, or those of another plan
+abbrev pub mode_noted_for
+    : Option PlanMark → List (Vec ℕ Global × ℕ) → PlanMark → List ℕ → Option ℕ
+mode_noted_for None entries plan path = None
+mode_noted_for (Some read) entries plan path =
+    if mark_eq read plan then mode_at entries path else None

@@ -8,6 +8,7 @@ mod below;
 mod by_example;
 mod comparing;
 mod counting;
+mod deeds;
 mod disk;
 mod file_laws;
 mod files;

@@ -1,9 +1,11 @@
 //! The mark of a plan, as a file.
-ghost use Rattle.std.specs.Prelude.{◌≡◌, ◌⊎◌, ◌++◌, ◌<◌, Some, None, IfOk, IfErr, OnOk};
+ghost use Rattle.std.specs.Prelude.{◌≡◌, ◌⊎◌, ◌++◌, ◌<◌, ◌∷◌, Some, None, IfOk, IfErr, OnOk};
 ghost use Rattle.reown_files.specs.declared.answers.Trouble.TheVariants.{Memory, NotMark};
+ghost use Rattle.reown_files.specs.Done.{MarkSeen, MarkPut, MarkSynced};
 ghost use Rattle.reown_files.specs.MarkText as spec;
 
 use crate::Trouble;
+use crate::deeds::{Deed, DeedLog};
 use crate::whole_file::{put_whole, read_whole, sync_name};
 use idtext::push_number;
 use reown_plan::PlanMark;
@@ -105,21 +107,33 @@ impl<'w> MarkFile<'w> {
 
     /// Whether it is there, and this plan's. A file that is no mark is refused; that of another
     /// plan is none of this one.
-    pub fn is_there(&self, plan: &PlanMark) -> Result<bool, Trouble> {
-        match self.text()? {
-            Some(text) => read_mark(self.rt.alloc(), plan, &text),
-            None => Ok(false),
-        }
+    pub fn is_there(&self, plan: &PlanMark, deeds: &mut DeedLog) -> Result<bool, Trouble>
+        ensures { IfOk result (λ set. deeds.new.done ≡ MarkSeen plan.now set ∷ deeds.old.done) }
+    {
+        let is_there = match self.text()? {
+            Some(text) => read_mark(self.rt.alloc(), plan, &text)?,
+            None => false,
+        };
+        deeds.note(&Deed::MarkSeen(plan, is_there));
+        Ok(is_there)
     }
 
     /// Puts this plan's there, whole or not at all.
-    pub fn put(&self, plan: &PlanMark) -> Result<(), Trouble> {
+    pub fn put(&self, plan: &PlanMark, deeds: &mut DeedLog) -> Result<(), Trouble>
+        ensures { OnOk result (deeds.new.done ≡ MarkPut plan.now ∷ deeds.old.done) }
+    {
         let text = mark_text(self.rt.alloc(), plan)?;
-        put_whole(self.rt, self.path.as_str(), &text)
+        put_whole(self.rt, self.path.as_str(), &text)?;
+        deeds.note(&Deed::MarkPut(plan));
+        Ok(())
     }
 
     /// Waits until its name has reached the device.
-    pub fn sync(&self) -> Result<(), Trouble> {
-        sync_name(self.rt, self.path.as_str())
+    pub fn sync(&self, deeds: &mut DeedLog) -> Result<(), Trouble>
+        ensures { OnOk result (deeds.new.done ≡ MarkSynced ∷ deeds.old.done) }
+    {
+        sync_name(self.rt, self.path.as_str())?;
+        deeds.note(&Deed::MarkSynced);
+        Ok(())
     }
 }

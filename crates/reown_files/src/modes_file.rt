@@ -3,19 +3,22 @@
 //! this is for a stop between the two. It is there, with or without modes, from before the first
 //! change until the mark is synced, so that a plan which was begun is known by it.
 ghost use Rattle.std.specs.Prelude.{◌≡◌, ◌<◌, ◌+◌, ◌++◌, ◌↔◌, Some, IfOk, IfSome, IsTrue, OnOk};
-ghost use Rattle.std.specs.Prelude.{[], if◌then◌else◌};
+ghost use Rattle.std.specs.Prelude.{[], ◌∷◌, if◌then◌else◌};
 ghost use Rattle.std.specs.Prelude.{IfErr, None, Ok, Err, false, map, length, ◌≤◌, ◌⊎◌};
 ghost use Rattle.std.specs.Option.{option_copied};
 ghost use Rattle.reown_files.specs.declared.answers.Trouble.TheVariants.{NotModes, Memory};
 ghost use Rattle.reown_files.specs.declared.answers.Trouble.TheVariants.{TooManyModes};
+ghost use Rattle.reown_files.specs.Done.{ModesRead, ModesPut, ModesForgotten};
 ghost use Rattle.reown_files.specs.Looks as looks;
 ghost use Rattle.reown_files.specs.OneFile.{HasLost};
 ghost use Rattle.idtext.specs.Escapes.{unescaped, has_bad_escape};
 ghost use Rattle.idtext.specs.Pieces.{lines as lines_of_text};
 ghost use Rattle.reown_files.specs.MarkText as spec;
 ghost use Rattle.reown_files.specs.ModesNoted.{entry_of};
+ghost use Rattle.reown_files.specs.Trees.{mode_noted_for};
 
 use crate::Trouble;
+use crate::deeds::{Deed, DeedLog};
 use crate::mark_file::{HEAD as MARK_HEAD, MarkFile, push_plan};
 use crate::walk::{Found, Kind, SET_ID, if_there};
 use crate::whole_file::{path_with, put_whole, read_whole, sync_name};
@@ -248,9 +251,9 @@ fn judge<'t>(text: &'t [u8], head: &[u8], mark: &[u8]) -> Result<Option<&'t [u8]
 pub struct ModesFile<'w> {
     rt: &'w HostRuntime,
     path: String,
-    // The plan that an earlier run of it wrote modes down for, and those.
-    plan: Option<PlanMark>,
-    noted: BTreeMap<Vec<u8>, u32>,
+    /// The plan that an earlier run of it wrote modes down for, and those.
+    pub plan: Option<PlanMark>,
+    pub noted: BTreeMap<Vec<u8>, u32>,
     // Whether the mark of this run's plan was there, which has nothing to change then.
     is_over: bool,
     /// The lines of the files that this run may lose modes of.
@@ -315,16 +318,29 @@ impl<'w> ModesFile<'w> {
         plan: &PlanMark,
         is_marked: bool,
         mark: &MarkFile<'_>,
-    ) -> Result<bool, Trouble> {
+        deeds: &mut DeedLog,
+    ) -> Result<bool, Trouble>
+        ensures { IfOk result
+            (λ begun. deeds.new.done ≡ ModesRead plan.now is_marked begun ∷ deeds.old.done) }
+    {
         self.is_over = is_marked;
-        match read_whole(self.rt, self.path.as_str(), MOST_BYTES, Trouble::NotModes)? {
-            Some(text) => self.read_text(plan, &text, mark),
-            None => Ok(false),
-        }
+        let is_begun = match read_whole(
+            self.rt,
+            self.path.as_str(),
+            MOST_BYTES,
+            Trouble::NotModes,
+        )? {
+            Some(text) => self.read_text(plan, &text, mark)?,
+            None => false,
+        };
+        deeds.note(&Deed::ModesRead(plan, is_marked, is_begun));
+        Ok(is_begun)
     }
 
     /// The mode that was read for a file of this plan.
-    pub fn noted(&self, plan: &PlanMark, path: &[u8]) -> Option<u32> {
+    pub fn noted(&self, plan: &PlanMark, path: &[u8]) -> Option<u32>
+        ensures { result ≡ mode_noted_for self.now.plan self.now.noted.entries plan.now path.now }
+    {
         match self.plan {
             Some(read) if read == *plan => self.noted.get(path).copied(),
             _ => None,
@@ -337,10 +353,10 @@ impl<'w> ModesFile<'w> {
         Ok(())
     }
 
-    /// Puts there what this run of the plan may lose, be it nothing, whole and synced. Where its
-    /// mark was there the file is removed. What would be too long to be read back is refused, and
-    /// nothing is written.
-    pub fn put(&mut self, plan: &PlanMark) -> Result<(), Trouble> {
+    // Puts there what this run of the plan may lose, be it nothing, whole and synced. Where its
+    // mark was there the file is removed. What would be too long to be read back is refused, and
+    // nothing is written.
+    fn write(&mut self, plan: &PlanMark) -> Result<(), Trouble> {
         if self.is_over {
             return self.remove();
         }
@@ -350,8 +366,17 @@ impl<'w> ModesFile<'w> {
         sync_name(self.rt, self.path.as_str())
     }
 
-    /// Removes what this run has put there.
-    pub fn forget(&mut self) -> Result<(), Trouble> {
+    /// The same, and notes it.
+    pub fn put(&mut self, plan: &PlanMark, deeds: &mut DeedLog) -> Result<(), Trouble>
+        ensures { OnOk result (deeds.new.done ≡ ModesPut plan.now ∷ deeds.old.done) }
+    {
+        self.write(plan)?;
+        deeds.note(&Deed::ModesPut(plan));
+        Ok(())
+    }
+
+    // Removes what this run has put there.
+    fn clear(&mut self) -> Result<(), Trouble> {
         if !self.is_put {
             return Ok(());
         }
@@ -360,5 +385,14 @@ impl<'w> ModesFile<'w> {
             Err(Trouble::System(number)) => Err(Trouble::OfModes(number)),
             told => told,
         }
+    }
+
+    /// The same, and notes it.
+    pub fn forget(&mut self, deeds: &mut DeedLog) -> Result<(), Trouble>
+        ensures { OnOk result (deeds.new.done ≡ ModesForgotten ∷ deeds.old.done) }
+    {
+        self.clear()?;
+        deeds.note(&Deed::ModesForgotten);
+        Ok(())
     }
 }

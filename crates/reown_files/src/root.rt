@@ -1,12 +1,17 @@
 //! The files below a directory of the system, as a disk.
 ghost use Rattle.std.specs.Prelude.{◌≡◌, [], ◌∷◌, true, false, None, Some};
-ghost use Rattle.std.specs.Prelude.{IfOk, IfErr, IfSome, OnOk, OnErr, is_ok};
+ghost use Rattle.std.specs.Prelude.{IfOk, IfErr, IfSome, OnOk, OnErr, is_ok, ◌||◌};
 ghost use Rattle.reown_files.specs.Asked.{HasNamesMet, LacksNames, IsGiven, IsModeSet, IsKept};
 ghost use Rattle.reown_files.specs.Calls.{Looked, Met, CheckedLinks, Saw, NotSeen, Gave, SetMode};
-ghost use Rattle.reown_files.specs.Calls.{Kept, LostMode};
-ghost use Rattle.reown_files.specs.RootData.{IsSeen, IsSeenAt, IsMet, HasLostAt};
+ghost use Rattle.reown_files.specs.Calls.{Kept, LostMode, MetMark, MarkNotSeen, Settled, SawMark};
+ghost use Rattle.reown_files.specs.Calls.{PutMark, ReadModes, PutModes, KeptMark};
+ghost use Rattle.reown_files.specs.Done.{MarkSeen, MarkPut, ModesRead, ModesPut, RootSettled};
+ghost use Rattle.reown_files.specs.Done.{mark_met, mark_kept};
+ghost use Rattle.reown_files.specs.RootData.{IsSeen, IsSeenAt, IsMet, HasLostAt, TellsLost};
+ghost use Rattle.reown_files.specs.RootData.{mode_noted, LeavesMark};
 
 use crate::below::Below;
+use crate::deeds::DeedLog;
 use crate::mark_file::MarkFile;
 use crate::modes_file::{ModesFile, has_lost};
 use crate::walk::{Directory, if_there};
@@ -33,6 +38,7 @@ pub struct Root<'w> {
     modes: ModesFile<'w>,
     // Whether the mark was put.
     is_put: bool,
+    deeds: DeedLog,
     log: Log,
 }
 
@@ -45,6 +51,10 @@ impl<'w> Model for Root<'w> {
       has_one_journal = r.below.has_one_journal;
       files = r.below.files;
       lines = r.modes.lines.items;
+      read = r.modes.plan;
+      modes = r.modes.noted.entries;
+      is_put = r.is_put;
+      done = r.deeds.done;
       calls = r.log.calls;
     } };
 }
@@ -91,6 +101,7 @@ impl<'w> Root<'w> {
         ensures fresh { IfOk result
             (λ root. (root.calls ≡ []) × (root.files ≡ []) × (root.lines ≡ [])) }
         ensures journals { IfOk result (λ root. root.has_one_journal ≡ false) }
+        ensures undone { IfOk result (λ root. (root.is_put ≡ false) × (root.done ≡ [])) }
     {
         let root = Directory::at(rt, path)?;
         root.lock()?;
@@ -102,6 +113,7 @@ impl<'w> Root<'w> {
             mark: MarkFile::at(rt, mark),
             _home: home,
             is_put: false,
+            deeds: DeedLog::new(),
             log: Log::new(),
         })
     }
@@ -119,6 +131,7 @@ impl<'w> Root<'w> {
         ensures met { IfOk result (λ seen. IfSome seen
             (λ owner. IsMet path.now after owner self.old self.new)) }
         ensures calls { self.new.calls ≡ self.old.calls }
+        ensures mark { LeavesMark self.old self.new }
     {
         let Some(found) = if_there(self.below.meet(path, after))? else {
             return Ok(None);
@@ -131,11 +144,12 @@ impl<'w> Root<'w> {
 
     // Whether the mark is there. One that is, is synced.
     fn met_mark(&mut self, plan: &PlanMark) -> Result<bool, Trouble>
-        ensures { self.new ≡ self.old }
+        ensures same { self.new ≡ record self.old { done = self.new.done } }
+        ensures met { IfOk result (λ set. self.new.done ≡ mark_met plan.now set self.old.done) }
     {
-        let is_there = self.mark.is_there(plan)?;
+        let is_there = self.mark.is_there(plan, &mut self.deeds)?;
         if is_there {
-            self.mark.sync()?;
+            self.mark.sync(&mut self.deeds)?;
         }
         Ok(is_there)
     }
@@ -144,7 +158,10 @@ impl<'w> Root<'w> {
     fn lost(&mut self, plan: &PlanMark, path: &[u8], owner: Owner) -> Result<Option<u32>, Trouble>
         ensures lost { IfOk result (λ lost. IfSome lost
             (λ mode. HasLostAt path.now owner mode self.old self.new)) }
+        ensures tells { IfOk result (λ lost. TellsLost path.now owner
+            (mode_noted plan.now path.now self.old) lost self.old.files self.new.files) }
         ensures calls { self.new.calls ≡ self.old.calls }
+        ensures mark { LeavesMark self.old self.new }
     {
         let Some(mode) = self.modes.noted(plan, path) else {
             return Ok(None);
@@ -159,11 +176,14 @@ impl<'w> Root<'w> {
 
     // Syncs the mark, and forgets the modes that this run wrote down where it has put the mark.
     fn finish(&mut self) -> Result<(), Trouble>
-        ensures { self.new.calls ≡ self.old.calls }
+        ensures calls { self.new.calls ≡ self.old.calls }
+        ensures kept { OnOk result (self.new.done ≡ mark_kept self.old.is_put self.old.done) }
+        ensures stays { self.new.is_put ≡ self.old.is_put }
     {
-        self.mark.sync()?;
+        // A stop before the mark has reached its device has to find the modes.
+        self.mark.sync(&mut self.deeds)?;
         if self.is_put {
-            self.modes.forget()?;
+            self.modes.forget(&mut self.deeds)?;
         }
         Ok(())
     }
@@ -179,6 +199,7 @@ impl<'w> Disk for Root<'w> {
             (λ seen. IsSeen path.now seen self.old self.new)) }
         ensures failed { IfErr result
             (λ trouble. self.new.calls ≡ NotSeen path.now trouble ∷ self.old.calls) }
+        ensures mark { LeavesMark self.old self.new }
     {
         let told = if_there(self.below.see(path));
         self.log.note(&match told {
@@ -195,6 +216,7 @@ impl<'w> Disk for Root<'w> {
             (λ owner. IsMet path.now after owner self.old self.new)) }
         ensures failed { IfErr result
             (λ trouble. self.new.calls ≡ NotSeen path.now trouble ∷ self.old.calls) }
+        ensures mark { LeavesMark self.old self.new }
     {
         let told = self.met(path, after);
         self.log.note(&match told {
@@ -204,7 +226,14 @@ impl<'w> Disk for Root<'w> {
         told
     }
 
-    fn meet_mark(&mut self, plan: &PlanMark) -> Result<bool, Trouble> {
+    fn meet_mark(&mut self, plan: &PlanMark) -> Result<bool, Trouble>
+        ensures met { IfOk result
+            (λ set. self.new.calls ≡ MetMark plan.now set ∷ self.old.calls) }
+        ensures synced { IfOk result (λ set. self.new.done ≡ mark_met plan.now set self.old.done) }
+        ensures failed { IfErr result
+            (λ trouble. self.new.calls ≡ MarkNotSeen plan.now trouble ∷ self.old.calls) }
+        ensures stays { self.new.is_put ≡ self.old.is_put }
+    {
         let told = self.met_mark(plan);
         self.log.note(&match told {
             Ok(is_there) => Call::MetMark(plan, is_there),
@@ -218,6 +247,7 @@ impl<'w> Disk for Root<'w> {
         ensures checked { OnOk result (HasNamesMet path.now self.old.files self.new.files) }
         ensures refused { IfErr result
             (λ trouble. LacksNames path.now trouble self.old.files self.new.files) }
+        ensures mark { LeavesMark self.old self.new }
     {
         let told = self.below.check_links(path);
         self.log.note(&Call::CheckedLinks(path, told.is_ok()));
@@ -230,6 +260,7 @@ impl<'w> Disk for Root<'w> {
             (λ owner. IsSeenAt path.now owner self.old self.new)) }
         ensures failed { IfErr result
             (λ trouble. self.new.calls ≡ NotSeen path.now trouble ∷ self.old.calls) }
+        ensures mark { LeavesMark self.old self.new }
     {
         let told = if_there(self.below.owner(path));
         self.log.note(&match told {
@@ -246,6 +277,7 @@ impl<'w> Disk for Root<'w> {
             IsGiven path.now before after modes self.old.files self.new.files) }
         ensures failed { OnErr result
             (self.new.calls ≡ Gave path.now before after None ∷ self.old.calls) }
+        ensures mark { LeavesMark self.old self.new }
     {
         match self.below.give(path, before, after) {
             Ok(modes) => {
@@ -263,6 +295,7 @@ impl<'w> Disk for Root<'w> {
         ensures noted { self.new.calls
             ≡ SetMode path.now owner mode (is_ok result) ∷ self.old.calls }
         ensures set { OnOk result (IsModeSet path.now owner mode self.old.files self.new.files) }
+        ensures mark { LeavesMark self.old self.new }
     {
         let told = self.below.set_mode(path, owner, mode);
         self.log
@@ -274,20 +307,32 @@ impl<'w> Disk for Root<'w> {
         ensures noted { self.new.calls ≡ Kept path.now owner (is_ok result) ∷ self.old.calls }
         ensures kept { OnOk result
             (IsKept self.old.has_one_journal path.now owner self.old.files self.new.files) }
+        ensures mark { LeavesMark self.old self.new }
     {
         let told = self.below.keep(path, owner);
         self.log.note(&Call::Kept(path, owner, told.is_ok()));
         told
     }
 
-    fn settle(&mut self) -> Result<(), Trouble> {
-        let told = self.below.root().settle();
+    fn settle(&mut self) -> Result<(), Trouble>
+        ensures noted { self.new.calls ≡ Settled (is_ok result) ∷ self.old.calls }
+        ensures settled { OnOk result (self.new.done ≡ RootSettled ∷ self.old.done) }
+        ensures stays { self.new.is_put ≡ self.old.is_put }
+    {
+        let told = self.below.root().settle(&mut self.deeds);
         self.log.note(&Call::Settled(told.is_ok()));
         told
     }
 
-    fn is_marked(&mut self, plan: &PlanMark) -> Result<bool, Trouble> {
-        let told = self.mark.is_there(plan);
+    fn is_marked(&mut self, plan: &PlanMark) -> Result<bool, Trouble>
+        ensures saw { IfOk result
+            (λ set. self.new.calls ≡ SawMark plan.now set ∷ self.old.calls) }
+        ensures seen { IfOk result (λ set. self.new.done ≡ MarkSeen plan.now set ∷ self.old.done) }
+        ensures failed { IfErr result
+            (λ trouble. self.new.calls ≡ MarkNotSeen plan.now trouble ∷ self.old.calls) }
+        ensures stays { self.new.is_put ≡ self.old.is_put }
+    {
+        let told = self.mark.is_there(plan, &mut self.deeds);
         self.log.note(&match told {
             Ok(is_there) => Call::SawMark(plan, is_there),
             Err(trouble) => Call::MarkNotSeen(plan, trouble),
@@ -295,15 +340,27 @@ impl<'w> Disk for Root<'w> {
         told
     }
 
-    fn put_mark(&mut self, plan: &PlanMark) -> Result<(), Trouble> {
-        let told = self.mark.put(plan);
+    fn put_mark(&mut self, plan: &PlanMark) -> Result<(), Trouble>
+        ensures noted { self.new.calls ≡ PutMark plan.now (is_ok result) ∷ self.old.calls }
+        ensures put { OnOk result (self.new.done ≡ MarkPut plan.now ∷ self.old.done) }
+        ensures is_put { self.new.is_put ≡ (self.old.is_put || is_ok result) }
+    {
+        let told = self.mark.put(plan, &mut self.deeds);
         self.is_put = self.is_put || told.is_ok();
         self.log.note(&Call::PutMark(plan, told.is_ok()));
         told
     }
 
-    fn read_modes(&mut self, plan: &PlanMark, mark: bool) -> Result<bool, Trouble> {
-        let told = self.modes.read(plan, mark, &self.mark);
+    fn read_modes(&mut self, plan: &PlanMark, mark: bool) -> Result<bool, Trouble>
+        ensures told { IfOk result
+            (λ begun. self.new.calls ≡ ReadModes plan.now mark (Some begun) ∷ self.old.calls) }
+        ensures read { IfOk result
+            (λ begun. self.new.done ≡ ModesRead plan.now mark begun ∷ self.old.done) }
+        ensures failed { OnErr result
+            (self.new.calls ≡ ReadModes plan.now mark None ∷ self.old.calls) }
+        ensures stays { self.new.is_put ≡ self.old.is_put }
+    {
+        let told = self.modes.read(plan, mark, &self.mark, &mut self.deeds);
         self.log.note(&match told {
             Ok(is_begun) => Call::ReadModes(plan, mark, Some(is_begun)),
             Err(_) => Call::ReadModes(plan, mark, None),
@@ -321,8 +378,11 @@ impl<'w> Disk for Root<'w> {
             (λ mode. self.new.calls ≡ LostMode plan.now path.now owner mode ∷ self.old.calls) }
         ensures lost { IfOk result (λ mode. IfSome mode
             (λ mode. HasLostAt path.now owner mode self.old self.new)) }
+        ensures tells { IfOk result (λ lost. TellsLost path.now owner
+            (mode_noted plan.now path.now self.old) lost self.old.files self.new.files) }
         ensures failed { IfErr result
             (λ trouble. self.new.calls ≡ NotSeen path.now trouble ∷ self.old.calls) }
+        ensures mark { LeavesMark self.old self.new }
     {
         let told = self.lost(plan, path, owner);
         self.log.note(&match told {
@@ -332,13 +392,21 @@ impl<'w> Disk for Root<'w> {
         told
     }
 
-    fn put_modes(&mut self, plan: &PlanMark) -> Result<(), Trouble> {
-        let told = self.modes.put(plan);
+    fn put_modes(&mut self, plan: &PlanMark) -> Result<(), Trouble>
+        ensures noted { self.new.calls ≡ PutModes plan.now (is_ok result) ∷ self.old.calls }
+        ensures put { OnOk result (self.new.done ≡ ModesPut plan.now ∷ self.old.done) }
+        ensures stays { self.new.is_put ≡ self.old.is_put }
+    {
+        let told = self.modes.put(plan, &mut self.deeds);
         self.log.note(&Call::PutModes(plan, told.is_ok()));
         told
     }
 
-    fn keep_mark(&mut self) -> Result<(), Trouble> {
+    fn keep_mark(&mut self) -> Result<(), Trouble>
+        ensures noted { self.new.calls ≡ KeptMark (is_ok result) ∷ self.old.calls }
+        ensures kept { OnOk result (self.new.done ≡ mark_kept self.old.is_put self.old.done) }
+        ensures stays { self.new.is_put ≡ self.old.is_put }
+    {
         let told = self.finish();
         self.log.note(&Call::KeptMark(told.is_ok()));
         told

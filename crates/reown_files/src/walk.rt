@@ -1,9 +1,11 @@
 //! Directories and files that are open, and what a name in the working directory stands for.
 
-ghost use Rattle.std.specs.Prelude.{◌≡◌, ◌↔◌, IsTrue};
+ghost use Rattle.std.specs.Prelude.{◌≡◌, ◌↔◌, ◌∷◌, IsTrue, OnOk};
+ghost use Rattle.reown_files.specs.Done.{RootSettled};
 ghost use Rattle.reown_files.specs.OneFile.{AreOneFile, seen_if_there};
 
 use crate::Trouble;
+use crate::deeds::{Deed, DeedLog};
 use crate::whole_file::path_with;
 use reown_plan::Owner;
 use std::alloc::Global;
@@ -238,8 +240,14 @@ impl Directory {
 
     /// Waits until the root has reached its device, and on a file system with one journal all that
     /// was changed before. Its time of change is set first, so that there is something to wait for.
-    pub fn settle(&self) -> Result<(), Trouble> {
+    pub fn settle(&self, deeds: &mut DeedLog) -> Result<(), Trouble>
+        ensures { OnOk result (deeds.new.done ≡ RootSettled ∷ deeds.old.done) }
+    {
         match self.sync_touched() {
+            Ok(()) => {
+                deeds.note(&Deed::RootSettled);
+                Ok(())
+            }
             Err(Trouble::System(number)) => Err(Trouble::OfRoot(number)),
             told => told,
         }

@@ -1,4 +1,4 @@
-use Rattle.reown_files.proofs.RootExample.{answers, met_roots, lost_roots, changes}
+use Rattle.reown_files.proofs.RootExample.{answers, met_roots, lost_roots, changes, marks}
 use Rattle.reown_files.proofs.by_example.roots_by_example.Goals as goal
 
 pub returns-clause-answers : goal.returns-clause-answers
@@ -12,3 +12,6 @@ returns-clause-lost c = lost_roots
 
 pub returns-clause-changes : goal.returns-clause-changes
 returns-clause-changes c = changes
+
+pub returns-clause-marks : goal.returns-clause-marks
+returns-clause-marks c = marks
