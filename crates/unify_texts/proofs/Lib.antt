@@ -5,6 +5,7 @@ pub mod MapLoop
 pub mod DraftLemmas
 pub mod SpellingLemmas
 pub mod Totals
+pub mod FigureNames
 pub mod MapLines
 pub mod ReportLemmas
 pub mod MapBack

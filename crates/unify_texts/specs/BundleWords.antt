@@ -1,11 +1,12 @@
--- The words of bundles, letter by letter, and which files stand where.
+-- The words of bundles, letter by letter, which files stand where, and which are told apart.
 -- Source: this project's own formats.
-use Rattle.std.specs.Prelude.{◌≡◌, ◌++◌, [], ◌∷◌, ℕ, List, codes, map}
+use Rattle.std.specs.Prelude.{◌≡◌, ◌↔◌, ◌++◌, [], ◌∷◌, ℕ, true, List, codes, map}
 use Rattle.unify_texts.specs.declared.bundle_line.Command.TheVariants.{Count, Merge, MergeHosts}
 use Rattle.unify_texts.specs.declared.bundle_line.Command.TheVariants.{Check, Rehearse}
+use Rattle.unify_texts.specs.declared.bundle_line.FileName.{FileName}
 use Rattle.unify_texts.specs.declared.bundle_line.FileName.TheVariants as file
 use Rattle.unify_texts.specs.declared.bundle_line.BundleLine.TheVariants.{Run, File, Host, Content}
-use Rattle.unify_texts.specs.BundleLines.{bundle_line_of, file_word}
+use Rattle.unify_texts.specs.BundleLines.{bundle_line_of, file_word, same_file}
 use Rattle.unify_texts.specs.Bundles.{head_files, host_files}
 
 -- what each line says: the command, a file by its name, a host by its name, and a line of a file
@@ -38,3 +39,7 @@ pub record FilesHaveTheirPlaces : Type 0 where
   pub rehearse : map file_word (head_files Rehearse) ≡ codes "plan" ∷ codes "mtree" ∷ []
   pub host : map file_word host_files
       ≡ codes "passwd" ∷ codes "group" ∷ codes "login.defs" ∷ codes "mtree" ∷ []
+
+-- where a bundle asks whether two files are the same, no file is taken for another
+abbrev pub FilesAreToldApart : Type 0
+FilesAreToldApart = (a b : FileName) → (same_file a b ≡ true) ↔ (a ≡ b)

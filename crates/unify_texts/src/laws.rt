@@ -2,11 +2,12 @@
 
 ghost use Rattle.unify_texts.specs.BundleSpelling.{ReadsWhatIsSpelled, SpelledIsRead};
 ghost use Rattle.unify_texts.specs.BundleSpelling.{FirstBadIsTold};
-ghost use Rattle.unify_texts.specs.BundleWords.{FilesHaveTheirPlaces, WordsAreRead};
+ghost use Rattle.unify_texts.specs.BundleWords.{FilesAreToldApart, FilesHaveTheirPlaces};
+ghost use Rattle.unify_texts.specs.BundleWords.{WordsAreRead};
 ghost use Rattle.unify_texts.specs.FaultExamples as example;
 ghost use Rattle.unify_texts.specs.FaultExamples.{AreTold, StatusesGoByFaults};
 ghost use Rattle.unify_texts.specs.FaultsTold.{FaultsAreTold};
-ghost use Rattle.unify_texts.specs.Figures.{FiguresAddUp};
+ghost use Rattle.unify_texts.specs.Figures.{FiguresAddUp, FiguresCountTheirNames};
 ghost use Rattle.unify_texts.specs.FiguresExample.{ExampleOfFigures};
 ghost use Rattle.unify_texts.specs.KeptNames.{KeptNamesAreSeen};
 ghost use Rattle.unify_texts.specs.LimitDigits.{LimitsByDigit};
@@ -29,11 +30,12 @@ pub fn bundles_are_spelled()
 {}
 
 /// Each word of a bundle, letter by letter: `run` with a command's, `file` with a file's, `host`,
-/// and the bar before a line of a file; and which files may stand before the first host, by the
-/// command, and which with a host.
+/// and the bar before a line of a file; which files may stand before the first host, by the
+/// command, and which with a host; and that no file is taken for another.
 pub fn bundle_words_are_read()
     ensures words { WordsAreRead }
     ensures files { FilesHaveTheirPlaces }
+    ensures apart { FilesAreToldApart }
 {}
 
 /// In a map that is accepted, whoever wrote it, the names of users have exactly the numbers that
@@ -101,10 +103,12 @@ pub fn reports_tell_all()
     ensures { ReportsTellAll }
 {}
 
-/// Each name is pinned, keeps a number that it has on some host, or has a fresh one; and all
-/// figures of six names with eight rows and seven files, by example.
+/// Each name is pinned, keeps a number that it has on some host, or has a fresh one; so many names
+/// are pinned, keep a number and have a fresh one as the figures tell; and all figures of six names
+/// with eight rows and seven files, by example.
 pub fn figures_add_up()
     ensures all { FiguresAddUp }
+    ensures names { FiguresCountTheirNames }
     ensures example { ExampleOfFigures }
 {}
 

@@ -6,3 +6,6 @@ returns-clause-words c = bundle.words_are_read
 
 pub returns-clause-files : goal.returns-clause-files
 returns-clause-files c = bundle.files_have_their_places
+
+pub returns-clause-apart : goal.returns-clause-apart
+returns-clause-apart c = bundle.files_are_told_apart
