@@ -93,7 +93,7 @@ group_of host file = group_at host.groups file.gid
 
 -- ---- a count
 
-assoc : {A B C F : Type 0} (r : Result A F) (f : A → Result B F) (g : B → Result C F) → ((r >>= f) >>= g) ≡ (r >>= λ x. f x >>= g)
+pub assoc : {A B C F : Type 0} (r : Result A F) (f : A → Result B F) (g : B → Result C F) → ((r >>= f) >>= g) ≡ (r >>= λ x. f x >>= g)
 assoc (Ok x) f g = refl
 assoc (Err e) f g = refl
 

@@ -1,11 +1,15 @@
--- Which numbers a survey finds, in words of the texts.
+-- Which numbers a survey finds, in words of the texts, and which fault is told where it finds none:
+-- the first.
 -- Sources: mtree(5), passwd(5) and group(5); which numbers stay is this project's own rule.
-use Rattle.std.specs.Prelude.{◌≡◌, ◌⊎◌, ◌↔◌, ℕ, true, false, List, Some, Ok, Any, map, slice_get}
+use Rattle.std.specs.Prelude.{◌≡◌, ◌⊎◌, ◌↔◌, ℕ, true, false, List, Some, Ok, Err, Any, map}
+use Rattle.std.specs.Prelude.{slice_get}
 use Rattle.std.specs.List.{Contains}
+use Rattle.idtext.specs.First.{each}
 use Rattle.accounts.specs.Rows.{Passwd, Group}
 use Rattle.accounts.specs.Tables.{passwd_table, group_table}
 use Rattle.mtree_inv.specs.Inventory.{inventory}
 use Rattle.mtree_inv.specs.declared.entry.Entry.{Entry}
+use Rattle.hosts_join.specs.Checks.{hosts_checked}
 use Rattle.hosts_join.specs.declared.host.Host.{Host}
 use Rattle.hosts_join.specs.declared.texts.HostText.{HostText}
 use Rattle.keep_text.specs.KeepTexts.{keep_of}
@@ -13,9 +17,14 @@ use Rattle.keep_text.specs.declared.keep_text.KeepText.{KeepText}
 use Rattle.kept_accounts.specs.Reserving.{UnownedNumbers, no_numbers}
 use Rattle.kept_accounts.specs.declared.reserving.UnownedNumber.{UnownedNumber}
 use Rattle.unify.specs.FaultLaws.{LiesInOne}
-use Rattle.unify_texts.specs.Limits.{most_files}
+use Rattle.unify.specs.Hosts.{host_of}
 use Rattle.unify.specs.Others.{keep_read}
-use Rattle.unify.specs.Survey.{found_on, surveyed, surveyed_hosts}
+use Rattle.unify.specs.SiteLaws.{IsRefusedOr}
+use Rattle.unify.specs.Survey.{found_on, inventory_of, surveyed, surveyed_hosts}
+use Rattle.unify.specs.Told.{in_site}
+use Rattle.unify.specs.declared.host.Loaded.{Loaded}
+use Rattle.unify_texts.specs.Limits.{most_files}
+use Rattle.unify_texts.specs.declared.fault.Fault.{Fault}
 
 -- some file of the inventory of the host has the uid, no user of its passwd has, and no range that
 -- is listed for users
@@ -76,3 +85,19 @@ SurveyedTextsFindUnowned =
     (texts : List HostText) (keep_text : List ℕ) (keep : KeepText) (found : UnownedNumbers)
     → keep_of keep_text ≡ Ok keep → surveyed texts keep_text ≡ Ok found
     → FindsUnowned keep texts (map (λ t. t.mtree) texts) found
+
+-- ---- the first fault
+
+-- The keep text is taken and says `unowned`, and it is the fault of the host list; or of the first
+-- host that has one; or of the first inventory that has one.
+abbrev pub IsFirstOfSurvey : List HostText → List ℕ → Fault → Type 0
+IsFirstOfSurvey texts keep_text fault =
+    (keep : KeepText) × (keep_of keep_text ≡ Ok keep)
+    × ((keep.users.unowned ≡ true) ⊎ (keep.groups.unowned ≡ true))
+    × IsRefusedOr (in_site (hosts_checked texts)) fault (λ listed.
+    IsRefusedOr (each host_of texts) fault (λ loaded.
+    each (λ (l : Loaded). inventory_of l.host l.mtree) loaded ≡ Err fault))
+
+abbrev pub FirstFaultsOfSurveys : Type 0
+FirstFaultsOfSurveys = (texts : List HostText) (keep_text : List ℕ) (fault : Fault)
+    → (surveyed texts keep_text ≡ Err fault) ↔ IsFirstOfSurvey texts keep_text fault

@@ -9,16 +9,19 @@ ghost use Rattle.unify.specs.KeptLaws.{OutcomesTellKeptNames};
 ghost use Rattle.unify.specs.MapLaws.{CountedMapsAreWhole};
 ghost use Rattle.unify.specs.ReportLaws.{OutcomesAreReported};
 ghost use Rattle.unify.specs.Rewritten.{PlansRewriteTheCost};
+ghost use Rattle.unify.specs.SameCountLaws.{SameCountsAreByAccount};
 ghost use Rattle.unify.specs.SeenFaults.{PartsShowTheirFaults};
 ghost use Rattle.unify.specs.SiteLaws.{FirstFaultsOfSites, TakenSitesAreBegun};
-ghost use Rattle.unify.specs.SurveyLaws.{SurveyedTextsFindUnowned, SurveysFindUnowned};
+ghost use Rattle.unify.specs.SurveyLaws.{FirstFaultsOfSurveys, SurveyedTextsFindUnowned};
+ghost use Rattle.unify.specs.SurveyLaws.{SurveysFindUnowned};
 ghost use Rattle.unify.specs.TextLaws.{BegunCountsAreOfTexts, BegunSitesAreOfTexts};
 ghost use Rattle.unify.specs.TextLaws.{HostsAreOfTheirTexts};
 ghost use Rattle.unify.specs.ToldLaws.{PartsTellTheirFaults};
 
 /// A map is counted exactly where the names to which it gives a number are those of the hosts'
-/// users, and of the hosts' groups: a name is in the map where some host has a row of that name,
-/// and nowhere else. Any other map that is read is told as bad in the whole, at line 0.
+/// users, and of the hosts' groups, whose rows that a keep text leaves as they are count for none:
+/// a name is in the map where some host has a row of that name, and nowhere else. Any other map
+/// that is read is told as bad in the whole, at line 0.
 pub fn counted_maps_are_whole()
     ensures { CountedMapsAreWhole }
 {}
@@ -105,10 +108,20 @@ pub fn changed_files_are_counted()
 /// A survey finds a number of a kind exactly where some file of a host has it, no account of the
 /// host's passwd, or group, has it, and it lies in no range that the keep text lists of the kind.
 /// Where the text does not say `unowned`, it finds none. So it is of the inventories as they are
-/// read in passes, and of those of the texts themselves.
+/// read in passes, and of those of the texts themselves. It is refused only where the text is taken
+/// and says `unowned`, and then with the first fault, in this order: of the host list, of the hosts
+/// one after the other, of the inventories one after the other.
 pub fn surveys_find_unowned()
     ensures passes { SurveysFindUnowned }
     ensures texts { SurveyedTextsFindUnowned }
+    ensures refused { FirstFaultsOfSurveys }
+{}
+
+/// That each account of a host owns as many files of two readings of an inventory means that as
+/// many have the uid of each row of its passwd, and the gid of each row of its group, and no more:
+/// files whose number has no account may come and go.
+pub fn same_counts_are_by_account()
+    ensures { SameCountsAreByAccount }
 {}
 
 /// What a part gives goes on as it is, and each of its faults is told by its own number, name and

@@ -1,3 +1,4 @@
+use Rattle.unify.proofs.SurveyFaults.{first_faults_of_surveys}
 use Rattle.unify.proofs.SurveyLaws.{surveyed_texts_find_unowned, surveys_find_unowned}
 use Rattle.unify.proofs.laws.surveys_find_unowned.Goals as goal
 
@@ -6,3 +7,6 @@ returns-clause-passes c = surveys_find_unowned
 
 pub returns-clause-texts : goal.returns-clause-texts
 returns-clause-texts c = surveyed_texts_find_unowned
+
+pub returns-clause-refused : goal.returns-clause-refused
+returns-clause-refused c = first_faults_of_surveys
