@@ -15,6 +15,7 @@ pub mod Costs
 pub mod Agreeing
 pub mod Counted
 pub mod SecondReading
+pub mod Unfinished
 pub mod InFull
 pub mod KeptPart
 pub mod NoneKept

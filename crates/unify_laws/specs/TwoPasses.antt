@@ -2,13 +2,17 @@
 -- Source: this project's own rule.
 use Rattle.std.specs.Prelude.{◌≡◌, ℕ, List, length, Some, Ok, slice_get}
 use Rattle.mtree_inv.specs.declared.entry.Entry.{Entry}
+use Rattle.hosts_join.specs.Site.{Joined}
 use Rattle.hosts_join.specs.declared.host.Host.{Host}
+use Rattle.ownership.specs.Mappings.{IsMapping}
+use Rattle.reown_plan.specs.BadByte.{IsPlan}
+use Rattle.reown_plan.specs.Spelling.{IsHostName}
 use Rattle.unify.specs.declared.merging.Merged.{Merged}
 use Rattle.unify.specs.Whole.{IsWhole}
 use Rattle.unify.specs.Merging.{IsMerged}
 use Rattle.unify.specs.Outcomes.{IsOutcome}
 use Rattle.unify.specs.Reading.{WholeSite}
-use Rattle.unify.specs.SecondPass.{HaveSameCounts, second_files, whole_plan}
+use Rattle.unify.specs.SecondPass.{HaveSameCounts, IsUnfinished, second_files, whole_plan}
 use Rattle.unify_laws.specs.Headline.{Headline}
 
 -- the plans of a site's hosts, one of each in the order of the hosts: each is whole, and for the
@@ -56,3 +60,10 @@ SecondReadingIsCorrect =
     → IsWhole first → IsMerged first merged → AreReadAgain first hosts
     → AreWholePlans (read_last first hosts) merged plans
     → Headline (read_last first hosts) (record merged.outcome { plans = plans })
+
+-- What a plan has when the second reading of its host's inventory is refused is no plan.
+abbrev pub UnfinishedPlansAreNone : Type 0
+UnfinishedPlansAreNone =
+    (host : Host) (joined : Joined) (merged : Merged) (index : ℕ) (text planned : List ℕ)
+    → IsHostName host.name → IsMapping merged.mappings.users → IsMapping merged.mappings.groups
+    → IsUnfinished host joined merged index text planned → IsPlan planned → ⊥

@@ -7,7 +7,7 @@ ghost use Rattle.unify_laws.specs.Correct.{OutcomesAreCorrect, DoneKeepsPrintedN
 ghost use Rattle.unify_laws.specs.Correct.{RunsKeepNames, NumbersTellNames};
 ghost use Rattle.unify_laws.specs.Correct.{NamedFilesHaveTheirNames};
 ghost use Rattle.unify_laws.specs.TwoPasses.{TwoPassesAreCorrect, SecondReadingIsCorrect};
-ghost use Rattle.unify_laws.specs.TwoPasses.{SecondReadingIsRight};
+ghost use Rattle.unify_laws.specs.TwoPasses.{SecondReadingIsRight, UnfinishedPlansAreNone};
 ghost use Rattle.unify_laws.specs.HostTexts.{BegunSitesAreInFull, EmptyTextsKeepNoName};
 ghost use Rattle.unify_laws.specs.HostTexts.{HostsKeepOwnFiles, ReadSitesAreInFull};
 ghost use Rattle.unify_laws.specs.HostTexts.{TablesAreOfTexts};
@@ -126,6 +126,14 @@ pub fn two_passes_are_correct()
 pub fn second_reading_is_correct()
     ensures right { SecondReadingIsRight }
     ensures correct { SecondReadingIsCorrect }
+{}
+
+/// What was appended to a host's plan when the second reading of its inventory is refused is never
+/// a plan, whatever of the inventory had come, so that no reader takes it for a whole one. Requires
+/// that the name of the host is lawful, and that the mappings give numbers that an account may
+/// have.
+pub fn unfinished_plans_are_none()
+    ensures { UnfinishedPlansAreNone }
 {}
 
 /// Where what was merged has the headline, each host's own passwd and group with their new numbers

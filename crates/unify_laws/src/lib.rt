@@ -12,5 +12,5 @@ pub use laws::{
     passes_read_the_site, printed_certificates_are_accepted, printed_maps_are_counted,
     printed_plans_are_rehearsed, printed_plans_rewrite_the_cost, read_sites_are_of_texts,
     reserved_numbers_are_tellable, runs_keep_names, second_reading_is_correct,
-    surveyed_files_are_allowed, two_passes_are_correct,
+    surveyed_files_are_allowed, two_passes_are_correct, unfinished_plans_are_none,
 };
