@@ -1,5 +1,5 @@
 -- What a merge leaves that ended early, and what is told of it.
-use Rattle.std.proofs.Common.{◌≡◌, ◌+◌, ◌++◌, ◌∷◌, [], ℕ, List, codes, length, map, arith, refl, sym, ap, subst, ◌∙◌, inl, inr, length-append}
+use Rattle.std.proofs.Common.{◌≡◌, ◌+◌, ◌++◌, ◌∷◌, [], ℕ, List, codes, length, map, arith, refl, sym, ap, subst, ◌∙◌, inl, inr, append_assoc, length-append}
 use Rattle.std.proofs.lemmas.List.{length-map}
 use Rattle.std.proofs.lemmas.List.Elements.{Contains-append_left}
 use Rattle.hosts_join.specs.declared.texts.HostText.{HostText}
@@ -11,12 +11,13 @@ use Rattle.unify.specs.declared.rules.SiteRules.{SiteRules}
 use Rattle.unify.specs.declared.site_files.NamedText.{NamedText}
 use Rattle.unify.specs.Rules.{rules_by}
 use Rattle.unify_merge.specs.EarlyEnds.{AreAsBefore, ChangesAreTold, EarlyEndsLeaveAll, EarlyEndsLeaveFiles, TooLargeIsTooLarge, WereAccepted, WholeFilesAreMerged}
-use Rattle.unify_merge.specs.FirstReading.{ReadsOnly}
-use Rattle.unify_merge.specs.Ledger.{Ledger}
+use Rattle.unify_merge.specs.FirstReading.{ReadsOnly, readings_from}
+use Rattle.unify_merge.specs.Ledger.{Ledger, Reading}
 use Rattle.unify_merge.specs.Merge.{MergeBrokeOff}
 use Rattle.unify_merge.specs.NamedFiles.{Have}
+use Rattle.unify_merge.specs.SecondReading.{HasReadOneAtMost}
 
-as_before : (old new : Ledger) → ReadsOnly old new → AreAsBefore old new
+pub as_before : (old new : Ledger) → ReadsOnly old new → AreAsBefore old new
 as_before old new same = record {
   clear = ap (λ (l : Ledger). l.is_clear) same;
   begun = ap (λ (l : Ledger). l.begun) same;
@@ -25,8 +26,13 @@ as_before old new same = record {
   writing = ap (λ (l : Ledger). l.writing) same;
 }
 
-were_accepted : (texts : List HostText) (rules : SiteRules) (old new : Ledger) → MergeBrokeOff texts rules old new → WereAccepted texts rules
-were_accepted texts rules old new b = (b.begun, b.begun_is, b.first, b.were, b.first_read)
+read_since : (before : List Reading) (again : List (List ℕ)) (l : Ledger) → HasReadOneAtMost (before ++ readings_from 0 again) l → (more : List Reading) × (l.read ≡ before ++ more)
+read_since before again l read = (readings_from 0 again ++ read.more, read.readings ∙ append_assoc before (readings_from 0 again) read.more)
+
+were_accepted : (texts : List HostText) (rules : SiteRules) (old new : Ledger) → MergeBrokeOff texts rules old new → WereAccepted texts rules old.read new
+were_accepted texts rules old new b =
+    let since = read_since (old.read ++ readings_from 0 b.first) b.again new b.reads in
+    (b.begun, b.begun_is, b.first, b.were, b.first_read, since.0, since.1)
 
 pub early_ends_leave_all : EarlyEndsLeaveAll
 early_ends_leave_all texts rules old new (inl same) = inl (as_before old new same)
@@ -34,7 +40,7 @@ early_ends_leave_all texts rules old new (inr b) = inr (were_accepted texts rule
 
 pub early_ends_leave_files : EarlyEndsLeaveFiles
 early_ends_leave_files texts pins keep old new (inl same) = inl (as_before old new same)
-early_ends_leave_files texts pins keep old new (inr b) = inr (b.unowned, were_accepted texts (rules_by pins keep b.unowned) b.middle new b.holds)
+early_ends_leave_files texts pins keep old new (inr b) = inr (b.unowned, b.middle, b.surveyed, were_accepted texts (rules_by pins keep b.unowned) b.middle new b.holds)
 
 pub whole_files_are_merged : WholeFilesAreMerged
 whole_files_are_merged texts rules old new b =

@@ -31,7 +31,7 @@ use Rattle.unify_merge.specs.FirstReading.{with_inventories}
 
 -- ---- the list of hosts
 
-length-with : (hosts : List HostText) (texts : List (List ℕ)) → length texts ≡ length hosts → length (with_inventories hosts texts) ≡ length hosts
+pub length-with : (hosts : List HostText) (texts : List (List ℕ)) → length texts ≡ length hosts → length (with_inventories hosts texts) ≡ length hosts
 length-with [] texts same = refl
 length-with (h ∷ hosts) [] same = absurd (omega (arith, same))
 length-with (h ∷ hosts) (t ∷ texts) same = ap suc (length-with hosts texts (omega (arith, same)))

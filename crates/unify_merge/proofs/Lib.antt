@@ -26,3 +26,6 @@ pub mod Rehearsals
 pub mod GivenTexts
 pub mod EarlyEnds
 pub mod RehearsalsRead
+pub mod ReadTexts
+pub mod Refusals
+pub mod RefusedChecks

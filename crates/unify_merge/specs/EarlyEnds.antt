@@ -1,7 +1,7 @@
 -- What a merge leaves that ended early, and what is told of it.
 -- Source: this project's own rule.
-use Rattle.std.specs.Prelude.{◌≡◌, ◌≤◌, ◌<◌, ◌+◌, ◌⊎◌, ◌∷◌, ⊤, ℕ, List, [], Ok, Some, codes}
-use Rattle.std.specs.Prelude.{length, slice_get}
+use Rattle.std.specs.Prelude.{◌≡◌, ◌≢◌, ◌≤◌, ◌<◌, ◌+◌, ◌⊎◌, ◌∷◌, ◌++◌, ⊤, ℕ, List, [], Ok, Some}
+use Rattle.std.specs.Prelude.{codes, length, slice_get}
 use Rattle.mtree_inv.specs.declared.entry.Entry.{Entry}
 use Rattle.hosts_join.specs.declared.host.Host.{Host}
 use Rattle.hosts_join.specs.declared.texts.HostText.{HostText}
@@ -9,16 +9,17 @@ use Rattle.kept_accounts.specs.Reserving.{UnownedNumbers}
 use Rattle.unify_texts.specs.Faults.{words_of}
 use Rattle.unify_texts.specs.Words.{shown}
 use Rattle.unify_texts.specs.declared.fault.Fault.{Fault}
+use Rattle.unify_texts.specs.declared.fault.Fault.TheVariants.{InventoryChanged, Memory}
 use Rattle.unify.specs.declared.rules.SiteRules.{SiteRules}
 use Rattle.unify.specs.Passes.{BegunSite, site_begun}
 use Rattle.unify.specs.Rules.{rules_by}
-use Rattle.unify_merge.specs.FirstReading.{StopsFor}
+use Rattle.unify_merge.specs.FirstReading.{StopsFor, readings_from}
 use Rattle.unify_merge.specs.Ledger.{Ledger, Reading}
 use Rattle.unify_merge.specs.Merge.{AreInventories, IsSecondFault, Leaves, MergeBrokeOff}
-use Rattle.unify_merge.specs.Merge.{merged_files}
+use Rattle.unify_merge.specs.Merge.{StopsMerge, merged_files}
 use Rattle.unify_merge.specs.NamedFiles.{Have}
-use Rattle.unify_merge.specs.Surveyed.{LeavesFiles}
-use Rattle.unify_merge.specs.declared.fault.MergeFault.TheVariants.{TooLarge}
+use Rattle.unify_merge.specs.Surveyed.{LeavesFiles, StopsMergeFiles, WereFound}
+use Rattle.unify_merge.specs.declared.fault.MergeFault.TheVariants.{Refused, TooLarge}
 
 -- ---- the files of an earlier merge
 
@@ -30,20 +31,39 @@ pub record AreAsBefore (old new : Ledger) : Type 0 where
   pub settled : new.settled ≡ old.settled
   pub writing : new.writing ≡ old.writing
 
--- the tables, the rules and the inventory of each host were accepted
-abbrev pub WereAccepted : List HostText → SiteRules → Type 0
-WereAccepted texts rules =
+-- The tables and the rules were accepted. After some readings the inventory of each host was read
+-- to its end, in order, and each of these is accepted; only then any other came to its end.
+abbrev pub WereAccepted : List HostText → SiteRules → List Reading → Ledger → Type 0
+WereAccepted texts rules before l =
     (begun : BegunSite) × (site_begun texts rules ≡ Ok begun) × (first : List (List ℕ))
     × (were : List (Host × List Entry)) × AreInventories begun.hosts first were
+    × (more : List Reading) × (l.read ≡ (before ++ readings_from 0 first) ++ more)
 
 abbrev pub EarlyEndsLeaveAll : Type 0
 EarlyEndsLeaveAll = (texts : List HostText) (rules : SiteRules) (old new : Ledger)
-    → Leaves texts rules old new → AreAsBefore old new ⊎ WereAccepted texts rules
+    → Leaves texts rules old new → AreAsBefore old new ⊎ WereAccepted texts rules old.read new
 
+-- so it is after a survey, by the numbers without an account that it found
 abbrev pub EarlyEndsLeaveFiles : Type 0
 EarlyEndsLeaveFiles = (texts : List HostText) (pins keep : List ℕ) (old new : Ledger)
     → LeavesFiles texts pins keep old new → AreAsBefore old new
-    ⊎ ((unowned : UnownedNumbers) × WereAccepted texts (rules_by pins keep unowned))
+    ⊎ ((unowned : UnownedNumbers) × (middle : Ledger) × WereFound texts keep old middle unowned
+    × WereAccepted texts (rules_by pins keep unowned) middle.read new)
+
+-- where a fault is told that is neither want of memory nor a change of an inventory, nothing was
+-- cleared away or written
+abbrev pub RefusalsWriteNothing : Type 0
+RefusalsWriteNothing = (texts : List HostText) (rules : SiteRules) (old new : Ledger) (f : Fault)
+    → f ≢ Memory → ((host : List ℕ) → f ≢ InventoryChanged host)
+    → StopsMerge texts rules old new (Refused f) → AreAsBefore old new
+
+-- so it is where a fault is told after a survey or of it
+abbrev pub RefusedFilesWriteNothing : Type 0
+RefusedFilesWriteNothing =
+    (texts : List HostText) (pins keep : List ℕ) (old new : Ledger) (f : Fault)
+    → f ≢ Memory → ((host : List ℕ) → f ≢ InventoryChanged host)
+    → StopsMergeFiles texts pins keep old new (Refused f) → LeavesFiles texts pins keep old new
+    → AreAsBefore old new
 
 -- ---- the files of a merge that broke off
 

@@ -20,3 +20,4 @@ pub mod Rehearse
 pub mod GivenTexts
 pub mod EarlyEnds
 pub mod RehearsalsRead
+pub mod ReadTexts

@@ -1,7 +1,8 @@
 //! What holds of the files of a merge, and of what a command is given and answers.
 ghost use Rattle.unify_merge.specs.AccountFiles.{AccountFilesGoByTexts};
 ghost use Rattle.unify_merge.specs.EarlyEnds.{ChangesAreTold, EarlyEndsLeaveAll};
-ghost use Rattle.unify_merge.specs.EarlyEnds.{EarlyEndsLeaveFiles, TooLargeIsTooLarge};
+ghost use Rattle.unify_merge.specs.EarlyEnds.{EarlyEndsLeaveFiles, RefusalsWriteNothing};
+ghost use Rattle.unify_merge.specs.EarlyEnds.{RefusedFilesWriteNothing, TooLargeIsTooLarge};
 ghost use Rattle.unify_merge.specs.EarlyEnds.{WholeFilesAreMerged};
 ghost use Rattle.unify_merge.specs.GivenTexts.{BrokenMergesGoByGiven, ChecksGoByGiven};
 ghost use Rattle.unify_merge.specs.GivenTexts.{CountsGoByGiven, MergesGoByGiven};
@@ -13,6 +14,8 @@ ghost use Rattle.unify_merge.specs.InventoryLimit.{InventoryLimitByDigit};
 ghost use Rattle.unify_merge.specs.LedgerLaws.{LedgersNoteFiles, LedgersNoteReadings};
 ghost use Rattle.unify_merge.specs.LedgerLaws.{MergesAreSettled};
 ghost use Rattle.unify_merge.specs.NamedFiles.{FilesHaveTheirNames};
+ghost use Rattle.unify_merge.specs.ReadTexts.{ChecksGoByRead, CountsGoByRead, MergesGoByRead};
+ghost use Rattle.unify_merge.specs.ReadTexts.{RefusedChecksGoByRead};
 ghost use Rattle.unify_merge.specs.RehearsalsRead.{RefusedRehearsalsTellTheirFault};
 ghost use Rattle.unify_merge.specs.RehearsalsRead.{RehearsalsReadToTheEnd};
 
@@ -67,13 +70,29 @@ pub fn commands_go_by_what_is_given()
     ensures refused_counts { RefusedCountsGoByGiven }
 {}
 
-/// A merge that ends early leaves the files of an earlier one as they were, unless the tables, the
-/// rules and the inventory of each host were accepted. Of one that broke off while it wrote, each
-/// file that is whole has the text that it has in this merge, at most one more was begun, and none
-/// is settled.
+/// A check and a count go by the inventories that they read: of each host once, in order, and no
+/// other. The site that is checked, and the files that are counted, have of each host exactly the
+/// files of the text that was read as its own; and a fault that a check tells, where all of them
+/// are accepted, is what is answered of its certificate for these files. A merge reads so twice,
+/// and what it merges is said of the files of the second readings. Whatever else is said of a site
+/// is said by the texts that were given.
+pub fn commands_go_by_what_is_read()
+    ensures checks { ChecksGoByRead }
+    ensures refused_checks { RefusedChecksGoByRead }
+    ensures counts { CountsGoByRead }
+    ensures merges { MergesGoByRead }
+{}
+
+/// A merge that ends early leaves the files of an earlier one as they were, unless the tables and
+/// the rules were accepted, and the inventory of each host was read, to its end, and accepted. So
+/// one that is refused leaves them, unless it tells that an inventory has changed. Of one that
+/// broke off while it wrote, each file that is whole has the text that it has in this merge, at
+/// most one more was begun, and none is settled.
 pub fn early_ends_leave_files()
     ensures texts { EarlyEndsLeaveAll }
     ensures files { EarlyEndsLeaveFiles }
+    ensures refused { RefusalsWriteNothing }
+    ensures refused_files { RefusedFilesWriteNothing }
     ensures whole { WholeFilesAreMerged }
 {}
 

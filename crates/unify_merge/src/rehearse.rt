@@ -64,8 +64,8 @@ fn rehearse_plan<'a, F: ReadFiles>(
 ///
 /// It is read once, piece by piece, and not kept. It stops early where the plan is refused, before
 /// anything is read; where a call on the files fails; where the inventory has more than
-/// 4,294,967,295 bytes; at the first fault of what is read, in the order of `unify::rehearse`; or
-/// where a growth is refused (`Fault::Memory`).
+/// 4,294,967,295 bytes; at the first fault of what is read, in the order of
+/// `rehearsal::rehearse`; or where a growth is refused (`Fault::Memory`).
 ///
 /// One pass over the plan and the inventory, one sort of the plan's records by their paths, one
 /// look-up of each file among these, and at most two of each record's file.

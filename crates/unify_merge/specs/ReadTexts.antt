@@ -1,0 +1,89 @@
+-- A check, a count and a merge go by the inventories that they read.
+-- Source: this project's own rule.
+use Rattle.std.specs.Prelude.{◌≡◌, ◌≢◌, ◌++◌, ℕ, List, Ok, Err, Some, length, map, slice_get}
+use Rattle.certcheck.specs.Reading.{certificate_in}
+use Rattle.mtree_inv.specs.declared.entry.Entry.{Entry}
+use Rattle.hosts_join.specs.declared.host.Host.{Host}
+use Rattle.hosts_join.specs.declared.texts.HostText.{HostText}
+use Rattle.unify_texts.specs.declared.fault.Fault.{Fault}
+use Rattle.unify_texts.specs.declared.fault.Fault.TheVariants.{Memory}
+use Rattle.unify.specs.Checking.{checked}
+use Rattle.unify.specs.Costing.{BegunCost, cost_begun}
+use Rattle.unify.specs.CountLaws.{AreSoMany, ChangesGroup, ChangesUser}
+use Rattle.unify.specs.FileLaws.{AreItsFiles}
+use Rattle.unify.specs.Outcomes.{hosts_in}
+use Rattle.unify.specs.Passes.{site_begun}
+use Rattle.unify.specs.Reading.{WholeSite}
+use Rattle.unify.specs.Told.{in_certificate}
+use Rattle.unify.specs.declared.counting.Cost.{Cost}
+use Rattle.unify.specs.declared.rules.KeepRules.{KeepRules}
+use Rattle.unify.specs.declared.rules.SiteRules.{SiteRules}
+use Rattle.unify_merge.specs.Check.{HasChecked, StopsCheck}
+use Rattle.unify_merge.specs.Count.{HasCounted}
+use Rattle.unify_merge.specs.Ledger.{Ledger, Reading}
+use Rattle.unify_merge.specs.Merge.{HasMerged}
+use Rattle.unify_merge.specs.declared.fault.MergeFault.TheVariants.{Refused}
+
+-- After some readings that came to their ends, the inventory of each host was read to its end once,
+-- in order, and no other. Each host has exactly the files of the text that was read as its own.
+-- texts: what was given of each host; before, after: the readings before that, and with that;
+-- h: the index of the host
+pub record HaveReadFiles (texts : List HostText) (hosts : List (Host × List Entry))
+    (before after : List Reading) : Type 0 where
+  pub readings : List Reading
+  pub no_other : after ≡ before ++ readings
+  pub one_each : length readings ≡ length texts
+  pub all_hosts : length hosts ≡ length texts
+  pub files : (h : ℕ) (host : Host) (files : List Entry)
+      → slice_get hosts h ≡ Some (host, files) → (text : List ℕ)
+      × (slice_get readings h ≡ Some (record { host = h; text = text }))
+      × AreItsFiles (record { host = host; mtree = text }) files
+
+-- the hosts of a site and the accounts over them are those of the texts that were given
+abbrev pub IsOfGiven : List HostText → SiteRules → WholeSite → Type 0
+IsOfGiven texts rules site =
+    site_begun texts rules ≡ Ok (record { hosts = hosts_in site; joined = site.joined })
+
+-- the certificate was checked for the files that were read
+abbrev pub ChecksGoByRead : Type 0
+ChecksGoByRead = (texts : List HostText) (rules : SiteRules) (certificate : List ℕ)
+    (old new : Ledger) (cost : ℕ) (c : HasChecked texts rules certificate old new cost)
+    → IsOfGiven texts rules c.means.site
+    × HaveReadFiles texts c.means.site.hosts old.read new.read
+
+-- A fault that a check tells, where all inventories were read and are accepted, is what is answered
+-- of the certificate for these files.
+abbrev pub RefusedChecksGoByRead : Type 0
+RefusedChecksGoByRead = (texts : List HostText) (rules : SiteRules) (certificate : List ℕ)
+    (old new : Ledger) (f : Fault) (site : WholeSite) → f ≢ Memory
+    → StopsCheck texts rules certificate old new (Refused f) → IsOfGiven texts rules site
+    → HaveReadFiles texts site.hosts old.read new.read
+    → checked site (in_certificate (certificate_in certificate)) ≡ Err f
+
+-- the cost is how many of the files that were read are changed by the map that was given
+pub record IsCostOfRead (texts : List HostText) (keep : KeepRules) (map_text : List ℕ)
+    (old new : Ledger) (cost : Cost) : Type 0 where
+  pub begun : BegunCost
+  pub begun_is : cost_begun texts keep map_text ≡ Ok begun
+  pub hosts : List (Host × List Entry)
+  pub hosts_are : map (λ h. h.0) hosts ≡ begun.hosts
+  pub were_read : HaveReadFiles texts hosts old.read new.read
+  pub users : AreSoMany (ChangesUser begun.names) hosts cost.users
+  pub groups : AreSoMany (ChangesGroup begun.names) hosts cost.groups
+
+abbrev pub CountsGoByRead : Type 0
+CountsGoByRead = (texts : List HostText) (keep : KeepRules) (map_text : List ℕ)
+    (old new : Ledger) (cost : Cost) → HasCounted texts keep map_text old new cost
+    → IsCostOfRead texts keep map_text old new cost
+
+-- A merge reads so twice. What it merges is said of the files that were read the second time.
+pub record IsMergeOfRead (texts : List HostText) (rules : SiteRules) (old new : Ledger)
+    (cost : Cost) (m : HasMerged texts rules old new cost) : Type 0 where
+  pub given : IsOfGiven texts rules (record { hosts = m.are; joined = m.begun.joined })
+  pub middle : List Reading
+  pub first : HaveReadFiles texts m.were old.read middle
+  pub second : HaveReadFiles texts m.are middle new.read
+
+abbrev pub MergesGoByRead : Type 0
+MergesGoByRead = (texts : List HostText) (rules : SiteRules) (old new : Ledger) (cost : Cost)
+    (m : HasMerged texts rules old new cost) → IsMergeOfRead texts rules old new cost m
