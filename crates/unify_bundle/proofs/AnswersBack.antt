@@ -1,10 +1,11 @@
 -- What goes out for a command, read line by line.
-use Rattle.std.proofs.Common.{◌≡◌, ◌≢◌, ℕ, ◌<◌, ◌^◌, Bool, true, false, cond, List, [], ◌∷◌, ◌++◌, decimal, map, flat_map, length, drop, codes, refl, sym, ap, ◌∙◌, append_assoc, append-nil, arith}
+use Rattle.std.proofs.Common.{◌≡◌, ◌≢◌, ℕ, ◌<◌, ◌^◌, Bool, true, false, cond, List, [], ◌∷◌, ◌++◌, decimal, map, flat_map, length, drop, codes, refl, sym, ap, subst, ◌∙◌, append_assoc, append-nil, arith}
+use Rattle.std.specs.Fmt.{digits}
 use Rattle.std.specs.List.{All, AllByRecursion}
 use Rattle.std.proofs.lemmas.Bool.{ne_eqb}
 use Rattle.std.proofs.lemmas.Grind.{flat_map-append}
-use Rattle.std.proofs.lemmas.List.Elements.{All-head, All-tail}
-use Rattle.idtext.specs.Pieces.{lines as lines_of}
+use Rattle.std.proofs.lemmas.List.Elements.{All-append, All-cons, All-head, All-nil, All-tail}
+use Rattle.idtext.specs.Pieces.{begins_with, lines as lines_of}
 use Rattle.idtext.specs.Words.{words}
 use Rattle.idtext.proofs.PieceLemmas.{lines-empty}
 use Rattle.hosts_join.specs.Checks.{is_host_name}
@@ -18,10 +19,11 @@ use Rattle.unify_texts.proofs.ReportBack.{figure_word, literal, number_back, row
 use Rattle.unify_texts.proofs.ReservedLemmas.{IsWord, words_spaced}
 use Rattle.unify.specs.declared.outcome.Outcome.{Outcome}
 use Rattle.unify.specs.declared.site_files.NamedText.{NamedText}
+use Rattle.unify.specs.declared.site_files.SiteFiles.{SiteFiles}
 use Rattle.unify_merge.specs.Merge.{account_files}
 use Rattle.unify_merge.specs.SecondReading.{plan_files}
-use Rattle.unify_bundle.specs.Lines.{accepted_line, barred, cost_lines, file_lines, merge_lines, named_lines, records_lines}
-use Rattle.unify_bundle.specs.AnswersBack.{AcceptedIsRead, CostsAreRead, HaveHostNames, MergesAreRead, MergesWithHostsAreRead, RecordsAreRead, Said, files_told, in_lines, said_by, whole_files}
+use Rattle.unify_bundle.specs.Lines.{accepted_line, barred, cost_lines, file_lines, merge_lines, named_lines, records_lines, site_lines}
+use Rattle.unify_bundle.specs.AnswersBack.{AcceptedIsRead, CostsAreRead, HaveHostNames, IsFileLine, IsOfFiles, MergesAreOfFiles, MergesAreRead, MergesWithHostsAreRead, NumbersByExample, RecordsAreRead, Said, files_told, in_lines, said_by, whole_files}
 
 -- ---- numbers
 
@@ -199,10 +201,68 @@ own_plain (file ∷ files) all =
     let IsShort : NamedText → Type 0 = λ f. All (λ b. b ≢ 10) f.name in
     (no_newline file.name (All-head IsShort file files all), own_plain files (All-tail IsShort file files all))
 
+-- the lines of a merge with the own files of hosts are those of all its files
+site_is : (hosts : List HostText) (files : SiteFiles) → site_lines hosts files ≡ named_lines (whole_files hosts files.outcome ++ files.own.items)
+site_is hosts files =
+    ap (λ t. t ++ named_lines files.own.items) (merge_is hosts files.outcome)
+    ∙ sym (flat_map-append (λ (file : NamedText). file_lines file.name file.text) (whole_files hosts files.outcome) files.own.items)
+
 pub merges_with_hosts_are_read : MergesWithHostsAreRead
 merges_with_hosts_are_read hosts files names own =
     let whole = whole_files hosts files.outcome in
-    let show : NamedText → List ℕ = λ file. file_lines file.name file.text in
-    ap (λ t. files_told (t ++ named_lines files.own.items)) (merge_is hosts files.outcome)
-    ∙ ap files_told (sym (flat_map-append show whole files.own.items))
+    ap files_told (site_is hosts files)
     ∙ files_read (whole ++ files.own.items) (both_plain whole files.own.items (whole_plain hosts files.outcome names) (own_plain files.own.items own))
+
+-- ---- lines that name a file or have a bar
+
+name_first : (name : List ℕ) → IsFileLine (codes "file " ++ name)
+name_first name = refl
+
+bar_first : (line : List ℕ) → IsFileLine (124 ∷ line)
+bar_first line = refl
+
+bars_first : (ls : List (List ℕ)) → All IsFileLine (map (λ line. 124 ∷ line) ls)
+bars_first [] = All-nil IsFileLine
+bars_first (l ∷ ls) = All-cons IsFileLine (124 ∷ l) (map (λ line. 124 ∷ line) ls) (bar_first l) (bars_first ls)
+
+files_barred : (files : List NamedText) → All IsFileLine (flat_map shown files)
+files_barred [] = All-nil IsFileLine
+files_barred (file ∷ files) =
+    let bars : List (List ℕ) = map (λ line. 124 ∷ line) (lines_of file.text) in
+    All-append IsFileLine (shown file) (flat_map shown files) (All-cons IsFileLine (codes "file " ++ file.name) bars (name_first file.name) (bars_first (lines_of file.text))) (files_barred files)
+
+all_barred : (files : List NamedText) → AllByRecursion IsOfOneLine files → All IsFileLine (lines_of (named_lines files))
+all_barred files plain = subst (All IsFileLine) (sym (all_files files plain)) (files_barred files)
+
+-- those of the accounts come first, or else the map
+first_named : (keeps : Bool) (passwd group other : NamedText) (more : List NamedText) → begins_with (codes "file ") (named_lines (cond keeps [] (passwd ∷ group ∷ []) ++ other ∷ more)) ≡ true
+first_named true passwd group other more = refl
+first_named false passwd group other more = refl
+
+files_first : (hosts : List HostText) (outcome : Outcome) (more : List NamedText) → begins_with (codes "file ") (named_lines (whole_files hosts outcome ++ more)) ≡ true
+files_first hosts outcome more =
+    let passwd : NamedText = record { name = codes "passwd"; text = outcome.passwd } in
+    let group : NamedText = record { name = codes "group"; text = outcome.group } in
+    let first : NamedText = record { name = codes "map"; text = outcome.map } in
+    let others : List NamedText = record { name = codes "certificate"; text = outcome.certificate } ∷ record { name = codes "report"; text = outcome.report } ∷ plan_files hosts outcome.plans in
+    ap (λ files. begins_with (codes "file ") (named_lines files)) (append_assoc (account_files outcome) (first ∷ others) more)
+    ∙ first_named outcome.keeps_names passwd group first (others ++ more)
+
+of_files : (text : List ℕ) (files : List NamedText) → text ≡ named_lines files → AllByRecursion IsOfOneLine files → begins_with (codes "file ") (named_lines files) ≡ true → IsOfFiles text
+of_files text files is plain first = subst IsOfFiles (sym is) (record { first = first; lines = all_barred files plain })
+
+pub merges_are_of_files : MergesAreOfFiles
+merges_are_of_files hosts files names own =
+    let whole = whole_files hosts files.outcome in
+    let all : List NamedText = whole ++ files.own.items in
+    let plain = whole_plain hosts files.outcome names in
+    let first = files_first hosts files.outcome in (
+      of_files (merge_lines hosts files.outcome) whole (merge_is hosts files.outcome) plain (subst (λ fs. begins_with (codes "file ") (named_lines fs) ≡ true) (append-nil whole) (first [])),
+      of_files (site_lines hosts files) all (site_is hosts files) (both_plain whole files.own.items plain (own_plain files.own.items own)) (first files.own.items),
+    )
+
+-- ---- by example
+
+pub numbers_by_example : NumbersByExample
+unfolding digits
+numbers_by_example = record { costs = refl; accepted = refl; records = refl }

@@ -1,10 +1,13 @@
--- Which hosts a rehearsal of a whole site tells as done, by the events alone.
-use Rattle.std.proofs.Common.{◌≡◌, ◌↔◌, ◌≤◌, ◌+◌, ◌-◌, ℕ, zero, suc, true, false, List, [], ◌∷◌, ◌++◌, None, Some, Result, Ok, Err, MatchResult, length, replicate, refl, sym, ap, subst, ◌∙◌, arith}
-use Rattle.std.specs.List.{slice_get}
+-- With which trees a rehearsal of a whole site begins, and which hosts it tells as done, by the events alone.
+use Rattle.std.proofs.Common.{◌≡◌, ◌↔◌, ◌≤◌, ◌+◌, ◌-◌, ℕ, zero, suc, true, false, List, [], ◌∷◌, ◌++◌, Option, None, Some, Result, Ok, Err, MatchResult, length, replicate, refl, sym, ap, subst, ◌∙◌, arith}
+use Rattle.std.specs.List.{All, Contains, slice_get}
 use Rattle.std.specs.Option.{option_map}
+use Rattle.std.proofs.lemmas.List.Elements.{All-contains_itself, All-weaker}
 use Rattle.std.proofs.lemmas.Option.{same_Some, slice_get-map}
 use Rattle.mtree_inv.specs.declared.entry.Entry.{Entry}
 use Rattle.hosts_join.specs.declared.host.Host.{Host}
+use Rattle.reown_plan.specs.declared.mark.PlanMark.{PlanMark}
+use Rattle.reown_plan.specs.declared.plan.Owner.{Owner}
 use Rattle.reown_plan.specs.PlanData.{PlanData, PlanRecord}
 use Rattle.reown_plan.specs.Target.{host_plan}
 use Rattle.reown_runner.specs.declared.campaign.Event.{Event}
@@ -16,9 +19,9 @@ use Rattle.reown_runner.specs.Campaign.{is_done, own}
 use Rattle.reown_runner.specs.Memory.{Mem, known_mem, owner_in}
 use Rattle.reown_runner.specs.Run.{Host as Running, HostEvent, Advanced, Advances, Stops, IsRun, host_at}
 use Rattle.reown_runner.specs.RunnerData.{RunnerData}
-use Rattle.reown_runner.specs.State.{fresh, cells_at}
+use Rattle.reown_runner.specs.State.{State, StandsFor, fresh, cells_at, owner_after}
 use Rattle.reown_runner.specs.Step.{IsPlaceOf, advances_left}
-use Rattle.reown_runner.specs.Tree.{cells_of}
+use Rattle.reown_runner.specs.Tree.{Image, Operation, TreeData, cells_of}
 use Rattle.reown_runner.specs.World.{Hosted}
 use Rattle.reown_runner.proofs.Count.{most_left, nearer, next_fits}
 use Rattle.reown_runner.proofs.Finishing.{done_after, fresh_stands}
@@ -28,7 +31,7 @@ use Rattle.unify.specs.Reading.{WholeSite}
 use Rattle.unify_laws.proofs.SiteRuns.{first_of, first_there, is_at_done}
 use Rattle.unify_bundle.specs.declared.rehearsing_site.SiteRun.{SiteRun}
 use Rattle.unify_bundle.specs.SiteRuns.{IsSiteRun}
-use Rattle.unify_bundle.specs.SiteRunLaws.{SiteRunsFinish, LastAdvancesFinish, LastStopsUndo}
+use Rattle.unify_bundle.specs.SiteRunLaws.{BeginAsInventories, SiteRunsFinish, LastAdvancesFinish, LastStopsUndo}
 
 -- ---- runs in which no event is refused
 
@@ -84,6 +87,25 @@ module _ (records : List PlanRecord) where
       let last = last_events first (Stops ∷ []) host end fits run in
       ap (λ (h : Running). is_done h.place) last.2.2.1
 
+-- ---- a tree to which nothing has happened
+
+-- a front of no operations is none
+no_front : (front lost : List Operation) → front ++ lost ≡ [] → front ≡ []
+no_front [] lost e = refl
+no_front (operation ∷ front) lost e = absurd (cc)
+
+-- a tree that stands for an image has just the image's owners
+stands_still : (mark : PlanMark) (tree : TreeData) (image : Image) → StandsFor mark tree (fresh image) → (path : List ℕ) → (tree.owner path ≡ image.owner path) × All (λ left. left ≡ image.owner path) (tree.owners_left path)
+stands_still mark tree image stands path =
+    let read : List Operation → Option Owner = owner_after (fresh image) path in
+    let left_there : (x : Option Owner) → Contains (tree.owners_left path) x → x ≡ image.owner path = λ x there. (
+    let left = stands.owners.owner_left path x there in
+    left.2 ∙ ap read (no_front left.0 left.1.lost left.1.whole)
+    ) in (
+      stands.owners.owner path,
+      All-weaker (Contains (tree.owners_left path)) (λ x. x ≡ image.owner path) left_there (tree.owners_left path) (All-contains_itself (tree.owners_left path)),
+    )
+
 -- ---- a host of a rehearsal
 
 module _ (keep : Keep) (events : List Event) (site : WholeSite) (run : SiteRun) (is : IsSiteRun keep events site run) (h : ℕ) (host : Host) (files : List Entry) (here : slice_get site.hosts h ≡ Some (host, files)) where
@@ -111,6 +133,20 @@ module _ (keep : Keep) (events : List Event) (site : WholeSite) (run : SiteRun) 
         ap (λ bs. slice_get bs h) is.done ∙ slice_get-map (λ (r : RunnerData). is_done r.place) is.runners h ∙ ap (option_map (λ (r : RunnerData). is_done r.place)) went.1.runner,
       )
 
+  begins_there : own h events ≡ [] → (tree : Mem) → slice_get run.trees.items h ≡ Some tree → (path : List ℕ) → ((known_mem tree).owner path ≡ owner_in files path) × All (λ left. left ≡ owner_in files path) ((known_mem tree).owners_left path)
+  begins_there none tree at path =
+      let went = is.went h first (first_there keep site is.merged.mappings h host files here) in
+      let last = went.0 in
+      let mark = first.runner.mark in
+      let image : Image = record { owner = owner_in files; mark = false } in
+      let start = fresh_stands (owner_in files) (cells_of mark (known_mem first.tree)) (new_fresh files mark) in
+      let goes = went.2.stands (fresh image) start in
+      let ended : IsRun plan.records begins [] None (host_at last.runner.place (known_mem last.tree) goes.0) = subst (λ (es : List HostEvent). IsRun plan.records begins es None (host_at last.runner.place (known_mem last.tree) goes.0)) none goes.2 in
+      let same_state : goes.0 ≡ fresh image = ap (λ (r : Running). r.state) ended.1 in
+      let same_tree : last.tree ≡ tree = same_Some last.tree tree (sym went.1.tree ∙ at) in
+      let stands : StandsFor mark (known_mem tree) (fresh image) = subst (λ (t : Mem). StandsFor mark (known_mem t) (fresh image)) same_tree (subst (λ (s : State). StandsFor mark (known_mem last.tree) s) same_state goes.1) in
+      stands_still mark (known_mem tree) image stands path
+
   finishes : (n : ℕ) → own h events ≡ replicate n Advances → (slice_get run.done.items h ≡ Some true) ↔ (length plan.records + 4 ≤ n)
   finishes n same =
       let went = ran (replicate n Advances) same in
@@ -129,6 +165,9 @@ module _ (keep : Keep) (events : List Event) (site : WholeSite) (run : SiteRun) 
   undone_at_last before same =
       let went = ran (before ++ Stops ∷ []) same in
       went.2 ∙ ap (λ b. Some b) (stopped_at_last plan.records before begins went.0 tt went.1)
+
+pub begin_as_inventories : BeginAsInventories
+begin_as_inventories keep events site run is h host files here none tree at path = begins_there keep events site run is h host files here none tree at path
 
 pub site_runs_finish : SiteRunsFinish
 site_runs_finish keep events site run is h n host files here same = finishes keep events site run is h host files here n same

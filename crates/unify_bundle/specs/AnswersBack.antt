@@ -1,7 +1,7 @@
 -- What goes out for a command, read line by line.
 -- Source: this project's own formats.
 use Rattle.std.specs.Prelude.{◌≡◌, ◌≢◌, ℕ, ◌<◌, ◌^◌, true, List, [], ◌∷◌, ◌++◌, length, map, drop}
-use Rattle.std.specs.Prelude.{codes, Some, All, if◌then◌else◌}
+use Rattle.std.specs.Prelude.{codes, Some, All, if◌then◌else◌, ◌||◌}
 use Rattle.idtext.specs.Pieces.{begins_with, lines as lines_of}
 use Rattle.hosts_join.specs.Checks.{is_host_name}
 use Rattle.hosts_join.specs.declared.texts.HostText.{HostText}
@@ -37,6 +37,13 @@ abbrev pub RecordsAreRead : Type 0
 RecordsAreRead = (n : ℕ) → n < 2 ^ 64
     → (number_told (records_lines n) (codes "records") (codes "records") ≡ Some n)
     × (drop 1 (lines_of (records_lines n)) ≡ codes "done" ∷ [])
+
+-- the lines of some numbers, byte by byte
+pub record NumbersByExample : Type 0 where
+  pub costs : cost_lines (record { users = 3; groups = 20 })
+      ≡ codes "user-fields 3\ngroup-fields 20\n"
+  pub accepted : accepted_line 1207 ≡ codes "accepted 1207\n"
+  pub records : records_lines 45 ≡ codes "records 45\ndone\n"
 
 -- ---- files
 
@@ -95,3 +102,19 @@ MergesWithHostsAreRead = (hosts : List HostText) (files : SiteFiles) → HaveHos
     → All (λ (file : NamedText). All (λ b. b ≢ 10) file.name) files.own.items
     → files_told (site_lines hosts files)
     ≡ map in_lines (whole_files hosts files.outcome ++ files.own.items)
+
+-- a line that names a file, or one of its text, which has a bar in front
+abbrev pub IsFileLine : List ℕ → Type 0
+IsFileLine line = (begins_with (codes "file ") line || begins_with (codes "|") line) ≡ true
+
+-- all lines are such lines, and the first names a file
+pub record IsOfFiles (text : List ℕ) : Type 0 where
+  pub first : begins_with (codes "file ") text ≡ true
+  pub lines : All IsFileLine (lines_of text)
+
+-- so is what a merge answers, also with the own files of each host
+abbrev pub MergesAreOfFiles : Type 0
+MergesAreOfFiles =
+    (hosts : List HostText) (files : SiteFiles) → HaveHostNames hosts
+    → All (λ (file : NamedText). All (λ b. b ≢ 10) file.name) files.own.items
+    → IsOfFiles (merge_lines hosts files.outcome) × IsOfFiles (site_lines hosts files)

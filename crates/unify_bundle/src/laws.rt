@@ -1,10 +1,12 @@
 //! What holds of the answers of commands.
-ghost use Rattle.unify_bundle.specs.AnswersBack.{AcceptedIsRead, CostsAreRead, MergesAreRead};
-ghost use Rattle.unify_bundle.specs.AnswersBack.{MergesWithHostsAreRead, RecordsAreRead};
+ghost use Rattle.unify_bundle.specs.AnswersBack.{AcceptedIsRead, CostsAreRead, MergesAreOfFiles};
+ghost use Rattle.unify_bundle.specs.AnswersBack.{MergesAreRead, MergesWithHostsAreRead};
+ghost use Rattle.unify_bundle.specs.AnswersBack.{NumbersByExample, RecordsAreRead};
 ghost use Rattle.unify_bundle.specs.GoingOut.{AnswersAreWritten, BundlesAreAnswered};
 ghost use Rattle.unify_bundle.specs.GoingOut.{InputsAreTold, NoReplyGoesOut, RepliesGoOut};
 ghost use Rattle.unify_bundle.specs.Lines.{accepted_line, cost_lines, records_lines};
-ghost use Rattle.unify_bundle.specs.SiteRunLaws.{LastAdvancesFinish, LastStopsUndo, SiteRunsFinish};
+ghost use Rattle.unify_bundle.specs.SiteRunLaws.{BeginAsInventories, LastAdvancesFinish};
+ghost use Rattle.unify_bundle.specs.SiteRunLaws.{LastStopsUndo, SiteRunsFinish};
 ghost use Rattle.unify_bundle.specs.TakenFiles.{ChecksHaveTheirCertificate, CountsHaveTheirMap};
 ghost use Rattle.unify_bundle.specs.TakenFiles.{FilesHaveOneText, HostsHaveTheirFiles};
 ghost use Rattle.unify_bundle.specs.TakenFiles.{MergesHaveTheirHosts, RehearsalsHaveTheirFiles};
@@ -13,14 +15,18 @@ ghost use Rattle.unify_bundle.specs.WordsAnswered.{AreWordsFor, BundleLimitByDig
 
 /// What goes out for a command is read back, word by word and line by line: the two costs of a
 /// count and of a merge, the cost of a certificate that is accepted, the number of records of a
-/// plan that was rehearsed; and of a merge in a bundle each file, by its name, with its lines, the
-/// own files of each host too.
+/// plan that was rehearsed, and each of these by an example, byte by byte; and of a merge in a
+/// bundle each file, by its name, with its lines, the own files of each host too. Such a merge has
+/// no line but those that name a file, as the first does, and those of its text, which have a bar
+/// in front.
 pub fn answers_are_read_back()
     ensures costs { CostsAreRead }
     ensures accepted { AcceptedIsRead }
     ensures records { RecordsAreRead }
+    ensures example { NumbersByExample }
     ensures merges { MergesAreRead }
     ensures hosts { MergesWithHostsAreRead }
+    ensures bars { MergesAreOfFiles }
 {}
 
 /// Each file of a bundle is read where it belongs, and as an empty one where it is not there: those
@@ -62,11 +68,13 @@ pub fn words_are_answered()
     ensures records { AreWordsFor records_lines }
 {}
 
-/// Which hosts `rehearse_site` tells as done, by the events that it was given. A host that advances
-/// and never stops is done exactly where its advances are at least four more than the records of
-/// its plan. After so many it is done whatever came before them, stops too. A host whose last event
-/// is a stop is not done.
+/// With which trees `rehearse_site` begins, and which hosts it tells as done, by the events that it
+/// was given. A host without any event stands as its inventory says. A host that advances and never
+/// stops is done exactly where its advances are at least four more than the records of its plan.
+/// After so many it is done whatever came before them, stops too. A host whose last event is a stop
+/// is not done.
 pub fn site_runs_finish()
+    ensures begin { BeginAsInventories }
     ensures alone { SiteRunsFinish }
     ensures last { LastAdvancesFinish }
     ensures stopped { LastStopsUndo }

@@ -6,6 +6,8 @@ returns c = record {
   costs = back.costs_are_read;
   accepted = back.accepted_is_read;
   records = back.records_are_read;
+  example = back.numbers_by_example;
   merges = back.merges_are_read;
   hosts = back.merges_with_hosts_are_read;
+  bars = back.merges_are_of_files;
 }
