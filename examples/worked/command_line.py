@@ -622,7 +622,7 @@ TABLE = [
 ]
 OWNED_BY_OTHER = (
     f"unify: hint: the file has owner {os.geteuid()}:{os.getegid()}; if it is the file that was gathered, give it its old owner back, "
-    "else gather this host again and merge anew\n"
+    "else take back what the plans of this host have changed, and only then gather it again and merge anew\n"
 )
 # Words, the exit status, and what is told where standard error is a terminal.
 LOOKED_AT = [

@@ -48,13 +48,16 @@ fn path_of(rt: &HostRuntime, records: &[Record<'_>], i: usize) -> Result<ByteStr
 const SEE_WAY: &str = "unify: hint: a directory on the way may be a link, or a file system not \
     mounted; see that first";
 
-// What to do about a file with a third owner.
-const SEE_FILE: &str = "if it is the file that was gathered, give it its old owner back, else \
-    gather this host again and merge anew";
+// What to do about a file with a third owner. Where the files of another plan are changed already, a
+// host that is gathered again would have them counted under the names of others.
+const SEE_FILE: &str = "if it is the file that was gathered, give it its old owner back, else take \
+    back what the plans of this host have changed, and only then gather it again and merge anew";
 
 // What to do about a file that has its new owner before the first run, and so is somebody else's.
-const GATHER_ANEW: &str = "unify: hint: gather this host again and merge anew; where a run of this \
-    plan was stopped and its .modes file is gone, use --begun";
+const GATHER_ANEW: &str =
+    "unify: hint: where a run of this plan was stopped and its .modes file is \
+    gone, use --begun; else take back what other plans of this host have changed, and only then \
+    gather it again and merge anew";
 
 // Tells that the file of a record is not there.
 fn missing(rt: &HostRuntime, records: &[Record<'_>], i: usize) -> FileFault {
