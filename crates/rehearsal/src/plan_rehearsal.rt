@@ -130,7 +130,8 @@ impl<'p, 'a> Rehearsal<'p, 'a> {
     }
 
     /// Takes the next piece of the inventory. It refuses where the whole logical lines so far have
-    /// a fault, with the first. After that it is of no use.
+    /// a fault, with the first. After that it is of no use. Requires that no call before was
+    /// refused, and that the inventory was not ended.
     ///
     /// One pass over the piece, and for each file one look-up among the records' paths: a
     /// comparison where the files come in the order of the records, else one for each binary digit
@@ -155,7 +156,8 @@ impl<'p, 'a> Rehearsal<'p, 'a> {
 
     /// Takes the end of the inventory, carries the plan out, and answers how many records it has.
     /// It refuses with the first fault of the inventory, or with the first record whose file is
-    /// absent or is at neither of its two owners. After that it is of no use.
+    /// absent or is at neither of its two owners. After either answer it is of no use. Requires
+    /// what `piece` requires.
     ///
     /// The path of each record is looked up at most twice more, in the order of the records.
     pub fn end(&mut self, alloc: Global) -> Result<u32, Fault<'a>>

@@ -43,7 +43,8 @@ impl HostSurvey {
 
     /// Takes the next piece of the inventory of the host. The answer is `ReadError::Fault` exactly
     /// where the whole logical lines so far have a fault, with the first, and `ReadError::Memory`
-    /// where memory was refused. After either the survey is of no use.
+    /// where memory was refused. After either the survey is of no use. Requires that no call before
+    /// was refused, that the inventory was not ended, and that all calls name one host.
     ///
     /// What `mtree_inv::Reader::feed` takes, and for each file two look-ups by hash, a bisection
     /// for a number that no account has, and where the host does not spare it either a look-up in
@@ -65,7 +66,7 @@ impl HostSurvey {
     /// Takes the end of the inventory of the host. The answer is `ReadError::Fault` exactly where
     /// the whole text has a fault, with the first, and `ReadError::Memory` where memory was
     /// refused. After either the survey is of no use; after `Ok` it has the numbers of all files,
-    /// and takes no more.
+    /// and takes no more. Requires what `piece` requires.
     ///
     /// At most one line, the last, is still to be read here.
     pub fn end(&mut self, host: &Host<'_>) -> Result<(), ReadError>

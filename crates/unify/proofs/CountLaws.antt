@@ -20,7 +20,7 @@ use Rattle.unify_texts.specs.declared.map_text.MapText.{MapText}
 use Rattle.unify.specs.Cost.{changed, cost_of, is_number}
 use Rattle.unify.specs.Costing.{BegunCost, cost_begun}
 use Rattle.unify.specs.Count.{count_of, mapped_names, names_checked, site_of, total_of}
-use Rattle.unify.specs.CountLaws.{AreSoMany, ChangedFilesAreCounted, FirstFaultsOfCounts, IsCounted, IsFirstOfCount}
+use Rattle.unify.specs.CountLaws.{ChangesSoMany, ChangedFilesAreCounted, FirstFaultsOfCounts, IsCounted, IsFirstOfCount}
 use Rattle.unify.specs.Hosts.{host_of}
 use Rattle.unify.specs.Loading.{loaded_from}
 use Rattle.unify.specs.Others.{Others, others_loaded, others_of}
@@ -71,7 +71,7 @@ module _ (pairs : List Pair) where
     abbrev in_all : List (Host × List Entry) → ℕ
     in_all sites = sum_by (λ (site : Host × List Entry). sum_by (λ file. changed pairs (owner site.0 file) (number file)) site.1) sites
 
-    are_so_many : (sites : List (Host × List Entry)) → AreSoMany ChangesFile sites (in_all sites)
+    are_so_many : (sites : List (Host × List Entry)) → ChangesSoMany ChangesFile sites (in_all sites)
     are_so_many sites tells told =
         ap (λ (one : Host → Entry → ℕ). sum_by (λ (site : Host × List Entry). sum_by (one site.0) site.1) sites)
         (fun_ext (λ host. fun_ext (λ file.
@@ -79,7 +79,7 @@ module _ (pairs : List Pair) where
         ∙ ap (λ b. cond {A = ℕ} b 1 0) (same_from_decides (is_changed (owner host file) (number file)) (tells host file) (change_told (owner host file) (number file)) (told host file)))))
 
     -- and no other number is
-    only_so_many : (sites : List (Host × List Entry)) (count : ℕ) → AreSoMany ChangesFile sites count → in_all sites ≡ count
+    only_so_many : (sites : List (Host × List Entry)) (count : ℕ) → ChangesSoMany ChangesFile sites count → in_all sites ≡ count
     only_so_many sites count are =
         let tells : Host → Entry → Bool = λ host file. is_changed (owner host file) (number file) in
         let told : (host : Host) (file : Entry) → (tells host file ≡ true) ↔ ChangesFile host file = λ host file. change_told (owner host file) (number file) in

@@ -38,8 +38,8 @@ ChangesGroup names host file =
     × (number_of names.groups group ≡ Some file.gid → ⊥)
 
 -- over all hosts so many of their files are changed, by whatever tells which are
-abbrev pub AreSoMany : (Host → Entry → Type 0) → List (Host × List Entry) → ℕ → Type 0
-AreSoMany IsChanged sites count = (tells : Host → Entry → Bool)
+abbrev pub ChangesSoMany : (Host → Entry → Type 0) → List (Host × List Entry) → ℕ → Type 0
+ChangesSoMany IsChanged sites count = (tells : Host → Entry → Bool)
     → ((host : Host) (file : Entry) → (tells host file ≡ true) ↔ IsChanged host file)
     → count ≡ sum_by (λ site. count_by (tells site.0) site.1) sites
 
@@ -51,8 +51,8 @@ pub record IsCounted (texts : List HostText) (keep : KeepRules) (map_text : List
   pub begun_is : cost_begun texts keep map_text ≡ Ok begun
   pub sites : List (Host × List Entry)
   pub read : each site_of (loaded_from begun.hosts (map (λ t. t.mtree) texts)) ≡ Ok sites
-  pub users : AreSoMany (ChangesUser begun.names) sites cost.users
-  pub groups : AreSoMany (ChangesGroup begun.names) sites cost.groups
+  pub users : ChangesSoMany (ChangesUser begun.names) sites cost.users
+  pub groups : ChangesSoMany (ChangesGroup begun.names) sites cost.groups
 
 abbrev pub ChangedFilesAreCounted : Type 0
 ChangedFilesAreCounted =
