@@ -1,10 +1,10 @@
 -- What is asked of files, and a count of them.
-use Rattle.std.proofs.Common.{◌≡◌, ◌+◌, ◌||◌, inl, inr, ℕ, Bool, true, false, cond, List, [], ◌∷◌, ◌++◌, Option, None, Some, refl, sym, ◌∙◌, ap, subst, arith}
+use Rattle.std.proofs.Common.{◌≡◌, ◌+◌, ◌||◌, inl, inr, ℕ, Bool, true, false, cond, List, [], ◌∷◌, ◌++◌, Option, None, Some, refl, sym, ◌∙◌, ap, subst, length, arith}
 use Rattle.std.specs.List.{count_by}
 use Rattle.std.specs.Option.{option_map}
 use Rattle.std.proofs.lemmas.List.Recursion.{is_count_by}
 use Rattle.reown_plan.specs.declared.plan.Owner.{Owner}
-use Rattle.reown_files.specs.Asked.{Asked, Told, Counted, Awaited, Given, ModeGiven, Synced, names_of, with_name, one_less, met_of, is_named, waits, IsGiven, IsKept}
+use Rattle.reown_files.specs.Asked.{Asked, Told, Counted, Awaited, Given, ModeGiven, Synced, names_of, with_name, one_less, met_of, is_named, waits, IsGiven, IsGivenAtMost, IsKept}
 use Rattle.reown_files.specs.FileLaws.{BeginsWithLook, OwnersAreLookedAt, IsGivenBetween, IsAwaited, FilesAreGivenBetweenLooks, is_name_of, NamesAreAllCounted}
 use Rattle.reown_files.specs.Looks.{id_of, is_other}
 use Rattle.reown_files.specs.OneFile.{AreOneFile}
@@ -72,8 +72,23 @@ module _ (path : List ℕ) (before after : Owner) (modes : Modes) where
     | inr h ↦ (let e : Given path after ∷ asked ≡ Told path h.1.0 ∷ Given path after ∷ Awaited f ∷ Told path f ∷ old = h.1.4 in absurd cc)
   ]
 
+-- what was given though the call failed
+given_if_at_all : (path : List ℕ) (before after : Owner) (found : Found) (old : List Asked) → IsGivenAtMost path before after old (Given path after ∷ Awaited found ∷ Told path found ∷ old) → (found.owner ≡ before) × (waits found old ≡ false)
+given_if_at_all path before after found old h = elim h [
+  | inl (inl e) ↦ absurd (omega (arith, ap length e))
+  | inl (inr h) ↦ absurd (let e : Given path after ∷ Awaited found ∷ Told path found ∷ old ≡ Told path h.0 ∷ old = h.1 in cc)
+  | inr (f, owner, last, way) ↦ elim way [
+    | inl e ↦ absurd (let e' : Given path after ∷ Awaited found ∷ Told path found ∷ old ≡ Awaited f ∷ Told path f ∷ old = e in cc)
+    | inr (inl e) ↦ (
+        let e' : Given path after ∷ Awaited found ∷ Told path found ∷ old ≡ Given path after ∷ Awaited f ∷ Told path f ∷ old = e in
+        let is : found ≡ f = cc in
+        (ap (λ (x : Found). x.owner) is ∙ owner, ap (λ (x : Found). waits x old) is ∙ last))
+    | inr (inr h) ↦ absurd (let e' : Given path after ∷ Awaited found ∷ Told path found ∷ old ≡ Told path h.0 ∷ Given path after ∷ Awaited f ∷ Told path f ∷ old = h.1 in cc)
+  ]
+]
+
 pub given_between_looks : FilesAreGivenBetweenLooks
-given_between_looks = record { given = given_between; awaited = still_awaited; seen_again = then_seen }
+given_between_looks = record { given = given_between; awaited = still_awaited; seen_again = then_seen; failed = given_if_at_all }
 
 -- ---- names
 

@@ -1,12 +1,12 @@
 -- What the calls of a root ask of a file, what they answer and what they write down.
-use Rattle.std.proofs.Common.{Option, Some, None, ◌≡◌, ◌↔◌, ◌∷◌, [], ◌||◌, ℕ, Bool, true, false, cond, List, refl, sym, ◌∙◌, ap, subst, ◌++◌, codes}
+use Rattle.std.proofs.Common.{Option, Some, None, inl, inr, ◌≡◌, ◌↔◌, ◌∷◌, length, length-append, arith, [], ◌||◌, ℕ, Bool, true, false, cond, List, refl, sym, ◌∙◌, ap, subst, ◌++◌, codes}
 use Rattle.reown_plan.specs.declared.mark.PlanMark.{PlanMark}
 use Rattle.reown_plan.specs.declared.plan.Owner.{Owner}
 use Rattle.reown_plan.specs.Owners.{owner_eq}
 use Rattle.reown_files.specs.declared.walk.Found.{Found}
 use Rattle.reown_files.specs.declared.walk.Kind.TheVariants.{Regular}
 use Rattle.reown_files.specs.Asked.{Asked, Told, Counted, ModeGiven, Synced, IsModeSet, IsKept, HasOneOwner, met, line_of}
-use Rattle.reown_files.specs.Done.{Done}
+use Rattle.reown_files.specs.Actions.{Action, MarkSeen, MarkSynced, ModesForgotten}
 use Rattle.reown_files.specs.Looks.{seen_of, is_other}
 use Rattle.reown_files.specs.NamesExample.{path, told, program, file_at, twice, both_met}
 use Rattle.reown_files.specs.OneFile.{HasLost}
@@ -165,5 +165,23 @@ changes = record { mode = mode_set; no_mode = mode_left; synced = kept_synced; u
 
 -- ---- the mark
 
-pub marks : (plan : PlanMark) (before : List Done) → ExampleOfMarks plan before
-marks plan before = record { there = refl; not_there = refl; put = refl; not_put = refl }
+-- no list is one that has more in front of it
+longer : (one : Action) (since before : List Action) → ¬ (one ∷ since ++ before ≡ before)
+longer one since before e = absurd (omega (arith, length-append since before, ap length e))
+
+pub marks : (plan : PlanMark) (before : List Action) → ExampleOfMarks plan before
+marks plan before =
+    record {
+      there = refl;
+      not_there = refl;
+      put = refl;
+      not_put = refl;
+      not_met = λ since h. elim h [
+        | inl e ↦ longer MarkSynced since before e
+        | inr e ↦ let e' : MarkSynced ∷ since ++ before ≡ MarkSeen plan true ∷ before = e in absurd cc
+      ];
+      not_kept = λ is_put since h. elim h [
+        | inl e ↦ longer ModesForgotten since before e
+        | inr e ↦ let e' : ModesForgotten ∷ since ++ before ≡ MarkSynced ∷ before = e.1 in absurd cc
+      ];
+    }

@@ -112,6 +112,17 @@ abbrev pub line_of : List ℕ → Owner → Found → List ℕ
 line_of path after found =
     if not (owner_eq found.owner after) && has_set_id found then line_text path found.mode else []
 
+-- a file was looked at once, or not at all
+abbrev pub IsToldAtMost : List ℕ → List Asked → List Asked → Type 0
+IsToldAtMost path old new = (new ≡ old) ⊎ ((found : Found) × (new ≡ Told path found ∷ old))
+
+-- a file could not be met: it was looked at at most; or its name was counted too, and the file not
+-- synced, or its line not written down
+abbrev pub IsMetAtMost : List ℕ → Owner → List Asked → List Asked → Type 0
+IsMetAtMost path after old new =
+    IsToldAtMost path old new
+    ⊎ ((found : Found) × (new ≡ Counted path found after ∷ Told path found ∷ old))
+
 -- a file was given an owner, and looked at again
 abbrev pub IsChanged : List ℕ → Owner → Found → ℕ → List Asked → List Asked → Type 0
 IsChanged path after found mode old new =
@@ -126,6 +137,15 @@ IsGiven path before after modes old new =
     × (((waits found old ≡ true) × (modes.after ≡ found.mode)
     × (new ≡ Awaited found ∷ Told path found ∷ old))
     ⊎ ((waits found old ≡ false) × IsChanged path after found modes.after old new))
+
+-- a file could not be given an owner: it was looked at at most; or it had the owner that is named,
+-- this was the last of its names, and it was given the other at most and looked at again at most
+abbrev pub IsGivenAtMost : List ℕ → Owner → Owner → List Asked → List Asked → Type 0
+IsGivenAtMost path before after old new =
+    IsToldAtMost path old new
+    ⊎ ((found : Found) × (found.owner ≡ before) × (waits found old ≡ false)
+    × ((new ≡ Awaited found ∷ Told path found ∷ old)
+    ⊎ IsToldAtMost path (Given path after ∷ Awaited found ∷ Told path found ∷ old) new))
 
 -- a file that was met as one with several names was looked at, and all of them were counted
 abbrev pub HasNamesMet : List ℕ → List Asked → List Asked → Type 0

@@ -21,7 +21,7 @@ pub data Called : Type 0 where
   SawMark : (plan : PlanMark) (set : Bool) → Called
   -- a file could not be looked at or met, for this
   NotSeen : (path : List ℕ) (trouble : Trouble) → Called
-  -- the mark of a plan could not be, for this
+  -- the mark of a plan could not be looked at or met, for this
   MarkNotSeen : (plan : PlanMark) (trouble : Trouble) → Called
   -- the names of a file were to be seen to be all in the plan
   CheckedLinks : (path : List ℕ) (done : Bool) → Called
@@ -31,11 +31,11 @@ pub data Called : Type 0 where
   SetMode : (path : List ℕ) (owner : Owner) (mode : ℕ) (done : Bool) → Called
   -- a file was to be seen at this owner and synced, by itself or with the sync of all
   Kept : (path : List ℕ) (owner : Owner) (done : Bool) → Called
-  -- that sync was to be made
+  -- all was to be synced
   Settled : (done : Bool) → Called
   -- the mark of a plan was to be put
   PutMark : (plan : PlanMark) (done : Bool) → Called
-  -- it was to be synced
+  -- the mark was to be synced
   KeptMark : (done : Bool) → Called
   -- the modes that an earlier run of a plan wrote down were to be read, where its mark was there or
   -- not; and this is whether there are such, if that could be told

@@ -1,9 +1,9 @@
 -- The files of the mark and of the modes by example.
 -- Sources: sha256sum(1), which prints a digest as two digits to the base 16 for each byte, the
 -- greater first; inode(7) for the bits of a mode. The texts are this project's own.
-use Rattle.std.specs.Prelude.{◌≡◌, ℕ, List, [], ◌∷◌, ◌++◌, codes, replicate}
+use Rattle.std.specs.Prelude.{◌≡◌, ℕ, List, [], ◌∷◌, ◌++◌, None, Some, codes, replicate}
 use Rattle.reown_plan.specs.declared.mark.PlanMark.{PlanMark}
-use Rattle.reown_files.specs.MarkText.{Entry, entry, mark_text, modes_text, lines_text}
+use Rattle.reown_files.specs.MarkText.{Entry, entry, mode_in, mark_text, modes_text, lines_text}
 
 -- the plan of a host `ann`, of 47 bytes, with a digest of 32 bytes
 abbrev pub plan : PlanMark
@@ -33,3 +33,9 @@ abbrev pub ExampleOfModes : Type 0
 ExampleOfModes =
     modes_text plan (lines_text entries)
     ≡ codes "unify modes 1 ann 47 " ++ digest_said ++ codes "\n" ++ entries_said ++ codes "end\n"
+
+-- the mode of a file is that of its line, and of the last where it has two
+pub record ExampleOfRead : Type 0 where
+  pub only : mode_in entries (codes "a b") ≡ Some 1440
+  pub last : mode_in (entry (codes "bin/su") 448 ∷ entries) (codes "bin/su") ≡ Some 2537
+  pub none : mode_in entries (codes "a") ≡ None

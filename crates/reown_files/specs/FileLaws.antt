@@ -5,7 +5,7 @@ use Rattle.std.specs.Prelude.{◌≡◌, ◌↔◌, ℕ, Bool, true, false, ◌&
 use Rattle.std.specs.Prelude.{count_by}
 use Rattle.reown_plan.specs.declared.plan.Owner.{Owner}
 use Rattle.reown_files.specs.Asked.{Asked, Told, Counted, Awaited, Given, waits, HasAllNames}
-use Rattle.reown_files.specs.Asked.{IsGiven, IsModeSet, IsKept}
+use Rattle.reown_files.specs.Asked.{IsGiven, IsGivenAtMost, IsModeSet, IsKept}
 use Rattle.reown_files.specs.Looks.{has_several_names, is_file, id_of}
 use Rattle.reown_files.specs.OneFile.{AreOneFile}
 use Rattle.reown_files.specs.RootData.{RootData, HasLostAt}
@@ -52,7 +52,8 @@ pub record IsAwaited (before : Owner) (modes : Modes) (found : Found) (old : Lis
   pub more : waits found old ≡ true
 
 -- a file is given another owner between two such looks, with the last of its names, and before that
--- it waits; and the change is never the last that was asked
+-- it waits; and the change is never the last that was asked. Where the call fails, it is given so if
+-- at all
 pub record FilesAreGivenBetweenLooks : Type 0 where
   pub given : (path : List ℕ) (before after : Owner) (modes : Modes)
       → (found now : Found) (old : List Asked)
@@ -65,6 +66,10 @@ pub record FilesAreGivenBetweenLooks : Type 0 where
       → IsAwaited before modes found old
   pub seen_again : (path : List ℕ) (before after : Owner) (modes : Modes) (old asked : List Asked)
       → ¬ IsGiven path before after modes old (Given path after ∷ asked)
+  pub failed : (path : List ℕ) (before after : Owner) (found : Found) (old : List Asked)
+      → IsGivenAtMost path before after old
+      (Given path after ∷ Awaited found ∷ Told path found ∷ old)
+      → (found.owner ≡ before) × (waits found old ≡ false)
 
 -- ---- names
 

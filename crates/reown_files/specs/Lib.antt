@@ -20,8 +20,8 @@ pub mod Looks
 pub mod Asked
 pub mod AskedCode
 pub mod Trees
-pub mod Done
-pub mod DoneCode
+pub mod Actions
+pub mod ActionsCode
 pub mod RootData
 pub mod RootExample
 pub mod InOrder

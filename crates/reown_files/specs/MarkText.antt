@@ -3,7 +3,8 @@
 use Rattle.std.specs.Prelude.{ℕ, List, [], ◌∷◌, ◌++◌, ◌+◌, ◌-◌, ◌*◌, ◌/◌, ◌%◌, ◌==◌, ◌&&◌, not}
 use Rattle.std.specs.Prelude.{nat_lt, if◌then◌else◌, flat_map, codes, decimal, take, drop}
 use Rattle.std.specs.Prelude.{slice_index, Option, None, Some, Result, Ok, Err, option_map}
-use Rattle.std.specs.Prelude.{Bool, nat_eq, bytes_eq, length}
+use Rattle.std.specs.Prelude.{Bool, nat_eq, bytes_eq, length, reverse}
+use Rattle.std.specs.Map.{lookup}
 use Rattle.std.specs.List.{starts_with, ends_with}
 use Rattle.std.specs.Option.{option_and_then}
 use Rattle.idtext.specs.Escapes.{escaped, unescaped, has_bad_escape, is_octal}
@@ -63,6 +64,10 @@ Entry = List ℕ × ℕ
 
 abbrev pub entry : List ℕ → ℕ → Entry
 entry path mode = (path, mode)
+
+-- the mode that they have for a file: the last of them with its path counts
+abbrev pub mode_in : List Entry → List ℕ → Option ℕ
+mode_in entries path = lookup (bytes_eq path) (reverse entries)
 
 -- what its line says
 abbrev pub line_said : List ℕ → ℕ → List ℕ

@@ -93,12 +93,13 @@ later_goes_on a b c x y =
 abbrev pub AsksMore : RealData → RealData → Type 0
 AsksMore old new = new ≡ record old { failure = new.failure; calls = new.calls }
 
--- nor but whether each file is kept
+-- nothing is new but whether each file is kept, what was asked of the disk, and where a call failed
 abbrev pub KeepsMore : RealData → RealData → Type 0
 KeepsMore old new =
     new ≡ record old { is_kept = new.is_kept; failure = new.failure; calls = new.calls }
 
--- nor but what is held, and whether the tree is stopped
+-- nothing is new but what is held, whether each file is kept, whether the tree is stopped, what was
+-- asked of the disk, and where a call failed
 abbrev pub GivesMore : RealData → RealData → Type 0
 GivesMore old new =
     new

@@ -35,7 +35,7 @@ abbrev pub with_change : List ℕ → Owner → Option Modes → Held → Held
 with_change path after None held = held
 with_change path after (Some modes) held = with_owner path (Some after) held
 
--- the same of the mark
+-- a mark that was put; one that was not counts as none
 abbrev pub with_put : PlanMark → Bool → Held → Held
 with_put plan true held = with_mark (Some plan) held
 with_put plan false held = held

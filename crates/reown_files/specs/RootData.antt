@@ -9,7 +9,7 @@ use Rattle.reown_files.specs.declared.answers.Seen.{Seen}
 use Rattle.reown_files.specs.declared.walk.Found.{Found}
 use Rattle.reown_files.specs.Asked.{Asked, Told, met, line_of, HasOneOwner}
 use Rattle.reown_files.specs.Calls.{Called}
-use Rattle.reown_files.specs.Done.{Done}
+use Rattle.reown_files.specs.Actions.{Action}
 use Rattle.reown_files.specs.Looks.{seen_of}
 use Rattle.reown_files.specs.OneFile.{HasLost}
 use Rattle.reown_files.specs.Trees.{mode_noted_for}
@@ -25,7 +25,7 @@ pub record RootData : Type 0 where
   pub read : Option PlanMark
   pub modes : List (Vec ℕ Global × ℕ)
   pub is_put : Bool
-  pub done : List Done
+  pub actions : List Action
   pub calls : List Called
 
 -- a look, of which this is told
@@ -69,6 +69,29 @@ TellsLost path owner (Some mode) lost old new =
 abbrev pub mode_noted : PlanMark → List ℕ → RootData → Option ℕ
 mode_noted plan path root = mode_noted_for root.read root.modes plan path
 
--- nothing was done to the mark, to the file of the modes or to the root
-abbrev pub LeavesMark : RootData → RootData → Type 0
-LeavesMark old new = (new.is_put ≡ old.is_put) × (new.done ≡ old.done)
+-- ---- what a call changes
+
+-- nothing is new but what was asked of files, and the calls that were made
+abbrev pub AsksMore : RootData → RootData → Type 0
+AsksMore old new = new ≡ record old { files = new.files; calls = new.calls }
+
+-- nothing is new but what was asked of files, the lines of modes, and the calls that were made
+abbrev pub MeetsMore : RootData → RootData → Type 0
+MeetsMore old new = new ≡ record old { files = new.files; lines = new.lines; calls = new.calls }
+
+-- nothing is new but what was done to the mark, to the file of the modes and to the root, and the
+-- calls that were made
+abbrev pub ActsMore : RootData → RootData → Type 0
+ActsMore old new = new ≡ record old { actions = new.actions; calls = new.calls }
+
+-- nothing is new but what was done to these, the plan that modes were read of, these modes, and the
+-- calls that were made
+abbrev pub ReadsMore : RootData → RootData → Type 0
+ReadsMore old new =
+    new
+    ≡ record old {
+      read = new.read;
+      modes = new.modes;
+      actions = new.actions;
+      calls = new.calls;
+    }

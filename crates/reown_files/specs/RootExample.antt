@@ -2,7 +2,7 @@
 -- mark, by example.
 -- Sources: inode(7) for the bits of a mode: 2541, 493 and 448 are 4755, 755 and 700 to the base 8;
 -- chown(2) for the bits that a change of the owner clears. All else is this project's own rule.
-use Rattle.std.specs.Prelude.{◌≡◌, ◌↔◌, ℕ, Bool, true, false, List, [], ◌∷◌, codes}
+use Rattle.std.specs.Prelude.{◌≡◌, ◌↔◌, ℕ, Bool, true, false, List, [], ◌∷◌, ◌++◌, codes}
 use Rattle.std.specs.Prelude.{Option, None, Some}
 use Rattle.reown_plan.specs.declared.mark.PlanMark.{PlanMark}
 use Rattle.reown_plan.specs.declared.plan.Owner.{Owner}
@@ -10,7 +10,8 @@ use Rattle.reown_files.specs.declared.answers.Seen.{Seen}
 use Rattle.reown_files.specs.declared.walk.Found.{Found}
 use Rattle.reown_files.specs.declared.walk.Kind.TheVariants.{Regular}
 use Rattle.reown_files.specs.Asked.{Asked, Told, Counted, ModeGiven, Synced, IsModeSet, IsKept}
-use Rattle.reown_files.specs.Done.{Done, MarkSeen, MarkSynced, ModesForgotten, mark_met, mark_kept}
+use Rattle.reown_files.specs.Actions.{Action, MarkSeen, MarkSynced, ModesForgotten, mark_met}
+use Rattle.reown_files.specs.Actions.{mark_kept, IsMarkSeenAtMost, IsMarkSyncedAtMost}
 use Rattle.reown_files.specs.NamesExample.{path, told, program, file_at, at_old, twice, both_met}
 use Rattle.reown_files.specs.RootData.{RootData, IsSeen, IsSeenAt, IsMet, HasLostAt}
 use Rattle.reown_files.specs.RootData.{TellsLost}
@@ -27,7 +28,7 @@ root one_journal files lines =
       read = None;
       modes = [];
       is_put = false;
-      done = [];
+      actions = [];
       calls = [];
     }
 
@@ -107,9 +108,13 @@ pub record ExampleOfChanges : Type 0 where
 
 -- a mark that is there is looked at and then synced when it is met; one that is kept is synced, and
 -- the modes are forgotten after that, exactly where this run has put it; each is noted after what
--- was done before
-pub record ExampleOfMarks (plan : PlanMark) (before : List Done) : Type 0 where
+-- was done before. Where a mark cannot be met it is never synced, and where one cannot be kept no
+-- modes are forgotten
+pub record ExampleOfMarks (plan : PlanMark) (before : List Action) : Type 0 where
   pub there : mark_met plan true before ≡ MarkSynced ∷ MarkSeen plan true ∷ before
   pub not_there : mark_met plan false before ≡ MarkSeen plan false ∷ before
   pub put : mark_kept true before ≡ ModesForgotten ∷ MarkSynced ∷ before
   pub not_put : mark_kept false before ≡ MarkSynced ∷ before
+  pub not_met : (since : List Action) → ¬ IsMarkSeenAtMost plan before (MarkSynced ∷ since ++ before)
+  pub not_kept : (is_put : Bool) (since : List Action)
+      → ¬ IsMarkSyncedAtMost is_put before (ModesForgotten ∷ since ++ before)

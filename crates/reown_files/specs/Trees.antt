@@ -1,6 +1,7 @@
 -- What search trees have of files: of their names, where they have several, and of their modes.
 -- Keys that own their bytes, and their order: words of the code and not of the subject.
-use Rattle.std.specs.Prelude.{ℕ, Bool, List, Option, None, Some, Vec, if◌then◌else◌}
+use Rattle.std.specs.Prelude.{◌≡◌, ℕ, Bool, true, false, List, Option, None, Some, Vec}
+use Rattle.std.specs.Prelude.{Ok, if◌then◌else◌}
 use Rattle.std.specs.declared.alloc.Global.{Global}
 use Rattle.std.specs.declared.cmp.Ordering.{Ordering}
 use Rattle.std.specs.Ordering.{nat_cmp, ordering_then}
@@ -9,9 +10,11 @@ use Rattle.std.specs.BTreeMap.{BTreeMap, get, is_at}
 use Rattle.std.specs.Map.{lookup}
 use Rattle.std.specs.BTreeSet.{BTreeSet, contains_by}
 use Rattle.reown_plan.specs.declared.mark.PlanMark.{PlanMark}
+use Rattle.idtext.specs.Pieces.{lines}
 use Rattle.reown_plan.specs.Mark.{mark_eq}
 use Rattle.reown_files.specs.declared.names.Names.{Names}
 use Rattle.reown_files.specs.Looks.{FileId}
+use Rattle.reown_files.specs.MarkText.{Entry, mode_in, head_text, lines_read, modes_judged}
 
 -- the order of files, by device and inode
 abbrev pub id_cmp : FileId → FileId → Ordering
@@ -32,3 +35,23 @@ abbrev pub mode_noted_for
 mode_noted_for None entries plan path = None
 mode_noted_for (Some read) entries plan path =
     if mark_eq read plan then mode_at entries path else None
+
+-- the modes are those that the lines of a text say
+abbrev pub HasModesOf : List ℕ → List (Vec ℕ Global × ℕ) → Type 0
+HasModesOf text tree =
+    (entries : List Entry) × (lines_read (lines text) ≡ Some entries)
+    × ((path : List ℕ) → mode_at tree path ≡ mode_in entries path)
+
+-- a file of modes of this plan was read, beside whatever mark, and the modes are those of its lines
+abbrev pub AreOfThePlan : PlanMark → List (Vec ℕ Global × ℕ) → Type 0
+AreOfThePlan plan tree =
+    (text mark rest : List ℕ) × (modes_judged (head_text plan) mark text ≡ Ok (Some rest))
+    × HasModesOf rest tree
+
+-- where modes were read of this plan, they are this plan's; and else those that were read before
+-- stay
+abbrev pub HasRead
+    : PlanMark → Bool → Option PlanMark → List (Vec ℕ Global × ℕ) → Option PlanMark
+    → List (Vec ℕ Global × ℕ) → Type 0
+HasRead plan true old entries new now = (new ≡ Some plan) × AreOfThePlan plan now
+HasRead plan false old entries new now = (new ≡ old) × (now ≡ entries)

@@ -3,6 +3,7 @@ ghost use Rattle.std.specs.Prelude.{◌≡◌, [], ◌∷◌, false, IfOk, IfErr
 ghost use Rattle.reown_files.specs.declared.walk.Found.{Found as FoundData};
 ghost use Rattle.reown_files.specs.Asked.{Told, Given, ModeGiven, with_sync, met, HasNamesMet};
 ghost use Rattle.reown_files.specs.Asked.{LacksNames, IsGiven, IsModeSet, IsKept, HasOneOwner};
+ghost use Rattle.reown_files.specs.Asked.{IsToldAtMost, IsMetAtMost, IsGivenAtMost};
 ghost use Rattle.reown_files.specs.Looks.{seen_of};
 
 use crate::files::Files;
@@ -68,11 +69,12 @@ impl<'w> Below<'w> {
         Ok(found)
     }
 
-    // The same, where it has this owner.
+    // What a name stands for, as `find` tells it, where it has this owner.
     fn expect(&mut self, path: &[u8], name: &[u8], owner: Owner) -> Result<Found, Trouble>
         ensures told { IfOk result
             (λ found. self.new.files ≡ Told path.now found ∷ self.old.files) }
         ensures owner { IfOk result (λ found. found.owner ≡ owner) }
+        ensures at_most { OnErr result (IsToldAtMost path.now self.old.files self.new.files) }
         ensures journal { self.new.has_one_journal ≡ self.old.has_one_journal }
     {
         let found = self.find(path, name)?;
@@ -85,8 +87,10 @@ impl<'w> Below<'w> {
     // Waits until what a name stands for has reached its device. Links and the like wait for
     // `settle`, and all files where there is one journal.
     fn sync(&mut self, path: &[u8], name: &[u8], found: &Found) -> Result<(), Trouble>
-        ensures { OnOk result (self.new.files
+        ensures synced { OnOk result (self.new.files
             ≡ with_sync self.old.has_one_journal path.now found.now self.old.files) }
+        ensures same { OnErr result (self.new.files ≡ self.old.files) }
+        ensures journal { self.new.has_one_journal ≡ self.old.has_one_journal }
     {
         if self.has_one_journal || found.kind == Kind::Other {
             return Ok(());
@@ -105,7 +109,9 @@ impl<'w> Below<'w> {
         found: &Found,
         after: Owner,
     ) -> Result<(), Trouble>
-        ensures { OnOk result (self.new.files ≡ Given path.now after ∷ self.old.files) }
+        ensures given { OnOk result (self.new.files ≡ Given path.now after ∷ self.old.files) }
+        ensures same { OnErr result (self.new.files ≡ self.old.files) }
+        ensures journal { self.new.has_one_journal ≡ self.old.has_one_journal }
     {
         if found.kind == Kind::Other {
             give_by_name(self.rt, name, after)?;
@@ -124,7 +130,9 @@ impl<'w> Below<'w> {
         found: &Found,
         mode: u32,
     ) -> Result<(), Trouble>
-        ensures { OnOk result (self.new.files ≡ ModeGiven path.now mode ∷ self.old.files) }
+        ensures set { OnOk result (self.new.files ≡ ModeGiven path.now mode ∷ self.old.files) }
+        ensures same { OnErr result (self.new.files ≡ self.old.files) }
+        ensures journal { self.new.has_one_journal ≡ self.old.has_one_journal }
     {
         let file = open(self.rt, name, found)?;
         file.set_mode(mode)?;
@@ -143,24 +151,29 @@ impl<'w> Below<'w> {
         ensures told { IfOk result
             (λ found. self.new.files ≡ Told path.now found ∷ self.old.files) }
         ensures untold { OnErr result (self.new.files ≡ self.old.files) }
+        ensures journal { self.new.has_one_journal ≡ self.old.has_one_journal }
     {
         let name = self.way.enter(path)?;
         self.find(path, name)
     }
 
-    /// What is told of it.
+    /// What is told of the file at a path.
     pub fn see(&mut self, path: &[u8]) -> Result<Seen, Trouble>
-        ensures { IfOk result (λ seen. (found : FoundData) × (seen ≡ seen_of found)
+        ensures told { IfOk result (λ seen. (found : FoundData) × (seen ≡ seen_of found)
             × (self.new.files ≡ Told path.now found ∷ self.old.files)) }
+        ensures untold { OnErr result (self.new.files ≡ self.old.files) }
+        ensures journal { self.new.has_one_journal ≡ self.old.has_one_journal }
     {
         let found = self.look(path)?;
         Ok(seen_in(&found))
     }
 
-    /// Its owner.
+    /// The owner of the file at a path.
     pub fn owner(&mut self, path: &[u8]) -> Result<Owner, Trouble>
-        ensures { IfOk result (λ owner. (found : FoundData) × (owner ≡ found.owner)
+        ensures told { IfOk result (λ owner. (found : FoundData) × (owner ≡ found.owner)
             × (self.new.files ≡ Told path.now found ∷ self.old.files)) }
+        ensures untold { OnErr result (self.new.files ≡ self.old.files) }
+        ensures journal { self.new.has_one_journal ≡ self.old.has_one_journal }
     {
         let found = self.look(path)?;
         Ok(found.owner)
@@ -171,6 +184,8 @@ impl<'w> Below<'w> {
         ensures met { IfOk result (λ found. self.new.files
             ≡ met self.old.has_one_journal path.now after found self.old.files) }
         ensures one { IfOk result (λ found. HasOneOwner after found self.old.files) }
+        ensures at_most { OnErr result (IsMetAtMost path.now after self.old.files self.new.files) }
+        ensures journal { self.new.has_one_journal ≡ self.old.has_one_journal }
     {
         let name = self.way.enter(path)?;
         let found = self.find(path, name)?;
@@ -187,6 +202,7 @@ impl<'w> Below<'w> {
         ensures checked { OnOk result (HasNamesMet path.now self.old.files self.new.files) }
         ensures refused { IfErr result
             (λ trouble. LacksNames path.now trouble self.old.files self.new.files) }
+        ensures journal { self.new.has_one_journal ≡ self.old.has_one_journal }
     {
         if !self.files.has_counted(path) {
             return Ok(());
@@ -197,8 +213,11 @@ impl<'w> Below<'w> {
 
     /// Gives what is at a path, and has one owner, another, with the last of its names.
     pub fn give(&mut self, path: &[u8], before: Owner, after: Owner) -> Result<Modes, Trouble>
-        ensures { IfOk result (λ modes.
+        ensures given { IfOk result (λ modes.
             IsGiven path.now before after modes self.old.files self.new.files) }
+        ensures at_most { OnErr result
+            (IsGivenAtMost path.now before after self.old.files self.new.files) }
+        ensures journal { self.new.has_one_journal ≡ self.old.has_one_journal }
     {
         let name = self.way.enter(path)?;
         let found = self.expect(path, name, before)?;
@@ -221,7 +240,9 @@ impl<'w> Below<'w> {
 
     /// Sets the mode of what is at a path, and has this owner.
     pub fn set_mode(&mut self, path: &[u8], owner: Owner, mode: u32) -> Result<(), Trouble>
-        ensures { OnOk result (IsModeSet path.now owner mode self.old.files self.new.files) }
+        ensures set { OnOk result (IsModeSet path.now owner mode self.old.files self.new.files) }
+        ensures at_most { OnErr result (IsToldAtMost path.now self.old.files self.new.files) }
+        ensures journal { self.new.has_one_journal ≡ self.old.has_one_journal }
     {
         let name = self.way.enter(path)?;
         let found = self.expect(path, name, owner)?;
@@ -233,8 +254,10 @@ impl<'w> Below<'w> {
 
     /// Sees that what is at a path has this owner, and syncs it.
     pub fn keep(&mut self, path: &[u8], owner: Owner) -> Result<(), Trouble>
-        ensures { OnOk result
+        ensures kept { OnOk result
             (IsKept self.old.has_one_journal path.now owner self.old.files self.new.files) }
+        ensures at_most { OnErr result (IsToldAtMost path.now self.old.files self.new.files) }
+        ensures journal { self.new.has_one_journal ≡ self.old.has_one_journal }
     {
         let name = self.way.enter(path)?;
         let found = self.expect(path, name, owner)?;

@@ -7,7 +7,7 @@ ghost use Rattle.reown_files.specs.NamesExample.{ExampleOfAllNames, ExampleOfOne
 ghost use Rattle.reown_files.specs.NamesExample.{ExampleOfLostModes};
 ghost use Rattle.reown_files.specs.RootExample.{ExampleOfAnswers, ExampleOfMet, ExampleOfLost};
 ghost use Rattle.reown_files.specs.RootExample.{ExampleOfChanges, ExampleOfMarks};
-ghost use Rattle.reown_files.specs.Done.{Done};
+ghost use Rattle.reown_files.specs.Actions.{Action};
 ghost use Rattle.reown_plan.specs.declared.mark.PlanMark.{PlanMark};
 ghost use Rattle.reown_files.specs.Runs.{is_run, note, program, both, run_of_note, run_of_program};
 ghost use Rattle.reown_files.specs.Runs.{unread, unmet, unchecked, unasked, unsettled, unwritten};
@@ -74,5 +74,5 @@ pub fn roots_by_example()
     ensures met { ExampleOfMet }
     ensures lost { ExampleOfLost }
     ensures changes { ExampleOfChanges }
-    ensures marks { (plan : PlanMark) (before : List Done) → ExampleOfMarks plan before }
+    ensures marks { (plan : PlanMark) (before : List Action) → ExampleOfMarks plan before }
 {}

@@ -15,7 +15,7 @@ pub fn check_owner(found: Option<Owner>, held: Option<Owner>) -> Result<(), Trou
     Err(found.map_or(Trouble::Gone, |owner| Trouble::Foreign(owner)))
 }
 
-/// The same of the mark.
+/// The mark was found to be there, or not, as is held.
 pub fn check_mark(set: bool, held: bool) -> Result<(), Trouble>
     ensures same { OnOk result (set ≡ held) }
     ensures other { OnErr result (set ≢ held) }

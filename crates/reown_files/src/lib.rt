@@ -1,6 +1,7 @@
 //! Carries a plan out on a real tree of files.
 #![tactic(auto)]
 
+mod actions;
 mod answers;
 mod applying;
 mod asked;
@@ -8,7 +9,6 @@ mod below;
 mod by_example;
 mod comparing;
 mod counting;
-mod deeds;
 mod disk;
 mod file_laws;
 mod files;
@@ -41,6 +41,7 @@ pub use lawful::{
     changes_are_foreseen, marks_come_last, modes_are_set_at_once, notes_are_of_one_plan,
 };
 pub use log::{Call, Log};
+pub use mark_file::read_mark;
 pub use modes_file::MODES_BEHIND;
 pub use read_back::{marks_and_modes_by_example, marks_are_read_back, modes_are_read_back};
 pub use real_tree::{RealTree, Refused};

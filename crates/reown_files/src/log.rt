@@ -33,21 +33,22 @@ pub enum Call<'a> {
     SawMark(&'a PlanMark, bool),
     /// The file of this path could not be looked at or met, for this.
     NotSeen(&'a [u8], Trouble),
-    /// The mark of this plan could not be, for this.
+    /// The mark of this plan could not be looked at or met, for this.
     MarkNotSeen(&'a PlanMark, Trouble),
     /// The names of the file of this path were to be seen to be all in the plan.
     CheckedLinks(&'a [u8], bool),
     /// The file of this path was to be given an owner in place of another.
     Gave(&'a [u8], Owner, Owner, Option<Modes>),
-    /// The bits of its mode were to be set, where it has this owner.
+    /// The bits of the mode of the file of this path were to be set, where it has this owner.
     SetMode(&'a [u8], Owner, u32, bool),
-    /// It was to be seen at this owner and synced, by itself or with the sync of all.
+    /// The file of this path was to be seen at this owner and synced, by itself or with the sync of
+    /// all.
     Kept(&'a [u8], Owner, bool),
     /// All was to be synced.
     Settled(bool),
     /// The mark of this plan was to be put.
     PutMark(&'a PlanMark, bool),
-    /// That mark was to be synced.
+    /// The mark was to be synced.
     KeptMark(bool),
     /// The modes that an earlier run of this plan wrote down were to be read, where its mark was
     /// there or not; and this is whether there are such, if that could be told.

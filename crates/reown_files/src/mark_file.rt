@@ -1,11 +1,11 @@
 //! The mark of a plan, as a file.
-ghost use Rattle.std.specs.Prelude.{◌≡◌, ◌⊎◌, ◌++◌, ◌<◌, ◌∷◌, Some, None, IfOk, IfErr, OnOk};
+ghost use Rattle.std.specs.Prelude.{◌≡◌, ◌⊎◌, ◌++◌, ◌<◌, ◌∷◌, Some, None, IfOk, IfErr, OnOk, OnErr};
 ghost use Rattle.reown_files.specs.declared.answers.Trouble.TheVariants.{Memory, NotMark};
-ghost use Rattle.reown_files.specs.Done.{MarkSeen, MarkPut, MarkSynced};
+ghost use Rattle.reown_files.specs.Actions.{MarkSeen, MarkPut, MarkSynced};
 ghost use Rattle.reown_files.specs.MarkText as spec;
 
 use crate::Trouble;
-use crate::deeds::{Deed, DeedLog};
+use crate::actions::{Action, ActionLog};
 use crate::whole_file::{put_whole, read_whole, sync_name};
 use idtext::push_number;
 use reown_plan::PlanMark;
@@ -73,9 +73,12 @@ fn mark_text(alloc: Global, plan: &PlanMark) -> Result<Vec<u8>, AllocError>
     Ok(text)
 }
 
-// Whether a text is the mark of this plan. A text that is no mark is refused; the mark of another
-// plan is none of this one.
-fn read_mark(alloc: Global, plan: &PlanMark, text: &[u8]) -> Result<bool, Trouble>
+/// Whether a text is the mark of this plan; that of another plan is not. One pass over it.
+///
+/// # Errors
+///
+/// `NotMark` where the text is no mark, or `Memory`.
+pub fn read_mark(alloc: Global, plan: &PlanMark, text: &[u8]) -> Result<bool, Trouble>
     ensures read { IfOk result (λ is_own. spec.mark_read plan.now text.now ≡ Some is_own) }
     ensures refused { IfErr result (λ trouble. (trouble ≡ Memory)
         ⊎ ((trouble ≡ NotMark) × (spec.mark_read plan.now text.now ≡ None))) }
@@ -107,33 +110,37 @@ impl<'w> MarkFile<'w> {
 
     /// Whether it is there, and this plan's. A file that is no mark is refused; that of another
     /// plan is none of this one.
-    pub fn is_there(&self, plan: &PlanMark, deeds: &mut DeedLog) -> Result<bool, Trouble>
-        ensures { IfOk result (λ set. deeds.new.done ≡ MarkSeen plan.now set ∷ deeds.old.done) }
+    pub fn is_there(&self, plan: &PlanMark, log: &mut ActionLog) -> Result<bool, Trouble>
+        ensures seen { IfOk result
+            (λ set. log.new.actions ≡ MarkSeen plan.now set ∷ log.old.actions) }
+        ensures undone { OnErr result (log.new.actions ≡ log.old.actions) }
     {
         let is_there = match self.text()? {
             Some(text) => read_mark(self.rt.alloc(), plan, &text)?,
             None => false,
         };
-        deeds.note(&Deed::MarkSeen(plan, is_there));
+        log.note(&Action::MarkSeen(plan, is_there));
         Ok(is_there)
     }
 
     /// Puts this plan's there, whole or not at all.
-    pub fn put(&self, plan: &PlanMark, deeds: &mut DeedLog) -> Result<(), Trouble>
-        ensures { OnOk result (deeds.new.done ≡ MarkPut plan.now ∷ deeds.old.done) }
+    pub fn put(&self, plan: &PlanMark, log: &mut ActionLog) -> Result<(), Trouble>
+        ensures put { OnOk result (log.new.actions ≡ MarkPut plan.now ∷ log.old.actions) }
+        ensures undone { OnErr result (log.new.actions ≡ log.old.actions) }
     {
         let text = mark_text(self.rt.alloc(), plan)?;
         put_whole(self.rt, self.path.as_str(), &text)?;
-        deeds.note(&Deed::MarkPut(plan));
+        log.note(&Action::MarkPut(plan));
         Ok(())
     }
 
     /// Waits until its name has reached the device.
-    pub fn sync(&self, deeds: &mut DeedLog) -> Result<(), Trouble>
-        ensures { OnOk result (deeds.new.done ≡ MarkSynced ∷ deeds.old.done) }
+    pub fn sync(&self, log: &mut ActionLog) -> Result<(), Trouble>
+        ensures synced { OnOk result (log.new.actions ≡ MarkSynced ∷ log.old.actions) }
+        ensures undone { OnErr result (log.new.actions ≡ log.old.actions) }
     {
         sync_name(self.rt, self.path.as_str())?;
-        deeds.note(&Deed::MarkSynced);
+        log.note(&Action::MarkSynced);
         Ok(())
     }
 }

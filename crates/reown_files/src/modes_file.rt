@@ -3,22 +3,23 @@
 //! this is for a stop between the two. It is there, with or without modes, from before the first
 //! change until the mark is synced, so that a plan which was begun is known by it.
 ghost use Rattle.std.specs.Prelude.{◌≡◌, ◌<◌, ◌+◌, ◌++◌, ◌↔◌, Some, IfOk, IfSome, IsTrue, OnOk};
+ghost use Rattle.std.specs.Prelude.{OnErr, ◌&&◌, not};
 ghost use Rattle.std.specs.Prelude.{[], ◌∷◌, if◌then◌else◌};
-ghost use Rattle.std.specs.Prelude.{IfErr, None, Ok, Err, false, map, length, ◌≤◌, ◌⊎◌};
+ghost use Rattle.std.specs.Prelude.{IfErr, None, Ok, Err, false, length, ◌≤◌, ◌⊎◌};
 ghost use Rattle.std.specs.Option.{option_copied};
 ghost use Rattle.reown_files.specs.declared.answers.Trouble.TheVariants.{NotModes, Memory};
 ghost use Rattle.reown_files.specs.declared.answers.Trouble.TheVariants.{TooManyModes};
-ghost use Rattle.reown_files.specs.Done.{ModesRead, ModesPut, ModesForgotten};
+ghost use Rattle.reown_files.specs.Actions.{ModesRead, ModesPut, ModesForgotten};
 ghost use Rattle.reown_files.specs.Looks as looks;
 ghost use Rattle.reown_files.specs.OneFile.{HasLost};
 ghost use Rattle.idtext.specs.Escapes.{unescaped, has_bad_escape};
 ghost use Rattle.idtext.specs.Pieces.{lines as lines_of_text};
 ghost use Rattle.reown_files.specs.MarkText as spec;
 ghost use Rattle.reown_files.specs.ModesNoted.{entry_of};
-ghost use Rattle.reown_files.specs.Trees.{mode_noted_for};
+ghost use Rattle.reown_files.specs.Trees.{mode_noted_for, HasModesOf, HasRead};
 
 use crate::Trouble;
-use crate::deeds::{Deed, DeedLog};
+use crate::actions::{Action, ActionLog};
 use crate::mark_file::{HEAD as MARK_HEAD, MarkFile, push_plan};
 use crate::walk::{Found, Kind, SET_ID, if_there};
 use crate::whole_file::{path_with, put_whole, read_whole, sync_name};
@@ -172,24 +173,15 @@ fn read_line(alloc: Global, line: &[u8]) -> Result<Noted, Trouble>
     Ok(Noted { path, mode })
 }
 
-// What the lines of files say.
-fn read_lines(alloc: Global, text: &[u8]) -> Result<Vec<Noted>, Trouble>
-    ensures { IfOk result
-        (λ all. spec.lines_read (lines_of_text text.now) ≡ Some (map entry_of all.items)) }
+// The modes that the lines of files say, by path; of several lines of one file the last counts.
+// Whoever names files may choose the paths, so they stand in a search tree: no look-up takes more
+// than a few comparisons, whatever the names are.
+fn read_lines(alloc: Global, text: &[u8]) -> Result<BTreeMap<Vec<u8>, u32>, Trouble>
+    ensures { IfOk result (λ modes. HasModesOf text.now modes.entries) }
 {
-    let mut all = Vec::new(alloc);
-    for line in Lines::new(text) {
-        all.push(read_line(alloc, line)?)?;
-    }
-    Ok(all)
-}
-
-// The modes by path. Whoever names files may choose the paths, so they stand in a search tree: no
-// look-up takes more than a few comparisons, whatever the names are.
-fn tree_of(alloc: Global, all: Vec<Noted>) -> Result<BTreeMap<Vec<u8>, u32>, Trouble> {
     let mut modes = BTreeMap::new(alloc);
-    for noted in all {
-        let Noted { path, mode } = noted;
+    for line in Lines::new(text) {
+        let Noted { path, mode } = read_line(alloc, line)?;
         modes.insert(path, mode)?;
     }
     Ok(modes)
@@ -264,7 +256,8 @@ pub struct ModesFile<'w> {
 impl<'w> ModesFile<'w> {
     /// The file beside a mark.
     pub fn beside(rt: &'w HostRuntime, mark: &str) -> Result<ModesFile<'w>, Trouble>
-        ensures { IfOk result (λ modes. modes.lines.items ≡ []) }
+        ensures lines { IfOk result (λ modes. modes.lines.items ≡ []) }
+        ensures unread { IfOk result (λ modes. modes.plan ≡ None) }
     {
         Ok(ModesFile {
             rt,
@@ -280,9 +273,10 @@ impl<'w> ModesFile<'w> {
     /// Adds the line of a file that is to be given an owner, where it is a regular one with a bit
     /// that this clears.
     pub fn add(&mut self, path: &[u8], found: &Found) -> Result<(), Trouble>
-        ensures { OnOk result (self.new.lines.items ≡ self.old.lines.items
+        ensures added { OnOk result (self.new.lines.items ≡ self.old.lines.items
             ++ (if looks.has_set_id found.now
             then spec.line_text path.now found.now.mode else [])) }
+        ensures rest { self.new ≡ record self.old { lines = self.new.lines } }
     {
         if has_set_id(found) {
             push_line(&mut self.lines, path, found.mode)?;
@@ -290,21 +284,28 @@ impl<'w> ModesFile<'w> {
         Ok(())
     }
 
-    // Reads a text that is there, and answers whether it is of this plan.
+    // Reads a text that is there, and answers whether it is of this plan. The modes in it are noted
+    // where its mark was not there.
     fn read_text(
         &mut self,
         plan: &PlanMark,
         text: &[u8],
         mark: &MarkFile<'_>,
-    ) -> Result<bool, Trouble> {
+    ) -> Result<bool, Trouble>
+        ensures read { IfOk result (λ own.
+            HasRead plan.now (own && not self.old.is_over) self.old.plan self.old.noted.entries
+            self.new.plan self.new.noted.entries) }
+        ensures same { OnErr result (self.new ≡ self.old) }
+        ensures rest { self.new
+            ≡ record self.old { plan = self.new.plan; noted = self.new.noted } }
+    {
         let head = head_of(self.rt.alloc(), plan)?;
         let beside = mark.text()?.unwrap_or(Vec::new(self.rt.alloc()));
         let Some(lines) = judge(text, &head, &beside)? else {
             return Ok(false);
         };
         if !self.is_over {
-            let all = read_lines(self.rt.alloc(), lines)?;
-            self.noted = tree_of(self.rt.alloc(), all)?;
+            self.noted = read_lines(self.rt.alloc(), lines)?;
             self.plan = Some(*plan);
         }
         Ok(true)
@@ -318,10 +319,17 @@ impl<'w> ModesFile<'w> {
         plan: &PlanMark,
         is_marked: bool,
         mark: &MarkFile<'_>,
-        deeds: &mut DeedLog,
+        log: &mut ActionLog,
     ) -> Result<bool, Trouble>
-        ensures { IfOk result
-            (λ begun. deeds.new.done ≡ ModesRead plan.now is_marked begun ∷ deeds.old.done) }
+        ensures noted { IfOk result
+            (λ begun. log.new.actions ≡ ModesRead plan.now is_marked begun ∷ log.old.actions) }
+        ensures undone { OnErr result (log.new.actions ≡ log.old.actions) }
+        ensures read { IfOk result (λ begun.
+            HasRead plan.now (begun && not is_marked) self.old.plan self.old.noted.entries
+            self.new.plan self.new.noted.entries) }
+        ensures same { OnErr result
+            ((self.new.plan ≡ self.old.plan) × (self.new.noted ≡ self.old.noted)) }
+        ensures lines { self.new.lines ≡ self.old.lines }
     {
         self.is_over = is_marked;
         let is_begun = match read_whole(
@@ -333,7 +341,7 @@ impl<'w> ModesFile<'w> {
             Some(text) => self.read_text(plan, &text, mark)?,
             None => false,
         };
-        deeds.note(&Deed::ModesRead(plan, is_marked, is_begun));
+        log.note(&Action::ModesRead(plan, is_marked, is_begun));
         Ok(is_begun)
     }
 
@@ -356,7 +364,9 @@ impl<'w> ModesFile<'w> {
     // Puts there what this run of the plan may lose, be it nothing, whole and synced. Where its
     // mark was there the file is removed. What would be too long to be read back is refused, and
     // nothing is written.
-    fn write(&mut self, plan: &PlanMark) -> Result<(), Trouble> {
+    fn write(&mut self, plan: &PlanMark) -> Result<(), Trouble>
+        ensures { self.new ≡ record self.old { is_put = self.new.is_put } }
+    {
         if self.is_over {
             return self.remove();
         }
@@ -366,17 +376,22 @@ impl<'w> ModesFile<'w> {
         sync_name(self.rt, self.path.as_str())
     }
 
-    /// The same, and notes it.
-    pub fn put(&mut self, plan: &PlanMark, deeds: &mut DeedLog) -> Result<(), Trouble>
-        ensures { OnOk result (deeds.new.done ≡ ModesPut plan.now ∷ deeds.old.done) }
+    /// Writes down for this plan the modes that the run may lose, be they none, in place of what
+    /// was there; where the plan's mark was there, removes that instead.
+    pub fn put(&mut self, plan: &PlanMark, log: &mut ActionLog) -> Result<(), Trouble>
+        ensures put { OnOk result (log.new.actions ≡ ModesPut plan.now ∷ log.old.actions) }
+        ensures undone { OnErr result (log.new.actions ≡ log.old.actions) }
+        ensures rest { self.new ≡ record self.old { is_put = self.new.is_put } }
     {
         self.write(plan)?;
-        deeds.note(&Deed::ModesPut(plan));
+        log.note(&Action::ModesPut(plan));
         Ok(())
     }
 
     // Removes what this run has put there.
-    fn clear(&mut self) -> Result<(), Trouble> {
+    fn clear(&mut self) -> Result<(), Trouble>
+        ensures { self.new ≡ record self.old { is_put = self.new.is_put } }
+    {
         if !self.is_put {
             return Ok(());
         }
@@ -387,12 +402,14 @@ impl<'w> ModesFile<'w> {
         }
     }
 
-    /// The same, and notes it.
-    pub fn forget(&mut self, deeds: &mut DeedLog) -> Result<(), Trouble>
-        ensures { OnOk result (deeds.new.done ≡ ModesForgotten ∷ deeds.old.done) }
+    /// Removes the file, where this run has put it there.
+    pub fn forget(&mut self, log: &mut ActionLog) -> Result<(), Trouble>
+        ensures forgotten { OnOk result (log.new.actions ≡ ModesForgotten ∷ log.old.actions) }
+        ensures undone { OnErr result (log.new.actions ≡ log.old.actions) }
+        ensures rest { self.new ≡ record self.old { is_put = self.new.is_put } }
     {
         self.clear()?;
-        deeds.note(&Deed::ModesForgotten);
+        log.note(&Action::ModesForgotten);
         Ok(())
     }
 }

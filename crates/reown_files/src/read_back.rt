@@ -2,7 +2,7 @@
 //! nothing.
 ghost use Rattle.reown_files.specs.Laws.{MarksAreReadBack, ModesAreReadBack, ModesAreOfOnePlan};
 ghost use Rattle.reown_files.specs.Laws.{MarksEndOnePlan, ModesAreJudged, CutModesAreRefused};
-ghost use Rattle.reown_files.specs.Examples.{ExampleOfMark, ExampleOfModes};
+ghost use Rattle.reown_files.specs.Examples.{ExampleOfMark, ExampleOfModes, ExampleOfRead};
 
 /// The mark that is written for a plan is read as the mark of that plan, and as that of no plan
 /// that differs from it in its host, its length or its digest.
@@ -23,8 +23,9 @@ pub fn modes_are_read_back()
 {}
 
 /// The two files by example, byte by byte: a mark with its digest as `sha256sum` prints it, and
-/// modes in octal digits, each with its file.
+/// modes in octal digits, each with its file; and which mode is read of such lines for a file.
 pub fn marks_and_modes_by_example()
     ensures mark { ExampleOfMark }
     ensures modes { ExampleOfModes }
+    ensures read { ExampleOfRead }
 {}

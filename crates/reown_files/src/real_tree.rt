@@ -186,7 +186,7 @@ impl<'p, 'a, D: Disk> RealTree<'p, 'a, D> {
         self.held.set_owner(path, owner).unwrap()
     }
 
-    // Holds the mark where no call has put it, in the same case.
+    // Holds the mark where no call has put it, and no call may fail any more.
     fn write_mark(&mut self, plan: &PlanMark)
         requires { 2 ^ 64 ≤ self.old.faults + 1 }
         ensures done { SetsMark

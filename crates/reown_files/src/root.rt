@@ -1,17 +1,22 @@
 //! The files below a directory of the system, as a disk.
 ghost use Rattle.std.specs.Prelude.{◌≡◌, [], ◌∷◌, true, false, None, Some};
-ghost use Rattle.std.specs.Prelude.{IfOk, IfErr, IfSome, OnOk, OnErr, is_ok, ◌||◌};
+ghost use Rattle.std.specs.Prelude.{IfOk, IfErr, IfSome, IfNone, OnOk, OnErr, is_ok, not};
+ghost use Rattle.std.specs.Prelude.{◌||◌, ◌&&◌};
 ghost use Rattle.reown_files.specs.Asked.{HasNamesMet, LacksNames, IsGiven, IsModeSet, IsKept};
+ghost use Rattle.reown_files.specs.Asked.{IsToldAtMost, IsMetAtMost, IsGivenAtMost};
 ghost use Rattle.reown_files.specs.Calls.{Looked, Met, CheckedLinks, Saw, NotSeen, Gave, SetMode};
 ghost use Rattle.reown_files.specs.Calls.{Kept, LostMode, MetMark, MarkNotSeen, Settled, SawMark};
 ghost use Rattle.reown_files.specs.Calls.{PutMark, ReadModes, PutModes, KeptMark};
-ghost use Rattle.reown_files.specs.Done.{MarkSeen, MarkPut, ModesRead, ModesPut, RootSettled};
-ghost use Rattle.reown_files.specs.Done.{mark_met, mark_kept};
+ghost use Rattle.reown_files.specs.Actions.{MarkSeen, MarkPut, ModesRead, ModesPut, RootSettled};
+ghost use Rattle.reown_files.specs.Actions.{mark_met, mark_kept, IsMarkSeenAtMost};
+ghost use Rattle.reown_files.specs.Actions.{IsMarkSyncedAtMost};
 ghost use Rattle.reown_files.specs.RootData.{IsSeen, IsSeenAt, IsMet, HasLostAt, TellsLost};
-ghost use Rattle.reown_files.specs.RootData.{mode_noted, LeavesMark};
+ghost use Rattle.reown_files.specs.RootData.{mode_noted, AsksMore, MeetsMore, ActsMore};
+ghost use Rattle.reown_files.specs.RootData.{ReadsMore};
+ghost use Rattle.reown_files.specs.Trees.{HasRead};
 
+use crate::actions::ActionLog;
 use crate::below::Below;
-use crate::deeds::DeedLog;
 use crate::mark_file::MarkFile;
 use crate::modes_file::{ModesFile, has_lost};
 use crate::walk::{Directory, if_there};
@@ -38,7 +43,7 @@ pub struct Root<'w> {
     modes: ModesFile<'w>,
     // Whether the mark was put.
     is_put: bool,
-    deeds: DeedLog,
+    actions: ActionLog,
     log: Log,
 }
 
@@ -54,7 +59,7 @@ impl<'w> Model for Root<'w> {
       read = r.modes.plan;
       modes = r.modes.noted.entries;
       is_put = r.is_put;
-      done = r.deeds.done;
+      actions = r.actions.actions;
       calls = r.log.calls;
     } };
 }
@@ -100,8 +105,9 @@ impl<'w> Root<'w> {
     pub fn open(rt: &'w HostRuntime, path: &str, mark: &str) -> Result<Root<'w>, RootFault>
         ensures fresh { IfOk result
             (λ root. (root.calls ≡ []) × (root.files ≡ []) × (root.lines ≡ [])) }
+        ensures unread { IfOk result (λ root. root.read ≡ None) }
         ensures journals { IfOk result (λ root. root.has_one_journal ≡ false) }
-        ensures undone { IfOk result (λ root. (root.is_put ≡ false) × (root.done ≡ [])) }
+        ensures undone { IfOk result (λ root. (root.is_put ≡ false) × (root.actions ≡ [])) }
     {
         let root = Directory::at(rt, path)?;
         root.lock()?;
@@ -113,9 +119,19 @@ impl<'w> Root<'w> {
             mark: MarkFile::at(rt, mark),
             _home: home,
             is_put: false,
-            deeds: DeedLog::new(),
+            actions: ActionLog::new(),
             log: Log::new(),
         })
+    }
+
+    /// What stands in the file of the mark, if it is there, whatever plan it is of. Its first 4096
+    /// bytes are read, more than any mark has.
+    ///
+    /// # Errors
+    ///
+    /// `NotMark` where it is no regular file; or what is in the way.
+    pub fn mark_text(&self) -> Result<Option<Vec<u8>>, Trouble> {
+        self.mark.text()
     }
 
     /// Leaves it to `settle` to see that changes have reached the device: for a file system with
@@ -130,8 +146,11 @@ impl<'w> Root<'w> {
     fn met(&mut self, path: &[u8], after: Owner) -> Result<Option<Owner>, Trouble>
         ensures met { IfOk result (λ seen. IfSome seen
             (λ owner. IsMet path.now after owner self.old self.new)) }
-        ensures calls { self.new.calls ≡ self.old.calls }
-        ensures mark { LeavesMark self.old self.new }
+        ensures gone { IfOk result (λ seen. IfNone seen
+            (IsMetAtMost path.now after self.old.files self.new.files)) }
+        ensures at_most { OnErr result (IsMetAtMost path.now after self.old.files self.new.files) }
+        ensures rest { self.new
+            ≡ record self.old { files = self.new.files; lines = self.new.lines } }
     {
         let Some(found) = if_there(self.below.meet(path, after))? else {
             return Ok(None);
@@ -144,12 +163,15 @@ impl<'w> Root<'w> {
 
     // Whether the mark is there. One that is, is synced.
     fn met_mark(&mut self, plan: &PlanMark) -> Result<bool, Trouble>
-        ensures same { self.new ≡ record self.old { done = self.new.done } }
-        ensures met { IfOk result (λ set. self.new.done ≡ mark_met plan.now set self.old.done) }
+        ensures at_most { OnErr result
+            (IsMarkSeenAtMost plan.now self.old.actions self.new.actions) }
+        ensures rest { self.new ≡ record self.old { actions = self.new.actions } }
+        ensures met { IfOk result
+            (λ set. self.new.actions ≡ mark_met plan.now set self.old.actions) }
     {
-        let is_there = self.mark.is_there(plan, &mut self.deeds)?;
+        let is_there = self.mark.is_there(plan, &mut self.actions)?;
         if is_there {
-            self.mark.sync(&mut self.deeds)?;
+            self.mark.sync(&mut self.actions)?;
         }
         Ok(is_there)
     }
@@ -160,8 +182,8 @@ impl<'w> Root<'w> {
             (λ mode. HasLostAt path.now owner mode self.old self.new)) }
         ensures tells { IfOk result (λ lost. TellsLost path.now owner
             (mode_noted plan.now path.now self.old) lost self.old.files self.new.files) }
-        ensures calls { self.new.calls ≡ self.old.calls }
-        ensures mark { LeavesMark self.old self.new }
+        ensures untold { OnErr result (self.new.files ≡ self.old.files) }
+        ensures rest { self.new ≡ record self.old { files = self.new.files } }
     {
         let Some(mode) = self.modes.noted(plan, path) else {
             return Ok(None);
@@ -176,14 +198,16 @@ impl<'w> Root<'w> {
 
     // Syncs the mark, and forgets the modes that this run wrote down where it has put the mark.
     fn finish(&mut self) -> Result<(), Trouble>
-        ensures calls { self.new.calls ≡ self.old.calls }
-        ensures kept { OnOk result (self.new.done ≡ mark_kept self.old.is_put self.old.done) }
-        ensures stays { self.new.is_put ≡ self.old.is_put }
+        ensures kept { OnOk result
+            (self.new.actions ≡ mark_kept self.old.is_put self.old.actions) }
+        ensures at_most { OnErr result
+            (IsMarkSyncedAtMost self.old.is_put self.old.actions self.new.actions) }
+        ensures rest { self.new ≡ record self.old { actions = self.new.actions } }
     {
         // A stop before the mark has reached its device has to find the modes.
-        self.mark.sync(&mut self.deeds)?;
+        self.mark.sync(&mut self.actions)?;
         if self.is_put {
-            self.modes.forget(&mut self.deeds)?;
+            self.modes.forget(&mut self.actions)?;
         }
         Ok(())
     }
@@ -197,9 +221,11 @@ impl<'w> Disk for Root<'w> {
             (λ seen. self.new.calls ≡ Looked path.now seen ∷ self.old.calls) }
         ensures told { IfOk result (λ seen. IfSome seen
             (λ seen. IsSeen path.now seen self.old self.new)) }
+        ensures gone { IfOk result (λ seen. IfNone seen (self.new.files ≡ self.old.files)) }
         ensures failed { IfErr result
             (λ trouble. self.new.calls ≡ NotSeen path.now trouble ∷ self.old.calls) }
-        ensures mark { LeavesMark self.old self.new }
+        ensures untold { OnErr result (self.new.files ≡ self.old.files) }
+        ensures rest { AsksMore self.old self.new }
     {
         let told = if_there(self.below.see(path));
         self.log.note(&match told {
@@ -214,9 +240,12 @@ impl<'w> Disk for Root<'w> {
             (λ found. self.new.calls ≡ Met path.now after found ∷ self.old.calls) }
         ensures told { IfOk result (λ found. IfSome found
             (λ owner. IsMet path.now after owner self.old self.new)) }
+        ensures gone { IfOk result (λ found. IfNone found
+            (IsMetAtMost path.now after self.old.files self.new.files)) }
         ensures failed { IfErr result
             (λ trouble. self.new.calls ≡ NotSeen path.now trouble ∷ self.old.calls) }
-        ensures mark { LeavesMark self.old self.new }
+        ensures at_most { OnErr result (IsMetAtMost path.now after self.old.files self.new.files) }
+        ensures rest { MeetsMore self.old self.new }
     {
         let told = self.met(path, after);
         self.log.note(&match told {
@@ -229,10 +258,13 @@ impl<'w> Disk for Root<'w> {
     fn meet_mark(&mut self, plan: &PlanMark) -> Result<bool, Trouble>
         ensures met { IfOk result
             (λ set. self.new.calls ≡ MetMark plan.now set ∷ self.old.calls) }
-        ensures synced { IfOk result (λ set. self.new.done ≡ mark_met plan.now set self.old.done) }
+        ensures synced { IfOk result
+            (λ set. self.new.actions ≡ mark_met plan.now set self.old.actions) }
         ensures failed { IfErr result
             (λ trouble. self.new.calls ≡ MarkNotSeen plan.now trouble ∷ self.old.calls) }
-        ensures stays { self.new.is_put ≡ self.old.is_put }
+        ensures at_most { OnErr result
+            (IsMarkSeenAtMost plan.now self.old.actions self.new.actions) }
+        ensures rest { ActsMore self.old self.new }
     {
         let told = self.met_mark(plan);
         self.log.note(&match told {
@@ -247,7 +279,7 @@ impl<'w> Disk for Root<'w> {
         ensures checked { OnOk result (HasNamesMet path.now self.old.files self.new.files) }
         ensures refused { IfErr result
             (λ trouble. LacksNames path.now trouble self.old.files self.new.files) }
-        ensures mark { LeavesMark self.old self.new }
+        ensures rest { AsksMore self.old self.new }
     {
         let told = self.below.check_links(path);
         self.log.note(&Call::CheckedLinks(path, told.is_ok()));
@@ -258,9 +290,11 @@ impl<'w> Disk for Root<'w> {
         ensures saw { IfOk result (λ found. self.new.calls ≡ Saw path.now found ∷ self.old.calls) }
         ensures told { IfOk result (λ found. IfSome found
             (λ owner. IsSeenAt path.now owner self.old self.new)) }
+        ensures gone { IfOk result (λ found. IfNone found (self.new.files ≡ self.old.files)) }
         ensures failed { IfErr result
             (λ trouble. self.new.calls ≡ NotSeen path.now trouble ∷ self.old.calls) }
-        ensures mark { LeavesMark self.old self.new }
+        ensures untold { OnErr result (self.new.files ≡ self.old.files) }
+        ensures rest { AsksMore self.old self.new }
     {
         let told = if_there(self.below.owner(path));
         self.log.note(&match told {
@@ -277,25 +311,21 @@ impl<'w> Disk for Root<'w> {
             IsGiven path.now before after modes self.old.files self.new.files) }
         ensures failed { OnErr result
             (self.new.calls ≡ Gave path.now before after None ∷ self.old.calls) }
-        ensures mark { LeavesMark self.old self.new }
+        ensures at_most { OnErr result
+            (IsGivenAtMost path.now before after self.old.files self.new.files) }
+        ensures rest { AsksMore self.old self.new }
     {
-        match self.below.give(path, before, after) {
-            Ok(modes) => {
-                self.log.note(&Call::Gave(path, before, after, Some(modes)));
-                Ok(modes)
-            }
-            Err(trouble) => {
-                self.log.note(&Call::Gave(path, before, after, None));
-                Err(trouble)
-            }
-        }
+        let told = self.below.give(path, before, after);
+        self.log.note(&Call::Gave(path, before, after, told.ok()));
+        told
     }
 
     fn set_mode(&mut self, path: &[u8], owner: Owner, mode: u32) -> Result<(), Trouble>
         ensures noted { self.new.calls
             ≡ SetMode path.now owner mode (is_ok result) ∷ self.old.calls }
         ensures set { OnOk result (IsModeSet path.now owner mode self.old.files self.new.files) }
-        ensures mark { LeavesMark self.old self.new }
+        ensures at_most { OnErr result (IsToldAtMost path.now self.old.files self.new.files) }
+        ensures rest { AsksMore self.old self.new }
     {
         let told = self.below.set_mode(path, owner, mode);
         self.log
@@ -307,7 +337,8 @@ impl<'w> Disk for Root<'w> {
         ensures noted { self.new.calls ≡ Kept path.now owner (is_ok result) ∷ self.old.calls }
         ensures kept { OnOk result
             (IsKept self.old.has_one_journal path.now owner self.old.files self.new.files) }
-        ensures mark { LeavesMark self.old self.new }
+        ensures at_most { OnErr result (IsToldAtMost path.now self.old.files self.new.files) }
+        ensures rest { AsksMore self.old self.new }
     {
         let told = self.below.keep(path, owner);
         self.log.note(&Call::Kept(path, owner, told.is_ok()));
@@ -316,10 +347,11 @@ impl<'w> Disk for Root<'w> {
 
     fn settle(&mut self) -> Result<(), Trouble>
         ensures noted { self.new.calls ≡ Settled (is_ok result) ∷ self.old.calls }
-        ensures settled { OnOk result (self.new.done ≡ RootSettled ∷ self.old.done) }
-        ensures stays { self.new.is_put ≡ self.old.is_put }
+        ensures settled { OnOk result (self.new.actions ≡ RootSettled ∷ self.old.actions) }
+        ensures undone { OnErr result (self.new.actions ≡ self.old.actions) }
+        ensures rest { ActsMore self.old self.new }
     {
-        let told = self.below.root().settle(&mut self.deeds);
+        let told = self.below.root().settle(&mut self.actions);
         self.log.note(&Call::Settled(told.is_ok()));
         told
     }
@@ -327,12 +359,14 @@ impl<'w> Disk for Root<'w> {
     fn is_marked(&mut self, plan: &PlanMark) -> Result<bool, Trouble>
         ensures saw { IfOk result
             (λ set. self.new.calls ≡ SawMark plan.now set ∷ self.old.calls) }
-        ensures seen { IfOk result (λ set. self.new.done ≡ MarkSeen plan.now set ∷ self.old.done) }
+        ensures seen { IfOk result
+            (λ set. self.new.actions ≡ MarkSeen plan.now set ∷ self.old.actions) }
         ensures failed { IfErr result
             (λ trouble. self.new.calls ≡ MarkNotSeen plan.now trouble ∷ self.old.calls) }
-        ensures stays { self.new.is_put ≡ self.old.is_put }
+        ensures undone { OnErr result (self.new.actions ≡ self.old.actions) }
+        ensures rest { ActsMore self.old self.new }
     {
-        let told = self.mark.is_there(plan, &mut self.deeds);
+        let told = self.mark.is_there(plan, &mut self.actions);
         self.log.note(&match told {
             Ok(is_there) => Call::SawMark(plan, is_there),
             Err(trouble) => Call::MarkNotSeen(plan, trouble),
@@ -342,10 +376,15 @@ impl<'w> Disk for Root<'w> {
 
     fn put_mark(&mut self, plan: &PlanMark) -> Result<(), Trouble>
         ensures noted { self.new.calls ≡ PutMark plan.now (is_ok result) ∷ self.old.calls }
-        ensures put { OnOk result (self.new.done ≡ MarkPut plan.now ∷ self.old.done) }
-        ensures is_put { self.new.is_put ≡ (self.old.is_put || is_ok result) }
+        ensures put { OnOk result (self.new.actions ≡ MarkPut plan.now ∷ self.old.actions) }
+        ensures undone { OnErr result (self.new.actions ≡ self.old.actions) }
+        ensures rest { self.new ≡ record self.old {
+          is_put = self.old.is_put || is_ok result;
+          actions = self.new.actions;
+          calls = self.new.calls;
+        } }
     {
-        let told = self.mark.put(plan, &mut self.deeds);
+        let told = self.mark.put(plan, &mut self.actions);
         self.is_put = self.is_put || told.is_ok();
         self.log.note(&Call::PutMark(plan, told.is_ok()));
         told
@@ -355,16 +394,17 @@ impl<'w> Disk for Root<'w> {
         ensures told { IfOk result
             (λ begun. self.new.calls ≡ ReadModes plan.now mark (Some begun) ∷ self.old.calls) }
         ensures read { IfOk result
-            (λ begun. self.new.done ≡ ModesRead plan.now mark begun ∷ self.old.done) }
+            (λ begun. self.new.actions ≡ ModesRead plan.now mark begun ∷ self.old.actions) }
         ensures failed { OnErr result
             (self.new.calls ≡ ReadModes plan.now mark None ∷ self.old.calls) }
-        ensures stays { self.new.is_put ≡ self.old.is_put }
+        ensures modes { IfOk result (λ begun. HasRead plan.now (begun && not mark)
+            self.old.read self.old.modes self.new.read self.new.modes) }
+        ensures undone { OnErr result
+            (self.new ≡ record self.old { calls = self.new.calls }) }
+        ensures rest { ReadsMore self.old self.new }
     {
-        let told = self.modes.read(plan, mark, &self.mark, &mut self.deeds);
-        self.log.note(&match told {
-            Ok(is_begun) => Call::ReadModes(plan, mark, Some(is_begun)),
-            Err(_) => Call::ReadModes(plan, mark, None),
-        });
+        let told = self.modes.read(plan, mark, &self.mark, &mut self.actions);
+        self.log.note(&Call::ReadModes(plan, mark, told.ok()));
         told
     }
 
@@ -382,7 +422,8 @@ impl<'w> Disk for Root<'w> {
             (mode_noted plan.now path.now self.old) lost self.old.files self.new.files) }
         ensures failed { IfErr result
             (λ trouble. self.new.calls ≡ NotSeen path.now trouble ∷ self.old.calls) }
-        ensures mark { LeavesMark self.old self.new }
+        ensures untold { OnErr result (self.new.files ≡ self.old.files) }
+        ensures rest { AsksMore self.old self.new }
     {
         let told = self.lost(plan, path, owner);
         self.log.note(&match told {
@@ -394,18 +435,22 @@ impl<'w> Disk for Root<'w> {
 
     fn put_modes(&mut self, plan: &PlanMark) -> Result<(), Trouble>
         ensures noted { self.new.calls ≡ PutModes plan.now (is_ok result) ∷ self.old.calls }
-        ensures put { OnOk result (self.new.done ≡ ModesPut plan.now ∷ self.old.done) }
-        ensures stays { self.new.is_put ≡ self.old.is_put }
+        ensures put { OnOk result (self.new.actions ≡ ModesPut plan.now ∷ self.old.actions) }
+        ensures undone { OnErr result (self.new.actions ≡ self.old.actions) }
+        ensures rest { ActsMore self.old self.new }
     {
-        let told = self.modes.put(plan, &mut self.deeds);
+        let told = self.modes.put(plan, &mut self.actions);
         self.log.note(&Call::PutModes(plan, told.is_ok()));
         told
     }
 
     fn keep_mark(&mut self) -> Result<(), Trouble>
         ensures noted { self.new.calls ≡ KeptMark (is_ok result) ∷ self.old.calls }
-        ensures kept { OnOk result (self.new.done ≡ mark_kept self.old.is_put self.old.done) }
-        ensures stays { self.new.is_put ≡ self.old.is_put }
+        ensures kept { OnOk result
+            (self.new.actions ≡ mark_kept self.old.is_put self.old.actions) }
+        ensures at_most { OnErr result
+            (IsMarkSyncedAtMost self.old.is_put self.old.actions self.new.actions) }
+        ensures rest { ActsMore self.old self.new }
     {
         let told = self.finish();
         self.log.note(&Call::KeptMark(told.is_ok()));

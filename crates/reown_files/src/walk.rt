@@ -1,11 +1,11 @@
 //! Directories and files that are open, and what a name in the working directory stands for.
 
-ghost use Rattle.std.specs.Prelude.{◌≡◌, ◌↔◌, ◌∷◌, IsTrue, OnOk};
-ghost use Rattle.reown_files.specs.Done.{RootSettled};
+ghost use Rattle.std.specs.Prelude.{◌≡◌, ◌↔◌, ◌∷◌, IsTrue, OnOk, OnErr};
+ghost use Rattle.reown_files.specs.Actions.{RootSettled};
 ghost use Rattle.reown_files.specs.OneFile.{AreOneFile, seen_if_there};
 
 use crate::Trouble;
-use crate::deeds::{Deed, DeedLog};
+use crate::actions::{Action, ActionLog};
 use crate::whole_file::path_with;
 use reown_plan::Owner;
 use std::alloc::Global;
@@ -128,7 +128,7 @@ impl OpenFile {
         Ok(Found::of(&self.file.metadata()?))
     }
 
-    // The same, where it is the file that was seen.
+    // What it is now, where that is the file that was seen.
     fn same_as(&self, seen: &Found) -> Result<Found, Trouble> {
         let now = self.itself()?;
         if !now.is_same_file(seen) {
@@ -169,7 +169,8 @@ fn open_at(rt: &HostRuntime, path: &str) -> Result<OpenFile, Trouble> {
     Ok(OpenFile { file })
 }
 
-// The same, where it is to be a directory.
+// Opens the directory that a path leads to, for reading. The path ends in `.`, so that what is no
+// directory is refused by the system.
 fn open_inside(rt: &HostRuntime, path: &str) -> Result<OpenFile, Trouble> {
     match File::open(rt, path) {
         Ok(file) => Ok(OpenFile { file }),
@@ -240,12 +241,13 @@ impl Directory {
 
     /// Waits until the root has reached its device, and on a file system with one journal all that
     /// was changed before. Its time of change is set first, so that there is something to wait for.
-    pub fn settle(&self, deeds: &mut DeedLog) -> Result<(), Trouble>
-        ensures { OnOk result (deeds.new.done ≡ RootSettled ∷ deeds.old.done) }
+    pub fn settle(&self, log: &mut ActionLog) -> Result<(), Trouble>
+        ensures settled { OnOk result (log.new.actions ≡ RootSettled ∷ log.old.actions) }
+        ensures undone { OnErr result (log.new.actions ≡ log.old.actions) }
     {
         match self.sync_touched() {
             Ok(()) => {
-                deeds.note(&Deed::RootSettled);
+                log.note(&Action::RootSettled);
                 Ok(())
             }
             Err(Trouble::System(number)) => Err(Trouble::OfRoot(number)),

@@ -4,4 +4,4 @@ use Rattle.reown_files.proofs.read_back.marks_and_modes_by_example.Goals as goal
 
 pub returns : goal.returns
 unfolding digits
-returns c = record { mark = refl; modes = refl }
+returns c = record { mark = refl; modes = refl; read = record { only = refl; last = refl; none = refl } }

@@ -11,17 +11,17 @@ use denote.Steps.{nothing}
 use denote.Triple.Entry.{on_entry}
 use denote.Triple.Walked.{says, ends_at}
 use Rattle.std.proofs.raw_atomic.Walks.{proved}
-use Rattle.reown_files.specs.contracts.deeds.DeedLog.{the_row}
-use Rattle.reown_files.specs.contracts.deeds.DeedLog.new as f
-use Rattle.reown_files.proofs.deeds.DeedLog.new.Statement.{statement}
-use Rattle.reown_files.proofs.deeds.DeedLog.new.Code as code
+use Rattle.reown_files.specs.contracts.actions.ActionLog.{the_row}
+use Rattle.reown_files.specs.contracts.actions.ActionLog.new as f
+use Rattle.reown_files.proofs.actions.ActionLog.new.Statement.{statement}
+use Rattle.reown_files.proofs.actions.ActionLog.new.Code as code
 
 pub new_spec : {M : Type 1} → statement M
 new_spec 𝓤 𝓛 𝓜 𝓡 wired =
     let c = f.clauses 𝓛 𝓜.mem 𝓡.returns in
     proved 𝓛 f.ended tt c 𝓜 𝓡 tt f.Key.name code.function (code.unfolded 𝓤 𝓛.H 𝓜 𝓡 wired)
     (λ κs. tt) (λ κs. tt) (λ κs qs bounds a g _.
-    let v = vstruct vnil in let log : the_row.Denot = record { done = [] } in
+    let v = vstruct vnil in let log : the_row.Denot = record { actions = [] } in
     qed 𝓛 (raw (on_entry 𝓛 f.signature κs qs a tt) ∷ raw ((c κs a).requires g) ∷ []) ∵ keep ! [] $
     enter ! _ _ _ _ _ $ alloc_all ! (λ l. pass_all ! refl tt $
     sets ! (agg ! (no_more !)) refl (tt, tt) $

@@ -2,24 +2,24 @@
 //! clauses read.
 ghost use Rattle.std.specs.Prelude.{◌≡◌, List, [], ◌∷◌};
 ghost use Rattle.std.specs.Borrow.{ftrue};
-ghost use Rattle.reown_files.specs.Done.{Done};
+ghost use Rattle.reown_files.specs.Actions.{Action as ActionData};
 
 use reown_plan::PlanMark;
 use std::marker::Model;
 
 /// What was done, the newest first, for contracts alone: it takes no memory and no time.
 #[derive(Drop)]
-pub struct DeedLog {
-    pub ghost done: { List Done },
+pub struct ActionLog {
+    pub ghost actions: { List ActionData },
 }
 
-impl Model for DeedLog {
+impl Model for ActionLog {
     ghost also_owns = { λ _. ftrue };
 }
 
 /// What was done. Each is noted by the call that does it, where the system told it of no error.
 #[derive(Clone, Copy)]
-pub enum Deed<'a> {
+pub enum Action<'a> {
     /// The file of the mark was looked at, and was there and this plan's, or not.
     MarkSeen(&'a PlanMark, bool),
     /// The mark of this plan was put.
@@ -37,18 +37,18 @@ pub enum Deed<'a> {
     RootSettled,
 }
 
-impl DeedLog {
-    ghost use Rattle.reown_files.specs.DoneCode.{done_of};
+impl ActionLog {
+    ghost use Rattle.reown_files.specs.ActionsCode.{action_of};
 
     /// Nothing was done as yet.
-    pub fn new() -> DeedLog
-        ensures { result.done ≡ [] }
+    pub fn new() -> ActionLog
+        ensures { result.actions ≡ [] }
     {
-        DeedLog {}
+        ActionLog {}
     }
 
     /// Notes what was done.
-    pub fn note(&mut self, _deed: &Deed<'_>)
-        ensures { self.new.done ≡ done_of _deed.now ∷ self.old.done }
+    pub fn note(&mut self, _action: &Action<'_>)
+        ensures { self.new.actions ≡ action_of _action.now ∷ self.old.actions }
     {}
 }

@@ -15,12 +15,12 @@ use denote.Signature.{plain, named_lft}
 use denote.Steps.{nothing, opens, closes}
 use denote.Triple.Walked.{Stays, says, stay_ref, Goes-ref, stay_dropped, Goes-dropped, ends_at}
 use Rattle.std.proofs.raw_atomic.Walks.{proved}
-use Rattle.reown_files.specs.DoneCode.{done_of}
-use Rattle.reown_files.specs.contracts.deeds.DeedLog.{the_row}
-use Rattle.reown_files.specs.contracts.deeds.Deed as call
-use Rattle.reown_files.specs.contracts.deeds.DeedLog.note as f
-use Rattle.reown_files.proofs.deeds.DeedLog.note.Statement.{statement}
-use Rattle.reown_files.proofs.deeds.DeedLog.note.Code as code
+use Rattle.reown_files.specs.ActionsCode.{action_of}
+use Rattle.reown_files.specs.contracts.actions.ActionLog.{the_row}
+use Rattle.reown_files.specs.contracts.actions.Action as call
+use Rattle.reown_files.specs.contracts.actions.ActionLog.note as f
+use Rattle.reown_files.proofs.actions.ActionLog.note.Statement.{statement}
+use Rattle.reown_files.proofs.actions.ActionLog.note.Code as code
 
 abbrev stayed : Stays f.ended.signature.params f.ended.kept
 stayed = (stay_ref (0 ∷ []) tt (plain (λ _. the_row)), (stay_dropped _ yes, tt))
@@ -35,7 +35,7 @@ note_spec 𝓤 𝓛 𝓜 𝓡 wired =
     (λ κs. (mut_Tells (named 0) κs.0 the_row, (shr_Tells (named 1) κs.1.0 (call.the_row (named_lft 3 2 tt κs)), tt))) (λ κs qs bounds a g are.
     let self = a.0 in let b = self.ref_ptr.0 in let o = self.ref_ptr.1 in
     let vs = mut_vals self in let us = shr_vals a.1.0 in
-    let log : the_row.Denot = record { done = done_of a.1.0.now ∷ self.now.done } in
+    let log : the_row.Denot = record { actions = action_of a.1.0.now ∷ self.now.actions } in
     let others = ‵ (flft κs.1.0 qs.1.0) ⊛ ‵ (flft κs.1.1.0 qs.1.1.0) ⊛ ‵ ftrue in
     qed 𝓛 (((‵ (flft κs.0 qs.0) ⊛ others) ⊛ ‵ ((MutRef (named 0) κs.0 the_row).own_val self vs)
     ⊛ ‵ ((ShrRef (named 1) κs.1.0 (call.the_row (named_lft 3 2 tt κs))).own_val a.1.0 us) ⊛ ‵ ftrue) ∷ ‵ ftrue ∷ []) ∵
