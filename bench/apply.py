@@ -339,6 +339,13 @@ class Bench:
             good = (again.returncode, again.stderr) == (came.returncode, came.stderr) and seen(self.root, self.owners)[0] == before
             say(f"  --check: status {again.returncode}, {again.stderr.strip()}", good)
 
+    def warned(self, what, is_warned, *flags):
+        """Whether --check warns that the file of the mark marks another plan."""
+        words = [word for word in self.words("--check", *flags) if word != "-q"]
+        came = subprocess.run(words, capture_output=True, text=True)
+        told = f"unify: warning: file {self.plan}.done marks another plan as done; "
+        say(f"{what}: status {came.returncode}, {came.stderr.splitlines()[:1]}", came.returncode == 0 and came.stderr.startswith(told) == is_warned)
+
     def no_text(self):
         """Plans with a name that is not UTF-8, as the last name of a path and on the way: they are refused before anything is
         written, and so they are by --check and --reverse, which is told that it was begun. The file is there, at its old owner."""
@@ -414,6 +421,10 @@ class Bench:
             came = subprocess.run(words, capture_output=True, text=True)
             other.kill()
         say(f"a process with a thread of another user: {came.stderr.splitlines()[:1]}", is_set and f"process {other.pid} is the first of 1 that run or may run under a number that the plan changes or gives\n" in came.stderr)
+        with subprocess.Popen(["sleep", "0"], extra_groups=[ONE[1]]) as other:
+            os.waitid(os.P_PID, other.pid, os.WEXITED | os.WNOWAIT)
+            came = subprocess.run(words, capture_output=True, text=True)
+        say(f"a zombie of another group: {came.stderr.splitlines()[:1]}", came.returncode == 0 and "process" not in came.stderr)
         hidden = 'mount -t proc -o hidepid=1 proc /proc && exec setpriv --reuid 41009 --regid 41009 --clear-groups "$@"'
         came = subprocess.run(["unshare", "--mount", "sh", "-c", hidden, "sh", *words], capture_output=True, text=True)
         say(f"processes that may not be looked at: {came.stderr.splitlines()[:1]}", came.stderr.startswith("unify: warning: processes could not all be looked at; "))
@@ -444,8 +455,11 @@ def no_modes(program, room):
     came = bench.ran()
     say(f"  then run to its end: status {came.returncode}, modes file left: {modes_file.exists()}", came.returncode == 0 and not modes_file.exists())
     bench.at_end("then", "new")
+    bench.warned("  then its reverse is not warned of", False, "--reverse")
     bench.plan.write_bytes(plan_text("bench-host", {path: (OTHER, THIRD) for path in owners}))
+    bench.warned("  then another plan is", True)
     came = bench.ran()
+    bench.warned("  and once it is done it is not", False)
     counts = seen(root, {path: (OTHER, THIRD) for path in owners})[0]
     say(f"  then another plan: status {came.returncode}, {dict(counts)}, modes file left: {modes_file.exists()}", came.returncode == 0 and counts["new"] == 20 and not modes_file.exists())
 

@@ -18,7 +18,7 @@ use Rattle.idtext.specs.Words.{words}
 use Rattle.idtext.proofs.NumberLemmas.{decimal-back}
 use Rattle.reown_plan.specs.declared.plan.Owner.{Owner}
 use Rattle.reown_plan.specs.declared.plan.Record.{Record}
-use Rattle.unify_apply.specs.AskedLaws.{DevicesByExample, FitTellsTheHost, FitsTellTheHost, IsCalled, IsLeftOrTaken, IsOfThree, JournalIsANumber, MapsByExample, MayBe, Moves, NamesAreTold, OneJournalIsOfThree, ProcessesAreFound, RootIsEffective, SoughtGroupsMove, SoughtUsersMove, TellRange, TellsAny, TellsRange, TellsRoot}
+use Rattle.unify_apply.specs.AskedLaws.{DevicesByExample, EndsByExample, FitTellsTheHost, FitsTellTheHost, IsCalled, IsLeftOrTaken, IsOfThree, JournalIsANumber, MapsByExample, MayBe, Moves, NamesAreTold, OneJournalIsOfThree, ProcessesAreFound, RootIsEffective, SoughtGroupsMove, SoughtUsersMove, TellRange, TellsAny, TellsRange, TellsRoot}
 use Rattle.unify_apply.specs.Ends.{without_end}
 use Rattle.unify_apply.specs.Machine.{fit_of, have_root, is_called, tells_root}
 use Rattle.unify_apply.specs.Mounts.{MountText, has_one_journal, mount_of, mounts_in, path_from}
@@ -331,3 +331,7 @@ processes-found users groups status uid_map gid_map =
 pub maps-told : MapsByExample
 unfolding numeral words lines pieces
 maps-told = record { initial = λ numbers. refl; own = refl }
+
+pub ended-told : EndsByExample
+unfolding numeral words lines pieces
+ended-told = refl

@@ -10,6 +10,7 @@ pub mod NearestLaw
 pub mod PathLaws
 pub mod PathLemmas
 pub mod PreviewsBack
+pub mod ReverseMark
 pub mod SecondWay
 pub mod Statuses
 pub mod WrittenLines

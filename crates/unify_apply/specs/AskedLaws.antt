@@ -1,6 +1,7 @@
 -- What it means that `apply` goes on, in the words of what is asked.
 -- Source: proc(5): of /proc/PID/status the line `Uid:` has the real user and then the effective
--- one, and the lines `Uid:`, `Gid:` and `Groups:` have numbers after that word;
+-- one, the lines `Uid:`, `Gid:` and `Groups:` have numbers after that word, and the line `State:`
+-- has one letter and what it means;
 -- user_namespaces(7): the maps of /proc/PID; sysfs, journal_task; makedev(3). Which file systems
 -- have one journal, and how a machine may be called, are this project's own rules.
 use Rattle.std.specs.Prelude.{◌≡◌, ◌≢◌, ◌↔◌, ◌⊎◌, ℕ, ◌≤◌, ◌<◌, ◌+◌, true, false}
@@ -16,7 +17,8 @@ use Rattle.reown_plan.specs.declared.plan.Record.{Record}
 use Rattle.unify_apply.specs.Journal.{major_of, minor_of, tells_process}
 use Rattle.unify_apply.specs.Machine.{fit_of, is_of_root, name_in}
 use Rattle.unify_apply.specs.Mounts.{MountText, mount_of, mounts_in, one_journal, path_from}
-use Rattle.unify_apply.specs.Sought.{is_found, is_sought_group, is_sought_user, maps_one}
+use Rattle.unify_apply.specs.Sought.{has_ended, is_found, is_sought_group, is_sought_user}
+use Rattle.unify_apply.specs.Sought.{maps_one}
 use Rattle.unify_apply.specs.declared.machine.HostFit.TheVariants.{Same, Named, Other}
 
 -- ---- the file system
@@ -156,6 +158,19 @@ ProcessesAreFound = (users groups status uid_map gid_map : List ℕ)
     → (is_found users groups status uid_map gid_map ≡ true)
     ↔ ((((line : List ℕ) × Contains (lines status) line × TellsAny users groups line)
     ⊎ TellsRange users uid_map) ⊎ TellsRange groups gid_map)
+
+-- of threads in the states of proc(5) a zombie and a dead one have ended, whatever they are called
+abbrev pub EndsByExample : Type 0
+EndsByExample =
+    map has_ended
+    (codes "Name:\tZ\nState:\tR (running)\nTgid:\t7\n"
+    ∷ codes "Name:\tX\nState:\tS (sleeping)\nTgid:\t7\n"
+    ∷ codes "Name:\tsh\nState:\tD (disk sleep)\nTgid:\t7\n"
+    ∷ codes "Name:\tsh\nState:\tT (stopped)\nTgid:\t7\n"
+    ∷ codes "Name:\tsh\nState:\tt (tracing stop)\nTgid:\t7\n"
+    ∷ codes "Name:\tsh\nState:\tZ (zombie)\nTgid:\t7\n"
+    ∷ codes "Name:\tsh\nState:\tX (dead)\nTgid:\t7\n" ∷ [])
+    ≡ (false ∷ false ∷ false ∷ false ∷ false ∷ true ∷ true ∷ [])
 
 -- The map of the initial namespace tells of no number. That of a namespace of the user 1001, who
 -- is the user 0 there and has the users from 100000 to 165535 besides, tells of these; and of the

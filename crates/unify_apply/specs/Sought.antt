@@ -2,8 +2,9 @@
 -- take one.
 -- Source: proc(5), /proc/PID/task/TID/status of a thread: after the words `Uid:` and `Gid:` stand
 -- the real, the effective, the saved and the file system number of a user and of a group, and
--- after `Groups:` the numbers of its other groups. The status of a process is that of all its
--- threads, one after the other, since each may have other numbers (credentials(7)).
+-- after `Groups:` the numbers of its other groups; after `State:` stands `Z` or `X` where it has
+-- ended. The status of a process is that of all its threads that have not ended, one after the
+-- other, since each may have other numbers (credentials(7)).
 -- user_namespaces(7), "User and group ID mappings": each line of /proc/PID/uid_map and of gid_map
 -- tells a range of numbers that a process may take: the first as it is inside of its user
 -- namespace, the first as it is outside, and how many. The one line of the initial namespace
@@ -55,6 +56,16 @@ module _ (users groups : List ℕ) where
   -- a process with this status has such a number
   abbrev pub runs_as_one : List ℕ → Bool
   runs_as_one status = list_any tells_one (lines status)
+
+-- the words of a line tell a thread that has ended: a zombie, or dead
+abbrev pub tell_end : List (List ℕ) → Bool
+tell_end (head ∷ state ∷ more) =
+    bytes_eq head (codes "State:") && (bytes_eq state (codes "Z") || bytes_eq state (codes "X"))
+tell_end _ = false
+
+-- a thread with this status has ended
+abbrev pub has_ended : List ℕ → Bool
+has_ended status = list_any (λ line. tell_end (words line)) (lines status)
 
 -- ---- maps
 

@@ -1,13 +1,18 @@
 -- Where the mark of a plan is, and what is told of its files (this project's own).
 use Rattle.std.specs.Prelude.{ℕ, Bool, ◌&&◌, ◌||◌, List, [], ◌∷◌, ◌++◌, Option, None, Some, codes}
-use Rattle.std.specs.Prelude.{slice_get, drop, length}
+use Rattle.std.specs.Prelude.{slice_get, drop, length, false, not}
 use Rattle.std.specs.List.{list_any}
 use Rattle.std.specs.Str.{bytes_eq}
 use Rattle.idtext.specs.Pieces.{begins_with}
 use Rattle.std.specs.Option.{option_map_or}
 use Rattle.reown_files.specs.declared.answers.Trouble.{Trouble}
 use Rattle.reown_files.specs.declared.answers.Trouble.TheVariants as trouble
+use Rattle.reown_files.specs.MarkText.{mark_read}
+use Rattle.reown_plan.specs.Mark.{mark_of}
+use Rattle.reown_plan.specs.PlanData.{PlanData}
+use Rattle.reown_plan.specs.declared.mark.PlanMark.{PlanMark}
 use Rattle.reown_plan.specs.declared.plan.Record.{Record}
+use Rattle.reown_reverse.specs.Reverse.{reversed}
 
 -- the path of the mark: the one that is named, or that of the plan with `.done` after it
 abbrev pub mark_at : Option (List ℕ) → List ℕ → List ℕ
@@ -23,6 +28,15 @@ abbrev pub is_of_mark : List ℕ → List ℕ → Bool
 is_of_mark mark plan =
     bytes_eq plan mark
     || (begins_with mark plan && list_any (bytes_eq (drop (length mark) plan)) behind_mark)
+
+-- a text is the mark of another plan than the one with this mark
+abbrev pub is_of_other : PlanMark → List ℕ → Bool
+is_of_other plan text = option_map_or not (mark_read plan text) false
+
+-- a text is the mark of a plan that is neither this one nor the one that takes it back
+abbrev pub is_of_third : PlanData → List ℕ → Bool
+is_of_third plan text =
+    is_of_other (mark_of plan) text && is_of_other (mark_of (reversed plan)) text
 
 -- The exit status where there is trouble before anything was changed: 1 where what was found may
 -- not be changed, and 3 where a call failed, or found another file than before.

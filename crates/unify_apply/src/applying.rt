@@ -7,19 +7,19 @@ use crate::answers::records_text;
 use crate::beside::Beside;
 use crate::checking::check_below;
 use crate::machine::{see_caller, see_host};
+use crate::marked::warn_of_mark;
 use crate::mounts::{path_of_root, see_mounts};
 use crate::opening::{open_files, open_root};
 use crate::progress::Telling;
 use crate::run::{Paths, Run};
 use crate::staying::warn_of_staying;
-use crate::told::{fault_told, stopped};
+use crate::told::{no_plan, stopped};
 use clap::ArgMatches;
 use reown_files::{Root, apply};
-use reown_plan::{Plan, PlanFault};
+use reown_plan::Plan;
 use reown_reverse::reversed_text;
 use std::alloc::{AllocError, Global};
 use unify_io::{FileFault, print_answer, read_file};
-use unify_texts::Fault;
 
 // What the mark's file has after the name of the plan's.
 const DONE: &str = ".done";
@@ -57,6 +57,7 @@ fn carry_out<'w>(run: Run<'w>, plan: &Plan<'_>, root: Root<'w>) -> Result<(), Fi
 // Carries a plan out below a directory.
 fn apply_below(run: Run<'_>, plan: &Plan<'_>, has_one_journal: bool) -> Result<u8, FileFault> {
     let root = open_root(run.rt, run.paths, has_one_journal)?;
+    warn_of_mark(run, plan, &root)?;
     carry_out(run, plan, root)?;
     let text = records_text(run.rt.alloc(), plan.records().len())?;
     Ok(print_answer(run.rt, 0, &text))
@@ -82,14 +83,6 @@ fn run_plan(run: Run<'_>, plan: &Plan<'_>) -> Result<u8, FileFault> {
         warn_of_staying(rt, plan)?;
     }
     apply_below(run, plan, has_one_journal)
-}
-
-// Why a text is no plan.
-fn no_plan(rt: &HostRuntime, fault: PlanFault) -> FileFault {
-    match fault {
-        PlanFault::BadPlan(offset) => fault_told(rt, &Fault::BadPlan(offset as u64)),
-        PlanFault::Memory => FileFault::Memory,
-    }
 }
 
 // Looks at the files of the plan of a text, or carries it out.

@@ -17,7 +17,7 @@ const NEW: &str = ".new";
 
 const NEW_MODES: &str = ".modes.new";
 
-// What is said of a plan that has one of their names.
+// What is said of a plan that has the name of a file which a run writes with the mark.
 const WRITTEN: &str = "a file of this name is written and removed with the mark; choose another \
     mark with --mark";
 
@@ -52,7 +52,8 @@ fn is_name_of(rt: &HostRuntime, path: &str, file: &Metadata) -> bool {
     }
 }
 
-// Whether a plan is the file that has a name of these, however its path is written.
+// Whether a plan is a file that a run writes the mark or the modes into first, however its path is
+// written.
 fn has_name_of_mark(rt: &HostRuntime, mark: &str, plan: &str) -> Result<bool, AllocError> {
     let Ok(file) = fs::metadata(rt, plan) else {
         return Ok(false);
@@ -70,7 +71,7 @@ fn parent_of(mark: &str) -> &str {
     }
 }
 
-// Why that cannot be entered, where it cannot.
+// Why the directory of a mark cannot be entered, where it cannot.
 fn directory_fault(rt: &HostRuntime, mark: &str) -> Result<Option<io::Error>, AllocError> {
     let inside = Path::new(parent_of(mark)).join(rt.alloc(), ".")?;
     match fs::metadata(rt, inside.as_str()) {
@@ -88,7 +89,7 @@ pub struct Beside {
 }
 
 impl Beside {
-    /// What is there for a mark and a plan.
+    /// Looks at what is beside a plan with this mark.
     pub fn look(rt: &HostRuntime, mark: &str, plan: &str) -> Result<Beside, AllocError> {
         let takes_plan = is_of_mark(mark, plan) || has_name_of_mark(rt, mark, plan)?;
         let directory = directory_fault(rt, mark)?;

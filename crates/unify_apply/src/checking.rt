@@ -4,6 +4,7 @@ ghost use Rattle.std.specs.Prelude.{◌≡◌, [], IfOk};
 
 use crate::answers::counts_text;
 use crate::machine::see_host;
+use crate::marked::warn_of_mark;
 use crate::mounts::{count_mounts, path_of_root, see_mounts};
 use crate::opening::{open_files, open_root};
 use crate::preview::Preview;
@@ -41,10 +42,15 @@ fn count_files<D: Disk>(
 
 // The files below the directory, of which none is synced where it is met: that is left to a sync of
 // all, which nobody asks for.
-fn files_below<'w>(run: Run<'w>, files: usize) -> Result<Preview<Telling<'w, Root<'w>>>, FileFault>
+fn files_below<'w>(
+    run: Run<'w>,
+    plan: &Plan<'_>,
+) -> Result<Preview<Telling<'w, Root<'w>>>, FileFault>
     ensures { IfOk result (λ disk. disk ≡ []) }
 {
     let root = open_root(run.rt, run.paths, true)?;
+    warn_of_mark(run, plan, &root)?;
+    let files = plan.records().len();
     Ok(Preview::of(Telling::of(run.rt, run.style, files, root)))
 }
 
@@ -73,9 +79,10 @@ fn see_way(run: Run<'_>, plan: &Plan<'_>, path: &str) -> Result<(), FileFault> {
     Ok(())
 }
 
-// The same of a directory with this path, below which there are so many mounts.
+// Counts the files of a plan in a directory with this path, below which there are so many mounts,
+// and tells what a run would refuse.
 fn check_at(run: Run<'_>, plan: &Plan<'_>, path: &str, mounts: usize) -> Result<u8, FileFault> {
-    let mut disk = files_below(run, plan.records().len())?;
+    let mut disk = files_below(run, plan)?;
     count_below(run, plan, &mut disk, mounts)?;
     see_way(run, plan, path)?;
     open_files(run, plan, Preview::of(disk.into_disk()))?;

@@ -12,7 +12,7 @@ use std::path::PathBuf;
 // Where the system tells the name of a device by its numbers (sysfs).
 const DEVICES: &str = "/sys/dev/block";
 
-// Where it tells of each ext4, and of each xfs, by the name of its device.
+// Where the system tells of each ext4, and of each xfs, by the name of its device (sysfs).
 const EXT4: &str = "/sys/fs/ext4";
 
 const XFS: &str = "/sys/fs/xfs";
@@ -25,7 +25,7 @@ pub fn tells_journal(text: &[u8]) -> bool
     decimal(text.strip_suffix(b"\n").unwrap_or(text)).is_some()
 }
 
-// The two numbers of a device (makedev(3)).
+// The major number of a device (makedev(3)).
 #[tactic(auto, using(crate::proofs::DeviceNumbers::major_told))]
 fn major(device: u64) -> u64
     ensures { result ≡ major_of device }
@@ -33,6 +33,7 @@ fn major(device: u64) -> u64
     ((device >> 8) & 0xfff) | ((device >> 32) & 0xffff_f000)
 }
 
+// The minor number of a device (makedev(3)).
 #[tactic(auto, using(crate::proofs::DeviceNumbers::minor_told))]
 fn minor(device: u64) -> u64
     ensures { result ≡ minor_of device }

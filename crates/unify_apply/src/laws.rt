@@ -1,7 +1,7 @@
 //! Laws over what this crate reads and prints. Each is the contract of a function that does
 //! nothing.
 
-ghost use Rattle.unify_apply.specs.AskedLaws.{DevicesByExample, FitsTellTheHost};
+ghost use Rattle.unify_apply.specs.AskedLaws.{DevicesByExample, EndsByExample, FitsTellTheHost};
 ghost use Rattle.unify_apply.specs.AskedLaws.{JournalIsANumber, MapsByExample, NamesAreTold};
 ghost use Rattle.unify_apply.specs.AskedLaws.{OneJournalIsOfThree, ProcessesAreFound};
 ghost use Rattle.unify_apply.specs.AskedLaws.{RootIsEffective, SoughtGroupsMove, SoughtUsersMove};
@@ -93,12 +93,14 @@ pub fn root_is_told()
 /// A number of a user or of a group is looked for exactly where a record has it before and another
 /// after, or the other way round. A process is found exactly where the statuses of its threads tell
 /// one after `Uid:` or, of a group, after `Gid:` or `Groups:`, or one of its maps a range that has
-/// one outside; and the map of the initial user namespace tells none.
+/// one outside; and the map of the initial user namespace tells none. By example: a thread has
+/// ended whose status tells that it is a zombie, or dead.
 pub fn processes_are_told()
     ensures users { SoughtUsersMove }
     ensures groups { SoughtGroupsMove }
     ensures found { ProcessesAreFound }
     ensures maps { MapsByExample }
+    ensures ended { EndsByExample }
 {}
 
 /// Where a run is tried, the disk below is asked what only looks: each such call as it is, for a

@@ -9,6 +9,7 @@ mod checking;
 mod journal;
 mod laws;
 mod machine;
+mod marked;
 mod mountinfo;
 mod mounts;
 mod opening;

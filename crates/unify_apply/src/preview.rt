@@ -32,7 +32,8 @@ impl<D: Disk> Model for Preview<D> {
 }
 
 impl<D: Disk> Preview<D> {
-    /// Asks this disk, of which nothing was asked as yet but looks. Of the new one nothing was.
+    /// A disk that asks this one, which was asked looks alone as yet. Of the new one nothing was
+    /// asked.
     pub fn of(disk: D) -> Preview<D>
         requires { list_all only_looks (D.calls disk) ≡ true }
         ensures { result ≡ [] }
@@ -84,7 +85,7 @@ impl<D: Disk> Disk for Preview<D> {
         }
     }
 
-    // One that is there is not synced.
+    // A mark that is there is not synced.
     fn meet_mark(&mut self, plan: &PlanMark) -> Result<bool, Trouble> {
         match self.disk.is_marked(plan) {
             Ok(is_set) => {

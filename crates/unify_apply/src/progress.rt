@@ -5,10 +5,10 @@ use reown_files::{Disk, Modes, Seen, Trouble};
 use reown_plan::{Owner, PlanMark};
 use std::io::IsTerminal;
 
-// After how many files it is told again.
+// After how many files it is told again how far a command is.
 const EACH: usize = 10_000;
 
-/// How it is told.
+/// How it is told how far a command is.
 #[derive(Clone, Copy, Debug, PartialEq, Eq)]
 pub enum ProgressStyle {
     /// Not at all.
@@ -53,7 +53,7 @@ impl ProgressStyle {
         }
     }
 
-    /// As these words want it, where standard error is what it is.
+    /// How the words of a command want it told, where standard error may be a terminal.
     pub fn wanted(rt: &HostRuntime, quiet: bool, asked: bool) -> ProgressStyle {
         ProgressStyle::of(quiet, rt.stderr().is_terminal(), asked)
     }
@@ -205,7 +205,7 @@ impl<'w, D: Disk> Disk for Telling<'w, D> {
         self.disk.put_mark(plan)
     }
 
-    // What was looked at before was counted, and is met now.
+    // What was looked at before this was counted, and is met after it.
     fn read_modes(&mut self, plan: &PlanMark, mark: bool) -> Result<bool, Trouble> {
         self.looked = 0;
         self.disk.read_modes(plan, mark)

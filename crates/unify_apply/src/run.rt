@@ -26,7 +26,7 @@ pub struct Run<'a> {
     pub beside: Beside,
     /// The host that is named, if one is.
     pub host: Option<&'a str>,
-    /// How it is told how far it is.
+    /// How it is told how far the run is.
     pub style: ProgressStyle,
     /// Whether the files are only looked at.
     pub only_checks: bool,
@@ -37,7 +37,7 @@ pub struct Run<'a> {
 }
 
 impl<'a> Run<'a> {
-    /// As these words want it.
+    /// The run that the words of the command want.
     pub fn of(
         rt: &'a HostRuntime,
         matches: &'a ArgMatches<'_>,

@@ -6,7 +6,7 @@ ghost use Rattle.std.specs.HashSet.{contains};
 ghost use Rattle.idtext.specs.Words.{words};
 ghost use Rattle.unify_apply.specs.Sought.{is_sought_user, is_sought_group, has_one, have_within};
 ghost use Rattle.unify_apply.specs.Sought.{is_found, maps_one, runs_as_one, tell_range_with};
-ghost use Rattle.unify_apply.specs.Sought.{tells_one, writes_one as writes};
+ghost use Rattle.unify_apply.specs.Sought.{tells_one, writes_one as writes, has_ended, tell_end};
 
 use idtext::{Lines, Words, decimal};
 use reown_plan::Record;
@@ -23,8 +23,9 @@ pub struct Sought {
 /// What the system tells of a process: the texts of its files in /proc/PID (proc(5)).
 #[derive(Drop)]
 pub struct Process {
-    /// The files task/TID/status of its threads, one after the other. Each thread may have numbers
-    /// of its own; every line is looked at by itself, so that a number of any thread is found.
+    /// The files task/TID/status of its threads that have not ended, one after the other. Each
+    /// thread may have numbers of its own; every line is looked at by itself, so that a number of
+    /// any thread is found.
     pub status: Vec<u8>,
     /// The file uid_map, which all its threads share.
     pub uid_map: Vec<u8>,
@@ -79,7 +80,7 @@ fn writes_one(word: &[u8], numbers: &HashSet<u32>) -> bool
     }
 }
 
-// Whether one of these words does.
+// Whether one of these words writes one of these numbers.
 fn write_one(mut words: Words<'_>, numbers: &HashSet<u32>) -> bool
     ensures { result ≡ list_any (writes numbers.now.keys) words.entry }
 {
@@ -95,6 +96,28 @@ fn has_number(line: &[u8], head: &[u8], numbers: &HashSet<u32>) -> bool
         Some(word) => word == head && write_one(words, numbers),
         None => false,
     }
+}
+
+// Whether a line of a status tells that its thread has ended.
+fn tells_end(line: &[u8]) -> bool
+    ensures { result ≡ tell_end (words line.now) }
+{
+    let mut words = Words::new(line);
+    let Some(head) = words.next() else {
+        return false;
+    };
+    let Some(state) = words.next() else {
+        return false;
+    };
+    head == b"State:".as_slice() && (state == b"Z".as_slice() || state == b"X".as_slice())
+}
+
+/// Whether a text of /proc/PID/task/TID/status is that of a thread that has ended, and is there
+/// until its parent takes note of it. One pass over it.
+pub fn is_of_ended(status: &[u8]) -> bool
+    ensures { result ≡ has_ended status.now }
+{
+    Lines::new(status).any(|line| tells_end(line))
 }
 
 // Whether one of these numbers is among so many from the first. All are looked at, however large
@@ -128,7 +151,7 @@ fn tells_range_with(line: &[u8], numbers: &HashSet<u32>) -> bool
     }
 }
 
-// Whether a map tells one.
+// Whether a map tells a range that has one of these numbers.
 fn maps_number(map: &[u8], numbers: &HashSet<u32>) -> bool
     ensures { result ≡ maps_one numbers.now.keys map.now }
 {

@@ -2,7 +2,7 @@
 //! capabilities, access lists and quotas. A plan changes none of it, so it is told before anything
 //! is changed.
 
-use crate::sought::{Process, Sought};
+use crate::sought::{Process, Sought, is_of_ended};
 use idtext::decimal;
 use reown_plan::Plan;
 use std::alloc::AllocError;
@@ -28,7 +28,7 @@ const NO_PROCESS: i32 = 3;
 
 const NOT_VALID: i32 = 22;
 
-// What is said of the rest.
+// What is said of what is no process.
 const BY_NUMBER: &str =
     "a change of an owner clears file capabilities (getcap -r), and changes no number in access \
     lists (getfacl -R -n) or quotas (repquota -n)";
@@ -100,7 +100,8 @@ fn list_threads(rt: &HostRuntime, name: &str) -> Result<io::Result<ReadDir>, All
     Ok(fs::read_dir(rt, path.as_str()))
 }
 
-// Adds the status of a thread of a process.
+// Adds the status of a thread of a process. One that has ended, as a zombie, is left out: it has no
+// memory and no open file, and makes none.
 fn add_status(
     rt: &HostRuntime,
     text: &mut Vec<u8>,
@@ -108,7 +109,14 @@ fn add_status(
     thread: &str,
 ) -> Result<bool, AllocError> {
     let file = format!(in rt.alloc(); "task/{thread}/status")?;
-    add_told(rt, text, name, file.as_str())
+    match read_told(rt, name, file.as_str())? {
+        Ok(told) if is_of_ended(&told) => Ok(true),
+        Ok(told) => {
+            text.extend_from_slice(&told)?;
+            Ok(true)
+        }
+        Err(error) => Ok(has_ended(&error)),
+    }
 }
 
 // Adds the statuses of these threads of a process, and says whether all could be read.
@@ -148,6 +156,10 @@ fn see_process(rt: &HostRuntime, name: &str) -> Result<(Process, bool), AllocErr
         gid_map: Vec::new(rt.alloc()),
     };
     let has_status = add_threads(rt, &mut process.status, name)?;
+    // Where all its threads have ended nothing takes a number by a map.
+    if has_status && process.status.is_empty() {
+        return Ok((process, false));
+    }
     let has_uid_map = add_told(rt, &mut process.uid_map, name, "uid_map")?;
     let has_gid_map = add_told(rt, &mut process.gid_map, name, "gid_map")?;
     Ok((process, !(has_status && has_uid_map && has_gid_map)))

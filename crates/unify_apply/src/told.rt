@@ -6,7 +6,7 @@ ghost use Rattle.unify_apply.specs.Told.{path_of_record, status_of};
 use crate::run::Paths;
 use idtext::ByteString;
 use reown_files::{Failure, MODES_BEHIND, OpenFault, RootFault, Trouble};
-use reown_plan::{Owner, Record};
+use reown_plan::{Owner, PlanFault, Record};
 use std::alloc::AllocError;
 use std::io::Write;
 use unify_io::{FileFault, Part, tell_hint, tell_of};
@@ -19,13 +19,21 @@ const OTHER_PLAN: &str = "another plan was started and is not finished; finish t
 // What the system calls an error of a disk (EIO of errno(3)).
 const DISK_ERROR: i32 = 5;
 
-/// Tells a fault that has a number.
-pub fn fault_told(rt: &HostRuntime, fault: &Fault<'_>) -> FileFault {
+// Tells a fault that has a number.
+fn fault_told(rt: &HostRuntime, fault: &Fault<'_>) -> FileFault {
     let Ok(line) = fault_line(rt.alloc(), fault) else {
         return FileFault::Memory;
     };
     let _ = rt.stderr().write_all(&line);
     FileFault::Told(fault.status())
+}
+
+/// Tells why a text is no plan.
+pub fn no_plan(rt: &HostRuntime, fault: PlanFault) -> FileFault {
+    match fault {
+        PlanFault::BadPlan(offset) => fault_told(rt, &Fault::BadPlan(offset as u64)),
+        PlanFault::Memory => FileFault::Memory,
+    }
 }
 
 // The path of a record, of those that are there.
@@ -48,8 +56,8 @@ fn path_of(rt: &HostRuntime, records: &[Record<'_>], i: usize) -> Result<ByteStr
 const SEE_WAY: &str = "unify: hint: a directory on the way may be a link, or a file system not \
     mounted; see that first";
 
-// What to do about a file with a third owner. Where the files of another plan are changed already, a
-// host that is gathered again would have them counted under the names of others.
+// What to do about a file with a third owner. Where the files of another plan are changed already,
+// a host that is gathered again would have them counted under the names of others.
 const SEE_FILE: &str = "if it is the file that was gathered, give it its old owner back, else take \
     back what the plans of this host have changed, and only then gather it again and merge anew";
 
@@ -112,13 +120,13 @@ fn already_changed(rt: &HostRuntime, records: &[Record<'_>], i: usize) -> FileFa
     }
 }
 
-// What is said of a failed call of the system.
+// What is said of a failed call of the system, and what stands behind that.
 fn system_parts(number: i32, behind: Part<'static>) -> [Part<'static>; 6] {
     let none = Part::Text("");
     [Part::System(number), behind, none, none, none, none]
 }
 
-// What is said of an owner that is not the one that the plan says, and behind that.
+// What is said of an owner that is not the one that the plan says, and what stands behind that.
 fn owner_parts(found: Owner, behind: Part<'static>) -> [Part<'static>; 6] {
     [
         Part::Text("its owner is "),
@@ -130,7 +138,7 @@ fn owner_parts(found: Owner, behind: Part<'static>) -> [Part<'static>; 6] {
     ]
 }
 
-// What is said of trouble, and behind that.
+// What is said of trouble, and what stands behind that.
 fn parts_of(trouble: Trouble, behind: &'static str) -> [Part<'static>; 6] {
     let (none, behind) = (Part::Text(""), Part::Text(behind));
     let part = Part::Text(match trouble {
@@ -176,7 +184,7 @@ fn status(trouble: Trouble) -> u8
     }
 }
 
-// Tells of a file what is wrong with it before anything was changed.
+// Tells what is wrong with a file before anything was changed.
 fn file_refused(rt: &HostRuntime, path: &[u8], trouble: Trouble) -> FileFault {
     if trouble == Trouble::Memory {
         return FileFault::Memory;
@@ -198,12 +206,10 @@ pub fn root_refused(rt: &HostRuntime, paths: Paths<'_>, fault: RootFault) -> Fil
 // Whether it is an error of the disk. Some file systems report one only once, so what is there has
 // to be read anew.
 fn is_of_disk(trouble: Trouble) -> bool {
-    match trouble {
-        Trouble::System(number) => number == DISK_ERROR,
-        Trouble::OfRoot(number) => number == DISK_ERROR,
-        Trouble::OfModes(number) => number == DISK_ERROR,
-        _ => false,
-    }
+    matches!(
+        trouble,
+        Trouble::System(DISK_ERROR) | Trouble::OfRoot(DISK_ERROR) | Trouble::OfModes(DISK_ERROR)
+    )
 }
 
 // What stands after the reason of a stop. As long as the reason is there the same command stops at
@@ -225,8 +231,8 @@ fn tell_modes(rt: &HostRuntime, paths: Paths<'_>, parts: &[Part<'_>], status: u8
     }
 }
 
-// Tells of a file what is wrong with it, and what stands behind that; or of the root or the file of
-// the modes, where the trouble is of these.
+// Tells what is wrong with a file, and behind that what is to be done; or with the root or the file
+// of the modes, where the trouble is of these.
 fn tell_trouble(
     rt: &HostRuntime,
     paths: Paths<'_>,
@@ -261,7 +267,7 @@ fn not_begun(rt: &HostRuntime, paths: Paths<'_>, path: &[u8], trouble: Trouble) 
     tell_trouble(rt, paths, path, told, status(trouble))
 }
 
-// The same, of the file of the modes beside the mark.
+// Tells of the file of the modes beside the mark why a plan is not begun with.
 fn modes_refused(rt: &HostRuntime, paths: Paths<'_>, trouble: Trouble) -> FileFault {
     if trouble == Trouble::Memory {
         return FileFault::Memory;
