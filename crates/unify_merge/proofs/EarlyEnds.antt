@@ -1,16 +1,12 @@
--- What a merge leaves that ended early, and what is told of it.
-use Rattle.std.proofs.Common.{◌≡◌, ◌+◌, ◌++◌, ◌∷◌, [], ℕ, List, codes, length, map, arith, refl, sym, ap, subst, ◌∙◌, inl, inr, append_assoc, length-append}
+-- What a merge leaves that ended early, and when an inventory is told to be too large.
+use Rattle.std.proofs.Common.{◌≡◌, ◌+◌, ◌++◌, ℕ, List, length, map, arith, sym, ap, subst, ◌∙◌, inl, inr, append_assoc, length-append}
 use Rattle.std.proofs.lemmas.List.{length-map}
 use Rattle.std.proofs.lemmas.List.Elements.{Contains-append_left}
 use Rattle.hosts_join.specs.declared.texts.HostText.{HostText}
-use Rattle.std.specs.Fmt.{digits}
-use Rattle.unify_texts.specs.Faults.{words_of}
-use Rattle.unify_texts.specs.Words.{shown}
-use Rattle.unify_texts.specs.declared.fault.Fault.TheVariants.{InventoryChanged}
 use Rattle.unify.specs.declared.rules.SiteRules.{SiteRules}
 use Rattle.unify.specs.declared.site_files.NamedText.{NamedText}
 use Rattle.unify.specs.Rules.{rules_by}
-use Rattle.unify_merge.specs.EarlyEnds.{AreAsBefore, ChangesAreTold, EarlyEndsLeaveAll, EarlyEndsLeaveFiles, TooLargeIsTooLarge, WereAccepted, WholeFilesAreMerged}
+use Rattle.unify_merge.specs.EarlyEnds.{AreAsBefore, EarlyEndsLeaveAll, EarlyEndsLeaveFiles, TooLargeIsTooLarge, WereAccepted, WholeFilesAreMerged}
 use Rattle.unify_merge.specs.FirstReading.{ReadsOnly, readings_from}
 use Rattle.unify_merge.specs.Ledger.{Ledger, Reading}
 use Rattle.unify_merge.specs.Merge.{MergeBrokeOff}
@@ -60,10 +56,3 @@ whole_files_are_merged texts rules old new b =
 
 pub too_large_is_too_large : TooLargeIsTooLarge
 too_large_is_too_large l (host, text, is, more) = (record { host = host; text = text }, is, more)
-
-told_as : (host : List ℕ) → words_of (InventoryChanged host) ≡ codes "41" ∷ codes "InventoryChanged" ∷ codes "host" ∷ shown host ∷ []
-unfolding digits
-told_as host = refl
-
-pub changes_are_told : ChangesAreTold
-changes_are_told texts rules old new f is = (is.change.host, is.change.were, is.change.here, ap words_of is.change.change.0 ∙ told_as is.change.host.name)

@@ -9,10 +9,10 @@ use Rattle.unify_merge.specs.GivenTexts.{BrokenMergesGoByGiven, ChecksGoByGiven,
 use Rattle.unify_merge.specs.GivenTexts.{RefusedChecksGoByGiven, RefusedCountsGoByGiven, RefusedMergesGoByGiven}
 use Rattle.unify_merge.specs.Ledger.{Ledger}
 use Rattle.unify_merge.specs.Merge.{HasMerged, MergeBrokeOff, StopsMerge}
-use Rattle.unify_merge.specs.Surveyed.{Behind}
+use Rattle.unify_merge.specs.Surveyed.{AfterSurvey}
 
 module _ (hosts : List HostText) (pins keep : List ℕ) (old : Ledger) (Holds : SiteRules → Ledger → Type 0) where
-  goes : Behind hosts keep old (λ unowned middle. Holds (rules_by pins keep unowned) middle) → GoesBy hosts pins keep old Holds
+  goes : AfterSurvey hosts keep old (λ unowned middle. Holds (rules_by pins keep unowned) middle) → GoesBy hosts pins keep old Holds
   goes b = record {
     rules = rules_by pins keep b.unowned;
     middle = b.middle;

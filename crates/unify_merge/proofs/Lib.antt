@@ -27,5 +27,9 @@ pub mod GivenTexts
 pub mod EarlyEnds
 pub mod RehearsalsRead
 pub mod ReadTexts
+pub mod CostTold
+pub mod WithinLimit
+pub mod Fronts
+pub mod ChangesTold
 pub mod Refusals
 pub mod RefusedChecks

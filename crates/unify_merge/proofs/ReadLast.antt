@@ -26,14 +26,19 @@ at_first [] ys k x here = absurd (cc)
 at_first (z ∷ xs) ys zero x here = here
 at_first (z ∷ xs) ys (suc k) x here = at_first xs ys k x here
 
-at_second : {A : Type 0} (xs ys : List A) (k j : ℕ) → k ≡ length xs + j → slice_get (xs ++ ys) k ≡ slice_get ys j
+pub in_front : {A : Type 0} (xs ys : List A) (k : ℕ) (x : A) → k < length xs → slice_get (xs ++ ys) k ≡ Some x → slice_get xs k ≡ Some x
+in_front [] ys k x within here = absurd (omega (arith, within))
+in_front (z ∷ xs) ys zero x within here = here
+in_front (z ∷ xs) ys (suc k) x within here = in_front xs ys k x (omega (arith, within)) here
+
+pub at_second : {A : Type 0} (xs ys : List A) (k j : ℕ) → k ≡ length xs + j → slice_get (xs ++ ys) k ≡ slice_get ys j
 at_second [] ys k j same =
     let equal : k ≡ j = omega (arith, same) in
     ap (slice_get ys) equal
 at_second (x ∷ xs) ys zero j same = absurd (omega (arith, same))
 at_second (x ∷ xs) ys (suc k) j same = at_second xs ys k j (omega (arith, same))
 
-at_drop : {A : Type 0} (n : ℕ) (xs : List A) (j k : ℕ) → k ≡ n + j → slice_get (drop n xs) j ≡ slice_get xs k
+pub at_drop : {A : Type 0} (n : ℕ) (xs : List A) (j k : ℕ) → k ≡ n + j → slice_get (drop n xs) j ≡ slice_get xs k
 at_drop zero xs j k same =
     let equal : j ≡ k = omega (arith, same) in
     ap (slice_get xs) equal

@@ -1,5 +1,5 @@
 -- A check, a count and a merge go by the inventories that they read.
-use Rattle.std.proofs.Common.{◌≡◌, ◌+◌, ◌++◌, ◌∷◌, [], ℕ, zero, suc, List, length, Some, Ok, refl, sym, ap, subst, ◌∙◌, arith, zero-add}
+use Rattle.std.proofs.Common.{◌≡◌, ◌+◌, ◌-◌, ◌++◌, ◌∷◌, [], ℕ, zero, suc, List, length, drop, Some, Ok, refl, sym, ap, subst, ◌∙◌, arith, zero-add}
 use Rattle.std.specs.List.{slice_get}
 use Rattle.std.specs.Option.{option_map}
 use Rattle.std.proofs.lemmas.Option.{same_Some}
@@ -16,9 +16,11 @@ use Rattle.unify.specs.FileLaws.{AreItsFiles}
 use Rattle.unify.specs.Hosts.{files_of}
 use Rattle.unify.specs.Loading.{loaded_from}
 use Rattle.unify.specs.Others.{others_loaded}
+use Rattle.unify.specs.Passes.{BegunSite, site_begun}
 use Rattle.unify.specs.Told.{in_site}
 use Rattle.unify.specs.declared.host.Loaded.{Loaded}
 use Rattle.unify.specs.declared.rules.KeepRules.{KeepRules}
+use Rattle.unify.specs.declared.rules.SiteRules.{SiteRules}
 use Rattle.unify.proofs.Adding.{length-loaded_from}
 use Rattle.unify.proofs.CountLaws.{changed_files_are_counted}
 use Rattle.unify.proofs.FileLaws.{files_are_of_inventories}
@@ -28,8 +30,9 @@ use Rattle.unify_laws.proofs.HostTexts.{begun_steps}
 use Rattle.unify_laws.proofs.WholeSites.{hosts-are, steps}
 use Rattle.unify_merge.specs.FirstReading.{readings_from, with_inventories}
 use Rattle.unify_merge.specs.Ledger.{Reading}
-use Rattle.unify_merge.specs.ReadTexts.{ChecksGoByRead, CountsGoByRead, HaveReadFiles, MergesGoByRead}
+use Rattle.unify_merge.specs.ReadTexts.{BrokenMergesGoByRead, ChecksGoByRead, CountsGoByRead, HasFilesIn, HaveReadFiles, MergesGoByRead}
 use Rattle.unify_merge.proofs.Inventories.{begun-with, cost_begun-with, length-with, mtrees-with}
+use Rattle.unify_merge.proofs.ReadLast.{at_drop, at_second, in_front}
 
 -- ---- readings
 
@@ -38,7 +41,7 @@ length-readings_from k [] = refl
 length-readings_from k (t ∷ texts) = ap suc (length-readings_from (k + 1) texts)
 
 -- j: where it stands among them
-reading_at : (k j h : ℕ) (texts : List (List ℕ)) (text : List ℕ) → h ≡ k + j → slice_get texts j ≡ Some text → slice_get (readings_from k texts) j ≡ Some (record { host = h; text = text })
+pub reading_at : (k j h : ℕ) (texts : List (List ℕ)) (text : List ℕ) → h ≡ k + j → slice_get texts j ≡ Some text → slice_get (readings_from k texts) j ≡ Some (record { host = h; text = text })
 reading_at k j h [] text same at = absurd (cc)
 reading_at k zero h (t ∷ texts) text same at =
     let index : k ≡ h = omega (arith, same) in
@@ -55,16 +58,21 @@ text_at (host ∷ hosts) (text ∷ texts) (suc k) l at = text_at hosts texts k l
 -- ---- the files of hosts
 
 module _ (hosts : List Host) (texts : List (List ℕ)) (read : List (Host × List Entry)) (are : each site_of (loaded_from hosts texts) ≡ Ok read) where
-  its_files : (h : ℕ) (host : Host) (files : List Entry) → slice_get read h ≡ Some (host, files) → (text : List ℕ) × (slice_get (readings_from 0 texts) h ≡ Some (record { host = h; text = text })) × AreItsFiles (record { host = host; mtree = text }) files
-  its_files h host files here =
+  its_text : (h : ℕ) (host : Host) (files : List Entry) → slice_get read h ≡ Some (host, files) → (text : List ℕ) × (slice_get texts h ≡ Some text) × AreItsFiles (record { host = host; mtree = text }) files
+  its_text h host files here =
       let from = each-ok site_of (loaded_from hosts texts) read are h (host, files) here in
       let l = from.0 in
       let filed = bind_ok (files_of l) (λ fs. Ok (l.host, fs)) (host, files) from.2 in
       let pair : (l.host, filed.0) ≡ (host, files) = ok_same (l.host, filed.0) (host, files) filed.2 in
       let mine : AreItsFiles l filed.0 = (files_are_of_inventories l filed.0).0 filed.1 in
-      (l.mtree, reading_at 0 h h texts l.mtree (sym (zero-add h)) (text_at hosts texts h l from.1), subst (λ (p : Host × List Entry). AreItsFiles (record { host = p.0; mtree = l.mtree }) p.1) pair mine)
+      (l.mtree, text_at hosts texts h l from.1, subst (λ (p : Host × List Entry). AreItsFiles (record { host = p.0; mtree = l.mtree }) p.1) pair mine)
 
-  have_read : (given : List HostText) (before after : List Reading) → length texts ≡ length hosts → length hosts ≡ length given → after ≡ before ++ readings_from 0 texts → HaveReadFiles given read before after
+  its_files : (h : ℕ) (host : Host) (files : List Entry) → slice_get read h ≡ Some (host, files) → HasFilesIn (readings_from 0 texts) h host files
+  its_files h host files here =
+      let it = its_text h host files here in
+      (it.0, reading_at 0 h h texts it.0 (sym (zero-add h)) it.1, it.2)
+
+  pub have_read : (given : List HostText) (before after : List Reading) → length texts ≡ length hosts → length hosts ≡ length given → after ≡ before ++ readings_from 0 texts → HaveReadFiles given read before after
   have_read given before after one_each each_host readings = record {
     readings = readings_from 0 texts;
     no_other = readings;
@@ -116,14 +124,44 @@ counts_go_by_read texts keep map_text old new cost c =
       groups = is.groups;
     }
 
+-- a site is begun of as many hosts as there are texts
+pub as-many-begun : (texts : List HostText) (rules : SiteRules) (begun : BegunSite) → site_begun texts rules ≡ Ok begun → length begun.hosts ≡ length texts
+as-many-begun texts rules begun is =
+    let s = begun_steps texts rules begun is in
+    sym (ap length s.hosts) ∙ as-many-others texts rules.keep s.others s.others_are
+
 pub merges_go_by_read : MergesGoByRead
 merges_go_by_read texts rules old new cost m =
-    let s = begun_steps texts rules m.begun m.begun_is in
-    let each_host : length m.begun.hosts ≡ length texts = sym (ap length s.hosts) ∙ as-many-others texts rules.keep s.others s.others_are in
+    let each_host = as-many-begun texts rules m.begun m.begun_is in
     let once = old.read ++ readings_from 0 m.first in
     record {
       given = m.begun_is ∙ ap (λ hs. Ok (record { hosts = hs; joined = m.begun.joined })) (hosts_held m.begun.hosts m.second m.are m.second_read.one_each m.second_read.accepted).0;
       middle = once;
       first = have_read m.begun.hosts m.first m.were m.first_read.accepted texts old.read once m.first_read.one_each each_host refl;
       second = have_read m.begun.hosts m.second m.are m.second_read.accepted texts once new.read m.second_read.one_each each_host m.readings;
+    }
+
+pub broken_merges_go_by_read : BrokenMergesGoByRead
+unfolding have_read
+broken_merges_go_by_read texts rules old new b =
+    let each_host = as-many-begun texts rules b.begun b.begun_is in
+    let left = drop (length b.again) b.first in
+    let texts_last = b.again ++ left in
+    let many = length-readings_from 0 b.again in
+    record {
+      given = b.begun_is ∙ ap (λ hs. Ok (record { hosts = hs; joined = b.begun.joined })) (hosts_held b.begun.hosts texts_last b.last b.last_read.one_each b.last_read.accepted).0;
+      middle = old.read ++ readings_from 0 b.first;
+      once = have_read b.begun.hosts b.first b.were b.first_read.accepted texts old.read (old.read ++ readings_from 0 b.first) b.first_read.one_each each_host refl;
+      again = readings_from 0 b.again;
+      as_many = many;
+      besides = b.reads.more;
+      one_at_most = b.reads.one_at_most;
+      no_other = b.reads.readings;
+      first = λ h host files here less.
+          let it = its_text b.begun.hosts texts_last b.last b.last_read.accepted h host files here in
+          (it.0, reading_at 0 h h b.again it.0 (sym (zero-add h)) (in_front b.again left h it.0 (omega (arith, less, many)) it.1), it.2);
+      others = λ h host files here more.
+          let it = its_text b.begun.hosts texts_last b.last b.last_read.accepted h host files here in
+          let past : slice_get b.first h ≡ Some it.0 = sym (at_second b.again left h (h - length b.again) (omega (arith, more, many)) ∙ at_drop (length b.again) b.first (h - length b.again) h (omega (arith, more, many))) ∙ it.1 in
+          (it.0, reading_at 0 h h b.first it.0 (sym (zero-add h)) past, it.2);
     }

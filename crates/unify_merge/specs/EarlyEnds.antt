@@ -1,13 +1,11 @@
--- What a merge leaves that ended early, and what is told of it.
+-- What a merge leaves that ended early, and when an inventory is told to be too large.
 -- Source: this project's own rule.
-use Rattle.std.specs.Prelude.{◌≡◌, ◌≢◌, ◌≤◌, ◌<◌, ◌+◌, ◌⊎◌, ◌∷◌, ◌++◌, ⊤, ℕ, List, [], Ok, Some}
-use Rattle.std.specs.Prelude.{codes, length, slice_get}
+use Rattle.std.specs.Prelude.{◌≡◌, ◌≢◌, ◌≤◌, ◌<◌, ◌+◌, ◌⊎◌, ◌++◌, ⊤, ℕ, List, [], Ok, Some}
+use Rattle.std.specs.Prelude.{length}
 use Rattle.mtree_inv.specs.declared.entry.Entry.{Entry}
 use Rattle.hosts_join.specs.declared.host.Host.{Host}
 use Rattle.hosts_join.specs.declared.texts.HostText.{HostText}
 use Rattle.kept_accounts.specs.Reserving.{UnownedNumbers}
-use Rattle.unify_texts.specs.Faults.{words_of}
-use Rattle.unify_texts.specs.Words.{shown}
 use Rattle.unify_texts.specs.declared.fault.Fault.{Fault}
 use Rattle.unify_texts.specs.declared.fault.Fault.TheVariants.{InventoryChanged, Memory}
 use Rattle.unify.specs.declared.rules.SiteRules.{SiteRules}
@@ -15,8 +13,8 @@ use Rattle.unify.specs.Passes.{BegunSite, site_begun}
 use Rattle.unify.specs.Rules.{rules_by}
 use Rattle.unify_merge.specs.FirstReading.{StopsFor, readings_from}
 use Rattle.unify_merge.specs.Ledger.{Ledger, Reading}
-use Rattle.unify_merge.specs.Merge.{AreInventories, IsSecondFault, Leaves, MergeBrokeOff}
-use Rattle.unify_merge.specs.Merge.{StopsMerge, merged_files}
+use Rattle.unify_merge.specs.Merge.{AreInventories, Leaves, MergeBrokeOff, StopsMerge}
+use Rattle.unify_merge.specs.Merge.{merged_files}
 use Rattle.unify_merge.specs.NamedFiles.{Have}
 use Rattle.unify_merge.specs.Surveyed.{LeavesFiles, StopsMergeFiles, WereFound}
 use Rattle.unify_merge.specs.declared.fault.MergeFault.TheVariants.{Refused, TooLarge}
@@ -85,10 +83,3 @@ WholeFilesAreMerged = (texts : List HostText) (rules : SiteRules) (old new : Led
 abbrev pub TooLargeIsTooLarge : Type 0
 TooLargeIsTooLarge = (l : Ledger) → StopsFor (λ fault. ⊤) l TooLarge
     → (r : Reading) × (l.reading ≡ Some r) × (4294967295 < length r.text)
-
--- Where an inventory has changed, 41 is told, with the host whose turn it was to be read again.
-abbrev pub ChangesAreTold : Type 0
-ChangesAreTold = (texts : List HostText) (rules : SiteRules) (old new : Ledger) (f : Fault)
-    (is : IsSecondFault texts rules old new f) → (host : Host) × (were : List Entry)
-    × (slice_get is.were (length is.change.texts) ≡ Some (host, were))
-    × (words_of f ≡ codes "41" ∷ codes "InventoryChanged" ∷ codes "host" ∷ shown host.name ∷ [])

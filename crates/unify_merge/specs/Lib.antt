@@ -9,7 +9,6 @@ pub mod SecondReading
 pub mod HostFiles
 pub mod Merge
 pub mod LedgerLaws
-pub mod InventoryLimit
 pub mod NamedFiles
 pub mod AccountFiles
 pub mod InTurn
@@ -20,4 +19,7 @@ pub mod Rehearse
 pub mod GivenTexts
 pub mod EarlyEnds
 pub mod RehearsalsRead
+pub mod InventoryLimit
 pub mod ReadTexts
+pub mod ChangesTold
+pub mod CostTold

@@ -1,6 +1,7 @@
 -- A check, a count and a merge go by the inventories that they read.
 -- Source: this project's own rule.
-use Rattle.std.specs.Prelude.{◌≡◌, ◌≢◌, ◌++◌, ℕ, List, Ok, Err, Some, length, map, slice_get}
+use Rattle.std.specs.Prelude.{◌≡◌, ◌≢◌, ◌<◌, ◌≤◌, ◌++◌, ℕ, List, Ok, Err, Some, length, map}
+use Rattle.std.specs.Prelude.{slice_get}
 use Rattle.certcheck.specs.Reading.{certificate_in}
 use Rattle.mtree_inv.specs.declared.entry.Entry.{Entry}
 use Rattle.hosts_join.specs.declared.host.Host.{Host}
@@ -9,7 +10,7 @@ use Rattle.unify_texts.specs.declared.fault.Fault.{Fault}
 use Rattle.unify_texts.specs.declared.fault.Fault.TheVariants.{Memory}
 use Rattle.unify.specs.Checking.{checked}
 use Rattle.unify.specs.Costing.{BegunCost, cost_begun}
-use Rattle.unify.specs.CountLaws.{AreSoMany, ChangesGroup, ChangesUser}
+use Rattle.unify.specs.CountLaws.{ChangesGroup, ChangesSoMany, ChangesUser}
 use Rattle.unify.specs.FileLaws.{AreItsFiles}
 use Rattle.unify.specs.Outcomes.{hosts_in}
 use Rattle.unify.specs.Passes.{site_begun}
@@ -21,13 +22,19 @@ use Rattle.unify.specs.declared.rules.SiteRules.{SiteRules}
 use Rattle.unify_merge.specs.Check.{HasChecked, StopsCheck}
 use Rattle.unify_merge.specs.Count.{HasCounted}
 use Rattle.unify_merge.specs.Ledger.{Ledger, Reading}
-use Rattle.unify_merge.specs.Merge.{HasMerged}
+use Rattle.unify_merge.specs.Merge.{HasMerged, MergeBrokeOff}
 use Rattle.unify_merge.specs.declared.fault.MergeFault.TheVariants.{Refused}
 
+-- of readings, one of each host in order, the host with the index has exactly the files of the text
+-- that was read as its own
+abbrev pub HasFilesIn : List Reading → ℕ → Host → List Entry → Type 0
+HasFilesIn readings h host files = (text : List ℕ)
+    × (slice_get readings h ≡ Some (record { host = h; text = text }))
+    × AreItsFiles (record { host = host; mtree = text }) files
+
 -- After some readings that came to their ends, the inventory of each host was read to its end once,
--- in order, and no other. Each host has exactly the files of the text that was read as its own.
--- texts: what was given of each host; before, after: the readings before that, and with that;
--- h: the index of the host
+-- in order, and no other.
+-- texts: what was given of each host; before, after: the readings before that, and with that
 pub record HaveReadFiles (texts : List HostText) (hosts : List (Host × List Entry))
     (before after : List Reading) : Type 0 where
   pub readings : List Reading
@@ -35,9 +42,7 @@ pub record HaveReadFiles (texts : List HostText) (hosts : List (Host × List Ent
   pub one_each : length readings ≡ length texts
   pub all_hosts : length hosts ≡ length texts
   pub files : (h : ℕ) (host : Host) (files : List Entry)
-      → slice_get hosts h ≡ Some (host, files) → (text : List ℕ)
-      × (slice_get readings h ≡ Some (record { host = h; text = text }))
-      × AreItsFiles (record { host = host; mtree = text }) files
+      → slice_get hosts h ≡ Some (host, files) → HasFilesIn readings h host files
 
 -- the hosts of a site and the accounts over them are those of the texts that were given
 abbrev pub IsOfGiven : List HostText → SiteRules → WholeSite → Type 0
@@ -68,8 +73,8 @@ pub record IsCostOfRead (texts : List HostText) (keep : KeepRules) (map_text : L
   pub hosts : List (Host × List Entry)
   pub hosts_are : map (λ h. h.0) hosts ≡ begun.hosts
   pub were_read : HaveReadFiles texts hosts old.read new.read
-  pub users : AreSoMany (ChangesUser begun.names) hosts cost.users
-  pub groups : AreSoMany (ChangesGroup begun.names) hosts cost.groups
+  pub users : ChangesSoMany (ChangesUser begun.names) hosts cost.users
+  pub groups : ChangesSoMany (ChangesGroup begun.names) hosts cost.groups
 
 abbrev pub CountsGoByRead : Type 0
 CountsGoByRead = (texts : List HostText) (keep : KeepRules) (map_text : List ℕ)
@@ -87,3 +92,27 @@ pub record IsMergeOfRead (texts : List HostText) (rules : SiteRules) (old new : 
 abbrev pub MergesGoByRead : Type 0
 MergesGoByRead = (texts : List HostText) (rules : SiteRules) (old new : Ledger) (cost : Cost)
     (m : HasMerged texts rules old new cost) → IsMergeOfRead texts rules old new cost m
+
+-- One that broke off had read the inventory of each host once, and then those of the first hosts
+-- once more; at most one reading besides came to its end. What it leaves is said of the files that
+-- were read last.
+pub record IsBrokenOfRead (texts : List HostText) (rules : SiteRules) (old new : Ledger)
+    (b : MergeBrokeOff texts rules old new) : Type 0 where
+  pub given : IsOfGiven texts rules (record { hosts = b.last; joined = b.begun.joined })
+  pub middle : List Reading
+  pub once : HaveReadFiles texts b.were old.read middle
+  pub again : List Reading
+  pub as_many : length again ≡ length b.again
+  pub besides : List Reading
+  pub one_at_most : length besides ≤ 1
+  pub no_other : new.read ≡ (middle ++ again) ++ besides
+  pub first : (h : ℕ) (host : Host) (files : List Entry)
+      → slice_get b.last h ≡ Some (host, files) → h < length again
+      → HasFilesIn again h host files
+  pub others : (h : ℕ) (host : Host) (files : List Entry)
+      → slice_get b.last h ≡ Some (host, files) → length again ≤ h
+      → HasFilesIn once.readings h host files
+
+abbrev pub BrokenMergesGoByRead : Type 0
+BrokenMergesGoByRead = (texts : List HostText) (rules : SiteRules) (old new : Ledger)
+    (b : MergeBrokeOff texts rules old new) → IsBrokenOfRead texts rules old new b

@@ -47,7 +47,7 @@ StopsFinding hosts keep old new = StopsFor (IsFindingFault hosts keep old new) n
 -- ---- after it
 
 -- after a survey this holds of the numbers that it found, and of what was read and written then
-pub record Behind (hosts : List HostText) (keep : List ℕ) (old : Ledger)
+pub record AfterSurvey (hosts : List HostText) (keep : List ℕ) (old : Ledger)
     (Holds : UnownedNumbers → Ledger → Type 0) : Type 0 where
   pub unowned : UnownedNumbers
   pub middle : Ledger
@@ -55,43 +55,43 @@ pub record Behind (hosts : List HostText) (keep : List ℕ) (old : Ledger)
   pub holds : Holds unowned middle
 
 abbrev pub HasMergedFiles : List HostText → List ℕ → List ℕ → Ledger → Ledger → Cost → Type 0
-HasMergedFiles hosts pins keep old new cost = Behind hosts keep old
+HasMergedFiles hosts pins keep old new cost = AfterSurvey hosts keep old
     (λ unowned middle. HasMerged hosts (rules_by pins keep unowned) middle new cost)
 
 abbrev pub StopsMergeFiles : List HostText → List ℕ → List ℕ → Ledger → Ledger → MergeFault → Type 0
 StopsMergeFiles hosts pins keep old new fault =
     StopsFinding hosts keep old new fault
-    ⊎ Behind hosts keep old
+    ⊎ AfterSurvey hosts keep old
     (λ unowned middle. StopsMerge hosts (rules_by pins keep unowned) middle new fault)
 
 -- nothing was written or cleared away; or after the survey the writing broke off
 abbrev pub LeavesFiles : List HostText → List ℕ → List ℕ → Ledger → Ledger → Type 0
 LeavesFiles hosts pins keep old new =
     ReadsOnly old new
-    ⊎ Behind hosts keep old
+    ⊎ AfterSurvey hosts keep old
     (λ unowned middle. MergeBrokeOff hosts (rules_by pins keep unowned) middle new)
 
 abbrev pub HasCheckedFiles : List HostText → List ℕ → List ℕ → List ℕ → Ledger → Ledger → ℕ
     → Type 0
-HasCheckedFiles hosts pins keep certificate old new cost = Behind hosts keep old
+HasCheckedFiles hosts pins keep certificate old new cost = AfterSurvey hosts keep old
     (λ unowned middle. HasChecked hosts (rules_by pins keep unowned) certificate middle new cost)
 
 abbrev pub StopsCheckFiles : List HostText → List ℕ → List ℕ → List ℕ → Ledger → Ledger
     → MergeFault → Type 0
 StopsCheckFiles hosts pins keep certificate old new fault =
     StopsFinding hosts keep old new fault
-    ⊎ Behind hosts keep old
+    ⊎ AfterSurvey hosts keep old
     (λ unowned middle.
     StopsCheck hosts (rules_by pins keep unowned) certificate middle new fault)
 
 abbrev pub HasCountedFiles : List HostText → List ℕ → List ℕ → Ledger → Ledger → Cost → Type 0
-HasCountedFiles hosts keep map old new cost = Behind hosts keep old
+HasCountedFiles hosts keep map old new cost = AfterSurvey hosts keep old
     (λ unowned middle.
     HasCounted hosts (record { text = keep; unowned = unowned }) map middle new cost)
 
 abbrev pub StopsCountFiles : List HostText → List ℕ → List ℕ → Ledger → Ledger → MergeFault → Type 0
 StopsCountFiles hosts keep map old new fault =
     StopsFinding hosts keep old new fault
-    ⊎ Behind hosts keep old
+    ⊎ AfterSurvey hosts keep old
     (λ unowned middle.
     StopsCount hosts (record { text = keep; unowned = unowned }) map middle new fault)

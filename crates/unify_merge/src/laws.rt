@@ -1,9 +1,10 @@
 //! What holds of the files of a merge, and of what a command is given and answers.
 ghost use Rattle.unify_merge.specs.AccountFiles.{AccountFilesGoByTexts};
-ghost use Rattle.unify_merge.specs.EarlyEnds.{ChangesAreTold, EarlyEndsLeaveAll};
-ghost use Rattle.unify_merge.specs.EarlyEnds.{EarlyEndsLeaveFiles, RefusalsWriteNothing};
-ghost use Rattle.unify_merge.specs.EarlyEnds.{RefusedFilesWriteNothing, TooLargeIsTooLarge};
-ghost use Rattle.unify_merge.specs.EarlyEnds.{WholeFilesAreMerged};
+ghost use Rattle.unify_merge.specs.ChangesTold.{ChangesAreTold};
+ghost use Rattle.unify_merge.specs.CostTold.{MergesTellTheirCost};
+ghost use Rattle.unify_merge.specs.EarlyEnds.{EarlyEndsLeaveAll, EarlyEndsLeaveFiles};
+ghost use Rattle.unify_merge.specs.EarlyEnds.{RefusalsWriteNothing, RefusedFilesWriteNothing};
+ghost use Rattle.unify_merge.specs.EarlyEnds.{TooLargeIsTooLarge, WholeFilesAreMerged};
 ghost use Rattle.unify_merge.specs.GivenTexts.{BrokenMergesGoByGiven, ChecksGoByGiven};
 ghost use Rattle.unify_merge.specs.GivenTexts.{CountsGoByGiven, MergesGoByGiven};
 ghost use Rattle.unify_merge.specs.GivenTexts.{RefusedChecksGoByGiven, RefusedCountsGoByGiven};
@@ -11,10 +12,12 @@ ghost use Rattle.unify_merge.specs.GivenTexts.{RefusedMergesGoByGiven};
 ghost use Rattle.unify_merge.specs.InTurn.{MergesLeaveReports, PlansComeInTurn, ReportIsLast};
 ghost use Rattle.unify_merge.specs.InTurn.{ReportsStandWithAll};
 ghost use Rattle.unify_merge.specs.InventoryLimit.{InventoryLimitByDigit};
+ghost use Rattle.unify_merge.specs.InventoryLimit.{ReadingsAreWithinLimit};
 ghost use Rattle.unify_merge.specs.LedgerLaws.{LedgersNoteFiles, LedgersNoteReadings};
 ghost use Rattle.unify_merge.specs.LedgerLaws.{MergesAreSettled};
 ghost use Rattle.unify_merge.specs.NamedFiles.{FilesHaveTheirNames};
-ghost use Rattle.unify_merge.specs.ReadTexts.{ChecksGoByRead, CountsGoByRead, MergesGoByRead};
+ghost use Rattle.unify_merge.specs.ReadTexts.{BrokenMergesGoByRead, ChecksGoByRead};
+ghost use Rattle.unify_merge.specs.ReadTexts.{CountsGoByRead, MergesGoByRead};
 ghost use Rattle.unify_merge.specs.ReadTexts.{RefusedChecksGoByRead};
 ghost use Rattle.unify_merge.specs.RehearsalsRead.{RefusedRehearsalsTellTheirFault};
 ghost use Rattle.unify_merge.specs.RehearsalsRead.{RehearsalsReadToTheEnd};
@@ -50,10 +53,11 @@ pub fn ledgers_note_readings()
     ensures { LedgersNoteReadings }
 {}
 
-/// An inventory that a command reads has at most 4294967295 bytes, and one that is told to be too
-/// large has more.
+/// An inventory that a command reads, or a survey before it, has at most 4294967295 bytes, and one
+/// that is told to be too large has more.
 pub fn inventory_limit_by_digit()
     ensures limit { InventoryLimitByDigit }
+    ensures kept { ReadingsAreWithinLimit }
     ensures told { TooLargeIsTooLarge }
 {}
 
@@ -74,13 +78,21 @@ pub fn commands_go_by_what_is_given()
 /// other. The site that is checked, and the files that are counted, have of each host exactly the
 /// files of the text that was read as its own; and a fault that a check tells, where all of them
 /// are accepted, is what is answered of its certificate for these files. A merge reads so twice,
-/// and what it merges is said of the files of the second readings. Whatever else is said of a site
-/// is said by the texts that were given.
+/// and what it merges is said of the files of the second readings. One that broke off had read so
+/// once, and the first hosts again; what it leaves is said of the files of the last readings.
+/// Whatever else is said of a site is said by the texts that were given.
 pub fn commands_go_by_what_is_read()
     ensures checks { ChecksGoByRead }
     ensures refused_checks { RefusedChecksGoByRead }
     ensures counts { CountsGoByRead }
     ensures merges { MergesGoByRead }
+    ensures broken_merges { BrokenMergesGoByRead }
+{}
+
+/// A merge tells as its cost what a count answers of the map that it leaves, and a check of the
+/// certificate that it leaves, with the inventories that were read last.
+pub fn merges_tell_their_cost()
+    ensures { MergesTellTheirCost }
 {}
 
 /// A merge that ends early leaves the files of an earlier one as they were, unless the tables and
@@ -96,8 +108,10 @@ pub fn early_ends_leave_files()
     ensures whole { WholeFilesAreMerged }
 {}
 
-/// Where an inventory has changed between its readings, that is told as 41 with the host whose
-/// inventory it is.
+/// Where a merge ends early because an inventory has changed between its readings, 41 is told, with
+/// the host whose inventory it is. It has changed then: whatever may come after what was read of it
+/// again, it is not accepted, or a user or a group of the host does not own as many of its files as
+/// before. Those of the hosts before it are as they were.
 pub fn changes_are_told()
     ensures { ChangesAreTold }
 {}

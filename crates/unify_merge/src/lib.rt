@@ -24,8 +24,8 @@ pub use files::{CallFailed, MergeFiles, ReadFiles};
 pub use laws::{
     account_files_go_by_texts, changes_are_told, commands_go_by_what_is_given,
     commands_go_by_what_is_read, early_ends_leave_files, files_have_their_names,
-    inventory_limit_by_digit, ledgers_note_files, ledgers_note_readings, plans_come_in_turn,
-    rehearsals_read_to_the_end, the_report_is_last,
+    inventory_limit_by_digit, ledgers_note_files, ledgers_note_readings, merges_tell_their_cost,
+    plans_come_in_turn, rehearsals_read_to_the_end, the_report_is_last,
 };
 pub use log::{Call, Log};
 pub use merge::{merge_by, merge_files, merge_outcome};

@@ -158,7 +158,7 @@ pub fn survey_hosts<'a, F: ReadFiles>(
 /// text are given as texts.
 ///
 /// It stops early at the first fault of the host list and, host by host, of the tables, and then as
-/// [`survey_hosts`] does.
+/// [`survey_hosts`] does. It takes what `begin_survey` and that take.
 pub fn survey_files<'a, F: ReadFiles>(
     alloc: Global,
     files: &mut F,
