@@ -1,5 +1,5 @@
 -- What goes out for a reply, and for a text.
-use Rattle.std.proofs.Common.{◌≡◌, ◌≢◌, ℕ, ◌<◌, ◌≤◌, Bool, true, false, cond, List, ◌++◌, length, Some, Result, Ok, Err, refl, sym, ap, subst, ◌∙◌, arith, inl, inr}
+use Rattle.std.proofs.Common.{◌≡◌, ◌≢◌, ℕ, ◌<◌, ◌≤◌, Bool, true, false, cond, List, ◌++◌, length, Some, Result, Ok, Err, refl, sym, ap, subst, ◌∙◌, arith, inl, inr, length-append}
 use Rattle.std.specs.Prelude.{◌↔◌, ◌⊎◌, is_ok}
 use Rattle.unify_texts.specs.declared.fault.Fault.{Fault}
 use Rattle.unify_texts.specs.declared.bundle.Bundle.{Bundle}
@@ -7,7 +7,7 @@ use Rattle.unify_texts.specs.Codes.{code_of, status_of}
 use Rattle.unify_texts.specs.FaultExamples.{status_for}
 use Rattle.unify_texts.specs.Faults.{fault_line}
 use Rattle.unify_texts.proofs.FaultExamples.{statuses_go_by_faults}
-use Rattle.unify_bundle.specs.GoingOut.{AnswersAreWritten, BundlesAreAnswered, InputsAreTold, NoReplyGoesOut, RepliesGoOut}
+use Rattle.unify_bundle.specs.GoingOut.{AnswersAreWritten, BundlesAreAnswered, InputsAreTold, NoMoreIsTaken, NoReplyGoesOut, RepliesGoOut}
 use Rattle.unify_bundle.specs.Output.{Answer, IsOutput, IsReplyTo, IsTold, Tells, answered, memory_refused, most_bundle_bytes, read_failed}
 
 -- ---- statuses
@@ -87,6 +87,9 @@ failed_told input failed answer why = (
 
 pub inputs_are_told : InputsAreTold
 inputs_are_told = record { whole = whole_told; failed = failed_told }
+
+pub no_more_is_taken : NoMoreIsTaken
+no_more_is_taken most old new (bytes, taken, few) = omega (arith, few, ap length taken, length-append bytes new)
 
 -- ---- writers
 

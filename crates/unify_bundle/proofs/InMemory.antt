@@ -66,11 +66,7 @@ reads_texts texts left files writing l failure h = record {
   so_far = λ r is. (left, h.reading r is);
 }
 
--- those in front of others, and those after them
-pub front_all : {A : Type 0} (P : A → Type 0) (xs ys : List A) → All P (xs ++ ys) → All P xs
-front_all P [] ys all = All-nil P
-front_all P (x ∷ xs) ys all = All-cons P x xs (All-head P x (xs ++ ys) all) (front_all P xs ys (All-tail P x (xs ++ ys) all))
-
+-- those after others
 pub back_all : {A : Type 0} (P : A → Type 0) (xs ys : List A) → All P (xs ++ ys) → All P ys
 back_all P [] ys all = all
 back_all P (x ∷ xs) ys all = back_all P xs ys (All-tail P x (xs ++ ys) all)

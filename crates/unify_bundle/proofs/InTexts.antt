@@ -49,7 +49,7 @@ use Rattle.unify_merge.specs.Surveyed.{IsFindingFault, StopsFinding, WereFound}
 use Rattle.unify_merge.specs.declared.fault.MergeFault.{MergeFault}
 use Rattle.unify_merge.specs.declared.fault.MergeFault.TheVariants.{Failed, TooLarge, Refused}
 use Rattle.unify_merge.proofs.Stops.{if_told}
-use Rattle.unify_bundle.specs.Answers.{in_memory}
+use Rattle.unify_bundle.specs.InMemory.{in_memory}
 use Rattle.unify_bundle.specs.HostParts.{ArePartedFor}
 use Rattle.unify_bundle.specs.TextFiles.{ReadsTexts}
 use Rattle.unify_bundle.proofs.SameTexts as same

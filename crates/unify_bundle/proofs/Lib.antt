@@ -11,7 +11,6 @@ pub mod RunSites
 pub mod SiteRunLaws
 pub mod Rehearsed
 pub mod InMemory
-pub mod Fronts
 pub mod Parts
 pub mod SameTexts
 pub mod InTexts

@@ -21,18 +21,15 @@ use Rattle.unify.specs.declared.rules.KeepRules.{KeepRules}
 use Rattle.unify.specs.declared.rules.SiteRules.{SiteRules}
 use Rattle.unify.specs.Costing.{BegunCost, cost_begun}
 use Rattle.unify.specs.Count.{mapped_names, site_of}
-use Rattle.unify.specs.Hosts.{files_of, owner_fault}
+use Rattle.unify.specs.Hosts.{files_of}
 use Rattle.unify.specs.Loading.{loaded_from}
 use Rattle.unify.specs.Others.{others_loaded, pinned_site}
 use Rattle.unify.specs.Passes.{BegunSite, is_read, lines_of, site_begun}
-use Rattle.unify.specs.SecondPass.{or_changed, owned_lines, second_lines}
+use Rattle.unify.specs.SecondPass.{or_changed}
 use Rattle.unify.specs.Survey.{inventory_of, listed_of}
 use Rattle.unify_texts.specs.Told.{in_file}
 use Rattle.unify.specs.Told.{in_site}
-use Rattle.unify.proofs.Owners.{files_read}
-use Rattle.unify.proofs.PlanTurns.{first_none, lines_with}
 use Rattle.unify.proofs.ReadSites.{as-many-others}
-use Rattle.unify.proofs.SecondPasses.{lines_known}
 use Rattle.unify.proofs.Surveys.{list_refused_at}
 use Rattle.unify.proofs.Whole.{hosts_held}
 use Rattle.unify_laws.specs.Texts.{mtrees}
@@ -43,28 +40,11 @@ use Rattle.unify_merge.specs.Ledger.{Ledger, Reading, nothing}
 use Rattle.unify_merge.specs.Merge.{AreInventories, IsSecondFault}
 use Rattle.unify_merge.specs.SecondReading.{IsChange}
 use Rattle.unify_merge.specs.Survey.{IsReadFault, IsSurveyFault}
+use Rattle.unify_merge.proofs.Fronts.{front_all, lines_on, lines_owned}
 use Rattle.unify_bundle.specs.TextFiles.{IsOf, ReadsTexts, ledger_of}
-use Rattle.unify_bundle.proofs.Fronts.{front_accepted, lines_refused_on}
-use Rattle.unify_bundle.proofs.InMemory.{back_all, front_all, read_again, read_all_again, so_far_again}
+use Rattle.unify_bundle.proofs.InMemory.{back_all, read_again, read_all_again, so_far_again}
 
--- ---- the front of an inventory
-
-module _ (host : Host) (text rest : List ℕ) where
-  -- a fault of its lines is one of all of them
-  pub lines_on : (f : Fault) → is_read (lines_of host text) ≡ Err f → is_read (lines_of host (text ++ rest)) ≡ Err f
-  lines_on f h = by (inventory_of_lines 16777216 (whole_lines text)) refl h
-    where
-      by : (r : Result (List Entry) TextFault) → inventory_of_lines 16777216 (whole_lines text) ≡ r → is_read (in_file host.name file.Mtree r) ≡ Err f → is_read (lines_of host (text ++ rest)) ≡ Err f
-      by (Ok files) e none = absurd (cc)
-      by (Err t) e bad = rw (lines_refused_on 16777216 text rest t e) bad
-
-  -- where all of it is accepted, each of its lines is
-  pub lines_owned : (files : List Entry) → files_of (record { host = host; mtree = text ++ rest }) ≡ Ok files → is_read (second_lines host text) ≡ Ok tt
-  lines_owned files h =
-      let read = files_read (record { host = host; mtree = text ++ rest }) files h in
-      let front = front_accepted 16777216 text rest files read.0 in
-      let owned = front_all (λ f. owner_fault host [] f ≡ None) front.0 front.2.0 (subst (λ fs. All (λ f. owner_fault host [] f ≡ None) fs) front.2.1 read.1) in
-      lines_known host (owned_lines host text) front.0 (lines_with host text front.0 None front.1 (first_none (owner_fault host []) [] front.0 owned))
+-- ---- one inventory
 
 -- a fault of the lines of an inventory is its own
 unlisted : (host : Host) (text : List ℕ) (f : Fault) → is_read (lines_of host text) ≡ Err f → inventory_of host text ≡ Err f

@@ -1,14 +1,14 @@
 -- What goes out for a reply, and for a text.
 -- Source: this project's own formats.
-use Rattle.std.specs.Prelude.{◌≡◌, ◌↔◌, ◌⊎◌, ℕ, ◌<◌, ◌≤◌, Bool, true, false, List, ◌++◌, length}
-use Rattle.std.specs.Prelude.{codes, Some, Result, Ok, Err, is_ok}
+use Rattle.std.specs.Prelude.{◌≡◌, ◌↔◌, ◌⊎◌, ℕ, ◌+◌, ◌<◌, ◌≤◌, Bool, true, false, List, ◌++◌}
+use Rattle.std.specs.Prelude.{length, codes, Some, Result, Ok, Err, is_ok}
 use Rattle.unify_texts.specs.declared.fault.Fault.{Fault}
 use Rattle.unify_texts.specs.declared.bundle.Bundle.{Bundle}
 use Rattle.unify_texts.specs.Bundles.{bundle_of}
 use Rattle.unify_texts.specs.FaultExamples.{status_for}
 use Rattle.unify_texts.specs.Faults.{fault_line}
-use Rattle.unify_bundle.specs.Output.{Answer, IsOutput, IsReply, IsTold, Tells, answered}
-use Rattle.unify_bundle.specs.Output.{memory_refused, most_bundle_bytes, read_failed}
+use Rattle.unify_bundle.specs.Output.{Answer, IsOutput, IsReply, IsTold, TakesAtMost, Tells}
+use Rattle.unify_bundle.specs.Output.{answered, memory_refused, most_bundle_bytes, read_failed}
 
 -- lines go out as they are, and a fault as its line with its own status; the status is 0 for lines
 -- alone
@@ -41,6 +41,12 @@ pub record InputsAreTold : Type 0 where
   pub failed : (input : List ℕ) (failed : Bool) (answer : Answer)
       → (failed ≡ true) ⊎ (most_bundle_bytes < length input)
       → IsTold input failed answer ↔ ((answer ≡ read_failed) ⊎ (answer ≡ memory_refused))
+
+-- what is taken away is no more than that
+abbrev pub NoMoreIsTaken : Type 0
+NoMoreIsTaken =
+    (most : ℕ) (old new : List ℕ) → TakesAtMost most (Some old) (Some new)
+    → length old ≤ length new + most
 
 -- What is told stands in the writer after what was there, and the status is its own. After a failed
 -- write the status is 3, whatever the writer has.

@@ -9,5 +9,5 @@ pub mod Carrying
 pub mod SiteRuns
 pub mod SiteRunLaws
 pub mod TextFiles
-pub mod Answers
+pub mod InMemory
 pub mod HostParts

@@ -72,11 +72,11 @@ fn reply_to_cost(alloc: Global, found: &Result<Cost, MergeFault<'_>>) -> Result<
 }
 
 // The reply that tells an accepted certificate, or why it is not.
-fn reply_to_sum(alloc: Global, found: &Result<u64, MergeFault<'_>>) -> Result<Reply, NoReply>
+fn reply_to_accepted(alloc: Global, found: &Result<u64, MergeFault<'_>>) -> Result<Reply, NoReply>
     ensures { Gives reply_of cause result (reply_to accepted_line found.now) }
 {
     match found {
-        Ok(sum) => Ok(accepted_reply(alloc, *sum)?),
+        Ok(cost) => Ok(accepted_reply(alloc, *cost)?),
         Err(fault) => refusal_reply(alloc, fault),
     }
 }
@@ -158,7 +158,7 @@ pub fn check_answer<'a, F: ReadFiles>(
     ensures told { Gives reply_of cause result.reply (reply_to accepted_line result.found) }
 {
     let found = check_files(alloc, files, hosts, pins, keep, certificate);
-    let reply = reply_to_sum(alloc, &found);
+    let reply = reply_to_accepted(alloc, &found);
     FilesAnswer { found, reply }
 }
 

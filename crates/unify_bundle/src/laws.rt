@@ -3,7 +3,8 @@ ghost use Rattle.unify_bundle.specs.AnswersBack.{AcceptedIsRead, CostsAreRead, M
 ghost use Rattle.unify_bundle.specs.AnswersBack.{MergesAreRead, MergesWithHostsAreRead};
 ghost use Rattle.unify_bundle.specs.AnswersBack.{NumbersByExample, RecordsAreRead};
 ghost use Rattle.unify_bundle.specs.GoingOut.{AnswersAreWritten, BundlesAreAnswered};
-ghost use Rattle.unify_bundle.specs.GoingOut.{InputsAreTold, NoReplyGoesOut, RepliesGoOut};
+ghost use Rattle.unify_bundle.specs.GoingOut.{InputsAreTold, NoMoreIsTaken, NoReplyGoesOut};
+ghost use Rattle.unify_bundle.specs.GoingOut.{RepliesGoOut};
 ghost use Rattle.unify_bundle.specs.Lines.{accepted_line, cost_lines, records_lines};
 ghost use Rattle.unify_bundle.specs.SiteRunLaws.{BeginAsInventories, LastAdvancesFinish};
 ghost use Rattle.unify_bundle.specs.SiteRunLaws.{LastStopsUndo, SiteRunsFinish};
@@ -49,12 +50,14 @@ pub fn bundle_files_are_taken()
 /// What goes out for a bundle is a reply of its command to its places, and for any other text its
 /// first bad line. The lines of a reply go out as they are, with status 0, and a fault as its line
 /// with the status of the fault, which is never 0. Where a read failed, or there is too much, that
-/// is told in their place, and where memory is wanting, that may be.
+/// is told in their place, and where memory is wanting, that may be. No more bytes of the input are
+/// taken than `run_bundle` says.
 pub fn replies_go_out()
     ensures replies { RepliesGoOut }
     ensures none { NoReplyGoesOut }
     ensures bundles { BundlesAreAnswered }
     ensures inputs { InputsAreTold }
+    ensures taken { NoMoreIsTaken }
     ensures answers { AnswersAreWritten }
 {}
 

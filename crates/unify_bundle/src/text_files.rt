@@ -1,7 +1,7 @@
 //! The inventories among texts, and the files that are written for them, in memory.
 
 ghost use Rattle.std.specs.Prelude.{◌≡◌, ◌<◌, ◌++◌, ◌∷◌, [], vec_len, vec_capacity, IfOk};
-ghost use Rattle.unify_bundle.specs.Answers as spec;
+ghost use Rattle.unify_bundle.specs.InMemory as spec;
 
 use hosts_join::HostText;
 use idtext::ByteString;
@@ -96,7 +96,7 @@ impl<'a> TextFiles<'a> {
     ghost use Rattle.std.specs.Prelude.{◌≡◌, None, Some};
     ghost use Rattle.unify_merge.specs.Ledger.{nothing};
     ghost use Rattle.unify_bundle.specs.TextFiles.{ReadsTexts, ledger_of};
-    ghost use Rattle.unify_bundle.specs.Answers as spec;
+    ghost use Rattle.unify_bundle.specs.InMemory as spec;
     ghost use Rattle.unify_laws.specs.Texts.{mtrees};
 
     /// Nothing is written as yet. No cost.

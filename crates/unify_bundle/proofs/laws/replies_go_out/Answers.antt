@@ -7,5 +7,6 @@ returns c = record {
   none = out.no_reply_goes_out;
   bundles = out.bundles_are_answered;
   inputs = out.inputs_are_told;
+  taken = out.no_more_is_taken;
   answers = out.answers_are_written;
 }
