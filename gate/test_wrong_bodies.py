@@ -68,7 +68,8 @@ impl Pair {
 }
 """
 # The name, the file, the old text and the new one of each edit, and how what is told of it begins. The caller of a function that
-# is not proved is not proved either: beside the first, the fourth must not be told as refused.
+# is not proved is not proved either: beside the first, the fourth must not be told as refused, nor the last in a later round,
+# in which the first or the second stays made.
 EDITS = [
     ("next_is_the_same", "lib", "number as u16 + 1", "number as u16", "refused, "),
     ("next_is_too_far", "lib", "number as u16 + 1", "number as u16 + 2", "refused, "),
@@ -77,6 +78,8 @@ EDITS = [
     ("no_such_text", "lib", "next(number) + 3", "next(number)", "CANNOT BE MADE"),
     ("first_is_doubled", "apart", "self.second as u16", "self.first as u16", "refused, "),
     ("second_is_first", "lib", "self.value.first", "self.value.second", "refused, "),
+    ("three_is_added", "lib", "next(number) + 1", "next(number) + 2", "refused, "),
+    ("zero_is_added", "lib", "next(number) + 1", "next(number) + 1 + 0", "LET THROUGH"),
 ]
 # One that turns the contract of the function below that has to refuse it.
 TURNED = """why: Sums; of one
@@ -115,7 +118,7 @@ def main():
     told = ran.stdout.splitlines()
     wanted = sorted([*(f"small/{name}: {what}" for name, *_, what in EDITS), "small/turned: refused, ", "small/unlawful: refused, "])
     through = sorted(f"small/{name}" for name, *_, what in EDITS if not what.startswith("refused"))
-    ends = [f"not refused: {' '.join(through)}", "6 refused, 3 let through"]
+    ends = [f"not refused: {' '.join(through)}", "7 refused, 4 let through"]
     is_told = len(told) == len(wanted) + 2 and all(line.startswith(it) for line, it in zip(sorted(told[:-2]), wanted))
     if not is_told or told[-2:] != ends or ran.returncode != 1:
         sys.exit(f"wrong_bodies.py, tried on a small crate, ended with {ran.returncode}:\n{ran.stdout}{ran.stderr}")

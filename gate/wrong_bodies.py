@@ -5,21 +5,23 @@
     gate/wrong_bodies.py --passed     notes that `rt ci` has just passed these sources
 
 An edit is a file as rt's must-fail edits are: lines `file: PATH` below the crate, `old: TEXT`, which stands there once, and
-`new: TEXT`. A line `why: TEXT` is for the reader: the promise of docs/promises.md that it breaks, or some with commas between them,
-and what else is to be said after a semicolon or a colon. The edits of a crate are tried in rounds. A round takes edits that touch different functions, makes them all in
-one copy of the crate, and has these functions checked, with what they call. An edit is refused where that check leaves a goal
-open in a function that the edit touches. What is not refused in a round is tried alone before it is told as let through. So
-is an edit outside of functions: all of the crate is checked with it, and it is refused where any goal is left open.
+`new: TEXT`. A line `why: TEXT` is for the reader: the promise of docs/promises.md that it breaks, or some with commas between
+them, and what else is to be said after a semicolon or a colon.
+
+The edits of a crate are tried in rounds. A round takes edits that touch different functions, makes them all in one copy of the
+crate, and has these functions checked, with what they call. An edit is refused where that check leaves a goal open in a function
+that the edit touches. What was refused before stays made where a round touches nothing: such a function is not proved again. What
+is not refused in a round is tried alone before it is told as let through. So is an edit outside of functions: all of the crate is
+checked with it, and it is refused where any goal is left open.
 
 An edit may turn the contracts of functions with their bodies. A line `in: PATH FUNCTION` names the one above them that has to
-refuse it; that function alone is checked then, and by itself. What breaks in a lemma that its answers cite does not count. It
-does where an edit turns a definition with its body, so that a law of the definition does not hold: there a line `law: PATH FUNCTION`
+refuse it; that function alone is checked then, and by itself. What breaks in a lemma that its answers cite does not count. It does
+where an edit turns a definition with its body, so that a law of the definition does not hold: there a line `law: PATH FUNCTION`
 names the law, and that alone is checked, with its lemmas.
 
 All is done in a copy of the repository's crates. A crate that `rt ci` has passed on this machine is taken as proved, by the
 record of rt where it keeps one and else by build/passed and the libraries that it left; any other is proved first. Crates are
-tried side by side, RT_JOBS at a time. The last line is `N refused, M let through`; the status is 1
-if M is not 0.
+tried side by side, RT_JOBS at a time. The last line is `N refused, M let through`; the status is 1 if M is not 0.
 """
 import importlib.machinery
 import importlib.util
@@ -265,24 +267,23 @@ class Crate:
             return function
         raise Unreadable(f"{path} has no function {name}")
 
-    def round_of(self, edits):
-        """The first edits that can be made at once, since they touch different functions, and the texts that they make."""
+    def round_of(self, edits, refused):
+        """The first edits that can be made at once, since they touch different functions, and the texts that they make. In every
+        other function what was refused last stays made: a check takes that from an earlier one, and proves no function again."""
         chosen, taken, texts = [], set(), {}
-        for edit in edits:
-            if edit.functions and not edit.functions & taken:
+        for edit in (it for it in [*edits, *reversed(refused)] if it.functions):
+            if not edit.functions & taken:
                 try:
                     texts = made(edit.changes, texts, self.text_of)
                 except Unreadable:
                     continue
-                chosen.append(edit)
                 taken |= edit.functions
+                chosen += [edit] * (edit not in refused)
         return (chosen, texts) if chosen else (edits[:1], made(edits[0].changes, {}, self.text_of))
 
     def check(self, edits, texts, kept):
         """Checks the functions that the edits touch, with the texts that they make, over what earlier checks of them kept."""
         only = [f"--only={it.name}" for edit in edits for it in sorted(edit.functions)]
-        if not all(it.functions for it in edits):
-            only = []
         said = self.rt.checked(self.crate, texts, ["--jobs", "1", *only], kept).stdout
         goals, answers, errors = (
             [Place(path, int(line), goal) for path, line, goal in it.findall(said)] for it in (OPEN, ANSWER, ERROR)
@@ -293,15 +294,17 @@ class Crate:
     def tried_together(self, kept):
         """Tries the edits in rounds, and returns those that were not refused."""
         left, doubtful = ([it for it in self.edits if it.is_apart == apart] for apart in (False, True))
+        refused = []
         while left:
-            chosen, texts = self.round_of(left)
-            if len(chosen) < 2:
+            chosen, texts = self.round_of(left, refused)
+            if len(chosen) < 2 and not refused:
                 return doubtful + left
             told = self.check(chosen, texts, kept)
             # With an error nothing was judged: what does not compile is told alone, and the others are tried once more.
             tried = [it for it in chosen if it.found_in(told.errors)] or chosen
             is_judged = told.has_ended and not told.errors
-            doubtful += [it for it in tried if not is_judged or not self.is_refused(it, told.goals)]
+            refused += [it for it in tried if is_judged and self.is_refused(it, told.goals)]
+            doubtful += [it for it in tried if it not in refused]
             left = [it for it in left if it not in tried]
         return doubtful
 
