@@ -15,9 +15,10 @@ use Rattle.ownership.specs.Files.{Added}
 use Rattle.unify.specs.declared.merging.Merged.{Merged}
 use Rattle.unify.specs.declared.plan_turn.PlanTurn.{PlanTurn}
 use Rattle.unify.specs.Whole.{IsWhole}
-use Rattle.unify.specs.Loading.{loaded_from}
+use Rattle.site_tables.specs.Loading.{loaded_from}
 use Rattle.unify.specs.Merging.{HoldsCounted, IsMerged}
-use Rattle.unify.specs.Passes.{AreTogether, InventoriesValue, read_in}
+use Rattle.site_tables.specs.Begun.{AreTogether}
+use Rattle.unify.specs.Passes.{InventoriesValue, read_in}
 use Rattle.unify.specs.Reading.{WholeSite, added_from, added_on}
 use Rattle.unify.specs.RowFiles.{RowFiles, row_files}
 use Rattle.unify.specs.Turns.{AreCounting, Pass, seen}

@@ -15,15 +15,16 @@ use Rattle.unify_texts.specs.declared.fault.Fault.{Fault}
 use Rattle.unify.specs.CheckLaws.{CertifyingAreAccepted, FirstFaultsOfChecks, IsFirstOfCheck}
 use Rattle.unify.specs.Checking.{IsChecked, check_of, checked}
 use Rattle.unify.specs.Count.{site_of}
-use Rattle.unify.specs.Loading.{loaded_from}
-use Rattle.unify.specs.Others.{others_loaded, pinned_site}
+use Rattle.site_tables.specs.Loading.{loaded_from}
+use Rattle.site_tables.specs.Others.{others_loaded, pinned_site}
 use Rattle.unify.specs.Reading.{WholeSite, files_of_site, site_read}
-use Rattle.unify.specs.SiteLaws.{IsRefusedOr}
-use Rattle.unify.specs.Told.{in_certificate, in_check, in_site}
-use Rattle.unify.specs.declared.rules.SiteRules.{SiteRules}
-use Rattle.unify.proofs.FaultLaws.{bind_err}
-use Rattle.unify.proofs.ReadSites.{others-together}
-use Rattle.unify.proofs.Whole.{site_ok}
+use Rattle.site_tables.specs.SiteLaws.{IsRefusedOr}
+use Rattle.site_tables.specs.Told.{in_site}
+use Rattle.unify.specs.Told.{in_certificate, in_check}
+use Rattle.site_tables.specs.declared.rules.SiteRules.{SiteRules}
+use Rattle.site_tables.proofs.FaultLaws.{bind_err}
+use Rattle.site_tables.proofs.ReadSites.{others-together}
+use Rattle.site_tables.proofs.SiteSteps.{site_ok}
 
 -- the accounts of a site that was read are lawful
 lawful_accounts : (texts : List HostText) (rules : SiteRules) (site : WholeSite) → site_read texts rules ≡ Ok site → HasLawfulAccounts site.joined

@@ -18,20 +18,20 @@ use Rattle.unify_texts.specs.Maps.{map_of}
 use Rattle.unify_texts.specs.declared.fault.Fault.{Fault}
 use Rattle.unify_texts.specs.declared.map_text.MapText.{MapText}
 use Rattle.unify.specs.Cost.{changed, cost_of, is_number}
-use Rattle.unify.specs.Costing.{BegunCost, cost_begun}
-use Rattle.unify.specs.Count.{count_of, mapped_names, names_checked, site_of, total_of}
+use Rattle.site_tables.specs.Mapped.{BegunCost, cost_begun, mapped_names, names_checked}
+use Rattle.unify.specs.Count.{count_of, site_of, total_of}
 use Rattle.unify.specs.CountLaws.{ChangesSoMany, ChangedFilesAreCounted, FirstFaultsOfCounts, IsCounted, IsFirstOfCount}
-use Rattle.unify.specs.Hosts.{host_of}
-use Rattle.unify.specs.Loading.{loaded_from}
-use Rattle.unify.specs.Others.{Others, others_loaded, others_of}
-use Rattle.unify.specs.SiteLaws.{IsRefusedOr, hosts_of, joined_of}
-use Rattle.unify.specs.Told.{in_keep, in_site}
+use Rattle.site_tables.specs.Hosts.{host_of}
+use Rattle.site_tables.specs.Loading.{loaded_from}
+use Rattle.site_tables.specs.Others.{Others, others_loaded, others_of}
+use Rattle.site_tables.specs.SiteLaws.{IsRefusedOr, hosts_of, joined_of}
+use Rattle.site_tables.specs.Told.{in_keep, in_site}
 use Rattle.unify.specs.declared.counting.Cost.{Cost}
-use Rattle.unify.specs.declared.rules.KeepRules.{KeepRules}
-use Rattle.unify.proofs.FaultLaws.{bind_err, never_err}
-use Rattle.unify.proofs.ReadSites.{are-loaded}
-use Rattle.unify.proofs.SiteLaws.{keep_told, load_refused, others_given, others_told}
-use Rattle.unify.proofs.TextLaws.{denied}
+use Rattle.site_tables.specs.declared.rules.KeepRules.{KeepRules}
+use Rattle.site_tables.proofs.FaultLaws.{bind_err, never_err, assoc}
+use Rattle.site_tables.proofs.ReadSites.{are-loaded}
+use Rattle.site_tables.proofs.SiteLaws.{keep_told, load_refused, others_given, others_told}
+use Rattle.site_tables.proofs.TextLaws.{denied}
 
 -- ---- a file
 
@@ -92,10 +92,6 @@ abbrev group_of : Host → Entry → Option (List ℕ)
 group_of host file = group_at host.groups file.gid
 
 -- ---- a count
-
-pub assoc : {A B C F : Type 0} (r : Result A F) (f : A → Result B F) (g : B → Result C F) → ((r >>= f) >>= g) ≡ (r >>= λ x. f x >>= g)
-assoc (Ok x) f g = refl
-assoc (Err e) f g = refl
 
 module _ (texts : List HostText) (keep : KeepRules) (map_text : List ℕ) where
   abbrev mtrees : List (List ℕ)

@@ -14,15 +14,15 @@ use Rattle.hosts_join.specs.Pairs.{number_of}
 use Rattle.hosts_join.specs.declared.host.Host.{Host}
 use Rattle.unify_texts.specs.declared.map_text.MapText.{MapText}
 use Rattle.unify.specs.declared.counting.Cost.{Cost}
-use Rattle.unify.specs.declared.host.Loaded.{Loaded}
+use Rattle.site_tables.specs.declared.host.Loaded.{Loaded}
 use Rattle.unify.specs.Cost.{changed, cost_of, groups_changed, host_cost, is_number, users_changed}
 use Rattle.unify.specs.Count.{site_of}
-use Rattle.unify.specs.Hosts.{files_of}
-use Rattle.unify.specs.Loading.{loaded_from}
+use Rattle.site_tables.specs.Hosts.{files_of}
+use Rattle.site_tables.specs.Loading.{loaded_from}
 use Rattle.unify.specs.Passes.{InventoriesValue, ended_in, read_in}
 use Rattle.unify.specs.RowFiles.{RowFiles, row_files}
 use Rattle.unify.specs.Turns.{AreCounting, Pass, seen}
-use Rattle.unify.proofs.Owners.{files_read}
+use Rattle.site_tables.proofs.Owners.{files_read}
 use Rattle.unify.proofs.Sites.{cost_more}
 use Rattle.unify.proofs.Whole.{hosts_held}
 

@@ -15,7 +15,7 @@ use Rattle.hosts_join.specs.Hosts.{allows_gid, allows_uid, spares_group, spares_
 use Rattle.hosts_join.specs.Kinds.{group_at, user_at}
 use Rattle.hosts_join.specs.declared.host.Host.{Host}
 use Rattle.mtree_inv.specs.declared.entry.Entry.{Entry}
-use Rattle.unify.specs.Hosts.{owner_fault}
+use Rattle.site_tables.specs.Hosts.{owner_fault}
 use Rattle.unify.specs.RowFiles.{row_files}
 use Rattle.unify.proofs.Counts.{AreApart, apart}
 

@@ -9,7 +9,7 @@ use Rattle.hosts_join.specs.Hosts.{allows_gid, allows_uid}
 use Rattle.hosts_join.specs.declared.host.Host.{Host}
 use Rattle.mtree_inv.specs.declared.entry.Entry.{Entry}
 use Rattle.unify.specs.declared.row_files.OwnerPlaces.{OwnerPlaces}
-use Rattle.unify.specs.Hosts.{owner_fault}
+use Rattle.site_tables.specs.Hosts.{owner_fault}
 use Rattle.unify.specs.Places.{ArePlaces}
 use Rattle.unify.proofs.FileCounts.{both_allowed, no_group_row, no_row}
 use Rattle.unify.proofs.Turns.{is_owned_none}

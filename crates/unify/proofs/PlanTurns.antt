@@ -35,7 +35,7 @@ use Rattle.unify.specs.declared.known_owners.KnownOwner.{KnownOwner}
 use Rattle.unify.specs.declared.plan_turn.PlanTurn.{PlanTurn}
 use Rattle.unify.specs.declared.plan_turn.Stop.{Stop}
 use Rattle.unify.specs.declared.plan_turn.Stop.TheVariants as stop
-use Rattle.unify.specs.Hosts.{owner_fault, files_of}
+use Rattle.site_tables.specs.Hosts.{owner_fault, files_of}
 use Rattle.unify.specs.KnownOwners.{AreKnown}
 use Rattle.unify.specs.RowFiles.{RowFiles, row_files}
 use Rattle.unify.specs.PlanTurns.{GoesOn, TellsLines, TurnsFor, planned_so_far, stop_of}

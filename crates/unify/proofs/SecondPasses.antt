@@ -18,20 +18,20 @@ use Rattle.reown_plan.specs.Spelling.{end}
 use Rattle.unify_texts.specs.Told.{told}
 use Rattle.unify_texts.specs.declared.fault.Fault.{Fault}
 use Rattle.unify_texts.specs.declared.fault.Fault.TheVariants.{InventoryChanged}
-use Rattle.unify.specs.declared.host.Loaded.{Loaded}
+use Rattle.site_tables.specs.declared.host.Loaded.{Loaded}
 use Rattle.unify.specs.declared.known_owners.KnownOwner.{KnownOwner}
 use Rattle.unify.specs.declared.merging.Merged.{Merged}
 use Rattle.unify.specs.declared.plan_turn.PlanTurn.{PlanTurn}
 use Rattle.unify.specs.declared.plan_turn.Stop.{Stop}
 use Rattle.unify.specs.declared.plan_turn.Stop.TheVariants as stop
-use Rattle.unify.specs.Hosts.{owner_fault}
+use Rattle.site_tables.specs.Hosts.{owner_fault}
 use Rattle.unify.specs.KnownOwners.{AreKnown, NoneIsKnown}
 use Rattle.unify.specs.Passes.{is_read}
 use Rattle.unify.specs.PlanTurns.{IsAccepted, IsFreshTurn, IsSolving, Pass, TurnsFor, met_on, planned_so_far, seen, stop_told}
 use Rattle.unify.specs.RowFiles.{RowFiles, row_files}
 use Rattle.unify.specs.SecondPass.{IsNext, IsPlannedSoFar, IsUnfinished, WereFirst, or_changed, plan_before_end, second_files, second_lines, whole_plan}
 use Rattle.unify.proofs.FilesSoFar.{files_all}
-use Rattle.unify.proofs.Owners.{files_read}
+use Rattle.site_tables.proofs.Owners.{files_read}
 use Rattle.unify.proofs.PlanTurns.{lines_are, lines_with}
 
 -- ---- what is answered

@@ -1,16 +1,9 @@
--- Which fault contracts see where a part tells one.
+-- Which fault contracts see where a certificate or its check tells one.
 use Rattle.std.proofs.Common.{◌≡◌, Some, refl}
 use Rattle.certcheck.specs.Told as seen
 use Rattle.certcheck.specs.declared.fault.CheckFault.{CheckFault}
 use Rattle.certcheck.specs.declared.fault.CheckFault.TheVariants as check
-use Rattle.keep_text.specs.KeepTexts.{keep_told}
-use Rattle.keep_text.specs.declared.keep_text.KeepFault.{KeepFault}
-use Rattle.keep_text.specs.declared.keep_text.KeepFault.TheVariants as keep
 use Rattle.unify.specs.SeenFaults.{PartsShowTheirFaults}
-
-keep_seen : (f : KeepFault) → (f ≡ keep.Memory → ⊥) → keep_told f ≡ Some f
-keep_seen (keep.BadKeep line) other = refl
-keep_seen keep.Memory other = absurd (other refl)
 
 check_seen : (f : CheckFault) → (f ≡ check.Memory → ⊥) → seen.told f ≡ Some f
 check_seen (check.NameMissing kind name) other = refl
@@ -23,7 +16,6 @@ check_seen check.Memory other = absurd (other refl)
 
 pub parts_show_their_faults : PartsShowTheirFaults
 parts_show_their_faults = record {
-  keep_texts = record { wanted = refl; others = keep_seen };
   checks = record { wanted = refl; others = check_seen };
   bad_lines = λ line. refl;
   certificates_without_memory = refl;

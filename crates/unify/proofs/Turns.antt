@@ -16,8 +16,8 @@ use Rattle.hosts_join.specs.declared.host.Host.{Host}
 use Rattle.unify_texts.specs.Told.{told}
 use Rattle.unify_texts.specs.declared.fault.Fault.{Fault}
 use Rattle.unify.specs.declared.turn.Turn.{Turn}
-use Rattle.unify.specs.Hosts.{files_of, owner_fault}
-use Rattle.unify.specs.Passes.{IsFaultOf, IsToldAs, is_read, read_told}
+use Rattle.site_tables.specs.Hosts.{files_of, owner_fault, read_told}
+use Rattle.unify.specs.Passes.{IsFaultOf, IsToldAs, is_read}
 use Rattle.unify.specs.Turns.{AreCounted, IsAccepted, TurnsFor, met_at, or_memory, owner_told}
 use Rattle.unify.specs.RowFiles.{RowFiles, row_files}
 use Rattle.unify_texts.proofs.Faults.{memory_or, told_is}

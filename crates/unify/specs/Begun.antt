@@ -3,8 +3,9 @@
 use Rattle.std.specs.Prelude.{◌≡◌}
 use Rattle.unify.specs.declared.site.JoinedSite.{JoinedSite}
 use Rattle.unify.specs.declared.map_cost.MappedSite.{MappedSite}
-use Rattle.unify.specs.Costing.{BegunCost}
-use Rattle.unify.specs.Passes.{AreTogether, BegunSite, at_start}
+use Rattle.site_tables.specs.Mapped.{BegunCost}
+use Rattle.site_tables.specs.Begun.{AreTogether, BegunSite}
+use Rattle.unify.specs.Passes.{at_start}
 
 -- the hosts with their tables, and the accounts over all of them
 pub record IsBegun (begun : BegunSite) (held : JoinedSite) : Type 0 where

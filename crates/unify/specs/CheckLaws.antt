@@ -8,9 +8,9 @@ use Rattle.certcheck.specs.Reading.{certificate_in}
 use Rattle.unify_texts.specs.declared.fault.Fault.{Fault}
 use Rattle.unify.specs.Checking.{IsChecked, check_of}
 use Rattle.unify.specs.Reading.{files_of_site, site_read}
-use Rattle.unify.specs.SiteLaws.{IsRefusedOr}
+use Rattle.site_tables.specs.SiteLaws.{IsRefusedOr}
 use Rattle.unify.specs.Told.{in_certificate, in_check}
-use Rattle.unify.specs.declared.rules.SiteRules.{SiteRules}
+use Rattle.site_tables.specs.declared.rules.SiteRules.{SiteRules}
 
 -- exactly those that certify, with the cost of their mappings
 abbrev pub CertifyingAreAccepted : Type 0

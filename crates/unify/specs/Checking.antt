@@ -10,7 +10,7 @@ use Rattle.certcheck.specs.Check.{answer}
 use Rattle.certcheck.specs.Reading.{certificate_in}
 use Rattle.certcheck.specs.declared.certificate.Certificate.{Certificate}
 use Rattle.unify_texts.specs.declared.fault.Fault.{Fault}
-use Rattle.unify.specs.declared.rules.SiteRules.{SiteRules}
+use Rattle.site_tables.specs.declared.rules.SiteRules.{SiteRules}
 use Rattle.unify.specs.Reading.{WholeSite, files_of_site, site_read}
 use Rattle.unify.specs.Told.{in_certificate, in_check}
 

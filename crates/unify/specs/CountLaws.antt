@@ -13,14 +13,14 @@ use Rattle.keep_text.specs.KeepTexts.{keep_of}
 use Rattle.unify_texts.specs.Maps.{map_of}
 use Rattle.unify_texts.specs.declared.fault.Fault.{Fault}
 use Rattle.unify_texts.specs.declared.map_text.MapText.{MapText}
-use Rattle.unify.specs.Costing.{BegunCost, cost_begun}
-use Rattle.unify.specs.Count.{count_of, names_checked, site_of}
-use Rattle.unify.specs.Hosts.{host_of}
-use Rattle.unify.specs.Loading.{loaded_from}
-use Rattle.unify.specs.SiteLaws.{IsRefusedOr, hosts_of, joined_of}
-use Rattle.unify.specs.Told.{in_keep, in_site}
+use Rattle.site_tables.specs.Mapped.{BegunCost, cost_begun, names_checked}
+use Rattle.unify.specs.Count.{count_of, site_of}
+use Rattle.site_tables.specs.Hosts.{host_of}
+use Rattle.site_tables.specs.Loading.{loaded_from}
+use Rattle.site_tables.specs.SiteLaws.{IsRefusedOr, hosts_of, joined_of}
+use Rattle.site_tables.specs.Told.{in_keep, in_site}
 use Rattle.unify.specs.declared.counting.Cost.{Cost}
-use Rattle.unify.specs.declared.rules.KeepRules.{KeepRules}
+use Rattle.site_tables.specs.declared.rules.KeepRules.{KeepRules}
 
 -- ---- a cost
 

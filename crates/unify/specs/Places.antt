@@ -5,7 +5,7 @@ use Rattle.accounts.specs.Laws.{IsGroupTable, IsPasswdTable}
 use Rattle.mtree_inv.specs.declared.entry.Entry.{Entry}
 use Rattle.hosts_join.specs.declared.host.Host.{Host}
 use Rattle.unify.specs.declared.row_files.OwnerPlaces.{OwnerPlaces}
-use Rattle.unify.specs.Hosts.{owner_fault}
+use Rattle.site_tables.specs.Hosts.{owner_fault}
 
 -- the host allows the numbers of the file, and its rows that have them stand at these places
 pub record Owns (host : Host) (places : OwnerPlaces) (file : Entry) : Type 0 where

@@ -18,9 +18,9 @@ use Rattle.unify.specs.declared.plan_turn.Stop.{Stop}
 use Rattle.unify.specs.declared.plan_turn.Stop.TheVariants as stop
 use Rattle.unify.specs.declared.solved_pass.Solved.TheInside.{Inside}
 use Rattle.unify_texts.specs.Limits.{most_files}
-use Rattle.unify.specs.Hosts.{owner_fault}
+use Rattle.site_tables.specs.Hosts.{owner_fault}
 use Rattle.unify.specs.KnownOwners.{AreKnown, NoneIsKnown}
-use Rattle.unify.specs.Passes.{AreTogether}
+use Rattle.site_tables.specs.Begun.{AreTogether}
 use Rattle.unify.specs.RowFiles.{RowFiles, row_files}
 use Rattle.unify.specs.SecondPass.{HaveSameCounts, IsUnfinished, SolvedValue, owned_lines}
 use Rattle.unify.specs.SecondPass.{plan_before_end, second_files}

@@ -11,10 +11,10 @@ use Rattle.hosts_join.specs.declared.host.Host.{Host}
 use Rattle.hosts_join.specs.declared.texts.HostText.{HostText}
 use Rattle.ownership.specs.Files.{Added}
 use Rattle.unify_texts.specs.declared.fault.Fault.{Fault}
-use Rattle.unify.specs.declared.rules.SiteRules.{SiteRules}
-use Rattle.unify.specs.Told.{in_site}
-use Rattle.unify.specs.Others.{others_loaded, pinned_site}
-use Rattle.unify.specs.Loading.{loaded_from}
+use Rattle.site_tables.specs.declared.rules.SiteRules.{SiteRules}
+use Rattle.site_tables.specs.Told.{in_site}
+use Rattle.site_tables.specs.Others.{others_loaded, pinned_site}
+use Rattle.site_tables.specs.Loading.{loaded_from}
 use Rattle.unify.specs.Count.{site_of}
 
 -- a site that was read: its hosts with the files of their inventories, and the accounts over all

@@ -15,10 +15,10 @@ use Rattle.unify_texts.specs.declared.fault.Fault.TheVariants.{InventoryChanged}
 use Rattle.unify.specs.declared.merging.Merged.{Merged}
 use Rattle.unify.specs.Count.{site_of}
 use Rattle.unify_texts.specs.Limits.{most_files}
-use Rattle.unify.specs.Hosts.{owner_fault, files_of}
-use Rattle.unify.specs.Loading.{loaded_from}
+use Rattle.site_tables.specs.Hosts.{owner_fault, files_of, lines_of}
+use Rattle.site_tables.specs.Loading.{loaded_from}
 use Rattle.unify.specs.Merging.{IsMerged}
-use Rattle.unify.specs.Passes.{InventoriesValue, lines_of, read_in}
+use Rattle.unify.specs.Passes.{InventoriesValue, read_in}
 use Rattle.unify.specs.RowFiles.{row_files}
 
 -- ---- what the second text of an inventory says

@@ -14,9 +14,9 @@ use Rattle.unify.specs.declared.inventories.Inventories.TheInside.{Inside}
 use Rattle.unify.specs.declared.turn.Turn.{Turn}
 use Rattle.unify.specs.Count.{site_of}
 use Rattle.unify_texts.specs.Limits.{most_files}
-use Rattle.unify.specs.Hosts.{owner_fault, files_of}
-use Rattle.unify.specs.Loading.{loaded_from}
-use Rattle.unify.specs.Passes.{InventoriesValue, read_told}
+use Rattle.site_tables.specs.Hosts.{owner_fault, files_of, read_told}
+use Rattle.site_tables.specs.Loading.{loaded_from}
+use Rattle.unify.specs.Passes.{InventoriesValue}
 use Rattle.unify.specs.RowFiles.{RowFiles, row_files}
 use Rattle.unify.specs.Taken.{Taken}
 

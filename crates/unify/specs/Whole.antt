@@ -13,7 +13,7 @@ use Rattle.mergedfiles.specs.InPart.{WasReadInPart}
 use Rattle.mergedfiles.specs.Together.{AreJoined}
 use Rattle.unify_texts.specs.Limits.{most_files}
 use Rattle.unify.specs.Outcomes.{hosts_in}
-use Rattle.unify.specs.Sparing.{AreAllowed, AreOwnedOrReserved, LeavesItsReserved}
+use Rattle.site_tables.specs.Sparing.{AreAllowed, AreOwnedOrReserved, LeavesItsReserved}
 use Rattle.unify.specs.Reading.{WholeSite, files_of_site}
 
 -- A host that was read, with its files: its rows are some of those of a passwd and a group, and its

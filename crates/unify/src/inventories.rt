@@ -72,8 +72,8 @@ impl<'a> Inventories<'a> {
     ghost use Rattle.hosts_join.specs.declared.host.Host.{Host};
     ghost use Rattle.unify_texts.specs.declared.fault.Fault.{Fault};
     ghost use Rattle.unify_texts.specs.Told.{told};
-    ghost use Rattle.unify.specs.Hosts.{files_of};
-    ghost use Rattle.unify.specs.Passes.{at_start, ended_in, is_read, lines_of, read_in, IsNext};
+    ghost use Rattle.site_tables.specs.Hosts.{files_of, lines_of};
+    ghost use Rattle.unify.specs.Passes.{at_start, ended_in, is_read, read_in, IsNext};
     ghost use Rattle.unify.specs.Passes.{IsFaultOf, IsToldAs, TellsFault};
 
     /// The inventories of these hosts, of which none has come. Memory in step with the rows of a

@@ -7,7 +7,8 @@ ghost use Rattle.ownership.specs.Counts as counters;
 ghost use Rattle.ownership.specs.Counts.{IsMadeFor};
 ghost use Rattle.unify.specs.Whole.{IsWhole};
 ghost use Rattle.unify.specs.Merging.{HoldsCounted, IsMerged};
-ghost use Rattle.unify.specs.Passes.{AreTogether, ended_in, read_in};
+ghost use Rattle.site_tables.specs.Begun.{AreTogether};
+ghost use Rattle.unify.specs.Passes.{ended_in, read_in};
 ghost use Rattle.unify.specs.PlanTurns.{IsFreshTurn};
 ghost use Rattle.unify.specs.Reading.{WholeSite, added_from};
 ghost use Rattle.unify.specs.RowFiles.{row_files};
@@ -102,7 +103,8 @@ impl<'a> JoinedSite<'a> {
     ghost use Rattle.unify_texts.specs.Told.{told};
     ghost use Rattle.unify.specs.Checking.{checked};
     ghost use Rattle.unify.specs.Told.{in_certificate};
-    ghost use Rattle.unify.specs.Passes.{AreTogether, ended_in, read_in};
+    ghost use Rattle.site_tables.specs.Begun.{AreTogether};
+    ghost use Rattle.unify.specs.Passes.{ended_in, read_in};
     ghost use Rattle.unify.specs.SecondPass.{IsSolvedFrom};
 
     /// Merges the site whose inventories were ended. Requires that no host is left, and that the

@@ -1,7 +1,7 @@
 //! How many fields of files a map changes.
 
-ghost use Rattle.std.specs.Prelude.{◌≡◌, ◌≤◌, List, length, All, IfOk, not, sum_by};
-ghost use Rattle.idtext.specs.First.{Gives, Yields};
+ghost use Rattle.std.specs.Prelude.{◌≡◌, ◌≤◌, List, length, IfOk, not, sum_by};
+ghost use Rattle.idtext.specs.First.{Yields};
 ghost use Rattle.mtree_inv.specs.declared.entry.Entry.{Entry};
 ghost use Rattle.hosts_join.specs.Hosts.{IsLawfulHost};
 ghost use Rattle.hosts_join.specs.Kinds.{group_at, user_at};
@@ -9,19 +9,16 @@ ghost use Rattle.hosts_join.specs.Pairs.{number_of};
 ghost use Rattle.unify_texts.specs.Told.{told};
 ghost use Rattle.unify.specs.Cost.{changed, host_cost, is_number};
 ghost use Rattle.unify.specs.Begun.{IsBegunCost};
-ghost use Rattle.unify.specs.Costing.{cost_begun};
-ghost use Rattle.unify.specs.Count.{mapped_names};
+ghost use Rattle.site_tables.specs.Mapped.{cost_begun};
 ghost use Rattle.unify.specs.RowFiles.{row_files};
 
-use crate::counting::{Cost, check_list, check_names};
+use crate::counting::Cost;
 use crate::inventories::Inventories;
-use crate::others::OtherHosts;
 use crate::row_files::RowFiles;
-use crate::rules::KeepRules;
-use crate::site::load_others;
 use hosts_join::{Host, HostText, PairTable};
+use site_tables::{KeepRules, MappedHosts, map_tables};
 use std::alloc::Global;
-use unify_texts::{Fault, MapText, read_map};
+use unify_texts::{Fault, MapText};
 
 /// The inventories of a site's hosts, and a map of exactly the names of these. It borrows the
 /// texts.
@@ -31,47 +28,6 @@ pub struct MappedSite<'a> {
     pub inventories: Inventories<'a>,
     /// The map.
     pub names: MapText<'a>,
-}
-
-// The hosts of a site with their tables, and a map of exactly their names. It borrows the texts.
-#[derive(Drop)]
-struct MappedHosts<'a> {
-    hosts: Vec<Host<'a>>,
-    names: MapText<'a>,
-}
-
-// The map of what is counted.
-fn map_others<'a>(
-    alloc: Global,
-    others: OtherHosts<'a>,
-    map: &'a [u8],
-) -> Result<MappedHosts<'a>, Fault<'a>>
-    ensures names { Gives (λ held. held.names) told result
-        (mapped_names map.now others.entry.hosts.items) }
-    ensures hosts { IfOk result (λ held. held.hosts.items ≡ others.entry.hosts.items) }
-{
-    let OtherHosts { hosts, reserved: _ } = others;
-    let names = read_map(alloc, map)?;
-    check_names(&names, &hosts)?;
-    Ok(MappedHosts { hosts, names })
-}
-
-// What is counted of the hosts, and the map.
-fn map_tables<'a>(
-    alloc: Global,
-    texts: &'a [HostText],
-    keep: &KeepRules<'a>,
-    map: &'a [u8],
-) -> Result<MappedHosts<'a>, Fault<'a>>
-    ensures begun { Yields (λ begun held. (held.hosts.items ≡ begun.hosts)
-        × (held.names ≡ begun.names)) told result (cost_begun texts.now keep.now map.now) }
-    ensures len { IfOk result (λ held. length held.hosts.items ≡ length texts.now) }
-    ensures few { IfOk result (λ held. length held.hosts.items ≤ 64) }
-    ensures lawful { IfOk result (λ held. All IsLawfulHost held.hosts.items) }
-{
-    check_list(texts)?;
-    let others = load_others(alloc, texts, keep)?;
-    map_others(alloc, others, map)
 }
 
 /// Reads what comes before the inventories of a site that a map is counted for; the texts of these

@@ -10,7 +10,7 @@ ghost use Rattle.idtext.specs.First.{first_fault};
 ghost use Rattle.reown_plan.specs.Spelling.{head, lines, end};
 ghost use Rattle.unify_texts.specs.declared.fault.Fault.{Fault};
 ghost use Rattle.unify.specs.declared.plan_turn.Stop.TheVariants as stop;
-ghost use Rattle.unify.specs.Hosts.{owner_fault};
+ghost use Rattle.site_tables.specs.Hosts.{owner_fault};
 ghost use Rattle.unify.specs.PlanTurns.{IsFreshTurn, TellsFiles, TellsLines, stop_of};
 ghost use Rattle.unify.specs.PlannedHosts.{AreKnownOf, EndsOf, GivesOf, GoesOnOf, IsKnownOf};
 ghost use Rattle.unify.specs.Places.{Owns};

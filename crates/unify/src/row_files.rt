@@ -5,7 +5,7 @@ ghost use Rattle.std.specs.Prelude.{slice_get, slice_index_or, is_none, is_some,
 ghost use Rattle.std.specs.Prelude.{IfOk, IfSome, IfNone};
 ghost use Rattle.mtree_inv.specs.declared.entry.Entry.{Entry};
 ghost use Rattle.hosts_join.specs.declared.host.Host.{Host};
-ghost use Rattle.unify.specs.Hosts.{owner_fault};
+ghost use Rattle.site_tables.specs.Hosts.{owner_fault};
 ghost use Rattle.unify.specs.Places.{ArePlaces, Owns};
 ghost use Rattle.unify.specs.RowFiles.{row_files};
 

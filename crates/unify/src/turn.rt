@@ -8,18 +8,17 @@ ghost use Rattle.mtree_inv.specs.declared.entry.Entry.{Entry};
 ghost use Rattle.unify_texts.specs.declared.fault.Fault.{Fault};
 ghost use Rattle.unify_texts.specs.declared.fault.Fault.TheVariants.{Memory};
 ghost use Rattle.unify_texts.specs.Told.{told};
-ghost use Rattle.unify.specs.Hosts.{files_of};
-ghost use Rattle.unify.specs.Passes.{is_read, lines_of, read_told, IsFaultOf, IsToldAs, TellsFault};
+ghost use Rattle.site_tables.specs.Hosts.{files_of, lines_of};
+ghost use Rattle.unify.specs.Passes.{is_read, IsFaultOf, IsToldAs, TellsFault};
 ghost use Rattle.unify.specs.RowFiles.{row_files};
 ghost use Rattle.unify.specs.Turns.{AreCounted, IsAccepted, TurnsFor, met_by, owner_told};
 
-use crate::host::ownership_fault;
 use crate::row_files::{RowFiles, count_file};
 use hosts_join::Host;
-use idtext::ReadError;
 use mtree_inv::{Entry, Reader};
+use site_tables::{ownership_fault, read_fault};
 use std::alloc::Global;
-use unify_texts::{Fault, FileName, MOST_FILES, file_fault};
+use unify_texts::{Fault, MOST_FILES};
 
 /// The reader of a host's inventory, how many of its files each row of the host's tables owns, and
 /// the first file that the host does not allow.
@@ -55,16 +54,6 @@ pub fn begin_next(reader: &mut Reader, is_left: bool)
         reader.restart(MOST_FILES);
     } else {
         reader.give_back(MOST_FILES);
-    }
-}
-
-/// A fault of the reader, told with its host. Constant time.
-pub fn read_fault<'a>(host: &Host<'a>, fault: ReadError) -> Fault<'a>
-    ensures { result ≡ read_told host.now fault }
-{
-    match fault {
-        ReadError::Fault(fault) => file_fault(host.name.bytes(), FileName::Mtree, fault),
-        ReadError::Memory => Fault::Memory,
     }
 }
 

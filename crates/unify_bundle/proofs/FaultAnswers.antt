@@ -4,7 +4,7 @@ use Rattle.std.specs.Prelude.{IfOk, IfSome, Result, Ok, Err, List, ℕ}
 use Rattle.unify_texts.specs.declared.fault.Fault.{Fault}
 use Rattle.unify_texts.specs.Told.{told as fault_told}
 use Rattle.unify_bundle.specs.declared.reply.Reply.{Reply}
-use Rattle.unify.specs.declared.rules.SiteRules.{SiteRules}
+use Rattle.site_tables.specs.declared.rules.SiteRules.{SiteRules}
 use Rattle.unify_bundle.specs.Replies.{reply_of}
 use Rattle.unify_bundle.specs.Output.{Answers, IsToldBy, answered}
 

@@ -17,23 +17,23 @@ use Rattle.unify_texts.specs.Told.{told}
 use Rattle.unify_texts.specs.declared.fault.Fault.{Fault}
 use Rattle.unify_texts.specs.declared.fault.Fault.TheVariants.{Memory}
 use Rattle.unify.specs.declared.counting.Cost.{Cost}
-use Rattle.unify.specs.declared.host.Loaded.{Loaded}
+use Rattle.site_tables.specs.declared.host.Loaded.{Loaded}
 use Rattle.unify.specs.declared.outcome.Outcome.{Outcome}
-use Rattle.unify.specs.declared.rules.KeepRules.{KeepRules}
-use Rattle.unify.specs.declared.rules.SiteRules.{SiteRules}
+use Rattle.site_tables.specs.declared.rules.KeepRules.{KeepRules}
+use Rattle.site_tables.specs.declared.rules.SiteRules.{SiteRules}
 use Rattle.unify.specs.declared.site_files.NamedText.{NamedText}
 use Rattle.unify.specs.declared.site_files.SiteFiles.{SiteFiles}
 use Rattle.unify.specs.Checking.{IsChecked, check_of}
 use Rattle.unify.specs.Count.{count_of, site_of}
-use Rattle.unify.specs.Hosts.{host_of}
-use Rattle.unify.specs.Loading.{loaded_from}
-use Rattle.unify.specs.Others.{keep_read}
+use Rattle.site_tables.specs.Hosts.{host_of}
+use Rattle.site_tables.specs.Loading.{loaded_from}
+use Rattle.site_tables.specs.Others.{keep_read}
 use Rattle.unify.specs.Outcomes.{hosts_in, plan_texts_from}
 use Rattle.unify.specs.Reading.{WholeSite, site_read}
-use Rattle.unify.specs.Survey.{keeps_unowned, listed_of, sparing_ranges, surveyed, surveyed_hosts, unowned_over}
-use Rattle.unify.specs.Told.{in_site}
+use Rattle.site_tables.specs.Survey.{keeps_unowned, listed_of, sparing_ranges, surveyed, surveyed_hosts, unowned_over}
+use Rattle.site_tables.specs.Told.{in_site}
 use Rattle.unify.proofs.Sites.{total_fault}
-use Rattle.unify.proofs.Surveys.{as_many_texts, found_refused, survey_behind, survey_refused}
+use Rattle.site_tables.proofs.Surveys.{as_many_texts, found_refused, survey_behind, survey_refused}
 use Rattle.unify.proofs.Whole.{hosts_held}
 use Rattle.unify_laws.specs.HostTexts.{AreSiteFiles, host_files}
 use Rattle.unify_laws.specs.Texts.{mtrees}

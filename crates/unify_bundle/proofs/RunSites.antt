@@ -29,7 +29,7 @@ use Rattle.unify_texts.specs.Told.{told}
 use Rattle.unify_texts.specs.declared.fault.Fault.{Fault}
 use Rattle.unify.specs.declared.outcome.Outcome.{Outcome}
 use Rattle.unify_bundle.specs.declared.rehearsing_site.SiteRun.{SiteRun}
-use Rattle.unify.specs.declared.rules.SiteRules.{SiteRules}
+use Rattle.site_tables.specs.declared.rules.SiteRules.{SiteRules}
 use Rattle.unify_bundle.specs.Carrying.{AreInventoriesOf, AreReady, AreCarriedOut, AreSpelledFor, IsReady, at_start, new_tree_of}
 use Rattle.unify.specs.Whole.{IsWhole}
 use Rattle.unify.specs.Outcomes.{IsOutcome, hosts_in, plan_texts_from}

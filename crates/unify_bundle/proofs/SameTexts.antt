@@ -17,20 +17,21 @@ use Rattle.hosts_join.specs.declared.host.Host.{Host}
 use Rattle.hosts_join.specs.declared.texts.HostText.{HostText}
 use Rattle.unify_texts.specs.declared.bundle_line.FileName.TheVariants as file
 use Rattle.unify_texts.specs.declared.fault.Fault.{Fault}
-use Rattle.unify.specs.declared.rules.KeepRules.{KeepRules}
-use Rattle.unify.specs.declared.rules.SiteRules.{SiteRules}
-use Rattle.unify.specs.Costing.{BegunCost, cost_begun}
-use Rattle.unify.specs.Count.{mapped_names, site_of}
-use Rattle.unify.specs.Hosts.{files_of}
-use Rattle.unify.specs.Loading.{loaded_from}
-use Rattle.unify.specs.Others.{others_loaded, pinned_site}
-use Rattle.unify.specs.Passes.{BegunSite, is_read, lines_of, site_begun}
+use Rattle.site_tables.specs.declared.rules.KeepRules.{KeepRules}
+use Rattle.site_tables.specs.declared.rules.SiteRules.{SiteRules}
+use Rattle.site_tables.specs.Mapped.{BegunCost, cost_begun, mapped_names}
+use Rattle.unify.specs.Count.{site_of}
+use Rattle.site_tables.specs.Hosts.{files_of, lines_of}
+use Rattle.site_tables.specs.Loading.{loaded_from}
+use Rattle.site_tables.specs.Others.{others_loaded, pinned_site}
+use Rattle.site_tables.specs.Begun.{BegunSite, site_begun}
+use Rattle.unify.specs.Passes.{is_read}
 use Rattle.unify.specs.SecondPass.{or_changed}
-use Rattle.unify.specs.Survey.{inventory_of, listed_of}
+use Rattle.site_tables.specs.Survey.{inventory_of, listed_of}
 use Rattle.unify_texts.specs.Told.{in_file}
-use Rattle.unify.specs.Told.{in_site}
-use Rattle.unify.proofs.ReadSites.{as-many-others}
-use Rattle.unify.proofs.Surveys.{list_refused_at}
+use Rattle.site_tables.specs.Told.{in_site}
+use Rattle.site_tables.proofs.ReadSites.{as-many-others}
+use Rattle.site_tables.proofs.Surveys.{list_refused_at}
 use Rattle.unify.proofs.Whole.{hosts_held}
 use Rattle.unify_laws.specs.Texts.{mtrees}
 use Rattle.unify_laws.proofs.Agreeing.{item_at}

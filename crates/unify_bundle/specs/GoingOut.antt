@@ -1,7 +1,7 @@
 -- What goes out for a reply, and for a text.
 -- Source: this project's own formats.
-use Rattle.std.specs.Prelude.{◌≡◌, ◌↔◌, ◌⊎◌, ℕ, ◌+◌, ◌<◌, ◌≤◌, Bool, true, false, List, ◌++◌}
-use Rattle.std.specs.Prelude.{length, codes, Some, Result, Ok, Err, is_ok}
+use Rattle.std.specs.Prelude.{◌≡◌, ◌↔◌, ◌⊎◌, ℕ, ◌+◌, ◌<◌, ◌≤◌, Bool, true, false}
+use Rattle.std.specs.Prelude.{List, ◌++◌, length, codes, Some, Result, Ok, Err, is_ok}
 use Rattle.unify_texts.specs.declared.fault.Fault.{Fault}
 use Rattle.unify_texts.specs.declared.bundle.Bundle.{Bundle}
 use Rattle.unify_texts.specs.Bundles.{bundle_of}

@@ -21,8 +21,8 @@ use Rattle.unify_texts.specs.Bundles.{bundle_of}
 use Rattle.unify_texts.specs.Codes.{code_of, status_of}
 use Rattle.unify_texts.specs.Faults.{fault_line}
 use Rattle.unify.specs.declared.outcome.Outcome.{Outcome}
-use Rattle.unify.specs.declared.rules.KeepRules.{KeepRules}
-use Rattle.unify.specs.declared.rules.SiteRules.{SiteRules}
+use Rattle.site_tables.specs.declared.rules.KeepRules.{KeepRules}
+use Rattle.site_tables.specs.declared.rules.SiteRules.{SiteRules}
 use Rattle.unify.specs.declared.site_files.SiteFiles.{SiteFiles}
 use Rattle.unify_bundle.specs.declared.input.ReadFault.{ReadFault}
 use Rattle.unify_bundle.specs.declared.input.ReadFault.TheVariants.{Read, Memory}
@@ -33,8 +33,8 @@ use Rattle.unify_bundle.specs.Lines.{site_lines}
 use Rattle.unify.specs.Outcomes.{IsOutcome}
 use Rattle.unify.specs.Reading.{WholeSite, site_read}
 use Rattle.rehearsal.specs.Rehearsing.{IsRehearsed}
-use Rattle.unify.specs.Rules.{rules_by}
-use Rattle.unify.specs.Survey.{surveyed}
+use Rattle.site_tables.specs.Rules.{rules_by}
+use Rattle.site_tables.specs.Survey.{surveyed}
 use Rattle.unify_laws.specs.HostTexts.{AreSiteFiles}
 
 -- the text of a file, empty where there is none

@@ -12,13 +12,13 @@ use Rattle.unify_texts.specs.declared.bundle_line.Command.TheVariants.{Check, Re
 use Rattle.unify_texts.specs.declared.bundle_line.FileName.{FileName}
 use Rattle.unify_texts.specs.declared.bundle_line.FileName.TheVariants as file
 use Rattle.unify_texts.specs.BundleLines.{same_file}
-use Rattle.unify.specs.declared.rules.SiteRules.{SiteRules}
+use Rattle.site_tables.specs.declared.rules.SiteRules.{SiteRules}
 use Rattle.unify.specs.Checking.{check_of}
 use Rattle.unify.specs.Count.{count_of}
 use Rattle.unify.specs.Outcomes.{IsOutcome}
 use Rattle.unify.specs.Reading.{WholeSite, site_read}
 use Rattle.rehearsal.specs.Rehearsing.{IsRehearsed}
-use Rattle.unify.specs.Survey.{surveyed}
+use Rattle.site_tables.specs.Survey.{surveyed}
 use Rattle.unify_laws.specs.HostTexts.{AreSiteFiles}
 use Rattle.unify_bundle.specs.Lines.{accepted_line, cost_lines, merge_lines, records_lines}
 use Rattle.unify_bundle.specs.Lines.{site_lines}

@@ -22,9 +22,9 @@ use crate::streams::{Sink, Source};
 use crate::texts::survey_texts;
 use hosts_join::HostText;
 use idtext::ByteString;
+use site_tables::{KeepRules, SiteRules};
 use std::alloc::{AllocError, Global};
 use std::mem;
-use unify::{KeepRules, SiteRules};
 use unify_texts::{Bundle, Command, Fault, FileName, NamedFile, Place, read_bundle};
 
 // Where a file stands among the files of a place.

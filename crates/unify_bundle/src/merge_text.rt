@@ -13,8 +13,9 @@ use crate::reply::{Reply, refused};
 use crate::texts::{merge, merge_hosts};
 use hosts_join::HostText;
 use idtext::{ByteString, Lines};
+use site_tables::SiteRules;
 use std::alloc::{AllocError, Global};
-use unify::{NamedText, Outcome, SiteFiles, SiteRules};
+use unify::{NamedText, Outcome, SiteFiles};
 
 // Appends a line of a file: after a bar, and with its newline.
 fn push_barred(out: &mut Vec<u8>, line: &[u8]) -> Result<(), AllocError>

@@ -22,8 +22,9 @@ use idtext::Name;
 use mtree_inv::{Inventory, read_inventory};
 use reown_plan::{Plan, PlanFault};
 use reown_runner::{Campaign, Event, Keep, MemTree};
+use site_tables::SiteRules;
 use std::alloc::{AllocError, Global};
-use unify::{Outcome, SiteRules, TextList};
+use unify::{Outcome, TextList};
 use unify_texts::{Fault, MOST_FILES};
 
 /// A site that was merged, and whose plans were carried out on trees in memory.

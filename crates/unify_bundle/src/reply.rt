@@ -9,8 +9,9 @@ ghost use Rattle.unify_bundle.specs.Replies.{reply_of};
 use crate::texts::{check, count};
 use hosts_join::HostText;
 use idtext::push_number;
+use site_tables::{KeepRules, SiteRules};
 use std::alloc::{AllocError, Global};
-use unify::{Cost, KeepRules, SiteRules};
+use unify::Cost;
 use unify_texts::{Fault, fault_line};
 
 /// What goes out, and the exit status.

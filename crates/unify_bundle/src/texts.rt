@@ -7,7 +7,7 @@ ghost use Rattle.unify.specs.Checking.{IsChecked, check_of};
 ghost use Rattle.unify.specs.Count.{count_of};
 ghost use Rattle.unify.specs.Outcomes.{IsOutcome};
 ghost use Rattle.unify.specs.Reading.{site_read};
-ghost use Rattle.unify.specs.Survey.{surveyed};
+ghost use Rattle.site_tables.specs.Survey.{surveyed};
 ghost use Rattle.unify_laws.specs.Headline.{Headline};
 ghost use Rattle.unify_laws.specs.HostTexts.{AreSiteFiles};
 
@@ -15,8 +15,9 @@ use crate::site_files::with_files;
 use crate::text_files::TextFiles;
 use hosts_join::HostText;
 use kept_accounts::UnownedNumbers;
+use site_tables::{KeepRules, SiteRules};
 use std::alloc::Global;
-use unify::{Cost, KeepRules, Outcome, SiteFiles, SiteRules};
+use unify::{Cost, Outcome, SiteFiles};
 use unify_merge::{check_by, count_by, merge_outcome, survey_files};
 use unify_texts::Fault;
 

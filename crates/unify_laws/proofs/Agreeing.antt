@@ -23,8 +23,8 @@ use Rattle.unify.specs.Cost.{cost_of}
 use Rattle.unify.specs.Reading.{files_of_site}
 use Rattle.rehearsal.specs.Rehearsing.{found_fault, record_fault}
 use Rattle.unify_texts.specs.Told.{in_file}
-use Rattle.unify.proofs.Owners.{files_read}
-use Rattle.unify.proofs.ReadSites.{as-many-others}
+use Rattle.site_tables.proofs.Owners.{files_read}
+use Rattle.site_tables.proofs.ReadSites.{as-many-others}
 use Rattle.rehearsal.proofs.Rehearsed.{carried_out}
 use Rattle.unify_laws.specs.Agreeing.{PrintedCertificatesAreAccepted, NoMapRewritesFewer, PrintedPlansAreRehearsed}
 use Rattle.unify_laws.specs.Headline.{fields}

@@ -5,12 +5,12 @@ use Rattle.hosts_join.specs.Checks.{hosts_checked}
 use Rattle.hosts_join.specs.declared.texts.HostText.{HostText}
 use Rattle.unify_texts.specs.declared.fault.Fault.{Fault}
 use Rattle.unify.specs.declared.counting.Cost.{Cost}
-use Rattle.unify.specs.declared.rules.KeepRules.{KeepRules}
-use Rattle.unify.specs.Costing.{BegunCost, cost_begun}
-use Rattle.unify.specs.Count.{count_of, mapped_names, site_of, total_of}
-use Rattle.unify.specs.Loading.{loaded_from}
-use Rattle.unify.specs.Others.{others_loaded}
-use Rattle.unify.specs.Told.{in_site}
+use Rattle.site_tables.specs.declared.rules.KeepRules.{KeepRules}
+use Rattle.site_tables.specs.Mapped.{BegunCost, cost_begun, mapped_names}
+use Rattle.unify.specs.Count.{count_of, site_of, total_of}
+use Rattle.site_tables.specs.Loading.{loaded_from}
+use Rattle.site_tables.specs.Others.{others_loaded}
+use Rattle.site_tables.specs.Told.{in_site}
 use Rattle.unify_laws.specs.Texts.{mtrees}
 use Rattle.unify_laws.proofs.TwoPasses.{first-step}
 

@@ -13,12 +13,13 @@ use Rattle.hosts_join.specs.Rules.{is_name}
 use Rattle.hosts_join.specs.declared.host.Host.{Host}
 use Rattle.hosts_join.proofs.Grouping.{bytes_refl}
 use Rattle.certcheck.proofs.Missing.{any_is_find}
-use Rattle.unify.specs.Count.{count_of, has_user, has_group, names_checked}
-use Rattle.unify.specs.Others.{reserving}
-use Rattle.unify.specs.Told.{in_site}
-use Rattle.unify.proofs.ReadSites.{are-pinned}
-use Rattle.unify.proofs.SiteNames.{named_somewhere}
-use Rattle.unify.proofs.Whole.{together}
+use Rattle.site_tables.specs.Mapped.{has_user, has_group, names_checked}
+use Rattle.unify.specs.Count.{count_of}
+use Rattle.site_tables.specs.Others.{reserving}
+use Rattle.site_tables.specs.Told.{in_site}
+use Rattle.site_tables.proofs.ReadSites.{are-pinned}
+use Rattle.site_tables.proofs.SiteNames.{named_somewhere}
+use Rattle.site_tables.proofs.SiteSteps.{together}
 use Rattle.unify_laws.specs.Agreeing.{PrintedMapsAreCounted}
 use Rattle.unify_laws.proofs.Costs.{costs_agree}
 use Rattle.unify_laws.proofs.Keeping.{map_says_mappings}

@@ -11,17 +11,18 @@ use Rattle.kept_accounts.specs.Reserving.{UnownedNumbers}
 use Rattle.hosts_join.proofs.ReservedLaws.{pins_reserve_nothing}
 use Rattle.unify_texts.specs.Maps.{map_of}
 use Rattle.unify_texts.specs.declared.fault.Fault.{Fault}
-use Rattle.unify.specs.declared.host.Loaded.{Loaded}
-use Rattle.unify.specs.Count.{count_of, mapped_names, names_checked, site_of, total_of}
-use Rattle.unify.specs.Hosts.{host_of}
-use Rattle.unify.specs.Loading.{loaded_from}
-use Rattle.unify.specs.Others.{Others, keeping_nothing, others_loaded, others_read, pinned_site, reserving}
+use Rattle.site_tables.specs.declared.host.Loaded.{Loaded}
+use Rattle.site_tables.specs.Mapped.{mapped_names, names_checked}
+use Rattle.unify.specs.Count.{count_of, site_of, total_of}
+use Rattle.site_tables.specs.Hosts.{host_of}
+use Rattle.site_tables.specs.Loading.{loaded_from}
+use Rattle.site_tables.specs.Others.{Others, keeping_nothing, others_loaded, others_read, pinned_site, reserving}
 use Rattle.unify.specs.Reading.{WholeSite, site_read}
-use Rattle.unify.specs.Told.{in_pins, in_site}
-use Rattle.unify.proofs.Adding.{loaded_from-parts}
-use Rattle.unify.proofs.LeftHosts.{all-left}
-use Rattle.unify.proofs.Reading.{as_loaded, loaded-unsparing}
-use Rattle.unify.proofs.ReadSites.{pins-ok}
+use Rattle.site_tables.specs.Told.{in_pins, in_site}
+use Rattle.site_tables.proofs.LoadedFrom.{loaded_from-parts}
+use Rattle.site_tables.proofs.LeftHosts.{all-left}
+use Rattle.site_tables.proofs.LoadedHosts.{as_loaded, loaded-unsparing}
+use Rattle.site_tables.proofs.ReadSites.{pins-ok}
 use Rattle.unify_laws.specs.Laws.{EmptyKeepCountsAll, EmptyKeepIsNone}
 
 mtrees-kept : (texts : List HostText) (loaded : List Loaded) → each host_of texts ≡ Ok loaded → map (λ t. t.mtree) texts ≡ map (λ l. l.mtree) loaded

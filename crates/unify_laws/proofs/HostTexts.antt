@@ -22,20 +22,20 @@ use Rattle.mergedfiles.proofs.HostGroups.{full_group_back}
 use Rattle.reown_plan.specs.declared.plan.Owner.{Owner}
 use Rattle.unify_texts.specs.ReservedLines.{keeps_a_name}
 use Rattle.unify_texts.specs.WrittenMap.{SayMapping}
-use Rattle.unify.specs.declared.host.Loaded.{Loaded}
+use Rattle.site_tables.specs.declared.host.Loaded.{Loaded}
 use Rattle.unify.specs.declared.outcome.Outcome.{Outcome}
-use Rattle.unify.specs.declared.rules.KeepRules.{KeepRules}
-use Rattle.unify.specs.declared.rules.SiteRules.{SiteRules}
-use Rattle.unify.specs.Hosts.{host_of}
+use Rattle.site_tables.specs.declared.rules.KeepRules.{KeepRules}
+use Rattle.site_tables.specs.declared.rules.SiteRules.{SiteRules}
+use Rattle.site_tables.specs.Hosts.{host_of}
 use Rattle.unify.specs.Whole.{IsWhole}
-use Rattle.unify.specs.Others.{Others, keeping_nothing, others_loaded, pinned_site, reserving}
-use Rattle.unify.specs.Passes.{BegunSite, site_begun}
+use Rattle.site_tables.specs.Others.{Others, keeping_nothing, others_loaded, pinned_site, reserving}
+use Rattle.site_tables.specs.Begun.{BegunSite, site_begun}
 use Rattle.unify.specs.Reading.{WholeSite}
-use Rattle.unify.specs.Told.{in_site}
-use Rattle.unify.proofs.LeftHosts.{left}
-use Rattle.unify.proofs.Reading.{loaded-read, tables-of}
-use Rattle.unify.proofs.ReadSites.{AreLoaded, are-loaded, are-pinned, reserved-are}
-use Rattle.unify.proofs.Whole.{site_ok}
+use Rattle.site_tables.specs.Told.{in_site}
+use Rattle.site_tables.proofs.LeftHosts.{left}
+use Rattle.site_tables.proofs.LoadedHosts.{loaded-read, tables-of}
+use Rattle.site_tables.proofs.ReadSites.{AreLoaded, are-loaded, are-pinned, reserved-are}
+use Rattle.site_tables.proofs.SiteSteps.{site_ok}
 use Rattle.unify_laws.specs.Headline.{Headline, IsNamedAsBefore, IsNewNumber, IsOldOrNamed}
 use Rattle.unify_laws.specs.HostTexts.{AreJoinedInFull, BegunSitesAreInFull, EmptyTextsKeepNoName, HostsKeepOwnFiles, IsJoinedInFull, IsJoinedPart, IsTextOf, KeepsOwnFiles, ReadSitesAreInFull, TablesAreOfTexts, own_passwd, own_group}
 use Rattle.unify_laws.proofs.InFull.{numbered_rows, own_group_in_full, own_passwd_in_full, primary_groups}

@@ -39,7 +39,7 @@ use Rattle.unify.specs.declared.outcome.Outcome.{Outcome}
 use Rattle.unify.specs.Whole.{IsReadHost, IsWhole}
 use Rattle.unify.specs.Outcomes.{IsOutcome}
 use Rattle.unify.specs.Reading.{WholeSite}
-use Rattle.unify.specs.Sparing.{LeavesItsReserved}
+use Rattle.site_tables.specs.Sparing.{LeavesItsReserved}
 use Rattle.unify_laws.specs.Headline.{IsNewNumber, KeepsItsNames}
 use Rattle.unify_laws.proofs.Sparing.{unreserved}
 

@@ -27,12 +27,13 @@ use Rattle.kept_accounts.specs.Others.{without_kept}
 use Rattle.kept_accounts.specs.Reserving.{by_files, by_name, by_range, reserved_by, reserved_on}
 use Rattle.kept_accounts.specs.declared.reserving.UnownedNumber.{UnownedNumber}
 use Rattle.kept_accounts.proofs.ReservedLemmas.{kept_reserved}
-use Rattle.unify.specs.declared.host.Loaded.{Loaded}
-use Rattle.unify.specs.Hosts.{host_of}
-use Rattle.unify.specs.Others.{Others}
-use Rattle.unify.specs.Passes.{AreTogether}
-use Rattle.unify.proofs.Reading.{all-at, whole-read}
-use Rattle.unify.proofs.ReadSites.{are-loaded, are-pinned, others-together, reserved-are}
+use Rattle.site_tables.specs.declared.host.Loaded.{Loaded}
+use Rattle.site_tables.specs.Hosts.{host_of}
+use Rattle.site_tables.specs.Others.{Others}
+use Rattle.site_tables.specs.Begun.{AreTogether}
+use Rattle.site_tables.proofs.LoadedHosts.{all-at}
+use Rattle.unify.proofs.Reading.{whole-read}
+use Rattle.site_tables.proofs.ReadSites.{are-loaded, are-pinned, others-together, reserved-are}
 use Rattle.unify.proofs.Whole.{hosts_held}
 use Rattle.unify_laws.specs.Headline.{HaveOneNumberEach}
 use Rattle.unify_laws.specs.HostTexts.{IsJoinedPart}

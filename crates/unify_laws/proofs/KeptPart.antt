@@ -24,8 +24,8 @@ use Rattle.kept_accounts.specs.Keeping.{is_kept_user, is_kept_group}
 use Rattle.kept_accounts.specs.Others.{other_rows, without_kept}
 use Rattle.kept_accounts.specs.Reserving.{UnownedNumbers, by_name, only, reserved_users, reserved_groups}
 use Rattle.kept_accounts.proofs.ReservedLemmas.{kept_reserved}
-use Rattle.unify.proofs.SiteNames.{named_somewhere}
-use Rattle.unify.proofs.Whole.{together}
+use Rattle.site_tables.proofs.SiteNames.{named_somewhere}
+use Rattle.site_tables.proofs.SiteSteps.{together}
 use Rattle.unify_laws.specs.HostTexts.{AreJoinedRows, IsJoinedPart}
 
 filter-same : {X : Type 0} (p q : X → Bool) (xs : List X) → All (λ x. p x ≡ q x) xs → filter p xs ≡ filter q xs

@@ -12,11 +12,11 @@ use Rattle.mtree_inv.proofs.StandLemmas.{whole_lines_refused}
 use Rattle.hosts_join.specs.declared.host.Host.{Host}
 use Rattle.unify_texts.specs.declared.bundle_line.FileName.TheVariants as file
 use Rattle.unify_texts.specs.declared.fault.Fault.{Fault}
-use Rattle.unify.specs.declared.host.Loaded.{Loaded}
+use Rattle.site_tables.specs.declared.host.Loaded.{Loaded}
 use Rattle.unify.specs.Count.{site_of}
-use Rattle.unify.specs.Hosts.{files_of}
-use Rattle.unify.specs.Loading.{loaded_from}
-use Rattle.unify.specs.Passes.{is_read, lines_of}
+use Rattle.site_tables.specs.Hosts.{files_of, lines_of}
+use Rattle.site_tables.specs.Loading.{loaded_from}
+use Rattle.unify.specs.Passes.{is_read}
 use Rattle.unify_texts.specs.Told.{in_file}
 
 -- ---- one inventory

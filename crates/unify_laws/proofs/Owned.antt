@@ -17,9 +17,9 @@ use Rattle.ownership.specs.Owned.{HaveOwners}
 use Rattle.ownership.specs.Files.{Added}
 use Rattle.unify.specs.Outcomes.{hosts_in}
 use Rattle.unify.specs.Reading.{added_on, added_from}
-use Rattle.unify.specs.Sparing.{SparesNothing, AreAllowed}
-use Rattle.unify.proofs.Owners.{owner-told}
-use Rattle.unify.proofs.Reading.{all-at}
+use Rattle.site_tables.specs.Sparing.{SparesNothing, AreAllowed}
+use Rattle.site_tables.proofs.Owners.{owner-told}
+use Rattle.site_tables.proofs.LoadedHosts.{all-at}
 use Rattle.unify_laws.specs.Laws.{HaveAccounts, NothingSparedAllOwned, OwnersAgree}
 
 pub owned-there : (site : Joined) (h : ℕ) (host : Host) (uid gid : ℕ) → KnowsHost site h host → HaveAccounts host uid gid → HaveOwners site h uid gid

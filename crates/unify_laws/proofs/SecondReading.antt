@@ -30,7 +30,7 @@ use Rattle.unify_texts.specs.Figures.{figures_of}
 use Rattle.unify_texts.specs.Report.{report_lines, report_of}
 use Rattle.unify_texts.specs.declared.fault.Fault.{Fault}
 use Rattle.unify.specs.declared.merging.Merged.{Merged}
-use Rattle.unify.specs.Hosts.{files_of}
+use Rattle.site_tables.specs.Hosts.{files_of}
 use Rattle.unify.specs.Whole.{IsReadHost, IsWhole}
 use Rattle.unify.specs.Merging.{IsMerged}
 use Rattle.unify.specs.Outcomes.{cost_in, group_files, hosts_in, user_files}
@@ -38,7 +38,7 @@ use Rattle.unify.specs.Reading.{WholeSite, files_of_site, added_on, added_from}
 use Rattle.unify.specs.RowFiles.{RowFiles}
 use Rattle.unify.specs.SecondPass.{HaveSameCounts, or_changed}
 use Rattle.unify.proofs.Counts.{apart, as_many}
-use Rattle.unify.proofs.Owners.{owner-told}
+use Rattle.site_tables.proofs.Owners.{owner-told}
 use Rattle.unify.proofs.Reading.{all-owned, read-host}
 use Rattle.unify_laws.specs.TwoPasses.{AreReadAgain, SecondReadingIsCorrect, SecondReadingIsRight, read_last}
 use Rattle.unify_laws.proofs.Agreeing.{item_at}

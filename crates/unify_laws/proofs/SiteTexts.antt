@@ -38,22 +38,22 @@ use Rattle.kept_accounts.specs.Reserving.{UnownedNumbers}
 use Rattle.kept_accounts.proofs.StayLemmas.{kept_names_stay}
 use Rattle.keep_text.specs.declared.keep_text.KeepText.{KeepText}
 use Rattle.ownership.specs.Mappings.{MayHave, number_at}
-use Rattle.unify.specs.declared.host.Loaded.{Loaded}
-use Rattle.unify.specs.declared.rules.SiteRules.{SiteRules}
-use Rattle.unify.specs.Told.{in_site}
+use Rattle.site_tables.specs.declared.host.Loaded.{Loaded}
+use Rattle.site_tables.specs.declared.rules.SiteRules.{SiteRules}
+use Rattle.site_tables.specs.Told.{in_site}
 use Rattle.unify.specs.Count.{site_of}
-use Rattle.unify.specs.FileLaws.{AreItsFiles}
-use Rattle.unify.specs.Hosts.{files_of}
-use Rattle.unify.specs.Loading.{loaded_from}
-use Rattle.unify.specs.MapLaws.{IsSomeGroup, IsSomeUser}
+use Rattle.site_tables.specs.FileLaws.{AreItsFiles}
+use Rattle.site_tables.specs.Hosts.{files_of}
+use Rattle.site_tables.specs.Loading.{loaded_from}
+use Rattle.site_tables.specs.MapLaws.{IsSomeGroup, IsSomeUser}
 use Rattle.unify.specs.Outcomes.{hosts_in}
-use Rattle.unify.specs.Passes.{AreTogether, BegunSite, site_begun}
+use Rattle.site_tables.specs.Begun.{AreTogether, BegunSite, site_begun}
 use Rattle.unify.specs.Reading.{WholeSite}
-use Rattle.unify.specs.TextLaws.{GroupStays, HasStayingGroup, HasStayingUser, IsLeftOf, IsOfText, IsOfTexts, UserStays}
-use Rattle.unify.proofs.FileLaws.{files_are_of_inventories}
-use Rattle.unify.proofs.ReadSites.{others-together}
-use Rattle.unify.proofs.TextLaws.{begun_sites_are_of_texts}
-use Rattle.unify.proofs.Whole.{begun_is}
+use Rattle.site_tables.specs.TextLaws.{GroupStays, HasStayingGroup, HasStayingUser, IsLeftOf, IsOfText, IsOfTexts, UserStays}
+use Rattle.site_tables.proofs.FileLaws.{files_are_of_inventories}
+use Rattle.site_tables.proofs.ReadSites.{others-together}
+use Rattle.site_tables.proofs.TextLaws.{begun_sites_are_of_texts}
+use Rattle.site_tables.proofs.SiteSteps.{begun_is}
 use Rattle.unify_laws.specs.Headline.{HaveOneNumberEach}
 use Rattle.unify_laws.specs.SiteTexts.{AreGivenWhereTheyMay, GivenNumbersStandByTexts, NumbersStandByTexts, ReadSitesAreOfTexts, StandByTexts}
 use Rattle.unify_laws.specs.Texts.{mtrees}

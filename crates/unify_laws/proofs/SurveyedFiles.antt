@@ -29,14 +29,14 @@ use Rattle.kept_accounts.proofs.ReservedLemmas.{in-map}
 use Rattle.kept_accounts.proofs.SparedLemmas.{named_left_or_spared, unowned_spared}
 use Rattle.survey.specs.Unowned.{is_unowned_gid, is_unowned_uid, on_host, unowned_gids, unowned_uids, unowned_with}
 use Rattle.survey.proofs.OnceLemmas.{among-once}
-use Rattle.unify.specs.declared.host.Loaded.{Loaded}
-use Rattle.unify.specs.declared.rules.KeepRules.{KeepRules}
-use Rattle.unify.specs.Hosts.{host_of}
-use Rattle.unify.specs.Loading.{loaded_from}
-use Rattle.unify.specs.Others.{Others, keep_read, others_loaded}
-use Rattle.unify.specs.Survey.{found_on, inventory_of, keeps_unowned, listed_of, sparing_hosts, sparing_ranges, surveyed, surveyed_hosts, unowned_over}
-use Rattle.unify.specs.Told.{in_keep, in_site}
-use Rattle.unify.proofs.ReadSites.{are-loaded}
+use Rattle.site_tables.specs.declared.host.Loaded.{Loaded}
+use Rattle.site_tables.specs.declared.rules.KeepRules.{KeepRules}
+use Rattle.site_tables.specs.Hosts.{host_of}
+use Rattle.site_tables.specs.Loading.{loaded_from}
+use Rattle.site_tables.specs.Others.{Others, keep_read, others_loaded}
+use Rattle.site_tables.specs.Survey.{found_on, inventory_of, keeps_unowned, listed_of, sparing_hosts, sparing_ranges, surveyed, surveyed_hosts, unowned_over}
+use Rattle.site_tables.specs.Told.{in_keep, in_site}
+use Rattle.site_tables.proofs.ReadSites.{are-loaded}
 use Rattle.unify_laws.specs.Laws.{SurveyedFilesAreAllowed}
 use Rattle.unify_laws.specs.Texts.{mtrees}
 use Rattle.unify_laws.proofs.Installed.{mapped-there}

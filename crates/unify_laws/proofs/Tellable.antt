@@ -31,16 +31,16 @@ use Rattle.kept_accounts.specs.declared.reserving.UnownedNumber.{UnownedNumber}
 use Rattle.survey.specs.Unowned.{each_once, is_unowned_gid, is_unowned_uid, on_host, unowned_gids, unowned_uids, unowned_with}
 use Rattle.unify_texts.specs.ReservedBack.{IsShown, IsTellable}
 use Rattle.unify_texts.specs.declared.fault.Fault.{Fault}
-use Rattle.unify.specs.declared.host.Loaded.{Loaded}
-use Rattle.unify.specs.Hosts.{host_of}
-use Rattle.unify.specs.Loading.{loaded_from}
-use Rattle.unify.specs.Others.{Others, keep_read}
-use Rattle.unify.specs.Survey.{found_on, inventory_of, keeps_unowned, listed_of, sparing_ranges, surveyed_hosts, unowned_over}
-use Rattle.unify.specs.Told.{in_site}
-use Rattle.unify.proofs.ReadSites.{are-loaded, are-pinned, reserved-are}
-use Rattle.unify.proofs.Owners.{file_ok}
-use Rattle.unify.proofs.Reading.{all-at, loaded-lawful, loaded-named, tables-of, texts-named}
-use Rattle.unify.proofs.Whole.{site_ok}
+use Rattle.site_tables.specs.declared.host.Loaded.{Loaded}
+use Rattle.site_tables.specs.Hosts.{host_of}
+use Rattle.site_tables.specs.Loading.{loaded_from}
+use Rattle.site_tables.specs.Others.{Others, keep_read}
+use Rattle.site_tables.specs.Survey.{found_on, inventory_of, keeps_unowned, listed_of, sparing_ranges, surveyed_hosts, unowned_over}
+use Rattle.site_tables.specs.Told.{in_site}
+use Rattle.site_tables.proofs.ReadSites.{are-loaded, are-pinned, reserved-are}
+use Rattle.site_tables.proofs.Owners.{file_ok}
+use Rattle.site_tables.proofs.LoadedHosts.{all-at, loaded-lawful, loaded-named, tables-of, texts-named}
+use Rattle.site_tables.proofs.SiteSteps.{site_ok}
 use Rattle.unify_laws.specs.Reserved.{IsOfBytes, ReservedNumbersAreTellable}
 use Rattle.unify_laws.proofs.HostTexts.{begun_steps}
 use Rattle.unify_laws.proofs.RowBytes.{AreBytes, groups-bytes, users-bytes}

@@ -6,13 +6,13 @@ use Rattle.hosts_join.specs.Checks.{hosts_checked}
 use Rattle.hosts_join.specs.declared.host.Host.{Host}
 use Rattle.hosts_join.specs.declared.texts.HostText.{HostText}
 use Rattle.unify_texts.specs.declared.fault.Fault.{Fault}
-use Rattle.unify.specs.declared.rules.SiteRules.{SiteRules}
+use Rattle.site_tables.specs.declared.rules.SiteRules.{SiteRules}
 use Rattle.unify.specs.Count.{site_of}
-use Rattle.unify.specs.Loading.{loaded_from}
-use Rattle.unify.specs.Others.{others_loaded, pinned_site}
-use Rattle.unify.specs.Passes.{BegunSite, site_begun}
+use Rattle.site_tables.specs.Loading.{loaded_from}
+use Rattle.site_tables.specs.Others.{others_loaded, pinned_site}
+use Rattle.site_tables.specs.Begun.{BegunSite, site_begun}
 use Rattle.unify.specs.Reading.{WholeSite, site_read}
-use Rattle.unify.specs.Told.{in_site}
+use Rattle.site_tables.specs.Told.{in_site}
 use Rattle.unify_laws.specs.Laws.{PassesReadTheSite}
 
 -- a step before two steps, and before what goes on after the one of them

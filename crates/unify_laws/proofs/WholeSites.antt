@@ -8,18 +8,20 @@ use Rattle.hosts_join.specs.Checks.{hosts_checked}
 use Rattle.hosts_join.specs.declared.host.Host.{Host}
 use Rattle.hosts_join.specs.declared.texts.HostText.{HostText}
 use Rattle.kept_accounts.specs.Reserving.{UnownedNumbers}
-use Rattle.unify.specs.declared.rules.SiteRules.{SiteRules}
+use Rattle.site_tables.specs.declared.rules.SiteRules.{SiteRules}
 use Rattle.unify.specs.Count.{site_of}
-use Rattle.unify.specs.Loading.{loaded_from}
-use Rattle.unify.specs.Others.{Others, keeping_nothing, others_loaded, others_read, pinned_site}
+use Rattle.site_tables.specs.Loading.{loaded_from}
+use Rattle.site_tables.specs.Others.{Others, keeping_nothing, others_loaded, others_read, pinned_site}
 use Rattle.unify.specs.Outcomes.{hosts_in}
 use Rattle.unify.specs.Reading.{WholeSite, site_read}
-use Rattle.unify.specs.Sparing.{SparesNothing}
-use Rattle.unify.specs.Told.{in_site}
-use Rattle.unify.proofs.LeftHosts.{all-left}
-use Rattle.unify.proofs.Reading.{loaded-unsparing, whole-read}
-use Rattle.unify.proofs.ReadSites.{AreLoaded, are-loaded, as-many-others, others-together}
-use Rattle.unify.proofs.Whole.{hosts_held, site_ok}
+use Rattle.site_tables.specs.Sparing.{SparesNothing}
+use Rattle.site_tables.specs.Told.{in_site}
+use Rattle.site_tables.proofs.LeftHosts.{all-left}
+use Rattle.site_tables.proofs.LoadedHosts.{loaded-unsparing}
+use Rattle.unify.proofs.Reading.{whole-read}
+use Rattle.site_tables.proofs.ReadSites.{AreLoaded, are-loaded, as-many-others, others-together}
+use Rattle.site_tables.proofs.SiteSteps.{site_ok}
+use Rattle.unify.proofs.Whole.{hosts_held}
 use Rattle.unify_laws.specs.Laws.{ReadHostsSpareNothing, ReadSitesAreWhole}
 
 pub record Steps (texts : List HostText) (rules : SiteRules) (site : WholeSite) : Type 0 where

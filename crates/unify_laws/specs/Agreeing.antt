@@ -9,7 +9,7 @@ use Rattle.reown_plan.specs.PlanData.{PlanData, PlanRecord}
 use Rattle.reown_plan.specs.Reading.{ReadsAs}
 use Rattle.unify_texts.specs.declared.map_text.MapText.{MapText}
 use Rattle.unify.specs.declared.outcome.Outcome.{Outcome}
-use Rattle.unify.specs.declared.rules.SiteRules.{SiteRules}
+use Rattle.site_tables.specs.declared.rules.SiteRules.{SiteRules}
 use Rattle.unify.specs.Checking.{IsChecked, check_of}
 use Rattle.unify.specs.Cost.{cost_of}
 use Rattle.unify.specs.Count.{count_of}

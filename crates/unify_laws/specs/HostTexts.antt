@@ -17,15 +17,15 @@ use Rattle.mergedfiles.specs.HostReadBack.{IsHostPasswd, IsHostGroup, KeepsPrima
 use Rattle.mergedfiles.specs.ReadBack.{WasRead}
 use Rattle.unify_texts.specs.ReservedLines.{keeps_a_name}
 use Rattle.unify_texts.specs.declared.map_text.MapText.{MapText}
-use Rattle.unify.specs.declared.host.Loaded.{Loaded}
+use Rattle.site_tables.specs.declared.host.Loaded.{Loaded}
 use Rattle.unify.specs.declared.outcome.Outcome.{Outcome}
-use Rattle.unify.specs.declared.rules.SiteRules.{SiteRules}
+use Rattle.site_tables.specs.declared.rules.SiteRules.{SiteRules}
 use Rattle.unify.specs.declared.site_files.NamedText.{NamedText}
 use Rattle.unify.specs.declared.site_files.SiteFiles.{SiteFiles}
-use Rattle.unify.specs.Hosts.{host_of}
+use Rattle.site_tables.specs.Hosts.{host_of}
 use Rattle.unify.specs.Whole.{IsWhole}
 use Rattle.unify.specs.Outcomes.{IsOutcome, hosts_in}
-use Rattle.unify.specs.Passes.{BegunSite, site_begun}
+use Rattle.site_tables.specs.Begun.{BegunSite, site_begun}
 use Rattle.unify.specs.Reading.{WholeSite, site_read}
 use Rattle.unify_laws.specs.Headline.{Headline, PlanKeepsNames}
 

@@ -16,14 +16,14 @@ use Rattle.kept_accounts.specs.Keeping.{is_kept_group, is_kept_user}
 use Rattle.kept_accounts.specs.Laws.{HasNumber}
 use Rattle.ownership.specs.declared.mapping.Mappings.{Mappings}
 use Rattle.unify_texts.specs.declared.map_text.MapText.{MapText}
-use Rattle.unify.specs.declared.host.Loaded.{Loaded}
-use Rattle.unify.specs.declared.rules.SiteRules.{SiteRules}
+use Rattle.site_tables.specs.declared.host.Loaded.{Loaded}
+use Rattle.site_tables.specs.declared.rules.SiteRules.{SiteRules}
 use Rattle.unify.specs.Count.{site_of}
-use Rattle.unify.specs.Hosts.{host_of}
-use Rattle.unify.specs.Loading.{loaded_from}
-use Rattle.unify.specs.Others.{keep_read}
-use Rattle.unify.specs.Passes.{BegunSite, site_begun}
-use Rattle.unify.specs.Survey.{found_on, inventory_of, surveyed_hosts}
+use Rattle.site_tables.specs.Hosts.{host_of}
+use Rattle.site_tables.specs.Loading.{loaded_from}
+use Rattle.site_tables.specs.Others.{keep_read}
+use Rattle.site_tables.specs.Begun.{BegunSite, site_begun}
+use Rattle.site_tables.specs.Survey.{found_on, inventory_of, surveyed_hosts}
 use Rattle.unify_laws.specs.Headline.{HaveOneNumberEach}
 
 -- by the pairs of a map no name has the number

@@ -24,20 +24,21 @@ use Rattle.unify_texts.specs.declared.map_text.MapText.{MapText}
 use Rattle.unify_texts.specs.Maps.{map_of}
 use Rattle.unify_texts.specs.WrittenMap.{SayMapping}
 use Rattle.unify.specs.declared.counting.Cost.{Cost}
-use Rattle.unify.specs.declared.rules.KeepRules.{KeepRules}
-use Rattle.unify.specs.declared.rules.SiteRules.{SiteRules}
+use Rattle.site_tables.specs.declared.rules.KeepRules.{KeepRules}
+use Rattle.site_tables.specs.declared.rules.SiteRules.{SiteRules}
 use Rattle.unify.specs.Cost.{cost_of}
-use Rattle.unify.specs.Count.{count_of, names_checked, site_of, total_of}
-use Rattle.unify.specs.Hosts.{host_of}
-use Rattle.unify.specs.Loading.{loaded_from}
-use Rattle.unify.specs.Others.{Others, keeping_nothing, others_loaded, reserving}
+use Rattle.site_tables.specs.Mapped.{names_checked}
+use Rattle.unify.specs.Count.{count_of, site_of, total_of}
+use Rattle.site_tables.specs.Hosts.{host_of}
+use Rattle.site_tables.specs.Loading.{loaded_from}
+use Rattle.site_tables.specs.Others.{Others, keeping_nothing, others_loaded, reserving}
 use Rattle.unify.specs.Outcomes.{cost_in, hosts_in}
-use Rattle.unify.specs.Passes.{site_begun}
-use Rattle.unify.specs.Sparing.{SparesNothing}
-use Rattle.unify.specs.Told.{in_pins, in_site}
+use Rattle.site_tables.specs.Begun.{site_begun}
+use Rattle.site_tables.specs.Sparing.{SparesNothing}
+use Rattle.site_tables.specs.Told.{in_pins, in_site}
 use Rattle.unify.specs.Reading.{WholeSite, files_of_site, site_read}
 use Rattle.unify.specs.Whole.{IsWhole}
-use Rattle.unify.specs.Survey.{inventory_of, surveyed}
+use Rattle.site_tables.specs.Survey.{inventory_of, surveyed}
 
 -- a uid and a gid have a user and a group by the host's own tables
 pub record HaveAccounts (host : Host) (uid gid : ℕ) : Type 0 where

@@ -6,10 +6,10 @@ use Rattle.hosts_join.specs.Site.{Joined}
 use Rattle.hosts_join.specs.declared.host.Host.{Host}
 use Rattle.hosts_join.specs.declared.texts.HostText.{HostText}
 use Rattle.unify_texts.specs.ReservedBack.{IsTellable}
-use Rattle.unify.specs.declared.rules.SiteRules.{SiteRules}
-use Rattle.unify.specs.Others.{keep_read}
-use Rattle.unify.specs.Passes.{BegunSite, site_begun}
-use Rattle.unify.specs.Survey.{found_on, surveyed_hosts}
+use Rattle.site_tables.specs.declared.rules.SiteRules.{SiteRules}
+use Rattle.site_tables.specs.Others.{keep_read}
+use Rattle.site_tables.specs.Begun.{BegunSite, site_begun}
+use Rattle.site_tables.specs.Survey.{found_on, surveyed_hosts}
 
 -- the account files of a host are of bytes
 pub record IsOfBytes (text : HostText) : Type 0 where

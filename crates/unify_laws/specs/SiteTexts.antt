@@ -11,13 +11,13 @@ use Rattle.hosts_join.specs.declared.host.Host.{Host}
 use Rattle.hosts_join.specs.declared.texts.HostText.{HostText}
 use Rattle.ownership.specs.declared.mapping.Mappings.{Mappings}
 use Rattle.unify_texts.specs.declared.map_text.MapText.{MapText}
-use Rattle.unify.specs.FileLaws.{AreItsFiles}
-use Rattle.unify.specs.MapLaws.{IsSomeGroup, IsSomeUser}
+use Rattle.site_tables.specs.FileLaws.{AreItsFiles}
+use Rattle.site_tables.specs.MapLaws.{IsSomeGroup, IsSomeUser}
 use Rattle.unify.specs.Outcomes.{hosts_in}
-use Rattle.unify.specs.Passes.{BegunSite, site_begun}
+use Rattle.site_tables.specs.Begun.{BegunSite, site_begun}
 use Rattle.unify.specs.Reading.{WholeSite, site_read}
-use Rattle.unify.specs.TextLaws.{GroupStays, IsOfTexts, UserStays}
-use Rattle.unify.specs.declared.rules.SiteRules.{SiteRules}
+use Rattle.site_tables.specs.TextLaws.{GroupStays, IsOfTexts, UserStays}
+use Rattle.site_tables.specs.declared.rules.SiteRules.{SiteRules}
 use Rattle.unify_laws.specs.Headline.{HaveOneNumberEach}
 
 -- Its hosts and its accounts are what the texts say before the inventories, and each host has

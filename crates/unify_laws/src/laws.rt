@@ -40,7 +40,8 @@ pub fn nothing_spared_all_owned()
 {}
 
 /// A site that was read is what its texts say: its hosts and its accounts as
-/// `unify::begun_sites_are_of_texts` has them, and of each host exactly the files of its inventory.
+/// `site_tables::begun_sites_are_of_texts` has them, and of each host exactly the files of its
+/// inventory.
 pub fn read_sites_are_of_texts()
     ensures { ReadSitesAreOfTexts }
 {}

@@ -12,8 +12,8 @@ use Rattle.keep_text.specs.declared.keep_text.Kept.{Kept}
 use Rattle.keep_text.specs.declared.keep_text.KeepText.{KeepText}
 use Rattle.kept_accounts.specs.Laws.{HasNumber, Stays}
 use Rattle.unify.specs.declared.site_files.NamedText.{NamedText}
-use Rattle.unify.specs.KeptLaws.{SomeGroupStays, SomeUserStays, TellsKeptNames}
-use Rattle.unify.specs.TextLaws.{GroupStays, IsOfText, UserStays}
+use Rattle.site_tables.specs.TextLaws.{SomeGroupStays, SomeUserStays, GroupStays, IsOfText, UserStays}
+use Rattle.unify.specs.KeptLaws.{TellsKeptNames}
 use Rattle.unify.proofs.KeptLaws.{outcomes_tell_kept_names}
 use Rattle.unify_merge.specs.AccountFiles.{AccountFilesGoByTexts, SomeNameStays}
 use Rattle.unify_merge.specs.Ledger.{Ledger}

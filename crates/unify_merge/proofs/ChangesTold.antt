@@ -13,8 +13,8 @@ use Rattle.unify_texts.specs.declared.fault.Fault.{Fault}
 use Rattle.unify_texts.specs.declared.fault.Fault.TheVariants.{InventoryChanged}
 use Rattle.unify.specs.Passes.{is_read}
 use Rattle.unify.specs.SecondPass.{HaveSameCounts, or_changed, second_files, second_lines}
-use Rattle.unify.specs.declared.rules.SiteRules.{SiteRules}
-use Rattle.unify.proofs.FileLaws.{files_are_of_inventories}
+use Rattle.site_tables.specs.declared.rules.SiteRules.{SiteRules}
+use Rattle.site_tables.proofs.FileLaws.{files_are_of_inventories}
 use Rattle.unify.proofs.SameCountLaws.{same_counts_are_by_account}
 use Rattle.unify_laws.proofs.Agreeing.{item_at}
 use Rattle.unify_laws.proofs.OnePiece.{accepted_at}

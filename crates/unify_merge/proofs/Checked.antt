@@ -12,7 +12,7 @@ use Rattle.certcheck.specs.declared.certificate.Certificate.{Certificate}
 use Rattle.certcheck.specs.declared.fault.CheckFault.{CheckFault}
 use Rattle.unify_texts.specs.Told.{told}
 use Rattle.unify_texts.specs.declared.fault.Fault.{Fault}
-use Rattle.unify.specs.declared.rules.SiteRules.{SiteRules}
+use Rattle.site_tables.specs.declared.rules.SiteRules.{SiteRules}
 use Rattle.unify.specs.Checking.{IsChecked, checked, check_of}
 use Rattle.unify.specs.Reading.{WholeSite, files_of_site, site_read}
 use Rattle.unify.specs.Told.{in_certificate, in_check}

@@ -3,9 +3,9 @@ use Rattle.std.proofs.Common.{◌≡◌, ◌+◌, ◌++◌, ℕ, List, length, m
 use Rattle.std.proofs.lemmas.List.{length-map}
 use Rattle.std.proofs.lemmas.List.Elements.{Contains-append_left}
 use Rattle.hosts_join.specs.declared.texts.HostText.{HostText}
-use Rattle.unify.specs.declared.rules.SiteRules.{SiteRules}
+use Rattle.site_tables.specs.declared.rules.SiteRules.{SiteRules}
 use Rattle.unify.specs.declared.site_files.NamedText.{NamedText}
-use Rattle.unify.specs.Rules.{rules_by}
+use Rattle.site_tables.specs.Rules.{rules_by}
 use Rattle.unify_merge.specs.EarlyEnds.{AreAsBefore, EarlyEndsLeaveAll, EarlyEndsLeaveFiles, TooLargeIsTooLarge, WereAccepted, WholeFilesAreMerged}
 use Rattle.unify_merge.specs.FirstReading.{ReadsOnly, readings_from}
 use Rattle.unify_merge.specs.Ledger.{Ledger, Reading}

@@ -16,7 +16,7 @@ use Rattle.hosts_join.specs.Site.{Joined}
 use Rattle.ownership.specs.declared.mapping.Mappings.{Mappings}
 use Rattle.unify.specs.declared.outcome.Outcome.{Outcome}
 use Rattle.unify.specs.declared.site_files.NamedText.{NamedText}
-use Rattle.unify.specs.Passes.{BegunSite}
+use Rattle.site_tables.specs.Begun.{BegunSite}
 use Rattle.unify_laws.specs.HostTexts.{group_file, host_files, passwd_file}
 use Rattle.unify_merge.specs.Merge.{merged_files, report_file}
 use Rattle.unify_merge.specs.SecondReading.{plan_files}

@@ -5,8 +5,8 @@ use Rattle.mtree_inv.specs.declared.entry.Entry.{Entry}
 use Rattle.hosts_join.specs.declared.host.Host.{Host}
 use Rattle.hosts_join.specs.declared.texts.HostText.{HostText}
 use Rattle.kept_accounts.specs.Reserving.{UnownedNumbers, no_numbers}
-use Rattle.unify.specs.Others.{keep_read}
-use Rattle.unify.specs.Survey.{surveyed_hosts, unowned_over}
+use Rattle.site_tables.specs.Others.{keep_read}
+use Rattle.site_tables.specs.Survey.{surveyed_hosts, unowned_over}
 use Rattle.unify_merge.specs.FirstReading.{ReadsOnly}
 use Rattle.unify_merge.specs.Ledger.{Ledger}
 use Rattle.unify_merge.specs.Survey.{HasSurveyed, StopsSurvey}

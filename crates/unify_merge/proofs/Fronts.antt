@@ -16,10 +16,10 @@ use Rattle.hosts_join.specs.declared.host.Host.{Host}
 use Rattle.unify_texts.specs.Told.{in_file}
 use Rattle.unify_texts.specs.declared.bundle_line.FileName.TheVariants as file
 use Rattle.unify_texts.specs.declared.fault.Fault.{Fault}
-use Rattle.unify.specs.Hosts.{files_of, owner_fault}
-use Rattle.unify.specs.Passes.{is_read, lines_of}
+use Rattle.site_tables.specs.Hosts.{files_of, owner_fault, lines_of}
+use Rattle.unify.specs.Passes.{is_read}
 use Rattle.unify.specs.SecondPass.{owned_lines, second_lines}
-use Rattle.unify.proofs.Owners.{files_read}
+use Rattle.site_tables.proofs.Owners.{files_read}
 use Rattle.unify.proofs.PlanTurns.{first_none, lines_with}
 use Rattle.unify.proofs.SecondPasses.{lines_known}
 

@@ -1,8 +1,8 @@
 -- A command goes by the texts that it is given.
 use Rattle.std.proofs.Common.{ℕ, List, [], refl, inl, inr}
 use Rattle.hosts_join.specs.declared.texts.HostText.{HostText}
-use Rattle.unify.specs.declared.rules.SiteRules.{SiteRules}
-use Rattle.unify.specs.Rules.{rules_by}
+use Rattle.site_tables.specs.declared.rules.SiteRules.{SiteRules}
+use Rattle.site_tables.specs.Rules.{rules_by}
 use Rattle.unify_merge.specs.Check.{HasChecked, StopsCheck}
 use Rattle.unify_merge.specs.Count.{HasCounted, StopsCount}
 use Rattle.unify_merge.specs.GivenTexts.{BrokenMergesGoByGiven, ChecksGoByGiven, CountsGoByGiven, GoesBy, MergesGoByGiven}

@@ -12,14 +12,14 @@ use Rattle.hosts_join.specs.declared.host.Host.{Host}
 use Rattle.hosts_join.specs.declared.texts.HostText.{HostText}
 use Rattle.ownership.specs.declared.mapping.Mappings.{Mappings}
 use Rattle.unify.specs.Count.{site_of}
-use Rattle.unify.specs.Loading.{loaded_from}
+use Rattle.site_tables.specs.Loading.{loaded_from}
 use Rattle.unify.specs.Outcomes.{hosts_in, plan_texts, plan_texts_from}
 use Rattle.unify.specs.Reading.{WholeSite}
 use Rattle.unify.specs.declared.outcome.Outcome.{Outcome}
-use Rattle.unify.specs.declared.rules.SiteRules.{SiteRules}
+use Rattle.site_tables.specs.declared.rules.SiteRules.{SiteRules}
 use Rattle.unify.specs.declared.site_files.NamedText.{NamedText}
-use Rattle.unify.proofs.Adding.{length-loaded_from}
-use Rattle.unify.proofs.ReadSites.{as-many-others}
+use Rattle.site_tables.proofs.LoadedFrom.{length-loaded_from}
+use Rattle.site_tables.proofs.ReadSites.{as-many-others}
 use Rattle.unify_laws.specs.HostTexts.{host_files}
 use Rattle.unify_laws.proofs.HostTexts.{BegunSteps, begun_steps}
 use Rattle.unify_merge.specs.InTurn.{LeavesAll, MergesLeaveReports, PlansComeInTurn, ReportIsLast, ReportsStandWithAll}

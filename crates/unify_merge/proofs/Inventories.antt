@@ -13,19 +13,19 @@ use Rattle.hosts_join.specs.declared.host.Host.{Host}
 use Rattle.hosts_join.specs.declared.texts.HostText.{HostText}
 use Rattle.unify_texts.specs.declared.bundle_line.FileName.TheVariants as file
 use Rattle.unify_texts.specs.declared.fault.Fault.{Fault}
-use Rattle.unify.specs.declared.rules.KeepRules.{KeepRules}
-use Rattle.unify.specs.declared.host.Loaded.{Loaded}
-use Rattle.unify.specs.declared.rules.SiteRules.{SiteRules}
-use Rattle.unify.specs.Costing.{cost_begun}
-use Rattle.unify.specs.Count.{mapped_names, site_of}
-use Rattle.unify.specs.Hosts.{host_of, sparing_none}
-use Rattle.unify.specs.Loading.{loaded_from}
-use Rattle.unify.specs.Others.{Others, others_loaded, others_read, pinned_site}
-use Rattle.unify.specs.Passes.{BegunSite, site_begun}
+use Rattle.site_tables.specs.declared.rules.KeepRules.{KeepRules}
+use Rattle.site_tables.specs.declared.host.Loaded.{Loaded}
+use Rattle.site_tables.specs.declared.rules.SiteRules.{SiteRules}
+use Rattle.site_tables.specs.Mapped.{cost_begun, mapped_names}
+use Rattle.unify.specs.Count.{site_of}
+use Rattle.site_tables.specs.Hosts.{host_of, sparing_none}
+use Rattle.site_tables.specs.Loading.{loaded_from}
+use Rattle.site_tables.specs.Others.{Others, others_loaded, others_read, pinned_site}
+use Rattle.site_tables.specs.Begun.{BegunSite, site_begun}
 use Rattle.unify.specs.Reading.{site_read}
 use Rattle.unify_texts.specs.Told.{in_file}
-use Rattle.unify.specs.Told.{in_site}
-use Rattle.unify.proofs.Adding.{loaded_hosts}
+use Rattle.site_tables.specs.Told.{in_site}
+use Rattle.site_tables.proofs.LoadedFrom.{loaded_hosts}
 use Rattle.unify_laws.proofs.TwoPasses.{first-step, site_is}
 use Rattle.unify_merge.specs.FirstReading.{with_inventories}
 

@@ -10,10 +10,10 @@ use Rattle.mtree_inv.specs.declared.entry.Entry.{Entry}
 use Rattle.hosts_join.specs.declared.host.Host.{Host}
 use Rattle.hosts_join.specs.declared.texts.HostText.{HostText}
 use Rattle.unify_texts.specs.declared.fault.Fault.{Fault}
-use Rattle.unify.specs.declared.host.Loaded.{Loaded}
+use Rattle.site_tables.specs.declared.host.Loaded.{Loaded}
 use Rattle.unify.specs.Count.{site_of}
-use Rattle.unify.specs.Hosts.{files_of}
-use Rattle.unify.specs.Loading.{loaded_from}
+use Rattle.site_tables.specs.Hosts.{files_of}
+use Rattle.site_tables.specs.Loading.{loaded_from}
 use Rattle.unify.specs.SecondPass.{IsOfSameSite, SolvedValue, ended_in, or_changed, whole_plan}
 use Rattle.unify.proofs.Passing.{each_push, loaded_push}
 use Rattle.unify.proofs.Sites.{site_given}

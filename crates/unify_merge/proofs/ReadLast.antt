@@ -9,7 +9,7 @@ use Rattle.idtext.proofs.OkLemmas.{bind_ok, ok_same}
 use Rattle.mtree_inv.specs.declared.entry.Entry.{Entry}
 use Rattle.hosts_join.specs.declared.host.Host.{Host}
 use Rattle.unify.specs.Count.{site_of}
-use Rattle.unify.specs.Loading.{loaded_from}
+use Rattle.site_tables.specs.Loading.{loaded_from}
 use Rattle.unify.specs.SecondPass.{SolvedValue, or_changed, second_files, whole_plan}
 use Rattle.unify.specs.RowFiles.{row_files}
 use Rattle.unify_laws.specs.TwoPasses.{AreReadAgain, AreWholePlans}

@@ -9,23 +9,24 @@ use Rattle.mtree_inv.specs.declared.entry.Entry.{Entry}
 use Rattle.hosts_join.specs.Checks.{hosts_checked}
 use Rattle.hosts_join.specs.declared.host.Host.{Host}
 use Rattle.hosts_join.specs.declared.texts.HostText.{HostText}
-use Rattle.unify.specs.Costing.{BegunCost, cost_begun}
-use Rattle.unify.specs.Count.{mapped_names, site_of}
+use Rattle.site_tables.specs.Mapped.{BegunCost, cost_begun, mapped_names}
+use Rattle.unify.specs.Count.{site_of}
 use Rattle.unify.specs.CountLaws.{IsCounted}
-use Rattle.unify.specs.FileLaws.{AreItsFiles}
-use Rattle.unify.specs.Hosts.{files_of}
-use Rattle.unify.specs.Loading.{loaded_from}
-use Rattle.unify.specs.Others.{others_loaded}
-use Rattle.unify.specs.Passes.{BegunSite, site_begun}
-use Rattle.unify.specs.Told.{in_site}
-use Rattle.unify.specs.declared.host.Loaded.{Loaded}
-use Rattle.unify.specs.declared.rules.KeepRules.{KeepRules}
-use Rattle.unify.specs.declared.rules.SiteRules.{SiteRules}
-use Rattle.unify.proofs.Adding.{length-loaded_from}
+use Rattle.site_tables.specs.FileLaws.{AreItsFiles}
+use Rattle.site_tables.specs.Hosts.{files_of}
+use Rattle.site_tables.specs.Loading.{loaded_from}
+use Rattle.site_tables.specs.Others.{others_loaded}
+use Rattle.site_tables.specs.Begun.{BegunSite, site_begun}
+use Rattle.site_tables.specs.Told.{in_site}
+use Rattle.site_tables.specs.declared.host.Loaded.{Loaded}
+use Rattle.site_tables.specs.declared.rules.KeepRules.{KeepRules}
+use Rattle.site_tables.specs.declared.rules.SiteRules.{SiteRules}
+use Rattle.site_tables.proofs.LoadedFrom.{length-loaded_from}
 use Rattle.unify.proofs.CountLaws.{changed_files_are_counted}
-use Rattle.unify.proofs.FileLaws.{files_are_of_inventories}
-use Rattle.unify.proofs.ReadSites.{as-many-others}
-use Rattle.unify.proofs.Whole.{begun_is, hosts_held}
+use Rattle.site_tables.proofs.FileLaws.{files_are_of_inventories}
+use Rattle.site_tables.proofs.ReadSites.{as-many-others}
+use Rattle.site_tables.proofs.SiteSteps.{begun_is}
+use Rattle.unify.proofs.Whole.{hosts_held}
 use Rattle.unify_laws.proofs.HostTexts.{begun_steps}
 use Rattle.unify_laws.proofs.WholeSites.{hosts-are, steps}
 use Rattle.unify_merge.specs.FirstReading.{readings_from, with_inventories}

@@ -6,7 +6,7 @@ use Rattle.idtext.specs.First.{each}
 use Rattle.mtree_inv.specs.declared.entry.Entry.{Entry}
 use Rattle.hosts_join.specs.declared.host.Host.{Host}
 use Rattle.unify.specs.Count.{site_of}
-use Rattle.unify.specs.Loading.{loaded_from}
+use Rattle.site_tables.specs.Loading.{loaded_from}
 use Rattle.unify_merge.specs.Ledger.{Ledger, Reading}
 use Rattle.unify_merge.specs.FirstReading.{IsFirstFault, ReadsOnly, StopsCounting, StopsFirst, readings_from}
 use Rattle.unify_merge.specs.declared.fault.MergeFault.{MergeFault}

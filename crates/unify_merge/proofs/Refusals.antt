@@ -13,15 +13,15 @@ use Rattle.keep_text.specs.declared.keep_text.KeepText.{KeepText}
 use Rattle.unify_texts.specs.declared.fault.Fault.{Fault}
 use Rattle.unify_texts.specs.declared.fault.Fault.TheVariants.{Memory}
 use Rattle.unify_texts.proofs.FaultsTold.{faults_are_told}
-use Rattle.unify.specs.Hosts.{host_of}
-use Rattle.unify.specs.Others.{keep_read}
-use Rattle.unify.specs.Passes.{BegunSite, site_begun}
-use Rattle.unify.specs.Rules.{rules_by}
-use Rattle.unify.specs.Survey.{keeps_unowned, sparing_ranges, surveyed_hosts}
-use Rattle.unify.specs.Told.{in_site}
-use Rattle.unify.specs.declared.host.Loaded.{Loaded}
-use Rattle.unify.specs.declared.rules.SiteRules.{SiteRules}
-use Rattle.unify.proofs.ReadSites.{as-many-others}
+use Rattle.site_tables.specs.Hosts.{host_of}
+use Rattle.site_tables.specs.Others.{keep_read}
+use Rattle.site_tables.specs.Begun.{BegunSite, site_begun}
+use Rattle.site_tables.specs.Rules.{rules_by}
+use Rattle.site_tables.specs.Survey.{keeps_unowned, sparing_ranges, surveyed_hosts}
+use Rattle.site_tables.specs.Told.{in_site}
+use Rattle.site_tables.specs.declared.host.Loaded.{Loaded}
+use Rattle.site_tables.specs.declared.rules.SiteRules.{SiteRules}
+use Rattle.site_tables.proofs.ReadSites.{as-many-others}
 use Rattle.unify_laws.proofs.HostTexts.{begun_steps}
 use Rattle.unify_merge.specs.EarlyEnds.{AreAsBefore, RefusalsWriteNothing, RefusedFilesWriteNothing}
 use Rattle.unify_merge.specs.FirstReading.{IsInventoryFault, ReadsOnly, StopsFor, readings_from}

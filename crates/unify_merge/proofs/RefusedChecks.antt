@@ -12,16 +12,17 @@ use Rattle.hosts_join.specs.declared.texts.HostText.{HostText}
 use Rattle.unify_texts.specs.declared.fault.Fault.{Fault}
 use Rattle.unify.specs.Checking.{checked}
 use Rattle.unify.specs.Count.{site_of}
-use Rattle.unify.specs.FileLaws.{AreItsFiles}
-use Rattle.unify.specs.Hosts.{files_of}
-use Rattle.unify.specs.Loading.{loaded_from}
+use Rattle.site_tables.specs.FileLaws.{AreItsFiles}
+use Rattle.site_tables.specs.Hosts.{files_of}
+use Rattle.site_tables.specs.Loading.{loaded_from}
 use Rattle.unify.specs.Outcomes.{hosts_in}
-use Rattle.unify.specs.Passes.{BegunSite, is_read, site_begun}
+use Rattle.site_tables.specs.Begun.{BegunSite, site_begun}
+use Rattle.unify.specs.Passes.{is_read}
 use Rattle.unify.specs.Reading.{WholeSite, site_read}
 use Rattle.unify.specs.Told.{in_certificate}
-use Rattle.unify.specs.declared.host.Loaded.{Loaded}
-use Rattle.unify.specs.declared.rules.SiteRules.{SiteRules}
-use Rattle.unify.proofs.FileLaws.{files_are_of_inventories}
+use Rattle.site_tables.specs.declared.host.Loaded.{Loaded}
+use Rattle.site_tables.specs.declared.rules.SiteRules.{SiteRules}
+use Rattle.site_tables.proofs.FileLaws.{files_are_of_inventories}
 use Rattle.unify_laws.proofs.Agreeing.{item_at}
 use Rattle.unify_laws.proofs.OnePiece.{at_end}
 use Rattle.unify_laws.proofs.TwoPasses.{site_is}

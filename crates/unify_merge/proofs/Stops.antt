@@ -4,8 +4,8 @@ use Rattle.std.specs.Prelude.{IfSome}
 use Rattle.hosts_join.specs.declared.host.Host.{Host}
 use Rattle.unify_texts.specs.Told.{told}
 use Rattle.unify_texts.specs.declared.fault.Fault.{Fault}
-use Rattle.unify.specs.Hosts.{files_of}
-use Rattle.unify.specs.Passes.{is_read, lines_of}
+use Rattle.site_tables.specs.Hosts.{files_of, lines_of}
+use Rattle.unify.specs.Passes.{is_read}
 use Rattle.unify_merge.specs.Ledger.{Ledger, Reading}
 use Rattle.unify_merge.specs.Pieces.{EndsEarly}
 use Rattle.unify_merge.specs.FirstReading.{HasRead, IsReading, IsTooLarge, StopsFirst, StopsFor, most_inventory_bytes}

@@ -11,14 +11,15 @@ use Rattle.kept_accounts.specs.Reserving.{UnownedNumbers}
 use Rattle.survey.specs.Unowned.{unowned_with}
 use Rattle.unify_texts.specs.Told.{told}
 use Rattle.unify_texts.specs.declared.fault.Fault.{Fault}
-use Rattle.unify.specs.Loading.{loaded_from}
-use Rattle.unify.specs.Passes.{is_read, lines_of}
+use Rattle.site_tables.specs.Loading.{loaded_from}
+use Rattle.site_tables.specs.Hosts.{lines_of}
+use Rattle.unify.specs.Passes.{is_read}
 use Rattle.unify.proofs.Passing.{each_push, loaded_push}
 use Rattle.unify_merge.specs.FirstReading.{HasRead, IsReading}
 use Rattle.unify_merge.specs.Ledger.{Ledger, Reading}
 use Rattle.unify_merge.specs.FirstReading.{readings_from}
 use Rattle.unify_merge.specs.Survey.{IsReadFault, StopsReading, StopsSurvey}
-use Rattle.unify.specs.Survey.{inventory_of, listed_of, unowned_over}
+use Rattle.site_tables.specs.Survey.{inventory_of, listed_of, unowned_over}
 use Rattle.unify_merge.specs.declared.fault.MergeFault.{MergeFault}
 use Rattle.unify_merge.specs.declared.fault.MergeFault.TheVariants.{Refused}
 use Rattle.unify_merge.proofs.Stops.{if_told, stops_map}

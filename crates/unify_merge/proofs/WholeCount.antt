@@ -4,11 +4,11 @@ use Rattle.idtext.specs.First.{each}
 use Rattle.hosts_join.specs.declared.host.Host.{Host}
 use Rattle.hosts_join.specs.declared.texts.HostText.{HostText}
 use Rattle.unify_texts.specs.declared.map_text.MapText.{MapText}
-use Rattle.unify.specs.declared.rules.KeepRules.{KeepRules}
+use Rattle.site_tables.specs.declared.rules.KeepRules.{KeepRules}
 use Rattle.unify.specs.declared.counting.Cost.{Cost}
-use Rattle.unify.specs.Costing.{BegunCost, cost_begun}
+use Rattle.site_tables.specs.Mapped.{BegunCost, cost_begun}
 use Rattle.unify.specs.Count.{site_of, total_of}
-use Rattle.unify.specs.Loading.{loaded_from}
+use Rattle.site_tables.specs.Loading.{loaded_from}
 use Rattle.unify.specs.Passes.{InventoriesValue, behind, read_in}
 use Rattle.unify_laws.proofs.CountPasses.{count_behind}
 use Rattle.unify_merge.specs.Count.{HasCounted, StopsCount}

@@ -13,13 +13,14 @@ use Rattle.ownership.specs.declared.mapping.Mappings.{Mappings}
 use Rattle.unify_texts.specs.declared.fault.Fault.{Fault}
 use Rattle.unify.specs.declared.counting.Cost.{Cost}
 use Rattle.unify.specs.declared.outcome.Outcome.{Outcome}
-use Rattle.unify.specs.declared.rules.SiteRules.{SiteRules}
+use Rattle.site_tables.specs.declared.rules.SiteRules.{SiteRules}
 use Rattle.unify.specs.Count.{site_of}
 use Rattle.unify.specs.Whole.{IsWhole}
-use Rattle.unify.specs.Loading.{loaded_from}
+use Rattle.site_tables.specs.Loading.{loaded_from}
 use Rattle.unify.specs.Merging.{IsMerged}
 use Rattle.unify.specs.Outcomes.{IsOutcome}
-use Rattle.unify.specs.Passes.{AreTogether, BegunSite, InventoriesValue, behind, read_in, site_begun}
+use Rattle.site_tables.specs.Begun.{AreTogether, BegunSite, site_begun}
+use Rattle.unify.specs.Passes.{InventoriesValue, behind, read_in}
 use Rattle.unify.specs.Reading.{WholeSite}
 use Rattle.unify.specs.SecondPass.{IsSolvedFrom, SolvedValue, at_start, ended_in, first_in}
 use Rattle.unify.proofs.BetweenPasses.{over_whole}

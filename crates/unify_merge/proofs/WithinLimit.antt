@@ -4,9 +4,9 @@ use Rattle.std.specs.List.{All}
 use Rattle.std.proofs.lemmas.List.Elements.{All-append, All-cons, All-head, All-nil, All-tail}
 use Rattle.hosts_join.specs.declared.texts.HostText.{HostText}
 use Rattle.kept_accounts.specs.Reserving.{UnownedNumbers}
-use Rattle.unify.specs.Rules.{rules_by}
+use Rattle.site_tables.specs.Rules.{rules_by}
 use Rattle.unify.specs.declared.counting.Cost.{Cost}
-use Rattle.unify.specs.declared.rules.SiteRules.{SiteRules}
+use Rattle.site_tables.specs.declared.rules.SiteRules.{SiteRules}
 use Rattle.unify_merge.specs.FirstReading.{AreWithinLimit, IsWithinLimit, WereEachRead, most_inventory_bytes, readings_from}
 use Rattle.unify_merge.specs.InventoryLimit.{HasReadWithinLimit, ReadingsAreWithinLimit}
 use Rattle.unify_merge.specs.Ledger.{Ledger, Reading}

@@ -7,9 +7,8 @@ use Rattle.hosts_join.specs.declared.texts.HostText.{HostText}
 use Rattle.keep_text.specs.KeepTexts.{keep_of}
 use Rattle.keep_text.specs.declared.keep_text.KeepText.{KeepText}
 use Rattle.unify.specs.declared.counting.Cost.{Cost}
-use Rattle.unify.specs.declared.rules.SiteRules.{SiteRules}
-use Rattle.unify.specs.KeptLaws.{SomeGroupStays, SomeUserStays}
-use Rattle.unify.specs.TextLaws.{IsOfText}
+use Rattle.site_tables.specs.declared.rules.SiteRules.{SiteRules}
+use Rattle.site_tables.specs.TextLaws.{SomeGroupStays, SomeUserStays, IsOfText}
 use Rattle.unify_merge.specs.Ledger.{Ledger}
 use Rattle.unify_merge.specs.Merge.{HasMerged}
 use Rattle.unify_merge.specs.NamedFiles.{Have}

@@ -8,9 +8,9 @@ use Rattle.hosts_join.specs.declared.texts.HostText.{HostText}
 use Rattle.unify_texts.specs.Faults.{words_of}
 use Rattle.unify_texts.specs.Words.{shown}
 use Rattle.unify_texts.specs.declared.fault.Fault.{Fault}
-use Rattle.unify.specs.FileLaws.{AreItsFiles}
+use Rattle.site_tables.specs.FileLaws.{AreItsFiles}
 use Rattle.unify.specs.SameCountLaws.{OwnAsMany}
-use Rattle.unify.specs.declared.rules.SiteRules.{SiteRules}
+use Rattle.site_tables.specs.declared.rules.SiteRules.{SiteRules}
 use Rattle.unify_merge.specs.Ledger.{Ledger, Reading}
 use Rattle.unify_merge.specs.Merge.{IsSecondFault}
 use Rattle.unify_merge.specs.ReadTexts.{HaveReadFiles}

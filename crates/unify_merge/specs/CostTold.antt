@@ -3,7 +3,7 @@
 use Rattle.std.specs.Prelude.{◌≡◌, ℕ, List, Ok, codes}
 use Rattle.hosts_join.specs.declared.texts.HostText.{HostText}
 use Rattle.unify.specs.declared.counting.Cost.{Cost}
-use Rattle.unify.specs.declared.rules.SiteRules.{SiteRules}
+use Rattle.site_tables.specs.declared.rules.SiteRules.{SiteRules}
 use Rattle.unify.specs.Checking.{check_of}
 use Rattle.unify.specs.Count.{count_of}
 use Rattle.unify_laws.specs.Headline.{fields}

@@ -4,8 +4,8 @@ use Rattle.std.specs.Prelude.{◌≡◌, ℕ, ◌⊎◌, List, Ok, Err}
 use Rattle.hosts_join.specs.declared.texts.HostText.{HostText}
 use Rattle.unify_texts.specs.declared.fault.Fault.{Fault}
 use Rattle.unify.specs.declared.counting.Cost.{Cost}
-use Rattle.unify.specs.declared.rules.KeepRules.{KeepRules}
-use Rattle.unify.specs.Costing.{BegunCost, cost_begun}
+use Rattle.site_tables.specs.declared.rules.KeepRules.{KeepRules}
+use Rattle.site_tables.specs.Mapped.{BegunCost, cost_begun}
 use Rattle.unify.specs.Count.{count_of}
 use Rattle.unify_merge.specs.Ledger.{Ledger}
 use Rattle.unify_merge.specs.FirstReading.{IsInventoryFault, StopsFor, WereEachRead}

@@ -1,16 +1,16 @@
 -- What a merge leaves that ended early, and when an inventory is told to be too large.
 -- Source: this project's own rule.
-use Rattle.std.specs.Prelude.{◌≡◌, ◌≢◌, ◌≤◌, ◌<◌, ◌+◌, ◌⊎◌, ◌++◌, ⊤, ℕ, List, [], Ok, Some}
-use Rattle.std.specs.Prelude.{length}
+use Rattle.std.specs.Prelude.{◌≡◌, ◌≢◌, ◌≤◌, ◌<◌, ◌+◌, ◌⊎◌, ◌++◌, ⊤}
+use Rattle.std.specs.Prelude.{ℕ, List, [], Ok, Some, length}
 use Rattle.mtree_inv.specs.declared.entry.Entry.{Entry}
 use Rattle.hosts_join.specs.declared.host.Host.{Host}
 use Rattle.hosts_join.specs.declared.texts.HostText.{HostText}
 use Rattle.kept_accounts.specs.Reserving.{UnownedNumbers}
 use Rattle.unify_texts.specs.declared.fault.Fault.{Fault}
 use Rattle.unify_texts.specs.declared.fault.Fault.TheVariants.{InventoryChanged, Memory}
-use Rattle.unify.specs.declared.rules.SiteRules.{SiteRules}
-use Rattle.unify.specs.Passes.{BegunSite, site_begun}
-use Rattle.unify.specs.Rules.{rules_by}
+use Rattle.site_tables.specs.declared.rules.SiteRules.{SiteRules}
+use Rattle.site_tables.specs.Begun.{BegunSite, site_begun}
+use Rattle.site_tables.specs.Rules.{rules_by}
 use Rattle.unify_merge.specs.FirstReading.{StopsFor, readings_from}
 use Rattle.unify_merge.specs.Ledger.{Ledger, Reading}
 use Rattle.unify_merge.specs.Merge.{AreInventories, Leaves, MergeBrokeOff, StopsMerge}

@@ -10,9 +10,9 @@ use Rattle.hosts_join.specs.declared.texts.HostText.{HostText}
 use Rattle.unify_texts.specs.Told.{told}
 use Rattle.unify_texts.specs.declared.fault.Fault.{Fault}
 use Rattle.unify.specs.Count.{site_of}
-use Rattle.unify.specs.Hosts.{files_of}
-use Rattle.unify.specs.Loading.{loaded_from}
-use Rattle.unify.specs.Passes.{is_read, lines_of}
+use Rattle.site_tables.specs.Hosts.{files_of, lines_of}
+use Rattle.site_tables.specs.Loading.{loaded_from}
+use Rattle.unify.specs.Passes.{is_read}
 use Rattle.unify_merge.specs.Ledger.{Ledger, Reading}
 use Rattle.unify_merge.specs.declared.fault.MergeFault.{MergeFault}
 use Rattle.unify_merge.specs.declared.fault.MergeFault.TheVariants.{Failed, TooLarge, Refused}

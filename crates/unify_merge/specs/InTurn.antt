@@ -6,9 +6,9 @@ use Rattle.hosts_join.specs.declared.texts.HostText.{HostText}
 use Rattle.ownership.specs.declared.mapping.Mappings.{Mappings}
 use Rattle.unify.specs.declared.counting.Cost.{Cost}
 use Rattle.unify.specs.declared.outcome.Outcome.{Outcome}
-use Rattle.unify.specs.declared.rules.SiteRules.{SiteRules}
+use Rattle.site_tables.specs.declared.rules.SiteRules.{SiteRules}
 use Rattle.unify.specs.declared.site_files.NamedText.{NamedText}
-use Rattle.unify.specs.Passes.{BegunSite}
+use Rattle.site_tables.specs.Begun.{BegunSite}
 use Rattle.unify_merge.specs.Ledger.{Ledger}
 use Rattle.unify_merge.specs.Merge.{HasMerged, MergeBrokeOff, merged_files}
 use Rattle.unify_merge.specs.NamedFiles.{Have}

@@ -7,9 +7,9 @@ use Rattle.hosts_join.specs.declared.host.Host.{Host}
 use Rattle.hosts_join.specs.declared.texts.HostText.{HostText}
 use Rattle.ownership.specs.declared.mapping.Mappings.{Mappings}
 use Rattle.unify.specs.declared.outcome.Outcome.{Outcome}
-use Rattle.unify.specs.declared.rules.SiteRules.{SiteRules}
+use Rattle.site_tables.specs.declared.rules.SiteRules.{SiteRules}
 use Rattle.unify.specs.declared.site_files.NamedText.{NamedText}
-use Rattle.unify.specs.Passes.{BegunSite, site_begun}
+use Rattle.site_tables.specs.Begun.{BegunSite, site_begun}
 use Rattle.unify_laws.specs.HostTexts.{own_passwd, own_group}
 use Rattle.unify_merge.specs.Merge.{merged_files}
 

@@ -9,16 +9,16 @@ use Rattle.hosts_join.specs.declared.texts.HostText.{HostText}
 use Rattle.unify_texts.specs.declared.fault.Fault.{Fault}
 use Rattle.unify_texts.specs.declared.fault.Fault.TheVariants.{Memory}
 use Rattle.unify.specs.Checking.{checked}
-use Rattle.unify.specs.Costing.{BegunCost, cost_begun}
+use Rattle.site_tables.specs.Mapped.{BegunCost, cost_begun}
 use Rattle.unify.specs.CountLaws.{ChangesGroup, ChangesSoMany, ChangesUser}
-use Rattle.unify.specs.FileLaws.{AreItsFiles}
+use Rattle.site_tables.specs.FileLaws.{AreItsFiles}
 use Rattle.unify.specs.Outcomes.{hosts_in}
-use Rattle.unify.specs.Passes.{site_begun}
+use Rattle.site_tables.specs.Begun.{site_begun}
 use Rattle.unify.specs.Reading.{WholeSite}
 use Rattle.unify.specs.Told.{in_certificate}
 use Rattle.unify.specs.declared.counting.Cost.{Cost}
-use Rattle.unify.specs.declared.rules.KeepRules.{KeepRules}
-use Rattle.unify.specs.declared.rules.SiteRules.{SiteRules}
+use Rattle.site_tables.specs.declared.rules.KeepRules.{KeepRules}
+use Rattle.site_tables.specs.declared.rules.SiteRules.{SiteRules}
 use Rattle.unify_merge.specs.Check.{HasChecked, StopsCheck}
 use Rattle.unify_merge.specs.Count.{HasCounted}
 use Rattle.unify_merge.specs.Ledger.{Ledger, Reading}

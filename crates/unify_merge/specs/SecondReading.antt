@@ -10,7 +10,7 @@ use Rattle.unify_texts.specs.Told.{told}
 use Rattle.unify_texts.specs.declared.fault.Fault.{Fault}
 use Rattle.unify_texts.specs.declared.fault.Fault.TheVariants.{InventoryChanged}
 use Rattle.unify.specs.Count.{site_of}
-use Rattle.unify.specs.Loading.{loaded_from}
+use Rattle.site_tables.specs.Loading.{loaded_from}
 use Rattle.unify.specs.Passes.{is_read}
 use Rattle.unify.specs.SecondPass.{HaveSameCounts, IsFresh, SolvedValue, WereFirst, ended_in}
 use Rattle.unify.specs.SecondPass.{first_in, second_files, second_lines, whole_plan}

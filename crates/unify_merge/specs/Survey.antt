@@ -11,9 +11,10 @@ use Rattle.survey.specs.Surveying.{HasNumbersOf}
 use Rattle.survey.specs.Unowned.{unowned_with}
 use Rattle.survey.specs.declared.host_survey.HostSurvey.{HostSurvey}
 use Rattle.unify_texts.specs.declared.fault.Fault.{Fault}
-use Rattle.unify.specs.Loading.{loaded_from}
-use Rattle.unify.specs.Passes.{is_read, lines_of}
-use Rattle.unify.specs.Survey.{inventory_of, listed_of, unowned_over}
+use Rattle.site_tables.specs.Loading.{loaded_from}
+use Rattle.site_tables.specs.Hosts.{lines_of}
+use Rattle.unify.specs.Passes.{is_read}
+use Rattle.site_tables.specs.Survey.{inventory_of, listed_of, unowned_over}
 use Rattle.unify_merge.specs.FirstReading.{AreWithinLimit, HasRead, IsReading, StopsFor}
 use Rattle.unify_merge.specs.FirstReading.{readings_from}
 use Rattle.unify_merge.specs.Ledger.{Ledger, Reading}

@@ -7,9 +7,9 @@ use Rattle.hosts_join.specs.declared.texts.HostText.{HostText}
 use Rattle.kept_accounts.specs.Reserving.{UnownedNumbers}
 use Rattle.unify_texts.specs.declared.fault.Fault.{Fault}
 use Rattle.unify.specs.declared.counting.Cost.{Cost}
-use Rattle.unify.specs.Others.{keep_read}
-use Rattle.unify.specs.Rules.{rules_by}
-use Rattle.unify.specs.Survey.{found_on, surveyed_hosts}
+use Rattle.site_tables.specs.Others.{keep_read}
+use Rattle.site_tables.specs.Rules.{rules_by}
+use Rattle.site_tables.specs.Survey.{found_on, surveyed_hosts}
 use Rattle.unify_merge.specs.Check.{HasChecked, StopsCheck}
 use Rattle.unify_merge.specs.Count.{HasCounted, StopsCount}
 use Rattle.unify_merge.specs.FirstReading.{AreWithinLimit, ReadsOnly, StopsFor, readings_from}

@@ -11,8 +11,9 @@ use crate::files::ReadFiles;
 use crate::first_reading::count_hosts;
 use crate::surveying::survey_files;
 use hosts_join::HostText;
+use site_tables::{KeepRules, SiteRules};
 use std::alloc::Global;
-use unify::{KeepRules, SiteRules, begin_site};
+use unify::begin_site;
 
 /// How many user and group fields of files the mappings of a certificate change, where the
 /// certificate proves that no admissible mappings change fewer; it may be written by anybody. The

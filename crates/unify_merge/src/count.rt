@@ -11,8 +11,9 @@ use crate::files::ReadFiles;
 use crate::first_reading::count_hosts;
 use crate::surveying::survey_files;
 use hosts_join::HostText;
+use site_tables::KeepRules;
 use std::alloc::Global;
-use unify::{Cost, KeepRules, begin_count};
+use unify::{Cost, begin_count};
 
 /// How many user and group fields of files the numbers of a map text change, for any map whose
 /// names are exactly those of the hosts that are not kept; it need keep no pin and no pool. The

@@ -4,7 +4,8 @@ ghost use Rattle.std.specs.Prelude.{◌≡◌, ◌⊎◌, List, length, true, So
 ghost use Rattle.mtree_inv.specs.declared.entry.Entry.{Entry};
 ghost use Rattle.hosts_join.specs.declared.host.Host.{Host};
 ghost use Rattle.unify_texts.specs.declared.fault.Fault.TheVariants.{Memory};
-ghost use Rattle.unify.specs.Passes.{AreTogether, ended_in};
+ghost use Rattle.site_tables.specs.Begun.{AreTogether};
+ghost use Rattle.unify.specs.Passes.{ended_in};
 ghost use Rattle.unify.specs.SecondPass.{IsFresh, IsSolvedFrom, ended_in as ended_again};
 ghost use Rattle.unify_merge.specs.Failures.{failure_after};
 ghost use Rattle.unify_merge.specs.Ledger.{BrokeOff, after_files};
@@ -24,8 +25,9 @@ use crate::second_reading::plan_hosts;
 use crate::surveying::survey_files;
 use crate::whole_file::write_file;
 use hosts_join::HostText;
+use site_tables::{KeepRules, SiteRules};
 use std::alloc::Global;
-use unify::{Cost, JoinedSite, KeepRules, Outcome, SiteRules, Solved, begin_site};
+use unify::{Cost, JoinedSite, Outcome, Solved, begin_site};
 use unify_texts::Fault;
 
 // Writes the one passwd and the one group, unless a name is kept.

@@ -4,23 +4,24 @@
 ghost use Rattle.std.specs.Prelude.{◌≡◌, ◌++◌, ℕ, List, [], Err, IfErr, IfOk, IfSome, OnOk};
 ghost use Rattle.survey.specs.Surveying.{StandsFor};
 ghost use Rattle.unify_texts.specs.Told.{told};
-ghost use Rattle.unify.specs.Passes.{is_read, lines_of};
+ghost use Rattle.site_tables.specs.Hosts.{lines_of};
+ghost use Rattle.unify.specs.Passes.{is_read};
 ghost use Rattle.unify_merge.specs.Failures.{failure_after};
 ghost use Rattle.unify_merge.specs.FirstReading.{HasRead, IsWithinLimit, ReadsOnly};
 ghost use Rattle.unify_merge.specs.Surveyed.{StopsFinding, WereFound};
 ghost use Rattle.unify_merge.specs.Survey.{AddsNumbers, HasAdded, HasSurveyed, IsSurveyOf};
 ghost use Rattle.unify_merge.specs.Survey.{StopsReading, StopsSurvey};
 ghost use Rattle.unify_texts.specs.Limits.{most_files};
-ghost use Rattle.unify.specs.Survey.{inventory_of};
+ghost use Rattle.site_tables.specs.Survey.{inventory_of};
 
 use crate::fault::MergeFault;
 use crate::files::ReadFiles;
 use crate::pieces::{MOST_INVENTORY_BYTES, next_piece};
 use hosts_join::{Host, HostText};
 use kept_accounts::UnownedNumbers;
+use site_tables::{begin_survey, read_fault};
 use std::alloc::Global;
 use survey::HostSurvey;
-use unify::{begin_survey, read_fault};
 use unify_texts::{Fault, MOST_FILES};
 
 // Takes the next piece of the inventory of the host.

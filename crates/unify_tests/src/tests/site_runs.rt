@@ -8,10 +8,10 @@ use hosts_join::HostText;
 use kept_accounts::UnownedNumbers;
 use reown_plan::{Owner, Plan, PlanMark};
 use reown_runner::{Event, Keep, MemTree, Tree};
+use site_tables::{KeepRules, SiteRules};
 use std::alloc::Global;
 use std::process::Abort;
 use std::test::Fail;
-use unify::{KeepRules, SiteRules};
 use unify_bundle::{SiteRun, rehearse_site};
 
 const FILES_OF_A: &[&[u8]] = &[

@@ -5,7 +5,8 @@ use Rattle.mtree_inv.specs.declared.entry.Entry.{Entry}
 use Rattle.hosts_join.specs.declared.host.Host.{Host}
 use Rattle.ownership.specs.Counts as counters
 use Rattle.ownership.specs.Counts.{Counted}
-use Rattle.unify.specs.Passes.{AreTogether, read_in}
+use Rattle.site_tables.specs.Begun.{AreTogether}
+use Rattle.unify.specs.Passes.{read_in}
 use Rattle.unify.specs.Reading.{added_from}
 use Rattle.unify.specs.RowFiles.{RowFiles}
 use Rattle.unify.specs.Turns.{Pass, pass_of, seen}

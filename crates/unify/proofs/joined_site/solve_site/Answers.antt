@@ -1,6 +1,6 @@
 use Rattle.std.specs.Prelude.{IfOk}
 use Rattle.unify.specs.Merging.{HoldsCounted, IsMerged}
-use Rattle.unify.specs.Passes.{AreTogether}
+use Rattle.site_tables.specs.Begun.{AreTogether}
 use Rattle.unify.specs.Reading.{WholeSite}
 use Rattle.unify.specs.Turns.{pass_of, seen}
 use Rattle.unify.proofs.BetweenPasses.{AreCountersOf, merged_of, whole_of}

@@ -3,7 +3,7 @@ use Rattle.std.proofs.lemmas.Result.{err_from_is_err_and}
 use Rattle.reown_plan.specs.OwnerChange.{line_of}
 use Rattle.reown_plan.specs.Target.{target}
 use Rattle.reown_plan.proofs.Writing.{one_line}
-use Rattle.unify.specs.Hosts.{owner_fault}
+use Rattle.site_tables.specs.Hosts.{owner_fault}
 use Rattle.unify.proofs.KnownOwners.{change_given}
 use Rattle.unify.proofs.PlanTurns.{never-changed}
 use Rattle.unify.proofs.Turns.{unowned_some}

@@ -4,7 +4,7 @@ use Rattle.std.proofs.lemmas.Result.{err_from_is_err_and}
 use Rattle.idtext.specs.First.{first_fault}
 use Rattle.reown_plan.specs.Spelling.{lines}
 use Rattle.reown_plan.specs.Target.{plan_of}
-use Rattle.unify.specs.Hosts.{owner_fault}
+use Rattle.site_tables.specs.Hosts.{owner_fault}
 use Rattle.unify.specs.KnownOwners.{IsKnown}
 use Rattle.unify.specs.RowFiles.{row_files}
 use Rattle.unify.proofs.PlanTurns.{first_at, lines_both, next_stays}

@@ -4,7 +4,7 @@ use Rattle.mtree_inv.specs.Standing as standing
 use Rattle.mtree_inv.specs.declared.entry.Entry.{Entry}
 use Rattle.reown_plan.specs.Spelling.{lines}
 use Rattle.reown_plan.specs.Target.{plan_of}
-use Rattle.unify.specs.Hosts.{owner_fault}
+use Rattle.site_tables.specs.Hosts.{owner_fault}
 use Rattle.unify.specs.KnownOwners.{AreKnown}
 use Rattle.unify.specs.RowFiles.{row_files}
 use Rattle.unify.proofs.plan_turn.plan_waiting.Given as goal

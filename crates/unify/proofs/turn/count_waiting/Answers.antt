@@ -1,7 +1,7 @@
 use Rattle.std.proofs.Common.{[], ◌∷◌, ◌++◌, None, length, sym, ap, subst, ◌∙◌, arith, append_assoc, length-append}
 use Rattle.mtree_inv.specs.Standing.{ReaderValue}
 use Rattle.unify.specs.Turns.{AreCounted}
-use Rattle.unify.specs.Hosts.{owner_fault}
+use Rattle.site_tables.specs.Hosts.{owner_fault}
 use Rattle.unify.proofs.Turns.{counted_first, counted_one, is_owned_none}
 use Rattle.unify.proofs.turn.count_waiting.Goals as goal
 

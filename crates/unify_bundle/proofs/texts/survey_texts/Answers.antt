@@ -2,7 +2,7 @@ use Rattle.std.proofs.Common.{sym, subst}
 use Rattle.std.specs.Prelude.{IfErr, IfOk}
 use Rattle.idtext.specs.First.{Gives}
 use Rattle.unify_texts.specs.Told.{told}
-use Rattle.unify.specs.Survey.{surveyed}
+use Rattle.site_tables.specs.Survey.{surveyed}
 use Rattle.unify_merge.specs.Surveyed.{StopsFinding, WereFound}
 use Rattle.unify_bundle.specs.TextFiles.{TextFilesValue, ledger_of}
 use Rattle.unify_bundle.proofs.InTexts.{found}

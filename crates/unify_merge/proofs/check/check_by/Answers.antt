@@ -1,7 +1,8 @@
 use Rattle.std.proofs.Common.{◌≡◌, List, length, sym, ap, subst, ◌∙◌}
 use Rattle.std.proofs.lemmas.Result.{err_from_is_err_and}
 use Rattle.hosts_join.specs.declared.host.Host.{Host}
-use Rattle.unify.specs.Passes.{AreTogether, InventoriesValue, at_start, behind, read_in}
+use Rattle.site_tables.specs.Begun.{AreTogether}
+use Rattle.unify.specs.Passes.{InventoriesValue, at_start, behind, read_in}
 use Rattle.unify_merge.proofs.WholeCheck.{check_counted_stopped, check_refused, has_checked, read_site}
 use Rattle.unify_merge.proofs.check.check_by.Goals as goal
 

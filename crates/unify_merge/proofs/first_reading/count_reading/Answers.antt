@@ -2,8 +2,8 @@ use Rattle.std.proofs.Common.{◌≡◌, ◌≤◌, ◌++◌, ◌∷◌, [], Err
 use Rattle.std.specs.Prelude.{IfSome}
 use Rattle.std.proofs.lemmas.Result.{err_from_is_err_and}
 use Rattle.unify_texts.specs.Told.{told}
-use Rattle.unify.specs.Hosts.{files_of}
-use Rattle.unify.specs.Passes.{InventoriesValue, IsNext, ended_in, is_read, lines_of}
+use Rattle.site_tables.specs.Hosts.{files_of, lines_of}
+use Rattle.unify.specs.Passes.{InventoriesValue, IsNext, ended_in, is_read}
 use Rattle.unify_merge.specs.FirstReading.{most_inventory_bytes}
 use Rattle.unify_merge.specs.Ledger.{Ledger, Reading}
 use Rattle.unify_merge.proofs.Stops.{first_lines, first_whole, piece_ended}

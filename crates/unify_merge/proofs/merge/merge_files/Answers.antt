@@ -1,7 +1,7 @@
 use Rattle.std.proofs.Common.{◌≡◌, ap, subst, ◌∙◌, inl}
 use Rattle.std.proofs.lemmas.Result.{on_err_weaker}
-use Rattle.unify.specs.Rules.{rules_by}
-use Rattle.unify.specs.declared.rules.SiteRules.{SiteRules}
+use Rattle.site_tables.specs.Rules.{rules_by}
+use Rattle.site_tables.specs.declared.rules.SiteRules.{SiteRules}
 use Rattle.unify_merge.specs.Merge.{HasMerged, Leaves}
 use Rattle.unify_merge.specs.Surveyed.{LeavesFiles}
 use Rattle.unify_merge.proofs.BreakingOff.{on_err}

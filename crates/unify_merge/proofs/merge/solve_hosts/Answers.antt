@@ -1,7 +1,8 @@
 use Rattle.std.proofs.Common.{◌≡◌, List, length, sym, ap, subst, ◌∙◌}
 use Rattle.std.proofs.lemmas.Result.{err_from_is_err_and}
 use Rattle.hosts_join.specs.declared.host.Host.{Host}
-use Rattle.unify.specs.Passes.{AreTogether, InventoriesValue, at_start, behind}
+use Rattle.site_tables.specs.Begun.{AreTogether}
+use Rattle.unify.specs.Passes.{InventoriesValue, at_start, behind}
 use Rattle.unify_merge.proofs.WholeMerge.{counted_stopped, has_solved, if_ok}
 use Rattle.unify_merge.proofs.merge.solve_hosts.Goals as goal
 

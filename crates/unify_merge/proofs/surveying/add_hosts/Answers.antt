@@ -3,7 +3,7 @@ use Rattle.std.proofs.lemmas.List.Elements.{All-nil, All-push}
 use Rattle.std.proofs.lemmas.Result.{err_from_is_err_and}
 use Rattle.idtext.specs.First.{each}
 use Rattle.unify.proofs.Passing.{loaded_none}
-use Rattle.unify.specs.Survey.{listed_of}
+use Rattle.site_tables.specs.Survey.{listed_of}
 use Rattle.unify_merge.specs.FirstReading.{IsWithinLimit}
 use Rattle.unify_merge.proofs.Readings.{read_more, reads_on}
 use Rattle.unify_merge.proofs.Surveyed.{listed_more, numbers_more, survey_stopped}

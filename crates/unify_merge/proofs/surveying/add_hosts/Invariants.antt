@@ -2,9 +2,9 @@ use Rattle.std.proofs.Common.{◌≡◌, ◌++◌, ℕ, List, length, Ok}
 use Rattle.idtext.specs.First.{each}
 use Rattle.mtree_inv.specs.declared.entry.Entry.{Entry}
 use Rattle.hosts_join.specs.declared.host.Host.{Host}
-use Rattle.unify.specs.Loading.{loaded_from}
+use Rattle.site_tables.specs.Loading.{loaded_from}
 use Rattle.unify_merge.specs.FirstReading.{AreWithinLimit, ReadsOnly, readings_from}
-use Rattle.unify.specs.Survey.{listed_of, unowned_over}
+use Rattle.site_tables.specs.Survey.{listed_of, unowned_over}
 use Rattle.unify_merge.proofs.surveying.add_hosts.Given as goal
 
 -- texts: those of the hosts so far

@@ -1,6 +1,6 @@
 use Rattle.std.proofs.Common.{◌≡◌, Ok, ap, sym, ◌∙◌}
-use Rattle.unify.specs.Others.{keep_read}
-use Rattle.unify.specs.Survey.{surveyed_hosts}
+use Rattle.site_tables.specs.Others.{keep_read}
+use Rattle.site_tables.specs.Survey.{surveyed_hosts}
 use Rattle.unify_merge.proofs.Finding.{finding_stopped, were_found}
 use Rattle.unify_merge.proofs.Readings.{if_err}
 use Rattle.unify_merge.proofs.WholeMerge.{if_ok}

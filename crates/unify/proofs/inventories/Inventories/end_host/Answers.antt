@@ -3,7 +3,7 @@ use Rattle.std.specs.Prelude.{IfErr, IfSome}
 use Rattle.std.proofs.lemmas.Result.{err_from_is_err_and}
 use Rattle.unify_texts.specs.Told.{told}
 use Rattle.unify_texts.specs.declared.fault.Fault.TheVariants.{Memory}
-use Rattle.unify.specs.Hosts.{files_of}
+use Rattle.site_tables.specs.Hosts.{files_of}
 use Rattle.unify.specs.Passes.{InventoriesValue, IsFaultOf, is_read}
 use Rattle.unify.specs.RowFiles.{RowFiles}
 use Rattle.unify.specs.Taken.{Taken}

@@ -2,7 +2,8 @@ use Rattle.std.proofs.Common.{◌≡◌, ◌++◌, Ok, Err, sym, ap, subst, ◌�
 use Rattle.std.specs.Prelude.{IfSome}
 use Rattle.std.proofs.lemmas.Result.{err_from_is_err_and}
 use Rattle.unify_texts.specs.Told.{told}
-use Rattle.unify.specs.Passes.{is_read, lines_of}
+use Rattle.site_tables.specs.Hosts.{lines_of}
+use Rattle.unify.specs.Passes.{is_read}
 use Rattle.unify.specs.Taken.{Taken}
 use Rattle.unify.specs.Turns.{AreComing, pass_of, seen}
 use Rattle.unify.proofs.Passing.{IsTurnOf, again_as, fed_coming, fed_seen, for_next, going, met_new, refused_coming, turned, turn_of, was_unmet}

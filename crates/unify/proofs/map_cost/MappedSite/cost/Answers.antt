@@ -5,7 +5,7 @@ use Rattle.hosts_join.specs.declared.host.Host.{Host}
 use Rattle.unify.specs.declared.counting.Cost.{Cost}
 use Rattle.unify_texts.specs.declared.map_text.MapText.{MapText}
 use Rattle.unify.specs.Cost.{cost_of}
-use Rattle.unify.specs.Loading.{loaded_from}
+use Rattle.site_tables.specs.Loading.{loaded_from}
 use Rattle.unify.specs.Passes.{read_in}
 use Rattle.unify.specs.RowFiles.{RowFiles}
 use Rattle.unify.specs.Turns.{Pass, pass_of, seen}

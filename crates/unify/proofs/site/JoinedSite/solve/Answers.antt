@@ -1,5 +1,5 @@
 use Rattle.std.proofs.Common.{subst, sym, ◌∙◌}
-use Rattle.unify.specs.Passes.{AreTogether}
+use Rattle.site_tables.specs.Begun.{AreTogether}
 use Rattle.unify.specs.PlanTurns as again
 use Rattle.unify.specs.PlanTurns.{IsSolving}
 use Rattle.unify.specs.SecondPass.{IsSolvedFrom}

@@ -1,7 +1,0 @@
-use Rattle.std.proofs.Common.{◌≡◌, true, take}
-use Rattle.std.specs.List.{list_all, list_any}
-use Rattle.unify.specs.Count.{has_user}
-use Rattle.unify.proofs.counting.pairs_are_users.Given as goal
-
-abbrev pub invariant-loop-index : goal.invariant-loop-index
-invariant-loop-index l = list_all (λ p. list_any (has_user p.name) l.hosts) (take l.index l.names) ≡ true

@@ -1,5 +1,0 @@
-use Rattle.unify.proofs.MapLaws.{maps_are_whole}
-use Rattle.unify.proofs.laws.counted_maps_are_whole.Goals as goal
-
-pub returns : goal.returns
-returns c = maps_are_whole

@@ -1,5 +1,0 @@
-use Rattle.unify.proofs.TextLaws.{hosts_are_of_their_texts}
-use Rattle.unify.proofs.laws.hosts_are_of_their_texts.Goals as goal
-
-pub returns : goal.returns
-returns c = hosts_are_of_their_texts

@@ -1,5 +1,0 @@
-use Rattle.unify.proofs.SiteLaws.{first_faults_of_sites, taken_sites_are_begun}
-use Rattle.unify.proofs.laws.sites_are_begun_step_by_step.Goals as goal
-
-pub returns : goal.returns
-returns c = record { begun = taken_sites_are_begun; refused = first_faults_of_sites }
