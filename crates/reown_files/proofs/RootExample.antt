@@ -1,17 +1,17 @@
 -- What the calls of a root ask of a file, what they answer and what they write down.
-use Rattle.std.proofs.Common.{Option, Some, None, inl, inr, ◌≡◌, ◌↔◌, ◌∷◌, length, length-append, arith, [], ◌||◌, ℕ, Bool, true, false, cond, List, refl, sym, ◌∙◌, ap, subst, ◌++◌, codes}
-use Rattle.reown_plan.specs.declared.mark.PlanMark.{PlanMark}
+use Rattle.std.proofs.Common.{Option, Some, None, inl, inr, ◌≡◌, ◌↔◌, ◌∷◌, length, length-append, arith, [], ◌||◌, ℕ, Bool, true, false, cond, List, refl, sym, ◌∙◌, ap, subst, ◌++◌, codes, drop, ◌-◌}
+use Rattle.std.proofs.Math.Seq.{drop-append_seam}
 use Rattle.reown_plan.specs.declared.plan.Owner.{Owner}
 use Rattle.reown_plan.specs.Owners.{owner_eq}
 use Rattle.reown_files.specs.declared.walk.Found.{Found}
 use Rattle.reown_files.specs.declared.walk.Kind.TheVariants.{Regular}
 use Rattle.reown_files.specs.Asked.{Asked, Told, Counted, ModeGiven, Synced, IsModeSet, IsKept, HasOneOwner, met, line_of}
-use Rattle.reown_files.specs.Actions.{Action, MarkSeen, MarkSynced, ModesForgotten}
+use Rattle.reown_files.specs.Actions.{Action, FileRead, TextPut, NameSynced, FileRemoved}
 use Rattle.reown_files.specs.Looks.{seen_of, is_other}
 use Rattle.reown_files.specs.NamesExample.{path, told, program, file_at, twice, both_met}
 use Rattle.reown_files.specs.OneFile.{HasLost}
-use Rattle.reown_files.specs.RootData.{IsMet, IsLostOf}
-use Rattle.reown_files.specs.RootExample.{root, bare, whole, ExampleOfAnswers, ExampleOfMet, ExampleOfLost, ExampleOfChanges, ExampleOfMarks}
+use Rattle.reown_files.specs.RootData.{IsMet, IsLostOf, IsPathFrom}
+use Rattle.reown_files.specs.RootExample.{root, bare, whole, ExampleOfAnswers, ExampleOfMet, ExampleOfLost, ExampleOfChanges, ExampleOfMarks, ExampleOfPaths, mark, modes}
 use Rattle.reown_files.specs.Runs.{old, new, foreign}
 use Rattle.reown_files.proofs.Laws.{differ}
 use Rattle.reown_files.proofs.LooksExample.{all_names, lost_modes}
@@ -169,19 +169,52 @@ changes = record { mode = mode_set; no_mode = mode_left; synced = kept_synced; u
 longer : (one : Action) (since before : List Action) → ¬ (one ∷ since ++ before ≡ before)
 longer one since before e = absurd (omega (arith, length-append since before, ap length e))
 
-pub marks : (plan : PlanMark) (before : List Action) → ExampleOfMarks plan before
-marks plan before =
+pub marks : (text : List ℕ) (before : List Action) → ExampleOfMarks text before
+marks text before =
     record {
       there = refl;
       not_there = refl;
       put = refl;
       not_put = refl;
+      read = refl;
+      no_modes = refl;
+      written = refl;
+      done = refl;
       not_met = λ since h. elim h [
-        | inl e ↦ longer MarkSynced since before e
-        | inr e ↦ let e' : MarkSynced ∷ since ++ before ≡ MarkSeen plan true ∷ before = e in absurd cc
+        | inl e ↦ longer (NameSynced mark) since before e
+        | inr e ↦ let e' : NameSynced mark ∷ since ++ before ≡ FileRead mark e.0 ∷ before = e.1 in absurd cc
       ];
-      not_kept = λ is_put since h. elim h [
-        | inl e ↦ longer ModesForgotten since before e
-        | inr e ↦ let e' : ModesForgotten ∷ since ++ before ≡ MarkSynced ∷ before = e.1 in absurd cc
+      not_kept = λ are_over since h. elim h [
+        | inl e ↦ longer (FileRemoved modes) since before e
+        | inr e ↦ let e' : FileRemoved modes ∷ since ++ before ≡ NameSynced mark ∷ before = e.1 in absurd cc
       ];
+      not_written = λ was_done since h. elim h [
+        | inl e ↦ longer (NameSynced modes) since before e
+        | inr e ↦ let e' : NameSynced modes ∷ since ++ before ≡ TextPut modes text ∷ before = e.1 in absurd cc
+      ];
+      not_read = λ since h. elim h [
+        | inl e ↦ longer (TextPut modes text) since before e
+        | inr e ↦ elim e.1 [
+          | inl f ↦ let e' : TextPut modes text ∷ since ++ before ≡ FileRead modes e.0 ∷ before = f in absurd cc
+          | inr f ↦ let e' : TextPut modes text ∷ since ++ before ≡ FileRead mark f.0 ∷ FileRead modes e.0 ∷ before = f.1 in absurd cc
+        ]
+      ];
+    }
+
+-- ---- where the mark stands
+
+ends_so : (whole : List ℕ) → IsPathFrom false mark whole → drop (length whole - 10) whole ≡ codes "/plan.done"
+ends_so whole h =
+    let n : length whole - 10 ≡ length h.0 = omega (arith, ap length h.1, length-append h.0 (codes "/plan.done")) in
+    ap (λ (k : ℕ). drop k whole) n ∙ ap (drop (length h.0)) h.1 ∙ drop-append_seam h.0 (codes "/plan.done")
+
+pub paths : ExampleOfPaths
+paths =
+    record {
+      beside = refl;
+      from_root = refl;
+      from_here = refl;
+      same = λ whole. (λ h. h, λ h. h);
+      behind = (codes "/proc/self/fd/3", refl);
+      ends = ends_so;
     }

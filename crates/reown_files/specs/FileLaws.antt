@@ -52,8 +52,8 @@ pub record IsAwaited (before : Owner) (modes : Modes) (found : Found) (old : Lis
   pub more : waits found old ≡ true
 
 -- a file is given another owner between two such looks, with the last of its names, and before that
--- it waits; and the change is never the last that was asked. Where the call fails, it is given so if
--- at all
+-- it waits; and the change is never the last that was asked. Where the call fails, it is given so
+-- if at all
 pub record FilesAreGivenBetweenLooks : Type 0 where
   pub given : (path : List ℕ) (before after : Owner) (modes : Modes)
       → (found now : Found) (old : List Asked)

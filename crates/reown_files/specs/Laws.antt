@@ -1,17 +1,23 @@
 -- Laws over the definitions of this crate.
 -- Source: this project's own formats.
 use Rattle.std.specs.Prelude.{◌≡◌, ◌≢◌, ◌⊎◌, ◌↔◌, ◌<◌, ◌^◌, ℕ, Bool, true, false, List, All}
-use Rattle.std.specs.Prelude.{[], Option, None, Some, Ok, Err, length, take, slice_index_or}
-use Rattle.std.specs.Prelude.{if◌then◌else◌}
+use Rattle.std.specs.Prelude.{[], ◌∷◌, ◌++◌, Option, None, Some, Ok, Err, length, take}
+use Rattle.std.specs.Prelude.{slice_index_or, if◌then◌else◌, not, ◌&&◌, Vec}
+use Rattle.std.specs.declared.alloc.Global.{Global}
 use Rattle.idtext.specs.Pieces.{lines}
 use Rattle.reown_plan.specs.Mark.{mark_of, mark_eq}
+use Rattle.reown_plan.specs.Owners.{owner_eq}
 use Rattle.reown_plan.specs.PlanData.{PlanData, PlanRecord}
 use Rattle.reown_plan.specs.declared.mark.PlanMark.{PlanMark}
 use Rattle.reown_plan.specs.declared.plan.Owner.{Owner}
 use Rattle.reown_plan.specs.Spelling.{spelling, IsHostName}
 use Rattle.reown_files.specs.MarkText.{mark_text, mark_read, head_text, modes_text}
 use Rattle.reown_files.specs.MarkText.{lines_in, has_ended, Entry, lines_text, lines_read}
-use Rattle.reown_files.specs.MarkText.{modes_judged}
+use Rattle.reown_files.specs.MarkText.{modes_judged, entry, mode_in}
+use Rattle.reown_files.specs.Actions.{Action, FileRead, IsMarkRead}
+use Rattle.reown_files.specs.Looks.{has_set_id}
+use Rattle.reown_files.specs.RootData.{RootData, IsMet}
+use Rattle.reown_files.specs.Trees.{AreRead, mode_at}
 use Rattle.reown_files.specs.Calls.{Called, MetMark, PutMark, ReadModes}
 use Rattle.reown_files.specs.Lawful.{is_lawful, is_unchanged, is_begun}
 use Rattle.reown_files.specs.Opening.{IsUnfit, MetFit}
@@ -19,6 +25,7 @@ use Rattle.reown_files.specs.Replay.{Held, replay}
 use Rattle.reown_files.specs.Stages.{MayHave, stage_in}
 use Rattle.reown_files.specs.declared.answers.Trouble.TheVariants.{NotModes, OtherPlan}
 use Rattle.reown_files.specs.declared.answers.OpenFault.{OpenFault}
+use Rattle.reown_files.specs.declared.walk.Found.{Found}
 use Rattle.reown_files.specs.declared.stage.Stage.{Stage}
 use Rattle.reown_files.specs.declared.stage.Stage.TheVariants.{NotBegun, Begun, Done}
 
@@ -90,6 +97,49 @@ CutModesAreRefused =
     → modes_judged
     (head_text (mark_of plan)) mark (take n (modes_text (mark_of other) (lines_text entries)))
     ≡ Err NotModes
+
+-- ---- files that were put
+
+-- where the file of the mark has the text that was put for a plan, the mark is seen as that plan's,
+-- and as that of none with another mark; and where the file is not there, none is seen
+pub record MarksPutAreSeen : Type 0 where
+  pub put : (plan other : PlanData) (mark : List ℕ) (set : Bool) (old : List Action)
+      → IsMarkable plan → IsMarkable other
+      → IsMarkRead mark (mark_of other) set old
+      (FileRead mark (Some (mark_text (mark_of plan))) ∷ old)
+      → set ≡ mark_eq (mark_of plan) (mark_of other)
+  pub none : (plan : PlanMark) (mark : List ℕ) (set : Bool) (old : List Action)
+      → IsMarkRead mark plan set old (FileRead mark None ∷ old) → set ≡ false
+
+-- where the file of the modes has the text that was put for a plan, that plan counts as begun,
+-- whatever the mark is, and each file has the mode that was written down last for it
+abbrev pub ModesPutAreRead : Type 0
+ModesPutAreRead =
+    (plan : PlanData) (entries : List Entry) (mark modes : List ℕ) (beside : Option (List ℕ))
+    (begun : Bool) (actions : List Action) (read now : Option PlanMark)
+    (tree noted : List (Vec ℕ Global × ℕ)) → IsMarkable plan
+    → All (λ e. All (λ b. b < 256) e.0 × (e.1 < 4096)) entries
+    → AreRead mark modes (mark_of plan) false begun actions
+    (FileRead mark beside
+    ∷ FileRead modes (Some (modes_text (mark_of plan) (lines_text entries))) ∷ actions)
+    read tree now noted
+    → (begun ≡ true) × (now ≡ Some (mark_of plan))
+    × ((path : List ℕ) → mode_at noted path ≡ mode_in entries path)
+
+-- what is written down of a file that was met: its mode, where it is at another owner than its new
+-- one and has a set-ID bit
+abbrev pub entries_met : List ℕ → Owner → Found → List Entry
+entries_met path after found =
+    if not (owner_eq found.owner after) && has_set_id found then entry path found.mode ∷ [] else []
+
+-- the lines that are written down are those of the files that were met, in their order: with each
+-- one more
+abbrev pub LinesAreOfMetFiles : Type 0
+LinesAreOfMetFiles =
+    (path : List ℕ) (after owner : Owner) (old new : RootData) (entries : List Entry)
+    → old.lines ≡ lines_text entries → IsMet path after owner old new
+    → (found : Found) × (found.owner ≡ owner)
+    × (new.lines ≡ lines_text (entries ++ entries_met path after found))
 
 -- ---- how far a plan is
 

@@ -3,7 +3,7 @@
 use Rattle.std.specs.Prelude.{ℕ, List, [], ◌∷◌, ◌++◌, ◌+◌, ◌-◌, ◌*◌, ◌/◌, ◌%◌, ◌==◌, ◌&&◌, not}
 use Rattle.std.specs.Prelude.{nat_lt, if◌then◌else◌, flat_map, codes, decimal, take, drop}
 use Rattle.std.specs.Prelude.{slice_index, Option, None, Some, Result, Ok, Err, option_map}
-use Rattle.std.specs.Prelude.{Bool, nat_eq, bytes_eq, length, reverse}
+use Rattle.std.specs.Prelude.{Bool, false, nat_eq, bytes_eq, length, reverse}
 use Rattle.std.specs.Map.{lookup}
 use Rattle.std.specs.List.{starts_with, ends_with}
 use Rattle.std.specs.Option.{option_and_then}
@@ -50,6 +50,11 @@ mark_text plan = mark_head ++ plan_text plan
 abbrev pub mark_read : PlanMark → List ℕ → Option Bool
 mark_read plan text =
     if starts_with nat_eq text mark_head then Some (bytes_eq text (mark_text plan)) else None
+
+-- the same of the text of a file that may not be there: where it is not, no mark is
+abbrev pub mark_told : PlanMark → Option (List ℕ) → Option Bool
+mark_told plan None = Some false
+mark_told plan (Some text) = mark_read plan text
 
 -- ---- modes
 
@@ -133,6 +138,17 @@ lines_judged ended (Some (Some lines)) = Ok (Some lines)
 
 abbrev pub modes_judged : List ℕ → List ℕ → List ℕ → Result (Option (List ℕ)) Trouble
 modes_judged head mark text = lines_judged (has_ended mark text) (lines_in head text)
+
+-- the same of the texts of the two files, which may not be there: no file of the mark is as one
+-- that is empty, and where there is none of modes a plan goes by none
+abbrev pub text_or_empty : Option (List ℕ) → List ℕ
+text_or_empty None = []
+text_or_empty (Some text) = text
+
+abbrev pub lines_told
+    : PlanMark → Option (List ℕ) → Option (List ℕ) → Result (Option (List ℕ)) Trouble
+lines_told plan beside None = Ok None
+lines_told plan beside (Some text) = modes_judged (head_text plan) (text_or_empty beside) text
 
 -- ---- modes that are read: the lines of files
 

@@ -1,7 +1,8 @@
 -- The files below a directory, as their user sees them.
 -- Source: this project's own rule.
 use Rattle.std.specs.Prelude.{◌≡◌, ℕ, Bool, List, ◌∷◌, ◌++◌}
-use Rattle.std.specs.Prelude.{Option, None, Some, Vec}
+use Rattle.std.specs.Prelude.{Option, None, Some, Vec, true, false, codes, nat_eq}
+use Rattle.std.specs.List.{starts_with}
 use Rattle.std.specs.declared.alloc.Global.{Global}
 use Rattle.reown_plan.specs.declared.mark.PlanMark.{PlanMark}
 use Rattle.reown_plan.specs.declared.plan.Owner.{Owner}
@@ -16,17 +17,37 @@ use Rattle.reown_files.specs.Trees.{mode_noted_for}
 
 -- whether one sync keeps all that was changed before; what the system was asked of the files; the
 -- lines of those whose modes this run may lose; the plan that modes were read of, and these by the
--- paths of their files; whether this run has put the mark; what was done to the mark, to the file
--- of the modes and to the root; and the calls that were made
+-- paths of their files; where the files of the mark and of the modes stand; whether the mark of the
+-- plan was there when its modes were read; whether this run has put the mark, and may have put the
+-- modes; what was done to the mark, to the file of the modes and to the root; and the calls that
+-- were made
 pub record RootData : Type 0 where
   pub has_one_journal : Bool
   pub files : List Asked
   pub lines : List ℕ
   pub read : Option PlanMark
   pub modes : List (Vec ℕ Global × ℕ)
+  pub mark_path : List ℕ
+  pub modes_path : List ℕ
+  pub was_done : Bool
   pub is_put : Bool
+  pub has_put_modes : Bool
   pub actions : List Action
   pub calls : List Called
+
+-- where the file of the modes stands that is beside the mark at this path
+abbrev pub modes_beside : List ℕ → List ℕ
+modes_beside mark = mark ++ codes ".modes"
+
+-- a path begins at the root of all, and not at the working directory
+abbrev pub is_absolute : List ℕ → Bool
+is_absolute path = starts_with nat_eq path (codes "/")
+
+-- a path that leads from anywhere to where this one leads: the same, or it with a way to a
+-- directory before it
+abbrev pub IsPathFrom : Bool → List ℕ → List ℕ → Type 0
+IsPathFrom true path whole = whole ≡ path
+IsPathFrom false path whole = (way : List ℕ) × (whole ≡ way ++ 47 ∷ path)
 
 -- a look, of which this is told
 abbrev pub IsSeen : List ℕ → Seen → RootData → RootData → Type 0
@@ -84,14 +105,25 @@ MeetsMore old new = new ≡ record old { files = new.files; lines = new.lines; c
 abbrev pub ActsMore : RootData → RootData → Type 0
 ActsMore old new = new ≡ record old { actions = new.actions; calls = new.calls }
 
--- nothing is new but what was done to these, the plan that modes were read of, these modes, and the
--- calls that were made
-abbrev pub ReadsMore : RootData → RootData → Type 0
-ReadsMore old new =
+-- nothing is new but whether this run may have put the modes, and these
+abbrev pub PutsModes : RootData → RootData → Type 0
+PutsModes old new =
+    new
+    ≡ record old {
+      has_put_modes = new.has_put_modes;
+      actions = new.actions;
+      calls = new.calls;
+    }
+
+-- nothing is new but the plan that modes were read of, these modes, whether the mark of the plan
+-- was there then, what was done, and the calls that were made
+abbrev pub ReadsMore : Bool → RootData → RootData → Type 0
+ReadsMore set old new =
     new
     ≡ record old {
       read = new.read;
       modes = new.modes;
+      was_done = set;
       actions = new.actions;
       calls = new.calls;
     }

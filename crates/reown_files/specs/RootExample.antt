@@ -3,19 +3,26 @@
 -- Sources: inode(7) for the bits of a mode: 2541, 493 and 448 are 4755, 755 and 700 to the base 8;
 -- chown(2) for the bits that a change of the owner clears. All else is this project's own rule.
 use Rattle.std.specs.Prelude.{◌≡◌, ◌↔◌, ℕ, Bool, true, false, List, [], ◌∷◌, ◌++◌, codes}
-use Rattle.std.specs.Prelude.{Option, None, Some}
-use Rattle.reown_plan.specs.declared.mark.PlanMark.{PlanMark}
+use Rattle.std.specs.Prelude.{Option, None, Some, drop, length, ◌-◌}
 use Rattle.reown_plan.specs.declared.plan.Owner.{Owner}
 use Rattle.reown_files.specs.declared.answers.Seen.{Seen}
 use Rattle.reown_files.specs.declared.walk.Found.{Found}
 use Rattle.reown_files.specs.declared.walk.Kind.TheVariants.{Regular}
 use Rattle.reown_files.specs.Asked.{Asked, Told, Counted, ModeGiven, Synced, IsModeSet, IsKept}
-use Rattle.reown_files.specs.Actions.{Action, MarkSeen, MarkSynced, ModesForgotten, mark_met}
-use Rattle.reown_files.specs.Actions.{mark_kept, IsMarkSeenAtMost, IsMarkSyncedAtMost}
+use Rattle.reown_files.specs.Actions.{Action, FileRead, TextPut, NameSynced, FileRemoved, mark_met}
+use Rattle.reown_files.specs.Actions.{mark_kept, modes_read, modes_put, IsReadAtMost}
+use Rattle.reown_files.specs.Actions.{IsMarkSyncedAtMost, IsModesReadAtMost, IsModesPutAtMost}
 use Rattle.reown_files.specs.NamesExample.{path, told, program, file_at, at_old, twice, both_met}
 use Rattle.reown_files.specs.RootData.{RootData, IsSeen, IsSeenAt, IsMet, HasLostAt}
-use Rattle.reown_files.specs.RootData.{TellsLost}
+use Rattle.reown_files.specs.RootData.{TellsLost, modes_beside, is_absolute, IsPathFrom}
 use Rattle.reown_files.specs.Runs.{old, new, foreign}
+
+-- where the mark stands, and the file of the modes
+abbrev pub mark : List ℕ
+mark = codes "plan.done"
+
+abbrev pub modes : List ℕ
+modes = codes "plan.done.modes"
 
 -- a root with one journal or without, what the system was asked of its files, and the lines of
 -- modes that were written down
@@ -27,7 +34,11 @@ root one_journal files lines =
       lines = lines;
       read = None;
       modes = [];
+      mark_path = mark;
+      modes_path = modes;
+      was_done = false;
       is_put = false;
+      has_put_modes = false;
       actions = [];
       calls = [];
     }
@@ -106,15 +117,41 @@ pub record ExampleOfChanges : Type 0 where
   pub unsynced : (one_journal : Bool)
       → IsKept one_journal path new [] (Told path whole ∷ []) ↔ (one_journal ≡ true)
 
--- a mark that is there is looked at and then synced when it is met; one that is kept is synced, and
--- the modes are forgotten after that, exactly where this run has put it; each is noted after what
--- was done before. Where a mark cannot be met it is never synced, and where one cannot be kept no
--- modes are forgotten
-pub record ExampleOfMarks (plan : PlanMark) (before : List Action) : Type 0 where
-  pub there : mark_met plan true before ≡ MarkSynced ∷ MarkSeen plan true ∷ before
-  pub not_there : mark_met plan false before ≡ MarkSeen plan false ∷ before
-  pub put : mark_kept true before ≡ ModesForgotten ∷ MarkSynced ∷ before
-  pub not_put : mark_kept false before ≡ MarkSynced ∷ before
-  pub not_met : (since : List Action) → ¬ IsMarkSeenAtMost plan before (MarkSynced ∷ since ++ before)
-  pub not_kept : (is_put : Bool) (since : List Action)
-      → ¬ IsMarkSyncedAtMost is_put before (ModesForgotten ∷ since ++ before)
+-- a mark that is there is read and then synced when it is met; one that is kept is synced, and the
+-- modes are removed after that, exactly where this run has put both. Modes that are there are read,
+-- and then the mark beside them; their text is put and then synced, or the file removed, exactly
+-- where the mark was there. Each is noted after what was done before. Where a mark cannot be met it
+-- is never synced, where one cannot be kept no modes are removed, and modes that cannot be written
+-- down are not synced; where they cannot be read nothing is put
+pub record ExampleOfMarks (text : List ℕ) (before : List Action) : Type 0 where
+  pub there : mark_met mark (Some text) true before
+      ≡ NameSynced mark ∷ FileRead mark (Some text) ∷ before
+  pub not_there : mark_met mark None false before ≡ FileRead mark None ∷ before
+  pub put : mark_kept mark modes true before ≡ FileRemoved modes ∷ NameSynced mark ∷ before
+  pub not_put : mark_kept mark modes false before ≡ NameSynced mark ∷ before
+  pub read : modes_read mark modes None (Some text) before
+      ≡ FileRead mark None ∷ FileRead modes (Some text) ∷ before
+  pub no_modes : modes_read mark modes None None before ≡ FileRead modes None ∷ before
+  pub written : modes_put modes false text before
+      ≡ NameSynced modes ∷ TextPut modes text ∷ before
+  pub done : modes_put modes true text before ≡ FileRemoved modes ∷ before
+  pub not_met : (since : List Action)
+      → ¬ IsReadAtMost mark before (NameSynced mark ∷ since ++ before)
+  pub not_kept : (are_over : Bool) (since : List Action)
+      → ¬ IsMarkSyncedAtMost mark are_over before (FileRemoved modes ∷ since ++ before)
+  pub not_written : (was_done : Bool) (since : List Action)
+      → ¬ IsModesPutAtMost modes was_done text before (NameSynced modes ∷ since ++ before)
+  pub not_read : (since : List Action)
+      → ¬ IsModesReadAtMost mark modes before (TextPut modes text ∷ since ++ before)
+
+-- the modes stand beside the mark, which stands where it is named; a path that begins at the
+-- working directory has a way to that before it, and a slash
+pub record ExampleOfPaths : Type 0 where
+  pub beside : modes_beside mark ≡ modes
+  pub from_root : is_absolute (codes "/srv/plan.done") ≡ true
+  pub from_here : is_absolute mark ≡ false
+  pub same : (whole : List ℕ)
+      → IsPathFrom true (codes "/srv/plan.done") whole ↔ (whole ≡ codes "/srv/plan.done")
+  pub behind : IsPathFrom false mark (codes "/proc/self/fd/3/plan.done")
+  pub ends : (whole : List ℕ) → IsPathFrom false mark whole
+      → drop (length whole - 10) whole ≡ codes "/plan.done"

@@ -1,7 +1,7 @@
 -- What search trees have of files: of their names, where they have several, and of their modes.
 -- Keys that own their bytes, and their order: words of the code and not of the subject.
-use Rattle.std.specs.Prelude.{◌≡◌, ℕ, Bool, true, false, List, Option, None, Some, Vec}
-use Rattle.std.specs.Prelude.{Ok, if◌then◌else◌}
+use Rattle.std.specs.Prelude.{◌≡◌, ℕ, Bool, List, Option, None, Some, Vec}
+use Rattle.std.specs.Prelude.{Result, Ok, is_some, if◌then◌else◌}
 use Rattle.std.specs.declared.alloc.Global.{Global}
 use Rattle.std.specs.declared.cmp.Ordering.{Ordering}
 use Rattle.std.specs.Ordering.{nat_cmp, ordering_then}
@@ -14,7 +14,9 @@ use Rattle.idtext.specs.Pieces.{lines}
 use Rattle.reown_plan.specs.Mark.{mark_eq}
 use Rattle.reown_files.specs.declared.names.Names.{Names}
 use Rattle.reown_files.specs.Looks.{FileId}
-use Rattle.reown_files.specs.MarkText.{Entry, mode_in, head_text, lines_read, modes_judged}
+use Rattle.reown_files.specs.declared.answers.Trouble.{Trouble}
+use Rattle.reown_files.specs.Actions.{Action, modes_read}
+use Rattle.reown_files.specs.MarkText.{Entry, mode_in, lines_read, lines_told}
 
 -- the order of files, by device and inode
 abbrev pub id_cmp : FileId → FileId → Ordering
@@ -42,16 +44,27 @@ HasModesOf text tree =
     (entries : List Entry) × (lines_read (lines text) ≡ Some entries)
     × ((path : List ℕ) → mode_at tree path ≡ mode_in entries path)
 
--- a file of modes of this plan was read, beside whatever mark, and the modes are those of its lines
-abbrev pub AreOfThePlan : PlanMark → List (Vec ℕ Global × ℕ) → Type 0
-AreOfThePlan plan tree =
-    (text mark rest : List ℕ) × (modes_judged (head_text plan) mark text ≡ Ok (Some rest))
-    × HasModesOf rest tree
-
--- where modes were read of this plan, they are this plan's; and else those that were read before
+-- modes were read of these lines of this plan; where there are none, those that were read before
 -- stay
 abbrev pub HasRead
-    : PlanMark → Bool → Option PlanMark → List (Vec ℕ Global × ℕ) → Option PlanMark
+    : PlanMark → Option (List ℕ) → Option PlanMark → List (Vec ℕ Global × ℕ) → Option PlanMark
     → List (Vec ℕ Global × ℕ) → Type 0
-HasRead plan true old entries new now = (new ≡ Some plan) × AreOfThePlan plan now
-HasRead plan false old entries new now = (new ≡ old) × (now ≡ entries)
+HasRead plan None old entries new now = (new ≡ old) × (now ≡ entries)
+HasRead plan (Some lines) old entries new now = (new ≡ Some plan) × HasModesOf lines now
+
+-- what the files of the modes and of the mark tell a plan was told, and no refusal: whether there
+-- are modes of it, and these were read where its mark was not there
+abbrev pub IsTold
+    : PlanMark → Result (Option (List ℕ)) Trouble → Bool → Bool → Option PlanMark
+    → List (Vec ℕ Global × ℕ) → Option PlanMark → List (Vec ℕ Global × ℕ) → Type 0
+IsTold plan told set begun old entries new now =
+    (lines : Option (List ℕ)) × (told ≡ Ok lines) × (begun ≡ is_some lines)
+    × HasRead plan (if set then None else lines) old entries new now
+
+-- the file of the modes was read, and where it is there that of the mark; and their texts tell it
+abbrev pub AreRead
+    : List ℕ → List ℕ → PlanMark → Bool → Bool → List Action → List Action → Option PlanMark
+    → List (Vec ℕ Global × ℕ) → Option PlanMark → List (Vec ℕ Global × ℕ) → Type 0
+AreRead mark modes plan set begun before after old entries new now =
+    (text beside : Option (List ℕ)) × (after ≡ modes_read mark modes beside text before)
+    × IsTold plan (lines_told plan beside text) set begun old entries new now

@@ -4,7 +4,6 @@ ghost use Rattle.std.specs.Prelude.{◌≡◌, List, [], ◌∷◌};
 ghost use Rattle.std.specs.Borrow.{ftrue};
 ghost use Rattle.reown_files.specs.Actions.{Action as ActionData};
 
-use reown_plan::PlanMark;
 use std::marker::Model;
 
 /// What was done, the newest first, for contracts alone: it takes no memory and no time.
@@ -20,19 +19,16 @@ impl Model for ActionLog {
 /// What was done. Each is noted by the call that does it, where the system told it of no error.
 #[derive(Clone, Copy)]
 pub enum Action<'a> {
-    /// The file of the mark was looked at, and was there and this plan's, or not.
-    MarkSeen(&'a PlanMark, bool),
-    /// The mark of this plan was put.
-    MarkPut(&'a PlanMark),
-    /// The mark was synced.
-    MarkSynced,
-    /// The modes that an earlier run of this plan wrote down were read, where its mark was there or
-    /// not; and this is whether there are such.
-    ModesRead(&'a PlanMark, bool, bool),
-    /// The modes that this run of the plan may lose were written down.
-    ModesPut(&'a PlanMark),
-    /// What this run wrote down of modes was removed.
-    ModesForgotten,
+    /// The file at this path was read, and this is its text, or as much of it as is read.
+    FileRead(&'a [u8], &'a [u8]),
+    /// The file at this path was to be read, and is not there.
+    FileMissed(&'a [u8]),
+    /// This text was put at this path, whole.
+    TextPut(&'a [u8], &'a [u8]),
+    /// The name of the file at this path was synced.
+    NameSynced(&'a [u8]),
+    /// What was at this path was removed, if it was there.
+    FileRemoved(&'a [u8]),
     /// The root was synced.
     RootSettled,
 }

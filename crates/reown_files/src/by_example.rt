@@ -1,14 +1,14 @@
 //! Laws over what is asked of a disk and of files, and over a count, by example. Each is the
 //! contract of a function that does nothing.
-ghost use Rattle.std.specs.Prelude.{◌≡◌, List, [], ◌∷◌, true, false};
+ghost use Rattle.std.specs.Prelude.{◌≡◌, ℕ, List, [], ◌∷◌, true, false};
 ghost use Rattle.reown_files.specs.CountExample.{ExampleOfCounts};
 ghost use Rattle.reown_files.specs.NamesExample.{ExampleOfLooks, ExampleOfMeeting, ExampleOfNames};
 ghost use Rattle.reown_files.specs.NamesExample.{ExampleOfAllNames, ExampleOfOneFile};
 ghost use Rattle.reown_files.specs.NamesExample.{ExampleOfLostModes};
 ghost use Rattle.reown_files.specs.RootExample.{ExampleOfAnswers, ExampleOfMet, ExampleOfLost};
 ghost use Rattle.reown_files.specs.RootExample.{ExampleOfChanges, ExampleOfMarks};
+ghost use Rattle.reown_files.specs.RootExample.{ExampleOfPaths};
 ghost use Rattle.reown_files.specs.Actions.{Action};
-ghost use Rattle.reown_plan.specs.declared.mark.PlanMark.{PlanMark};
 ghost use Rattle.reown_files.specs.Runs.{is_run, note, program, both, run_of_note, run_of_program};
 ghost use Rattle.reown_files.specs.Runs.{unread, unmet, unchecked, unasked, unsettled, unwritten};
 ghost use Rattle.reown_files.specs.Runs.{met_twice, met_for_the_old_owner};
@@ -68,11 +68,13 @@ pub fn looks_by_example()
 {}
 
 /// What the calls of `Root` answer of a file and write down, which modes they tell as lost, which
-/// they set, which files they sync, and what they do to the mark, by example.
+/// they set, which files they sync, what they do to the files of the mark and of the modes, and
+/// where these stand, by example.
 pub fn roots_by_example()
     ensures answers { ExampleOfAnswers }
     ensures met { ExampleOfMet }
     ensures lost { ExampleOfLost }
     ensures changes { ExampleOfChanges }
-    ensures marks { (plan : PlanMark) (before : List Action) → ExampleOfMarks plan before }
+    ensures marks { (text : List ℕ) (before : List Action) → ExampleOfMarks text before }
+    ensures paths { ExampleOfPaths }
 {}

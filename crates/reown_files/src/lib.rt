@@ -43,7 +43,10 @@ pub use lawful::{
 pub use log::{Call, Log};
 pub use mark_file::read_mark;
 pub use modes_file::MODES_BEHIND;
-pub use read_back::{marks_and_modes_by_example, marks_are_read_back, modes_are_read_back};
+pub use read_back::{
+    files_that_were_put_are_read, marks_and_modes_by_example, marks_are_read_back,
+    modes_are_read_back,
+};
 pub use real_tree::{RealTree, Refused};
 pub use root::{Root, RootFault};
 pub use stage::owners_go_by_stage;

@@ -1,11 +1,15 @@
 //! The mark of a plan, as a file.
-ghost use Rattle.std.specs.Prelude.{◌≡◌, ◌⊎◌, ◌++◌, ◌<◌, ◌∷◌, Some, None, IfOk, IfErr, OnOk, OnErr};
+ghost use Rattle.std.specs.Prelude.{◌≡◌, ◌⊎◌, ◌++◌, ◌<◌, ◌∷◌, Some, None};
+ghost use Rattle.std.specs.Prelude.{IfOk, IfErr, OnOk, OnErr};
+ghost use Rattle.std.specs.String.{string_bytes};
 ghost use Rattle.reown_files.specs.declared.answers.Trouble.TheVariants.{Memory, NotMark};
-ghost use Rattle.reown_files.specs.Actions.{MarkSeen, MarkPut, MarkSynced};
+ghost use Rattle.reown_files.specs.Actions.{FileRead, TextPut, NameSynced};
+ghost use Rattle.reown_files.specs.Actions.{IsMarkRead, IsReadAtMost};
+ghost use Rattle.reown_files.specs.ActionsCode.{text_in};
 ghost use Rattle.reown_files.specs.MarkText as spec;
 
 use crate::Trouble;
-use crate::actions::{Action, ActionLog};
+use crate::actions::ActionLog;
 use crate::whole_file::{put_whole, read_whole, sync_name};
 use idtext::push_number;
 use reown_plan::PlanMark;
@@ -94,53 +98,62 @@ pub fn read_mark(alloc: Global, plan: &PlanMark, text: &[u8]) -> Result<bool, Tr
 #[derive(Drop)]
 pub struct MarkFile<'w> {
     rt: &'w HostRuntime,
-    path: String,
+    pub path: String,
 }
 
 impl<'w> MarkFile<'w> {
     /// The file at a path.
-    pub fn at(rt: &'w HostRuntime, path: String) -> MarkFile<'w> {
+    pub fn at(rt: &'w HostRuntime, path: String) -> MarkFile<'w>
+        ensures { result.path ≡ path }
+    {
         MarkFile { rt, path }
     }
 
     /// What stands in it, if it is there, whatever plan that is of.
-    pub fn text(&self) -> Result<Option<Vec<u8>>, Trouble> {
-        read_whole(self.rt, self.path.as_str(), MOST_BYTES, Trouble::NotMark)
+    pub fn text(&self, log: &mut ActionLog) -> Result<Option<Vec<u8>>, Trouble>
+        ensures read { IfOk result (λ text. log.new.actions
+            ≡ FileRead (string_bytes self.now.path) (text_in text) ∷ log.old.actions) }
+        ensures undone { OnErr result (log.new.actions ≡ log.old.actions) }
+    {
+        read_whole(
+            self.rt,
+            self.path.as_str(),
+            MOST_BYTES,
+            Trouble::NotMark,
+            log,
+        )
     }
 
     /// Whether it is there, and this plan's. A file that is no mark is refused; that of another
     /// plan is none of this one.
     pub fn is_there(&self, plan: &PlanMark, log: &mut ActionLog) -> Result<bool, Trouble>
-        ensures seen { IfOk result
-            (λ set. log.new.actions ≡ MarkSeen plan.now set ∷ log.old.actions) }
-        ensures undone { OnErr result (log.new.actions ≡ log.old.actions) }
+        ensures seen { IfOk result (λ set. IsMarkRead
+            (string_bytes self.now.path) plan.now set log.old.actions log.new.actions) }
+        ensures at_most { OnErr result (IsReadAtMost
+            (string_bytes self.now.path) log.old.actions log.new.actions) }
     {
-        let is_there = match self.text()? {
-            Some(text) => read_mark(self.rt.alloc(), plan, &text)?,
-            None => false,
-        };
-        log.note(&Action::MarkSeen(plan, is_there));
-        Ok(is_there)
+        match self.text(log)? {
+            Some(text) => read_mark(self.rt.alloc(), plan, &text),
+            None => Ok(false),
+        }
     }
 
     /// Puts this plan's there, whole or not at all.
     pub fn put(&self, plan: &PlanMark, log: &mut ActionLog) -> Result<(), Trouble>
-        ensures put { OnOk result (log.new.actions ≡ MarkPut plan.now ∷ log.old.actions) }
+        ensures put { OnOk result (log.new.actions
+            ≡ TextPut (string_bytes self.now.path) (spec.mark_text plan.now) ∷ log.old.actions) }
         ensures undone { OnErr result (log.new.actions ≡ log.old.actions) }
     {
         let text = mark_text(self.rt.alloc(), plan)?;
-        put_whole(self.rt, self.path.as_str(), &text)?;
-        log.note(&Action::MarkPut(plan));
-        Ok(())
+        put_whole(self.rt, self.path.as_str(), &text, log)
     }
 
     /// Waits until its name has reached the device.
     pub fn sync(&self, log: &mut ActionLog) -> Result<(), Trouble>
-        ensures synced { OnOk result (log.new.actions ≡ MarkSynced ∷ log.old.actions) }
+        ensures synced { OnOk result
+            (log.new.actions ≡ NameSynced (string_bytes self.now.path) ∷ log.old.actions) }
         ensures undone { OnErr result (log.new.actions ≡ log.old.actions) }
     {
-        sync_name(self.rt, self.path.as_str())?;
-        log.note(&Action::MarkSynced);
-        Ok(())
+        sync_name(self.rt, self.path.as_str(), log)
     }
 }

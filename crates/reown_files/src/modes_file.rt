@@ -2,32 +2,34 @@
 //! the set-user-ID and the set-group-ID bit of a file (chown(2)), and the next call sets them back:
 //! this is for a stop between the two. It is there, with or without modes, from before the first
 //! change until the mark is synced, so that a plan which was begun is known by it.
-ghost use Rattle.std.specs.Prelude.{◌≡◌, ◌<◌, ◌+◌, ◌++◌, ◌↔◌, Some, IfOk, IfSome, IsTrue, OnOk};
-ghost use Rattle.std.specs.Prelude.{OnErr, ◌&&◌, not};
-ghost use Rattle.std.specs.Prelude.{[], ◌∷◌, if◌then◌else◌};
-ghost use Rattle.std.specs.Prelude.{IfErr, None, Ok, Err, false, length, ◌≤◌, ◌⊎◌};
+ghost use Rattle.std.specs.Prelude.{◌≡◌, ◌<◌, ◌≤◌, ◌+◌, ◌++◌, ◌↔◌, ◌⊎◌, ◌||◌};
+ghost use Rattle.std.specs.Prelude.{not, [], ◌∷◌, if◌then◌else◌, List, ℕ, Option, Some, None};
+ghost use Rattle.std.specs.Prelude.{IfOk, IfErr, IfSome, IsTrue, OnOk, OnErr, Ok, Err};
+ghost use Rattle.std.specs.Prelude.{is_some, is_ok, false, true, length, take};
 ghost use Rattle.std.specs.Option.{option_copied};
+ghost use Rattle.std.specs.String.{string_bytes};
 ghost use Rattle.reown_files.specs.declared.answers.Trouble.TheVariants.{NotModes, Memory};
 ghost use Rattle.reown_files.specs.declared.answers.Trouble.TheVariants.{TooManyModes};
-ghost use Rattle.reown_files.specs.Actions.{ModesRead, ModesPut, ModesForgotten};
+ghost use Rattle.reown_files.specs.Actions.{FileRead, FileRemoved, modes_put, modes_read};
+ghost use Rattle.reown_files.specs.Actions.{IsReadAtMost, IsModesReadAtMost, IsModesPutAtMost};
 ghost use Rattle.reown_files.specs.Looks as looks;
 ghost use Rattle.reown_files.specs.OneFile.{HasLost};
 ghost use Rattle.idtext.specs.Escapes.{unescaped, has_bad_escape};
 ghost use Rattle.idtext.specs.Pieces.{lines as lines_of_text};
 ghost use Rattle.reown_files.specs.MarkText as spec;
 ghost use Rattle.reown_files.specs.ModesNoted.{entry_of};
-ghost use Rattle.reown_files.specs.Trees.{mode_noted_for, HasModesOf, HasRead};
+ghost use Rattle.reown_files.specs.RootData.{modes_beside};
+ghost use Rattle.reown_files.specs.Trees.{mode_noted_for, HasModesOf, HasRead, IsTold, AreRead};
 
 use crate::Trouble;
-use crate::actions::{Action, ActionLog};
+use crate::actions::ActionLog;
 use crate::mark_file::{HEAD as MARK_HEAD, MarkFile, push_plan};
-use crate::walk::{Found, Kind, SET_ID, if_there};
-use crate::whole_file::{path_with, put_whole, read_whole, sync_name};
+use crate::walk::{Found, Kind, SET_ID};
+use crate::whole_file::{path_with, put_whole, read_whole, remove_file, sync_name};
 use idtext::{Character, Lines, first_character, push_escaped};
 use reown_plan::PlanMark;
 use std::alloc::{AllocError, Global};
 use std::collections::BTreeMap;
-use std::fs;
 
 /// What the file of the modes that a run may lose has after the path of the mark.
 pub const MODES_BEHIND: &str = ".modes";
@@ -67,7 +69,8 @@ fn digit(value: u32) -> u8
 
 // Appends a mode, as four octal digits.
 fn push_mode(text: &mut Vec<u8>, mode: u32) -> Result<(), AllocError>
-    ensures { OnOk result (text.new.items ≡ text.old.items ++ spec.mode_text mode) }
+    ensures pushed { OnOk result (text.new.items ≡ text.old.items ++ spec.mode_text mode) }
+    ensures kept { OnErr result (text.new.items ≡ text.old.items) }
 {
     text.extend_from_slice(&[
         digit(mode / 512 % 8),
@@ -77,14 +80,29 @@ fn push_mode(text: &mut Vec<u8>, mode: u32) -> Result<(), AllocError>
     ])
 }
 
-// Appends the line of a file.
-fn push_line(text: &mut Vec<u8>, path: &[u8], mode: u32) -> Result<(), AllocError>
-    ensures { OnOk result (text.new.items ≡ text.old.items ++ spec.line_text path.now mode) }
+// Appends the line of a file, or a part of it where memory runs out on the way.
+fn push_part(text: &mut Vec<u8>, path: &[u8], mode: u32) -> Result<(), AllocError>
+    ensures pushed { OnOk result
+        (text.new.items ≡ text.old.items ++ spec.line_text path.now mode) }
+    ensures kept { take (length text.old.items) text.new.items ≡ text.old.items }
 {
     push_mode(text, mode)?;
     text.push(b' ')?;
     push_escaped(text, path)?;
     text.extend_from_slice(b"\n")
+}
+
+// Appends the line of a file, all of it or nothing.
+fn push_line(text: &mut Vec<u8>, path: &[u8], mode: u32) -> Result<(), AllocError>
+    ensures { text.new.items ≡ (if is_ok result
+        then text.old.items ++ spec.line_text path.now mode else text.old.items) }
+{
+    let before = text.len();
+    let pushed = push_part(text, path, mode);
+    if pushed.is_err() {
+        text.truncate(before);
+    }
+    pushed
 }
 
 // Its first line.
@@ -242,15 +260,16 @@ fn judge<'t>(text: &'t [u8], head: &[u8], mark: &[u8]) -> Result<Option<&'t [u8]
 #[derive(Drop)]
 pub struct ModesFile<'w> {
     rt: &'w HostRuntime,
-    path: String,
+    pub path: String,
     /// The plan that an earlier run of it wrote modes down for, and those.
     pub plan: Option<PlanMark>,
     pub noted: BTreeMap<Vec<u8>, u32>,
-    // Whether the mark of this run's plan was there, which has nothing to change then.
-    is_over: bool,
+    /// Whether the mark of this run's plan was there, which has nothing to change then.
+    pub was_done: bool,
     /// The lines of the files that this run may lose modes of.
     pub lines: Vec<u8>,
-    is_put: bool,
+    /// Whether this run may have put the file there.
+    pub is_put: bool,
 }
 
 impl<'w> ModesFile<'w> {
@@ -258,13 +277,17 @@ impl<'w> ModesFile<'w> {
     pub fn beside(rt: &'w HostRuntime, mark: &str) -> Result<ModesFile<'w>, Trouble>
         ensures lines { IfOk result (λ modes. modes.lines.items ≡ []) }
         ensures unread { IfOk result (λ modes. modes.plan ≡ None) }
+        ensures path { IfOk result
+            (λ modes. string_bytes modes.path ≡ modes_beside mark.now) }
+        ensures not_put { IfOk result
+            (λ modes. (modes.was_done ≡ false) × (modes.is_put ≡ false)) }
     {
         Ok(ModesFile {
             rt,
             path: path_with(rt, mark, MODES_BEHIND)?,
             plan: None,
             noted: BTreeMap::new(rt.alloc()),
-            is_over: false,
+            was_done: false,
             lines: Vec::new(rt.alloc()),
             is_put: false,
         })
@@ -276,6 +299,7 @@ impl<'w> ModesFile<'w> {
         ensures added { OnOk result (self.new.lines.items ≡ self.old.lines.items
             ++ (if looks.has_set_id found.now
             then spec.line_text path.now found.now.mode else [])) }
+        ensures none { OnErr result (self.new.lines.items ≡ self.old.lines.items) }
         ensures rest { self.new ≡ record self.old { lines = self.new.lines } }
     {
         if has_set_id(found) {
@@ -286,29 +310,49 @@ impl<'w> ModesFile<'w> {
 
     // Reads a text that is there, and answers whether it is of this plan. The modes in it are noted
     // where its mark was not there.
-    fn read_text(
-        &mut self,
-        plan: &PlanMark,
-        text: &[u8],
-        mark: &MarkFile<'_>,
-    ) -> Result<bool, Trouble>
-        ensures read { IfOk result (λ own.
-            HasRead plan.now (own && not self.old.is_over) self.old.plan self.old.noted.entries
-            self.new.plan self.new.noted.entries) }
+    fn read_text(&mut self, plan: &PlanMark, text: &[u8], beside: &[u8]) -> Result<bool, Trouble>
+        ensures read { IfOk result (λ own. IsTold plan.now
+            (spec.modes_judged (spec.head_text plan.now) beside.now text.now) self.old.was_done own
+            self.old.plan self.old.noted.entries self.new.plan self.new.noted.entries) }
         ensures same { OnErr result (self.new ≡ self.old) }
         ensures rest { self.new
             ≡ record self.old { plan = self.new.plan; noted = self.new.noted } }
     {
         let head = head_of(self.rt.alloc(), plan)?;
-        let beside = mark.text()?.unwrap_or(Vec::new(self.rt.alloc()));
-        let Some(lines) = judge(text, &head, &beside)? else {
+        let Some(lines) = judge(text, &head, beside)? else {
             return Ok(false);
         };
-        if !self.is_over {
-            self.noted = read_lines(self.rt.alloc(), lines)?;
-            self.plan = Some(*plan);
+        if self.was_done {
+            return Ok(true);
         }
+        self.noted = read_lines(self.rt.alloc(), lines)?;
+        self.plan = Some(*plan);
         Ok(true)
+    }
+
+    // The same, beside what stands in the file of the mark.
+    fn read_beside(
+        &mut self,
+        plan: &PlanMark,
+        text: &[u8],
+        mark: &MarkFile<'_>,
+        log: &mut ActionLog,
+    ) -> Result<bool, Trouble>
+        ensures read { IfOk result (λ own. (beside : Option (List ℕ))
+            × (log.new.actions ≡ FileRead (string_bytes mark.now.path) beside ∷ log.old.actions)
+            × IsTold plan.now (spec.lines_told plan.now beside (Some text.now))
+            self.old.was_done own self.old.plan self.old.noted.entries
+            self.new.plan self.new.noted.entries) }
+        ensures at_most { OnErr result
+            (IsReadAtMost (string_bytes mark.now.path) log.old.actions log.new.actions) }
+        ensures same { OnErr result (self.new ≡ self.old) }
+        ensures rest { self.new
+            ≡ record self.old { plan = self.new.plan; noted = self.new.noted } }
+    {
+        match mark.text(log)? {
+            Some(beside) => self.read_text(plan, text, &beside),
+            None => self.read_text(plan, text, b""),
+        }
     }
 
     /// Reads what an earlier run of this plan wrote down, and answers whether one did; none is lost
@@ -321,28 +365,33 @@ impl<'w> ModesFile<'w> {
         mark: &MarkFile<'_>,
         log: &mut ActionLog,
     ) -> Result<bool, Trouble>
-        ensures noted { IfOk result
-            (λ begun. log.new.actions ≡ ModesRead plan.now is_marked begun ∷ log.old.actions) }
-        ensures undone { OnErr result (log.new.actions ≡ log.old.actions) }
-        ensures read { IfOk result (λ begun.
-            HasRead plan.now (begun && not is_marked) self.old.plan self.old.noted.entries
-            self.new.plan self.new.noted.entries) }
+        ensures read { IfOk result (λ begun. AreRead
+            (string_bytes mark.now.path) (string_bytes self.old.path) plan.now is_marked begun
+            log.old.actions log.new.actions
+            self.old.plan self.old.noted.entries self.new.plan self.new.noted.entries) }
+        ensures at_most { OnErr result (IsModesReadAtMost
+            (string_bytes mark.now.path) (string_bytes self.old.path)
+            log.old.actions log.new.actions) }
         ensures same { OnErr result
             ((self.new.plan ≡ self.old.plan) × (self.new.noted ≡ self.old.noted)) }
-        ensures lines { self.new.lines ≡ self.old.lines }
+        ensures rest { self.new ≡ record self.old {
+          plan = self.new.plan;
+          noted = self.new.noted;
+          was_done = is_marked;
+        } }
     {
-        self.is_over = is_marked;
-        let is_begun = match read_whole(
+        self.was_done = is_marked;
+        let text = read_whole(
             self.rt,
             self.path.as_str(),
             MOST_BYTES,
             Trouble::NotModes,
-        )? {
-            Some(text) => self.read_text(plan, &text, mark)?,
-            None => false,
-        };
-        log.note(&Action::ModesRead(plan, is_marked, is_begun));
-        Ok(is_begun)
+            log,
+        )?;
+        match text {
+            Some(text) => self.read_beside(plan, &text, mark, log),
+            None => Ok(false),
+        }
     }
 
     /// The mode that was read for a file of this plan.
@@ -355,61 +404,46 @@ impl<'w> ModesFile<'w> {
         }
     }
 
-    // Removes the file, if it is there.
-    fn remove(&self) -> Result<(), Trouble> {
-        if_there(fs::remove_file(self.rt, self.path.as_str()).map_err(Trouble::from))?;
-        Ok(())
-    }
-
-    // Puts there what this run of the plan may lose, be it nothing, whole and synced. Where its
-    // mark was there the file is removed. What would be too long to be read back is refused, and
-    // nothing is written.
-    fn write(&mut self, plan: &PlanMark) -> Result<(), Trouble>
-        ensures { self.new ≡ record self.old { is_put = self.new.is_put } }
+    /// Writes down for this plan the modes that the run may lose, be they none, in place of what
+    /// was there, whole and synced; where the plan's mark was there, removes that instead. What
+    /// would be too long to be read back is refused, and nothing is written.
+    pub fn put(&mut self, plan: &PlanMark, log: &mut ActionLog) -> Result<(), Trouble>
+        ensures put { OnOk result (log.new.actions
+            ≡ modes_put (string_bytes self.old.path) self.old.was_done
+            (spec.modes_text plan.now self.old.lines.items) log.old.actions) }
+        ensures read_back { OnOk result (self.old.was_done ≡ false
+            → length (spec.modes_text plan.now self.old.lines.items) ≤ 1073741824) }
+        ensures at_most { OnErr result (IsModesPutAtMost (string_bytes self.old.path)
+            self.old.was_done (spec.modes_text plan.now self.old.lines.items)
+            log.old.actions log.new.actions) }
+        ensures is_put { OnOk result (self.new.is_put ≡ self.old.is_put || not self.old.was_done) }
+        ensures rest { self.new ≡ record self.old { is_put = self.new.is_put } }
     {
-        if self.is_over {
-            return self.remove();
+        if self.was_done {
+            return remove_file(self.rt, self.path.as_str(), log);
         }
         let text = modes_text(self.rt.alloc(), plan, &self.lines)?;
         self.is_put = true;
-        put_whole(self.rt, self.path.as_str(), &text)?;
-        sync_name(self.rt, self.path.as_str())
+        put_whole(self.rt, self.path.as_str(), &text, log)?;
+        sync_name(self.rt, self.path.as_str(), log)
     }
 
-    /// Writes down for this plan the modes that the run may lose, be they none, in place of what
-    /// was there; where the plan's mark was there, removes that instead.
-    pub fn put(&mut self, plan: &PlanMark, log: &mut ActionLog) -> Result<(), Trouble>
-        ensures put { OnOk result (log.new.actions ≡ ModesPut plan.now ∷ log.old.actions) }
+    /// Removes the file, where this run has put it there.
+    pub fn forget(&mut self, log: &mut ActionLog) -> Result<(), Trouble>
+        ensures forgotten { OnOk result (log.new.actions ≡ (if self.old.is_put
+            then FileRemoved (string_bytes self.old.path) ∷ log.old.actions
+            else log.old.actions)) }
         ensures undone { OnErr result (log.new.actions ≡ log.old.actions) }
-        ensures rest { self.new ≡ record self.old { is_put = self.new.is_put } }
-    {
-        self.write(plan)?;
-        log.note(&Action::ModesPut(plan));
-        Ok(())
-    }
-
-    // Removes what this run has put there.
-    fn clear(&mut self) -> Result<(), Trouble>
-        ensures { self.new ≡ record self.old { is_put = self.new.is_put } }
+        ensures asked { OnErr result (self.old.is_put ≡ true) }
+        ensures rest { self.new ≡ record self.old { is_put = false } }
     {
         if !self.is_put {
             return Ok(());
         }
         self.is_put = false;
-        match self.remove() {
+        match remove_file(self.rt, self.path.as_str(), log) {
             Err(Trouble::System(number)) => Err(Trouble::OfModes(number)),
             told => told,
         }
-    }
-
-    /// Removes the file, where this run has put it there.
-    pub fn forget(&mut self, log: &mut ActionLog) -> Result<(), Trouble>
-        ensures forgotten { OnOk result (log.new.actions ≡ ModesForgotten ∷ log.old.actions) }
-        ensures undone { OnErr result (log.new.actions ≡ log.old.actions) }
-        ensures rest { self.new ≡ record self.old { is_put = self.new.is_put } }
-    {
-        self.clear()?;
-        log.note(&Action::ModesForgotten);
-        Ok(())
     }
 }

@@ -2,6 +2,7 @@
 //! nothing.
 ghost use Rattle.reown_files.specs.Laws.{MarksAreReadBack, ModesAreReadBack, ModesAreOfOnePlan};
 ghost use Rattle.reown_files.specs.Laws.{MarksEndOnePlan, ModesAreJudged, CutModesAreRefused};
+ghost use Rattle.reown_files.specs.Laws.{MarksPutAreSeen, ModesPutAreRead, LinesAreOfMetFiles};
 ghost use Rattle.reown_files.specs.Examples.{ExampleOfMark, ExampleOfModes, ExampleOfRead};
 
 /// The mark that is written for a plan is read as the mark of that plan, and as that of no plan
@@ -20,6 +21,17 @@ pub fn modes_are_read_back()
     ensures entries { ModesAreReadBack }
     ensures judged { ModesAreJudged }
     ensures cut { CutModesAreRefused }
+{}
+
+/// What is put into the two files is what is read there. Where the file of the mark has the text
+/// that was put for a plan, the mark is seen as that plan's and no other's. Where that of the modes
+/// has the text that was put, each file has the mode that was written down for it last; and those
+/// that are written down are of the files that were met at another owner than their new one, in
+/// their order.
+pub fn files_that_were_put_are_read()
+    ensures marks { MarksPutAreSeen }
+    ensures modes { ModesPutAreRead }
+    ensures lines { LinesAreOfMetFiles }
 {}
 
 /// The two files by example, byte by byte: a mark with its digest as `sha256sum` prints it, and

@@ -1,19 +1,22 @@
 //! The files below a directory of the system, as a disk.
 ghost use Rattle.std.specs.Prelude.{◌≡◌, [], ◌∷◌, true, false, None, Some};
-ghost use Rattle.std.specs.Prelude.{IfOk, IfErr, IfSome, IfNone, OnOk, OnErr, is_ok, not};
-ghost use Rattle.std.specs.Prelude.{◌||◌, ◌&&◌};
+ghost use Rattle.std.specs.Prelude.{IfOk, IfErr, IfSome, IfNone, OnOk, OnErr, is_ok, is_none};
+ghost use Rattle.std.specs.Prelude.{◌||◌, ◌&&◌, not, ◌≤◌, length};
 ghost use Rattle.reown_files.specs.Asked.{HasNamesMet, LacksNames, IsGiven, IsModeSet, IsKept};
 ghost use Rattle.reown_files.specs.Asked.{IsToldAtMost, IsMetAtMost, IsGivenAtMost};
 ghost use Rattle.reown_files.specs.Calls.{Looked, Met, CheckedLinks, Saw, NotSeen, Gave, SetMode};
 ghost use Rattle.reown_files.specs.Calls.{Kept, LostMode, MetMark, MarkNotSeen, Settled, SawMark};
 ghost use Rattle.reown_files.specs.Calls.{PutMark, ReadModes, PutModes, KeptMark};
-ghost use Rattle.reown_files.specs.Actions.{MarkSeen, MarkPut, ModesRead, ModesPut, RootSettled};
-ghost use Rattle.reown_files.specs.Actions.{mark_met, mark_kept, IsMarkSeenAtMost};
-ghost use Rattle.reown_files.specs.Actions.{IsMarkSyncedAtMost};
+ghost use Rattle.reown_files.specs.Actions.{FileRead, TextPut, RootSettled, mark_kept, modes_put};
+ghost use Rattle.reown_files.specs.Actions.{IsMarkRead, IsMarkMet, IsReadAtMost};
+ghost use Rattle.reown_files.specs.Actions.{IsMarkSyncedAtMost, IsModesReadAtMost};
+ghost use Rattle.reown_files.specs.Actions.{IsModesPutAtMost};
+ghost use Rattle.reown_files.specs.ActionsCode.{text_in};
+ghost use Rattle.reown_files.specs.MarkText.{mark_text, modes_text};
 ghost use Rattle.reown_files.specs.RootData.{IsSeen, IsSeenAt, IsMet, HasLostAt, TellsLost};
-ghost use Rattle.reown_files.specs.RootData.{mode_noted, AsksMore, MeetsMore, ActsMore};
-ghost use Rattle.reown_files.specs.RootData.{ReadsMore};
-ghost use Rattle.reown_files.specs.Trees.{HasRead};
+ghost use Rattle.reown_files.specs.RootData.{mode_noted, AsksMore, MeetsMore, ActsMore, PutsModes};
+ghost use Rattle.reown_files.specs.RootData.{ReadsMore, is_absolute, IsPathFrom, modes_beside};
+ghost use Rattle.reown_files.specs.Trees.{AreRead};
 
 use crate::actions::ActionLog;
 use crate::below::Below;
@@ -48,6 +51,7 @@ pub struct Root<'w> {
 }
 
 impl<'w> Model for Root<'w> {
+    ghost use Rattle.std.specs.String.{string_bytes};
     ghost use Rattle.reown_files.specs.RootData.{RootData};
 
     ghost Value = { RootData };
@@ -58,7 +62,11 @@ impl<'w> Model for Root<'w> {
       lines = r.modes.lines.items;
       read = r.modes.plan;
       modes = r.modes.noted.entries;
+      mark_path = string_bytes r.mark.path;
+      modes_path = string_bytes r.modes.path;
+      was_done = r.modes.was_done;
       is_put = r.is_put;
+      has_put_modes = r.modes.is_put;
       actions = r.actions.actions;
       calls = r.log.calls;
     } };
@@ -84,7 +92,9 @@ impl From<Trouble> for RootFault {
 }
 
 // The working directory, where a path begins at it.
-fn home_of(rt: &HostRuntime, path: &str) -> Result<Option<Directory>, RootFault> {
+fn home_of(rt: &HostRuntime, path: &str) -> Result<Option<Directory>, RootFault>
+    ensures { IfOk result (λ home. is_none home ≡ is_absolute path.now) }
+{
     if path.starts_with("/") {
         return Ok(None);
     }
@@ -108,6 +118,11 @@ impl<'w> Root<'w> {
         ensures unread { IfOk result (λ root. root.read ≡ None) }
         ensures journals { IfOk result (λ root. root.has_one_journal ≡ false) }
         ensures undone { IfOk result (λ root. (root.is_put ≡ false) × (root.actions ≡ [])) }
+        ensures unwritten { IfOk result
+            (λ root. (root.was_done ≡ false) × (root.has_put_modes ≡ false)) }
+        ensures mark { IfOk result
+            (λ root. IsPathFrom (is_absolute mark.now) mark.now root.mark_path) }
+        ensures modes { IfOk result (λ root. root.modes_path ≡ modes_beside root.mark_path) }
     {
         let root = Directory::at(rt, path)?;
         root.lock()?;
@@ -130,8 +145,13 @@ impl<'w> Root<'w> {
     /// # Errors
     ///
     /// `NotMark` where it is no regular file; or what is in the way.
-    pub fn mark_text(&self) -> Result<Option<Vec<u8>>, Trouble> {
-        self.mark.text()
+    pub fn mark_text(&mut self) -> Result<Option<Vec<u8>>, Trouble>
+        ensures read { IfOk result (λ text.
+            self.new.actions ≡ FileRead self.old.mark_path (text_in text) ∷ self.old.actions) }
+        ensures undone { OnErr result (self.new.actions ≡ self.old.actions) }
+        ensures rest { self.new ≡ record self.old { actions = self.new.actions } }
+    {
+        self.mark.text(&mut self.actions)
     }
 
     /// Leaves it to `settle` to see that changes have reached the device: for a file system with
@@ -146,9 +166,10 @@ impl<'w> Root<'w> {
     fn met(&mut self, path: &[u8], after: Owner) -> Result<Option<Owner>, Trouble>
         ensures met { IfOk result (λ seen. IfSome seen
             (λ owner. IsMet path.now after owner self.old self.new)) }
-        ensures gone { IfOk result (λ seen. IfNone seen
-            (IsMetAtMost path.now after self.old.files self.new.files)) }
+        ensures gone { IfOk result (λ seen. IfNone seen ((self.new.lines ≡ self.old.lines)
+            × IsMetAtMost path.now after self.old.files self.new.files)) }
         ensures at_most { OnErr result (IsMetAtMost path.now after self.old.files self.new.files) }
+        ensures unwritten { OnErr result (self.new.lines ≡ self.old.lines) }
         ensures rest { self.new
             ≡ record self.old { files = self.new.files; lines = self.new.lines } }
     {
@@ -164,10 +185,10 @@ impl<'w> Root<'w> {
     // Whether the mark is there. One that is, is synced.
     fn met_mark(&mut self, plan: &PlanMark) -> Result<bool, Trouble>
         ensures at_most { OnErr result
-            (IsMarkSeenAtMost plan.now self.old.actions self.new.actions) }
+            (IsReadAtMost self.old.mark_path self.old.actions self.new.actions) }
         ensures rest { self.new ≡ record self.old { actions = self.new.actions } }
-        ensures met { IfOk result
-            (λ set. self.new.actions ≡ mark_met plan.now set self.old.actions) }
+        ensures met { IfOk result (λ set.
+            IsMarkMet self.old.mark_path plan.now set self.old.actions self.new.actions) }
     {
         let is_there = self.mark.is_there(plan, &mut self.actions)?;
         if is_there {
@@ -198,11 +219,17 @@ impl<'w> Root<'w> {
 
     // Syncs the mark, and forgets the modes that this run wrote down where it has put the mark.
     fn finish(&mut self) -> Result<(), Trouble>
-        ensures kept { OnOk result
-            (self.new.actions ≡ mark_kept self.old.is_put self.old.actions) }
-        ensures at_most { OnErr result
-            (IsMarkSyncedAtMost self.old.is_put self.old.actions self.new.actions) }
-        ensures rest { self.new ≡ record self.old { actions = self.new.actions } }
+        ensures kept { OnOk result (self.new.actions
+            ≡ mark_kept self.old.mark_path self.old.modes_path
+            (self.old.is_put && self.old.has_put_modes) self.old.actions) }
+        ensures at_most { OnErr result (IsMarkSyncedAtMost self.old.mark_path
+            (self.old.is_put && self.old.has_put_modes) self.old.actions self.new.actions) }
+        ensures forgotten { OnOk result
+            (self.new.has_put_modes ≡ not self.old.is_put && self.old.has_put_modes) }
+        ensures rest { self.new ≡ record self.old {
+          has_put_modes = self.new.has_put_modes;
+          actions = self.new.actions;
+        } }
     {
         // A stop before the mark has reached its device has to find the modes.
         self.mark.sync(&mut self.actions)?;
@@ -240,11 +267,12 @@ impl<'w> Disk for Root<'w> {
             (λ found. self.new.calls ≡ Met path.now after found ∷ self.old.calls) }
         ensures told { IfOk result (λ found. IfSome found
             (λ owner. IsMet path.now after owner self.old self.new)) }
-        ensures gone { IfOk result (λ found. IfNone found
-            (IsMetAtMost path.now after self.old.files self.new.files)) }
+        ensures gone { IfOk result (λ found. IfNone found ((self.new.lines ≡ self.old.lines)
+            × IsMetAtMost path.now after self.old.files self.new.files)) }
         ensures failed { IfErr result
             (λ trouble. self.new.calls ≡ NotSeen path.now trouble ∷ self.old.calls) }
         ensures at_most { OnErr result (IsMetAtMost path.now after self.old.files self.new.files) }
+        ensures unwritten { OnErr result (self.new.lines ≡ self.old.lines) }
         ensures rest { MeetsMore self.old self.new }
     {
         let told = self.met(path, after);
@@ -258,12 +286,12 @@ impl<'w> Disk for Root<'w> {
     fn meet_mark(&mut self, plan: &PlanMark) -> Result<bool, Trouble>
         ensures met { IfOk result
             (λ set. self.new.calls ≡ MetMark plan.now set ∷ self.old.calls) }
-        ensures synced { IfOk result
-            (λ set. self.new.actions ≡ mark_met plan.now set self.old.actions) }
+        ensures synced { IfOk result (λ set.
+            IsMarkMet self.old.mark_path plan.now set self.old.actions self.new.actions) }
         ensures failed { IfErr result
             (λ trouble. self.new.calls ≡ MarkNotSeen plan.now trouble ∷ self.old.calls) }
         ensures at_most { OnErr result
-            (IsMarkSeenAtMost plan.now self.old.actions self.new.actions) }
+            (IsReadAtMost self.old.mark_path self.old.actions self.new.actions) }
         ensures rest { ActsMore self.old self.new }
     {
         let told = self.met_mark(plan);
@@ -359,11 +387,12 @@ impl<'w> Disk for Root<'w> {
     fn is_marked(&mut self, plan: &PlanMark) -> Result<bool, Trouble>
         ensures saw { IfOk result
             (λ set. self.new.calls ≡ SawMark plan.now set ∷ self.old.calls) }
-        ensures seen { IfOk result
-            (λ set. self.new.actions ≡ MarkSeen plan.now set ∷ self.old.actions) }
+        ensures seen { IfOk result (λ set.
+            IsMarkRead self.old.mark_path plan.now set self.old.actions self.new.actions) }
         ensures failed { IfErr result
             (λ trouble. self.new.calls ≡ MarkNotSeen plan.now trouble ∷ self.old.calls) }
-        ensures undone { OnErr result (self.new.actions ≡ self.old.actions) }
+        ensures at_most { OnErr result
+            (IsReadAtMost self.old.mark_path self.old.actions self.new.actions) }
         ensures rest { ActsMore self.old self.new }
     {
         let told = self.mark.is_there(plan, &mut self.actions);
@@ -376,7 +405,8 @@ impl<'w> Disk for Root<'w> {
 
     fn put_mark(&mut self, plan: &PlanMark) -> Result<(), Trouble>
         ensures noted { self.new.calls ≡ PutMark plan.now (is_ok result) ∷ self.old.calls }
-        ensures put { OnOk result (self.new.actions ≡ MarkPut plan.now ∷ self.old.actions) }
+        ensures put { OnOk result (self.new.actions
+            ≡ TextPut self.old.mark_path (mark_text plan.now) ∷ self.old.actions) }
         ensures undone { OnErr result (self.new.actions ≡ self.old.actions) }
         ensures rest { self.new ≡ record self.old {
           is_put = self.old.is_put || is_ok result;
@@ -393,15 +423,17 @@ impl<'w> Disk for Root<'w> {
     fn read_modes(&mut self, plan: &PlanMark, mark: bool) -> Result<bool, Trouble>
         ensures told { IfOk result
             (λ begun. self.new.calls ≡ ReadModes plan.now mark (Some begun) ∷ self.old.calls) }
-        ensures read { IfOk result
-            (λ begun. self.new.actions ≡ ModesRead plan.now mark begun ∷ self.old.actions) }
+        ensures read { IfOk result (λ begun. AreRead
+            self.old.mark_path self.old.modes_path plan.now mark begun
+            self.old.actions self.new.actions
+            self.old.read self.old.modes self.new.read self.new.modes) }
         ensures failed { OnErr result
             (self.new.calls ≡ ReadModes plan.now mark None ∷ self.old.calls) }
-        ensures modes { IfOk result (λ begun. HasRead plan.now (begun && not mark)
-            self.old.read self.old.modes self.new.read self.new.modes) }
         ensures undone { OnErr result
-            (self.new ≡ record self.old { calls = self.new.calls }) }
-        ensures rest { ReadsMore self.old self.new }
+            ((self.new.read ≡ self.old.read) × (self.new.modes ≡ self.old.modes)) }
+        ensures at_most { OnErr result (IsModesReadAtMost
+            self.old.mark_path self.old.modes_path self.old.actions self.new.actions) }
+        ensures rest { ReadsMore mark self.old self.new }
     {
         let told = self.modes.read(plan, mark, &self.mark, &mut self.actions);
         self.log.note(&Call::ReadModes(plan, mark, told.ok()));
@@ -435,9 +467,15 @@ impl<'w> Disk for Root<'w> {
 
     fn put_modes(&mut self, plan: &PlanMark) -> Result<(), Trouble>
         ensures noted { self.new.calls ≡ PutModes plan.now (is_ok result) ∷ self.old.calls }
-        ensures put { OnOk result (self.new.actions ≡ ModesPut plan.now ∷ self.old.actions) }
-        ensures undone { OnErr result (self.new.actions ≡ self.old.actions) }
-        ensures rest { ActsMore self.old self.new }
+        ensures put { OnOk result (self.new.actions ≡ modes_put self.old.modes_path
+            self.old.was_done (modes_text plan.now self.old.lines) self.old.actions) }
+        ensures read_back { OnOk result (self.old.was_done ≡ false
+            → length (modes_text plan.now self.old.lines) ≤ 1073741824) }
+        ensures at_most { OnErr result (IsModesPutAtMost self.old.modes_path self.old.was_done
+            (modes_text plan.now self.old.lines) self.old.actions self.new.actions) }
+        ensures written { OnOk result
+            (self.new.has_put_modes ≡ self.old.has_put_modes || not self.old.was_done) }
+        ensures rest { PutsModes self.old self.new }
     {
         let told = self.modes.put(plan, &mut self.actions);
         self.log.note(&Call::PutModes(plan, told.is_ok()));
@@ -446,11 +484,14 @@ impl<'w> Disk for Root<'w> {
 
     fn keep_mark(&mut self) -> Result<(), Trouble>
         ensures noted { self.new.calls ≡ KeptMark (is_ok result) ∷ self.old.calls }
-        ensures kept { OnOk result
-            (self.new.actions ≡ mark_kept self.old.is_put self.old.actions) }
-        ensures at_most { OnErr result
-            (IsMarkSyncedAtMost self.old.is_put self.old.actions self.new.actions) }
-        ensures rest { ActsMore self.old self.new }
+        ensures kept { OnOk result (self.new.actions
+            ≡ mark_kept self.old.mark_path self.old.modes_path
+            (self.old.is_put && self.old.has_put_modes) self.old.actions) }
+        ensures at_most { OnErr result (IsMarkSyncedAtMost self.old.mark_path
+            (self.old.is_put && self.old.has_put_modes) self.old.actions self.new.actions) }
+        ensures forgotten { OnOk result
+            (self.new.has_put_modes ≡ not self.old.is_put && self.old.has_put_modes) }
+        ensures rest { PutsModes self.old self.new }
     {
         let told = self.finish();
         self.log.note(&Call::KeptMark(told.is_ok()));

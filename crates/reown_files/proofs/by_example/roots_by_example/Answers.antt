@@ -1,4 +1,4 @@
-use Rattle.reown_files.proofs.RootExample.{answers, met_roots, lost_roots, changes, marks}
+use Rattle.reown_files.proofs.RootExample.{answers, met_roots, lost_roots, changes, marks, paths}
 use Rattle.reown_files.proofs.by_example.roots_by_example.Goals as goal
 
 pub returns-clause-answers : goal.returns-clause-answers
@@ -15,3 +15,6 @@ returns-clause-changes c = changes
 
 pub returns-clause-marks : goal.returns-clause-marks
 returns-clause-marks c = marks
+
+pub returns-clause-paths : goal.returns-clause-paths
+returns-clause-paths c = paths
