@@ -12,18 +12,18 @@ use unify_bundle::{
 };
 use unify_io::{
     FileFault, OutputDirectory, SiteInput, command_line, file_fault_told, internal_error,
-    memory_refused, no_host, print_answer, read_file, tell_advice, tell_usage, warn_of_text,
+    memory_refused, no_host, print_answer, read_file, tell_usage, warn_of_text,
 };
 use unify_merge::MergeFault;
 use verify_files::run_verify;
 
-// Prints what a command on files answers, and returns the exit status. Unless it is to be quiet it
-// gives advice after a refusal.
+// Prints what a command on files answers, and returns the exit status. After the refusal of a site
+// it gives advice.
 fn print_reply<T, F: LastInventory>(
     rt: &HostRuntime,
     files: &F,
     answer: &FilesAnswer<'_, T>,
-    is_quiet: bool,
+    site: Option<&SiteInput<'_>>,
 ) -> Result<u8, FileFault> {
     let reply = match &answer.reply {
         Ok(reply) => reply,
@@ -32,9 +32,8 @@ fn print_reply<T, F: LastInventory>(
         Err(NoReply::Memory) => return Err(FileFault::Memory),
     };
     let status = print_answer(rt, reply.status, &reply.text);
-    match &answer.found {
-        Err(MergeFault::Refused(fault)) if !is_quiet => tell_advice(rt, fault),
-        _ => {}
+    if let (Err(MergeFault::Refused(fault)), Some(site)) = (&answer.found, site) {
+        site.advise(rt, fault);
     }
     Ok(status)
 }
@@ -58,7 +57,7 @@ fn print_count(
         site.keep.bytes(),
         map.bytes(),
     );
-    print_reply(rt, &files, &answer, site.is_quiet)
+    print_reply(rt, &files, &answer, Some(site))
 }
 
 // count [--quiet] [--keep FILE] MAP HOST...
@@ -85,7 +84,7 @@ fn print_check(
         site.keep.bytes(),
         certificate.bytes(),
     );
-    print_reply(rt, &files, &answer, site.is_quiet)
+    print_reply(rt, &files, &answer, Some(site))
 }
 
 // check [--quiet] [--pins FILE] [--keep FILE] CERTIFICATE HOST...
@@ -100,7 +99,7 @@ fn run_rehearse(rt: &HostRuntime, matches: &ArgMatches<'_>) -> Result<u8, FileFa
     let plan = read_file(rt, matches.get_str("PLAN").unwrap_or(""))?;
     let mut inventory = InventoryAt::new(rt, matches.get_str("MTREE").unwrap_or(""))?;
     let answer = rehearse_answer(rt.alloc(), &mut inventory, plan.bytes());
-    print_reply(rt, &inventory, &answer, true)
+    print_reply(rt, &inventory, &answer, None)
 }
 
 // Merges a site into a directory, warns of what it gives, and prints what it costs.
@@ -119,7 +118,7 @@ fn merge_site(
     } else if !site.is_quiet {
         site.warn_of_output(rt, directory.path, files.file_lines());
     }
-    print_reply(rt, &files, &answer, site.is_quiet)
+    print_reply(rt, &files, &answer, Some(site))
 }
 
 // Reads the hosts of a directory that is locked, and merges them into it.

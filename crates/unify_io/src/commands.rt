@@ -71,7 +71,7 @@ const FLAG: Argument = Argument {
 const QUIET: Argument = Argument {
     name: "quiet",
     letter: Some('q'),
-    help: "no warnings",
+    help: "no warnings, and no hints: faults alone",
     ..FLAG
 };
 
@@ -217,7 +217,7 @@ const APPLY: Subcommand = Subcommand {
     usage: None,
     arguments: &[
         Argument {
-            help: "no warnings, and no progress",
+            help: "no warnings, no hints and no progress: faults alone",
             ..QUIET
         },
         Argument {

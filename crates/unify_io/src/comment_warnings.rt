@@ -145,6 +145,24 @@ fn warn_of_user<'a>(
     )
 }
 
+// Warns of those of some users who have two full names, by what was seen of each.
+fn warn_of_seen(
+    rt: &HostRuntime,
+    users: &[Vec<u8>],
+    seen: &[SeenUser<'_>],
+) -> Result<(), AllocError> {
+    let mut count: usize = 0;
+    for (name, user) in users.iter().zip(seen) {
+        if let (Some((first, _)), Some(other)) = (user.first, user.other) {
+            if count < MOST_LINES {
+                warn_of_user(rt, name, other, first)?;
+            }
+            count = count.saturating_add(1);
+        }
+    }
+    warn_of_more(rt, "users with two full names:", count)
+}
+
 /// Warns of users who have two full names on hosts, which are looked at where a report tells that
 /// their comments differ. The account files of the hosts are read once more, one after the other.
 pub fn warn_of_comments(
@@ -157,14 +175,5 @@ pub fn warn_of_comments(
         return Ok(());
     }
     let seen = seen_users(rt, hosts, &users)?;
-    let mut count: usize = 0;
-    for (name, user) in users.iter().zip(&seen) {
-        if let (Some((first, _)), Some(other)) = (user.first, user.other) {
-            if count < MOST_LINES {
-                warn_of_user(rt, name, other, first)?;
-            }
-            count = count.saturating_add(1);
-        }
-    }
-    warn_of_more(rt, "users with two full names:", count)
+    warn_of_seen(rt, &users, &seen)
 }

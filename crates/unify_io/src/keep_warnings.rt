@@ -7,11 +7,19 @@ use hosts_join::{HostText, Which};
 use idtext::Lines;
 use std::alloc::AllocError;
 
-// The name that a line of a keep text lists, if it lists one.
-fn listed_name(line: &[u8]) -> Option<(Which, &[u8])> {
+/// The name that a line of a keep text lists, if it lists one.
+pub(crate) fn listed_name(line: &[u8]) -> Option<(Which, &[u8])> {
     match line.strip_prefix(b"user ") {
         Some(name) => Some((Which::User, name)),
         None => Some((Which::Group, line.strip_prefix(b"group ")?)),
+    }
+}
+
+/// Whether an accepted keep text lists a range of numbers of users, or of groups.
+pub(crate) fn lists_range(keep: &[u8], which: Which) -> bool {
+    match which {
+        Which::User => Lines::new(keep).any(|line| line.starts_with(b"users ")),
+        Which::Group => Lines::new(keep).any(|line| line.starts_with(b"groups ")),
     }
 }
 

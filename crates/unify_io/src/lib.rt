@@ -4,6 +4,7 @@
 #![tactic(auto)]
 
 mod account_lines;
+mod advice;
 mod commands;
 mod comment_warnings;
 mod file_lines;
@@ -14,6 +15,7 @@ mod inventory;
 mod keep_warnings;
 mod merge_warnings;
 mod message;
+mod number_warnings;
 mod output;
 mod pin_warnings;
 mod report;
@@ -29,7 +31,7 @@ pub use message::Part;
 pub use output::OutputDirectory;
 pub use report::{
     bundle_memory_refused, file_failed, file_fault_told, internal_error, memory_refused, no_host,
-    print_answer, tell_advice, tell_hint, tell_of, tell_usage, write_failed,
+    print_answer, tell_hint, tell_of, tell_usage, write_failed,
 };
 pub use site_input::SiteInput;
 pub use warnings::{MOST_LINES, warn, warn_of_text};

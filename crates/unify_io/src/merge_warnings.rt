@@ -4,16 +4,18 @@
 use crate::account_lines::{GroupLine, group_line, user_line};
 use crate::comment_warnings::warn_of_comments;
 use crate::files::{FileFault, holds, read_file_in};
-use crate::keep_warnings::warn_of_keep;
+use crate::keep_warnings::{lists_range, warn_of_keep};
 use crate::message::{MOST_NAMES, Part};
+use crate::number_warnings::warn_of_numbers;
 use crate::pin_warnings::warn_of_pins;
 use crate::warnings::{MOST_LINES, only_memory, warn, warn_of_more};
 use accounts::{GroupRow, GroupTable, PasswdRow, PasswdTable, read_group, read_passwd};
-use hosts_join::HostText;
+use hosts_join::{HostText, Which};
 use idtext::{Lines, Pieces};
 use std::alloc::AllocError;
 use std::collections::HashSet;
 use std::str;
+use unify_texts::{MapText, read_map};
 
 /// How many groups of a user an NFS request carries (AUTH_SYS, RFC 5531).
 const MOST_GROUPS: usize = 16;
@@ -390,15 +392,37 @@ fn warn_of_users(
     }
 }
 
-// Warns of the pins whose names are not in the map that a merge wrote.
-fn warn_of_merged_pins(
+// Warns by a map of pins that give no number, and of names that stay as they are by ranges and have
+// two numbers.
+fn warn_by_map(
+    rt: &HostRuntime,
+    hosts: &[HostText],
+    map: &MapText<'_>,
+    pins: &[u8],
+    keep: &[u8],
+) -> Result<(), AllocError> {
+    warn_of_pins(rt, hosts, map, pins)?;
+    warn_of_numbers(rt, hosts, map, keep)
+}
+
+// Warns of the names that are not in the map that a merge wrote. It is read only where a pins text
+// or a range of a keep text may have such names.
+fn warn_of_names(
     rt: &HostRuntime,
     hosts: &[HostText],
     directory: &str,
     pins: &[u8],
+    keep: &[u8],
 ) -> Result<(), FileFault> {
-    let map = read_file_in(rt, directory, "map")?;
-    Ok(warn_of_pins(rt, hosts, map.bytes(), pins)?)
+    if pins.is_empty() && !lists_range(keep, Which::User) && !lists_range(keep, Which::Group) {
+        return Ok(());
+    }
+    let text = read_file_in(rt, directory, "map")?;
+    let warned = match read_map(rt.alloc(), text.bytes()) {
+        Ok(map) => warn_by_map(rt, hosts, &map, pins, keep),
+        Err(_) => Err(AllocError),
+    };
+    Ok(warned?)
 }
 
 // Warns of what the report tells that a merge wrote: paths that stand twice, and comments in which
@@ -443,12 +467,12 @@ fn warn_of_merged_users(
 }
 
 /// Warns of what a merge of hosts by pins and a keep text has written into a directory: pins that
-/// give no number, since they are for nobody or for a name that stays as it is; kept names that no
-/// host has; paths that stand in an inventory more than once, where so many lines of files were
-/// read; users with two comments, who may be two people; groups that get members on a host, who may
-/// do there what they could not; users in more groups than an NFS request carries; and numbers that
-/// were another name's, whose files no inventory may list. It reads the account files that were
-/// merged once more.
+/// give no number, since they are for nobody or for a name that stays as it is; names that stay as
+/// they are by ranges of numbers, and have two; kept names that no host has; paths that stand in an
+/// inventory more than once, where so many lines of files were read; users with two comments, who
+/// may be two people; groups that get members on a host, who may do there what they could not;
+/// users in more groups than an NFS request carries; and numbers that were another name's, whose
+/// files no inventory may list. It reads the account files that were merged once more.
 pub fn warn_of_merge(
     rt: &HostRuntime,
     hosts: &[HostText],
@@ -457,7 +481,7 @@ pub fn warn_of_merge(
     keep: &[u8],
     file_lines: u64,
 ) -> Result<(), FileFault> {
-    warn_of_merged_pins(rt, hosts, directory, pins)?;
+    warn_of_names(rt, hosts, directory, pins, keep)?;
     warn_of_keep(rt, hosts, keep)?;
     warn_of_report(rt, hosts, directory, file_lines)?;
     warn_of_merged_users(rt, hosts, directory)

@@ -2,15 +2,20 @@
 
 use crate::host_names::{HostNames, names_of};
 use crate::message::Part;
-use crate::warnings::{MOST_LINES, warn};
+use crate::warnings::{MOST_LINES, warn, warn_of_more};
 use hosts_join::{HostText, PairLine, PairTable, Which, pair_line};
 use idtext::Lines;
 use std::alloc::AllocError;
-use strsim::generic_levenshtein;
-use unify_texts::{MapText, read_map};
+use strsim::generic_damerau_levenshtein;
+use unify_texts::MapText;
 
-/// How many edits a name may be away from the name that is told for it.
+/// How many edits a name may be away at most from the name that is told for it. Two neighbours that
+/// were exchanged are one edit.
 const MOST_EDITS: usize = 2;
+
+/// How many bytes the shorter of two names has to have for each edit between them. With fewer most
+/// names that are so near are just other names, as eve and dave.
+const BYTES_AN_EDIT: usize = 3;
 
 /// How many bytes a name may have that is told for another, and that other. To compare two names
 /// takes as many steps as the product of their lengths, which hosts and pins choose.
@@ -31,6 +36,13 @@ fn alike<'m, 'a>(map: &'m MapText<'a>, pinned: Pinned<'_>) -> &'m PairTable<'a> 
     }
 }
 
+// Whether a name is compared with another that may be so many edits away, by their lengths.
+fn is_compared(other: &[u8], name: &[u8], edits: usize) -> bool {
+    other.len() <= MOST_NAME_BYTES
+        && other.len().abs_diff(name.len()) <= edits
+        && edits <= other.len().min(name.len()) / BYTES_AN_EDIT
+}
+
 // The first name of a table that is at most so many edits away from a name.
 fn name_within<'a>(
     rt: &HostRuntime,
@@ -40,9 +52,8 @@ fn name_within<'a>(
 ) -> Result<Option<&'a [u8]>, AllocError> {
     for index in 0..table.len() {
         let other = table.at(index).name;
-        if other.len() <= MOST_NAME_BYTES
-            && other.len().abs_diff(name.len()) <= edits
-            && generic_levenshtein(rt.alloc(), other, name)? <= edits
+        if is_compared(other, name, edits)
+            && generic_damerau_levenshtein(rt.alloc(), other, name)? <= edits
         {
             return Ok(Some(other));
         }
@@ -50,8 +61,7 @@ fn name_within<'a>(
     Ok(None)
 }
 
-// The name of a table that is the nearest to a name, and no further away than `MOST_EDITS`. Long
-// names are not compared.
+// The name of a table that is the nearest to a name, and near enough. Long names are not compared.
 fn nearest<'a>(
     rt: &HostRuntime,
     table: &PairTable<'a>,
@@ -112,19 +122,13 @@ fn warn_of_nobody<'a>(
     }
 }
 
-// Warns of a pin for nobody where so many were told. For the first few the nearest name of a map is
-// told.
+// Warns of a pin for nobody, with the nearest name of a map.
 fn warn_of_absent(
     rt: &HostRuntime,
     map: &MapText<'_>,
     pinned: Pinned<'_>,
-    told: usize,
 ) -> Result<(), AllocError> {
-    let near = if told < MOST_LINES {
-        nearest(rt, alike(map, pinned), pinned.name)?
-    } else {
-        None
-    };
+    let near = nearest(rt, alike(map, pinned), pinned.name)?;
     warn_of_nobody(rt, pinned, near)
 }
 
@@ -135,16 +139,18 @@ fn warn_of_each(
     names: &HostNames<'_>,
     pins: &[Pinned<'_>],
 ) -> Result<(), AllocError> {
-    let mut told: usize = 0;
+    let mut absent: usize = 0;
     for pinned in pins {
         if names.have(pinned.which, pinned.name) {
             warn_of_kept(rt, *pinned)?;
         } else {
-            warn_of_absent(rt, map, *pinned, told)?;
-            told = told.saturating_add(1);
+            if absent < MOST_LINES {
+                warn_of_absent(rt, map, *pinned)?;
+            }
+            absent = absent.saturating_add(1);
         }
     }
-    Ok(())
+    warn_of_more(rt, "pins of names that no host has:", absent)
 }
 
 // The pin of a line whose name is not in a map.
@@ -177,8 +183,11 @@ fn all_beside_map<'p>(
     Ok(beside)
 }
 
-// Warns of pins whose names are not in a map. Hosts are read only where there are such.
-fn warn_beside_map(
+/// Warns of pins whose names are not in the map that was made of hosts with them: no host has the
+/// name, or it stays as it is on each host. One look-up by hash for each pin, and where some name
+/// is not in the map another for each of these and for each row of the hosts, whose account files
+/// are then read once more.
+pub fn warn_of_pins(
     rt: &HostRuntime,
     hosts: &[HostText],
     map: &MapText<'_>,
@@ -190,23 +199,4 @@ fn warn_beside_map(
     }
     let names = names_of(rt, hosts)?;
     warn_of_each(rt, map, &names, &beside)
-}
-
-/// Warns of pins whose names are not in the map that was made of hosts with them: no host has the
-/// name, or it stays as it is on each host. One look-up by hash for each pin, and where some name
-/// is not in the map another for each of these and for each row of the hosts, whose account files
-/// are then read once more.
-pub fn warn_of_pins(
-    rt: &HostRuntime,
-    hosts: &[HostText],
-    map: &[u8],
-    pins: &[u8],
-) -> Result<(), AllocError> {
-    if pins.is_empty() {
-        return Ok(());
-    }
-    match read_map(rt.alloc(), map) {
-        Ok(map) => warn_beside_map(rt, hosts, &map, pins),
-        Err(_) => Err(AllocError),
-    }
 }

@@ -6,11 +6,10 @@ use crate::message::{Part, push_part};
 use crate::output::OutputFault;
 use clap::Error;
 use clap::error::ErrorKind;
-use idtext::{TextCode, push_escaped};
+use idtext::push_escaped;
 use std::alloc::AllocError;
 use std::io;
 use std::io::{IsTerminal, Write};
-use unify_texts::Fault;
 
 /// A growth was refused before a bundle was read; what is told of a bundle stands on standard
 /// output.
@@ -138,39 +137,6 @@ pub fn output_refused(rt: &HostRuntime, directory: &str, fault: OutputFault<'_>)
 pub fn tell_hint(rt: &HostRuntime, advice: &str) {
     if rt.stderr().is_terminal() {
         let _ = rt.eprintln(advice);
-    }
-}
-
-// What may be done about a refusal, if anything is to be said of it.
-fn advice_on(fault: &Fault<'_>) -> Option<&'static str> {
-    match fault {
-        Fault::PinDisagrees { .. }
-        | Fault::PinClash { .. }
-        | Fault::UnownedUid { .. }
-        | Fault::UnownedGid { .. } => {
-            Some("unify: hint: --keep FILE leaves accounts and numbers as they are on each host")
-        }
-        Fault::PinReserved { .. } => {
-            Some("unify: hint: pin another number, or see what the keep text says of this one")
-        }
-        Fault::PoolTooSmall { .. } => {
-            Some("unify: hint: widen this range of numbers in the hosts' login.defs")
-        }
-        Fault::InventoryChanged(_) => {
-            Some("unify: hint: the inventory was written to while it was read; merge again")
-        }
-        Fault::Line {
-            fault: TextCode::CutInventory,
-            ..
-        } => Some("unify: hint: the inventory was cut; copy or make it again"),
-        _ => None,
-    }
-}
-
-/// Tells what may be done about a refusal, where standard error is a terminal.
-pub fn tell_advice(rt: &HostRuntime, fault: &Fault<'_>) {
-    if let Some(advice) = advice_on(fault) {
-        tell_hint(rt, advice);
     }
 }
 

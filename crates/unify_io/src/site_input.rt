@@ -1,5 +1,6 @@
 //! A site as words name it, but for its inventories.
 
+use crate::advice::tell_advice;
 use crate::files::{FileFault, read_hosts_tables, read_named};
 use crate::merge_warnings::warn_of_merge;
 use crate::warnings::{warn_of_hosts_tables, warn_of_text};
@@ -7,6 +8,7 @@ use clap::ArgMatches;
 use hosts_join::HostText;
 use idtext::ByteString;
 use std::alloc::AllocError;
+use unify_texts::Fault;
 
 /// A site as words name it: its hosts but their inventories, and what they are merged by.
 #[derive(Drop)]
@@ -19,7 +21,7 @@ pub struct SiteInput<'w> {
     pub pins: ByteString,
     /// The keep text.
     pub keep: ByteString,
-    /// Whether nobody is to be warned.
+    /// Whether faults alone are to be told: no warning and no hint.
     pub is_quiet: bool,
 }
 
@@ -50,6 +52,13 @@ impl<'w> SiteInput<'w> {
         warn_of_text(rt, matches.get_str("pins").unwrap_or(""), &self.pins)?;
         warn_of_text(rt, matches.get_str("keep").unwrap_or(""), &self.keep)?;
         warn_of_hosts_tables(rt, &self.hosts)
+    }
+
+    /// Tells what may be done about its refusal, where standard error is a terminal.
+    pub fn advise(&self, rt: &HostRuntime, fault: &Fault<'_>) {
+        if !self.is_quiet {
+            tell_advice(rt, fault, self.pins.bytes());
+        }
     }
 
     /// Warns of what its merge has written. The merge is done, also where that cannot be read

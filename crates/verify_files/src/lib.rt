@@ -9,13 +9,14 @@ mod reading;
 mod refused;
 
 use clap::ArgMatches;
+use idtext::{Lines, decimal};
 use kept_names::{Renumbering, VerifyReply, verify_reply};
-use later::later_files;
+use later::{LaterFiles, later_files};
 use mtree_inv::Inventory;
 use reading::{AccountTexts, read_account_texts, read_accounts, read_mtree};
 use std::io;
 use std::io::Write;
-use unify_io::{FileFault, MOST_LINES, write_failed};
+use unify_io::{FileFault, MOST_LINES, tell_hint, write_failed};
 
 // Tells what was found: files on standard error, and how many on standard output.
 fn tell_found(rt: &HostRuntime, reply: &VerifyReply) -> u8 {
@@ -28,16 +29,42 @@ fn tell_found(rt: &HostRuntime, reply: &VerifyReply) -> u8 {
     reply.status
 }
 
+// What is told where so many files are missing that another tree may have been looked at.
+const OTHER_ROOT: &str =
+    "unify: hint: most paths of BEFORE are not in AFTER; both have to be of the \
+    same ROOT, which the first line of an inventory names";
+
+// How many files a reply counts as missing.
+fn missing_in(reply: &VerifyReply) -> usize {
+    for line in Lines::new(&reply.output) {
+        if let Some(digits) = line.strip_prefix(b"missing ") {
+            return decimal(digits).unwrap_or(0) as usize;
+        }
+    }
+    0
+}
+
+// Tells what may be wrong where more than half of the files of the first inventory are missing in
+// the second. An inventory without files, and one that is not whole, are told of otherwise.
+fn advise(rt: &HostRuntime, reply: &VerifyReply, before: &Inventory, after: &LaterFiles) {
+    let has_files = !after.inventory.entries().is_empty();
+    if after.is_whole && has_files && missing_in(reply) > before.entries().len() / 2 {
+        tell_hint(rt, OTHER_ROOT);
+    }
+}
+
 // Compares two inventories by the account files that each was made under.
 fn compare(
     rt: &HostRuntime,
     renumbering: &Renumbering<'_>,
     before: &Inventory,
-    after: &Inventory,
+    after: &LaterFiles,
     most: usize,
 ) -> Result<u8, FileFault> {
-    let reply = verify_reply(rt.alloc(), renumbering, before, after, most)?;
-    Ok(tell_found(rt, &reply))
+    let reply = verify_reply(rt.alloc(), renumbering, before, &after.inventory, most)?;
+    let status = tell_found(rt, &reply);
+    advise(rt, &reply, before, after);
+    Ok(status)
 }
 
 // Reads the second inventory, or walks the tree that is there in its place, and compares the first
@@ -50,7 +77,7 @@ fn compare_with(
     most: usize,
 ) -> Result<u8, FileFault> {
     let after = later_files(rt, path)?;
-    let status = compare(rt, renumbering, before, &after.inventory, most)?;
+    let status = compare(rt, renumbering, before, &after, most)?;
     Ok(if after.is_whole { status } else { 3 })
 }
 

@@ -5,7 +5,8 @@ use accounts::{GroupTable, PasswdTable, read_group, read_passwd};
 use idtext::ByteString;
 use kept_names::Accounts;
 use mtree_inv::{Inventory, read_inventory};
-use unify_io::{FileFault, read_file};
+use std::alloc::AllocError;
+use unify_io::{FileFault, Part, read_file, warn};
 use unify_texts::MOST_FILES;
 
 /// The texts of a passwd and a group, with their paths.
@@ -78,8 +79,22 @@ pub(crate) fn inventory_of(
     }
 }
 
-/// The inventory at a path.
+// Warns of an inventory at a path, where it has no files: a copy may have failed.
+fn warn_of_none(rt: &HostRuntime, path: &str, inventory: &Inventory) -> Result<(), AllocError> {
+    if !inventory.entries().is_empty() {
+        return Ok(());
+    }
+    let name = Part::Name(path.as_bytes());
+    warn(
+        rt,
+        &[Part::Text("inventory"), name, Part::Text("has no files")],
+    )
+}
+
+/// The inventory at a path. It is warned of where it has no files.
 pub(crate) fn read_mtree(rt: &HostRuntime, path: &str) -> Result<Inventory, FileFault> {
     let text = read_file(rt, path)?;
-    inventory_of(rt, path, text.bytes())
+    let inventory = inventory_of(rt, path, text.bytes())?;
+    warn_of_none(rt, path, &inventory)?;
+    Ok(inventory)
 }
