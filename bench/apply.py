@@ -325,7 +325,9 @@ class Bench:
                     os.chdir(path.parent)
                     make_file(path, kind)
                     os.chdir("/")
-                self.refused(f"a {kind} as {path.name}", (), 1, f"file {path}: {told}")
+                is_directory = (kind, name) == ("folder", "done")
+                status, why = (2, "the path of a directory, and no file's") if is_directory else (1, told)
+                self.refused(f"a {kind} as {path.name}", (), status, f"file {path}: {why}")
                 path.rmdir() if kind == "folder" else path.unlink()
 
     def refused(self, what, flags, status, told):

@@ -4,6 +4,7 @@ pub mod DeviceNumbers
 pub mod Fronts
 pub mod HostName
 pub mod MarkNames
+pub mod MarksTold
 pub mod MountsBack
 pub mod Nearest
 pub mod NearestLaw

@@ -4,6 +4,7 @@ pub mod Sought
 pub mod Ends
 pub mod Journal
 pub mod Laws
+pub mod MarkLaws
 pub mod Machine
 pub mod Mounts
 pub mod Told

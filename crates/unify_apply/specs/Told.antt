@@ -1,12 +1,13 @@
 -- Where the mark of a plan is, and what is told of its files (this project's own).
-use Rattle.std.specs.Prelude.{ℕ, Bool, ◌&&◌, ◌||◌, List, [], ◌∷◌, ◌++◌, Option, None, Some, codes}
-use Rattle.std.specs.Prelude.{slice_get, drop, length, false, not}
+use Rattle.std.specs.Prelude.{◌≡◌, ◌⊎◌, ℕ, Bool, ◌&&◌, ◌||◌, List, [], ◌∷◌, ◌++◌}
+use Rattle.std.specs.Prelude.{Option, None, Some, codes, slice_get, drop, length, false, not}
 use Rattle.std.specs.List.{list_any}
 use Rattle.std.specs.Str.{bytes_eq}
 use Rattle.idtext.specs.Pieces.{begins_with}
 use Rattle.std.specs.Option.{option_map_or}
 use Rattle.reown_files.specs.declared.answers.Trouble.{Trouble}
 use Rattle.reown_files.specs.declared.answers.Trouble.TheVariants as trouble
+use Rattle.reown_files.specs.Actions.{Action, FileRead}
 use Rattle.reown_files.specs.MarkText.{mark_read}
 use Rattle.reown_plan.specs.Mark.{mark_of}
 use Rattle.reown_plan.specs.PlanData.{PlanData}
@@ -37,6 +38,19 @@ is_of_other plan text = option_map_or not (mark_read plan text) false
 abbrev pub is_of_third : PlanData → List ℕ → Bool
 is_of_third plan text =
     is_of_other (mark_of plan) text && is_of_other (mark_of (reversed plan)) text
+
+-- the same of the text of a file that may not be there
+abbrev pub is_third_in : PlanData → Option (List ℕ) → Bool
+is_third_in plan None = false
+is_third_in plan (Some text) = is_of_third plan text
+
+-- the file of the mark was read, and its text tells whether it is such a mark; or it could not be
+-- read, and counts as none
+abbrev pub IsThirdSeen : PlanData → Bool → List ℕ → List Action → List Action → Type 0
+IsThirdSeen plan is_third mark old new =
+    ((is_third ≡ false) × (new ≡ old))
+    ⊎ ((text : Option (List ℕ)) × (is_third ≡ is_third_in plan text)
+    × (new ≡ FileRead mark text ∷ old))
 
 -- The exit status where there is trouble before anything was changed: 1 where what was found may
 -- not be changed, and 3 where a call failed, or found another file than before.

@@ -56,8 +56,8 @@ fn carry_out<'w>(run: Run<'w>, plan: &Plan<'_>, root: Root<'w>) -> Result<(), Fi
 
 // Carries a plan out below a directory.
 fn apply_below(run: Run<'_>, plan: &Plan<'_>, has_one_journal: bool) -> Result<u8, FileFault> {
-    let root = open_root(run.rt, run.paths, has_one_journal)?;
-    warn_of_mark(run, plan, &root)?;
+    let mut root = open_root(run.rt, run.paths, has_one_journal)?;
+    warn_of_mark(run, plan, &mut root)?;
     carry_out(run, plan, root)?;
     let text = records_text(run.rt.alloc(), plan.records().len())?;
     Ok(print_answer(run.rt, 0, &text))
@@ -102,8 +102,9 @@ fn reverse_of(rt: &HostRuntime, text: &[u8]) -> Result<Vec<u8>, FileFault> {
 }
 
 /// Answers `apply` with these words: it carries a plan out or takes it back, or counts its files.
-/// What it refuses is told, and the status handed out. A plan that a run itself would remove, as it
-/// has a name of the mark's, is refused before it is read, and after the count of its files.
+/// What it refuses is told, and the status handed out. A mark that can be no file, and a plan that
+/// a run itself would remove, as it has a name of the mark's, are refused before the plan is read,
+/// and after the count of its files.
 ///
 /// # Errors
 ///
@@ -120,7 +121,7 @@ pub fn run_apply(rt: &HostRuntime, matches: &ArgMatches<'_>) -> Result<u8, FileF
     };
     let run = Run::of(rt, matches, paths, beside);
     if !run.only_checks {
-        beside.see_plan(rt, plan)?;
+        beside.see_paths(rt, paths)?;
     }
     let text = read_file(rt, plan)?;
     if matches.get_flag("reverse") {

@@ -4,6 +4,7 @@ ghost use Rattle.std.specs.List.{list_any};
 ghost use Rattle.std.specs.Str.{bytes_eq};
 ghost use Rattle.unify_apply.specs.Told.{behind_mark, is_of_mark};
 
+use crate::run::Paths;
 use std::alloc::AllocError;
 use std::fs::{self, Metadata};
 use std::io;
@@ -16,6 +17,9 @@ use unify_io::{FileFault, Part, file_failed, tell_of};
 const NEW: &str = ".new";
 
 const NEW_MODES: &str = ".modes.new";
+
+// What is said of a mark that can be no file.
+const NO_FILE: &str = "the path of a directory, and no file's; choose another mark with --mark";
 
 // What is said of a plan that has the name of a file which a run writes with the mark.
 const WRITTEN: &str = "a file of this name is written and removed with the mark; choose another \
@@ -71,6 +75,15 @@ fn parent_of(mark: &str) -> &str {
     }
 }
 
+// Whether the path of a mark is that of a directory: of one that is there, or else by the slash at
+// its end. An empty one begins at the working directory.
+fn is_directory(rt: &HostRuntime, mark: &str) -> bool {
+    match fs::symlink_metadata(rt, mark) {
+        Ok(found) => found.is_dir(),
+        Err(_) => mark.is_empty() || mark.ends_with('/'),
+    }
+}
+
 // Why the directory of a mark cannot be entered, where it cannot.
 fn directory_fault(rt: &HostRuntime, mark: &str) -> Result<Option<io::Error>, AllocError> {
     let inside = Path::new(parent_of(mark)).join(rt.alloc(), ".")?;
@@ -84,6 +97,7 @@ fn directory_fault(rt: &HostRuntime, mark: &str) -> Result<Option<io::Error>, Al
 /// directory, which is another as soon as a file of the plan was looked at.
 #[derive(Clone, Copy)]
 pub struct Beside {
+    is_directory: bool,
     takes_plan: bool,
     directory: Option<io::Error>,
 }
@@ -94,17 +108,22 @@ impl Beside {
         let takes_plan = is_of_mark(mark, plan) || has_name_of_mark(rt, mark, plan)?;
         let directory = directory_fault(rt, mark)?;
         Ok(Beside {
+            is_directory: is_directory(rt, mark),
             takes_plan,
             directory,
         })
     }
 
-    /// Sees that no run with this mark replaces or removes its plan.
-    pub fn see_plan(self, rt: &HostRuntime, plan: &str) -> Result<(), FileFault> {
-        if self.takes_plan {
-            return Err(tell_of(rt, "file", plan.as_bytes(), &[Part::Text(WRITTEN)], 2));
-        }
-        Ok(())
+    /// Sees that the mark may be a file, and that no run with it replaces or removes its plan.
+    pub fn see_paths(self, rt: &HostRuntime, paths: Paths<'_>) -> Result<(), FileFault> {
+        let (path, why) = if self.is_directory {
+            (paths.mark, NO_FILE)
+        } else if self.takes_plan {
+            (paths.plan, WRITTEN)
+        } else {
+            return Ok(());
+        };
+        Err(tell_of(rt, "file", path.as_bytes(), &[Part::Text(why)], 2))
     }
 
     /// Sees that the directory of the mark is there.

@@ -36,7 +36,7 @@ fn count_files<D: Disk>(
     run.style.clear(run.rt);
     match counted {
         Ok(counts) => Ok(counts),
-        Err(fault) => Err(not_opened(run.rt, run.paths, records, fault)),
+        Err(fault) => Err(not_opened(run, records, fault)),
     }
 }
 
@@ -48,8 +48,8 @@ fn files_below<'w>(
 ) -> Result<Preview<Telling<'w, Root<'w>>>, FileFault>
     ensures { IfOk result (λ disk. disk ≡ []) }
 {
-    let root = open_root(run.rt, run.paths, true)?;
-    warn_of_mark(run, plan, &root)?;
+    let mut root = open_root(run.rt, run.paths, true)?;
+    warn_of_mark(run, plan, &mut root)?;
     let files = plan.records().len();
     Ok(Preview::of(Telling::of(run.rt, run.style, files, root)))
 }
@@ -72,7 +72,7 @@ fn count_below<D: Disk>(
 // Sees what a run sees before it opens the directory, but for who calls.
 fn see_way(run: Run<'_>, plan: &Plan<'_>, path: &str) -> Result<(), FileFault> {
     let rt = run.rt;
-    run.beside.see_plan(rt, run.paths.plan)?;
+    run.beside.see_paths(rt, run.paths)?;
     run.beside.see_directory(rt, run.paths.mark)?;
     see_host(rt, plan.host(), run.host, run.quiet)?;
     see_mounts(rt, run.paths.root, path)?;

@@ -10,6 +10,7 @@ ghost use Rattle.unify_apply.specs.Laws.{PathsAreTold, SlashIsTaken, SystemPathI
 ghost use Rattle.unify_apply.specs.Laws.{BelowAreTold, SecondWayIsThere, StatusesAreTold};
 ghost use Rattle.unify_apply.specs.Laws.{MarksTakeFourNames, WaysAreSeen};
 ghost use Rattle.unify_apply.specs.Laws.{MountsAreReadBack, CountsAreReadBack, DoneIsReadBack};
+ghost use Rattle.unify_apply.specs.MarkLaws.{MarksAreTold, ExampleOfOthers};
 ghost use Rattle.unify_apply.specs.PreviewLaws.{PreviewsOnlyLook};
 
 /// A path is below a directory exactly where it is the directory's, a slash and more, and in it
@@ -45,6 +46,14 @@ pub fn marks_stand_beside_plans()
 /// `.modes.new` after it; and no other.
 pub fn marks_take_four_names()
     ensures { MarksTakeFourNames }
+{}
+
+/// A text is the mark of another plan exactly where it begins as marks do and is not this plan's
+/// byte for byte, and of a third exactly where it is not that of the plan either which takes this
+/// one back.
+pub fn marks_are_told()
+    ensures marks { MarksAreTold }
+    ensures example { ExampleOfOthers }
 {}
 
 /// Where there is trouble before anything was changed, the status is 1 where what was found may not

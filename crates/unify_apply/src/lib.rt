@@ -25,9 +25,9 @@ pub use applying::{mark_path, run_apply};
 pub use beside::is_of_mark;
 pub use journal::tells_journal;
 pub use laws::{
-    answers_are_read_back, journals_are_told, machines_are_told, marks_stand_beside_plans,
-    marks_take_four_names, mounts_are_read_back, one_way_to_files, paths_below_are_told,
-    previews_only_look, processes_are_told, root_is_told, statuses_are_told,
+    answers_are_read_back, journals_are_told, machines_are_told, marks_are_told,
+    marks_stand_beside_plans, marks_take_four_names, mounts_are_read_back, one_way_to_files,
+    paths_below_are_told, previews_only_look, processes_are_told, root_is_told, statuses_are_told,
 };
 pub use machine::{HostFit, host_fit, is_root};
 pub use mountinfo::{

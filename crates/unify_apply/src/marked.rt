@@ -1,9 +1,12 @@
 //! The mark of another plan, where the mark of a plan is to stand.
-ghost use Rattle.std.specs.Prelude.{◌≡◌, IfOk};
+ghost use Rattle.std.specs.Prelude.{◌≡◌, IfOk, IfErr, true};
+ghost use Rattle.reown_plan.specs.declared.plan.PlanFault.TheVariants.{Memory};
 ghost use Rattle.reown_plan.specs.Mark.{mark_of};
 ghost use Rattle.reown_plan.specs.Spelling.{IsLawful};
 ghost use Rattle.reown_reverse.specs.Reverse.{reversed};
-ghost use Rattle.unify_apply.specs.Told.{is_of_other, is_of_third};
+ghost use Rattle.reown_files.specs.Actions.{IsReadAtMost};
+ghost use Rattle.unify_io.specs.declared.files.FileFault.TheVariants as file_faults;
+ghost use Rattle.unify_apply.specs.Told.{is_of_other, is_of_third, IsThirdSeen};
 
 use crate::run::Run;
 use crate::told::no_plan;
@@ -19,7 +22,8 @@ const OTHER_DONE: &str = "marks another plan as done; its passwd and group have 
 
 // Whether a text is the mark of another plan than this one.
 fn marks_other(alloc: Global, plan: &PlanMark, text: &[u8]) -> Result<bool, PlanFault>
-    ensures { IfOk result (λ is_other. is_other ≡ is_of_other plan.now text.now) }
+    ensures told { IfOk result (λ is_other. is_other ≡ is_of_other plan.now text.now) }
+    ensures refused { IfErr result (λ fault. fault ≡ Memory) }
 {
     match read_mark(alloc, plan, text) {
         Ok(is_own) => Ok(!is_own),
@@ -51,23 +55,45 @@ fn marks_third(alloc: Global, plan: &Plan<'_>, text: &[u8]) -> Result<bool, Plan
     marks_other(alloc, &back, text)
 }
 
+// Whether the file of the mark is the mark of a plan that is neither this one nor its reverse; one
+// that cannot be read is none.
+fn has_third_mark(alloc: Global, plan: &Plan<'_>, root: &mut Root<'_>) -> Result<bool, PlanFault>
+    ensures seen { IsLawful plan.now → IfOk result (λ is_third. IsThirdSeen plan.now is_third
+        root.old.mark_path root.old.actions root.new.actions) }
+    ensures at_most { IsReadAtMost root.old.mark_path root.old.actions root.new.actions }
+    ensures rest { root.new ≡ record root.old { actions = root.new.actions } }
+{
+    let Ok(Some(text)) = root.mark_text() else {
+        return Ok(false);
+    };
+    marks_third(alloc, plan, &text)
+}
+
+// Tells that the file at this path is the mark of such a plan.
+fn tell_third(rt: &HostRuntime, mark: &str) -> Result<(), FileFault>
+    ensures { IfErr result (λ fault. fault ≡ file_faults.Memory) }
+{
+    let mark = Part::Name(mark.as_bytes());
+    match warn(rt, &[Part::Text("file"), mark, Part::Text(OTHER_DONE)]) {
+        Ok(()) => Ok(()),
+        Err(_) => Err(FileFault::Memory),
+    }
+}
+
 /// Warns where the file of the mark is the mark of a plan that is neither this one nor its reverse:
 /// what that plan has given is another's by the old passwd. What else is wrong with the file is
-/// told where the plan is opened.
-pub fn warn_of_mark(run: Run<'_>, plan: &Plan<'_>, root: &Root<'_>) -> Result<(), FileFault> {
+/// told where the plan is opened. The file is read at most, and not where nothing is warned of.
+pub fn warn_of_mark(run: Run<'_>, plan: &Plan<'_>, root: &mut Root<'_>) -> Result<(), FileFault>
+    ensures at_most { IsReadAtMost root.old.mark_path root.old.actions root.new.actions }
+    ensures quiet { run.entry.quiet ≡ true → root.new ≡ root.old }
+    ensures rest { root.new ≡ record root.old { actions = root.new.actions } }
+{
     if run.quiet {
         return Ok(());
     }
-    let rt = run.rt;
-    let Ok(Some(text)) = root.mark_text() else {
-        return Ok(());
-    };
-    match marks_third(rt.alloc(), plan, &text) {
-        Ok(true) => {
-            let mark = Part::Name(run.paths.mark.as_bytes());
-            Ok(warn(rt, &[Part::Text("file"), mark, Part::Text(OTHER_DONE)])?)
-        }
+    match has_third_mark(run.rt.alloc(), plan, root) {
+        Ok(true) => tell_third(run.rt, run.paths.mark),
         Ok(false) => Ok(()),
-        Err(fault) => Err(no_plan(rt, fault)),
+        Err(fault) => Err(no_plan(run.rt, fault)),
     }
 }

@@ -6,6 +6,7 @@ ghost use Rattle.reown_runner.specs.Tree.{cells_of};
 ghost use Rattle.reown_files.specs.Opening.{MetFit};
 ghost use Rattle.reown_files.specs.Real.{known_real};
 ghost use Rattle.reown_files.specs.Replay.{replay};
+ghost use Rattle.reown_files.specs.RootData.{IsPathFrom, is_absolute, modes_beside};
 ghost use Rattle.reown_files.specs.Stages.{stage_in};
 
 use crate::run::{Paths, Run};
@@ -14,13 +15,17 @@ use reown_files::{Disk, RealTree, Root};
 use reown_plan::Plan;
 use unify_io::FileFault;
 
-/// Opens a directory, which no other command is at work below.
+/// Opens a directory, which no other command is at work below, with the mark of the plan where the
+/// words of the command name it.
 pub fn open_root<'w>(
     rt: &'w HostRuntime,
     paths: Paths<'w>,
     has_one_journal: bool,
 ) -> Result<Root<'w>, FileFault>
-    ensures { IfOk result (λ root. root.calls ≡ []) }
+    ensures fresh { IfOk result (λ root. root.calls ≡ []) }
+    ensures mark { IfOk result (λ root. IsPathFrom
+        (is_absolute paths.entry.mark.now) paths.entry.mark.now root.mark_path) }
+    ensures modes { IfOk result (λ root. root.modes_path ≡ modes_beside root.mark_path) }
 {
     match Root::open(rt, paths.root, paths.mark) {
         Ok(mut root) => {
@@ -51,6 +56,6 @@ pub fn open_files<'p, 'a, D: Disk>(
     run.style.clear(rt);
     match found {
         Ok(tree) => Ok(tree),
-        Err(refused) => Err(not_opened(rt, run.paths, plan.records(), refused.fault)),
+        Err(refused) => Err(not_opened(run, plan.records(), refused.fault)),
     }
 }

@@ -32,7 +32,7 @@ pub struct Run<'a> {
     pub only_checks: bool,
     /// Whether the plan was begun before.
     pub was_begun: bool,
-    /// Whether nothing is warned of.
+    /// Whether faults alone are told: no warning, no hint and no progress.
     pub quiet: bool,
 }
 

@@ -1,9 +1,11 @@
 //! Why a plan is not carried out, or only to a part of it.
 
 ghost use Rattle.std.specs.Prelude.{◌≡◌};
+ghost use Rattle.reown_plan.specs.declared.plan.PlanFault.TheVariants.{Memory};
+ghost use Rattle.unify_io.specs.declared.files.FileFault.TheVariants as file_faults;
 ghost use Rattle.unify_apply.specs.Told.{path_of_record, status_of};
 
-use crate::run::Paths;
+use crate::run::{Paths, Run};
 use idtext::ByteString;
 use reown_files::{Failure, MODES_BEHIND, OpenFault, RootFault, Trouble};
 use reown_plan::{Owner, PlanFault, Record};
@@ -29,7 +31,9 @@ fn fault_told(rt: &HostRuntime, fault: &Fault<'_>) -> FileFault {
 }
 
 /// Tells why a text is no plan.
-pub fn no_plan(rt: &HostRuntime, fault: PlanFault) -> FileFault {
+pub fn no_plan(rt: &HostRuntime, fault: PlanFault) -> FileFault
+    ensures { fault ≡ Memory → result ≡ file_faults.Memory }
+{
     match fault {
         PlanFault::BadPlan(offset) => fault_told(rt, &Fault::BadPlan(offset as u64)),
         PlanFault::Memory => FileFault::Memory,
@@ -67,12 +71,19 @@ const GATHER_ANEW: &str =
     gone, use --begun; else take back what other plans of this host have changed, and only then \
     gather it again and merge anew";
 
+// Gives advice behind a fault.
+fn advise(run: Run<'_>, advice: &str) {
+    if !run.quiet {
+        tell_hint(run.rt, advice);
+    }
+}
+
 // Tells that the file of a record is not there.
-fn missing(rt: &HostRuntime, records: &[Record<'_>], i: usize) -> FileFault {
-    match path_of(rt, records, i) {
+fn missing(run: Run<'_>, records: &[Record<'_>], i: usize) -> FileFault {
+    match path_of(run.rt, records, i) {
         Ok(path) => {
-            let fault = fault_told(rt, &Fault::Missing(path));
-            tell_hint(rt, SEE_WAY);
+            let fault = fault_told(run.rt, &Fault::Missing(path));
+            advise(run, SEE_WAY);
             fault
         }
         Err(_) => FileFault::Memory,
@@ -80,20 +91,21 @@ fn missing(rt: &HostRuntime, records: &[Record<'_>], i: usize) -> FileFault {
 }
 
 // Tells what to do about a file with a third owner, and which that is. What cannot be told is not.
-fn hint_of_owner(rt: &HostRuntime, found: Owner) {
+fn hint_of_owner(run: Run<'_>, found: Owner) {
     let Owner { uid, gid } = found;
-    let hint = format!(in rt.alloc(); "unify: hint: the file has owner {uid}:{gid}; {SEE_FILE}");
+    let alloc = run.rt.alloc();
+    let hint = format!(in alloc; "unify: hint: the file has owner {uid}:{gid}; {SEE_FILE}");
     if let Ok(hint) = hint {
-        tell_hint(rt, hint.as_str());
+        advise(run, hint.as_str());
     }
 }
 
 // Tells that the file of a record has neither of its two owners, but this one.
-fn foreign(rt: &HostRuntime, records: &[Record<'_>], i: usize, found: Owner) -> FileFault {
-    match path_of(rt, records, i) {
+fn foreign(run: Run<'_>, records: &[Record<'_>], i: usize, found: Owner) -> FileFault {
+    match path_of(run.rt, records, i) {
         Ok(path) => {
-            let fault = fault_told(rt, &Fault::Foreign(path));
-            hint_of_owner(rt, found);
+            let fault = fault_told(run.rt, &Fault::Foreign(path));
+            hint_of_owner(run, found);
             fault
         }
         Err(_) => FileFault::Memory,
@@ -109,11 +121,11 @@ fn unfinished(rt: &HostRuntime, records: &[Record<'_>], i: usize) -> FileFault {
 }
 
 // Tells that the file of a record has its new owner, though the plan was not begun.
-fn already_changed(rt: &HostRuntime, records: &[Record<'_>], i: usize) -> FileFault {
-    match path_of(rt, records, i) {
+fn already_changed(run: Run<'_>, records: &[Record<'_>], i: usize) -> FileFault {
+    match path_of(run.rt, records, i) {
         Ok(path) => {
-            let fault = fault_told(rt, &Fault::AlreadyChanged(path));
-            tell_hint(rt, GATHER_ANEW);
+            let fault = fault_told(run.rt, &Fault::AlreadyChanged(path));
+            advise(run, GATHER_ANEW);
             fault
         }
         Err(_) => FileFault::Memory,
@@ -278,18 +290,14 @@ fn modes_refused(rt: &HostRuntime, paths: Paths<'_>, trouble: Trouble) -> FileFa
 
 /// Tells why the files of a plan are not begun with, or not counted. Nothing was changed but modes
 /// that an earlier run had lost.
-pub fn not_opened(
-    rt: &HostRuntime,
-    paths: Paths<'_>,
-    records: &[Record<'_>],
-    fault: OpenFault,
-) -> FileFault {
+pub fn not_opened(run: Run<'_>, records: &[Record<'_>], fault: OpenFault) -> FileFault {
+    let (rt, paths) = (run.rt, run.paths);
     match fault {
         OpenFault::Memory => FileFault::Memory,
-        OpenFault::Missing(i) => missing(rt, records, i),
-        OpenFault::Foreign(i, found) => foreign(rt, records, i, found),
+        OpenFault::Missing(i) => missing(run, records, i),
+        OpenFault::Foreign(i, found) => foreign(run, records, i, found),
         OpenFault::Unfinished(i) => unfinished(rt, records, i),
-        OpenFault::AlreadyChanged(i) => already_changed(rt, records, i),
+        OpenFault::AlreadyChanged(i) => already_changed(run, records, i),
         OpenFault::File(i, trouble) => not_begun(rt, paths, path_at(records, i), trouble),
         OpenFault::Disk(trouble) => not_begun(rt, paths, paths.mark.as_bytes(), trouble),
         OpenFault::Modes(trouble) => modes_refused(rt, paths, trouble),
